@@ -1,9 +1,10 @@
 -- Calls that are each offered all that is left.
-use Rattle.std.proofs.Common.{◌≡◌, ℕ, ◌+◌, Bool, true, false, List, [], drop, length, ◌≤◌, sym, subst}
+use Rattle.std.proofs.Common.{◌≡◌, ℕ, ◌+◌, Bool, true, false, List, [], drop, length, ◌≤◌, sym, subst, arith}
 use Rattle.std.specs.Prelude.{Result, Ok, Err, IsErr, is_ok}
 use Rattle.std.proofs.lemmas.Bool.{false≢true}
 use Rattle.std.proofs.lemmas.List.{drop-drop, drop_all}
 use Rattle.hall_outside.specs.declared.stores.Failed.{Failed}
+use Rattle.hall_outside.specs.Counts.{raised}
 use Rattle.hall_outside.specs.Writing.{OffersAll, none_left, fails, takes, Puts, not_created}
 
 -- what is still to be offered completes what was begun
@@ -44,3 +45,7 @@ pub not_created_at : {S T : Type 0} (create : S → Bool → S → Type 0) (step
     (result : Result T Failed) → IsErr result → create old false new → Puts create step old bytes (is_ok result) new
 not_created_at create step old new bytes (Err e) err c = not_created old new bytes c
 not_created_at create step old new bytes (Ok x) err c = absurd (false≢true err)
+
+-- a count that rises twice
+pub raised_twice : (before m n : ℕ) → raised (raised before m) n ≡ raised before (m + n)
+raised_twice before m n = omega arith
