@@ -13,13 +13,6 @@ use crate::entry::{Entry, Names};
 use canonical_sexp::{Members, Memory, Octets, Sexp, number_of};
 use std::alloc::Global;
 
-/// Whether the octets are those of the word.
-fn is_word(octets: &Octets, word: &[u8]) -> bool
-    ensures { IsTrue result ↔ (octets.now ≡ word.now) }
-{
-    octets.as_slice() == word
-}
-
 /// The octets as a digest, where there are 32.
 fn digest_of(octets: &Octets) -> Option<[u8; 32]>
     ensures { Finds (λ digest. IsDigest digest × (octets.now ≡ digest)) result }
@@ -41,41 +34,41 @@ fn deed_of(tree: &Sexp) -> Option<Deed>
         return None;
     };
     match members.as_slice() {
-        [Sexp::Atom(word)] if is_word(word, b"opened") => Some(Deed::Opened),
+        [Sexp::Atom(word)] if word.is(b"opened") => Some(Deed::Opened),
         [Sexp::Atom(word), Sexp::Atom(booth), Sexp::Atom(session)]
-            if is_word(word, b"authorise") =>
+            if word.is(b"authorise") =>
         {
             Some(Deed::Authorise {
                 booth: number_of(booth.as_slice())?,
                 session: number_of(session.as_slice())?,
             })
         }
-        [Sexp::Atom(word), Sexp::Atom(session)] if is_word(word, b"override") => {
+        [Sexp::Atom(word), Sexp::Atom(session)] if word.is(b"override") => {
             Some(Deed::Override {
                 session: number_of(session.as_slice())?,
             })
         }
-        [Sexp::Atom(word)] if is_word(word, b"closed") => Some(Deed::Closed),
-        [Sexp::Atom(word), Sexp::Atom(session)] if is_word(word, b"activate") => {
+        [Sexp::Atom(word)] if word.is(b"closed") => Some(Deed::Closed),
+        [Sexp::Atom(word), Sexp::Atom(session)] if word.is(b"activate") => {
             Some(Deed::Activate {
                 session: number_of(session.as_slice())?,
             })
         }
         [Sexp::Atom(word), Sexp::Atom(session), Sexp::Atom(ballot)]
-            if is_word(word, b"commit") =>
+            if word.is(b"commit") =>
         {
             Some(Deed::Commit {
                 session: number_of(session.as_slice())?,
                 ballot: digest_of(ballot)?,
             })
         }
-        [Sexp::Atom(word), Sexp::Atom(session), Sexp::Atom(ballot)] if is_word(word, b"cast") => {
+        [Sexp::Atom(word), Sexp::Atom(session), Sexp::Atom(ballot)] if word.is(b"cast") => {
             Some(Deed::Cast {
                 session: number_of(session.as_slice())?,
                 ballot: digest_of(ballot)?,
             })
         }
-        [Sexp::Atom(word), Sexp::Atom(session)] if is_word(word, b"cancel") => {
+        [Sexp::Atom(word), Sexp::Atom(session)] if word.is(b"cancel") => {
             Some(Deed::Cancel {
                 session: number_of(session.as_slice())?,
             })
@@ -151,7 +144,7 @@ pub fn signed_parts(tree: &Sexp) -> Option<(&Sexp, &Octets)>
         return None;
     };
     match members.as_slice() {
-        [Sexp::Atom(word), body, Sexp::Atom(signature)] if is_word(word, b"sealed") => {
+        [Sexp::Atom(word), body, Sexp::Atom(signature)] if word.is(b"sealed") => {
             Some((body, signature))
         }
         _ => None,
@@ -175,7 +168,7 @@ fn fields_of(tree: &Sexp) -> Option<Fields<'_>>
             Sexp::Atom(stamp),
             Sexp::List(names),
             deed,
-        ] if is_word(word, b"entry") && is_word(version, b"1") => Some(Fields {
+        ] if word.is(b"entry") && version.is(b"1") => Some(Fields {
             election: digest_of(election)?,
             maker: number_of(maker.as_slice())?,
             number: number_of(number.as_slice())?,
