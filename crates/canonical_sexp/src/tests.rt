@@ -98,7 +98,7 @@ fn writes_the_text_and_tells_its_length(rt: HostRuntime) -> Result<(), Fail> {
 }
 
 #[test]
-fn numbers_are_decimals_without_leading_zeros(rt: HostRuntime) {
+fn numbers_are_decimals_without_leading_zeros(rt: HostRuntime) -> Result<(), Fail> {
     for (octets, want) in [
         ("0", Some(0)),
         ("10", Some(10)),
@@ -111,6 +111,8 @@ fn numbers_are_decimals_without_leading_zeros(rt: HostRuntime) {
         ("+1", None),
         ("1 ", None),
     ] {
-        assert_eq!(rt; number_of(octets.as_bytes()), want, "{octets}");
+        let atom = Sexp::Atom(Octets::new(Vec::from_slice(rt.alloc(), octets.as_bytes())?));
+        assert_eq!(rt; atom.as_number(), want, "{octets}");
     }
+    Ok(())
 }

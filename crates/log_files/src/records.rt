@@ -5,9 +5,9 @@ ghost use Rattle.entry_format.specs.declared.plain.EntryFault.{EntryFault};
 ghost use Rattle.log_files.specs.LogText.{HasHeader, Gives, Says};
 
 use crate::plain_log::{End, PlainLog};
-use canonical_sexp::{Memory, Read, Sexp, number_of, read_one};
+use canonical_sexp::{Memory, Read, Sexp, read_one};
 use entry_format::{EntryFault, Plain, read_unsigned_tree};
-use std::alloc::Global;
+use std::alloc::{AllocError, Global};
 
 /// The bytes of `(4:sent` and `(3:got`, which stand before a record's entry.
 const BEFORE_SENT: usize = 7;
@@ -20,33 +20,38 @@ fn record_of(alloc: Global, record: &Sexp, text: &[u8]) -> Result<Plain, EntryFa
     requires text { text.now ≡ text_of record.now }
     ensures { result ≢ Err EntryFault.Memory → Gives record.now result }
 {
-    let Sexp::List(members) = record else {
-        return Err(EntryFault::WrongShape);
-    };
-    let [Sexp::Atom(word), inner] = members.as_slice() else {
-        return Err(EntryFault::WrongShape);
-    };
-    let Sexp::List(_) = inner else {
-        return Err(EntryFault::WrongShape);
-    };
-    let before = if word.is(b"sent") {
-        BEFORE_SENT
-    } else if word.is(b"got") {
-        BEFORE_GOT
-    } else {
-        return Err(EntryFault::WrongShape);
-    };
-    read_unsigned_tree(alloc, inner, &text[before..text.len() - 1])
+    match entry_in(record) {
+        Some((entry, before)) => {
+            read_unsigned_tree(alloc, entry, &text[before..text.len() - 1])
+        }
+        None => Err(EntryFault::WrongShape),
+    }
+}
+
+/// The signed entry in a record, and how many bytes of the record's text stand before it.
+fn entry_in(record: &Sexp) -> Option<(&Sexp, usize)> {
+    match record.as_list()?.as_slice() {
+        [word, entry] if entry.as_list().is_some() => {
+            if word.is_word(b"sent") {
+                Some((entry, BEFORE_SENT))
+            } else if word.is_word(b"got") {
+                Some((entry, BEFORE_GOT))
+            } else {
+                None
+            }
+        }
+        _ => None,
+    }
 }
 
 /// Whether the tree is the header of a log.
 fn is_header(tree: &Sexp) -> bool {
-    let Sexp::List(members) = tree else {
+    let Some(members) = tree.as_list() else {
         return false;
     };
     match members.as_slice() {
-        [Sexp::Atom(word), Sexp::Atom(version), Sexp::Atom(owner)] => {
-            word.is(b"log") && version.is(b"1") && number_of(owner.as_slice()).is_some()
+        [word, version, owner] => {
+            word.is_word(b"log") && version.is_word(b"1") && owner.as_number().is_some()
         }
         _ => false,
     }
@@ -76,7 +81,7 @@ fn records_from(alloc: Global, bytes: &[u8], start: usize) -> Result<PlainLog, M
             Read::Whole { value, used } => {
                 match record_of(alloc, &value, &bytes[at..at + used]) {
                     Ok(plain) => kept.push(plain)?,
-                    Err(EntryFault::Memory) => return Err(Memory),
+                    Err(EntryFault::Memory) => return Err(AllocError),
                     Err(fault) => refused.push((place, fault))?,
                 }
                 at += used;
