@@ -1,4 +1,7 @@
 //! Worked values of the format, and a text for each cause.
+ghost use Rattle.std.specs.Prelude.{◌<◌, ◌^◌, length, IfOk};
+ghost use Rattle.canonical_sexp.specs.Text.{text_of, Fits};
+
 use super::*;
 use std::alloc::Global;
 use std::test::Fail;
@@ -82,14 +85,23 @@ fn no_member_follows_the_last_that_fits(rt: HostRuntime) -> Result<(), Fail> {
     Ok(())
 }
 
+/// The list of two atoms of these octets.
+fn pair(alloc: Global, first: &[u8], second: &[u8]) -> Result<Sexp, Memory>
+    requires first { length first.now < 10 }
+    requires second { length second.now < 10 }
+    ensures fits { IfOk result (λ tree. Fits tree) }
+    ensures short { IfOk result (λ tree. length (text_of tree) < 2 ^ 63) }
+{
+    let mut members = Members::new(alloc);
+    members.push(Sexp::Atom(Octets::new(Vec::from_slice(alloc, first)?)))?;
+    members.push(Sexp::Atom(Octets::new(Vec::from_slice(alloc, second)?)))?;
+    Ok(Sexp::List(members))
+}
+
 #[test]
 fn writes_the_text_and_tells_its_length(rt: HostRuntime) -> Result<(), Fail> {
     let alloc = rt.alloc();
-    let mut members = Members::new(alloc);
-    for octets in ["abc", ""] {
-        members.push(Sexp::Atom(Octets::new(Vec::from_slice(alloc, octets.as_bytes())?)))?;
-    }
-    let tree = Sexp::List(members);
+    let tree = pair(alloc, b"abc", b"")?;
     let mut text = Vec::new(alloc);
     write(alloc, &tree, &mut text)?;
     assert_eq!(rt; text.as_slice(), b"(3:abc0:)".as_slice());
