@@ -1,5 +1,5 @@
 -- A text has one entry.
-use Rattle.std.proofs.Common.{◌≡◌, ◌∙◌, ℕ, ◌^◌, get_or, if◌then◌else◌, ◌<◌, List, [], ◌∷◌, ◌++◌, map, length, refl, ap, sym, subst, arith, append-nil}
+use Rattle.std.proofs.Common.{◌≡◌, ◌∙◌, ℕ, ◌^◌, get_or, if◌then◌else◌, ◌<◌, List, [], ◌∷◌, map, refl, ap, sym, arith, append-nil}
 use Rattle.std.specs.Prelude.{codes}
 use Rattle.std.specs.Fmt.{decimal}
 use Rattle.canonical_sexp.specs.declared.sexp.Sexp.{Sexp}

@@ -14,7 +14,7 @@ pub record IsBody (tree : Sexp) (fields : Fields) : Type 0 where
   pub stamp : fields.stamp < 2 ^ 32
   pub deed : IsDeed fields.deed
   pub spelt : tree ≡ list_of (Atom (codes "entry") ∷ Atom (codes "1") ∷ Atom fields.election ∷ number_atom fields.maker
-    ∷ number_atom fields.number ∷ number_atom fields.stamp ∷ Branch fields.names.now ∷ deed_tree fields.deed ∷ [])
+      ∷ number_atom fields.number ∷ number_atom fields.stamp ∷ Branch fields.names.now ∷ deed_tree fields.deed ∷ [])
 
 -- the tree is a signed entry with this body and signature
 abbrev pub IsSigned : Sexp → Sexp → List ℕ → Type 0

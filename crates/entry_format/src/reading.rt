@@ -147,16 +147,7 @@ fn fields_of(tree: &Sexp) -> Option<Fields<'_>>
     ensures none { IfNone result ((entry : Entry) → IsEntry entry →
         tree.now ≡ body_tree entry → ⊥) }
 {
-    let [
-        word,
-        version,
-        election,
-        maker,
-        number,
-        stamp,
-        names,
-        deed,
-    ] = tree.as_list()?.as_slice()
+    let [word, version, election, maker, number, stamp, names, deed] = tree.as_list()?.as_slice()
     else {
         return None;
     };

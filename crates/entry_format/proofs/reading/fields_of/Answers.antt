@@ -1,10 +1,9 @@
-use Rattle.std.proofs.Common.{◌≡◌, ◌∙◌, ◌∷◌, [], List, ap, length, arith}
+use Rattle.std.proofs.Common.{◌≡◌, ◌∙◌, ◌∷◌, [], ap, length, arith}
 use Rattle.std.specs.Prelude.{codes}
 use Rattle.std.proofs.lemmas.Grind.{common_steps}
-use Rattle.canonical_sexp.specs.declared.sexp.Sexp.{Sexp}
 use Rattle.canonical_sexp.specs.declared.sexp.Sexp.TheVariants.{Atom, List as Branch}
 use Rattle.canonical_sexp.specs.Sexp.{forest_of}
-use Rattle.canonical_sexp.specs.Forms.{list_of, number_atom}
+use Rattle.canonical_sexp.specs.Forms.{number_atom}
 use Rattle.entry_format.specs.EntryText.{deed_tree}
 use Rattle.entry_format.proofs.Trees.{eight_members}
 use Rattle.entry_format.proofs.reading.fields_of.Goals as goal
@@ -25,8 +24,8 @@ returns-clause-found c =
     let list : c.args.tree.now ≡ Branch c.in_ok-as_list.field-0.now = c.in_ok-as_list.ensures.found in
     let forest : c.in_ok-as_list.field-0.now ≡ forest_of c.as_slice.result.now = c.as_slice.ensures.forest in
     let spelt : c.as_slice.result.now ≡ Atom (codes "entry") ∷ Atom (codes "1") ∷ Atom c.in_ok-digest_of.field-0 ∷ number_atom c.in_ok-as_number.field-0
-        ∷ number_atom c.in_ok-as_number-2.field-0 ∷ number_atom c.in_ok-as_number-3.field-0 ∷ Branch c.in_ok-as_list-2.field-0.now
-        ∷ deed_tree c.in_ok-deed_of.field-0 ∷ [] = cc (members, word, version, election, maker, number, stamp, names, deed) in
+    ∷ number_atom c.in_ok-as_number-2.field-0 ∷ number_atom c.in_ok-as_number-3.field-0 ∷ Branch c.in_ok-as_list-2.field-0.now
+    ∷ deed_tree c.in_ok-deed_of.field-0 ∷ [] = cc (members, word, version, election, maker, number, stamp, names, deed) in
     record {
       election = c.in_ok-digest_of.ensures.0;
       maker = c.in_ok-as_number.ensures.0;

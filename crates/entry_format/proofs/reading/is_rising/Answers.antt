@@ -1,8 +1,4 @@
 use Rattle.std.proofs.Common.{ℕ, suc, ◌<◌, length, refl, arith}
-use Rattle.std.proofs.lemmas.Grind.{common_steps}
-use Rattle.std.specs.Cmp.Lexicographic.{slice_cmp}
-use Rattle.std.specs.Ordering.{nat_cmp}
-use Rattle.std.specs.declared.cmp.Ordering.TheVariants.{Less}
 use Rattle.entry_format.specs.Rising.{IsAscending}
 use Rattle.entry_format.proofs.Ascending.{ascends, ascends_before, rises_more}
 use Rattle.entry_format.proofs.reading.is_rising.Goals as goal

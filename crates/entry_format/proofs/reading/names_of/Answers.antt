@@ -1,4 +1,4 @@
-use Rattle.std.proofs.Common.{◌≡◌, ◌∙◌, ap, sym, List, ℕ, map, length, arith}
+use Rattle.std.proofs.Common.{◌≡◌, ◌∙◌, ap, List, ℕ, map}
 use Rattle.std.specs.Prelude.{All}
 use Rattle.canonical_sexp.specs.declared.sexp.Sexp.{Sexp}
 use Rattle.canonical_sexp.specs.Sexp.{forest_of, members_of}
