@@ -13,3 +13,6 @@ pub use deed::Deed;
 pub use entry::{Entry, Names};
 pub use laws::{one_reading_is_right, texts_have_one_entry};
 pub use plain::{EntryFault, Plain, read_unsigned, read_unsigned_tree};
+
+#[cfg(test)]
+mod tests;

@@ -1,11 +1,11 @@
 -- The entry in a record, and the bytes round it.
-use Rattle.std.proofs.Common.{◌≡◌, ◌∙◌, ℕ, ◌+◌, ◌-◌, ◌<◌, ◌≤◌, ◌⊎◌, inl, inr, List, [], ◌∷◌, ◌++◌, length, take, drop, Result, refl, ap, sym, subst, arith, append_assoc, append-nil, length-append}
+use Rattle.std.proofs.Common.{◌≡◌, ◌∙◌, ℕ, ◌+◌, ◌-◌, ◌<◌, ◌≤◌, inl, inr, List, [], ◌∷◌, ◌++◌, length, take, drop, Result, ap, sym, subst, arith, append_assoc, length-append}
 use Rattle.std.proofs.Math.Seq.{take-append_seam, drop-append_seam}
 use Rattle.std.specs.Prelude.{codes}
 use Rattle.canonical_sexp.specs.declared.sexp.Sexp.{Sexp}
 use Rattle.canonical_sexp.specs.declared.sexp.Sexp.TheVariants.{Atom, List as Branch}
 use Rattle.canonical_sexp.specs.Forest.{Forest, no_trees, atom_then, list_then}
-use Rattle.canonical_sexp.specs.Text.{text_of, texts_of, atom_text, Fits, IsWithin, AreWithin}
+use Rattle.canonical_sexp.specs.Text.{text_of, atom_text, Fits, AreWithin}
 use Rattle.canonical_sexp.specs.Forms.{list_of}
 use Rattle.canonical_sexp.proofs.Decimal.{length-decimal_one}
 use Rattle.std.specs.Fmt.{decimal}

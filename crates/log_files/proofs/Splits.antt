@@ -1,5 +1,5 @@
 -- Records one right after another.
-use Rattle.std.proofs.Common.{◌≡◌, ◌∙◌, ℕ, ◌+◌, ◌-◌, ◌<◌, ◌≤◌, List, [], ◌∷◌, ◌++◌, length, take, drop, Result, Ok, Err, refl, ap, sym, subst, arith, append_assoc, append-nil, length-append, ◌⊎◌, inl, inr, zero, suc}
+use Rattle.std.proofs.Common.{◌≡◌, ◌∙◌, ℕ, ◌+◌, ◌-◌, ◌<◌, ◌≤◌, List, [], ◌∷◌, ◌++◌, length, take, drop, Result, Ok, Err, refl, ap, sym, subst, arith, append_assoc, append-nil, length-append, inl, inr, zero, suc}
 use Rattle.std.specs.Prelude.{All}
 use Rattle.std.specs.List.{flat_map}
 use Rattle.std.proofs.lemmas.List.{take-append-drop, length-drop, length-take-le, drop-drop, take_rest}
@@ -13,9 +13,8 @@ use Rattle.canonical_sexp.specs.Reading.{Answers}
 use Rattle.canonical_sexp.specs.Text.{text_of, Fits}
 use Rattle.entry_format.specs.declared.plain.Plain.{Plain}
 use Rattle.entry_format.specs.declared.plain.EntryFault.{EntryFault}
-use Rattle.log_files.specs.declared.plain_log.End.{End}
 use Rattle.log_files.specs.declared.plain_log.PlainLog.{PlainLog}
-use Rattle.log_files.specs.LogText.{IsEnd, AreRecords, Gives, EachGives, kept_of, refused_of, SaysFrom}
+use Rattle.log_files.specs.LogText.{IsEnd, Gives, EachGives, kept_of, refused_of, SaysFrom}
 use Rattle.log_files.specs.Parts.{Adds}
 
 some_text : (tree : Sexp) → 0 < length (text_of tree)

@@ -13,10 +13,10 @@ returns-in_default c = no_header c.args.bytes.now c.in_ok-value.field-0 c.in_ok-
 pub returns-then-not-is_header : goal.returns-then-not-is_header
 returns-then-not-is_header c =
     no_header c.args.bytes.now c.in_ok-value.field-0 c.in_ok-value.ensures.only (λ (tree : Sexp) (used : ℕ) (is : c.in_ok-value.field-0 ≡ read.Whole tree used) (header : IsHeader tree).
-        let same : tree ≡ c.in-Whole.value = cc in
-        let P : Sexp → Type 0 = λ t. IsHeader t in
-        let never = c.if-not-is_header.ensures.1 (subst P same header) in
-        cc)
+    let same : tree ≡ c.in-Whole.value = cc in
+    let P : Sexp → Type 0 = λ t. IsHeader t in
+    let never = c.if-not-is_header.ensures.1 (subst P same header) in
+    cc)
 
 pub returns : goal.returns
 returns c =

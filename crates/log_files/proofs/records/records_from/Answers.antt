@@ -1,8 +1,4 @@
-use Rattle.std.proofs.Common.{◌≡◌, List, ℕ, ◌+◌, take, drop, length, ◌-◌, [], sym, ap, subst, arith}
-use Rattle.std.proofs.lemmas.List.{take_rest}
-use Rattle.canonical_sexp.specs.declared.read.Read.{Read}
-use Rattle.canonical_sexp.specs.declared.read.Read.TheVariants as read
-use Rattle.canonical_sexp.specs.Reading.{Answers}
+use Rattle.std.proofs.Common.{List, ℕ, [], sym, subst}
 use Rattle.entry_format.specs.declared.plain.Plain.{Plain}
 use Rattle.entry_format.specs.declared.plain.EntryFault.{EntryFault}
 use Rattle.log_files.proofs.Splits.{AreReadTo, read_none, adds_whole}
