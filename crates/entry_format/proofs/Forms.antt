@@ -1,5 +1,6 @@
 -- Which fault a text has.
-use Rattle.std.proofs.Common.{◌≡◌, ◌∙◌, ℕ, ◌⊎◌, inl, inr, Result, Ok, Err, refl, List, [], ◌∷◌, length, sym, ap, subst, arith}
+use Rattle.std.proofs.Common.{◌≡◌, ◌∙◌, ℕ, ◌⊎◌, inl, inr, Result, Ok, Err, refl, List, [], ◌∷◌, length, sym, ap}
+use Rattle.std.proofs.Common.{subst, arith}
 use Rattle.std.proofs.lemmas.List.{take_all}
 use Rattle.std.specs.Prelude.{codes}
 use Rattle.canonical_sexp.specs.declared.sexp.Sexp.{Sexp}
@@ -16,45 +17,58 @@ use Rattle.entry_format.specs.Parts.{IsSigned}
 use Rattle.canonical_sexp.specs.declared.read.Why.{Why}
 use Rattle.entry_format.specs.declared.plain.Plain.{Plain}
 use Rattle.entry_format.specs.declared.plain.EntryFault.{EntryFault}
-use Rattle.entry_format.specs.declared.plain.EntryFault.TheVariants.{NotCanonical, WrongShape, NamesNotRising, OtherElection, UnknownMaker, WrongIndex, BadSignature, Memory}
+use Rattle.entry_format.specs.declared.plain.EntryFault.TheVariants.{NotCanonical, WrongShape, NamesNotRising}
+use Rattle.entry_format.specs.declared.plain.EntryFault.TheVariants.{OtherElection, UnknownMaker, WrongIndex}
+use Rattle.entry_format.specs.declared.plain.EntryFault.TheVariants.{BadSignature, Memory}
 use Rattle.entry_format.specs.Reading.{IsCanonical, HasForm, HasRisingNames, IsFormFault, Reads}
 use Rattle.entry_format.proofs.OneEntry.{one_text, one_entry, one_signed}
 
 -- a text that is canonical is read whole
-pub canonical_is_whole : (text : List ℕ) (tree : Sexp) → Fits tree → text ≡ text_of tree → Answers text (read.Whole tree (length text))
+pub canonical_is_whole : (text : List ℕ) (tree : Sexp) → Fits tree → text ≡ text_of tree →
+    Answers text (read.Whole tree (length text))
 canonical_is_whole text tree fits e = (fits, omega arith, take_all (length text) text (omega arith) ∙ e)
 
 -- the tree of a text with the form of an entry
-pub tree_of_form : (text : List ℕ) (tree : Sexp) (entry : Entry) (signature : List ℕ) → Fits tree → text ≡ text_of tree → IsSignedText text entry signature
-    → IsSigned tree (body_tree entry) signature
-tree_of_form text tree entry signature fits e form = one_text text tree (signed_tree entry signature) fits form.within e form.spelt
+pub tree_of_form : (text : List ℕ) (tree : Sexp) (entry : Entry) (signature : List ℕ) → Fits tree →
+    text ≡ text_of tree → IsSignedText text entry signature →
+    IsSigned tree (body_tree entry) signature
+tree_of_form text tree entry signature fits e form = one_text text tree (signed_tree entry signature) fits
+    form.within e form.spelt
 
 -- one signed entry has one body
-pub body_of_form : (text : List ℕ) (tree body : Sexp) (entry : Entry) (signature another : List ℕ) → Fits tree → text ≡ text_of tree → IsSigned tree body another
-    → IsSignedText text entry signature → body ≡ body_tree entry
+pub body_of_form : (text : List ℕ) (tree body : Sexp) (entry : Entry) (signature another : List ℕ) → Fits tree →
+    text ≡ text_of tree → IsSigned tree body another →
+    IsSignedText text entry signature → body ≡ body_tree entry
 body_of_form text tree body entry signature another fits e signed form =
-    (one_signed body (body_tree entry) another signature (sym signed ∙ tree_of_form text tree entry signature fits e form)).0
+    (one_signed body (body_tree entry) another signature (sym signed
+    ∙ tree_of_form text tree entry signature fits e form)).0
 
 -- an entry whose names don't rise has no form in which they do
-pub not_rising : (text : List ℕ) (entry : Entry) (signature : List ℕ) → IsSignedText text entry signature → (IsAscending entry.names → ⊥) → HasRisingNames text → ⊥
+pub not_rising : (text : List ℕ) (entry : Entry) (signature : List ℕ) → IsSignedText text entry signature →
+    (IsAscending entry.names → ⊥) → HasRisingNames text → ⊥
 not_rising text entry signature form falls (other, another, also, rises) =
     let one : (entry ≡ other) × (signature ≡ another) = one_entry text entry other signature another form also in
     let P : Entry → Type 0 = λ x. IsAscending x.names in
     falls (subst P (sym one.0) rises)
 
 -- the first fault of a text that isn't read whole
-pub not_whole : (text : List ℕ) (answer : Read) → ((other : Read) → Answers text other → answer ≡ other) → ((tree : Sexp) → answer ≡ read.Whole tree (length text) → ⊥) → IsCanonical text → ⊥
-not_whole text answer only other (tree, fits, e) = other tree (only (read.Whole tree (length text)) (canonical_is_whole text tree fits e))
+pub not_whole : (text : List ℕ) (answer : Read) → ((other : Read) → Answers text other → answer ≡ other) →
+    ((tree : Sexp) → answer ≡ read.Whole tree (length text) → ⊥) → IsCanonical text → ⊥
+not_whole text answer only other (tree, fits, e) = other tree
+    (only (read.Whole tree (length text)) (canonical_is_whole text tree fits e))
 
 -- the form of a text whose parts were found
-pub form_of : (text : List ℕ) (tree body : Sexp) (entry : Entry) (signature : List ℕ) → Fits tree → text ≡ text_of tree → IsSigned tree body signature → IsEntry entry
-    → body ≡ body_tree entry → IsSignedText text entry signature
+pub form_of : (text : List ℕ) (tree body : Sexp) (entry : Entry) (signature : List ℕ) → Fits tree →
+    text ≡ text_of tree → IsSigned tree body signature → IsEntry entry →
+    body ≡ body_tree entry → IsSignedText text entry signature
 form_of text tree body entry signature fits e signed lawful is =
-    let same : tree ≡ signed_tree entry signature = signed ∙ ap (λ b. list_of (Atom (codes "sealed") ∷ b ∷ Atom signature ∷ [])) is in
+    let same : tree ≡ signed_tree entry signature = signed
+    ∙ ap (λ b. list_of (Atom (codes "sealed") ∷ b ∷ Atom signature ∷ [])) is in
     let P : Sexp → Type 0 = λ t. Fits t in
     record { lawful = lawful; within = subst P same fits; spelt = e ∙ ap text_of same }
 
-pub cut_is_not_whole : (text : List ℕ) (answer : Read) → (answer ≡ read.Cut) ⊎ ((at : ℕ) × (why : Why) × (answer ≡ read.Bad at why)) → (tree : Sexp) → answer ≡ read.Whole tree (length text) → ⊥
+pub cut_is_not_whole : (text : List ℕ) (answer : Read) → (answer ≡ read.Cut)
+    ⊎ ((at : ℕ) × (why : Why) × (answer ≡ read.Bad at why)) → (tree : Sexp) → answer ≡ read.Whole tree (length text) → ⊥
 cut_is_not_whole text answer (inl is) tree e = cc
 cut_is_not_whole text answer (inr (at, why, is)) tree e = cc
 
@@ -73,7 +87,8 @@ is_canonical : (text : List ℕ) → HasForm text → IsCanonical text
 is_canonical text (entry, signature, form) = (signed_tree entry signature, form.within, form.spelt)
 
 -- the fault of a text that isn't canonical, of one without the form, and of one whose names don't rise
-only_not_canonical : (text : List ℕ) (fault : EntryFault) → IsFormFault text fault → (IsCanonical text → ⊥) → fault ≡ NotCanonical
+only_not_canonical : (text : List ℕ) (fault : EntryFault) → IsFormFault text fault → (IsCanonical text → ⊥) →
+    fault ≡ NotCanonical
 only_not_canonical text NotCanonical h not = refl
 only_not_canonical text WrongShape h not = absurd (not h.0)
 only_not_canonical text NamesNotRising h not = absurd (not (is_canonical text h.0))
@@ -83,7 +98,8 @@ only_not_canonical text WrongIndex h not = absurd h
 only_not_canonical text BadSignature h not = absurd h
 only_not_canonical text Memory h not = absurd h
 
-only_wrong_shape : (text : List ℕ) (fault : EntryFault) → IsFormFault text fault → IsCanonical text → (HasForm text → ⊥) → fault ≡ WrongShape
+only_wrong_shape : (text : List ℕ) (fault : EntryFault) → IsFormFault text fault → IsCanonical text →
+    (HasForm text → ⊥) → fault ≡ WrongShape
 only_wrong_shape text NotCanonical h is not = absurd (h is)
 only_wrong_shape text WrongShape h is not = refl
 only_wrong_shape text NamesNotRising h is not = absurd (not h.0)
@@ -118,9 +134,11 @@ abbrev plain_with : Entry → List ℕ → Plain
 plain_with entry digest = record { entry = entry; digest = digest }
 
 -- at most one reading is right
-pub one_reading : (text : List ℕ) (reading other : Result Plain EntryFault) → Reads text reading → Reads text other → reading ≡ other
+pub one_reading : (text : List ℕ) (reading other : Result Plain EntryFault) → Reads text reading → Reads text other →
+    reading ≡ other
 one_reading text (Ok plain) (Ok other) h k =
-    let one : (plain.entry ≡ other.entry) × (h.0.0 ≡ k.0.0) = one_entry text plain.entry other.entry h.0.0 k.0.0 h.0.1 k.0.1 in
+    let one : (plain.entry ≡ other.entry) × (h.0.0 ≡ k.0.0) =
+    one_entry text plain.entry other.entry h.0.0 k.0.0 h.0.1 k.0.1 in
     let digest : plain.digest ≡ other.digest = h.2 ∙ sym k.2 in
     ap (λ e. Ok (plain_with e plain.digest)) one.0 ∙ ap (λ d. Ok (plain_with other.entry d)) digest
 one_reading text (Ok plain) (Err fault) h k = absurd (no_fault text fault k (plain.entry, h.0.0, h.0.1, h.1))

@@ -1,5 +1,6 @@
 -- A text has one entry.
-use Rattle.std.proofs.Common.{◌≡◌, ◌∙◌, ℕ, ◌^◌, get_or, if◌then◌else◌, ◌<◌, List, [], ◌∷◌, map, refl, ap, sym, arith, append-nil}
+use Rattle.std.proofs.Common.{◌≡◌, ◌∙◌, ℕ, ◌^◌, get_or, if◌then◌else◌, ◌<◌, List, [], ◌∷◌, map, refl, ap, sym}
+use Rattle.std.proofs.Common.{arith, append-nil}
 use Rattle.std.specs.Prelude.{codes}
 use Rattle.std.specs.Fmt.{decimal}
 use Rattle.canonical_sexp.specs.declared.sexp.Sexp.{Sexp}
@@ -12,18 +13,22 @@ use Rattle.canonical_sexp.proofs.Decimal.{decimal_same, number_from, number_from
 use Rattle.canonical_sexp.proofs.Rows.{members_of-forest_of}
 use Rattle.std.specs.Str.{bytes_eq}
 use Rattle.entry_format.specs.declared.deed.Deed.{Deed}
-use Rattle.entry_format.specs.declared.deed.Deed.TheVariants.{Opened, Authorise, Override, Closed, Activate, Commit, Cast, Cancel}
+use Rattle.entry_format.specs.declared.deed.Deed.TheVariants.{Opened, Authorise, Override, Closed, Activate, Commit}
+use Rattle.entry_format.specs.declared.deed.Deed.TheVariants.{Cast, Cancel}
 use Rattle.entry_format.specs.declared.entry.Entry.{Entry}
 use Rattle.entry_format.specs.EntryText.{IsDeed, IsEntry, deed_tree, body_tree, signed_tree, IsSignedText}
 use Rattle.entry_format.proofs.Trees.{atoms_of}
 
 -- one tree has one text, and a text one tree
-pub one_text : (text : List ℕ) (tree other : Sexp) → Fits tree → Fits other → text ≡ text_of tree → text ≡ text_of other → tree ≡ other
+pub one_text : (text : List ℕ) (tree other : Sexp) → Fits tree → Fits other → text ≡ text_of tree →
+    text ≡ text_of other → tree ≡ other
 one_text text tree other fits other_fits is also =
-    (one_tree 8 tree other [] [] fits other_fits (append-nil (text_of tree) ∙ sym is ∙ also ∙ sym (append-nil (text_of other)))).0
+    (one_tree 8 tree other [] [] fits other_fits (append-nil (text_of tree) ∙ sym is ∙ also
+    ∙ sym (append-nil (text_of other)))).0
 
 one_number : (m n : ℕ) → m < 2 ^ 32 → n < 2 ^ 32 → number_atom m ≡ number_atom n → m ≡ n
-one_number m n small other_small e = let same : decimal m ≡ decimal n = cc in decimal_same m n (omega arith) (omega arith) same
+one_number m n small other_small e = let same : decimal m ≡ decimal n = cc in
+    decimal_same m n (omega arith) (omega arith) same
 
 atoms_same : (digests others : List (List ℕ)) → map Atom digests ≡ map Atom others → digests ≡ others
 atoms_same [] [] e = refl
@@ -71,7 +76,8 @@ number_back n small = number_from-decimal n (omega arith)
 deed_back : (deed : Deed) → IsDeed deed → deed_from (deed_tree deed) ≡ deed
 deed_back Opened h = refl
 deed_back (Authorise booth session) h =
-    ap (λ b. Authorise b (number_from 0 (decimal session))) (number_back booth h.0) ∙ ap (Authorise booth) (number_back session h.1)
+    ap (λ b. Authorise b (number_from 0 (decimal session))) (number_back booth h.0)
+    ∙ ap (Authorise booth) (number_back session h.1)
 deed_back (Override session) h = ap Override (number_back session h)
 deed_back Closed h = refl
 deed_back (Activate session) h = ap Activate (number_back session h)
@@ -93,11 +99,15 @@ abbrev entry_with : List ℕ → ℕ → ℕ → ℕ → List (List ℕ) → Dee
 entry_with election maker number stamp names deed =
     record { election = election; maker = maker; number = number; stamp = stamp; names = names; deed = deed }
 
-same_fields : (a b : Entry) → a.election ≡ b.election → a.maker ≡ b.maker → a.number ≡ b.number → a.stamp ≡ b.stamp → a.names ≡ b.names → a.deed ≡ b.deed → a ≡ b
+same_fields : (a b : Entry) → a.election ≡ b.election → a.maker ≡ b.maker → a.number ≡ b.number → a.stamp ≡ b.stamp →
+    a.names ≡ b.names → a.deed ≡ b.deed → a ≡ b
 same_fields a b e m n s names d =
-    ap (λ x. entry_with x a.maker a.number a.stamp a.names a.deed) e ∙ ap (λ x. entry_with b.election x a.number a.stamp a.names a.deed) m
-    ∙ ap (λ x. entry_with b.election b.maker x a.stamp a.names a.deed) n ∙ ap (λ x. entry_with b.election b.maker b.number x a.names a.deed) s
-    ∙ ap (λ x. entry_with b.election b.maker b.number b.stamp x a.deed) names ∙ ap (entry_with b.election b.maker b.number b.stamp b.names) d
+    ap (λ x. entry_with x a.maker a.number a.stamp a.names a.deed) e
+    ∙ ap (λ x. entry_with b.election x a.number a.stamp a.names a.deed) m
+    ∙ ap (λ x. entry_with b.election b.maker x a.stamp a.names a.deed) n
+    ∙ ap (λ x. entry_with b.election b.maker b.number x a.names a.deed) s
+    ∙ ap (λ x. entry_with b.election b.maker b.number b.stamp x a.deed) names
+    ∙ ap (entry_with b.election b.maker b.number b.stamp b.names) d
 
 abbrev body_members : Entry → List Sexp
 body_members entry =
@@ -117,23 +127,30 @@ one_body entry other h k e =
     let stamp : number_atom entry.stamp ≡ number_atom other.stamp = member 5 same in
     let names : list_of (map Atom entry.names) ≡ list_of (map Atom other.names) = member 6 same in
     let deed : deed_tree entry.deed ≡ deed_tree other.deed = member 7 same in
-    same_fields entry other (ap octets_of election) (one_number entry.maker other.maker h.maker k.maker maker) (one_number entry.number other.number h.number k.number number)
-    (one_number entry.stamp other.stamp h.stamp k.stamp stamp) (one_names entry.names other.names names) (one_deed entry.deed other.deed h.deed k.deed deed)
+    same_fields entry other (ap octets_of election) (one_number entry.maker other.maker h.maker k.maker maker)
+    (one_number entry.number other.number h.number k.number number)
+    (one_number entry.stamp other.stamp h.stamp k.stamp stamp) (one_names entry.names other.names names)
+    (one_deed entry.deed other.deed h.deed k.deed deed)
 
 abbrev signed_members : Sexp → List ℕ → List Sexp
 signed_members body signature = Atom (codes "sealed") ∷ body ∷ Atom signature ∷ []
 
 -- a signed entry has one body and one signature
-pub one_signed : (body other : Sexp) (signature another : List ℕ) → list_of (signed_members body signature) ≡ list_of (signed_members other another)
-    → (body ≡ other) × (signature ≡ another)
+pub one_signed : (body other : Sexp) (signature another : List ℕ) →
+    list_of (signed_members body signature) ≡ list_of (signed_members other another) →
+    (body ≡ other) × (signature ≡ another)
 one_signed body other signature another e =
-    let same : signed_members body signature ≡ signed_members other another = same_members (signed_members body signature) (signed_members other another) e in
+    let same : signed_members body signature ≡ signed_members other another =
+    same_members (signed_members body signature) (signed_members other another) e in
     let signatures : Atom signature ≡ Atom another = member 2 same in
     (member 1 same, ap octets_of signatures)
 
-pub one_entry : (text : List ℕ) (entry other : Entry) (signature another : List ℕ) → IsSignedText text entry signature → IsSignedText text other another
-    → (entry ≡ other) × (signature ≡ another)
+pub one_entry : (text : List ℕ) (entry other : Entry) (signature another : List ℕ) →
+    IsSignedText text entry signature → IsSignedText text other another →
+    (entry ≡ other) × (signature ≡ another)
 one_entry text entry other signature another h k =
-    let tree : signed_tree entry signature ≡ signed_tree other another = one_text text (signed_tree entry signature) (signed_tree other another) h.within k.within h.spelt k.spelt in
-    let parts : (body_tree entry ≡ body_tree other) × (signature ≡ another) = one_signed (body_tree entry) (body_tree other) signature another tree in
+    let tree : signed_tree entry signature ≡ signed_tree other another =
+    one_text text (signed_tree entry signature) (signed_tree other another) h.within k.within h.spelt k.spelt in
+    let parts : (body_tree entry ≡ body_tree other) × (signature ≡ another) =
+    one_signed (body_tree entry) (body_tree other) signature another tree in
     (one_body entry other h.lawful k.lawful parts.0, parts.1)

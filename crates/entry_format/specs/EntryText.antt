@@ -5,7 +5,8 @@ use Rattle.canonical_sexp.specs.declared.sexp.Sexp.TheVariants.{Atom}
 use Rattle.canonical_sexp.specs.Text.{text_of, Fits}
 use Rattle.canonical_sexp.specs.Forms.{list_of, number_atom}
 use Rattle.entry_format.specs.declared.deed.Deed.{Deed}
-use Rattle.entry_format.specs.declared.deed.Deed.TheVariants.{Opened, Authorise, Override, Closed, Activate, Commit, Cast, Cancel}
+use Rattle.entry_format.specs.declared.deed.Deed.TheVariants.{Opened, Authorise, Override, Closed, Activate, Commit}
+use Rattle.entry_format.specs.declared.deed.Deed.TheVariants.{Cast, Cancel}
 use Rattle.entry_format.specs.declared.entry.Entry.{Entry}
 
 -- a deed, one row each
@@ -37,7 +38,8 @@ IsDeed (Cancel session) = session < 2 ^ 32
 -- the body of an entry, which is signed
 abbrev pub body_tree : Entry → Sexp
 body_tree entry =
-    list_of (Atom (codes "entry") ∷ Atom (codes "1") ∷ Atom entry.election ∷ number_atom entry.maker ∷ number_atom entry.number
+    list_of (Atom (codes "entry") ∷ Atom (codes "1") ∷ Atom entry.election ∷ number_atom entry.maker
+    ∷ number_atom entry.number
     ∷ number_atom entry.stamp ∷ list_of (map Atom entry.names) ∷ deed_tree entry.deed ∷ [])
 
 -- the numbers are of 32 bits, and the digests are digests

@@ -7,7 +7,9 @@ use Rattle.entry_format.specs.Rising.{IsAscending}
 use Rattle.entry_format.specs.declared.entry.Entry.{Entry}
 use Rattle.entry_format.specs.declared.plain.Plain.{Plain}
 use Rattle.entry_format.specs.declared.plain.EntryFault.{EntryFault}
-use Rattle.entry_format.specs.declared.plain.EntryFault.TheVariants.{NotCanonical, WrongShape, NamesNotRising, OtherElection, UnknownMaker, WrongIndex, BadSignature, Memory}
+use Rattle.entry_format.specs.declared.plain.EntryFault.TheVariants.{NotCanonical, WrongShape, NamesNotRising}
+use Rattle.entry_format.specs.declared.plain.EntryFault.TheVariants.{OtherElection, UnknownMaker, WrongIndex}
+use Rattle.entry_format.specs.declared.plain.EntryFault.TheVariants.{BadSignature, Memory}
 use Rattle.entry_format.specs.EntryText.{IsSignedText}
 
 -- the text is one canonical text within the limits, and nothing else
@@ -20,7 +22,8 @@ HasForm text = (entry : Entry) × (signature : List ℕ) × IsSignedText text en
 
 -- the names of the entry that it is the text of rise strictly, in the order of bytes
 abbrev pub HasRisingNames : List ℕ → Type 0
-HasRisingNames text = (entry : Entry) × (signature : List ℕ) × IsSignedText text entry signature × IsAscending entry.names
+HasRisingNames text = (entry : Entry) × (signature : List ℕ) × IsSignedText text entry signature
+    × IsAscending entry.names
 
 -- the faults that show without a roster, the first that applies
 abbrev pub IsFormFault : List ℕ → EntryFault → Type 0
@@ -36,5 +39,6 @@ IsFormFault text Memory = ⊥
 -- The entry that the text is of, with rising names and the digest of the whole text, or its first fault.
 abbrev pub Reads : List ℕ → Result Plain EntryFault → Type 0
 Reads text (Ok plain) =
-    ((signature : List ℕ) × IsSignedText text plain.entry signature) × IsAscending plain.entry.names × (plain.digest ≡ sha256 text)
+    ((signature : List ℕ) × IsSignedText text plain.entry signature) × IsAscending plain.entry.names
+    × (plain.digest ≡ sha256 text)
 Reads text (Err fault) = IsFormFault text fault

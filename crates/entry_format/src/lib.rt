@@ -1,6 +1,6 @@
 //! Entries of the network's logs (Auditorium, EVT 2007): what a machine did, signed, naming by digest
-//! the entries that it had seen last. An entry has one text, and every text that isn't that of an
-//! entry is refused by the first cause that applies.
+//! the entries that it had seen last. An entry has one text, and every other text is refused by the
+//! first cause that applies.
 #![tactic(auto)]
 
 mod deed;

@@ -13,20 +13,30 @@ use Rattle.log_files.specs.LogText.{header_tree, HasHeader, SaysFrom, Says}
 use Rattle.log_files.specs.Parts.{IsHeader}
 
 header_fits : (owner : ℕ) → owner < 2 ^ 32 → Fits (header_tree owner)
-header_fits owner small = (omega arith, omega arith, (omega arith, (omega arith, (omega (arith, length-decimal-le_20 owner (omega arith)), tt))))
+header_fits owner small = (
+  omega arith,
+  omega arith,
+  (
+    omega arith,
+    (omega arith, (omega (arith, length-decimal-le_20 owner (omega arith)), tt)),
+  ),
+)
 
 -- the first whole text of bytes that begin with a header
-pub no_header : (bytes : List ℕ) (answer : Read) → ((other : Read) → Answers bytes other → answer ≡ other)
-    → ((tree : Sexp) (used : ℕ) → answer ≡ read.Whole tree used → IsHeader tree → ⊥) → HasHeader bytes → ⊥
+pub no_header : (bytes : List ℕ) (answer : Read) → ((other : Read) → Answers bytes other → answer ≡ other) →
+    ((tree : Sexp) (used : ℕ) → answer ≡ read.Whole tree used → IsHeader tree → ⊥) → HasHeader bytes → ⊥
 no_header bytes answer only not (owner, rest, small, e) =
-    let P : List ℕ → Type 0 = λ bs. Answers bs (read.Whole (header_tree owner) (length (text_of (header_tree owner)))) in
+    let P : List ℕ → Type 0 = λ bs. Answers bs (read.Whole (header_tree owner)
+    (length (text_of (header_tree owner)))) in
     let whole : P bytes = subst P (sym e) (text_is_read (header_tree owner) rest (header_fits owner small)) in
     not (header_tree owner) (length (text_of (header_tree owner))) (only _ whole) (owner, small, refl)
 
-pub says : (bytes : List ℕ) (tree : Sexp) (used : ℕ) (log : PlainLog) → Answers bytes (read.Whole tree used) → IsHeader tree → SaysFrom used (drop used bytes) log → Says bytes log
+pub says : (bytes : List ℕ) (tree : Sexp) (used : ℕ) (log : PlainLog) → Answers bytes (read.Whole tree used) →
+    IsHeader tree → SaysFrom used (drop used bytes) log → Says bytes log
 says bytes tree used log whole (owner, small, is) h =
     let front : take used bytes ≡ text_of (header_tree owner) = whole.2 ∙ ap text_of is in
-    let long : used ≡ length (text_of (header_tree owner)) = sym (length-take-le used bytes whole.1) ∙ ap length front in
+    let long : used ≡ length (text_of (header_tree owner)) = sym (length-take-le used bytes whole.1)
+    ∙ ap length front in
     let P : ℕ → Type 0 = λ n. SaysFrom n (drop used bytes) log in
     record {
       owner = owner;

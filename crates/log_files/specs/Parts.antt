@@ -17,10 +17,13 @@ IsHeader tree = (owner : ℕ) × (owner < 2 ^ 32) × (tree ≡ header_tree owner
 abbrev pub IsEntryIn : Sexp → Sexp → ℕ → Type 0
 IsEntryIn tree entry before =
     ((members : Forest) × (entry ≡ Branch members))
-    × (((before ≡ 7) × (tree ≡ list_of (Atom (codes "sent") ∷ entry ∷ []))) ⊎ ((before ≡ 6) × (tree ≡ list_of (Atom (codes "got") ∷ entry ∷ []))))
+    × (((before ≡ 7) × (tree ≡ list_of (Atom (codes "sent") ∷ entry ∷ [])))
+    ⊎ ((before ≡ 6) × (tree ≡ list_of (Atom (codes "got") ∷ entry ∷ []))))
 
 -- the log has the entry that the tree gives at its end, or the fault with the place
 abbrev pub Adds : Sexp → ℕ → PlainLog → PlainLog → Type 0
 Adds tree place old new =
-    ((plain : Plain) × Gives tree (Ok plain) × (new.kept.items ≡ old.kept.items ++ plain ∷ []) × (new.refused.items ≡ old.refused.items))
-    ⊎ ((fault : EntryFault) × Gives tree (Err fault) × (new.kept.items ≡ old.kept.items) × (new.refused.items ≡ old.refused.items ++ (place, fault) ∷ []))
+    ((plain : Plain) × Gives tree (Ok plain) × (new.kept.items ≡ old.kept.items ++ plain ∷ [])
+    × (new.refused.items ≡ old.refused.items))
+    ⊎ ((fault : EntryFault) × Gives tree (Err fault) × (new.kept.items ≡ old.kept.items)
+    × (new.refused.items ≡ old.refused.items ++ (place, fault) ∷ []))

@@ -6,8 +6,10 @@ use Rattle.entry_format.proofs.plain.read_unsigned.Goals as goal
 
 pub returns-then-used-text : goal.returns-then-used-text
 returns-then-used-text c = λ wanted.
-    not_whole c.args.text.now c.in_ok-value.field-0 c.in_ok-value.ensures.only (λ (tree : Sexp) (e : c.in_ok-value.field-0 ≡ read.Whole tree (length c.args.text.now)).
+    not_whole c.args.text.now c.in_ok-value.field-0 c.in_ok-value.ensures.only
+    (λ (tree : Sexp) (e : c.in_ok-value.field-0 ≡ read.Whole tree (length c.args.text.now)).
     let same : c.in-Whole.used ≡ length c.args.text.now = cc in omega arith)
 
 pub returns-in-Cut : goal.returns-in-Cut
-returns-in-Cut c = λ wanted. not_whole c.args.text.now c.in_ok-value.field-0 c.in_ok-value.ensures.only (cut_is_not_whole c.args.text.now c.in_ok-value.field-0 c.in-Cut.is)
+returns-in-Cut c = λ wanted. not_whole c.args.text.now c.in_ok-value.field-0 c.in_ok-value.ensures.only
+    (cut_is_not_whole c.args.text.now c.in_ok-value.field-0 c.in-Cut.is)

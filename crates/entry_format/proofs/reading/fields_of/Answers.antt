@@ -11,7 +11,8 @@ use Rattle.entry_format.proofs.reading.fields_of.Goals as goal
 pub returns-clause-found : goal.returns-clause-found
 returns-clause-found c =
     let long : length c.as_slice.result.now ≡ 8 = omega arith in
-    let members = eight_members c.as_slice.result.now _ _ _ _ _ _ _ _ long c.word-item.is c.version-item.is c.election-item.is c.maker-item.is
+    let members = eight_members c.as_slice.result.now _ _ _ _ _ _ _ _ long c.word-item.is c.version-item.is
+    c.election-item.is c.maker-item.is
     c.number-item.is c.stamp-item.is c.names-item.is c.deed-item.is in
     let word : c.word-item.result ≡ Atom (codes "entry") = grind (arith, common_steps) in
     let version : c.version-item.result ≡ Atom (codes "1") = grind (arith, common_steps) in
@@ -23,9 +24,21 @@ returns-clause-found c =
     let deed : c.deed-item.result ≡ deed_tree c.in_ok-deed_of.field-0 = c.in_ok-deed_of.ensures.1 in
     let list : c.args.tree.now ≡ Branch c.in_ok-as_list.field-0.now = c.in_ok-as_list.ensures.found in
     let forest : c.in_ok-as_list.field-0.now ≡ forest_of c.as_slice.result.now = c.as_slice.ensures.forest in
-    let spelt : c.as_slice.result.now ≡ Atom (codes "entry") ∷ Atom (codes "1") ∷ Atom c.in_ok-digest_of.field-0 ∷ number_atom c.in_ok-as_number.field-0
-    ∷ number_atom c.in_ok-as_number-2.field-0 ∷ number_atom c.in_ok-as_number-3.field-0 ∷ Branch c.in_ok-as_list-2.field-0.now
-    ∷ deed_tree c.in_ok-deed_of.field-0 ∷ [] = cc (members, word, version, election, maker, number, stamp, names, deed) in
+    let spelt : c.as_slice.result.now ≡ Atom (codes "entry") ∷ Atom (codes "1") ∷ Atom c.in_ok-digest_of.field-0
+    ∷ number_atom c.in_ok-as_number.field-0
+    ∷ number_atom c.in_ok-as_number-2.field-0 ∷ number_atom c.in_ok-as_number-3.field-0
+    ∷ Branch c.in_ok-as_list-2.field-0.now
+    ∷ deed_tree c.in_ok-deed_of.field-0 ∷ [] = cc (
+      members,
+      word,
+      version,
+      election,
+      maker,
+      number,
+      stamp,
+      names,
+      deed,
+    ) in
     record {
       election = c.in_ok-digest_of.ensures.0;
       maker = c.in_ok-as_number.ensures.0;

@@ -11,10 +11,12 @@ returns-then-not-is_below c = (
 )
 
 pub loop-i-preserved : goal.loop-i-preserved
-loop-i-preserved c = rises_more c.args.digests.now c.loop-i.i c.loop-i.invariant (omega arith) (c.if-not-is_below.ensures.0 refl)
+loop-i-preserved c = rises_more c.args.digests.now c.loop-i.i c.loop-i.invariant (omega arith)
+    (c.if-not-is_below.ensures.0 refl)
 
 pub returns : goal.returns
 returns c = (
-  (λ always. ascends c.args.digests.now (λ (k : ℕ) (within : suc k < length c.args.digests.now). c.loop-i.invariant k (omega arith))),
+  (λ always. ascends c.args.digests.now (λ (k : ℕ) (within : suc k < length c.args.digests.now). c.loop-i.invariant k
+      (omega arith))),
   λ rises. refl,
 )
