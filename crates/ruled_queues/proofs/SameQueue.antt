@@ -4,7 +4,7 @@ use Rattle.std.specs.Prelude.{Option}
 use Rattle.crossbeam_queue.specs.Passes.{Pass}
 use Rattle.crossbeam_queue.specs.declared.array_queue.Doing.{Doing}
 use Rattle.crossbeam_queue.specs.declared.array_queue.Slotted.{Slotted}
-use Rattle.queue_identity.specs.QueueId.{QueueId, queue_of_pass, id_of}
+use Rattle.ruled_queues.specs.QueueId.{QueueId, queue_of_pass, id_of}
 
 pub same_queue : {T V Q A : Type 0} (q : Slotted (Option T) (Doing T V) Q A) (p : Pass T V) → queue_of_pass p ≡ id_of q → p.table_id ≡ q.table.shared.table_id
 same_queue q p same = ap (λ (i : QueueId). record {

@@ -1,11 +1,10 @@
--- What tells one ruled queue from every other, in a record that contracts can name.
-use Rattle.std.specs.Prelude.{ℕ, List}
+-- Which ruled queue a link or a lock stands on, in a record that their contracts can name.
+use Rattle.std.specs.Prelude.{ℕ, List, Option}
 use Rattle.crossbeam_queue.specs.Passes.{Pass}
 use Rattle.crossbeam_queue.specs.declared.array_queue.Doing.{Doing}
 use Rattle.crossbeam_queue.specs.declared.array_queue.Slotted.{Slotted}
-use Rattle.std.specs.Prelude.{Option}
 
--- the numbers that no two queues share while both exist
+-- the numbers by which a queue is known: no two queues that exist at once have the same
 pub record QueueId : Type 0 where
   pub words : ℕ
   pub slots : ℕ
@@ -27,7 +26,7 @@ queue_of_pass p = record {
   slot_names = p.table_id.slot_names;
 }
 
--- the queue itself
+-- which queue it is
 abbrev pub id_of : {T V Q A : Type 0} → Slotted (Option T) (Doing T V) Q A → QueueId
 id_of q = record {
   words = q.table.shared.table_id.words;
