@@ -8,7 +8,7 @@ use Rattle.entry_order.specs.Naming.{Names, IsNamedIn, IsBorneIn, has_digest}
 use Rattle.entry_order.specs.Precedes.{IsPath, Precedes}
 use Rattle.entry_order.specs.Survivors.{gaps, IsGaps}
 use Rattle.entry_order.specs.Completion.{Completion}
-use Rattle.entry_order.specs.Settled.{NamesNoGap, IsWhole}
+use Rattle.entry_order.specs.Settled.{NamesNoGap, IsWhole, PathsAreSettled}
 use Rattle.entry_order.proofs.Lists.{Contains-filter, Contains-filter_cases, Contains-flat_map, Contains-flat_map_cases}
 use Rattle.entry_order.proofs.Ascending.{Contains-ascending, Contains-ascending_cases, same_ascending}
 use Rattle.entry_order.proofs.Ascending.{ascending_ascending}
@@ -84,3 +84,9 @@ module _ {T : Type 0} (node : T → Node) (S : List T) where
     -- where x is whole, its ancestors in the completion are its ancestors among the survivors
     pub before_among_survivors : (y x : T) → Contains S x → IsWhole node S x → Precedes node G y x → Precedes node S y x
     before_among_survivors y x cx whole p = let r = survives x cx whole y p.2 p.0 p.3 in (r.0, cx, p.2, r.1)
+
+pub paths_are_settled : {T : Type 0} (node : T → Node) → PathsAreSettled node
+paths_are_settled node machines S G completion y x = (
+  before_in_completion node S machines G completion y x,
+  before_among_survivors node S machines G completion y x,
+)

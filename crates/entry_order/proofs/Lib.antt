@@ -17,3 +17,4 @@ pub mod Ranks
 pub mod Merged
 pub mod Numbered
 pub mod Forms
+pub mod Graphs

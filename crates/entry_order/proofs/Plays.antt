@@ -119,7 +119,8 @@ module _ {T : Type 0} (node : T → Node) (w : World T) where
   Grows-hear m log None a from = inl refl
   Grows-hear m log (Some e) a from = by (cannot_hear node log a (node e).digest) refl
     where
-      by : (b : Bool) → cannot_hear node log a (node e).digest ≡ b → Grows m a.history (cond b a (append (Got e) a)).history
+      by : (b : Bool) → cannot_hear node log a (node e).digest ≡ b →
+          Grows m a.history (cond b a (append (Got e) a)).history
       by true s = inl refl
       by false s =
           let free =

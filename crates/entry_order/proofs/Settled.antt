@@ -1,11 +1,10 @@
 -- The three values are the ancestors by walks, and so what holds in every completion.
 use Rattle.std.proofs.Common.{◌≡◌, ℕ, zero, suc, ◌≤◌, Bool, true, false, cond, List, [], ◌∷◌, ◌++◌, length, refl, sym}
-use Rattle.std.proofs.Common.{ap, subst, ◌∙◌, inl, inr, Some, arith}
+use Rattle.std.proofs.Common.{subst, ◌∙◌, inl, inr, Some, arith}
 use Rattle.std.specs.Prelude.{slice_get, not, ◌||◌, ◌==◌}
-use Rattle.std.specs.List.{Contains, list_any, list_all}
+use Rattle.std.specs.List.{Contains, list_all}
 use Rattle.std.proofs.lemmas.Bool.{or_cases, or_left, or_right, and_parts, and_from, eqb-true, eq-eqb, not-true}
 use Rattle.std.proofs.lemmas.Bool.{not_from_false, true≢false, false≢true}
-use Rattle.std.proofs.lemmas.List.Folds.{list_any_at}
 use Rattle.std.proofs.lemmas.Option.{slice_get_within, get_or_from_slice_get, slice_get_read}
 use Rattle.entry_order.specs.declared.three.Three.TheVariants.{False, Unknown, True}
 use Rattle.entry_order.specs.Node.{Node}
@@ -15,6 +14,7 @@ use Rattle.entry_order.specs.Completion.{Completion}
 use Rattle.entry_order.specs.Ancestors.{IsWalk, IsAncestor, Descends, reaches, is_whole, before}
 use Rattle.entry_order.specs.Settled.{IsWhole, IsGraphOf, OrderIsSettled}
 use Rattle.entry_order.proofs.Lists.{Contains-none, Contains-head, Contains-later, Contains-cons_cases, list_any_some}
+use Rattle.entry_order.proofs.Lists.{list_any_of}
 use Rattle.entry_order.proofs.Completions.{before_in_completion, before_among_survivors}
 
 -- each passes, and the other way round
@@ -34,9 +34,6 @@ list_all_from_each p [] each = refl
 list_all_from_each p (z ∷ xs) each =
     and_from (p z) (list_all p xs) (each z (Contains-head z xs))
     (list_all_from_each p xs (λ x c. each x (Contains-later z xs x c)))
-
-list_any_of : {X : Type 0} (p : X → Bool) (xs : List X) (x : X) → Contains xs x → p x ≡ true → list_any p xs ≡ true
-list_any_of p xs x (i, l, at) e = list_any_at p xs i x l (ap p at ∙ e)
 
 module _ (parents : ℕ → List ℕ) where
   ancestor_from_reaches : (n y x : ℕ) → reaches parents n y x ≡ true → IsAncestor parents y x

@@ -33,7 +33,7 @@ pub record IsAscendingOf (ds ordered : List (List ℕ)) : Type 0 where
   pub rises : IsAscending ordered
   pub members : (d : List ℕ) → Contains ordered d ↔ Contains ds d
 
--- that says which list it is
+-- exactly the ascending list is so
 abbrev pub AscendingIsUnique : Type 0
 AscendingIsUnique =
     (ds ordered : List (List ℕ)) → (ordered ≡ ascending ds) ↔ IsAscendingOf ds ordered

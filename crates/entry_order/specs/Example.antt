@@ -23,6 +23,7 @@ pub record Entry : Type 0 where
 abbrev pub digest_of : ℕ → ℕ → List ℕ
 digest_of m n = m ∷ n ∷ []
 
+-- what it shows
 abbrev pub shown : Entry → Node
 shown e = record {
   digest = digest_of e.maker e.number;
@@ -32,6 +33,7 @@ shown e = record {
   stamp = e.stamp;
 }
 
+-- the entry of these parts
 abbrev pub made : ℕ → ℕ → ℕ → List (List ℕ) → Entry
 made m n s names = record { maker = m; number = n; stamp = s; names = names }
 
@@ -39,7 +41,7 @@ made m n s names = record { maker = m; number = n; stamp = s; names = names }
 abbrev pub next : ℕ → List (Event Entry) → Option Entry
 next = next_made shown made (λ m h. true)
 
--- A sends a0; B hears it and sends b0 and b1; C hears a0 and b1, sends c0, hears b0, sends c1; A sends a1
+-- A sends a0; B hears it and sends b0, b1; C hears a0, b1, sends c0, hears b0, sends c1; A sends a1
 abbrev pub world : World Entry
 world =
     play shown next 64 (start 3)
@@ -70,6 +72,7 @@ c1 = made 2 1 5 (digest_of 2 0 ∷ [])
 abbrev pub left : List Entry
 left = a0 ∷ a1 ∷ b1 ∷ c0 ∷ c1 ∷ []
 
+-- what the definitions say of this world
 pub record IsExample : Type 0 where
   -- the machines follow the rules
   pub lawful : IsLawful shown next

@@ -16,7 +16,7 @@ pub record IsFrontier {T : Type 0} (node : T → Node) (es : List T) (ds : List 
   pub rises : IsAscending ds
   pub members : (d : List ℕ) → Contains ds d ↔ (IsBorneIn node es d × (¬ (IsNamedIn node es d)))
 
--- that says which list it is
+-- exactly the frontier is so
 abbrev pub FrontierIsUnique : {T : Type 0} → (T → Node) → Type 0
 FrontierIsUnique {T} node =
     (es : List T) (ds : List (List ℕ)) → (ds ≡ frontier node es) ↔ IsFrontier node es ds

@@ -32,7 +32,7 @@ module _ {T : Type 0} (node : T → Node) where
     pub rises : IsAscending ds
     pub members : (d : List ℕ) → Contains ds d ↔ (IsNamedIn node E d × (¬ (IsBorneIn node E d)))
 
-  -- that says which list it is
+  -- exactly the gaps are so
   abbrev pub GapsAreUnique : Type 0
   GapsAreUnique = (E : List T) (ds : List (List ℕ)) → (ds ≡ gaps E) ↔ IsGaps E ds
 

@@ -62,12 +62,12 @@ module _ {T : Type 0} (node : T → Node) where
   cannot_hear log a digest =
       a.stopped || has_digest node (held a.history) digest || nat_le log (length a.history)
 
-  -- the machine gets this entry, where there is one, unless it cannot_hear
+  -- the machine gets this entry, where there is one, unless it cannot hear it
   abbrev pub hear : ℕ → Option T → Machine T → Machine T
   hear log None a = a
   hear log (Some e) a = if cannot_hear log a (node e).digest then a else append (Got e) a
 
-  -- next m h, what m sends after the history h if it may send anything, is what a legal history asks
+  -- next m h, what m sends after the history h if it may send, is what a legal history asks
   abbrev pub IsLawful : (ℕ → List (Event T) → Option T) → Type 0
   IsLawful next =
       (m : ℕ) (h : List (Event T)) (e : T) → next m h ≡ Some e → MayFollow node m h (Sent e)

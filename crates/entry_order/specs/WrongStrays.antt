@@ -11,6 +11,7 @@ abbrev pub is_stray_by_others : List Entry → Entry → Bool
 is_stray_by_others given e =
     list_any (λ g. not (bytes_eq (shown g).digest (shown e).digest) && names_later shown e g) given
 
+-- the given entries that are no strays by this test
 abbrev pub survivors_by_others : List Entry → List Entry
 survivors_by_others given = filter (λ e. not (is_stray_by_others given e)) given
 

@@ -7,7 +7,7 @@ ghost use Rattle.entry_order.specs.Honest.{HonestEntriesAgree};
 ghost use Rattle.entry_order.specs.Made.{MadeIsLawful, NumberedIsDistinct};
 ghost use Rattle.entry_order.specs.Merged.{MergedIsPlayedAgain};
 ghost use Rattle.entry_order.specs.Receipt.{OrderIsReceipt, OrderIsReceiptInOrderlyWorlds};
-ghost use Rattle.entry_order.specs.Settled.{OrderIsSettled};
+ghost use Rattle.entry_order.specs.Settled.{OrderIsSettled, PathsAreSettled, SurvivorsHaveAGraph};
 ghost use Rattle.entry_order.specs.Survivors.{
   GapsAreUnique,
   SurvivorsAreNoStrays,
@@ -27,9 +27,12 @@ pub fn order_is_receipt<T: Knot>()
     ensures { OrderIsReceipt T.node }
 {}
 
-/// What is said of the order of two survivors holds in every completion.
+/// What is said of the order of two survivors holds in every completion: by paths among them, and by
+/// the graph that they have.
 pub fn order_is_settled<T: Knot>()
-    ensures { OrderIsSettled T.node }
+    ensures paths { PathsAreSettled T.node }
+    ensures settled { OrderIsSettled T.node }
+    ensures graph { SurvivorsHaveAGraph T.node }
 {}
 
 /// Any entries that an honest place sent have no stray and no fork, and what is said of their order
