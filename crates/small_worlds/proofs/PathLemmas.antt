@@ -1,5 +1,6 @@
 -- What the search of paths finds is a path among the survivors.
-use Rattle.std.proofs.Common.{◌≡◌, ℕ, zero, suc, ◌+◌, ◌-◌, ◌<◌, ◌≤◌, true, false, List, [], ◌∷◌, length, get_or, drop, refl, sym, ap, subst, ◌∙◌, inl, inr, arith}
+use Rattle.std.proofs.Common.{◌≡◌, ℕ, zero, suc, ◌+◌, ◌-◌, ◌<◌, ◌≤◌, true, false, List, [], ◌∷◌, length, get_or, drop}
+use Rattle.std.proofs.Common.{refl, sym, ap, subst, ◌∙◌, inl, inr, arith}
 use Rattle.std.specs.Prelude.{not, ◌&&◌, ◌||◌, ◌↔◌, slice_get, Some}
 use Rattle.std.specs.List.{Contains, list_any}
 use Rattle.std.proofs.lemmas.Bool.{or_cases, or_left, or_right, and_parts, and_from, not_from_false}
@@ -16,37 +17,45 @@ use Rattle.small_worlds.specs.Paths.{names_entry, is_next, leads, is_before}
 
 -- one step of the search, its bound written as the code does
 pub leads_step : {T : Type 0} (node : T → Node) (given : List T) (n : ℕ) (f e : T) → 0 < n →
-    leads node given n f e ≡ (names_entry node e f || list_any (λ g. is_next node given f g && leads node given (n - 1) g e) given)
+    leads node given n f e ≡
+    (names_entry node e f || list_any (λ g. is_next node given f g && leads node given (n - 1) g e) given)
 leads_step node given zero f e l = absurd (omega arith)
 leads_step node given (suc n) f e l = let less : suc n - 1 ≡ n = omega arith in rw less refl
 
 -- it finds a path over the next entry at a place
-pub leads_over : {T : Type 0} (node : T → Node) (given : List T) (n : ℕ) (f e : T) → 0 < n → (i : ℕ) (g : T) → i < length given →
-    g ≡ get_or given i g → is_next node given f g ≡ true → leads node given (n - 1) g e ≡ true → leads node given n f e ≡ true
+pub leads_over : {T : Type 0} (node : T → Node) (given : List T) (n : ℕ) (f e : T) → 0 < n → (i : ℕ) (g : T) →
+    i < length given →
+    g ≡ get_or given i g → is_next node given f g ≡ true → leads node given (n - 1) g e ≡ true →
+    leads node given n f e ≡ true
 leads_over {T} node given n f e l i g inside at next rest =
     let test = λ (g : T). is_next node given f g && leads node given (n - 1) g e in
     let both = and_from (is_next node given f g) (leads node given (n - 1) g e) next rest in
-    leads_step node given n f e l ∙ or_right (names_entry node e f) (list_any test given) (list_any_at test given i g inside (ap test (sym at) ∙ both))
+    leads_step node given n f e l
+    ∙ or_right (names_entry node e f) (list_any test given)
+    (list_any_at test given i g inside (ap test (sym at) ∙ both))
 
 -- it finds none where none is left
-pub leads_nowhere : {T : Type 0} (node : T → Node) (given : List T) (n : ℕ) (f e : T) → 0 < n → names_entry node e f ≡ false → (i : ℕ) → length given ≤ i →
+pub leads_nowhere : {T : Type 0} (node : T → Node) (given : List T) (n : ℕ) (f e : T) → 0 < n →
+    names_entry node e f ≡ false → (i : ℕ) → length given ≤ i →
     list_any (λ g. is_next node given f g && leads node given (n - 1) g e) (drop i given)
     ≡ list_any (λ g. is_next node given f g && leads node given (n - 1) g e) given → leads node given n f e ≡ false
 leads_nowhere {T} node given n f e l none i past same =
     let test = λ (g : T). is_next node given f g && leads node given (n - 1) g e in
-    leads_step node given n f e l ∙ ap (λ b. b || list_any test given) none ∙ sym same ∙ at_drop_all (list_any test) given i past
+    leads_step node given n f e l ∙ ap (λ b. b || list_any test given) none ∙ sym same
+    ∙ at_drop_all (list_any test) given i past
 
 module _ {T : Type 0} (node : T → Node) (given : List T) where
   -- what is no stray survives
   survives : (g : T) → Contains given g → is_stray node given g ≡ false → Contains (survivors node given) g
-  survives g c free = Contains-filter (λ e. not (is_stray node given e)) given g c (not_from_false (is_stray node given g) free)
+  survives g c free =
+      Contains-filter (λ e. not (is_stray node given e)) given g c (not_from_false (is_stray node given g) free)
 
   from_leads : (n : ℕ) (f e : T) → leads node given n f e ≡ true →
       (between : List T) × IsPath node (survivors node given) f between e
   from_leads zero f e t = ([], names_digest_from node e (node f).digest t)
   from_leads (suc n) f e t =
       let on : list_any (λ g. is_next node given f g && leads node given n g e) given ≡ true →
-          (between : List T) × IsPath node (survivors node given) f between e =
+      (between : List T) × IsPath node (survivors node given) f between e =
       λ t.
       let r = list_any_some (λ g. is_next node given f g && leads node given n g e) given t in
       let both = and_parts (is_next node given f r.0) (leads node given n r.0 e) r.2 in
@@ -54,7 +63,8 @@ module _ {T : Type 0} (node : T → Node) (given : List T) where
       let rest = from_leads n r.0 e both.1 in
       let here = Contains-filter (λ e. not (is_stray node given e)) given r.0 r.1 next.0 in
       (r.0 ∷ rest.0, (here, names_digest_from node r.0 (node f).digest next.1, rest.1)) in
-      elim (or_cases (names_entry node e f) (list_any (λ g. is_next node given f g && leads node given n g e) given) t) [
+      elim (or_cases (names_entry node e f)
+      (list_any (λ g. is_next node given f g && leads node given n g e) given) t) [
         | inl t ↦ ([], names_digest_from node e (node f).digest t)
         | inr t ↦ on t
       ]
@@ -64,10 +74,12 @@ module _ {T : Type 0} (node : T → Node) (given : List T) where
   to_leads zero f [] e l p = names_digest_of node e (node f).digest p
   to_leads zero f (g ∷ gs) e l p = absurd (omega arith)
   to_leads (suc n) f [] e l p =
-      or_left (names_entry node e f) (list_any (λ g. is_next node given f g && leads node given n g e) given) (names_digest_of node e (node f).digest p)
+      or_left (names_entry node e f) (list_any (λ g. is_next node given f g && leads node given n g e) given)
+      (names_digest_of node e (node f).digest p)
   to_leads (suc n) f (g ∷ gs) e l p =
       let c = Contains-filter_cases (λ e. not (is_stray node given e)) given g p.0 in
-      let next = and_from (not (is_stray node given g)) (names_entry node g f) c.1 (names_digest_of node g (node f).digest p.1) in
+      let next =
+      and_from (not (is_stray node given g)) (names_entry node g f) c.1 (names_digest_of node g (node f).digest p.1) in
       let rest = to_leads n g gs e (omega arith) p.2 in
       let both = and_from (is_next node given f g) (leads node given n g e) next rest in
       let (i, inside, at) = c.0 in
@@ -94,7 +106,9 @@ module _ {T : Type 0} (node : T → Node) (given : List T) where
       (is_before node given f e ≡ true) ↔ Precedes node (survivors node given) f e
   is_before_right f e cf ce = (
     λ t.
-        let first = and_parts (not (is_stray node given f)) (not (is_stray node given e) && leads node given (node e).stamp f e) t in
+        let first =
+        and_parts (not (is_stray node given f))
+        (not (is_stray node given e) && leads node given (node e).stamp f e) t in
         let second = and_parts (not (is_stray node given e)) (leads node given (node e).stamp f e) first.1 in
         let sf = Contains-filter (λ e. not (is_stray node given e)) given f cf first.0 in
         let se = Contains-filter (λ e. not (is_stray node given e)) given e ce second.0 in
@@ -103,12 +117,15 @@ module _ {T : Type 0} (node : T → Node) (given : List T) where
         let kf = Contains-filter_cases (λ e. not (is_stray node given e)) given f p.0 in
         let ke = Contains-filter_cases (λ e. not (is_stray node given e)) given e p.1 in
         and_from (not (is_stray node given f)) (not (is_stray node given e) && leads node given (node e).stamp f e) kf.1
-        (and_from (not (is_stray node given e)) (leads node given (node e).stamp f e) ke.1 ((leads_is_path f e p.0 p.1).1 p)),
+        (and_from (not (is_stray node given e)) (leads node given (node e).stamp f e) ke.1
+        ((leads_is_path f e p.0 p.1).1 p)),
   )
 
   -- so it is for entries at places, as the code reads them
-  pub is_before_at : (i j : ℕ) (f e g h : T) → i < length given → j < length given → f ≡ get_or given i f → e ≡ get_or given j e →
-      slice_get given i ≡ Some g → slice_get given j ≡ Some h → (is_before node given f e ≡ true) ↔ Precedes node (survivors node given) g h
+  pub is_before_at : (i j : ℕ) (f e g h : T) → i < length given → j < length given → f ≡ get_or given i f →
+      e ≡ get_or given j e →
+      slice_get given i ≡ Some g → slice_get given j ≡ Some h →
+      (is_before node given f e ≡ true) ↔ Precedes node (survivors node given) g h
   is_before_at i j f e g h li lj fi ej gi hj =
       let first : f ≡ g = (let read = sym (slice_get_read given (length given) i f refl li fi) ∙ gi in cc) in
       let second : e ≡ h = (let read = sym (slice_get_read given (length given) j e refl lj ej) ∙ hj in cc) in

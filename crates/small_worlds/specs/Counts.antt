@@ -1,5 +1,6 @@
 -- How many entries of each machine are reached from one entry, as it is counted.
-use Rattle.std.specs.Prelude.{ℕ, zero, suc, ◌+◌, ◌-◌, Bool, ◌&&◌, nat_lt, nat_le, ◌==◌, List, [], ◌∷◌, length, replicate, slice_index, slice_set, if◌then◌else◌}
+use Rattle.std.specs.Prelude.{ℕ, zero, suc, ◌+◌, ◌-◌, Bool, ◌&&◌, nat_lt, nat_le, ◌==◌, if◌then◌else◌}
+use Rattle.std.specs.Prelude.{List, [], ◌∷◌, length, replicate, slice_index, slice_set}
 use Rattle.entry_order.specs.declared.event.Event.{Event}
 use Rattle.entry_order.specs.declared.event.Event.TheVariants.{Sent, Got}
 use Rattle.entry_order.specs.Node.{Node}
@@ -23,7 +24,10 @@ module _ {T : Type 0} (node : T → Node) where
 
   -- a machine's last entry that is counted has its past taken in
   abbrev pub spread_one : Machine T → ℕ → List ℕ → List ℕ
-  spread_one a place counts = if slice_index counts place == 0 then counts else taken_in a.history (slice_index counts place - 1) counts
+  spread_one a place counts =
+      if slice_index counts place == 0
+      then counts
+      else taken_in a.history (slice_index counts place - 1) counts
 
   -- each machine in turn, from this place on
   abbrev pub spread : World T → ℕ → List ℕ → List ℕ
@@ -34,7 +38,9 @@ module _ {T : Type 0} (node : T → Node) where
   spread_times zero w counts = counts
   spread_times (suc n) w counts = spread w 0 (spread_times n w counts)
 
-  -- whether machine a's entry i is counted from machine b's entry j, after as many rounds as the greatest stamp that b holds
+  -- whether machine a's entry i is counted from machine b's entry j, after as many rounds as b's clock says
   abbrev pub is_held_before : World T → ℕ → ℕ → ℕ → ℕ → Bool
   is_held_before w a i b j =
-      nat_lt i (slice_index (spread_times (greatest_stamp node (held (history w b))) w (taken_in (history w b) j (replicate (length w) 0))) a)
+      let first = taken_in (history w b) j (replicate (length w) 0) in
+      let counts = spread_times (greatest_stamp node (held (history w b))) w first in
+      nat_lt i (slice_index counts a)

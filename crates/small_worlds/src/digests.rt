@@ -55,7 +55,8 @@ pub fn ascending(alloc: Global, digests: &[[u8; 32]]) -> Result<Vec<[u8; 32]>, A
 // The digests of those entries that none of them names, in their order.
 fn unnamed<T: Knot>(alloc: Global, entries: &[T]) -> Result<Vec<[u8; 32]>, AllocError>
     ensures { IfOk result (λ digests. digests.items
-        ≡ filter (λ d. not (is_named T.node entries.now d)) (map (λ e. (T.node e).digest) entries.now)) }
+        ≡ filter (λ d. not (is_named T.node entries.now d))
+        (map (λ e. (T.node e).digest) entries.now)) }
 {
     let mut digests = Vec::new(alloc);
     for entry in entries {

@@ -1,17 +1,30 @@
 //! Whether an entry was held before another was sent.
 
-ghost use Rattle.std.specs.Prelude.{◌≡◌, ◌<◌, ◌^◌, ◌↔◌, IfOk, IsTrue, length, slice_get, slice_index, replicate};
-ghost use Rattle.small_worlds.specs.Counts.{raised, taken_in, spread, spread_one, spread_times, is_held_before};
+ghost use Rattle.std.specs.Prelude.{◌≡◌, ◌<◌, ◌^◌, ◌↔◌, IfOk, IsTrue, length, replicate};
+ghost use Rattle.small_worlds.specs.Counts.{
+  is_held_before,
+  raised,
+  spread,
+  spread_one,
+  spread_times,
+  taken_in,
+};
+ghost use Rattle.small_worlds.specs.Places.{IsSentAt};
 ghost use Rattle.entry_order.specs.History.{held, sent, greatest_stamp};
 ghost use Rattle.entry_order.specs.World.{history};
 ghost use Rattle.entry_order.specs.HeldBefore.{HeldBefore};
 ghost use Rattle.entry_order.specs.Receipt.{IsOrderly};
 
-use crate::machine::{Sender, Process};
+use crate::history::clock;
+use crate::machine::{Process, Sender};
 use entry_order::{Event, Knot};
 use std::alloc::{AllocError, Global};
-use crate::history::clock;
 
+// One count for each machine says how many of its entries, from the first on, are reached from the
+// second entry. At first that is what the second's maker held. Then, so often as that can add any, of
+// each machine's last entry that is counted what its maker held is counted too.
+
+// The maker's count takes in its entry with this number.
 fn raise(counts: &mut [usize], maker: usize, number: usize)
     requires { number < 2 ^ 32 }
     ensures { counts.new ≡ raised counts.old maker number }
@@ -21,6 +34,7 @@ fn raise(counts: &mut [usize], maker: usize, number: usize)
     }
 }
 
+// The counts take in what was held when the entry with this number was sent.
 fn take_in<T: Sender>(history: &[Event<T>], number: usize, counts: &mut [usize])
     ensures { counts.new ≡ taken_in T.node history.now number counts.old }
 {
@@ -36,7 +50,8 @@ fn take_in<T: Sender>(history: &[Event<T>], number: usize, counts: &mut [usize])
     }
 }
 
-fn spread_unit<T: Sender>(machine: &Process<T>, place: usize, counts: &mut [usize])
+// The counts take in what was held when the last entry of one machine that is counted was sent.
+fn spread_machine<T: Sender>(machine: &Process<T>, place: usize, counts: &mut [usize])
     requires { place < length counts.old }
     ensures { counts.new ≡ spread_one T.node machine.now place counts.old }
 {
@@ -46,15 +61,17 @@ fn spread_unit<T: Sender>(machine: &Process<T>, place: usize, counts: &mut [usiz
     }
 }
 
+// The same for each machine in turn.
 fn spread_all<T: Sender>(machines: &[Process<T>], counts: &mut [usize])
     requires { length counts.old ≡ length machines.now }
     ensures { counts.new ≡ spread T.node machines.now 0 counts.old }
 {
     for (place, machine) in machines.iter().enumerate() {
-        spread_unit(machine, place, counts);
+        spread_machine(machine, place, counts);
     }
 }
 
+// As many such rounds.
 fn spread_rounds<T: Sender>(machines: &[Process<T>], rounds: u32, counts: &mut [usize])
     requires { length counts.old ≡ length machines.now }
     ensures { counts.new ≡ spread_times T.node rounds machines.now counts.old }
@@ -64,6 +81,7 @@ fn spread_rounds<T: Sender>(machines: &[Process<T>], rounds: u32, counts: &mut [
     }
 }
 
+// The counts from one entry on, after so many rounds.
 fn count_from<T: Sender>(
     machines: &[Process<T>],
     rounds: u32,
@@ -73,19 +91,22 @@ fn count_from<T: Sender>(
 )
     requires in_world { machine < length machines.now }
     requires as_long { length counts.old ≡ length machines.now }
-    ensures { counts.new ≡ spread_times T.node rounds machines.now (taken_in T.node (history machines.now machine) number counts.old) }
+    ensures { counts.new ≡ spread_times T.node rounds machines.now
+        (taken_in T.node (history machines.now machine) number counts.old) }
 {
     take_in(machines[machine].events(), number, counts);
     spread_rounds(machines, rounds, counts);
 }
 
-fn top_of<T: Sender>(machines: &[Process<T>], machine: usize) -> u32
+// The logical clock of one machine.
+fn clock_of<T: Sender>(machines: &[Process<T>], machine: usize) -> u32
     requires { machine < length machines.now }
     ensures { result ≡ greatest_stamp T.node (held (history machines.now machine)) }
 {
     clock(machines[machine].events())
 }
 
+// Whether the first is counted from the second, where each count is 0 before.
 fn is_counted<T: Sender>(
     machines: &[Process<T>],
     first: (usize, usize),
@@ -97,12 +118,13 @@ fn is_counted<T: Sender>(
     requires zeros { counts.old ≡ replicate (length machines.now) 0 }
     ensures { result ≡ is_held_before T.node machines.now first.0 first.1 second.0 second.1 }
 {
-    let rounds = top_of(machines, second.0);
+    let rounds = clock_of(machines, second.0);
     count_from(machines, rounds, second.0, second.1, counts);
     let count = counts[first.0];
     first.1 < count
 }
 
+// The same with counts of its own.
 fn counted_before<T: Sender>(
     alloc: Global,
     machines: &[Process<T>],
@@ -111,14 +133,15 @@ fn counted_before<T: Sender>(
 ) -> Result<bool, AllocError>
     requires first_in { first.0 < length machines.now }
     requires second_in { second.0 < length machines.now }
-    ensures { IfOk result (λ yes. yes ≡ is_held_before T.node machines.now first.0 first.1 second.0 second.1) }
+    ensures { IfOk result (λ yes.
+        yes ≡ is_held_before T.node machines.now first.0 first.1 second.0 second.1) }
 {
     let mut counts = vec![in alloc; 0; machines.len()]?;
     Ok(is_counted(machines, first, second, &mut counts))
 }
 
-/// Whether the second's maker held the first or a descendant of it when it sent the second; each is
-/// named by its machine and its number.
+/// Whether the second's maker held the first or a descendant of it when it sent the second. Each is
+/// named by its machine and its number, both counted from 0.
 pub fn held_before<T: Sender>(
     alloc: Global,
     machines: &[Process<T>],
@@ -128,7 +151,9 @@ pub fn held_before<T: Sender>(
     requires first_in { first.0 < length machines.now }
     requires second_in { second.0 < length machines.now }
     requires orderly { IsOrderly T.node machines.now }
-    ensures { IfOk result (λ yes. (f e : T) → slice_get (sent (history machines.now first.0)) first.1 ≡ Some f → slice_get (sent (history machines.now second.0)) second.1 ≡ Some e → IsTrue yes ↔ HeldBefore machines.now f e) }
+    ensures { IfOk result (λ yes. (f e : T) →
+        IsSentAt machines.now first.0 first.1 f → IsSentAt machines.now second.0 second.1 e →
+        IsTrue yes ↔ HeldBefore machines.now f e) }
 {
     counted_before(alloc, machines, first, second)
 }

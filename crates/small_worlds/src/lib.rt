@@ -15,4 +15,4 @@ pub use held::held_before;
 pub use history::{clock, held_frontier, holds, sent_count};
 pub use machine::{Process, Sender};
 pub use paths::precedes;
-pub use world::{act, all_sent, hear, play, run, start, stop, take_step};
+pub use world::{all_sent, play, run, start};

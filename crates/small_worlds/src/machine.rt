@@ -1,24 +1,26 @@
 //! One machine of a small world.
 
-ghost use Rattle.std.specs.Prelude.{◌≡◌, ℕ, List, Option, Some, IfOk, IfSome, OnOk, OnErr, [], false, true, slice_get};
+ghost use Rattle.std.specs.Prelude.{◌≡◌, ℕ, List, Option, IfOk, OnOk, OnErr, [], false, slice_get};
 ghost use Rattle.entry_order.specs.declared.event.Event.{Event};
 ghost use Rattle.entry_order.specs.Naming.{has_digest};
 ghost use Rattle.entry_order.specs.History.{held, sent};
 ghost use Rattle.entry_order.specs.World.{IsLawful, cannot_hear, hear, send, stop};
 
+use crate::history::holds;
 use entry_order::{Event, Knot};
 use std::alloc::{AllocError, Global};
 use std::marker::Model;
-use crate::history::holds;
 
 /// An entry that machines can make.
 pub trait Sender: Knot + Drop {
-    /// What machine m sends after a history, if it may send anything.
+    /// What a machine sends after a history, if it may send anything.
     ghost next: { ℕ → List (Event Self) → Option Self };
 
+    /// An equal entry.
     fn copy(&self, alloc: Global) -> Result<Self, AllocError>
         ensures { IfOk result (λ copy. copy ≡ self.now) };
 
+    /// What the machine sends next.
     fn make_next(
         alloc: Global,
         machine: usize,
@@ -30,7 +32,7 @@ pub trait Sender: Knot + Drop {
     ghost lawful: { IsLawful Self.node next };
 }
 
-/// One machine.
+/// One machine: Lamport's process.
 #[derive(Drop)]
 pub struct Process<T> {
     history: Vec<Event<T>>,
@@ -46,6 +48,7 @@ impl<T> Model for Process<T> {
 }
 
 impl<T: Sender> Process<T> {
+    /// A machine before anything happens.
     pub fn new(alloc: Global) -> Self
         ensures { result ≡ record { history = []; stopped = false } }
     {
@@ -69,6 +72,7 @@ impl<T: Sender> Process<T> {
         copy_of_sent(alloc, &self.history, number)
     }
 
+    /// From now on it sends and hears nothing.
     pub fn stop(&mut self)
         ensures { self.new ≡ stop self.old }
     {
@@ -84,6 +88,7 @@ impl<T: Sender> Process<T> {
         self.send(made)
     }
 
+    // Sends this entry, unless it has stopped.
     fn send(&mut self, entry: Option<T>) -> Result<(), AllocError>
         ensures ok { OnOk result (self.new ≡ send entry self.old) }
         ensures err { OnErr result (self.new ≡ self.old) }
@@ -103,6 +108,7 @@ impl<T: Sender> Process<T> {
         holds(&self.history, digest)
     }
 
+    // Whether it has stopped, holds the digest, or has `log` events.
     fn cannot_hear(&self, log: usize, digest: &[u8; 32]) -> bool
         ensures { result ≡ cannot_hear T.node log self.now digest.now }
     {
@@ -111,6 +117,7 @@ impl<T: Sender> Process<T> {
         self.stopped || holds || is_full
     }
 
+    /// Hears this entry, if it can.
     pub fn hear(&mut self, log: usize, entry: Option<T>) -> Result<(), AllocError>
         ensures ok { OnOk result (self.new ≡ hear T.node log entry self.old) }
         ensures err { OnErr result (self.new ≡ self.old) }
@@ -124,6 +131,7 @@ impl<T: Sender> Process<T> {
     }
 }
 
+// A copy of the entry with this number among those that were sent.
 fn copy_of_sent<T: Sender>(
     alloc: Global,
     history: &[Event<T>],

@@ -45,11 +45,12 @@ fn leads<T: Knot>(given: &[T], between: u32, first: &T, second: &T) -> bool
 fn is_before<T: Knot>(given: &[T], first: &T, second: &T) -> bool
     ensures { result ≡ is_before T.node given.now first.now second.now }
 {
-    !is_stray(given, first) && (!is_stray(given, second) && leads(given, second.stamp(), first, second))
+    !is_stray(given, first)
+        && (!is_stray(given, second) && leads(given, second.stamp(), first, second))
 }
 
-/// Whether the first entry precedes the second among the survivors of those given. Both are named by
-/// their places.
+/// Whether the first entry precedes the second among the survivors of those given. Both are named
+/// by their places. It takes time exponential in how many entries are given.
 pub fn precedes<T: Knot>(given: &[T], first: usize, second: usize) -> bool
     requires first_in { first < length given.now }
     requires second_in { second < length given.now }

@@ -7,7 +7,7 @@ ghost use Rattle.entry_order.specs.World.{start, happens, play, history, sent_in
 ghost use Rattle.entry_order.specs.Receipt.{IsOrderly, OrderIsReceiptIn};
 ghost use Rattle.entry_order.specs.declared.step.Step.TheVariants.{Act, Hear, Stop};
 
-use crate::machine::{Sender, Process};
+use crate::machine::{Process, Sender};
 use entry_order::{Event, Step};
 use std::alloc::{AllocError, Global};
 
@@ -22,7 +22,8 @@ pub fn start<T: Sender>(alloc: Global, count: u32) -> Result<Vec<Process<T>>, Al
     Ok(machines)
 }
 
-/// All steps, in order, from the start.
+/// All steps, in order, from the start. `log` is how many events a machine has at most that still
+/// hears.
 pub fn run<T: Sender>(
     alloc: Global,
     log: usize,
@@ -39,7 +40,7 @@ pub fn run<T: Sender>(
     play(alloc, log, machines, steps)
 }
 
-/// All steps, in order.
+/// All steps, in order. Where memory runs out, so many of them were done.
 pub fn play<T: Sender>(
     alloc: Global,
     log: usize,
@@ -54,8 +55,8 @@ pub fn play<T: Sender>(
     Ok(())
 }
 
-/// One step.
-pub fn take_step<T: Sender>(
+// One step.
+fn take_step<T: Sender>(
     alloc: Global,
     log: usize,
     machines: &mut [Process<T>],
@@ -81,9 +82,9 @@ pub fn take_step<T: Sender>(
     }
 }
 
-/// One machine acts.
+// One machine acts.
 #[tactic(auto, using(crate::proofs::Fusions::changes))]
-pub fn act<T: Sender>(
+fn act<T: Sender>(
     alloc: Global,
     log: usize,
     machines: &mut [Process<T>],
@@ -98,9 +99,9 @@ pub fn act<T: Sender>(
     Ok(())
 }
 
-/// One machine stops.
+// One machine stops.
 #[tactic(auto, using(crate::proofs::Fusions::changes))]
-pub fn stop<T: Sender>(log: usize, machines: &mut [Process<T>], machine: usize)
+fn stop<T: Sender>(log: usize, machines: &mut [Process<T>], machine: usize)
     ensures { machines.new ≡ happens T.node T.next log machines.old (Stop machine) }
 {
     if machine < machines.len() {
@@ -108,9 +109,9 @@ pub fn stop<T: Sender>(log: usize, machines: &mut [Process<T>], machine: usize)
     }
 }
 
-/// One machine hears what another has sent.
+// One machine hears what another has sent.
 #[tactic(auto, using(crate::proofs::Fusions::changes))]
-pub fn hear<T: Sender>(
+fn hear<T: Sender>(
     alloc: Global,
     log: usize,
     machines: &mut [Process<T>],
@@ -118,7 +119,8 @@ pub fn hear<T: Sender>(
     from: usize,
     number: usize,
 ) -> Result<(), AllocError>
-    ensures ok { OnOk result (machines.new ≡ happens T.node T.next log machines.old (Hear at from number)) }
+    ensures ok { OnOk result
+        (machines.new ≡ happens T.node T.next log machines.old (Hear at from number)) }
     ensures err { OnErr result (machines.new ≡ machines.old) }
 {
     if at != from && at < machines.len() {
@@ -128,7 +130,7 @@ pub fn hear<T: Sender>(
     Ok(())
 }
 
-/// A copy of a machine's entry of this number.
+// A copy of a machine's entry of this number.
 fn sent_at<T: Sender>(
     alloc: Global,
     machines: &[Process<T>],

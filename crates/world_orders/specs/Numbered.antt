@@ -15,8 +15,15 @@ digest_of m n = m ∷ n ∷ replicate 30 0
 abbrev pub shown : Node → Node
 shown e = e
 
+-- the entry of these parts
 abbrev pub made : ℕ → ℕ → ℕ → List (List ℕ) → Node
-made m n s names = record { digest = digest_of m n; names = names; maker = m; number = n; stamp = s }
+made m n s names = record {
+  digest = digest_of m n;
+  names = names;
+  maker = m;
+  number = n;
+  stamp = s;
+}
 
 shows_its_parts : ShowsItsParts shown made
 shows_its_parts = record {

@@ -27,11 +27,12 @@ impl Model for Entry {
     ghost Value = { Node };
 
     ghost view = { λ e. record {
-        digest = e.digest;
-        names = e.names.items;
-        maker = e.maker;
-        number = e.number;
-        stamp = e.stamp } };
+      digest = e.digest;
+      names = e.names.items;
+      maker = e.maker;
+      number = e.number;
+      stamp = e.stamp;
+    } };
 }
 
 impl Knot for Entry {

@@ -1,6 +1,6 @@
-//! Reads a small world as a list of steps, and prints its orders: of each machine the frontier, which
-//! entries were held before which, and of the entries that are given the strays, the gaps, and which
-//! precede which. Each answer is that of a call whose contract is the definition.
+//! Reads a small world as a list of steps, and prints its orders: of each machine the frontier,
+//! which entries were held before which, and of the entries that are given the strays, the gaps, and
+//! which precede which. Each answer is that of a call whose contract is the definition.
 #![tactic(auto)]
 
 ghost use Rattle.std.specs.Prelude.{◌≡◌, ◌<◌, length};
@@ -15,8 +15,8 @@ use entry::{Entry, LOG};
 use entry_order::Knot;
 use script::Script;
 use small_worlds::{
-    Process, Sender, all_sent, gaps, held_before, held_frontier, is_stray, precedes, run, sent_count,
-    start, survivors,
+    Process, Sender, all_sent, gaps, held_before, held_frontier, is_stray, precedes, run,
+    sent_count, start, survivors,
 };
 use std::alloc::{AllocError, Global};
 use std::io;
@@ -86,10 +86,7 @@ fn print_precedes(rt: &impl Print, given: &[Entry]) -> io::Result<()> {
             if precedes(given, i, j) {
                 println!(rt;
                     "precedes {} {} {} {}",
-                    first.maker,
-                    first.number,
-                    second.maker,
-                    second.number
+                    first.maker, first.number, second.maker, second.number
                 )?;
             }
         }

@@ -27,8 +27,8 @@ impl Script {
 
     /// Takes a line in, and answers whether it is a good one.
     ///
-    /// The lines are `machines N`, `act M`, `hear AT FROM NUMBER`, `stop M`, `lose MAKER NUMBER`, and
-    /// `forge MAKER NUMBER STAMP ..`, whose names follow as pairs of a maker and a number.
+    /// The lines are `machines N`, `act M`, `hear AT FROM NUMBER`, `stop M`, `lose MAKER NUMBER`,
+    /// and `forge MAKER NUMBER STAMP ..`, whose names follow as pairs of a maker and a number.
     pub fn take(&mut self, alloc: Global, line: &str) -> Result<bool, AllocError> {
         let mut kind = "";
         let mut numbers = Vec::new(alloc);

@@ -4,4 +4,5 @@ use Rattle.small_worlds.proofs.digests.place_for.Given as goal
 
 -- the digest goes behind those that were gone past
 abbrev pub invariant-loop-at : goal.invariant-loop-at
-invariant-loop-at l = take l.at l.digests ++ insert_digest l.digest (drop l.at l.digests) ≡ insert_digest l.digest l.digests
+invariant-loop-at l =
+    take l.at l.digests ++ insert_digest l.digest (drop l.at l.digests) ≡ insert_digest l.digest l.digests

@@ -6,4 +6,5 @@ use Rattle.small_worlds.proofs.digests.unnamed.Given as goal
 
 abbrev pub invariant-loop-entry : goal.invariant-loop-entry
 invariant-loop-entry g l =
-    l.digests.items ≡ filter (λ d. not (is_named g.T.Knot.node l.entries d)) (map (λ e. (g.T.Knot.node e).digest) (take l.entry-index l.entries))
+    l.digests.items ≡ filter (λ d. not (is_named g.T.Knot.node l.entries d))
+    (map (λ e. (g.T.Knot.node e).digest) (take l.entry-index l.entries))

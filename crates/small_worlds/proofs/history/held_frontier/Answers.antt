@@ -4,4 +4,5 @@ use Rattle.small_worlds.proofs.Fusions.{frontier_held}
 use Rattle.small_worlds.proofs.history.held_frontier.Goals as goal
 
 pub returns : goal.returns
-returns g c = IfOk-weaker c.frontier.result _ _ (λ ds is. is ∙ frontier_held g.T.Knot.node c.args.history.now) c.frontier.ensures
+returns g c =
+    IfOk-weaker c.frontier.result _ _ (λ ds is. is ∙ frontier_held g.T.Knot.node c.args.history.now) c.frontier.ensures

@@ -11,4 +11,5 @@ returns-then-leads g t c =
 pub returns : goal.returns
 returns g t c =
     sym (leads_nowhere g.T.Knot.node c.args.given.now c.args.between c.args.first.now c.args.second.now (omega arith)
-    (sym c.names_entry.ensures ∙ c.if-names_entry.false) c.loop-middle.middle-index (omega arith) c.loop-middle.invariant)
+    (sym c.names_entry.ensures ∙ c.if-names_entry.false) c.loop-middle.middle-index
+    (omega arith) c.loop-middle.invariant)

@@ -12,4 +12,5 @@ abbrev pub invariant-loop-middle : goal.invariant-loop-middle
 invariant-loop-middle g l =
     list_any (λ m. is_next g.T.Knot.node l.given l.first m && leads g.T.Knot.node l.given (l.between - 1) m l.second)
     (drop l.middle-index l.given)
-    ≡ list_any (λ m. is_next g.T.Knot.node l.given l.first m && leads g.T.Knot.node l.given (l.between - 1) m l.second) l.given
+    ≡ list_any
+    (λ m. is_next g.T.Knot.node l.given l.first m && leads g.T.Knot.node l.given (l.between - 1) m l.second) l.given

@@ -18,9 +18,9 @@ returns-clause-orderly g c =
     let n = length c.args.machines.now in
     on_ok_weaker c.play.result
     (λ is.
-        let e = is ∙ ap (λ w. play node next c.args.log w c.args.steps.now) c.requires in
-        subst (λ (w : World g.row.T.Denot). IsOrderly node w) (sym e)
-        (IsOrderly-play node next c.args.log g.met.T.Sender.lawful (start n) c.args.steps.now (IsOrderly-start node n)))
+    let e = is ∙ ap (λ w. play node next c.args.log w c.args.steps.now) c.requires in
+    subst (λ (w : World g.row.T.Denot). IsOrderly node w) (sym e)
+    (IsOrderly-play node next c.args.log g.met.T.Sender.lawful (start n) c.args.steps.now (IsOrderly-start node n)))
     c.play.ensures
 
 pub returns-clause-order : goal.returns-clause-order
@@ -30,7 +30,7 @@ returns-clause-order g c =
     let n = length c.args.machines.now in
     on_ok_weaker c.play.result
     (λ is.
-        let e = is ∙ ap (λ w. play node next c.args.log w c.args.steps.now) c.requires in
-        subst (λ (w : World g.row.T.Denot). Distinct node (sent_in w) → OrderIsReceiptIn node w) (sym e)
-        (order_is_receipt node next c.args.log n c.args.steps.now g.met.T.Sender.lawful))
+    let e = is ∙ ap (λ w. play node next c.args.log w c.args.steps.now) c.requires in
+    subst (λ (w : World g.row.T.Denot). Distinct node (sent_in w) → OrderIsReceiptIn node w) (sym e)
+    (order_is_receipt node next c.args.log n c.args.steps.now g.met.T.Sender.lawful))
     c.play.ensures
