@@ -27,6 +27,7 @@ added Greater d c cs y is h rest =
           (Contains-cons_cases c cs y g) [ inl e ↦ Contains-at c (insert_digest d cs) y e | inr f ↦ deeper (inr f) ]
     ]
 
+-- what is put in is in the list, and so is all that was
 pub Contains-insert_digest : (d : List ℕ) (ds : List (List ℕ)) (y : List ℕ) → (d ≡ y) ⊎ Contains ds y →
     Contains (insert_digest d ds) y
 Contains-insert_digest d [] y h = elim h [ inl e ↦ Contains-at d [] y e | inr g ↦ absurd (Contains-none y g) ]
@@ -44,12 +45,14 @@ taken_out Greater d c cs y h rest =
           (rest g) [ inl e ↦ inl e | inr f ↦ inr (Contains-later c cs y f) ]
     ]
 
+-- what is in the list was put in or was there
 pub Contains-insert_digest_cases : (d : List ℕ) (ds : List (List ℕ)) (y : List ℕ) →
     Contains (insert_digest d ds) y → (d ≡ y) ⊎ Contains ds y
 Contains-insert_digest_cases d [] y h = Contains-cons_cases d [] y h
 Contains-insert_digest_cases d (c ∷ cs) y h =
     taken_out (slice_cmp nat_cmp d c) d c cs y h (Contains-insert_digest_cases d cs y)
 
+-- the ascending list has each of the digests
 pub Contains-ascending : (ds : List (List ℕ)) (y : List ℕ) → Contains ds y → Contains (ascending ds) y
 Contains-ascending [] y h = h
 Contains-ascending (d ∷ ds) y h =
@@ -57,6 +60,7 @@ Contains-ascending (d ∷ ds) y h =
     λ g. Contains-insert_digest d (ascending ds) y (inr (Contains-ascending ds y g)) in
     elim (Contains-cons_cases d ds y h) [ inl e ↦ Contains-insert_digest d (ascending ds) y (inl e) | inr g ↦ deeper g ]
 
+-- and no others
 pub Contains-ascending_cases : (ds : List (List ℕ)) (y : List ℕ) → Contains (ascending ds) y → Contains ds y
 Contains-ascending_cases [] y h = h
 Contains-ascending_cases (d ∷ ds) y h =
@@ -70,6 +74,7 @@ IsBelow d c = slice_cmp nat_cmp d c ≡ Less
 not_both : (x y : List ℕ) → IsBelow x y → IsBelow y x → ⊥
 not_both x y a b = let e : Less ≡ Greater = sym a ∙ nat_list_cmp_total.antisymm x y ∙ ap ordering_reverse b in cc
 
+-- two ascending lists with the same members are equal
 pub same_ascending : (xs ys : List (List ℕ)) → IsAscending xs → IsAscending ys →
     ((d : List ℕ) → Contains xs d → Contains ys d) → ((d : List ℕ) → Contains ys d → Contains xs d) → xs ≡ ys
 same_ascending [] [] a b to from = refl
@@ -122,16 +127,19 @@ inserted_ascending Greater d c cs after is a b from =
     let below : IsBelow c d = nat_list_cmp_total.antisymm c d ∙ ap ordering_reverse is in
     (λ x h. elim (from x h) [ inl e ↦ subst (λ u. IsBelow c u) e below | inr l ↦ a.0 x l ], b)
 
+-- putting a digest in its place keeps the order
 pub insert_digest_ascending : (d : List ℕ) (ds : List (List ℕ)) → IsAscending ds → IsAscending (insert_digest d ds)
 insert_digest_ascending d [] a = (λ c h. absurd (Contains-none c h), tt)
 insert_digest_ascending d (c ∷ cs) a =
     inserted_ascending (slice_cmp nat_cmp d c) d c cs (insert_digest d cs) refl a
     (insert_digest_ascending d cs a.1) (Contains-insert_digest_cases d cs)
 
+-- the ascending list is ascending
 pub ascending_ascending : (ds : List (List ℕ)) → IsAscending (ascending ds)
 ascending_ascending [] = tt
 ascending_ascending (d ∷ ds) = insert_digest_ascending d (ascending ds) (ascending_ascending ds)
 
+-- exactly the ascending list is ascending and has these members
 pub ascending_is_unique : AscendingIsUnique
 ascending_is_unique ds ordered = (
   λ is. subst (λ o. IsAscendingOf ds o) (sym is) (record {
@@ -143,6 +151,7 @@ ascending_is_unique ds ordered = (
       (λ d c. Contains-ascending ds d ((is.members d).0 c)) (λ d c. (is.members d).1 (Contains-ascending_cases ds d c)),
 )
 
+-- a part of an ascending list is ascending
 pub filter_ascending : (p : List ℕ → Bool) (ds : List (List ℕ)) → IsAscending ds → IsAscending (filter p ds)
 filter_ascending p [] a = tt
 filter_ascending p (d ∷ ds) a =

@@ -35,6 +35,7 @@ module _ {T : Type 0} (node : T → Node) (S : List T) where
   pub gap_cases : (d : List ℕ) → Contains (gaps node S) d → IsNamedIn node S d × (¬ (IsBorneIn node S d))
   gap_cases d c = (gap_members d).0 c
 
+  -- exactly the gaps are ascending and have these members
   pub gaps_are_unique : (ds : List (List ℕ)) → (ds ≡ gaps node S) ↔ IsGaps node S ds
   gaps_are_unique ds =
       let digests = filter (λ d. not (has_digest node S d)) (flat_map (λ y. (node y).names) S) in (
@@ -85,6 +86,7 @@ module _ {T : Type 0} (node : T → Node) (S : List T) where
     pub before_among_survivors : (y x : T) → Contains S x → IsWhole node S x → Precedes node G y x → Precedes node S y x
     before_among_survivors y x cx whole p = let r = survives x cx whole y p.2 p.0 p.3 in (r.0, cx, p.2, r.1)
 
+-- both, for all survivors and completions
 pub paths_are_settled : {T : Type 0} (node : T → Node) → PathsAreSettled node
 paths_are_settled node machines S G completion y x = (
   before_in_completion node S machines G completion y x,

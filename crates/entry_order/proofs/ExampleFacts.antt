@@ -25,6 +25,7 @@ lawful =
     (record { maker = λ m n s ns. refl; number = λ m n s ns. refl; stamp = λ m n s ns. refl; names = λ m n s ns. refl })
     (λ m h. true)
 
+-- the digests of the example tell maker and number
 pub tells_number : DigestTellsNumber shown
 tells_number e f is = (cc, cc)
 
@@ -95,6 +96,7 @@ whole = record {
   ancestors = λ y p. names_none y p.0 (rises_along shown left y p.2 a1 p.0 p.1 p.3);
 }
 
+-- all facts of the example
 pub is_example : IsExample
 is_example = record {
   lawful = lawful;

@@ -21,6 +21,7 @@ module _ {T : Type 0} (w : World T) where
   from_chain f [] e (past, s, c) = itself past s c
   from_chain f (g ∷ gs) e (h, rest) = along w f g e (itself h.0 h.1 h.2) (from_chain g gs e rest)
 
+  -- what was held before is so by a list
   pub to_chain : (f e : T) → HeldBefore w f e → HeldByChain w f e
   to_chain f e (itself past s c) = ([], (past, s, c))
   to_chain f e (descendant {g = g} past s c h) =
@@ -45,6 +46,7 @@ module _ {T : Type 0} (node : T → Node) (w : World T) (orderly : IsOrderly nod
   to_within f e (descendant {g = g} past s c h) (suc n) l =
       let b = lower past e s g c in inr (g, (past, s, c), to_within f g h n (omega arith))
 
+-- all forms are one in a world that was played
 pub forms_agree : {T : Type 0} (node : T → Node) → FormsAgree node
 forms_agree node next log machines steps lawful distinct f e =
     let w = play node next log (start machines) steps in

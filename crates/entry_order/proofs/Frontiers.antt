@@ -34,6 +34,7 @@ module _ {T : Type 0} (node : T → Node) where
       (Contains-filter (λ d. not (is_named node es d)) (map (λ e. (node e).digest) es) (node e).digest
       (Contains-map (λ e. (node e).digest) es e c) (not_from_false (is_named node es (node e).digest) free))
 
+  -- a digest of the frontier is borne and not named
   pub frontier_cases : (es : List T) (d : List ℕ) → Contains (frontier node es) d →
       Contains (map (λ e. (node e).digest) es) d × (is_named node es d ≡ false)
   frontier_cases es d h =
@@ -41,6 +42,7 @@ module _ {T : Type 0} (node : T → Node) where
       (Contains-ascending_cases (filter (λ d. not (is_named node es d)) (map (λ e. (node e).digest) es)) d h) in
       (r.0, not-true (is_named node es d) r.1)
 
+  -- a digest that is borne and not named is in the frontier
   pub frontier_from : (es : List T) (d : List ℕ) → Contains (map (λ e. (node e).digest) es) d →
       is_named node es d ≡ false → Contains (frontier node es) d
   frontier_from es d c free =
@@ -60,6 +62,7 @@ module _ {T : Type 0} (node : T → Node) where
         (false_from_ne_true (is_named node es d) (λ t. free (is_named_from node es d t))),
   )
 
+  -- exactly the frontier is ascending and has these members
   pub frontier_is_unique : FrontierIsUnique node
   frontier_is_unique es ds =
       let digests = filter (λ d. not (is_named node es d)) (map (λ e. (node e).digest) es) in (

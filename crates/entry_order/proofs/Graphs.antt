@@ -90,6 +90,7 @@ module _ {T : Type 0} (node : T → Node) (S : List T) where
         ap is_ragged ie ∙ false_from_ne_true (list_any is_gap (node e).names) none,
   )
 
+-- the parents and the ragged nodes of survivors that are sorted
 pub survivors_have_a_graph : {T : Type 0} (node : T → Node) → SurvivorsHaveAGraph node
 survivors_have_a_graph {T} node S sorted kept = (
   parents_of node S,

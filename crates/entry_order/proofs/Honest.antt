@@ -51,6 +51,7 @@ none_inside [] none = refl
 none_inside (x ∷ xs) none = absurd (none x (Contains-head x xs))
 
 module _ {T : Type 0} (node : T → Node) (w : World T) (orderly : IsOrderly node w) where
+  -- a maker sends one entry with a number
   pub no_fork : HasNoFork node (sent_in w)
   no_fork e f ce cf made number =
       let a = was_sent w e ce in
@@ -126,6 +127,7 @@ module _ {T : Type 0} (node : T → Node) (w : World T) (orderly : IsOrderly nod
       all_known = all_known;
     }
 
+-- the law, of a world that was played
 pub honest_entries_agree : {T : Type 0} (node : T → Node) → HonestEntriesAgree node
 honest_entries_agree {T} node next log machines steps lawful distinct given were_sent =
     let w = play node next log (start machines) steps in

@@ -10,6 +10,7 @@ use Rattle.entry_order.specs.History.{held, sent, greatest_stamp, MayFollow}
 use Rattle.entry_order.specs.Made.{made_after, MadeIsLawful}
 use Rattle.entry_order.proofs.Plays.{IsNew-from_test}
 
+-- its digest is tested, and its parts are what is asked
 pub made_is_lawful : {T : Type 0} (node : T → Node) (made : ℕ → ℕ → ℕ → List (List ℕ) → T) → MadeIsLawful node made
 made_is_lawful {T} node made shows allowed m h e is =
     by (allowed m h && not (has_digest node (held h) (node (made_after node made m h)).digest)) refl is

@@ -396,6 +396,7 @@ module _ {T : Type 0} (node : T → Node) (next : ℕ → List (Event T) → Opt
       ap history_of (slice_get_past v m (omega arith)) ∙ ap history_of (sym (slice_get_past w m l)) in
       elim (cases_lt m (length w)) [ inl l ↦ inside l | inr l ↦ outside l ]
 
+-- the law, of every orderly world
 pub merged_is_played_again : {T : Type 0} (node : T → Node) → MergedIsPlayedAgain node
 merged_is_played_again node next log w orderly played fits xs merged m =
     again node next log w orderly played fits xs merged m

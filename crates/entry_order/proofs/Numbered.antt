@@ -13,6 +13,7 @@ use Rattle.entry_order.proofs.Strays.{stamp_rises}
 use Rattle.entry_order.proofs.Settled.{at_place}
 
 module _ {T : Type 0} (node : T → Node) where
+  -- where places go by stamps, what an entry names stands below it
   pub descends_by_stamp : (S : List T) (parents : ℕ → List ℕ) → IsNonDecreasingBy (λ e. (node e).stamp) S →
       ((e : T) → Contains S e → ¬ (IsStray node S e)) →
       ((i p : ℕ) → Contains (parents i) p →

@@ -32,6 +32,7 @@ member_split {X} (z ∷ xs) x c =
     elim (Contains-cons_cases z xs x c) [ inl s ↦ ([], xs, ap (λ u. u ∷ xs) s) | inr l ↦ deeper l ]
 
 module _ {T : Type 0} where
+  -- an entry that was sent is among those sent
   pub Contains-sent : (h : List (Event T)) (e : T) → Contains h (Sent e) → Contains (sent h) e
   Contains-sent [] e c = absurd (Contains-none (Sent e) c)
   Contains-sent (Sent g ∷ h) e c =
@@ -44,6 +45,7 @@ module _ {T : Type 0} where
   Contains-sent (Got g ∷ h) e c =
       elim (Contains-cons_cases (Got g) h (Sent e) c) [ inl s ↦ cc | inr l ↦ Contains-sent h e l ]
 
+  -- an entry among those sent was sent
   pub Contains-sent_cases : (h : List (Event T)) (e : T) → Contains (sent h) e → Contains h (Sent e)
   Contains-sent_cases [] e c = absurd (Contains-none e c)
   Contains-sent_cases (Sent g ∷ h) e c =
@@ -54,11 +56,13 @@ module _ {T : Type 0} where
       ]
   Contains-sent_cases (Got g ∷ h) e c = Contains-later (Got g) h (Sent e) (Contains-sent_cases h e c)
 
+  -- what a machine sent was sent in the world
   pub sent_in_from : (w : World T) (m : ℕ) (e : T) → Contains (history w m) (Sent e) → Contains (sent_in w) e
   sent_in_from [] m e c = absurd (Contains-none (Sent e) c)
   sent_in_from (a ∷ w) zero e c = Contains-append_left (sent a.history) (sent_in w) e (Contains-sent a.history e c)
   sent_in_from (a ∷ w) (suc m) e c = Contains-append_right (sent a.history) (sent_in w) e (sent_in_from w m e c)
 
+  -- what was sent in the world a machine sent
   pub sent_in_cases : (w : World T) (e : T) → Contains (sent_in w) e → (m : ℕ) × Contains (history w m) (Sent e)
   sent_in_cases w e c =
       let r = Contains-flat_map_cases (λ (a : Machine T). sent a.history) w e c in
@@ -75,6 +79,7 @@ module _ {T : Type 0} where
       let s = member_split (history w r.0) (Sent e) r.1 in
       (s.0, (r.0, s.1, s.2))
 
+  -- what was sent after a history was sent
   pub sent_from_after : (w : World T) (past : List (Event T)) (e : T) → WasSentAfter w past e → Contains (sent_in w) e
   sent_from_after w past e (m, later, is) =
       sent_in_from w m e
@@ -174,6 +179,7 @@ module _ {T : Type 0} (node : T → Node) (w : World T) (orderly : IsOrderly nod
     held_from_path f (g ∷ gs) e cf ce p =
         along w f g e (held_from_name f g cf p.0 p.1) (held_from_path g gs e p.0 ce p.2)
 
+    -- both ways together
     pub one_order : (f e : T) → Contains (sent_in w) f → Contains (sent_in w) e →
         Precedes node (sent_in w) f e ↔ HeldBefore w f e
     one_order f e cf ce =

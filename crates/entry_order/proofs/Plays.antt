@@ -220,6 +220,7 @@ module _ {T : Type 0} (node : T → Node) where
   start_is_empty (suc machines) zero = refl
   start_is_empty (suc machines) (suc m) = start_is_empty machines m
 
+  -- at the start a world is orderly
   pub IsOrderly-start : (machines : ℕ) → IsOrderly node (start machines)
   IsOrderly-start machines = record {
     legal = λ m. subst (λ (h : List (Event T)). IsLegal node m h) (sym (start_is_empty machines m))
@@ -228,12 +229,14 @@ module _ {T : Type 0} (node : T → Node) where
         (Contains-none (Got e) (subst (λ (h : List (Event T)). Contains h (Got e)) (start_is_empty machines m) c));
   }
 
+  -- steps keep it orderly
   pub IsOrderly-play : (next : ℕ → List (Event T) → Option T) (log : ℕ) → IsLawful node next →
       (w : World T) (steps : List Step) → IsOrderly node w → IsOrderly node (play node next log w steps)
   IsOrderly-play next log lawful w [] o = o
   IsOrderly-play next log lawful w (s ∷ steps) o =
       IsOrderly-play next log lawful (happens node next log w s) steps (IsOrderly-step node w next log lawful o s)
 
+  -- the law, after every list of steps
   pub order_is_receipt : OrderIsReceipt node
   order_is_receipt next log machines steps lawful distinct f e cf ce =
       one_order node (play node next log (start machines) steps)

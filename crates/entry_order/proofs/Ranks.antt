@@ -46,6 +46,7 @@ module _ {T : Type 0} (node : T → Node) where
       let l = top_at_least node (greatest_stamp node (held p)) (held q) in
       omega arith
 
+  -- the stamp of the last event is at most the greatest
   pub stamp_at_most : (p : List (Event T)) (x : Event T) →
       (node (entry_of x)).stamp ≤ greatest_stamp node (held (p ++ x ∷ []))
   stamp_at_most p x =
@@ -94,6 +95,7 @@ module _ {T : Type 0} (node : T → Node) where
       kind_le (Sent e) = omega arith
       kind_le (Got e) = omega arith
 
+  -- in a legal history a later event has the higher rank
   pub later_rank : (m : ℕ) (h : List (Event T)) → IsLegal node m h →
       (before : List (Event T)) (x : Event T) (b : List (Event T)) (y : Event T) (l : List (Event T)) →
       h ≡ (before ++ x ∷ b) ++ y ∷ l →

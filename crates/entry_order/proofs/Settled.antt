@@ -91,6 +91,7 @@ module _ (parents : ℕ → List ℕ) where
 
 -- ---- places and entries
 
+-- what stands at a place is a member
 pub at_place : {T : Type 0} (S : List T) (i : ℕ) (e : T) → slice_get S i ≡ Some e → Contains S e
 at_place S i e s = (i, slice_get_within S i e s, get_or_from_slice_get S i e e s)
 
@@ -162,6 +163,7 @@ module _ {T : Type 0} (node : T → Node) (machines : ℕ) (S : List T) (parents
         let a = walk_from_path x y e f p.2 ex fy p.3 in
         reaches_from_walk parents graph.descends x y x a.0 (omega arith) a.1
 
+    -- what each of the three values says
     pub settled : (before parents ragged y x ≡ True → (G : List T) → Completion node machines S G → Precedes node G f e)
         × (before parents ragged y x ≡ False → (G : List T) → Completion node machines S G → ¬ (Precedes node G f e))
         × (before parents ragged y x ≡ Unknown → ¬ (IsWhole node S e))
@@ -193,6 +195,7 @@ module _ {T : Type 0} (node : T → Node) (machines : ℕ) (S : List T) (parents
               (sym ec ∙ is_whole_from_clean parents graph.descends ragged x x (clean_from_whole whole)),
         )
 
+-- the same, of any survivors and their graph
 pub order_is_settled : {T : Type 0} (node : T → Node) → OrderIsSettled node
 order_is_settled node machines S parents ragged graph y x f e fy ex =
     settled node machines S parents ragged graph y x f e fy ex

@@ -29,9 +29,11 @@ module _ {T : Type 0} (node : T → Node) where
       let parts = and_parts (names_digest node e (node r.0).digest) (nat_le (node e).stamp (node r.0).stamp) r.2 in
       (r.0, r.1, names_digest_from node e (node r.0).digest parts.0, leb-true (node e).stamp (node r.0).stamp parts.1)
 
+  -- what is no stray is not found to be one
   pub no_stray_from : (given : List T) (e : T) → (¬ (IsStray node given e)) → is_stray node given e ≡ false
   no_stray_from given e sound = false_from_ne_true (is_stray node given e) (λ t. sound (is_stray_from given e t))
 
+  -- a filter keeps what its test lets through
   pub survivors_are_no_strays : SurvivorsAreNoStrays node
   survivors_are_no_strays given e = (
     λ c.
@@ -48,6 +50,7 @@ module _ {T : Type 0} (node : T → Node) where
   stamp_rises given e f sound c n =
       elim (cases_lt (node f).stamp (node e).stamp) [ inl l ↦ l | inr l ↦ absurd (sound (f, c, n, l)) ]
 
+  -- stamps rise along a path of survivors
   pub rises_along : (given : List T) (f : T) (between : List T) (e : T) → Contains (survivors node given) f →
       Contains (survivors node given) e → IsPath node (survivors node given) f between e →
       (node f).stamp < (node e).stamp
@@ -60,5 +63,6 @@ module _ {T : Type 0} (node : T → Node) where
       let rest = rises_along given g gs e p.0 ce p.2 in
       omega arith
 
+  -- so no path leads back
   pub survivors_have_no_cycle : SurvivorsHaveNoCycle node
   survivors_have_no_cycle given e p = let rise = rises_along given e p.2 e p.0 p.1 p.3 in absurd (omega arith)

@@ -43,6 +43,7 @@ own_last_fails order =
     no_path shown (sent_in world) sent_by_a refl sent_by_b
     (same.1 (itself (Got sent_by_a ∷ []) (1, [], refl) (0, omega arith, refl)))
 
+-- the digests differ, and no path leads to what was held
 pub naming_own_last_fails : OwnLastFails
 naming_own_last_fails = record { distinct = distinct; fails = own_last_fails }
 
@@ -55,9 +56,11 @@ keeps = (0, omega arith, refl)
 arrival_fails : ¬ (IsFrontier shown heard (frontier_by_arrival heard))
 arrival_fails is = ((is.members (digest_of 1 0)).0 keeps).1 named
 
+-- the list keeps what an entry names
 pub frontier_by_arrival_fails : ArrivalFails
 frontier_by_arrival_fails = record { right = refl; keeps = keeps; named = named; fails = arrival_fails }
 
+-- the one entry names itself
 pub strays_by_others_fail : ByOthersFails
 strays_by_others_fail = record {
   right = refl;

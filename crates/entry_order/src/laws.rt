@@ -27,8 +27,8 @@ pub fn order_is_receipt<T: Knot>()
     ensures { OrderIsReceipt T.node }
 {}
 
-/// What is said of the order of two survivors holds in every completion: by paths among them, and by
-/// the graph that they have.
+/// What is said of the order of two survivors holds in every completion: by paths among them, and
+/// by the graph that they have.
 pub fn order_is_settled<T: Knot>()
     ensures paths { PathsAreSettled T.node }
     ensures settled { OrderIsSettled T.node }

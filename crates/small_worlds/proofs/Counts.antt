@@ -516,6 +516,7 @@ module _ {T : Type 0} (node : T → Node) (w : World T) (orderly : IsOrderly nod
   chain_stamps f (g ∷ gs) e (h, rest) =
       let l = lower node w orderly h.0 g h.1 f h.2 in let r = chain_stamps g gs e rest in omega arith
 
+  -- the count says whether the entry was held before
   pub is_held_before_right : (a i b j : ℕ) (f e : T) → slice_get (sent (history w a)) i ≡ Some f →
       slice_get (sent (history w b)) j ≡ Some e → (is_held_before node w a i b j ≡ true) ↔ HeldBefore w f e
   unfolding first

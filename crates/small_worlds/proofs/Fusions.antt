@@ -13,6 +13,7 @@ use Rattle.std.specs.Prelude.{ℕ, max, zero, suc, ◌<◌, ◌≤◌, length, s
 use Rattle.std.proofs.Common.{arith}
 use Rattle.entry_order.specs.World.{Machine, with_machine, history}
 
+-- a digest is borne by an event where it is borne by its entry
 pub has_digest_held : {T : Type 0} (node : T → Node) (h : List (Event T)) (d : List ℕ) →
     has_digest (λ x. node (entry_of x)) h d ≡ has_digest node (held h) d
 has_digest_held node [] d = refl
@@ -25,12 +26,14 @@ with_machine_at m change [] d b l e = absurd (omega arith)
 with_machine_at zero change (c ∷ w) d b l e = ap (λ a. a ∷ w) e
 with_machine_at (suc m) change (c ∷ w) d b l e = ap (λ v. c ∷ v) (with_machine_at m change w d b (omega arith) e)
 
+-- no machine stands past the end
 pub with_machine_past : {T : Type 0} (m : ℕ) (change : Machine T → Machine T) (w : List (Machine T)) →
     length w ≤ m → with_machine m change w ≡ w
 with_machine_past m change [] l = refl
 with_machine_past zero change (a ∷ w) l = absurd (omega arith)
 with_machine_past (suc m) change (a ∷ w) l = ap (λ v. a ∷ v) (with_machine_past m change w (omega arith))
 
+-- what the steps of a world use
 pub ruleset changes = (with_machine_past)
 
 named_held : {T : Type 0} (node : T → Node) (h : List (Event T)) (d : List ℕ) →
@@ -62,6 +65,7 @@ fold_held : {T : Type 0} (node : T → Node) (top : ℕ) (h : List (Event T)) �
 fold_held node top [] = refl
 fold_held node top (x ∷ h) = fold_held node (max top (node (entry_of x)).stamp) h
 
+-- the greatest stamp of the events is that of the entries held
 pub greatest_stamp_held : {T : Type 0} (node : T → Node) (h : List (Event T)) →
     greatest_stamp (λ x. node (entry_of x)) h ≡ greatest_stamp node (held h)
 greatest_stamp_held node h = fold_held node 0 h

@@ -102,6 +102,7 @@ module _ {T : Type 0} (node : T → Node) (given : List T) where
     λ p. let l = long f p.2 e cf ce p.3 in to_leads (node e).stamp f p.2 e (omega arith) p.3,
   )
 
+  -- the search finds a path exactly where there is one
   pub is_before_right : (f e : T) → Contains given f → Contains given e →
       (is_before node given f e ≡ true) ↔ Precedes node (survivors node given) f e
   is_before_right f e cf ce = (

@@ -1,6 +1,6 @@
 -- How many entries of each machine are reached from one entry, as it is counted.
-use Rattle.std.specs.Prelude.{ℕ, zero, suc, ◌+◌, ◌-◌, Bool, ◌&&◌, nat_lt, nat_le, ◌==◌, if◌then◌else◌}
-use Rattle.std.specs.Prelude.{List, [], ◌∷◌, length, replicate, slice_index, slice_set}
+use Rattle.std.specs.Prelude.{ℕ, zero, suc, ◌+◌, ◌-◌, Bool, ◌&&◌, nat_lt, nat_le, ◌==◌}
+use Rattle.std.specs.Prelude.{if◌then◌else◌, List, [], ◌∷◌, length, replicate, slice_index, slice_set}
 use Rattle.entry_order.specs.declared.event.Event.{Event}
 use Rattle.entry_order.specs.declared.event.Event.TheVariants.{Sent, Got}
 use Rattle.entry_order.specs.Node.{Node}
@@ -38,7 +38,7 @@ module _ {T : Type 0} (node : T → Node) where
   spread_times zero w counts = counts
   spread_times (suc n) w counts = spread w 0 (spread_times n w counts)
 
-  -- whether machine a's entry i is counted from machine b's entry j, after as many rounds as b's clock says
+  -- whether a's entry i is counted from b's entry j, after as many rounds as b's clock says
   abbrev pub is_held_before : World T → ℕ → ℕ → ℕ → ℕ → Bool
   is_held_before w a i b j =
       let first = taken_in (history w b) j (replicate (length w) 0) in

@@ -21,8 +21,8 @@ use entry_order::{Event, Knot};
 use std::alloc::{AllocError, Global};
 
 // One count for each machine says how many of its entries, from the first on, are reached from the
-// second entry. At first that is what the second's maker held. Then, so often as that can add any, of
-// each machine's last entry that is counted what its maker held is counted too.
+// second entry. At first that is what the second's maker held. Then, as often as that can add any,
+// what the maker of each machine's last entry that is counted held is counted too.
 
 // The maker's count takes in its entry with this number.
 fn raise(counts: &mut [usize], maker: usize, number: usize)

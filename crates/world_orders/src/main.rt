@@ -1,6 +1,6 @@
 //! Reads a small world as a list of steps, and prints its orders: of each machine the frontier,
-//! which entries were held before which, and of the entries that are given the strays, the gaps, and
-//! which precede which. Each answer is that of a call whose contract is the definition.
+//! which entries were held before which, and of the entries that are given the strays, the gaps,
+//! and which precede which. Each answer is that of a call whose contract is the definition.
 #![tactic(auto)]
 
 ghost use Rattle.std.specs.Prelude.{◌≡◌, ◌<◌, length};
