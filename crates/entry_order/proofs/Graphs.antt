@@ -1,69 +1,114 @@
--- What is the same in every completion.
-use Rattle.std.proofs.Common.{◌≡◌, ◌≢◌, ℕ, Bool, true, false, List, [], ◌∷◌, refl, sym, ap, subst, ◌∙◌, ◌⊎◌, inl, inr}
-use Rattle.std.specs.Prelude.{not}
+-- Survivors that are sorted by stamp have a graph whose nodes are their places.
+use Rattle.std.proofs.Common.{◌≡◌, ℕ, zero, suc, ◌<◌, Bool, true, false, List, [], ◌∷◌, ◌++◌, length, refl, sym, ap}
+use Rattle.std.proofs.Common.{subst}
+use Rattle.std.proofs.Common.{◌∙◌, inl, inr, arith, Some, None, Option}
+use Rattle.std.specs.Prelude.{◌↔◌, slice_get}
+use Rattle.std.specs.List.{Contains, filter, list_any}
 use Rattle.std.specs.Str.{bytes_eq}
-use Rattle.std.proofs.lemmas.List.Folds.{list_any_at}
+use Rattle.std.proofs.lemmas.Bool.{true≢false, false_from_ne_true, cases_eq}
+use Rattle.std.proofs.lemmas.List.Elements.{Contains-append_left, Contains-append_right}
+use Rattle.std.proofs.lemmas.Option.{slice_get_within}
 use Rattle.std.proofs.lemmas.Slice.Eq.{bytes_eq-Decides}
-use Rattle.std.specs.List.{Contains, filter, flat_map}
-use Rattle.std.proofs.lemmas.Bool.{not_from_false, not-true, true≢false}
 use Rattle.entry_order.specs.Node.{Node}
-use Rattle.entry_order.specs.Naming.{Names, has_digest}
-use Rattle.entry_order.specs.Precedes.{IsPath, Precedes}
-use Rattle.entry_order.specs.Survivors.{gaps}
-use Rattle.entry_order.specs.Completion.{Completion}
-use Rattle.entry_order.specs.Settled.{NamesNoGap, IsWhole}
-use Rattle.entry_order.proofs.Lists.{Contains-filter, Contains-filter_cases, Contains-flat_map, Contains-flat_map_cases}
-use Rattle.entry_order.proofs.Frontiers.{Contains-ascending, Contains-ascending_cases, bearer}
+use Rattle.entry_order.specs.Naming.{Names, names_digest}
+use Rattle.entry_order.specs.Survivors.{IsStray, gaps}
+use Rattle.entry_order.specs.Settled.{NamesNoGap, SurvivorsHaveAGraph}
+use Rattle.entry_order.proofs.Lists.{Contains-head, Contains-filter, Contains-filter_cases, list_any_some, list_any_of}
+use Rattle.entry_order.proofs.Naming.{names_digest_of, names_digest_from}
+use Rattle.entry_order.proofs.Strays.{survivors_are_no_strays}
+use Rattle.entry_order.proofs.Numbered.{descends_by_stamp}
 
--- the test of a digest finds who bears it
-pub has_digest_of : {T : Type 0} (node : T → Node) (S : List T) (g : T) (d : List ℕ) → Contains S g → (node g).digest ≡ d → has_digest node S d ≡ true
-has_digest_of node S g d (i, l, at) is =
-    list_any_at (λ u. bytes_eq (node u).digest d) S i g l (ap (λ u. bytes_eq (node u).digest d) at ∙ (bytes_eq-Decides (node g).digest d).1 is)
+-- the numbers below n
+abbrev numbers : ℕ → List ℕ
+numbers zero = []
+numbers (suc n) = numbers n ++ n ∷ []
+
+in_numbers : (n p : ℕ) → p < n → Contains (numbers n) p
+in_numbers zero p l = absurd (omega arith)
+in_numbers (suc n) p l =
+    elim (cases_eq p n) [
+      | inl e ↦ Contains-append_right (numbers n) (n ∷ []) p
+          (subst (λ u. Contains (n ∷ []) u) (sym e) (Contains-head n []))
+      | inr e ↦ Contains-append_left (numbers n) (n ∷ []) p (in_numbers n p (omega arith))
+    ]
 
 module _ {T : Type 0} (node : T → Node) (S : List T) where
-  -- a named digest is a gap, or an entry has it
-  pub gap_or_bearer : (x : T) (d : List ℕ) → Contains S x → Contains (node x).names d → Contains (gaps node S) d ⊎ ((g : T) × Contains S g × ((node g).digest ≡ d))
-  gap_or_bearer x d c n = by (has_digest node S d) refl
-    where
-      by : (b : Bool) → has_digest node S d ≡ b → Contains (gaps node S) d ⊎ ((g : T) × Contains S g × ((node g).digest ≡ d))
-      by true e = inr (bearer node S d e)
-      by false e =
-          let named = Contains-flat_map (λ y. (node y).names) S x d c n in
-          inl (Contains-ascending (filter (λ c. not (has_digest node S c)) (flat_map (λ y. (node y).names) S)) d
-          (Contains-filter (λ c. not (has_digest node S c)) (flat_map (λ y. (node y).names) S) d named (not_from_false (has_digest node S d) e)))
+  -- whether the entry at one place, if there is one, names that at another
+  abbrev names_both : Option T → Option T → Bool
+  names_both None f = false
+  names_both (Some e) None = false
+  names_both (Some e) (Some f) = names_digest node e (node f).digest
 
-  -- a gap is named by an entry and borne by none
-  pub gap_cases : (d : List ℕ) → Contains (gaps node S) d →
-      (x : T) × Contains S x × Contains (node x).names d × ((g : T) → Contains S g → (node g).digest ≢ d)
-  gap_cases d c =
-      let names = flat_map (λ y. (node y).names) S in
-      let free = λ (c : List ℕ). not (has_digest node S c) in
-      let kept = Contains-filter_cases free names d (Contains-ascending_cases (filter free names) d c) in
-      let r = Contains-flat_map_cases (λ y. (node y).names) S d kept.0 in
-      (r.0, r.1, r.2, λ g cg is. true≢false (sym (has_digest_of node S g d cg is) ∙ not-true (has_digest node S d) kept.1))
+  abbrev parents_of : ℕ → List ℕ
+  parents_of i = filter (λ p. names_both (slice_get S i) (slice_get S p)) (numbers (length S))
 
-  module _ (machines : ℕ) (G : List T) (completion : Completion node machines S G) where
-    kept_path : (f : T) (between : List T) (e : T) → IsPath node S f between e → IsPath node G f between e
-    kept_path f [] e p = p
-    kept_path f (g ∷ gs) e p = (completion.keeps g p.0, p.1, kept_path g gs e p.2)
+  abbrev is_gap : List ℕ → Bool
+  is_gap d = list_any (λ c. bytes_eq c d) (gaps node S)
 
-    -- a path among the survivors is a path in the completion
-    pub before_in_completion : (y x : T) → Precedes node S y x → Precedes node G y x
-    before_in_completion y x p = (completion.keeps y p.0, completion.keeps x p.1, p.2, kept_path y p.2 x p.3)
+  abbrev is_ragged : Option T → Bool
+  is_ragged None = false
+  is_ragged (Some e) = list_any is_gap (node e).names
 
-    -- an entry of the completion that a survivor names is a survivor, where that survivor names no gap
-    named_survives : (x f : T) → Contains S x → NamesNoGap node S x → Contains G f → Names node x f → Contains S f
-    named_survives x f cx whole cf n =
-        let same : (g : T) × Contains S g × ((node g).digest ≡ (node f).digest) → Contains S f =
-        λ r. subst (λ (u : T). Contains S u) (completion.distinct r.0 f (completion.keeps r.0 r.1) cf r.2) r.1 in
-        elim (gap_or_bearer x (node f).digest cx n) [ inl gap ↦ absurd (whole (node f).digest n gap) | inr r ↦ same r ]
+  abbrev ragged_of : ℕ → Bool
+  ragged_of i = is_ragged (slice_get S i)
 
-    survives : (x : T) → Contains S x → IsWhole node S x → (f : T) (between : List T) → Contains G f → IsPath node G f between x → Contains S f × IsPath node S f between x
-    survives x cx whole f [] cf n = (named_survives x f cx whole.itself cf n, n)
-    survives x cx whole f (g ∷ gs) cf p =
-        let rest = survives x cx whole g gs p.0 p.2 in
-        (named_survives g f rest.0 (whole.ancestors g (rest.0, cx, gs, rest.1)) cf p.1, (rest.0, p.1, rest.1))
+  both_cases : (o q : Option T) → names_both o q ≡ true →
+      (e : T) × (f : T) × (o ≡ Some e) × (q ≡ Some f) × Names node e f
+  both_cases None q t = absurd (true≢false (sym t))
+  both_cases (Some e) None t = absurd (true≢false (sym t))
+  both_cases (Some e) (Some f) t = (e, f, refl, refl, names_digest_from node e (node f).digest t)
 
-    -- where x is whole, its ancestors in the completion are its ancestors among the survivors
-    pub before_among_survivors : (y x : T) → Contains S x → IsWhole node S x → Precedes node G y x → Precedes node S y x
-    before_among_survivors y x cx whole p = let r = survives x cx whole y p.2 p.0 p.3 in (r.0, cx, p.2, r.1)
+  arrow_cases : (i p : ℕ) → Contains (parents_of i) p →
+      (e : T) × (f : T) × (slice_get S i ≡ Some e) × (slice_get S p ≡ Some f) × Names node e f
+  arrow_cases i p c =
+      both_cases (slice_get S i) (slice_get S p)
+      (Contains-filter_cases (λ p. names_both (slice_get S i) (slice_get S p)) (numbers (length S)) p c).1
+
+  arrow_from : (i p : ℕ) (e f : T) → slice_get S i ≡ Some e → slice_get S p ≡ Some f → Names node e f →
+      Contains (parents_of i) p
+  arrow_from i p e f ie pf n =
+      Contains-filter (λ p. names_both (slice_get S i) (slice_get S p)) (numbers (length S)) p
+      (in_numbers (length S) p (slice_get_within S p f pf))
+      (ap (λ o. names_both o (slice_get S p)) ie ∙ ap (names_both (Some e)) pf
+      ∙ names_digest_of node e (node f).digest n)
+
+  is_gap_of : (d : List ℕ) → Contains (gaps node S) d → is_gap d ≡ true
+  is_gap_of d c = list_any_of (λ c. bytes_eq c d) (gaps node S) d c ((bytes_eq-Decides d d).1 refl)
+
+  is_gap_from : (d : List ℕ) → is_gap d ≡ true → Contains (gaps node S) d
+  is_gap_from d t =
+      let r = list_any_some (λ c. bytes_eq c d) (gaps node S) t in
+      subst (λ u. Contains (gaps node S) u) ((bytes_eq-Decides r.0 d).0 r.2) r.1
+
+  gaps_shown : (i : ℕ) (e : T) → slice_get S i ≡ Some e → (ragged_of i ≡ false) ↔ NamesNoGap node S e
+  gaps_shown i e ie = (
+    λ clean d named gap.
+        true≢false (sym (list_any_of is_gap (node e).names d named (is_gap_of d gap)) ∙ sym (ap is_ragged ie) ∙ clean),
+    λ free.
+        let none : list_any is_gap (node e).names ≡ true → ⊥ =
+        λ t. let r = list_any_some is_gap (node e).names t in free r.0 r.1 (is_gap_from r.0 r.2) in
+        ap is_ragged ie ∙ false_from_ne_true (list_any is_gap (node e).names) none,
+  )
+
+-- the parents and the ragged nodes of survivors that are sorted
+pub survivors_have_a_graph : {T : Type 0} (node : T → Node) → SurvivorsHaveAGraph node
+survivors_have_a_graph {T} node S sorted kept = (
+  parents_of node S,
+  ragged_of node S,
+  record {
+    descends = descends_by_stamp node S (parents_of node S) sorted sound (arrow_cases node S);
+    inside = λ i p c. let r = arrow_cases node S i p c in (r.1, r.3);
+    arrows = λ i p e f ie pf. (
+      λ c.
+          let r = arrow_cases node S i p c in
+          let first : r.0 ≡ e = (let two = sym r.2 ∙ ie in cc) in
+          let second : r.1 ≡ f = (let two = sym r.3 ∙ pf in cc) in
+          subst (λ u. Names node u f) first (subst (λ u. Names node r.0 u) second r.4),
+      arrow_from node S i p e f ie pf,
+    );
+    gaps_shown = gaps_shown node S;
+  },
+)
+  where
+    sound : (e : T) → Contains S e → ¬ (IsStray node S e)
+    sound e c = ((survivors_are_no_strays node S e).0 (subst (λ (l : List T). Contains l e) (sym kept) c)).1

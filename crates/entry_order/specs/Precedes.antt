@@ -10,6 +10,6 @@ module _ {T : Type 0} (node : T → Node) where
   IsPath E f [] e = Names node e f
   IsPath E f (g ∷ gs) e = Contains E g × Names node g f × IsPath E g gs e
 
-  -- there is a path from f to e in E (Auditorium, EVT 2007)
+  -- there is a path from f to e in E (Auditorium, EVT 2007; Querifier, SADFE 2008)
   abbrev pub Precedes : List T → T → T → Type 0
   Precedes E f e = Contains E f × Contains E e × (between : List T) × IsPath E f between e
