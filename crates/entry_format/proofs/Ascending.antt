@@ -6,7 +6,7 @@ use Rattle.std.specs.Cmp.Lexicographic.{slice_cmp}
 use Rattle.std.specs.Ordering.{nat_cmp}
 use Rattle.std.specs.declared.cmp.Ordering.TheVariants.{Less}
 use Rattle.std.proofs.lemmas.Cmp.{nat_list_cmp_total}
-use Rattle.entry_format.specs.Rising.{IsAscending}
+use Rattle.entry_order.specs.Ascending.{IsAscending}
 
 le_cases : (m n : ℕ) → (m ≤ n) ⊎ (n < m)
 le_cases m n = grind arith

@@ -10,7 +10,7 @@ use Rattle.canonical_sexp.specs.declared.read.Read.TheVariants as read
 use Rattle.canonical_sexp.specs.Text.{text_of, Fits}
 use Rattle.canonical_sexp.specs.Reading.{Answers}
 use Rattle.canonical_sexp.specs.Forms.{list_of}
-use Rattle.entry_format.specs.Rising.{IsAscending}
+use Rattle.entry_order.specs.Ascending.{IsAscending}
 use Rattle.entry_format.specs.declared.entry.Entry.{Entry}
 use Rattle.entry_format.specs.EntryText.{IsEntry, body_tree, signed_tree, IsSignedText}
 use Rattle.entry_format.specs.Parts.{IsSigned}

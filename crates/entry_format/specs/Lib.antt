@@ -1,5 +1,4 @@
 pub mod EntryText
-pub mod Rising
 pub mod Reading
 pub mod Parts
 pub mod Nodes

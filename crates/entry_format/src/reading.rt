@@ -4,7 +4,7 @@ ghost use Rattle.canonical_sexp.specs.Sexp.{forest_of};
 ghost use Rattle.canonical_sexp.specs.Forms.{Finds};
 ghost use Rattle.canonical_sexp.specs.declared.sexp.Sexp.{Sexp};
 ghost use Rattle.canonical_sexp.specs.declared.sexp.Sexp.TheVariants.{Atom};
-ghost use Rattle.entry_format.specs.Rising.{IsAscending};
+ghost use Rattle.entry_order.specs.Ascending.{IsAscending};
 ghost use Rattle.entry_format.specs.EntryText.{IsDigest, IsDeed, IsEntry, deed_tree, body_tree};
 ghost use Rattle.entry_format.specs.declared.entry.Entry.{Entry};
 ghost use Rattle.entry_format.specs.Parts.{IsBody, IsSigned};

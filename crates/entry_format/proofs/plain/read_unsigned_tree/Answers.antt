@@ -1,7 +1,7 @@
 use Rattle.std.proofs.Common.{◌≡◌, List, ℕ, Option, Some, None, subst}
 use Rattle.canonical_sexp.specs.Forms.{Finds}
 use Rattle.entry_format.specs.declared.entry.Entry.{Entry}
-use Rattle.entry_format.specs.Rising.{IsAscending}
+use Rattle.entry_order.specs.Ascending.{IsAscending}
 use Rattle.entry_format.specs.Reading.{HasForm}
 use Rattle.entry_format.specs.EntryText.{IsEntry, body_tree, IsSignedText}
 use Rattle.entry_format.proofs.Forms.{tree_of_form, body_of_form, form_of, not_rising}
