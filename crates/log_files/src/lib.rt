@@ -6,3 +6,6 @@ mod plain_log;
 mod records;
 
 pub use plain_log::{End, LogFault, PlainLog, read_plain_log};
+
+#[cfg(test)]
+mod tests;

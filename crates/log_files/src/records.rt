@@ -1,5 +1,6 @@
 //! Reading the header and the records of a log from bytes.
-ghost use Rattle.std.specs.Prelude.{◌≡◌, ◌≢◌, ◌≤◌, ◌↔◌, length, drop, Err, IfOk, IfSome, IfNone, OnOk, IsTrue, MatchOption};
+ghost use Rattle.std.specs.Prelude.{◌≡◌, ◌≢◌, ◌≤◌, ◌↔◌, length, drop, Err, IsTrue};
+ghost use Rattle.std.specs.Prelude.{IfOk, IfSome, IfNone, OnOk, MatchOption};
 ghost use Rattle.canonical_sexp.specs.Text.{text_of, Fits};
 ghost use Rattle.entry_format.specs.declared.plain.EntryFault.{EntryFault};
 ghost use Rattle.canonical_sexp.specs.Forest.{Forest};
