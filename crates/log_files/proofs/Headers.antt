@@ -12,7 +12,7 @@ use Rattle.log_files.specs.declared.plain_log.PlainLog.{PlainLog}
 use Rattle.log_files.specs.LogText.{header_tree, HasHeader, SaysFrom, Says}
 use Rattle.log_files.specs.Parts.{IsHeader}
 
-header_fits : (owner : ℕ) → owner < 2 ^ 32 → Fits (header_tree owner)
+pub header_fits : (owner : ℕ) → owner < 2 ^ 32 → Fits (header_tree owner)
 header_fits owner small = (
   omega arith,
   omega arith,

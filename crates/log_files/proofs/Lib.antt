@@ -1,3 +1,4 @@
 pub mod Splits
 pub mod Entries
 pub mod Headers
+pub mod OneLog

@@ -2,9 +2,11 @@
 //! What a reader answers is what the bytes of the file say, by a definition apart from any reader.
 #![tactic(auto)]
 
+mod laws;
 mod plain_log;
 mod records;
 
+pub use laws::bytes_say_one_log;
 pub use plain_log::{End, LogFault, PlainLog, read_plain_log};
 
 #[cfg(test)]
