@@ -1,0 +1,20 @@
+-- Counts that never fall and stop at the greatest `u64`.
+use Rattle.std.specs.Prelude.{ℕ, ◌+◌, ◌-◌, ◌^◌, ◌<◌, ◌≤◌, ◌⊎◌, max, min}
+
+-- the count rose; one that stands at the greatest `u64` counts as risen
+abbrev pub HasRisen : ℕ → ℕ → Type 0
+HasRisen before now = (before < now) ⊎ (2 ^ 64 ≤ now + 1)
+
+-- the count with `n` more: it stops at the greatest `u64`, and never falls
+abbrev pub raised : ℕ → ℕ → ℕ
+raised count n = max count (min (count + n) (2 ^ 64 - 1))
+
+-- a count never falls, and the answer comes only where it rose
+pub record HasCause (before now : ℕ) (answer : Type 0) : Type 0 where
+  pub never_falls : before ≤ now
+  pub only : answer → HasRisen before now
+
+-- the answer comes exactly where a count rose: only there, and wherever it is seen to rise
+pub record ComesExactly (before now : ℕ) (answer : Type 0) : Type 0 where
+  pub only : answer → HasRisen before now
+  pub always : before < now → answer

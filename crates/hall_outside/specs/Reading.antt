@@ -1,0 +1,30 @@
+-- What a read answers, and what `read_file` does.
+use Rattle.std.specs.Prelude.{◌≡◌, ℕ, ◌<◌, ◌≤◌, ◌↔◌, List, length, take, drop, Option, Some, None, IsSomeAnd, Result, Ok, Err, ⊤}
+use Rattle.hall_outside.specs.declared.stores.Failed.{Failed}
+use Rattle.hall_outside.specs.declared.stores.Taken.{Taken}
+use Rattle.hall_outside.specs.declared.stores.Taken.TheVariants.{Absent, Bytes}
+use Rattle.hall_outside.specs.Counts.{raised}
+use Rattle.hall_outside.specs.Files.{Files, OnFile}
+
+-- these bytes are the file's from `at` on, and there are none exactly at its end and past it
+abbrev pub IsPartFrom : ℕ → List ℕ → List ℕ → Type 0
+IsPartFrom at part file =
+    (part ≡ take (length part) (drop at file)) × ((length part ≡ 0) ↔ (length file ≤ at))
+
+-- what the answer of a read says of the buffer and, where files are told, of the file
+abbrev pub IsTaken : Option Files → List ℕ → ℕ → List ℕ → List ℕ → Taken → Type 0
+IsTaken files name at old new Absent = (new ≡ old) × OnFile files name (λ file. file ≡ None)
+IsTaken files name at old new (Bytes n) =
+    (n ≤ length old) × (drop n new ≡ drop n old)
+    × OnFile files name (λ file. IsSomeAnd file (IsPartFrom at (take n new)))
+
+-- all that reads have answered so far: how often `Absent`, and how many bytes in all
+pub record Answered : Type 0 where
+  pub absences : ℕ
+  pub bytes : ℕ
+
+-- the same with one read's answer
+abbrev pub counted : Answered → Result Taken Failed → Answered
+counted before (Ok Absent) = record before { absences = raised before.absences 1 }
+counted before (Ok (Bytes n)) = record before { bytes = raised before.bytes n }
+counted before (Err failed) = before
