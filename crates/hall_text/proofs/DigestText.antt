@@ -1,5 +1,5 @@
 -- A digest's text is read as that digest.
-use Rattle.std.proofs.Common.{◌≡◌, ◌*◌, ◌∙◌, List, length, ap, sym, arith}
+use Rattle.std.proofs.Common.{◌≡◌, ◌*◌, ◌∙◌, List, length, ap, arith}
 use Rattle.std.specs.Prelude.{ℕ, true, Result, Ok, Err, Some, OnOk}
 use Rattle.std.specs.Result.{result_ok}
 use Rattle.std.specs.Str.{bytes_eq}

@@ -1,6 +1,6 @@
 -- Lists that have all spans of a kind, in their order.
-use Rattle.std.proofs.Common.{◌≡◌, ◌↔◌, ◌⊎◌, inl, inr, ℕ, ◌<◌, List, [], ◌∷◌, ◌++◌, length, get_or, subst, ⊎_elim, arith}
-use Rattle.std.specs.Prelude.{Contains, AllPairs}
+use Rattle.std.proofs.Common.{◌≡◌, ◌↔◌, ◌⊎◌, inl, inr, ◌<◌, List, [], ◌∷◌, ◌++◌, get_or, subst, ⊎_elim, arith}
+use Rattle.std.specs.Prelude.{Contains}
 use Rattle.std.proofs.lemmas.List.Quantifiers.{all_pairs_push}
 use Rattle.std.proofs.lemmas.List.Elements.{Contains-push, Contains-push_cases, Contains-append_left, Contains-get_or}
 use Rattle.hall_text.specs.declared.spans.Span.{Span}

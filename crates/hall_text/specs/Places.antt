@@ -1,5 +1,5 @@
 -- Places of a text at which the reader of tokens stands.
-use Rattle.std.specs.Prelude.{◌≡◌, ◌⊎◌, ℕ, ◌-◌, ◌<◌, ◌≤◌, List, length, slice_index}
+use Rattle.std.specs.Prelude.{◌⊎◌, ℕ, ◌-◌, ◌<◌, List, length, slice_index}
 use Rattle.hall_text.specs.Spans.{IsWordByte, IsParenthesis}
 
 -- no word goes on across the place

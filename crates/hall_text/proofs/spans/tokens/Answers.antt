@@ -1,5 +1,4 @@
-use Rattle.std.proofs.Common.{ℕ, List, sym, ◌∙◌}
-use Rattle.hall_text.specs.declared.spans.Span.{Span}
+use Rattle.std.proofs.Common.{ℕ, List}
 use Rattle.hall_text.proofs.TokenLemmas.{token_more, none_there, between_behind, between_none}
 use Rattle.hall_text.proofs.spans.tokens.Goals as goal
 

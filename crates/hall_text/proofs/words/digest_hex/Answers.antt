@@ -1,7 +1,7 @@
-use Rattle.std.proofs.Common.{◌≡◌, List, ℕ, sym, ◌∙◌, ap, true, true≢false}
+use Rattle.std.proofs.Common.{◌≡◌, sym, ◌∙◌, ap, true, true≢false}
 use Rattle.std.specs.Str.{bytes_eq}
 use Rattle.std.specs.Prelude.{Ok, Some, None}
-use Rattle.hex.specs.Hex.{decode_sized, encode_lower}
+use Rattle.hex.specs.Hex.{encode_lower}
 use Rattle.hall_text.proofs.DigestText.{digest_decodes, ok_holds, equal_bytes}
 use Rattle.hall_text.proofs.words.digest_hex.Goals as goal
 
