@@ -6,59 +6,59 @@ use std::test::Fail;
 
 const KEY: &str = "kkkkkkkkkkkkkkkkkkkkkkkkkkkkkkkkkkkkkkkkkkkkkkkkkkkkkkkk";
 
-/// The text of a roster of these machines, a name and a role each, with more bytes behind it.
-fn text_of(alloc: Global, machines: &[(&str, &str)], more: &str) -> Result<String, Fail> {
+/// The text of a roster with more bytes behind it. The machines are told as `NAME ROLE, NAME ROLE`.
+fn text_of(alloc: Global, machines: &str, more: &str) -> Result<String, Fail> {
     let mut text = String::from_str(alloc, "(6:roster1:1")?;
-    for (name, role) in machines {
-        let post = format!(in alloc; "({}:{name}{}:{role}56:{KEY})", name.len(), role.len())?;
-        text.push_str(post.as_str())?;
+    for machine in machines.split(", ") {
+        if let Some((name, role)) = machine.split_once(" ") {
+            let post = format!(in alloc; "({}:{name}{}:{role}56:{KEY})", name.len(), role.len())?;
+            text.push_str(post.as_str())?;
+        }
     }
     text.push(')')?;
     text.push_str(more)?;
     Ok(text)
 }
 
-const SV: (&str, &str) = ("sv", "supervisor");
-
-const B1: (&str, &str) = ("b1", "booth");
-
-const NAMES: [&str; 17] = [
-    "a", "b", "c", "d", "e", "f", "g", "h", "i", "j", "k", "l", "m", "n", "o", "p", "a",
-];
-
 #[test]
 fn the_first_fault_is_told(rt: HostRuntime) -> Result<(), Fail> {
     let alloc = rt.alloc();
-    let mut many = Vec::new(alloc);
-    for name in NAMES {
-        many.push((name, "booth"))?;
-    }
-    let capital = ("Sv", "supervisor");
-    let other = ("s2", "supervisor");
-    let longest = ("abcdefghij012345", "booth");
-    let longer = ("abcdefghij0123456", "booth");
+    let many = "a booth, b booth, c booth, d booth, e booth, f booth, g booth, h booth, i booth, \
+        j booth, k booth, l booth, m booth, n booth, o booth, p booth, a booth";
     for (machines, more, want) in [
-        ([SV, B1].as_slice(), "", None),
-        (&[SV], "", None),
-        (&[SV, longest], "", None),
-        (&[], "", Some(RosterFault::NotOneSupervisor)),
-        (&[B1], "", Some(RosterFault::NotOneSupervisor)),
-        (&[SV, other], "", Some(RosterFault::NotOneSupervisor)),
-        (&[SV, ("sv", "supervisor")], "", Some(RosterFault::SameName)),
-        (&[capital, capital], "", Some(RosterFault::BadName)),
-        (&[SV, longer], "", Some(RosterFault::BadName)),
-        (&[SV, ("", "booth")], "", Some(RosterFault::BadName)),
-        (many.as_slice(), "", Some(RosterFault::TooManyMachines)),
+        ("sv supervisor, b1 booth", "", None),
+        ("sv supervisor", "", None),
+        ("sv supervisor, abcdefghij012345 booth", "", None),
+        ("", "", Some(RosterFault::NotOneSupervisor)),
+        ("b1 booth", "", Some(RosterFault::NotOneSupervisor)),
         (
-            &[capital, ("b1", "Booth")],
+            "sv supervisor, s2 supervisor",
             "",
-            Some(RosterFault::WrongShape),
+            Some(RosterFault::NotOneSupervisor),
         ),
-        (&[SV], ")", Some(RosterFault::NotCanonical(91))),
+        (
+            "sv supervisor, sv supervisor",
+            "",
+            Some(RosterFault::SameName),
+        ),
+        (
+            "Sv supervisor, Sv supervisor",
+            "",
+            Some(RosterFault::BadName),
+        ),
+        (
+            "sv supervisor, abcdefghij0123456 booth",
+            "",
+            Some(RosterFault::BadName),
+        ),
+        ("sv supervisor,  booth", "", Some(RosterFault::BadName)),
+        (many, "", Some(RosterFault::TooManyMachines)),
+        ("Sv supervisor, b1 Booth", "", Some(RosterFault::WrongShape)),
+        ("sv supervisor", ")", Some(RosterFault::NotCanonical(91))),
     ] {
         let text = text_of(alloc, machines, more)?;
         let fault = Roster::read(alloc, text.as_bytes()).err();
-        assert_eq!(rt; fault, want, "of {}", text.as_str());
+        assert_eq!(rt; fault, want, "of {machines}");
     }
     for (text, want) in [
         ("(6:roster1:1", RosterFault::NotCanonical(12)),
@@ -75,12 +75,14 @@ fn the_first_fault_is_told(rt: HostRuntime) -> Result<(), Fail> {
 #[test]
 fn a_roster_is_written_as_it_was_read(rt: HostRuntime) -> Result<(), Fail> {
     let alloc = rt.alloc();
-    let text = text_of(alloc, &[SV, B1], "")?;
-    let Ok(roster) = Roster::read(alloc, text.as_bytes()) else {
-        return Err(Fail);
-    };
-    let copy = roster.copy(alloc)?;
-    assert_eq!(rt; copy.write(alloc)?.as_slice(), text.as_bytes());
+    let text = text_of(alloc, "sv supervisor, b1 booth", "")?;
+    match Roster::read(alloc, text.as_bytes()) {
+        Ok(roster) => {
+            let copy = roster.copy(alloc)?;
+            assert_eq!(rt; copy.write(alloc)?.as_slice(), text.as_bytes());
+        }
+        Err(fault) => assert!(rt; false, "{fault}"),
+    }
     let digest = encode(alloc, election(text.as_bytes()))?;
     assert_eq!(rt;
         digest.as_str(),
