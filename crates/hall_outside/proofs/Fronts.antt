@@ -38,9 +38,9 @@ pub begun : (files : Option Files) (name : List ℕ) → OnFile files name (IsFr
 begun None name = tt
 begun (Some files) name = empty (files name)
   where
-  empty : (file : Option (List ℕ)) → IsFront [] file
-  empty None = refl
-  empty (Some file) = refl
+    empty : (file : Option (List ℕ)) → IsFront [] file
+    empty None = refl
+    empty (Some file) = refl
 
 pub read_more : (files : Option Files) (name bytes part : List ℕ) → OnFile files name (IsFront bytes) → OnFile files name (IsReadFrom bytes part)
     → OnFile files name (IsFront (bytes ++ part))

@@ -29,9 +29,9 @@ impl<'a, R> Model for FolderStore<'a, R> {
     ghost Value = { FolderState };
 
     ghost view = { λ s. record {
-        read_faults = s.read_faults;
-        write_faults = s.write_faults;
-        answered = record { absences = s.absences; bytes = s.bytes };
+      read_faults = s.read_faults;
+      write_faults = s.write_faults;
+      answered = record { absences = s.absences; bytes = s.bytes };
     } };
 }
 
@@ -39,9 +39,9 @@ impl<'a, R> FolderStore<'a, R> {
     /// The store, with its counts at 0.
     pub fn make(rt: &'a R) -> FolderStore<'a, R>
         ensures { result ≡ record {
-            read_faults = 0;
-            write_faults = 0;
-            answered = record { absences = 0; bytes = 0 };
+          read_faults = 0;
+          write_faults = 0;
+          answered = record { absences = 0; bytes = 0 };
         } }
     {
         FolderStore {

@@ -25,11 +25,11 @@ impl Model for MemorySink {
     ghost Value = { SinkState };
 
     ghost view = { λ s. record {
-        written = s.written.items;
-        greatest = s.greatest;
-        failing_writes = s.failing_writes.items;
-        writes = s.writes;
-        faults = s.faults;
+      written = s.written.items;
+      greatest = s.greatest;
+      failing_writes = s.failing_writes.items;
+      writes = s.writes;
+      faults = s.faults;
     } };
 
     ghost invariant = { λ s. 0 < s.greatest };
@@ -41,11 +41,11 @@ impl MemorySink {
     pub fn make(alloc: Global, greatest: usize, writes: Vec<u64>) -> MemorySink
         requires { 0 < greatest }
         ensures { result ≡ record {
-            written = [];
-            greatest = greatest;
-            failing_writes = writes.items;
-            writes = 0;
-            faults = 0;
+          written = [];
+          greatest = greatest;
+          failing_writes = writes.items;
+          writes = 0;
+          faults = 0;
         } }
     {
         MemorySink {

@@ -41,14 +41,14 @@ impl Model for MemoryStore {
     ghost use Rattle.hall_outside.specs.StoreView.{stored};
 
     ghost view = { λ s. record {
-        files = stored s.files.items;
-        failing_reads = s.failing_reads.items;
-        failing_writes = s.failing_writes.items;
-        reads = s.reads;
-        writes = s.writes;
-        read_faults = s.read_faults;
-        write_faults = s.write_faults;
-        answered = record { absences = s.absences; bytes = s.bytes };
+      files = stored s.files.items;
+      failing_reads = s.failing_reads.items;
+      failing_writes = s.failing_writes.items;
+      reads = s.reads;
+      writes = s.writes;
+      read_faults = s.read_faults;
+      write_faults = s.write_faults;
+      answered = record { absences = s.absences; bytes = s.bytes };
     } };
 }
 
@@ -57,14 +57,14 @@ impl MemoryStore {
     /// It keeps `alloc` for its files.
     pub fn make(alloc: Global, reads: Vec<u64>, writes: Vec<u64>) -> MemoryStore
         ensures { result ≡ record {
-            files = [];
-            failing_reads = reads.items;
-            failing_writes = writes.items;
-            reads = 0;
-            writes = 0;
-            read_faults = 0;
-            write_faults = 0;
-            answered = record { absences = 0; bytes = 0 };
+          files = [];
+          failing_reads = reads.items;
+          failing_writes = writes.items;
+          reads = 0;
+          writes = 0;
+          read_faults = 0;
+          write_faults = 0;
+          answered = record { absences = 0; bytes = 0 };
         } }
     {
         MemoryStore {
@@ -177,10 +177,8 @@ fn find(files: &[File], name: &str) -> Option<usize>
 /// Reads into the front of `into` as much of the file from `at` on as fits.
 fn read_from(files: &[File], name: &str, at: u64, into: &mut [u8]) -> Taken
     requires { 0 < length into.old }
-    ensures taken {
-        IsTaken (Some (content_of (stored files.now))) name.now at into.old into.new result }
-    ensures most {
-        TakesAll (content_of (stored files.now) name.now) at (length into.old) result }
+    ensures taken { IsTaken (Some (content_of (stored files.now))) name.now at into.old into.new result }
+    ensures most { TakesAll (content_of (stored files.now) name.now) at (length into.old) result }
 {
     let Some(place) = find(files, name) else {
         return Taken::Absent;

@@ -36,8 +36,11 @@ loop-bytes-preserved g c =
     let appended : c.extend_from_slice.new.self.items ≡ bytes ++ take count filled =
     c.in_ok-extend_from_slice-in-Ok-Bytes.ensures.items
     ∙ ap (λ bs. bytes ++ take count bs) (c.deref.ensures.value ∙ written_back c.loop-bytes.piece.items filled c.loop-bytes.piece.len whole) in
-    let fits : count ≤ length filled = omega (arith, c.read_at.auto.into,
-    taken_fits (store.files c.loop-bytes.store) c.args.name.now buffer filled c.len.result count arm.field-0 arm.ensures.taken arm.field-0-is) in
+    let fits : count ≤ length filled = omega (
+      arith,
+      c.read_at.auto.into,
+      taken_fits (store.files c.loop-bytes.store) c.args.name.now buffer filled c.len.result count arm.field-0 arm.ensures.taken arm.field-0-is,
+    ) in
     let longer : vec_len c.extend_from_slice.new.self ≡ vec_len c.loop-bytes.bytes + count =
     omega (arith, ap length appended, length-append bytes (take count filled), length-take-le count filled fits, c.extend_from_slice.new.self.ok.0, c.loop-bytes.bytes.ok.0) in
     let answered : store.answered c.read_at.new.self ≡ counted (store.answered c.loop-bytes.store) (Ok (Bytes count)) =
