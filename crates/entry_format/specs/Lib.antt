@@ -1,0 +1,5 @@
+pub mod EntryText
+pub mod Rising
+pub mod Reading
+pub mod Parts
+pub mod Nodes

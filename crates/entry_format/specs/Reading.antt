@@ -1,0 +1,40 @@
+-- What reading an entry's text answers.
+use Rattle.std.specs.Prelude.{◌≡◌, ℕ, List, Result, Ok, Err}
+use Rattle.sha2.specs.Sha256.{sha256}
+use Rattle.canonical_sexp.specs.declared.sexp.Sexp.{Sexp}
+use Rattle.canonical_sexp.specs.Text.{text_of, Fits}
+use Rattle.entry_format.specs.Rising.{IsAscending}
+use Rattle.entry_format.specs.declared.entry.Entry.{Entry}
+use Rattle.entry_format.specs.declared.plain.Plain.{Plain}
+use Rattle.entry_format.specs.declared.plain.EntryFault.{EntryFault}
+use Rattle.entry_format.specs.declared.plain.EntryFault.TheVariants.{NotCanonical, WrongShape, NamesNotRising, OtherElection, UnknownMaker, WrongIndex, BadSignature, Memory}
+use Rattle.entry_format.specs.EntryText.{IsSignedText}
+
+-- the text is one canonical text within the limits, and nothing else
+abbrev pub IsCanonical : List ℕ → Type 0
+IsCanonical text = (tree : Sexp) × Fits tree × (text ≡ text_of tree)
+
+-- it is that of some entry with some signature, the order of names aside
+abbrev pub HasForm : List ℕ → Type 0
+HasForm text = (entry : Entry) × (signature : List ℕ) × IsSignedText text entry signature
+
+-- the names of the entry that it is the text of rise strictly, in the order of bytes
+abbrev pub HasRisingNames : List ℕ → Type 0
+HasRisingNames text = (entry : Entry) × (signature : List ℕ) × IsSignedText text entry signature × IsAscending entry.names
+
+-- the faults that show without a roster, the first that applies
+abbrev pub IsFormFault : List ℕ → EntryFault → Type 0
+IsFormFault text NotCanonical = IsCanonical text → ⊥
+IsFormFault text WrongShape = IsCanonical text × (HasForm text → ⊥)
+IsFormFault text NamesNotRising = HasForm text × (HasRisingNames text → ⊥)
+IsFormFault text OtherElection = ⊥
+IsFormFault text UnknownMaker = ⊥
+IsFormFault text WrongIndex = ⊥
+IsFormFault text BadSignature = ⊥
+IsFormFault text Memory = ⊥
+
+-- The entry that the text is of, with rising names and the digest of the whole text, or its first fault.
+abbrev pub Reads : List ℕ → Result Plain EntryFault → Type 0
+Reads text (Ok plain) =
+    ((signature : List ℕ) × IsSignedText text plain.entry signature) × IsAscending plain.entry.names × (plain.digest ≡ sha256 text)
+Reads text (Err fault) = IsFormFault text fault

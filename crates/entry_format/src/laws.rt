@@ -1,0 +1,21 @@
+//! Laws about the texts of entries, which hold of the definitions alone. Each is the contract of a
+//! function that does nothing.
+ghost use Rattle.std.specs.Prelude.{◌≡◌, ℕ, List, Result};
+ghost use Rattle.entry_format.specs.EntryText.{IsSignedText};
+ghost use Rattle.entry_format.specs.Reading.{Reads};
+ghost use Rattle.entry_format.specs.declared.entry.Entry.{Entry};
+ghost use Rattle.entry_format.specs.declared.plain.Plain.{Plain};
+ghost use Rattle.entry_format.specs.declared.plain.EntryFault.{EntryFault};
+
+/// A text has one entry and one signature.
+pub fn texts_have_one_entry()
+    ensures { (text : List ℕ) (entry other : Entry) (signature another : List ℕ) →
+        IsSignedText text entry signature → IsSignedText text other another →
+        (entry ≡ other) × (signature ≡ another) }
+{}
+
+/// At most one reading of a text is right.
+pub fn one_reading_is_right()
+    ensures { (text : List ℕ) (reading other : Result Plain EntryFault) →
+        Reads text reading → Reads text other → reading ≡ other }
+{}

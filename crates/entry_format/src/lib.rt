@@ -1,0 +1,15 @@
+//! Entries of the network's logs (Auditorium, EVT 2007): what a machine did, signed, naming by digest
+//! the entries that it had seen last. An entry has one text, and every text that isn't that of an
+//! entry is refused by the first cause that applies.
+#![tactic(auto)]
+
+mod deed;
+mod entry;
+mod laws;
+mod plain;
+mod reading;
+
+pub use deed::Deed;
+pub use entry::{Entry, Names};
+pub use laws::{one_reading_is_right, texts_have_one_entry};
+pub use plain::{EntryFault, Plain, read_unsigned, read_unsigned_tree};

@@ -1,0 +1,117 @@
+//! Entries whose signatures aren't looked at.
+ghost use Rattle.std.specs.Prelude.{◌≡◌, ◌≢◌, Err};
+ghost use Rattle.canonical_sexp.specs.Text.{text_of, Fits};
+ghost use Rattle.entry_format.specs.Reading.{Reads};
+
+use crate::entry::Entry;
+use crate::reading::{entry_of, is_rising, signed_parts};
+use canonical_sexp::{Read, Sexp, read_one};
+use entry_order::Knot;
+use sha2::{Digest, Sha256};
+use std::alloc::{AllocError, Global};
+use thiserror::Error;
+
+/// An entry and its digest.
+#[derive(Debug, Drop)]
+pub struct Plain {
+    pub entry: Entry,
+    /// SHA-256 of the whole signed text.
+    pub digest: [u8; 32],
+}
+
+/// Why a text isn't taken as an entry, the first that applies.
+#[derive(Clone, Copy, Debug, PartialEq, Eq, Error)]
+pub enum EntryFault {
+    #[error("the text isn't exactly one canonical text")]
+    NotCanonical,
+    #[error("the text hasn't the form of an entry")]
+    WrongShape,
+    #[error("the names don't rise strictly")]
+    NamesNotRising,
+    #[error("the entry is of another election")]
+    OtherElection,
+    #[error("the maker isn't in the roster")]
+    UnknownMaker,
+    #[error("the signature's index isn't the entry's number")]
+    WrongIndex,
+    #[error("the signature doesn't verify")]
+    BadSignature,
+    #[error("out of memory")]
+    Memory,
+}
+
+impl From<AllocError> for EntryFault {
+    ghost use Rattle.std.specs.Prelude.{◌≡◌};
+    ghost use Rattle.entry_format.specs.declared.plain.EntryFault.TheVariants.{Memory};
+
+    ghost from_gives = { λ _ e. e ≡ Memory };
+
+    fn from(_refused: AllocError) -> EntryFault {
+        EntryFault::Memory
+    }
+}
+
+impl Knot for Plain {
+    ghost use Rattle.entry_format.specs.Nodes.{node_of};
+
+    ghost node = { node_of };
+
+    fn digest(&self) -> &[u8; 32] {
+        &self.digest
+    }
+
+    fn names(&self) -> &[[u8; 32]] {
+        self.entry.names.as_slice()
+    }
+
+    fn maker(&self) -> u32 {
+        self.entry.maker
+    }
+
+    fn number(&self) -> u32 {
+        self.entry.number
+    }
+
+    fn stamp(&self) -> u32 {
+        self.entry.stamp
+    }
+}
+
+/// Reads an entry's signed text, and leaves its signature unverified.
+///
+/// # Errors
+///
+/// The first cause that applies of `NotCanonical`, `WrongShape` and `NamesNotRising`, or `Memory`.
+pub fn read_unsigned(alloc: Global, text: &[u8]) -> Result<Plain, EntryFault>
+    ensures { result ≢ Err EntryFault.Memory → Reads text.now result }
+{
+    match read_one(alloc, text)? {
+        Read::Whole { value, used } if used == text.len() => {
+            read_unsigned_tree(alloc, &value, text)
+        }
+        _ => Err(EntryFault::NotCanonical),
+    }
+}
+
+/// The same of a text whose tree was read already, as that of a record in a log.
+///
+/// # Errors
+///
+/// `WrongShape`, then `NamesNotRising`, or `Memory`.
+pub fn read_unsigned_tree(alloc: Global, tree: &Sexp, text: &[u8]) -> Result<Plain, EntryFault>
+    requires fits { Fits tree.now }
+    requires text { text.now ≡ text_of tree.now }
+    ensures { result ≢ Err EntryFault.Memory → Reads text.now result }
+{
+    let Some((body, _signature)) = signed_parts(tree) else {
+        return Err(EntryFault::WrongShape);
+    };
+    let Some(entry) = entry_of(alloc, body)? else {
+        return Err(EntryFault::WrongShape);
+    };
+    if !is_rising(entry.names.as_slice()) {
+        return Err(EntryFault::NamesNotRising);
+    }
+    let digest = Sha256::digest(text);
+    Ok(Plain { entry, digest })
+}

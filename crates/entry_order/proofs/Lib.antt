@@ -1,0 +1,15 @@
+pub mod Lists
+pub mod Frontiers
+pub mod Orders
+pub mod Plays
+pub mod Graphs
+pub mod Settled
+pub mod Honest
+pub mod Made
+pub mod Example
+pub mod Machines
+pub mod Ranks
+pub mod Merged
+pub mod Numbered
+pub mod Forms
+pub mod Ascending

@@ -1,0 +1,17 @@
+pub mod Node
+pub mod Naming
+pub mod Ascending
+pub mod Frontier
+pub mod History
+pub mod World
+pub mod HeldBefore
+pub mod Precedes
+pub mod Receipt
+pub mod Survivors
+pub mod Completion
+pub mod Ancestors
+pub mod Settled
+pub mod Honest
+pub mod Merged
+pub mod Made
+pub mod Forms

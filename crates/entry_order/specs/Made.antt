@@ -1,0 +1,31 @@
+-- A machine whose next entry is made of its number, its stamp and its names.
+use Rattle.std.specs.Prelude.{◌≡◌, ℕ, ◌+◌, Bool, not, ◌&&◌, List, Option, Some, None, length, if◌then◌else◌}
+use Rattle.entry_order.specs.declared.event.Event.{Event}
+use Rattle.entry_order.specs.Node.{Node}
+use Rattle.entry_order.specs.Naming.{has_digest}
+use Rattle.entry_order.specs.Frontier.{frontier}
+use Rattle.entry_order.specs.History.{held, sent, greatest_stamp}
+use Rattle.entry_order.specs.World.{IsLawful}
+
+module _ {T : Type 0} (node : T → Node) (made : ℕ → ℕ → ℕ → List (List ℕ) → T) where
+  -- the entry that machine m makes after the history h
+  abbrev pub made_after : ℕ → List (Event T) → T
+  made_after m h = made m (length (sent h)) (1 + greatest_stamp node (held h)) (frontier node (held h))
+
+  -- it is sent where the rules allow it and its digest is new
+  abbrev pub next_made : (ℕ → List (Event T) → Bool) → ℕ → List (Event T) → Option T
+  next_made allowed m h =
+      if allowed m h && not (has_digest node (held h) (node (made_after m h)).digest)
+      then Some (made_after m h)
+      else None
+
+  -- what is made shows what it was made of
+  pub record ShowsItsParts : Type 0 where
+    pub maker : (m n s : ℕ) (names : List (List ℕ)) → (node (made m n s names)).maker ≡ m
+    pub number : (m n s : ℕ) (names : List (List ℕ)) → (node (made m n s names)).number ≡ n
+    pub stamp : (m n s : ℕ) (names : List (List ℕ)) → (node (made m n s names)).stamp ≡ s
+    pub names : (m n s : ℕ) (names : List (List ℕ)) → (node (made m n s names)).names ≡ names
+
+  -- so whatever the rules allow, it is what a legal history asks
+  abbrev pub MadeIsLawful : Type 0
+  MadeIsLawful = ShowsItsParts → (allowed : ℕ → List (Event T) → Bool) → IsLawful node (next_made allowed)

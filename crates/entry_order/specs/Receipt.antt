@@ -1,0 +1,36 @@
+-- Order is receipt: the path order of what was sent is what the machines held.
+use Rattle.std.specs.Prelude.{◌↔◌, ℕ, List, Option}
+use Rattle.std.specs.List.{Contains}
+use Rattle.entry_order.specs.declared.event.Event.{Event}
+use Rattle.entry_order.specs.declared.event.Event.TheVariants.{Got}
+use Rattle.entry_order.specs.declared.step.Step.{Step}
+use Rattle.entry_order.specs.Node.{Node}
+use Rattle.entry_order.specs.Naming.{Distinct}
+use Rattle.entry_order.specs.History.{IsLegal}
+use Rattle.entry_order.specs.World.{World, start, history, sent_in, IsLawful, play}
+use Rattle.entry_order.specs.HeldBefore.{HeldBefore}
+use Rattle.entry_order.specs.Precedes.{Precedes}
+
+-- each history is legal, and what was got was sent
+pub record IsOrderly {T : Type 0} (node : T → Node) (w : World T) : Type 0 where
+  pub legal : (m : ℕ) → IsLegal node m (history w m)
+  pub heard : (m : ℕ) (e : T) → Contains (history w m) (Got e) → Contains (sent_in w) e
+
+-- of the entries that were sent in w, one precedes another exactly where it was held before it
+abbrev pub OrderIsReceiptIn : {T : Type 0} → (T → Node) → World T → Type 0
+OrderIsReceiptIn {T} node w =
+    (f e : T) → Contains (sent_in w) f → Contains (sent_in w) e →
+    Precedes node (sent_in w) f e ↔ HeldBefore w f e
+
+-- so it is in every orderly world, where different entries have different digests
+abbrev pub OrderIsReceiptInOrderlyWorlds : {T : Type 0} → (T → Node) → Type 0
+OrderIsReceiptInOrderlyWorlds {T} node =
+    (w : World T) → IsOrderly node w → Distinct node (sent_in w) → OrderIsReceiptIn node w
+
+-- and after every list of steps of any number of machines, each log of any size
+abbrev pub OrderIsReceipt : {T : Type 0} → (T → Node) → Type 0
+OrderIsReceipt {T} node =
+    (next : ℕ → List (Event T) → Option T) (log machines : ℕ) (steps : List Step) →
+    IsLawful node next →
+    let w = play node next log (start machines) steps in
+    Distinct node (sent_in w) → OrderIsReceiptIn node w

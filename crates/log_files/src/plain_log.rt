@@ -1,0 +1,109 @@
+//! A log whose signatures aren't looked at.
+ghost use Rattle.std.specs.Prelude.{◌≡◌, ◌+◌, IfOk, IfErr, IsErrOf};
+ghost use Rattle.hall_outside.specs.Counts.{HasCause, ComesExactly};
+ghost use Rattle.hall_outside.specs.Files.{OnFile};
+ghost use Rattle.log_files.specs.LogFile.{IsLogOf, IsRefused};
+
+use crate::records::plain_log_of;
+use canonical_sexp::Why;
+use entry_format::{EntryFault, Plain};
+use hall_outside::{FileFault, Store, read_file};
+use std::alloc::{AllocError, Global};
+use thiserror::Error;
+
+/// How a log's file ends. Places are counted in bytes from 0.
+#[derive(Clone, Copy, Debug, PartialEq, Eq)]
+pub enum End {
+    /// Behind a whole record, or behind the header.
+    Clean,
+    /// Inside a record that begins at this place.
+    Torn(u64),
+    /// At this place stands the first byte of a record that can't stand there.
+    Malformed(u64, Why),
+}
+
+/// What a log's file says, of entries whose signatures aren't looked at.
+#[derive(Debug, Drop)]
+pub struct PlainLog {
+    /// The entries, in the order of the file.
+    pub kept: Vec<Plain>,
+    /// The records that are no entries: the place of each, counted from 0 behind the header, and why.
+    pub refused: Vec<(u32, EntryFault)>,
+    /// How the file ends.
+    pub end: End,
+}
+
+/// Why a log isn't read.
+#[derive(Clone, Copy, Debug, PartialEq, Eq, Error)]
+pub enum LogFault {
+    #[error("there is no such file")]
+    Absent,
+    #[error("the file is longer than 67,108,864 bytes")]
+    TooLong,
+    #[error("the file doesn't begin with the header of a log")]
+    Header,
+    #[error("a read failed")]
+    ReadFault,
+    #[error("out of memory")]
+    Memory,
+}
+
+impl From<AllocError> for LogFault {
+    ghost use Rattle.std.specs.Prelude.{◌≡◌};
+    ghost use Rattle.log_files.specs.declared.plain_log.LogFault.TheVariants.{Memory};
+
+    ghost from_gives = { λ _ e. e ≡ Memory };
+
+    fn from(_refused: AllocError) -> LogFault {
+        LogFault::Memory
+    }
+}
+
+/// The most bytes of a log's file.
+const MAX_BYTES: usize = 67_108_864;
+
+/// The fault of a log whose file isn't read.
+fn fault_of_file(fault: FileFault) -> LogFault {
+    match fault {
+        FileFault::Absent => LogFault::Absent,
+        FileFault::TooLong => LogFault::TooLong,
+        FileFault::ReadFault => LogFault::ReadFault,
+        FileFault::Memory => LogFault::Memory,
+    }
+}
+
+/// Reads a log's file, and leaves the signatures of its entries unverified. No file changes.
+///
+/// # Errors
+///
+/// `Absent` and `TooLong` where the store said so, `Header` where the file doesn't begin with a
+/// header, `ReadFault` where a read failed, or `Memory`.
+pub fn read_plain_log<S: Store>(
+    alloc: Global,
+    store: &mut S,
+    name: &str,
+) -> Result<PlainLog, LogFault>
+    // Where the store tells its files, the log is what the file says, and so is a refusal.
+    ensures ok { IfOk result (λ log. OnFile (S.files store.old) name.now (IsLogOf log)) }
+    ensures err { IfErr result (λ fault.
+        OnFile (S.files store.old) name.now (IsRefused fault)) }
+
+    // Absent and TooLong come exactly where the store said so in this call, ReadFault only so.
+    ensures absent { ComesExactly (S.answered store.old).absences (S.answered store.new).absences
+        (IsErrOf result LogFault.Absent) }
+    ensures too_long { ComesExactly ((S.answered store.old).bytes + 67108864)
+        (S.answered store.new).bytes (IsErrOf result LogFault.TooLong) }
+    ensures read_fault { HasCause (S.read_faults store.old) (S.read_faults store.new)
+        (IsErrOf result LogFault.ReadFault) }
+
+    ensures unchanged { (S.files store.new ≡ S.files store.old)
+        × (S.write_faults store.new ≡ S.write_faults store.old) }
+{
+    match read_file(alloc, store, name, MAX_BYTES) {
+        Ok(bytes) => match plain_log_of(alloc, &bytes)? {
+            Some(log) => Ok(log),
+            None => Err(LogFault::Header),
+        },
+        Err(fault) => Err(fault_of_file(fault)),
+    }
+}
