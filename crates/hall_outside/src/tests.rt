@@ -16,11 +16,16 @@ fn store_of(
     Ok(store)
 }
 
+// No clause, so that no check computes the bytes.
+fn filled(alloc: Global, byte: u8, len: usize) -> Result<Vec<u8>, Fail> {
+    Ok(vec![in alloc; byte; len]?)
+}
+
 #[test]
 fn read_file_answers_what_the_store_said(rt: HostRuntime) -> Result<(), Fail> {
     let alloc = rt.alloc();
     // 65,536 and 4,464 bytes are read, then none.
-    let bytes = vec![in alloc; 7u8; 70_000]?;
+    let bytes = filled(alloc, 7, 70_000)?;
     // The file, its limit, the number of the read that fails, and the answer.
     for (name, limit, failing, want) in [
         ("a", 70_000, 4, None),
@@ -77,7 +82,7 @@ fn a_failing_call_leaves_a_prefix(rt: HostRuntime) -> Result<(), Fail> {
 fn folder_store_moves_the_bytes_of_files(rt: HostRuntime) -> Result<(), Fail> {
     let alloc = rt.alloc();
     let mut store = FolderStore::make(&rt);
-    let bytes = vec![in alloc; 9u8; 70_000]?;
+    let bytes = filled(alloc, 9, 70_000)?;
     assert!(rt; put_file(&mut store, "outside-test", bytes.as_slice()).is_ok());
     let read = read_file(alloc, &mut store, "outside-test", LIMIT);
     assert!(rt; matches!(&read, Ok(read) if read.as_slice() == bytes.as_slice()));
