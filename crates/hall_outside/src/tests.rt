@@ -1,5 +1,6 @@
 use super::*;
 use std::alloc::Global;
+use std::fs;
 use std::test::Fail;
 
 const LIMIT: usize = 200_000;
@@ -106,6 +107,7 @@ fn folder_store_moves_the_bytes_of_files(rt: HostRuntime) -> Result<(), Fail> {
         )
     );
     assert!(rt; put_file(&mut store, ".", bytes.as_slice()).is_err());
+    assert!(rt; fs::remove_file(&rt, "outside-test").is_ok());
     Ok(())
 }
 
