@@ -1,5 +1,5 @@
 -- Files in a list: finding one, setting one, reading one.
-use Rattle.std.proofs.Common.{◌≡◌, ◌≢◌, ◌∙◌, ℕ, suc, zero, ◌+◌, ◌-◌, ◌<◌, ◌≤◌, ◌↔◌, min, true, false, cond, List, [], ◌∷◌, ◌++◌, length, take, drop, get_or, set, Option, Some, None, refl, ap, sym, subst, arith, drop-cons, add-one}
+use Rattle.std.proofs.Common.{◌≡◌, ◌≢◌, ◌∙◌, ℕ, suc, zero, ◌+◌, ◌-◌, ◌<◌, ◌≤◌, min, true, false, cond, List, [], ◌∷◌, ◌++◌, length, take, drop, get_or, set, Option, Some, None, refl, ap, sym, subst, arith, drop-cons, add-one}
 use Rattle.std.proofs.Math.Seq.{map-set_same}
 use Rattle.std.specs.Prelude.{Result, Ok, Err, is_err, OnErr, unwrap_or}
 use Rattle.std.proofs.Math.Path.{fun_ext}
@@ -7,7 +7,7 @@ use Rattle.std.proofs.lemmas.Bool.{false≢true}
 use Rattle.std.specs.Str.{bytes_eq}
 use Rattle.std.specs.Option.{IsSomeAnd}
 use Rattle.std.proofs.lemmas.Slice.Eq.{bytes_eq-Decides}
-use Rattle.std.proofs.lemmas.List.{map-set, map-append, take_all, length-take-le, length-drop, take_at, drop_at}
+use Rattle.std.proofs.lemmas.List.{map-set, map-append, length-take-le, length-drop, take_at, drop_at}
 use Rattle.hall_outside.specs.declared.memory_store.File.{File}
 use Rattle.hall_outside.specs.declared.stores.Taken.TheVariants.{Bytes}
 use Rattle.hall_outside.specs.Files.{Files, file_set}

@@ -1,7 +1,7 @@
 -- Reading a file piece by piece, where files are told.
-use Rattle.std.proofs.Common.{◌≡◌, ◌∙◌, ℕ, ◌+◌, ◌-◌, ◌<◌, ◌≤◌, List, [], ◌++◌, length, take, drop, Option, Some, None, refl, ap, sym, subst, arith, length-append}
+use Rattle.std.proofs.Common.{◌≡◌, ◌∙◌, ℕ, ◌+◌, ◌<◌, ◌≤◌, List, [], ◌++◌, length, take, drop, Option, Some, None, refl, ap, sym, subst, arith, length-append}
 use Rattle.std.specs.Prelude.{IsSomeAnd}
-use Rattle.std.proofs.lemmas.List.{length-take, length-take-le, take_all, take_at}
+use Rattle.std.proofs.lemmas.List.{length-take, take_all, take_at}
 use Rattle.std.proofs.Math.Seq.{take-add}
 use Rattle.hall_outside.specs.declared.stores.Taken.{Taken}
 use Rattle.hall_outside.specs.declared.stores.Taken.TheVariants.{Absent, Bytes}

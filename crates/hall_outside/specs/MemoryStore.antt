@@ -1,5 +1,5 @@
 -- What a store in memory is seen as, and which of its calls fail.
-use Rattle.std.specs.Prelude.{◌≡◌, ℕ, ◌-◌, ◌↔◌, Bool, true, false, if◌then◌else◌, List, [], ◌∷◌, length, min, Option, Some, None, IsSomeAnd, Contains, Result, IsErr, IfOk, is_ok}
+use Rattle.std.specs.Prelude.{◌≡◌, ℕ, ◌-◌, ◌↔◌, Bool, false, if◌then◌else◌, List, [], ◌∷◌, length, min, Option, Some, None, IsSomeAnd, Contains, Result, IsErr, IfOk, is_ok}
 use Rattle.std.specs.Str.{bytes_eq}
 use Rattle.hall_outside.specs.declared.stores.Failed.{Failed}
 use Rattle.hall_outside.specs.declared.stores.Taken.{Taken}

@@ -1,5 +1,5 @@
 -- What a read answers, and what `read_file` does.
-use Rattle.std.specs.Prelude.{◌≡◌, ℕ, ◌<◌, ◌≤◌, ◌↔◌, List, length, take, drop, Option, Some, None, IsSomeAnd, Result, Ok, Err, ⊤}
+use Rattle.std.specs.Prelude.{◌≡◌, ℕ, ◌≤◌, ◌↔◌, List, length, take, drop, Option, None, IsSomeAnd, Result, Ok, Err}
 use Rattle.hall_outside.specs.declared.stores.Failed.{Failed}
 use Rattle.hall_outside.specs.declared.stores.Taken.{Taken}
 use Rattle.hall_outside.specs.declared.stores.Taken.TheVariants.{Absent, Bytes}
