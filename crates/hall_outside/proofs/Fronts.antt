@@ -17,21 +17,30 @@ IsFront bytes (Some file) = bytes ≡ take (length bytes) file
 abbrev pub IsReadFrom : List ℕ → List ℕ → Option (List ℕ) → Type 0
 IsReadFrom bytes part file = IsSomeAnd file (IsPartFrom (length bytes) part)
 
-front_more : (file : Option (List ℕ)) (bytes part : List ℕ) → IsFront bytes file → IsReadFrom bytes part file → IsFront (bytes ++ part) file
+front_more : (file : Option (List ℕ)) (bytes part : List ℕ) → IsFront bytes file → IsReadFrom bytes part file
+    → IsFront (bytes ++ part) file
 front_more None bytes part front read = absurd read
 front_more (Some file) bytes part front read =
     ap (λ bs. bs ++ part) front ∙ ap (λ p. take (length bytes) file ++ p) read.0
     ∙ sym (take-add (length bytes) (length part) file) ∙ ap (λ k. take k file) (sym (length-append bytes part))
 
-whole_front : (file : Option (List ℕ)) (bytes : List ℕ) → IsFront bytes file → IsReadFrom bytes [] file → file ≡ Some bytes
+whole_front : (file : Option (List ℕ)) (bytes : List ℕ) → IsFront bytes file → IsReadFrom bytes [] file
+    → file ≡ Some bytes
 whole_front None bytes front read = absurd read
 whole_front (Some file) bytes front read = ap Some (sym (front ∙ take_all (length bytes) file (read.1.0 refl)))
 
-long_front : (file : Option (List ℕ)) (bytes part : List ℕ) (limit : ℕ) → IsFront bytes file → IsReadFrom bytes part file
+long_front : (file : Option (List ℕ)) (bytes part : List ℕ) (limit : ℕ) → IsFront bytes file
+    → IsReadFrom bytes part file
     → limit < length bytes + length part → IsSomeAnd file (λ whole. limit < length whole)
 long_front None bytes part limit front read long = absurd read
 long_front (Some file) bytes part limit front read long =
-    omega (arith, ap length (front_more (Some file) bytes part front read), length-take (length (bytes ++ part)) file, length-append bytes part)
+    omega (
+      arith,
+      ap length (front_more (Some file) bytes part front read),
+      length-take
+          (length (bytes ++ part)) file,
+      length-append bytes part,
+    )
 
 -- the same of files that may not be told
 pub begun : (files : Option Files) (name : List ℕ) → OnFile files name (IsFront [])
@@ -42,32 +51,38 @@ begun (Some files) name = empty (files name)
     empty None = refl
     empty (Some file) = refl
 
-pub read_more : (files : Option Files) (name bytes part : List ℕ) → OnFile files name (IsFront bytes) → OnFile files name (IsReadFrom bytes part)
+pub read_more : (files : Option Files) (name bytes part : List ℕ) → OnFile files name (IsFront bytes)
+    → OnFile files name (IsReadFrom bytes part)
     → OnFile files name (IsFront (bytes ++ part))
 read_more None name bytes part front read = tt
 read_more (Some files) name bytes part front read = front_more (files name) bytes part front read
 
-pub read_whole : (files : Option Files) (name bytes : List ℕ) → OnFile files name (IsFront bytes) → OnFile files name (IsReadFrom bytes [])
+pub read_whole : (files : Option Files) (name bytes : List ℕ) → OnFile files name (IsFront bytes)
+    → OnFile files name (IsReadFrom bytes [])
     → OnFile files name (λ file. file ≡ Some bytes)
 read_whole None name bytes front read = tt
 read_whole (Some files) name bytes front read = whole_front (files name) bytes front read
 
-pub read_long : (files : Option Files) (name bytes part : List ℕ) (limit : ℕ) → OnFile files name (IsFront bytes) → OnFile files name (IsReadFrom bytes part)
+pub read_long : (files : Option Files) (name bytes part : List ℕ) (limit : ℕ) → OnFile files name (IsFront bytes)
+    → OnFile files name (IsReadFrom bytes part)
     → limit < length bytes + length part → OnFile files name (λ file. IsSomeAnd file (λ whole. limit < length whole))
 read_long None name bytes part limit front read long = tt
 read_long (Some files) name bytes part limit front read long = long_front (files name) bytes part limit front read long
 
 -- what the answer of a read says, in these terms
-pub taken_part : (files start : Option Files) (name bytes old new : List ℕ) (at n : ℕ) (taken : Taken) → IsTaken files name at old new taken
+pub taken_part : (files start : Option Files) (name bytes old new : List ℕ) (at n : ℕ) (taken : Taken)
+    → IsTaken files name at old new taken
     → files ≡ start → at ≡ length bytes → taken ≡ Bytes n → OnFile start name (IsReadFrom bytes (take n new))
 taken_part files start name bytes old new at n taken read f a t =
     let P : Taken → Type 0 = λ k. IsTaken files name at old new k in
-    let Q : Option Files → Type 0 = λ fs. OnFile fs name (λ file. IsSomeAnd file (IsPartFrom (length bytes) (take n new))) in
+    let Q : Option Files
+    → Type 0 = λ fs. OnFile fs name (λ file. IsSomeAnd file (IsPartFrom (length bytes) (take n new))) in
     let R : ℕ → Type 0 = λ k. OnFile files name (λ file. IsSomeAnd file (IsPartFrom k (take n new))) in
     let given : IsTaken files name at old new (Bytes n) = subst P t read in
     subst Q f (subst R a given.2)
 
-pub taken_absent : (files start : Option Files) (name old new : List ℕ) (at : ℕ) (taken : Taken) → IsTaken files name at old new taken
+pub taken_absent : (files start : Option Files) (name old new : List ℕ) (at : ℕ) (taken : Taken)
+    → IsTaken files name at old new taken
     → files ≡ start → taken ≡ Absent → OnFile start name (λ file. file ≡ None)
 taken_absent files start name old new at taken read f t =
     let P : Taken → Type 0 = λ k. IsTaken files name at old new k in
@@ -75,7 +90,8 @@ taken_absent files start name old new at taken read f t =
     let given : IsTaken files name at old new Absent = subst P t read in
     subst Q f given.1
 
-pub taken_fits : (files : Option Files) (name old new : List ℕ) (at n : ℕ) (taken : Taken) → IsTaken files name at old new taken
+pub taken_fits : (files : Option Files) (name old new : List ℕ) (at n : ℕ) (taken : Taken)
+    → IsTaken files name at old new taken
     → taken ≡ Bytes n → n ≤ length old
 taken_fits files name old new at n taken read t =
     let P : Taken → Type 0 = λ k. IsTaken files name at old new k in

@@ -10,16 +10,19 @@ use Rattle.hall_outside.specs.Files.{Files, OnFile, file_set, with_file}
 use Rattle.hall_outside.specs.Writing.{appended, file_appended, with_appended}
 
 -- a front of the bytes and the next part of them
-front_grows : (bytes piece : List ℕ) (at n : ℕ) → piece ≡ drop at bytes → take at bytes ++ take n piece ≡ take (at + n) bytes
+front_grows : (bytes piece : List ℕ) (at n : ℕ) → piece ≡ drop at bytes
+    → take at bytes ++ take n piece ≡ take (at + n) bytes
 front_grows bytes piece at n p = ap (λ q. take at bytes ++ take n q) p ∙ sym (take-add at n bytes)
 
 -- the same behind what was written before
 pub appended_more : (written mid new : Option (List ℕ)) (bytes piece : List ℕ) (at n : ℕ) → piece ≡ drop at bytes
-    → mid ≡ appended written (take at bytes) → new ≡ appended mid (take n piece) → new ≡ appended written (take (at + n) bytes)
+    → mid ≡ appended written (take at bytes) → new ≡ appended mid (take n piece)
+    → new ≡ appended written (take (at + n) bytes)
 appended_more None mid new bytes piece at n p m e = e ∙ ap (λ w. appended w (take n piece)) m
 appended_more (Some before) mid new bytes piece at n p m e =
     e ∙ ap (λ w. appended w (take n piece)) m
-    ∙ ap Some (append_assoc before (take at bytes) (take n piece) ∙ ap (λ q. before ++ q) (front_grows bytes piece at n p))
+    ∙ ap Some (append_assoc before (take at bytes) (take n piece)
+    ∙ ap (λ q. before ++ q) (front_grows bytes piece at n p))
 
 pub appended_none : (written : Option (List ℕ)) → written ≡ appended written []
 appended_none None = refl
@@ -29,27 +32,36 @@ eq_self : (a : List ℕ) → bytes_eq a a ≡ true
 eq_self a = (bytes_eq-Decides a a).1 refl
 
 -- the file that was set last is the one that is there
-set_again : (files : Files) (name first last other : List ℕ) → file_set (file_set files name first) name last other ≡ file_set files name last other
-set_again files name first last other = elim (bytes_eq other name) as (λ b. cond b (Some last) (cond b (Some first) (files other)) ≡ cond b (Some last) (files other)) [
-  | true ↦ refl
-  | false ↦ refl
-]
+set_again : (files : Files) (name first last other : List ℕ)
+    → file_set (file_set files name first) name last other ≡ file_set files name last other
+set_again files name first last other = elim (bytes_eq other name) as
+    (λ b. cond b (Some last) (cond b (Some first) (files other)) ≡ cond b (Some last) (files other)) [
+      | true ↦ refl
+      | false ↦ refl
+    ]
 
-appended_set : (files : Files) (name bytes piece : List ℕ) → file_appended (file_set files name bytes) name piece ≡ file_set files name (bytes ++ piece)
+appended_set : (files : Files) (name bytes piece : List ℕ)
+    → file_appended (file_set files name bytes) name piece ≡ file_set files name (bytes ++ piece)
 appended_set files name bytes piece =
-    ap (λ b. file_set (file_set files name bytes) name (unwrap_or (cond b (Some bytes) (files name)) [] ++ piece)) (eq_self name)
+    ap (λ b. file_set (file_set files name bytes) name (unwrap_or (cond b (Some bytes) (files name)) [] ++ piece))
+    (eq_self name)
     ∙ fun_ext (set_again files name bytes (bytes ++ piece))
 
 pub put_more : (files mid new : Option Files) (name bytes piece : List ℕ) (at n : ℕ) → piece ≡ drop at bytes
-    → mid ≡ with_file files name (take at bytes) → new ≡ with_appended mid name (take n piece) → new ≡ with_file files name (take (at + n) bytes)
+    → mid ≡ with_file files name (take at bytes) → new ≡ with_appended mid name (take n piece)
+    → new ≡ with_file files name (take (at + n) bytes)
 put_more None mid new name bytes piece at n p m e = e ∙ ap (λ w. with_appended w name (take n piece)) m
 put_more (Some files) mid new name bytes piece at n p m e =
     e ∙ ap (λ w. with_appended w name (take n piece)) m
-    ∙ ap Some (appended_set files name (take at bytes) (take n piece) ∙ ap (file_set files name) (front_grows bytes piece at n p))
+    ∙ ap Some (appended_set files name (take at bytes) (take n piece)
+    ∙ ap (file_set files name) (front_grows bytes piece at n p))
 
 there_now : (files : Option Files) (name bytes : List ℕ) → OnFile (with_file files name bytes) name IsSome
 there_now None name bytes = tt
-there_now (Some files) name bytes = let Q : Bool → Type 0 = λ b. IsSome (cond b (Some bytes) (files name)) in subst Q (sym (eq_self name)) refl
+there_now (Some files) name bytes = let Q : Bool
+    → Type 0 = λ b. IsSome (cond b (Some bytes) (files name)) in subst Q (sym (eq_self name)) refl
 
-pub put_there : (files now : Option Files) (name bytes : List ℕ) → now ≡ with_file files name bytes → OnFile now name IsSome
-put_there files now name bytes e = let P : Option Files → Type 0 = λ w. OnFile w name IsSome in subst P (sym e) (there_now files name bytes)
+pub put_there : (files now : Option Files) (name bytes : List ℕ) → now ≡ with_file files name bytes
+    → OnFile now name IsSome
+put_there files now name bytes e = let P : Option Files
+    → Type 0 = λ w. OnFile w name IsSome in subst P (sym e) (there_now files name bytes)

@@ -13,7 +13,8 @@ pub record SinkState : Type 0 where
   pub faults : ℕ
 
 -- a write fails where its number is listed, and else takes the piece, or its first `greatest` bytes
-pub record IsMemorySinkWrite (old : SinkState) (piece : List ℕ) (result : Result ℕ Failed) (new : SinkState) : Type 0 where
+pub record IsMemorySinkWrite (old : SinkState) (piece : List ℕ) (result : Result ℕ Failed)
+    (new : SinkState) : Type 0 where
   pub number : new.writes ≡ raised old.writes 1
   pub fails : Contains old.failing_writes new.writes → IsErr result
   pub took : IfOk result (λ n. n ≡ min old.greatest (length piece))

@@ -29,7 +29,8 @@ TakesAll file at room Absent = file ≡ None
 TakesAll file at room (Bytes n) = IsSomeAnd file (λ bytes. n ≡ min (length bytes - at) room)
 
 -- a read fails exactly where its number is listed, and else takes all that there is room for
-pub record IsMemoryRead (name : List ℕ) (at room : ℕ) (old : StoreState) (result : Result Taken Failed) (new : StoreState) : Type 0 where
+pub record IsMemoryRead (name : List ℕ) (at room : ℕ) (old : StoreState) (result : Result Taken Failed)
+    (new : StoreState) : Type 0 where
   pub number : new.reads ≡ raised old.reads 1
   pub fails : IsErr result ↔ Contains old.failing_reads new.reads
   pub took : IfOk result (TakesAll (content_of old.files name) at room)
@@ -44,6 +45,7 @@ pub record IsMemoryWrite (old : StoreState) (ok : Bool) (new : StoreState) : Typ
   pub rest : new ≡ record old { files = new.files; writes = new.writes; write_faults = new.write_faults }
 
 -- an append that doesn't fail takes the whole piece
-pub record IsMemoryAppend (old : StoreState) (piece : List ℕ) (result : Result ℕ Failed) (new : StoreState) : Type 0 where
+pub record IsMemoryAppend (old : StoreState) (piece : List ℕ) (result : Result ℕ Failed)
+    (new : StoreState) : Type 0 where
   pub write : IsMemoryWrite old (is_ok result) new
   pub whole : IfOk result (λ n. n ≡ length piece)

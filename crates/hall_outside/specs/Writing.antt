@@ -26,7 +26,8 @@ abbrev pub with_appended : Option Files → List ℕ → List ℕ → Option Fil
 with_appended files name bytes = option_map (λ at. file_appended at name bytes) files
 
 -- calls that are each offered all that is left, until nothing is left or one fails
-pub data OffersAll {S : Type 0} (step : S → List ℕ → Result ℕ Failed → S → Type 0) : S → List ℕ → Bool → S → Type 0 where
+pub data OffersAll {S : Type 0} (step : S → List ℕ → Result ℕ Failed → S → Type 0) : S → List ℕ → Bool → S
+    → Type 0 where
   none_left : (now : S) → OffersAll step now [] true now
   fails : (old new : S) (left : List ℕ) (failed : Failed) → step old left (Err failed) new
       → OffersAll step old left false new
@@ -34,7 +35,8 @@ pub data OffersAll {S : Type 0} (step : S → List ℕ → Result ℕ Failed →
       → OffersAll step mid (drop n left) ok new → OffersAll step old left ok new
 
 -- a create, and after it such calls
-pub data Puts {S : Type 0} (create : S → Bool → S → Type 0) (step : S → List ℕ → Result ℕ Failed → S → Type 0) : S → List ℕ → Bool → S → Type 0 where
+pub data Puts {S : Type 0} (create : S → Bool → S → Type 0) (step : S → List ℕ → Result ℕ Failed → S → Type 0) : S
+    → List ℕ → Bool → S → Type 0 where
   not_created : (old new : S) (bytes : List ℕ) → create old false new → Puts create step old bytes false new
   created : (old mid new : S) (bytes : List ℕ) (ok : Bool) → create old true mid
       → OffersAll step mid bytes ok new → Puts create step old bytes ok new

@@ -103,7 +103,8 @@ impl MemoryStore {
 
 impl Store for MemoryStore {
     ghost use Rattle.std.specs.Prelude.{Some};
-    ghost use Rattle.hall_outside.specs.MemoryStore.{content_of, IsMemoryRead, IsMemoryWrite, IsMemoryAppend};
+    ghost use Rattle.hall_outside.specs.MemoryStore.{content_of};
+    ghost use Rattle.hall_outside.specs.MemoryStore.{IsMemoryRead, IsMemoryWrite, IsMemoryAppend};
 
     ghost files = { λ s. Some (content_of s.files) };
 
@@ -177,7 +178,8 @@ fn find(files: &[File], name: &str) -> Option<usize>
 /// Reads into the front of `into` as much of the file from `at` on as fits.
 fn read_from(files: &[File], name: &str, at: u64, into: &mut [u8]) -> Taken
     requires { 0 < length into.old }
-    ensures taken { IsTaken (Some (content_of (stored files.now))) name.now at into.old into.new result }
+    ensures taken { IsTaken (Some (content_of (stored files.now))) name.now at
+        into.old into.new result }
     ensures most { TakesAll (content_of (stored files.now) name.now) at (length into.old) result }
 {
     let Some(place) = find(files, name) else {

@@ -56,8 +56,8 @@ pub fn read_file<S: Store>(
     // Each refusal but want of memory comes only where the store said so in this call.
     ensures absent { ComesExactly (S.answered store.old).absences (S.answered store.new).absences
         (IsErrOf result FileFault.Absent) }
-    ensures too_long { ComesExactly ((S.answered store.old).bytes + limit) (S.answered store.new).bytes
-        (IsErrOf result FileFault.TooLong) }
+    ensures too_long { ComesExactly ((S.answered store.old).bytes + limit)
+        (S.answered store.new).bytes (IsErrOf result FileFault.TooLong) }
     ensures read_fault { HasCause (S.read_faults store.old) (S.read_faults store.new)
         (IsErrOf result FileFault.ReadFault) }
 

@@ -83,7 +83,8 @@ pub trait Store {
 /// Makes a file of these bytes: it is created, then appended to until all is there, each append
 /// being offered all that is left. It takes no memory.
 pub fn put_file<S: Store>(store: &mut S, name: &str, bytes: &[u8]) -> Result<(), Failed>
-    ensures ok { OnOk result (S.files store.new ≡ with_file (S.files store.old) name.now bytes.now) }
+    ensures ok { OnOk result
+        (S.files store.new ≡ with_file (S.files store.old) name.now bytes.now) }
     ensures err { OnErr result
         (SetsPrefix (S.files store.old) name.now bytes.now (S.files store.new)) }
     ensures cause { HasCause (S.write_faults store.old) (S.write_faults store.new) (IsErr result) }

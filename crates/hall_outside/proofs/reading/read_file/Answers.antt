@@ -19,7 +19,9 @@ returns-in-Ok-Bytes-eq0-clause-ok g c =
     record {
       fits = omega (arith, c.loop-bytes.bytes.ok.0);
       whole = read_whole (store.files c.args.store.now) c.args.name.now bytes c.loop-bytes.invariant.front
-          (taken_part (store.files c.loop-bytes.store) (store.files c.args.store.now) c.args.name.now bytes c.as_mut_slice.result.now c.read_at.new.into c.len.result 0 arm.field-0
+          (taken_part (store.files c.loop-bytes.store)
+          (store.files c.args.store.now) c.args.name.now bytes c.as_mut_slice.result.now c.read_at.new.into
+          c.len.result 0 arm.field-0
           arm.ensures.taken c.loop-bytes.invariant.files len (arm.field-0-is ∙ ap Bytes arm.field-0-0-test));
     }
 
@@ -32,30 +34,44 @@ loop-bytes-preserved g c =
     let filled : List ℕ = c.read_at.new.into in
     let count : ℕ = arm.count in
     let len : c.len.result ≡ length bytes = omega (arith, c.loop-bytes.bytes.ok.0) in
-    let whole : length filled ≡ c.loop-bytes.piece.len = omega (arith, ap length c.as_mut_slice.ensures.value, c.loop-bytes.piece.ok.0) in
+    let whole : length filled ≡ c.loop-bytes.piece.len = omega
+    (arith, ap length c.as_mut_slice.ensures.value, c.loop-bytes.piece.ok.0) in
     let appended : c.extend_from_slice.new.self.items ≡ bytes ++ take count filled =
     c.in_ok-extend_from_slice-in-Ok-Bytes.ensures.items
-    ∙ ap (λ bs. bytes ++ take count bs) (c.deref.ensures.value ∙ written_back c.loop-bytes.piece.items filled c.loop-bytes.piece.len whole) in
+    ∙ ap (λ bs. bytes ++ take count bs)
+    (c.deref.ensures.value ∙ written_back c.loop-bytes.piece.items filled c.loop-bytes.piece.len whole) in
     let fits : count ≤ length filled = omega (
       arith,
       c.read_at.auto.into,
-      taken_fits (store.files c.loop-bytes.store) c.args.name.now buffer filled c.len.result count arm.field-0 arm.ensures.taken arm.field-0-is,
+      taken_fits (store.files c.loop-bytes.store) c.args.name.now buffer filled c.len.result count arm.field-0
+          arm.ensures.taken arm.field-0-is,
     ) in
     let longer : vec_len c.extend_from_slice.new.self ≡ vec_len c.loop-bytes.bytes + count =
-    omega (arith, ap length appended, length-append bytes (take count filled), length-take-le count filled fits, c.extend_from_slice.new.self.ok.0, c.loop-bytes.bytes.ok.0) in
+    omega (
+      arith,
+      ap length appended,
+      length-append bytes (take count filled),
+      length-take-le count filled fits,
+      c.extend_from_slice.new.self.ok.0,
+      c.loop-bytes.bytes.ok.0,
+    ) in
     let answered : store.answered c.read_at.new.self ≡ counted (store.answered c.loop-bytes.store) (Ok (Bytes count)) =
     arm.ensures.answered ∙ ap (λ (t : Taken). counted (store.answered c.loop-bytes.store) (Ok t)) arm.field-0-is in
     let P : List ℕ → Type 0 = λ bs. OnFile (store.files c.args.store.now) c.args.name.now (IsFront bs) in
     record {
-      front = subst P (sym appended) (read_more (store.files c.args.store.now) c.args.name.now bytes (take count filled) c.loop-bytes.invariant.front
-          (taken_part (store.files c.loop-bytes.store) (store.files c.args.store.now) c.args.name.now bytes buffer filled c.len.result count arm.field-0
+      front = subst P (sym appended)
+          (read_more (store.files c.args.store.now) c.args.name.now bytes
+          (take count filled) c.loop-bytes.invariant.front
+          (taken_part (store.files c.loop-bytes.store)
+          (store.files c.args.store.now) c.args.name.now bytes buffer filled c.len.result count arm.field-0
           arm.ensures.taken c.loop-bytes.invariant.files len arm.field-0-is));
       fits = omega (arith, longer, c.if-count-limit.false, c.loop-bytes.invariant.fits);
       piece = c.loop-bytes.invariant.piece;
       files = arm.ensures.files ∙ c.loop-bytes.invariant.files;
       absences = ap (λ (a : Answered). a.absences) answered ∙ c.loop-bytes.invariant.absences;
       given = ap (λ (a : Answered). a.bytes) answered ∙ ap (λ b. raised b count) c.loop-bytes.invariant.given
-          ∙ raised_twice (store.answered c.args.store.now).bytes (vec_len c.loop-bytes.bytes) count ∙ ap (raised (store.answered c.args.store.now).bytes) (sym longer);
+          ∙ raised_twice (store.answered c.args.store.now).bytes (vec_len c.loop-bytes.bytes) count
+          ∙ ap (raised (store.answered c.args.store.now).bytes) (sym longer);
       read_faults = omega (arith, arm.ensures.cause.never_falls);
       write_faults = arm.ensures.write_faults ∙ c.loop-bytes.invariant.write_faults;
     }

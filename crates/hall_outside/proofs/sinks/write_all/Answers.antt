@@ -6,8 +6,11 @@ use Rattle.hall_outside.proofs.sinks.write_all.Goals as goal
 
 pub returns-in_err-done-clause-offers : goal.returns-in_err-done-clause-offers
 returns-in_err-done-clause-offers g c =
-    c.loop-done.invariant.offers _ _ (fails_at g.K.Sink.writes c.loop-done.sink c.write.new.self c.args.bytes.now _ c.loop-done.done c.in_err-done.field-0.0
-    c.from_residual.result c.from_residual.ensures.0 (take_rest c.args.bytes.now c.loop-done.done) c.in_err-done.ensures.step)
+    c.loop-done.invariant.offers _ _
+    (fails_at g.K.Sink.writes c.loop-done.sink c.write.new.self c.args.bytes.now _ c.loop-done.done
+    c.in_err-done.field-0.0
+    c.from_residual.result c.from_residual.ensures.0
+    (take_rest c.args.bytes.now c.loop-done.done) c.in_err-done.ensures.step)
 
 pub loop-done-preserved : goal.loop-done-preserved
 loop-done-preserved g c =
@@ -19,11 +22,15 @@ loop-done-preserved g c =
     let left : piece ≡ drop at bytes = take_rest bytes at in
     record {
       within = omega (arith, c.in_ok-done.ensures.took.at_most, ap length left, length-drop at bytes);
-      written = appended_more (sink.written c.args.sink.now) (sink.written c.loop-done.sink) (sink.written c.write.new.self) bytes piece at n left c.loop-done.invariant.written c.in_ok-done.ensures.ok;
+      written = appended_more (sink.written c.args.sink.now) (sink.written c.loop-done.sink)
+          (sink.written c.write.new.self) bytes piece at n left c.loop-done.invariant.written c.in_ok-done.ensures.ok;
       faults = omega (arith, c.in_ok-done.ensures.cause.never_falls);
-      offers = λ ok end h. c.loop-done.invariant.offers ok end (takes_more sink.writes c.loop-done.sink c.write.new.self end bytes piece at n ok left c.in_ok-done.ensures.step h);
+      offers = λ ok end h. c.loop-done.invariant.offers ok end
+          (takes_more sink.writes c.loop-done.sink c.write.new.self end bytes piece at n ok left
+          c.in_ok-done.ensures.step h);
     }
 
 pub returns-clause-offers : goal.returns-clause-offers
 returns-clause-offers g c =
-    c.loop-done.invariant.offers _ _ (all_offered g.K.Sink.writes c.loop-done.sink c.args.bytes.now c.loop-done.done c.loop-done-test.false)
+    c.loop-done.invariant.offers _ _
+    (all_offered g.K.Sink.writes c.loop-done.sink c.args.bytes.now c.loop-done.done c.loop-done-test.false)
