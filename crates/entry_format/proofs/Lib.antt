@@ -1,0 +1,4 @@
+pub mod Ascending
+pub mod Trees
+pub mod OneEntry
+pub mod Forms

@@ -86,10 +86,13 @@ pub fn read_unsigned(alloc: Global, text: &[u8]) -> Result<Plain, EntryFault>
     ensures { result ≢ Err EntryFault.Memory → Reads text.now result }
 {
     match read_one(alloc, text)? {
-        Read::Whole { value, used } if used == text.len() => {
+        Read::Whole { value, used } => {
+            if used < text.len() {
+                return Err(EntryFault::NotCanonical);
+            }
             read_unsigned_tree(alloc, &value, text)
         }
-        _ => Err(EntryFault::NotCanonical),
+        Read::Cut | Read::Bad { .. } => Err(EntryFault::NotCanonical),
     }
 }
 

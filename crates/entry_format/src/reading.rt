@@ -6,18 +6,23 @@ ghost use Rattle.canonical_sexp.specs.declared.sexp.Sexp.{Sexp};
 ghost use Rattle.canonical_sexp.specs.declared.sexp.Sexp.TheVariants.{Atom};
 ghost use Rattle.entry_format.specs.Rising.{IsAscending};
 ghost use Rattle.entry_format.specs.EntryText.{IsDigest, IsDeed, IsEntry, deed_tree, body_tree};
+ghost use Rattle.entry_format.specs.declared.entry.Entry.{Entry};
 ghost use Rattle.entry_format.specs.Parts.{IsBody, IsSigned};
+ghost use Rattle.std.specs.Cmp.Lexicographic.{slice_cmp};
+ghost use Rattle.std.specs.Ordering.{nat_cmp};
+ghost use Rattle.std.specs.declared.cmp.Ordering.TheVariants.{Less};
 
 use crate::deed::Deed;
 use crate::entry::{Entry, Names};
-use canonical_sexp::{Members, Memory, Octets, Sexp, number_of};
+use canonical_sexp::{Members, Memory, Octets, Sexp};
 use std::alloc::Global;
+use std::cmp::Ordering;
 
-/// The octets as a digest, where there are 32.
-fn digest_of(octets: &Octets) -> Option<[u8; 32]>
-    ensures { Finds (λ digest. IsDigest digest × (octets.now ≡ digest)) result }
+/// The digest that the tree is the atom of: 32 octets.
+fn digest_of(tree: &Sexp) -> Option<[u8; 32]>
+    ensures { Finds (λ digest. IsDigest digest × (tree.now ≡ Atom digest)) result }
 {
-    let octets = octets.as_slice();
+    let octets = tree.as_atom()?.as_slice();
     if octets.len() != 32 {
         return None;
     }
@@ -30,49 +35,30 @@ fn digest_of(octets: &Octets) -> Option<[u8; 32]>
 fn deed_of(tree: &Sexp) -> Option<Deed>
     ensures { Finds (λ deed. IsDeed deed × (tree.now ≡ deed_tree deed)) result }
 {
-    let Sexp::List(members) = tree else {
-        return None;
-    };
-    match members.as_slice() {
-        [Sexp::Atom(word)] if word.is(b"opened") => Some(Deed::Opened),
-        [Sexp::Atom(word), Sexp::Atom(booth), Sexp::Atom(session)]
-            if word.is(b"authorise") =>
-        {
-            Some(Deed::Authorise {
-                booth: number_of(booth.as_slice())?,
-                session: number_of(session.as_slice())?,
-            })
-        }
-        [Sexp::Atom(word), Sexp::Atom(session)] if word.is(b"override") => {
-            Some(Deed::Override {
-                session: number_of(session.as_slice())?,
-            })
-        }
-        [Sexp::Atom(word)] if word.is(b"closed") => Some(Deed::Closed),
-        [Sexp::Atom(word), Sexp::Atom(session)] if word.is(b"activate") => {
-            Some(Deed::Activate {
-                session: number_of(session.as_slice())?,
-            })
-        }
-        [Sexp::Atom(word), Sexp::Atom(session), Sexp::Atom(ballot)]
-            if word.is(b"commit") =>
-        {
-            Some(Deed::Commit {
-                session: number_of(session.as_slice())?,
-                ballot: digest_of(ballot)?,
-            })
-        }
-        [Sexp::Atom(word), Sexp::Atom(session), Sexp::Atom(ballot)] if word.is(b"cast") => {
-            Some(Deed::Cast {
-                session: number_of(session.as_slice())?,
-                ballot: digest_of(ballot)?,
-            })
-        }
-        [Sexp::Atom(word), Sexp::Atom(session)] if word.is(b"cancel") => {
-            Some(Deed::Cancel {
-                session: number_of(session.as_slice())?,
-            })
-        }
+    match tree.as_list()?.as_slice() {
+        [word] if word.is_word(b"opened") => Some(Deed::Opened),
+        [word, booth, session] if word.is_word(b"authorise") => Some(Deed::Authorise {
+            booth: booth.as_number()?,
+            session: session.as_number()?,
+        }),
+        [word, session] if word.is_word(b"override") => Some(Deed::Override {
+            session: session.as_number()?,
+        }),
+        [word] if word.is_word(b"closed") => Some(Deed::Closed),
+        [word, session] if word.is_word(b"activate") => Some(Deed::Activate {
+            session: session.as_number()?,
+        }),
+        [word, session, ballot] if word.is_word(b"commit") => Some(Deed::Commit {
+            session: session.as_number()?,
+            ballot: digest_of(ballot)?,
+        }),
+        [word, session, ballot] if word.is_word(b"cast") => Some(Deed::Cast {
+            session: session.as_number()?,
+            ballot: digest_of(ballot)?,
+        }),
+        [word, session] if word.is_word(b"cancel") => Some(Deed::Cancel {
+            session: session.as_number()?,
+        }),
         _ => None,
     }
 }
@@ -84,10 +70,7 @@ fn names_of(alloc: Global, members: &Members) -> Result<Option<Names>, Memory>
 {
     let mut digests = Vec::new(alloc);
     for member in members.as_slice() {
-        let Sexp::Atom(octets) = member else {
-            return Ok(None);
-        };
-        let Some(digest) = digest_of(octets) else {
+        let Some(digest) = digest_of(member) else {
             return Ok(None);
         };
         digests.push(digest)?;
@@ -95,11 +78,23 @@ fn names_of(alloc: Global, members: &Members) -> Result<Option<Names>, Memory>
     Ok(Some(Names::new(digests)))
 }
 
+/// Whether a digest is below another in the order of bytes.
+fn is_below(digest: &[u8; 32], other: &[u8; 32]) -> bool
+    ensures { IsTrue result ↔ (slice_cmp nat_cmp digest.now other.now ≡ Less) }
+{
+    digest.as_slice().cmp(other.as_slice()) == Ordering::Less
+}
+
 /// Whether each digest is below the next in the order of bytes.
 pub fn is_rising(digests: &[[u8; 32]]) -> bool
     ensures { IsTrue result ↔ IsAscending digests.now }
 {
-    digests.windows(2).all(|pair| pair[0] < pair[1])
+    for i in 1..digests.len() {
+        if !is_below(&digests[i - 1], &digests[i]) {
+            return false;
+        }
+    }
+    true
 }
 
 /// The fields of a body that need no memory.
@@ -140,13 +135,8 @@ pub fn signed_parts(tree: &Sexp) -> Option<(&Sexp, &Octets)>
     ensures none { IfNone result ((body : Sexp) (signature : List ℕ) →
         IsSigned tree.now body signature → ⊥) }
 {
-    let Sexp::List(members) = tree else {
-        return None;
-    };
-    match members.as_slice() {
-        [Sexp::Atom(word), body, Sexp::Atom(signature)] if word.is(b"sealed") => {
-            Some((body, signature))
-        }
+    match tree.as_list()?.as_slice() {
+        [word, body, signature] if word.is_word(b"sealed") => Some((body, signature.as_atom()?)),
         _ => None,
     }
 }
@@ -154,28 +144,31 @@ pub fn signed_parts(tree: &Sexp) -> Option<(&Sexp, &Octets)>
 /// The fields of the body that the tree is.
 fn fields_of(tree: &Sexp) -> Option<Fields<'_>>
     ensures found { IfSome result (λ fields. IsBody tree.now fields) }
+    ensures none { IfNone result ((entry : Entry) → IsEntry entry →
+        tree.now ≡ body_tree entry → ⊥) }
 {
-    let Sexp::List(members) = tree else {
+    let [
+        word,
+        version,
+        election,
+        maker,
+        number,
+        stamp,
+        names,
+        deed,
+    ] = tree.as_list()?.as_slice()
+    else {
         return None;
     };
-    match members.as_slice() {
-        [
-            Sexp::Atom(word),
-            Sexp::Atom(version),
-            Sexp::Atom(election),
-            Sexp::Atom(maker),
-            Sexp::Atom(number),
-            Sexp::Atom(stamp),
-            Sexp::List(names),
-            deed,
-        ] if word.is(b"entry") && version.is(b"1") => Some(Fields {
-            election: digest_of(election)?,
-            maker: number_of(maker.as_slice())?,
-            number: number_of(number.as_slice())?,
-            stamp: number_of(stamp.as_slice())?,
-            names,
-            deed: deed_of(deed)?,
-        }),
-        _ => None,
+    if !word.is_word(b"entry") || !version.is_word(b"1") {
+        return None;
     }
+    Some(Fields {
+        election: digest_of(election)?,
+        maker: maker.as_number()?,
+        number: number.as_number()?,
+        stamp: stamp.as_number()?,
+        names: names.as_list()?,
+        deed: deed_of(deed)?,
+    })
 }

@@ -1,2 +1,3 @@
 pub mod LogText
 pub mod LogFile
+pub mod Parts

@@ -31,32 +31,30 @@ IsEnd offset rest Clean = rest ≡ []
 IsEnd offset rest (Torn at) = (at ≡ offset) × (0 < length rest) × Answers rest Cut
 IsEnd offset rest (Malformed at why) = (place : ℕ) × (at ≡ offset + place) × Answers rest (Bad place why)
 
--- the bytes are a header, these records, each a canonical text within the limits, and an end
-pub record IsSplit (bytes : List ℕ) (records : List Sexp) (end : End) : Type 0 where
-  pub owner : ℕ
+-- the bytes, which stand at `offset`, are these trees, one right after another, each within the limits, and an end
+pub record AreRecords (offset : ℕ) (bytes : List ℕ) (trees : List Sexp) (end : End) : Type 0 where
   pub rest : List ℕ
-  pub number : owner < 2 ^ 32
-  pub within : All Fits records
-  pub spelt : bytes ≡ text_of (header_tree owner) ++ (flat_map text_of records ++ rest)
-  pub ends : IsEnd (length (text_of (header_tree owner)) + length (flat_map text_of records)) rest end
+  pub within : All Fits trees
+  pub spelt : bytes ≡ flat_map text_of trees ++ rest
+  pub ends : IsEnd (offset + length (flat_map text_of trees)) rest end
 
--- the record holds this signed entry, which the owner sent or got
+-- the tree is a record of this signed entry, which the owner of the log sent or got
 abbrev pub IsRecordOf : Sexp → Sexp → Type 0
-IsRecordOf entry record =
-    (record ≡ list_of (Atom (codes "sent") ∷ entry ∷ [])) ⊎ (record ≡ list_of (Atom (codes "got") ∷ entry ∷ []))
+IsRecordOf entry tree =
+    (tree ≡ list_of (Atom (codes "sent") ∷ entry ∷ [])) ⊎ (tree ≡ list_of (Atom (codes "got") ∷ entry ∷ []))
 
--- what the entry of the record is read as; a record that holds no list hasn't the form of one
+-- what the entry of a record is read as; a tree that is no record of a list hasn't the shape
 abbrev pub Gives : Sexp → Result Plain EntryFault → Type 0
-Gives record reading =
-    ((members : Forest) × IsRecordOf (Branch members) record × Reads (text_of (Branch members)) reading)
-    ⊎ (((members : Forest) → IsRecordOf (Branch members) record → ⊥) × (reading ≡ Err WrongShape))
+Gives tree reading =
+    ((members : Forest) × IsRecordOf (Branch members) tree × Reads (text_of (Branch members)) reading)
+    ⊎ (((members : Forest) → IsRecordOf (Branch members) tree → ⊥) × (reading ≡ Err WrongShape))
 
--- the same of each record
+-- the same of each tree
 abbrev pub EachGives : List Sexp → List (Result Plain EntryFault) → Type 0
 EachGives [] [] = Unit {0}
 EachGives [] (reading ∷ readings) = ⊥
-EachGives (record ∷ records) [] = ⊥
-EachGives (record ∷ records) (reading ∷ readings) = Gives record reading × EachGives records readings
+EachGives (tree ∷ trees) [] = ⊥
+EachGives (tree ∷ trees) (reading ∷ readings) = Gives tree reading × EachGives trees readings
 
 -- the entries among the readings, in their order
 abbrev pub kept_of : List (Result Plain EntryFault) → List Plain
@@ -64,17 +62,25 @@ kept_of [] = []
 kept_of (Ok plain ∷ readings) = plain ∷ kept_of readings
 kept_of (Err fault ∷ readings) = kept_of readings
 
--- the faults among them, with their places, the first of which is `place`
+-- the faults among them, each with its place, the first reading's being `place`
 abbrev pub refused_of : ℕ → List (Result Plain EntryFault) → List (ℕ × EntryFault)
 refused_of place [] = []
 refused_of place (Ok plain ∷ readings) = refused_of (place + 1) readings
 refused_of place (Err fault ∷ readings) = (place, fault) ∷ refused_of (place + 1) readings
 
--- the bytes say this log: its end, and what each of its records gives
-pub record Says (bytes : List ℕ) (log : PlainLog) : Type 0 where
-  pub records : List Sexp
+-- what the records and the end of a log say, whose bytes stand at `offset`
+pub record SaysFrom (offset : ℕ) (bytes : List ℕ) (log : PlainLog) : Type 0 where
+  pub trees : List Sexp
   pub readings : List (Result Plain EntryFault)
-  pub split : IsSplit bytes records log.end
-  pub gives : EachGives records readings
+  pub records : AreRecords offset bytes trees log.end
+  pub gives : EachGives trees readings
   pub kept : log.kept.items ≡ kept_of readings
   pub refused : log.refused.items ≡ refused_of 0 readings
+
+-- the bytes are a header, and what stands behind it says this log
+pub record Says (bytes : List ℕ) (log : PlainLog) : Type 0 where
+  pub owner : ℕ
+  pub behind : List ℕ
+  pub number : owner < 2 ^ 32
+  pub header : bytes ≡ text_of (header_tree owner) ++ behind
+  pub rest : SaysFrom (length (text_of (header_tree owner))) behind log

@@ -1,52 +1,58 @@
 //! Reading the header and the records of a log from bytes.
-ghost use Rattle.std.specs.Prelude.{◌≡◌, ◌≢◌, ◌≤◌, length, Err, IfOk, MatchOption};
+ghost use Rattle.std.specs.Prelude.{◌≡◌, ◌≢◌, ◌≤◌, ◌↔◌, length, drop, Err, IfOk, IfSome, IfNone, IsTrue, MatchOption};
 ghost use Rattle.canonical_sexp.specs.Text.{text_of, Fits};
 ghost use Rattle.entry_format.specs.declared.plain.EntryFault.{EntryFault};
-ghost use Rattle.log_files.specs.LogText.{HasHeader, Gives, Says};
+ghost use Rattle.canonical_sexp.specs.Forest.{Forest};
+ghost use Rattle.canonical_sexp.specs.declared.sexp.Sexp.TheVariants.{List as Branch};
+ghost use Rattle.log_files.specs.LogText.{HasHeader, IsRecordOf, Gives, SaysFrom, Says};
+ghost use Rattle.log_files.specs.Parts.{IsHeader, IsEntryIn};
 
 use crate::plain_log::{End, PlainLog};
-use canonical_sexp::{Memory, Read, Sexp, number_of, read_one};
+use canonical_sexp::{Memory, Read, Sexp, read_one};
 use entry_format::{EntryFault, Plain, read_unsigned_tree};
-use std::alloc::Global;
+use std::alloc::{AllocError, Global};
 
-/// The bytes of `(4:sent` and `(3:got`, which stand before a record's entry.
-const BEFORE_SENT: usize = 7;
-
-const BEFORE_GOT: usize = 6;
-
-/// Reads a record, whose text this is.
-fn record_of(alloc: Global, record: &Sexp, text: &[u8]) -> Result<Plain, EntryFault>
-    requires fits { Fits record.now }
-    requires text { text.now ≡ text_of record.now }
-    ensures { result ≢ Err EntryFault.Memory → Gives record.now result }
+/// Reads the entry of a record, whose text this is.
+fn entry_of(alloc: Global, tree: &Sexp, text: &[u8]) -> Result<Plain, EntryFault>
+    requires fits { Fits tree.now }
+    requires text { text.now ≡ text_of tree.now }
+    ensures { result ≢ Err EntryFault.Memory → Gives tree.now result }
 {
-    let Sexp::List(members) = record else {
-        return Err(EntryFault::WrongShape);
-    };
-    let [Sexp::Atom(word), inner] = members.as_slice() else {
-        return Err(EntryFault::WrongShape);
-    };
-    let Sexp::List(_) = inner else {
-        return Err(EntryFault::WrongShape);
-    };
-    let before = if word.is(b"sent") {
-        BEFORE_SENT
-    } else if word.is(b"got") {
-        BEFORE_GOT
-    } else {
-        return Err(EntryFault::WrongShape);
-    };
-    read_unsigned_tree(alloc, inner, &text[before..text.len() - 1])
+    match entry_in(tree) {
+        Some((entry, before)) => read_unsigned_tree(alloc, entry, &text[before..text.len() - 1]),
+        None => Err(EntryFault::WrongShape),
+    }
+}
+
+/// The signed entry in a record, and how many bytes of the record's text stand before it.
+fn entry_in(tree: &Sexp) -> Option<(&Sexp, usize)>
+    ensures found { IfSome result (λ found. IsEntryIn tree.now found.0.now found.1) }
+    ensures none { IfNone result ((members : Forest) →
+        IsRecordOf (Branch members) tree.now → ⊥) }
+{
+    match tree.as_list()?.as_slice() {
+        [word, entry] if word.is_word(b"sent") => {
+            entry.as_list()?;
+            Some((entry, b"(4:sent".len()))
+        }
+        [word, entry] if word.is_word(b"got") => {
+            entry.as_list()?;
+            Some((entry, b"(3:got".len()))
+        }
+        _ => None,
+    }
 }
 
 /// Whether the tree is the header of a log.
-fn is_header(tree: &Sexp) -> bool {
-    let Sexp::List(members) = tree else {
+fn is_header(tree: &Sexp) -> bool
+    ensures { IsTrue result ↔ IsHeader tree.now }
+{
+    let Some(members) = tree.as_list() else {
         return false;
     };
     match members.as_slice() {
-        [Sexp::Atom(word), Sexp::Atom(version), Sexp::Atom(owner)] => {
-            word.is(b"log") && version.is(b"1") && number_of(owner.as_slice()).is_some()
+        [word, version, owner] => {
+            word.is_word(b"log") && version.is_word(b"1") && owner.as_number().is_some()
         }
         _ => false,
     }
@@ -66,7 +72,11 @@ pub fn plain_log_of(alloc: Global, bytes: &[u8]) -> Result<Option<PlainLog>, Mem
 }
 
 /// Reads the records from a place on.
-fn records_from(alloc: Global, bytes: &[u8], start: usize) -> Result<PlainLog, Memory> {
+fn records_from(alloc: Global, bytes: &[u8], start: usize) -> Result<PlainLog, Memory>
+    requires within { start ≤ length bytes.now }
+    requires short { length bytes.now ≤ 67108864 }
+    ensures { IfOk result (λ log. SaysFrom start (drop start bytes.now) log) }
+{
     let mut kept = Vec::new(alloc);
     let mut refused = Vec::new(alloc);
     let mut at = start;
@@ -74,9 +84,9 @@ fn records_from(alloc: Global, bytes: &[u8], start: usize) -> Result<PlainLog, M
     while at < bytes.len() {
         match read_one(alloc, &bytes[at..])? {
             Read::Whole { value, used } => {
-                match record_of(alloc, &value, &bytes[at..at + used]) {
+                match entry_of(alloc, &value, &bytes[at..at + used]) {
                     Ok(plain) => kept.push(plain)?,
-                    Err(EntryFault::Memory) => return Err(Memory),
+                    Err(EntryFault::Memory) => return Err(AllocError),
                     Err(fault) => refused.push((place, fault))?,
                 }
                 at += used;

@@ -1,0 +1,128 @@
+-- Which fault a text has.
+use Rattle.std.proofs.Common.{◌≡◌, ◌∙◌, ℕ, ◌≤◌, ◌⊎◌, inl, inr, Result, Ok, Err, refl, List, [], ◌∷◌, length, take, sym, ap, subst, arith}
+use Rattle.std.proofs.lemmas.List.{take_all}
+use Rattle.std.specs.Prelude.{codes}
+use Rattle.canonical_sexp.specs.declared.sexp.Sexp.{Sexp}
+use Rattle.canonical_sexp.specs.declared.sexp.Sexp.TheVariants.{Atom}
+use Rattle.canonical_sexp.specs.declared.read.Read.{Read}
+use Rattle.canonical_sexp.specs.declared.read.Read.TheVariants as read
+use Rattle.canonical_sexp.specs.Text.{text_of, Fits}
+use Rattle.canonical_sexp.specs.Reading.{Answers}
+use Rattle.canonical_sexp.specs.Forms.{list_of}
+use Rattle.entry_format.specs.Rising.{IsAscending}
+use Rattle.entry_format.specs.declared.entry.Entry.{Entry}
+use Rattle.entry_format.specs.EntryText.{IsEntry, body_tree, signed_tree, IsSignedText}
+use Rattle.entry_format.specs.Parts.{IsSigned}
+use Rattle.canonical_sexp.specs.declared.read.Why.{Why}
+use Rattle.entry_format.specs.declared.plain.Plain.{Plain}
+use Rattle.entry_format.specs.declared.plain.EntryFault.{EntryFault}
+use Rattle.entry_format.specs.declared.plain.EntryFault.TheVariants.{NotCanonical, WrongShape, NamesNotRising, OtherElection, UnknownMaker, WrongIndex, BadSignature, Memory}
+use Rattle.entry_format.specs.Reading.{IsCanonical, HasForm, HasRisingNames, IsFormFault, Reads}
+use Rattle.entry_format.proofs.OneEntry.{one_text, one_entry, one_signed}
+
+-- a text that is canonical is read whole
+pub canonical_is_whole : (text : List ℕ) (tree : Sexp) → Fits tree → text ≡ text_of tree → Answers text (read.Whole tree (length text))
+canonical_is_whole text tree fits e = (fits, omega arith, take_all (length text) text (omega arith) ∙ e)
+
+-- the tree of a text with the form of an entry
+pub tree_of_form : (text : List ℕ) (tree : Sexp) (entry : Entry) (signature : List ℕ) → Fits tree → text ≡ text_of tree → IsSignedText text entry signature
+    → IsSigned tree (body_tree entry) signature
+tree_of_form text tree entry signature fits e form = one_text text tree (signed_tree entry signature) fits form.within e form.spelt
+
+-- one signed entry has one body
+pub body_of_form : (text : List ℕ) (tree body : Sexp) (entry : Entry) (signature another : List ℕ) → Fits tree → text ≡ text_of tree → IsSigned tree body another
+    → IsSignedText text entry signature → body ≡ body_tree entry
+body_of_form text tree body entry signature another fits e signed form =
+    (one_signed body (body_tree entry) another signature (sym signed ∙ tree_of_form text tree entry signature fits e form)).0
+
+-- an entry whose names don't rise has no form in which they do
+pub not_rising : (text : List ℕ) (entry : Entry) (signature : List ℕ) → IsSignedText text entry signature → (IsAscending entry.names → ⊥) → HasRisingNames text → ⊥
+not_rising text entry signature form falls (other, another, also, rises) =
+    let one : (entry ≡ other) × (signature ≡ another) = one_entry text entry other signature another form also in
+    let P : Entry → Type 0 = λ x. IsAscending x.names in
+    falls (subst P (sym one.0) rises)
+
+-- the first fault of a text that isn't read whole
+pub not_whole : (text : List ℕ) (answer : Read) → ((other : Read) → Answers text other → answer ≡ other) → ((tree : Sexp) → answer ≡ read.Whole tree (length text) → ⊥) → IsCanonical text → ⊥
+not_whole text answer only other (tree, fits, e) = other tree (only (read.Whole tree (length text)) (canonical_is_whole text tree fits e))
+
+-- the form of a text whose parts were found
+pub form_of : (text : List ℕ) (tree body : Sexp) (entry : Entry) (signature : List ℕ) → Fits tree → text ≡ text_of tree → IsSigned tree body signature → IsEntry entry
+    → body ≡ body_tree entry → IsSignedText text entry signature
+form_of text tree body entry signature fits e signed lawful is =
+    let same : tree ≡ signed_tree entry signature = signed ∙ ap (λ b. list_of (Atom (codes "sealed") ∷ b ∷ Atom signature ∷ [])) is in
+    let P : Sexp → Type 0 = λ t. Fits t in
+    record { lawful = lawful; within = subst P same fits; spelt = e ∙ ap text_of same }
+
+pub cut_is_not_whole : (text : List ℕ) (answer : Read) → (answer ≡ read.Cut) ⊎ ((at : ℕ) × (why : Why) × (answer ≡ read.Bad at why)) → (tree : Sexp) → answer ≡ read.Whole tree (length text) → ⊥
+cut_is_not_whole text answer (inl is) tree e = cc
+cut_is_not_whole text answer (inr (at, why, is)) tree e = cc
+
+-- a text with rising names has no fault
+no_fault : (text : List ℕ) (fault : EntryFault) → IsFormFault text fault → HasRisingNames text → ⊥
+no_fault text NotCanonical h (entry, signature, form, rises) = h (signed_tree entry signature, form.within, form.spelt)
+no_fault text WrongShape h (entry, signature, form, rises) = h.1 (entry, signature, form)
+no_fault text NamesNotRising h rising = h.1 rising
+no_fault text OtherElection h rising = h
+no_fault text UnknownMaker h rising = h
+no_fault text WrongIndex h rising = h
+no_fault text BadSignature h rising = h
+no_fault text Memory h rising = h
+
+is_canonical : (text : List ℕ) → HasForm text → IsCanonical text
+is_canonical text (entry, signature, form) = (signed_tree entry signature, form.within, form.spelt)
+
+-- the fault of a text that isn't canonical, of one without the form, and of one whose names don't rise
+only_not_canonical : (text : List ℕ) (fault : EntryFault) → IsFormFault text fault → (IsCanonical text → ⊥) → fault ≡ NotCanonical
+only_not_canonical text NotCanonical h not = refl
+only_not_canonical text WrongShape h not = absurd (not h.0)
+only_not_canonical text NamesNotRising h not = absurd (not (is_canonical text h.0))
+only_not_canonical text OtherElection h not = absurd h
+only_not_canonical text UnknownMaker h not = absurd h
+only_not_canonical text WrongIndex h not = absurd h
+only_not_canonical text BadSignature h not = absurd h
+only_not_canonical text Memory h not = absurd h
+
+only_wrong_shape : (text : List ℕ) (fault : EntryFault) → IsFormFault text fault → IsCanonical text → (HasForm text → ⊥) → fault ≡ WrongShape
+only_wrong_shape text NotCanonical h is not = absurd (h is)
+only_wrong_shape text WrongShape h is not = refl
+only_wrong_shape text NamesNotRising h is not = absurd (not h.0)
+only_wrong_shape text OtherElection h is not = absurd h
+only_wrong_shape text UnknownMaker h is not = absurd h
+only_wrong_shape text WrongIndex h is not = absurd h
+only_wrong_shape text BadSignature h is not = absurd h
+only_wrong_shape text Memory h is not = absurd h
+
+only_not_rising : (text : List ℕ) (fault : EntryFault) → IsFormFault text fault → HasForm text → fault ≡ NamesNotRising
+only_not_rising text NotCanonical h form = absurd (h (is_canonical text form))
+only_not_rising text WrongShape h form = absurd (h.1 form)
+only_not_rising text NamesNotRising h form = refl
+only_not_rising text OtherElection h form = absurd h
+only_not_rising text UnknownMaker h form = absurd h
+only_not_rising text WrongIndex h form = absurd h
+only_not_rising text BadSignature h form = absurd h
+only_not_rising text Memory h form = absurd h
+
+-- at most one fault applies
+one_fault : (text : List ℕ) (fault other : EntryFault) → IsFormFault text fault → IsFormFault text other → fault ≡ other
+one_fault text fault NotCanonical h k = only_not_canonical text fault h k
+one_fault text fault WrongShape h k = only_wrong_shape text fault h k.0 k.1
+one_fault text fault NamesNotRising h k = only_not_rising text fault h k.0
+one_fault text fault OtherElection h k = absurd k
+one_fault text fault UnknownMaker h k = absurd k
+one_fault text fault WrongIndex h k = absurd k
+one_fault text fault BadSignature h k = absurd k
+one_fault text fault Memory h k = absurd k
+
+abbrev plain_with : Entry → List ℕ → Plain
+plain_with entry digest = record { entry = entry; digest = digest }
+
+-- at most one reading is right
+pub one_reading : (text : List ℕ) (reading other : Result Plain EntryFault) → Reads text reading → Reads text other → reading ≡ other
+one_reading text (Ok plain) (Ok other) h k =
+    let one : (plain.entry ≡ other.entry) × (h.0.0 ≡ k.0.0) = one_entry text plain.entry other.entry h.0.0 k.0.0 h.0.1 k.0.1 in
+    let digest : plain.digest ≡ other.digest = h.2 ∙ sym k.2 in
+    ap (λ e. Ok (plain_with e plain.digest)) one.0 ∙ ap (λ d. Ok (plain_with other.entry d)) digest
+one_reading text (Ok plain) (Err fault) h k = absurd (no_fault text fault k (plain.entry, h.0.0, h.0.1, h.1))
+one_reading text (Err fault) (Ok plain) h k = absurd (no_fault text fault h (plain.entry, k.0.0, k.0.1, k.1))
+one_reading text (Err fault) (Err other) h k = ap Err (one_fault text fault other h k)

@@ -1,0 +1,139 @@
+-- A text has one entry.
+use Rattle.std.proofs.Common.{◌≡◌, ◌∙◌, ℕ, ◌^◌, get_or, if◌then◌else◌, ◌<◌, List, [], ◌∷◌, ◌++◌, map, length, refl, ap, sym, subst, arith, append-nil}
+use Rattle.std.specs.Prelude.{codes}
+use Rattle.std.specs.Fmt.{decimal}
+use Rattle.canonical_sexp.specs.declared.sexp.Sexp.{Sexp}
+use Rattle.canonical_sexp.specs.declared.sexp.Sexp.TheVariants.{Atom, List as Branch}
+use Rattle.canonical_sexp.specs.Sexp.{forest_of, members_of}
+use Rattle.canonical_sexp.specs.Text.{text_of, Fits}
+use Rattle.canonical_sexp.specs.Forms.{list_of, number_atom}
+use Rattle.canonical_sexp.proofs.Unique.{one_tree}
+use Rattle.canonical_sexp.proofs.Decimal.{decimal_same, number_from, number_from-decimal}
+use Rattle.canonical_sexp.proofs.Rows.{members_of-forest_of}
+use Rattle.std.specs.Str.{bytes_eq}
+use Rattle.entry_format.specs.declared.deed.Deed.{Deed}
+use Rattle.entry_format.specs.declared.deed.Deed.TheVariants.{Opened, Authorise, Override, Closed, Activate, Commit, Cast, Cancel}
+use Rattle.entry_format.specs.declared.entry.Entry.{Entry}
+use Rattle.entry_format.specs.EntryText.{IsDeed, IsEntry, deed_tree, body_tree, signed_tree, IsSignedText}
+use Rattle.entry_format.proofs.Trees.{atoms_of}
+
+-- one tree has one text, and a text one tree
+pub one_text : (text : List ℕ) (tree other : Sexp) → Fits tree → Fits other → text ≡ text_of tree → text ≡ text_of other → tree ≡ other
+one_text text tree other fits other_fits is also =
+    (one_tree 8 tree other [] [] fits other_fits (append-nil (text_of tree) ∙ sym is ∙ also ∙ sym (append-nil (text_of other)))).0
+
+one_number : (m n : ℕ) → m < 2 ^ 32 → n < 2 ^ 32 → number_atom m ≡ number_atom n → m ≡ n
+one_number m n small other_small e = let same : decimal m ≡ decimal n = cc in decimal_same m n (omega arith) (omega arith) same
+
+atoms_same : (digests others : List (List ℕ)) → map Atom digests ≡ map Atom others → digests ≡ others
+atoms_same [] [] e = refl
+atoms_same [] (o ∷ others) e = cc
+atoms_same (d ∷ digests) [] e = cc
+atoms_same (d ∷ digests) (o ∷ others) e =
+    let first : d ≡ o = cc in
+    let rest : map Atom digests ≡ map Atom others = cc in
+    let same : digests ≡ others = atoms_same digests others rest in
+    cc
+
+-- one list of names has one tree
+one_names : (digests others : List (List ℕ)) → list_of (map Atom digests) ≡ list_of (map Atom others) → digests ≡ others
+one_names digests others e =
+    let same : forest_of (map Atom digests) ≡ forest_of (map Atom others) = cc in
+    atoms_same digests others (sym (atoms_of digests) ∙ ap members_of same ∙ atoms_of others)
+
+-- the octets of a tree's member, if both are of that kind
+abbrev octets_of : Sexp → List ℕ
+octets_of (Atom octets) = octets
+octets_of (Branch members) = []
+
+abbrev argument : ℕ → Sexp → List ℕ
+argument n (Atom octets) = []
+argument n (Branch members) = octets_of (get_or (members_of members) n (Atom []))
+
+-- the deed whose tree it is
+abbrev deed_from : Sexp → Deed
+deed_from tree =
+    let word : List ℕ = argument 0 tree in
+    let first : ℕ = number_from 0 (argument 1 tree) in
+    let second : List ℕ = argument 2 tree in
+    if bytes_eq word (codes "opened") then Opened
+    else (if bytes_eq word (codes "authorise") then Authorise first (number_from 0 second)
+    else (if bytes_eq word (codes "override") then Override first
+    else (if bytes_eq word (codes "closed") then Closed
+    else (if bytes_eq word (codes "activate") then Activate first
+    else (if bytes_eq word (codes "commit") then Commit first second
+    else (if bytes_eq word (codes "cast") then Cast first second
+    else Cancel first))))))
+
+number_back : (n : ℕ) → n < 2 ^ 32 → number_from 0 (decimal n) ≡ n
+number_back n small = number_from-decimal n (omega arith)
+
+deed_back : (deed : Deed) → IsDeed deed → deed_from (deed_tree deed) ≡ deed
+deed_back Opened h = refl
+deed_back (Authorise booth session) h =
+    ap (λ b. Authorise b (number_from 0 (decimal session))) (number_back booth h.0) ∙ ap (Authorise booth) (number_back session h.1)
+deed_back (Override session) h = ap Override (number_back session h)
+deed_back Closed h = refl
+deed_back (Activate session) h = ap Activate (number_back session h)
+deed_back (Commit session ballot) h = ap (λ s. Commit s ballot) (number_back session h.0)
+deed_back (Cast session ballot) h = ap (λ s. Cast s ballot) (number_back session h.0)
+deed_back (Cancel session) h = ap Cancel (number_back session h)
+
+one_deed : (deed other : Deed) → IsDeed deed → IsDeed other → deed_tree deed ≡ deed_tree other → deed ≡ other
+one_deed deed other h k e = sym (deed_back deed h) ∙ ap deed_from e ∙ deed_back other k
+
+-- lists with the same members
+pub same_members : (trees others : List Sexp) → list_of trees ≡ list_of others → trees ≡ others
+same_members trees others e =
+    let same : forest_of trees ≡ forest_of others = cc in
+    sym (members_of-forest_of trees) ∙ ap members_of same ∙ members_of-forest_of others
+
+-- an entry of these fields
+abbrev entry_with : List ℕ → ℕ → ℕ → ℕ → List (List ℕ) → Deed → Entry
+entry_with election maker number stamp names deed =
+    record { election = election; maker = maker; number = number; stamp = stamp; names = names; deed = deed }
+
+same_fields : (a b : Entry) → a.election ≡ b.election → a.maker ≡ b.maker → a.number ≡ b.number → a.stamp ≡ b.stamp → a.names ≡ b.names → a.deed ≡ b.deed → a ≡ b
+same_fields a b e m n s names d =
+    ap (λ x. entry_with x a.maker a.number a.stamp a.names a.deed) e ∙ ap (λ x. entry_with b.election x a.number a.stamp a.names a.deed) m
+    ∙ ap (λ x. entry_with b.election b.maker x a.stamp a.names a.deed) n ∙ ap (λ x. entry_with b.election b.maker b.number x a.names a.deed) s
+    ∙ ap (λ x. entry_with b.election b.maker b.number b.stamp x a.deed) names ∙ ap (entry_with b.election b.maker b.number b.stamp b.names) d
+
+abbrev body_members : Entry → List Sexp
+body_members entry =
+    Atom (codes "entry") ∷ Atom (codes "1") ∷ Atom entry.election ∷ number_atom entry.maker ∷ number_atom entry.number
+    ∷ number_atom entry.stamp ∷ list_of (map Atom entry.names) ∷ deed_tree entry.deed ∷ []
+
+-- equal lists have equal members
+member : (i : ℕ) {trees others : List Sexp} → trees ≡ others → get_or trees i (Atom []) ≡ get_or others i (Atom [])
+member i e = ap (λ ts. get_or ts i (Atom [])) e
+
+one_body : (entry other : Entry) → IsEntry entry → IsEntry other → body_tree entry ≡ body_tree other → entry ≡ other
+one_body entry other h k e =
+    let same : body_members entry ≡ body_members other = same_members (body_members entry) (body_members other) e in
+    let election : Atom entry.election ≡ Atom other.election = member 2 same in
+    let maker : number_atom entry.maker ≡ number_atom other.maker = member 3 same in
+    let number : number_atom entry.number ≡ number_atom other.number = member 4 same in
+    let stamp : number_atom entry.stamp ≡ number_atom other.stamp = member 5 same in
+    let names : list_of (map Atom entry.names) ≡ list_of (map Atom other.names) = member 6 same in
+    let deed : deed_tree entry.deed ≡ deed_tree other.deed = member 7 same in
+    same_fields entry other (ap octets_of election) (one_number entry.maker other.maker h.maker k.maker maker) (one_number entry.number other.number h.number k.number number)
+    (one_number entry.stamp other.stamp h.stamp k.stamp stamp) (one_names entry.names other.names names) (one_deed entry.deed other.deed h.deed k.deed deed)
+
+abbrev signed_members : Sexp → List ℕ → List Sexp
+signed_members body signature = Atom (codes "sealed") ∷ body ∷ Atom signature ∷ []
+
+-- a signed entry has one body and one signature
+pub one_signed : (body other : Sexp) (signature another : List ℕ) → list_of (signed_members body signature) ≡ list_of (signed_members other another)
+    → (body ≡ other) × (signature ≡ another)
+one_signed body other signature another e =
+    let same : signed_members body signature ≡ signed_members other another = same_members (signed_members body signature) (signed_members other another) e in
+    let signatures : Atom signature ≡ Atom another = member 2 same in
+    (member 1 same, ap octets_of signatures)
+
+pub one_entry : (text : List ℕ) (entry other : Entry) (signature another : List ℕ) → IsSignedText text entry signature → IsSignedText text other another
+    → (entry ≡ other) × (signature ≡ another)
+one_entry text entry other signature another h k =
+    let tree : signed_tree entry signature ≡ signed_tree other another = one_text text (signed_tree entry signature) (signed_tree other another) h.within k.within h.spelt k.spelt in
+    let parts : (body_tree entry ≡ body_tree other) × (signature ≡ another) = one_signed (body_tree entry) (body_tree other) signature another tree in
+    (one_body entry other h.lawful k.lawful parts.0, parts.1)
