@@ -8,7 +8,7 @@ use Rattle.entry_order.specs.World.{World, start, play}
 use Rattle.entry_order.specs.HeldBefore.{WasSentAfter, HeldBefore, HeldBefore.itself, HeldBefore.descendant}
 use Rattle.entry_order.specs.Receipt.{IsOrderly}
 use Rattle.entry_order.specs.Forms.{Held, IsChain, HeldByChain, HeldWithin, FormsAgree}
-use Rattle.entry_order.proofs.Frontiers.{stamp_below}
+use Rattle.entry_order.proofs.Stamps.{stamp_below}
 use Rattle.entry_order.proofs.Orders.{along, next_of}
 use Rattle.entry_order.proofs.Plays.{IsOrderly-play, IsOrderly-start}
 

@@ -3,7 +3,7 @@ use Rattle.std.proofs.Common.{◌≡◌, ℕ, ◌<◌, ◌≤◌, Bool, true, fa
 use Rattle.std.specs.Prelude.{slice_get, ◌==◌}
 use Rattle.std.specs.List.{Contains, filter}
 use Rattle.std.proofs.lemmas.Option.{slice_get_past}
-use Rattle.entry_order.proofs.Frontiers.{bearer}
+use Rattle.entry_order.proofs.Naming.{has_digest_from}
 use Rattle.std.specs.Cmp.Lexicographic.{slice_cmp}
 use Rattle.std.specs.Ordering.{nat_cmp, ordering_reverse}
 use Rattle.std.specs.declared.cmp.Ordering.TheVariants.{Less, Greater}
@@ -223,7 +223,7 @@ module _ {T : Type 0} (node : T → Node) (next : ℕ → List (Event T) → Opt
       let may = orderly.legal x.machine (part x.machine done) (Got e) (part x.machine rest) own in
       let ready = heard_ready done x rest e is ev in
       let free : has_digest node (held (part x.machine done)) (node e).digest ≡ false =
-      false_from_ne_true (has_digest node (held (part x.machine done)) (node e).digest) (λ t. let b = bearer node (held (part x.machine done)) (node e).digest t in may.0 b.0 b.1 b.2) in
+      false_from_ne_true (has_digest node (held (part x.machine done)) (node e).digest) (λ t. let b = has_digest_from node (held (part x.machine done)) (node e).digest t in may.0 b.0 b.1 b.2) in
       let room : leb log (length (part x.machine done)) ≡ false =
       let f = fits x.machine in let l = ap length own in let n = length-append (part x.machine done) (Got e ∷ part x.machine rest) in lt-leb log (length (part x.machine done)) (omega arith) in
       let open_to_it : refuses node log a (node e).digest ≡ false = or_from (has_digest node (held (part x.machine done)) (node e).digest) (leb log (length (part x.machine done))) free room in

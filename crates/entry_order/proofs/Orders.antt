@@ -14,7 +14,9 @@ use Rattle.entry_order.specs.HeldBefore.{WasSentAfter, HeldBefore, HeldBefore.it
 use Rattle.entry_order.specs.Precedes.{IsPath, Precedes}
 use Rattle.entry_order.specs.Receipt.{IsOrderly}
 use Rattle.entry_order.proofs.Lists.{Contains-none, Contains-head, Contains-later, Contains-at, Contains-cons_cases, Contains-map_cases, Contains-flat_map_cases}
-use Rattle.entry_order.proofs.Frontiers.{frontier_entry, in_frontier, namer, stamp_below}
+use Rattle.entry_order.proofs.Frontiers.{frontier_entry, in_frontier}
+use Rattle.entry_order.proofs.Naming.{is_named_from}
+use Rattle.entry_order.proofs.Stamps.{stamp_below}
 
 -- ---- what was sent
 
@@ -108,7 +110,7 @@ module _ {T : Type 0} (node : T → Node) (w : World T) (orderly : IsOrderly nod
         → (between : List T) × IsPath node (sent_in w) f between e
     covered_by past e s fuel f c enough false free from = ([], subst (λ (ds : List (List ℕ)). Contains ds (node f).digest) (sym (next_of past e s).names) (in_frontier node (held past) f c free))
     covered_by past e s fuel f c enough true named from =
-        let n = namer node (held past) f named in
+        let n = is_named_from node (held past) (node f).digest named in
         let cg = held_was_sent past e s n.0 n.1 in
         let up = rises f n.0 (held_was_sent past e s f c) cg n.2 in
         let rest = from n.0 n.1 (omega arith) in

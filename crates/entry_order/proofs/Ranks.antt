@@ -13,7 +13,7 @@ use Rattle.entry_order.specs.Node.{Node}
 use Rattle.entry_order.specs.History.{entry_of, held, greatest_stamp, IsLegal}
 use Rattle.entry_order.specs.Merged.{kind, rank, placed}
 use Rattle.entry_order.proofs.Lists.{Contains-head, Contains-map}
-use Rattle.entry_order.proofs.Frontiers.{stamp_below, top_at_least}
+use Rattle.entry_order.proofs.Stamps.{stamp_below, top_at_least}
 
 less : (a b : ℕ) → a < b → nat_cmp a b ≡ Less
 less a b l = grind (arith, nat_tests)

@@ -13,7 +13,7 @@ use Rattle.entry_order.specs.Completion.{Completion}
 use Rattle.entry_order.specs.Ancestors.{IsWalk, IsAncestor, Descends, reaches, is_whole, before}
 use Rattle.entry_order.specs.Settled.{IsWhole, IsGraphOf, OrderIsSettled}
 use Rattle.entry_order.proofs.Lists.{Contains-none, Contains-head, Contains-later, Contains-cons_cases, list_any_some}
-use Rattle.entry_order.proofs.Graphs.{before_in_completion, before_among_survivors}
+use Rattle.entry_order.proofs.Completions.{before_in_completion, before_among_survivors}
 
 -- each passes, and the other way round
 list_all_each : {X : Type 0} (p : X → Bool) (xs : List X) → list_all p xs ≡ true → (x : X) → Contains xs x → p x ≡ true

@@ -1,46 +1,57 @@
 -- What is the same in every completion.
-use Rattle.std.proofs.Common.{◌≡◌, ◌≢◌, ℕ, Bool, true, false, List, [], ◌∷◌, refl, sym, ap, subst, ◌∙◌, ◌⊎◌, inl, inr}
-use Rattle.std.specs.Prelude.{not}
-use Rattle.std.specs.Str.{bytes_eq}
-use Rattle.std.proofs.lemmas.List.Folds.{list_any_at}
-use Rattle.std.proofs.lemmas.Slice.Eq.{bytes_eq-Decides}
+use Rattle.std.proofs.Common.{◌≡◌, ℕ, Bool, true, false, List, [], ◌∷◌, refl, sym, subst, ◌∙◌, ◌⊎◌, inl, inr}
+use Rattle.std.specs.Prelude.{◌↔◌, not}
 use Rattle.std.specs.List.{Contains, filter, flat_map}
-use Rattle.std.proofs.lemmas.Bool.{not_from_false, not-true, true≢false}
+use Rattle.std.proofs.lemmas.Bool.{not_from_false, not-true, true≢false, false_from_ne_true}
 use Rattle.entry_order.specs.Node.{Node}
-use Rattle.entry_order.specs.Naming.{Names, has_digest}
+use Rattle.entry_order.specs.Naming.{Names, IsNamedIn, IsBorneIn, has_digest}
 use Rattle.entry_order.specs.Precedes.{IsPath, Precedes}
-use Rattle.entry_order.specs.Survivors.{gaps}
+use Rattle.entry_order.specs.Survivors.{gaps, IsGaps}
 use Rattle.entry_order.specs.Completion.{Completion}
 use Rattle.entry_order.specs.Settled.{NamesNoGap, IsWhole}
 use Rattle.entry_order.proofs.Lists.{Contains-filter, Contains-filter_cases, Contains-flat_map, Contains-flat_map_cases}
-use Rattle.entry_order.proofs.Frontiers.{Contains-ascending, Contains-ascending_cases, bearer}
-
--- the test of a digest finds who bears it
-pub has_digest_of : {T : Type 0} (node : T → Node) (S : List T) (g : T) (d : List ℕ) → Contains S g → (node g).digest ≡ d → has_digest node S d ≡ true
-has_digest_of node S g d (i, l, at) is =
-    list_any_at (λ u. bytes_eq (node u).digest d) S i g l (ap (λ u. bytes_eq (node u).digest d) at ∙ (bytes_eq-Decides (node g).digest d).1 is)
+use Rattle.entry_order.proofs.Ascending.{Contains-ascending, Contains-ascending_cases, same_ascending, ascending_ascending}
+use Rattle.entry_order.proofs.Naming.{has_digest_of, has_digest_from}
 
 module _ {T : Type 0} (node : T → Node) (S : List T) where
+  gap_members : (d : List ℕ) → Contains (gaps node S) d ↔ (IsNamedIn node S d × (¬ (IsBorneIn node S d)))
+  gap_members d =
+      let names = flat_map (λ y. (node y).names) S in
+      let free = λ (c : List ℕ). not (has_digest node S c) in (
+        λ c.
+            let kept = Contains-filter_cases free names d (Contains-ascending_cases (filter free names) d c) in
+            (Contains-flat_map_cases (λ y. (node y).names) S d kept.0,
+            λ borne. true≢false (sym (has_digest_of node S d borne) ∙ not-true (has_digest node S d) kept.1)),
+        λ (named, lost).
+            let there = Contains-flat_map (λ y. (node y).names) S named.0 d named.1 named.2 in
+            let none = false_from_ne_true (has_digest node S d) (λ t. lost (has_digest_from node S d t)) in
+            Contains-ascending (filter free names) d
+            (Contains-filter free names d there (not_from_false (has_digest node S d) none)),
+      )
+
+  -- a gap is named by an entry and borne by none
+  pub gap_cases : (d : List ℕ) → Contains (gaps node S) d → IsNamedIn node S d × (¬ (IsBorneIn node S d))
+  gap_cases d c = (gap_members d).0 c
+
+  pub gaps_are_unique : (ds : List (List ℕ)) → (ds ≡ gaps node S) ↔ IsGaps node S ds
+  gaps_are_unique ds =
+      let digests = filter (λ d. not (has_digest node S d)) (flat_map (λ y. (node y).names) S) in (
+        λ is. subst (λ o. IsGaps node S o) (sym is) (record { rises = ascending_ascending digests; members = gap_members }),
+        λ is.
+            same_ascending ds (gaps node S) is.rises (ascending_ascending digests)
+            (λ d c. (gap_members d).1 ((is.members d).0 c)) (λ d c. (is.members d).1 ((gap_members d).0 c)),
+      )
+
   -- a named digest is a gap, or an entry has it
-  pub gap_or_bearer : (x : T) (d : List ℕ) → Contains S x → Contains (node x).names d → Contains (gaps node S) d ⊎ ((g : T) × Contains S g × ((node g).digest ≡ d))
+  pub gap_or_bearer : (x : T) (d : List ℕ) → Contains S x → Contains (node x).names d → Contains (gaps node S) d ⊎ IsBorneIn node S d
   gap_or_bearer x d c n = by (has_digest node S d) refl
     where
-      by : (b : Bool) → has_digest node S d ≡ b → Contains (gaps node S) d ⊎ ((g : T) × Contains S g × ((node g).digest ≡ d))
-      by true e = inr (bearer node S d e)
+      by : (b : Bool) → has_digest node S d ≡ b → Contains (gaps node S) d ⊎ IsBorneIn node S d
+      by true e = inr (has_digest_from node S d e)
       by false e =
           let named = Contains-flat_map (λ y. (node y).names) S x d c n in
           inl (Contains-ascending (filter (λ c. not (has_digest node S c)) (flat_map (λ y. (node y).names) S)) d
           (Contains-filter (λ c. not (has_digest node S c)) (flat_map (λ y. (node y).names) S) d named (not_from_false (has_digest node S d) e)))
-
-  -- a gap is named by an entry and borne by none
-  pub gap_cases : (d : List ℕ) → Contains (gaps node S) d →
-      (x : T) × Contains S x × Contains (node x).names d × ((g : T) → Contains S g → (node g).digest ≢ d)
-  gap_cases d c =
-      let names = flat_map (λ y. (node y).names) S in
-      let free = λ (c : List ℕ). not (has_digest node S c) in
-      let kept = Contains-filter_cases free names d (Contains-ascending_cases (filter free names) d c) in
-      let r = Contains-flat_map_cases (λ y. (node y).names) S d kept.0 in
-      (r.0, r.1, r.2, λ g cg is. true≢false (sym (has_digest_of node S g d cg is) ∙ not-true (has_digest node S d) kept.1))
 
   module _ (machines : ℕ) (G : List T) (completion : Completion node machines S G) where
     kept_path : (f : T) (between : List T) (e : T) → IsPath node S f between e → IsPath node G f between e
