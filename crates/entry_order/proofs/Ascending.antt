@@ -7,36 +7,54 @@ use Rattle.std.specs.declared.cmp.Ordering.{Ordering}
 use Rattle.std.specs.declared.cmp.Ordering.TheVariants.{Less, Equal, Greater}
 use Rattle.std.proofs.lemmas.Cmp.{nat_list_cmp_total}
 use Rattle.std.proofs.lemmas.Map.Lookups.{exact_bytes}
-use Rattle.entry_order.specs.Ascending.{inserted, insert_digest, ascending, IsAscending, IsAscendingOf, AscendingIsUnique}
-use Rattle.entry_order.proofs.Lists.{Contains-none, Contains-head, Contains-later, Contains-at, Contains-cons_cases, Contains-filter_cases}
+use Rattle.entry_order.specs.Ascending.{inserted, insert_digest, ascending, IsAscending, IsAscendingOf}
+use Rattle.entry_order.specs.Ascending.{AscendingIsUnique}
+use Rattle.entry_order.proofs.Lists.{Contains-none, Contains-head, Contains-later, Contains-at, Contains-cons_cases}
+use Rattle.entry_order.proofs.Lists.{Contains-filter_cases}
 
 -- putting d in its place adds d alone
-added : (o : Ordering) (d c : List ℕ) (cs : List (List ℕ)) (y : List ℕ) → slice_cmp nat_cmp d c ≡ o → (d ≡ y) ⊎ Contains (c ∷ cs) y → ((d ≡ y) ⊎ Contains cs y → Contains (insert_digest d cs) y) → Contains (inserted o d c cs (insert_digest d cs)) y
+added : (o : Ordering) (d c : List ℕ) (cs : List (List ℕ)) (y : List ℕ) → slice_cmp nat_cmp d c ≡ o →
+    (d ≡ y) ⊎ Contains (c ∷ cs) y → ((d ≡ y) ⊎ Contains cs y → Contains (insert_digest d cs) y) →
+    Contains (inserted o d c cs (insert_digest d cs)) y
 added Less d c cs y is h rest = elim h [ inl e ↦ Contains-at d (c ∷ cs) y e | inr g ↦ Contains-later d (c ∷ cs) y g ]
 added Equal d c cs y is h rest = elim h [ inl e ↦ Contains-at c cs y (sym (exact_bytes d c is) ∙ e) | inr g ↦ g ]
 added Greater d c cs y is h rest =
-    let deeper : (d ≡ y) ⊎ Contains cs y → Contains (c ∷ insert_digest d cs) y = λ g. Contains-later c (insert_digest d cs) y (rest g) in
-    elim h [ inl e ↦ deeper (inl e) | inr g ↦ elim (Contains-cons_cases c cs y g) [ inl e ↦ Contains-at c (insert_digest d cs) y e | inr f ↦ deeper (inr f) ] ]
+    let deeper : (d ≡ y) ⊎ Contains cs y → Contains (c ∷ insert_digest d cs) y =
+    λ g. Contains-later c (insert_digest d cs) y (rest g) in
+    elim h [
+      | inl e ↦ deeper (inl e)
+      | inr g ↦ elim
+          (Contains-cons_cases c cs y g) [ inl e ↦ Contains-at c (insert_digest d cs) y e | inr f ↦ deeper (inr f) ]
+    ]
 
-pub Contains-insert_digest : (d : List ℕ) (ds : List (List ℕ)) (y : List ℕ) → (d ≡ y) ⊎ Contains ds y → Contains (insert_digest d ds) y
+pub Contains-insert_digest : (d : List ℕ) (ds : List (List ℕ)) (y : List ℕ) → (d ≡ y) ⊎ Contains ds y →
+    Contains (insert_digest d ds) y
 Contains-insert_digest d [] y h = elim h [ inl e ↦ Contains-at d [] y e | inr g ↦ absurd (Contains-none y g) ]
 Contains-insert_digest d (c ∷ cs) y h = added (slice_cmp nat_cmp d c) d c cs y refl h (Contains-insert_digest d cs y)
 
-taken_out : (o : Ordering) (d c : List ℕ) (cs : List (List ℕ)) (y : List ℕ) → Contains (inserted o d c cs (insert_digest d cs)) y → (Contains (insert_digest d cs) y → (d ≡ y) ⊎ Contains cs y) → (d ≡ y) ⊎ Contains (c ∷ cs) y
+taken_out : (o : Ordering) (d c : List ℕ) (cs : List (List ℕ)) (y : List ℕ) →
+    Contains (inserted o d c cs (insert_digest d cs)) y →
+    (Contains (insert_digest d cs) y → (d ≡ y) ⊎ Contains cs y) → (d ≡ y) ⊎ Contains (c ∷ cs) y
 taken_out Less d c cs y h rest = Contains-cons_cases d (c ∷ cs) y h
 taken_out Equal d c cs y h rest = inr h
 taken_out Greater d c cs y h rest =
-    elim (Contains-cons_cases c (insert_digest d cs) y h)
-    [ inl e ↦ inr (Contains-at c cs y e) | inr g ↦ elim (rest g) [ inl e ↦ inl e | inr f ↦ inr (Contains-later c cs y f) ] ]
+    elim (Contains-cons_cases c (insert_digest d cs) y h) [
+      | inl e ↦ inr (Contains-at c cs y e)
+      | inr g ↦ elim
+          (rest g) [ inl e ↦ inl e | inr f ↦ inr (Contains-later c cs y f) ]
+    ]
 
-pub Contains-insert_digest_cases : (d : List ℕ) (ds : List (List ℕ)) (y : List ℕ) → Contains (insert_digest d ds) y → (d ≡ y) ⊎ Contains ds y
+pub Contains-insert_digest_cases : (d : List ℕ) (ds : List (List ℕ)) (y : List ℕ) →
+    Contains (insert_digest d ds) y → (d ≡ y) ⊎ Contains ds y
 Contains-insert_digest_cases d [] y h = Contains-cons_cases d [] y h
-Contains-insert_digest_cases d (c ∷ cs) y h = taken_out (slice_cmp nat_cmp d c) d c cs y h (Contains-insert_digest_cases d cs y)
+Contains-insert_digest_cases d (c ∷ cs) y h =
+    taken_out (slice_cmp nat_cmp d c) d c cs y h (Contains-insert_digest_cases d cs y)
 
 pub Contains-ascending : (ds : List (List ℕ)) (y : List ℕ) → Contains ds y → Contains (ascending ds) y
 Contains-ascending [] y h = h
 Contains-ascending (d ∷ ds) y h =
-    let deeper : Contains ds y → Contains (insert_digest d (ascending ds)) y = λ g. Contains-insert_digest d (ascending ds) y (inr (Contains-ascending ds y g)) in
+    let deeper : Contains ds y → Contains (insert_digest d (ascending ds)) y =
+    λ g. Contains-insert_digest d (ascending ds) y (inr (Contains-ascending ds y g)) in
     elim (Contains-cons_cases d ds y h) [ inl e ↦ Contains-insert_digest d (ascending ds) y (inl e) | inr g ↦ deeper g ]
 
 pub Contains-ascending_cases : (ds : List (List ℕ)) (y : List ℕ) → Contains (ascending ds) y → Contains ds y
@@ -52,24 +70,53 @@ IsBelow d c = slice_cmp nat_cmp d c ≡ Less
 not_both : (x y : List ℕ) → IsBelow x y → IsBelow y x → ⊥
 not_both x y a b = let e : Less ≡ Greater = sym a ∙ nat_list_cmp_total.antisymm x y ∙ ap ordering_reverse b in cc
 
-pub same_ascending : (xs ys : List (List ℕ)) → IsAscending xs → IsAscending ys → ((d : List ℕ) → Contains xs d → Contains ys d) → ((d : List ℕ) → Contains ys d → Contains xs d) → xs ≡ ys
+pub same_ascending : (xs ys : List (List ℕ)) → IsAscending xs → IsAscending ys →
+    ((d : List ℕ) → Contains xs d → Contains ys d) → ((d : List ℕ) → Contains ys d → Contains xs d) → xs ≡ ys
 same_ascending [] [] a b to from = refl
 same_ascending [] (y ∷ ys) a b to from = absurd (Contains-none y (from y (Contains-head y ys)))
 same_ascending (x ∷ xs) [] a b to from = absurd (Contains-none x (to x (Contains-head x xs)))
 same_ascending (x ∷ xs) (y ∷ ys) a b to from =
     let heads : x ≡ y =
-    elim (Contains-cons_cases y ys x (to x (Contains-head x xs)))
-    [ inl e ↦ sym e | inr u ↦ elim (Contains-cons_cases x xs y (from y (Contains-head y ys))) [ inl e ↦ e | inr v ↦ absurd (not_both x y (a.0 y v) (b.0 x u)) ] ] in
+    elim (Contains-cons_cases y ys x (to x (Contains-head x xs))) [
+      | inl e ↦ sym e
+      | inr u ↦ elim
+          (Contains-cons_cases x xs y (from y (Contains-head y ys))) [
+            | inl e ↦ e
+            | inr v ↦ absurd
+                (not_both x y (a.0 y v) (b.0 x u))
+          ]
+    ] in
     let forth : (d : List ℕ) → Contains xs d → Contains ys d =
-    λ d c. elim (Contains-cons_cases y ys d (to d (Contains-later x xs d c))) [ inl e ↦ absurd (let l = a.0 d c in let m : IsBelow x x = subst (λ u. IsBelow x u) (sym (heads ∙ e)) l in not_both x x m m) | inr u ↦ u ] in
+    λ d c. elim
+    (Contains-cons_cases y ys d (to d (Contains-later x xs d c))) [
+      | inl e ↦ absurd
+          (let l = a.0 d c in let m : IsBelow x x = subst (λ u. IsBelow x u) (sym (heads ∙ e)) l in
+          not_both x x m m)
+      | inr u ↦ u
+    ] in
     let back : (d : List ℕ) → Contains ys d → Contains xs d =
-    λ d c. elim (Contains-cons_cases x xs d (from d (Contains-later y ys d c))) [ inl e ↦ absurd (let l = b.0 d c in let m : IsBelow y y = subst (λ u. IsBelow y u) (sym e ∙ heads) l in not_both y y m m) | inr u ↦ u ] in
+    λ d c. elim
+    (Contains-cons_cases x xs d (from d (Contains-later y ys d c))) [
+      | inl e ↦ absurd
+          (let l = b.0 d c in let m : IsBelow y y = subst (λ u. IsBelow y u) (sym e ∙ heads) l in
+          not_both y y m m)
+      | inr u ↦ u
+    ] in
     let tails : xs ≡ ys = same_ascending xs ys a.1 b.1 forth back in
     λ i. heads i ∷ tails i
 
-inserted_ascending : (o : Ordering) (d c : List ℕ) (cs after : List (List ℕ)) → slice_cmp nat_cmp d c ≡ o → IsAscending (c ∷ cs) → IsAscending after → ((x : List ℕ) → Contains after x → (d ≡ x) ⊎ Contains cs x) → IsAscending (inserted o d c cs after)
-inserted_ascending Less d c cs after is a b from =
-    (λ x h. elim (Contains-cons_cases c cs x h) [ inl e ↦ subst (λ u. IsBelow d u) e is | inr l ↦ nat_list_cmp_total.trans d c x is (a.0 x l) ], a)
+inserted_ascending : (o : Ordering) (d c : List ℕ) (cs after : List (List ℕ)) → slice_cmp nat_cmp d c ≡ o →
+    IsAscending (c ∷ cs) → IsAscending after → ((x : List ℕ) → Contains after x → (d ≡ x) ⊎ Contains cs x) →
+    IsAscending (inserted o d c cs after)
+inserted_ascending Less d c cs after is a b from = (
+  λ x h. elim
+      (Contains-cons_cases c cs x h) [
+        | inl e ↦ subst
+            (λ u. IsBelow d u) e is
+        | inr l ↦ nat_list_cmp_total.trans d c x is (a.0 x l)
+      ],
+  a,
+)
 inserted_ascending Equal d c cs after is a b from = a
 inserted_ascending Greater d c cs after is a b from =
     let below : IsBelow c d = nat_list_cmp_total.antisymm c d ∙ ap ordering_reverse is in
@@ -77,7 +124,9 @@ inserted_ascending Greater d c cs after is a b from =
 
 pub insert_digest_ascending : (d : List ℕ) (ds : List (List ℕ)) → IsAscending ds → IsAscending (insert_digest d ds)
 insert_digest_ascending d [] a = (λ c h. absurd (Contains-none c h), tt)
-insert_digest_ascending d (c ∷ cs) a = inserted_ascending (slice_cmp nat_cmp d c) d c cs (insert_digest d cs) refl a (insert_digest_ascending d cs a.1) (Contains-insert_digest_cases d cs)
+insert_digest_ascending d (c ∷ cs) a =
+    inserted_ascending (slice_cmp nat_cmp d c) d c cs (insert_digest d cs) refl a
+    (insert_digest_ascending d cs a.1) (Contains-insert_digest_cases d cs)
 
 pub ascending_ascending : (ds : List (List ℕ)) → IsAscending (ascending ds)
 ascending_ascending [] = tt
@@ -97,5 +146,11 @@ ascending_is_unique ds ordered = (
 pub filter_ascending : (p : List ℕ → Bool) (ds : List (List ℕ)) → IsAscending ds → IsAscending (filter p ds)
 filter_ascending p [] a = tt
 filter_ascending p (d ∷ ds) a =
-    elim (p d) as (λ b. IsAscending (cond b (d ∷ filter p ds) (filter p ds)))
-    [ true ↦ (λ c h. a.0 c (Contains-filter_cases p ds c h).0, filter_ascending p ds a.1) | false ↦ filter_ascending p ds a.1 ]
+    elim (p d) as (λ b. IsAscending (cond b (d ∷ filter p ds) (filter p ds))) [
+      | true ↦ (
+        λ c h. a.0 c
+            (Contains-filter_cases p ds c h).0,
+        filter_ascending p ds a.1,
+      )
+      | false ↦ filter_ascending p ds a.1
+    ]

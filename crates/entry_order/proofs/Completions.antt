@@ -10,7 +10,8 @@ use Rattle.entry_order.specs.Survivors.{gaps, IsGaps}
 use Rattle.entry_order.specs.Completion.{Completion}
 use Rattle.entry_order.specs.Settled.{NamesNoGap, IsWhole}
 use Rattle.entry_order.proofs.Lists.{Contains-filter, Contains-filter_cases, Contains-flat_map, Contains-flat_map_cases}
-use Rattle.entry_order.proofs.Ascending.{Contains-ascending, Contains-ascending_cases, same_ascending, ascending_ascending}
+use Rattle.entry_order.proofs.Ascending.{Contains-ascending, Contains-ascending_cases, same_ascending}
+use Rattle.entry_order.proofs.Ascending.{ascending_ascending}
 use Rattle.entry_order.proofs.Naming.{has_digest_of, has_digest_from}
 
 module _ {T : Type 0} (node : T → Node) (S : List T) where
@@ -19,9 +20,10 @@ module _ {T : Type 0} (node : T → Node) (S : List T) where
       let names = flat_map (λ y. (node y).names) S in
       let free = λ (c : List ℕ). not (has_digest node S c) in (
         λ c.
-            let kept = Contains-filter_cases free names d (Contains-ascending_cases (filter free names) d c) in
-            (Contains-flat_map_cases (λ y. (node y).names) S d kept.0,
-            λ borne. true≢false (sym (has_digest_of node S d borne) ∙ not-true (has_digest node S d) kept.1)),
+            let kept = Contains-filter_cases free names d (Contains-ascending_cases (filter free names) d c) in (
+              Contains-flat_map_cases (λ y. (node y).names) S d kept.0,
+              λ borne. true≢false (sym (has_digest_of node S d borne) ∙ not-true (has_digest node S d) kept.1),
+            ),
         λ (named, lost).
             let there = Contains-flat_map (λ y. (node y).names) S named.0 d named.1 named.2 in
             let none = false_from_ne_true (has_digest node S d) (λ t. lost (has_digest_from node S d t)) in
@@ -36,14 +38,16 @@ module _ {T : Type 0} (node : T → Node) (S : List T) where
   pub gaps_are_unique : (ds : List (List ℕ)) → (ds ≡ gaps node S) ↔ IsGaps node S ds
   gaps_are_unique ds =
       let digests = filter (λ d. not (has_digest node S d)) (flat_map (λ y. (node y).names) S) in (
-        λ is. subst (λ o. IsGaps node S o) (sym is) (record { rises = ascending_ascending digests; members = gap_members }),
+        λ is. subst (λ o. IsGaps node S o) (sym is)
+            (record { rises = ascending_ascending digests; members = gap_members }),
         λ is.
             same_ascending ds (gaps node S) is.rises (ascending_ascending digests)
             (λ d c. (gap_members d).1 ((is.members d).0 c)) (λ d c. (is.members d).1 ((gap_members d).0 c)),
       )
 
   -- a named digest is a gap, or an entry has it
-  pub gap_or_bearer : (x : T) (d : List ℕ) → Contains S x → Contains (node x).names d → Contains (gaps node S) d ⊎ IsBorneIn node S d
+  pub gap_or_bearer : (x : T) (d : List ℕ) → Contains S x → Contains (node x).names d →
+      Contains (gaps node S) d ⊎ IsBorneIn node S d
   gap_or_bearer x d c n = by (has_digest node S d) refl
     where
       by : (b : Bool) → has_digest node S d ≡ b → Contains (gaps node S) d ⊎ IsBorneIn node S d
@@ -51,7 +55,8 @@ module _ {T : Type 0} (node : T → Node) (S : List T) where
       by false e =
           let named = Contains-flat_map (λ y. (node y).names) S x d c n in
           inl (Contains-ascending (filter (λ c. not (has_digest node S c)) (flat_map (λ y. (node y).names) S)) d
-          (Contains-filter (λ c. not (has_digest node S c)) (flat_map (λ y. (node y).names) S) d named (not_from_false (has_digest node S d) e)))
+          (Contains-filter (λ c. not (has_digest node S c)) (flat_map (λ y. (node y).names) S) d named
+          (not_from_false (has_digest node S d) e)))
 
   module _ (machines : ℕ) (G : List T) (completion : Completion node machines S G) where
     kept_path : (f : T) (between : List T) (e : T) → IsPath node S f between e → IsPath node G f between e
@@ -69,7 +74,8 @@ module _ {T : Type 0} (node : T → Node) (S : List T) where
         λ r. subst (λ (u : T). Contains S u) (completion.distinct r.0 f (completion.keeps r.0 r.1) cf r.2) r.1 in
         elim (gap_or_bearer x (node f).digest cx n) [ inl gap ↦ absurd (whole (node f).digest n gap) | inr r ↦ same r ]
 
-    survives : (x : T) → Contains S x → IsWhole node S x → (f : T) (between : List T) → Contains G f → IsPath node G f between x → Contains S f × IsPath node S f between x
+    survives : (x : T) → Contains S x → IsWhole node S x → (f : T) (between : List T) → Contains G f →
+        IsPath node G f between x → Contains S f × IsPath node S f between x
     survives x cx whole f [] cf n = (named_survives x f cx whole.itself cf n, n)
     survives x cx whole f (g ∷ gs) cf p =
         let rest = survives x cx whole g gs p.0 p.2 in

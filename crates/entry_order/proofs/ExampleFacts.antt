@@ -11,7 +11,8 @@ use Rattle.entry_order.specs.HeldBefore.{HeldBefore, HeldBefore.itself, HeldBefo
 use Rattle.entry_order.specs.Precedes.{Precedes}
 use Rattle.entry_order.specs.Settled.{NamesNoGap, IsWhole}
 use Rattle.entry_order.specs.Made.{DigestTellsNumber}
-use Rattle.entry_order.specs.Example.{Entry, digest_of, shown, made, next, world, a0, a1, b0, b1, c0, c1, left, IsExample}
+use Rattle.entry_order.specs.Example.{Entry, digest_of, shown, made, next, world, a0, a1, b0, b1, c0, c1, left}
+use Rattle.entry_order.specs.Example.{IsExample}
 use Rattle.entry_order.proofs.Lists.{Contains-none, Contains-cons_cases}
 use Rattle.entry_order.proofs.Naming.{is_named_of}
 use Rattle.entry_order.proofs.Strays.{rises_along}
@@ -28,7 +29,8 @@ pub tells_number : DigestTellsNumber shown
 tells_number e f is = (cc, cc)
 
 -- from an entry that none of E names no path leads on
-pub no_path : {T : Type 0} (node : T → Node) (E : List T) (f : T) → is_named node E (node f).digest ≡ false → (e : T) → ¬ (Precedes node E f e)
+pub no_path : {T : Type 0} (node : T → Node) (E : List T) (f : T) → is_named node E (node f).digest ≡ false →
+    (e : T) → ¬ (Precedes node E f e)
 no_path node E f free e (cf, ce, [], n) = true≢false (sym (is_named_of node E (node f).digest (e, ce, n)) ∙ free)
 no_path node E f free e (cf, ce, g ∷ gs, p) = true≢false (sym (is_named_of node E (node f).digest (g, p.0, p.1)) ∙ free)
 
@@ -44,13 +46,19 @@ held_before =
     (itself (Got a0 ∷ Sent b0 ∷ []) (1, [], refl) (1, omega arith, refl))
 
 precedes : Precedes shown (sent_in world) b0 c0
-precedes = ((2, omega arith, refl), (4, omega arith, refl), b1 ∷ [], ((3, omega arith, refl), (0, omega arith, refl), (1, omega arith, refl)))
+precedes = (
+  (2, omega arith, refl),
+  (4, omega arith, refl),
+  b1 ∷ [],
+  ((3, omega arith, refl), (0, omega arith, refl), (1, omega arith, refl)),
+)
 
 -- what a1 names is no gap
 names_no_gap : NamesNoGap shown left a1
 names_no_gap d named gap =
     elim (Contains-cons_cases (digest_of 0 0) [] d named) [
-      | inl is ↦ elim (Contains-cons_cases (digest_of 1 0) [] d gap) [ inl lost ↦ cc | inr none ↦ absurd (Contains-none d none) ]
+      | inl is ↦ elim
+          (Contains-cons_cases (digest_of 1 0) [] d gap) [ inl lost ↦ cc | inr none ↦ absurd (Contains-none d none) ]
       | inr none ↦ absurd (Contains-none d none)
     ]
 

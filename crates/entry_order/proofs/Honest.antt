@@ -1,5 +1,6 @@
 -- What is left of an honest place.
-use Rattle.std.proofs.Common.{◌≡◌, ℕ, ◌<◌, Bool, true, false, cond, List, [], ◌∷◌, ◌++◌, length, refl, sym, ap, subst, ◌∙◌, arith}
+use Rattle.std.proofs.Common.{◌≡◌, ℕ, ◌<◌, Bool, true, false, cond, List, [], ◌∷◌, ◌++◌, length, refl, sym, ap, subst}
+use Rattle.std.proofs.Common.{◌∙◌, arith}
 use Rattle.std.specs.Prelude.{not}
 use Rattle.std.specs.List.{Contains, filter}
 use Rattle.std.proofs.lemmas.Bool.{not_from_false}
@@ -26,19 +27,23 @@ use Rattle.entry_order.proofs.Settled.{settled, at_place}
 filter_all : {X : Type 0} (p : X → Bool) (xs : List X) → ((x : X) → Contains xs x → p x ≡ true) → filter p xs ≡ xs
 filter_all p [] each = refl
 filter_all p (x ∷ xs) each =
-    ap (λ b. cond b (x ∷ filter p xs) (filter p xs)) (each x (Contains-head x xs)) ∙ ap (λ ys. x ∷ ys) (filter_all p xs (λ y c. each y (Contains-later x xs y c)))
+    ap (λ b. cond b (x ∷ filter p xs) (filter p xs)) (each x (Contains-head x xs))
+    ∙ ap (λ ys. x ∷ ys) (filter_all p xs (λ y c. each y (Contains-later x xs y c)))
 
 -- in one history, the entry that was sent after so many others is one
-nth_sent : {T : Type 0} (p q : List (Event T)) (e f : T) (l m : List (Event T)) → p ++ Sent e ∷ l ≡ q ++ Sent f ∷ m → length (sent p) ≡ length (sent q) → e ≡ f
+nth_sent : {T : Type 0} (p q : List (Event T)) (e f : T) (l m : List (Event T)) →
+    p ++ Sent e ∷ l ≡ q ++ Sent f ∷ m → length (sent p) ≡ length (sent q) → e ≡ f
 nth_sent [] [] e f l m s n = cc
 nth_sent [] (Sent g ∷ q) e f l m s n = absurd (omega arith)
 nth_sent [] (Got g ∷ q) e f l m s n = cc
 nth_sent (Sent g ∷ p) [] e f l m s n = absurd (omega arith)
 nth_sent (Got g ∷ p) [] e f l m s n = cc
-nth_sent (Sent g ∷ p) (Sent h ∷ q) e f l m s n = let tail : p ++ Sent e ∷ l ≡ q ++ Sent f ∷ m = cc in nth_sent p q e f l m tail (omega arith)
+nth_sent (Sent g ∷ p) (Sent h ∷ q) e f l m s n =
+    let tail : p ++ Sent e ∷ l ≡ q ++ Sent f ∷ m = cc in nth_sent p q e f l m tail (omega arith)
 nth_sent (Sent g ∷ p) (Got h ∷ q) e f l m s n = cc
 nth_sent (Got g ∷ p) (Sent h ∷ q) e f l m s n = cc
-nth_sent (Got g ∷ p) (Got h ∷ q) e f l m s n = let tail : p ++ Sent e ∷ l ≡ q ++ Sent f ∷ m = cc in nth_sent p q e f l m tail n
+nth_sent (Got g ∷ p) (Got h ∷ q) e f l m s n =
+    let tail : p ++ Sent e ∷ l ≡ q ++ Sent f ∷ m = cc in nth_sent p q e f l m tail n
 
 -- a list without a member is empty
 none_inside : {X : Type 0} (xs : List X) → ((x : X) → Contains xs x → ⊥) → xs ≡ []
@@ -58,7 +63,8 @@ module _ {T : Type 0} (node : T → Node) (w : World T) (orderly : IsOrderly nod
   lacks_nothing : (d : List ℕ) → IsNamedIn node (sent_in w) d → IsBorneIn node (sent_in w) d
   lacks_nothing d (e, c, n) =
       let a = was_sent w e c in
-      let r = frontier_entry node (held a.0) d (subst (λ (ds : List (List ℕ)). Contains ds d) (next_of node w orderly a.0 e a.1).names n) in
+      let r = frontier_entry node (held a.0) d
+      (subst (λ (ds : List (List ℕ)). Contains ds d) (next_of node w orderly a.0 e a.1).names n) in
       (r.0, held_was_sent node w orderly a.0 e a.1 r.0 r.1, r.2)
 
   in_roster : (machines : ℕ) → length w ≡ machines → (e : T) → Contains (sent_in w) e → (node e).maker < machines
@@ -68,19 +74,29 @@ module _ {T : Type 0} (node : T → Node) (w : World T) (orderly : IsOrderly nod
       let maker = (next_of node w orderly a.0 e a.1).maker in
       omega arith
 
-  module _ (distinct : Distinct node (sent_in w)) (machines : ℕ) (count : length w ≡ machines) (given : List T) (were_sent : (e : T) → Contains given e → Contains (sent_in w) e) where
+  module _ (distinct : Distinct node (sent_in w)) (machines : ℕ) (count : length w ≡ machines) (given : List T)
+      (were_sent : (e : T) → Contains given e → Contains (sent_in w) e) where
     no_stray : (e : T) → Contains given e → is_stray node given e ≡ false
     no_stray e c = no_stray_from node given e (λ (g, cg, names, high).
         let up = rises node w orderly distinct g e (were_sent g cg) (were_sent e c) names in
         absurd (omega arith))
 
     completed : Completion node machines given (sent_in w)
-    completed = record { in_roster = in_roster machines count; keeps = were_sent; distinct = distinct; lacks_nothing = lacks_nothing }
+    completed =
+        record {
+          in_roster = in_roster machines count;
+          keeps = were_sent;
+          distinct = distinct;
+          lacks_nothing =
+              lacks_nothing;
+        }
 
     order : OrderIsHeld node w given
     order parents ragged graph y x f e fy ex =
         let s = settled node machines given parents ragged graph y x f e fy ex in
-        let same = one_order node w orderly distinct f e (were_sent f (at_place given y f fy)) (were_sent e (at_place given x e ex)) in
+        let same =
+        one_order node w orderly distinct f e (were_sent f (at_place given y f fy))
+        (were_sent e (at_place given x e ex)) in
         (λ t. same.0 (s.0 t (sent_in w) completed), λ t h. s.1 t (sent_in w) completed (same.1 h))
 
     module _ (all : (e : T) → Contains (sent_in w) e → Contains given e) where
@@ -101,7 +117,9 @@ module _ {T : Type 0} (node : T → Node) (w : World T) (orderly : IsOrderly nod
 
     agrees : AgreesWith node machines w given
     agrees = record {
-      survive = filter_all (λ e. not (is_stray node given e)) given (λ e c. not_from_false (is_stray node given e) (no_stray e c));
+      survive =
+          filter_all (λ e. not (is_stray node given e)) given
+          (λ e c. not_from_false (is_stray node given e) (no_stray e c));
       no_fork = λ e f ce cf. no_fork e f (were_sent e ce) (were_sent f cf);
       completed = completed;
       order = order;

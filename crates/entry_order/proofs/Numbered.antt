@@ -13,8 +13,10 @@ use Rattle.entry_order.proofs.Strays.{stamp_rises}
 use Rattle.entry_order.proofs.Settled.{at_place}
 
 module _ {T : Type 0} (node : T → Node) where
-  pub descends_by_stamp : (S : List T) (parents : ℕ → List ℕ) → IsNonDecreasingBy (λ e. (node e).stamp) S → ((e : T) → Contains S e → ¬ (IsStray node S e)) →
-      ((i p : ℕ) → Contains (parents i) p → (e : T) × (f : T) × (slice_get S i ≡ Some e) × (slice_get S p ≡ Some f) × Names node e f) → Descends parents
+  pub descends_by_stamp : (S : List T) (parents : ℕ → List ℕ) → IsNonDecreasingBy (λ e. (node e).stamp) S →
+      ((e : T) → Contains S e → ¬ (IsStray node S e)) →
+      ((i p : ℕ) → Contains (parents i) p →
+      (e : T) × (f : T) × (slice_get S i ≡ Some e) × (slice_get S p ≡ Some f) × Names node e f) → Descends parents
   descends_by_stamp S parents sorted sound arrows i p c =
       let r = arrows i p c in
       let up = stamp_rises node S r.0 r.1 (sound r.0 (at_place S i r.0 r.2)) (at_place S p r.1 r.3) r.4 in

@@ -30,7 +30,8 @@ distinct e f ce cf is =
       | inr c ↦ elim (Contains-cons_cases sent_by_b [] e c) [
         | inl eb ↦ elim (Contains-cons_cases sent_by_a (sent_by_b ∷ []) f cf) [
           | inl fa ↦ cc
-          | inr c ↦ elim (Contains-cons_cases sent_by_b [] f c) [ inl fb ↦ sym eb ∙ fb | inr none ↦ absurd (Contains-none f none) ]
+          | inr c ↦ elim
+              (Contains-cons_cases sent_by_b [] f c) [ inl fb ↦ sym eb ∙ fb | inr none ↦ absurd (Contains-none f none) ]
         ]
         | inr none ↦ absurd (Contains-none e none)
       ]

@@ -25,7 +25,8 @@ ascending (d ∷ ds) = insert_digest d (ascending ds)
 -- each digest is below all later ones in the order of their bytes
 abbrev pub IsAscending : List (List ℕ) → Type 0
 IsAscending [] = Unit {0}
-IsAscending (d ∷ ds) = ((c : List ℕ) → Contains ds c → slice_cmp nat_cmp d c ≡ Less) × IsAscending ds
+IsAscending (d ∷ ds) =
+    ((c : List ℕ) → Contains ds c → slice_cmp nat_cmp d c ≡ Less) × IsAscending ds
 
 -- the list is ascending and has exactly the members of ds
 pub record IsAscendingOf (ds ordered : List (List ℕ)) : Type 0 where
@@ -34,4 +35,5 @@ pub record IsAscendingOf (ds ordered : List (List ℕ)) : Type 0 where
 
 -- that says which list it is
 abbrev pub AscendingIsUnique : Type 0
-AscendingIsUnique = (ds ordered : List (List ℕ)) → (ordered ≡ ascending ds) ↔ IsAscendingOf ds ordered
+AscendingIsUnique =
+    (ds ordered : List (List ℕ)) → (ordered ≡ ascending ds) ↔ IsAscendingOf ds ordered

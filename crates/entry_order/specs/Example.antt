@@ -1,4 +1,4 @@
--- A small world, computed: three machines A, B and C, an entry that is lost on its way and then heard late.
+-- A small world, computed: three machines A, B and C, and an entry that one of them hears late.
 use Rattle.std.specs.Prelude.{◌≡◌, ℕ, true, List, [], ◌∷◌, Option}
 use Rattle.entry_order.specs.declared.event.Event.{Event}
 use Rattle.entry_order.specs.declared.event.Event.TheVariants.{Sent, Got}
@@ -39,11 +39,12 @@ made m n s names = record { maker = m; number = n; stamp = s; names = names }
 abbrev pub next : ℕ → List (Event Entry) → Option Entry
 next = next_made shown made (λ m h. true)
 
--- A sends; B hears it and sends twice; C hears A's and B's second, sends, hears B's first and sends again; A sends again
+-- A sends a0; B hears it and sends b0 and b1; C hears a0 and b1, sends c0, hears b0, sends c1; A sends a1
 abbrev pub world : World Entry
 world =
     play shown next 64 (start 3)
-    (Act 0 ∷ Hear 1 0 0 ∷ Act 1 ∷ Act 1 ∷ Hear 2 0 0 ∷ Hear 2 1 1 ∷ Act 2 ∷ Hear 2 1 0 ∷ Act 2 ∷ Act 0 ∷ [])
+    (Act 0 ∷ Hear 1 0 0 ∷ Act 1 ∷ Act 1
+    ∷ Hear 2 0 0 ∷ Hear 2 1 1 ∷ Act 2 ∷ Hear 2 1 0 ∷ Act 2 ∷ Act 0 ∷ [])
 
 -- what they send names what each then holds and nothing that it holds names
 abbrev pub a0 : Entry

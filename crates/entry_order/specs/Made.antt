@@ -1,5 +1,6 @@
 -- A machine whose next entry is made of its number, its stamp and its names.
-use Rattle.std.specs.Prelude.{◌≡◌, ℕ, ◌+◌, Bool, not, ◌&&◌, List, Option, Some, None, length, if◌then◌else◌}
+use Rattle.std.specs.Prelude.{◌≡◌, ℕ, ◌+◌, Bool, not, ◌&&◌, if◌then◌else◌}
+use Rattle.std.specs.Prelude.{List, length, Option, Some, None}
 use Rattle.entry_order.specs.declared.event.Event.{Event}
 use Rattle.entry_order.specs.declared.step.Step.{Step}
 use Rattle.entry_order.specs.Node.{Node}
@@ -11,7 +12,8 @@ use Rattle.entry_order.specs.World.{start, sent_in, IsLawful, play}
 module _ {T : Type 0} (node : T → Node) (made : ℕ → ℕ → ℕ → List (List ℕ) → T) where
   -- the entry that machine m makes after the history h
   abbrev pub made_after : ℕ → List (Event T) → T
-  made_after m h = made m (length (sent h)) (1 + greatest_stamp node (held h)) (frontier node (held h))
+  made_after m h =
+      made m (length (sent h)) (1 + greatest_stamp node (held h)) (frontier node (held h))
 
   -- it is sent where the rules allow it and its digest is new
   abbrev pub next_made : (ℕ → List (Event T) → Bool) → ℕ → List (Event T) → Option T
@@ -29,7 +31,8 @@ module _ {T : Type 0} (node : T → Node) (made : ℕ → ℕ → ℕ → List (
 
   -- so whatever the rules allow, it is what a legal history asks
   abbrev pub MadeIsLawful : Type 0
-  MadeIsLawful = ShowsItsParts → (allowed : ℕ → List (Event T) → Bool) → IsLawful node (next_made allowed)
+  MadeIsLawful =
+      ShowsItsParts → (allowed : ℕ → List (Event T) → Bool) → IsLawful node (next_made allowed)
 
 -- two entries with one digest are of one maker and have one number
 abbrev pub DigestTellsNumber : {T : Type 0} → (T → Node) → Type 0

@@ -11,10 +11,13 @@ module _ {T : Type 0} (node : T → Node) where
   abbrev pub IsStray : List T → T → Type 0
   IsStray given e = (g : T) × Contains given g × Names node e g × ((node e).stamp ≤ (node g).stamp)
 
-  -- the test of it
+  -- whether e names g, whose stamp isn't lower
+  abbrev pub names_later : T → T → Bool
+  names_later e g = names_digest node e (node g).digest && nat_le (node e).stamp (node g).stamp
+
+  -- whether e is a stray
   abbrev pub is_stray : List T → T → Bool
-  is_stray given e =
-      list_any (λ g. names_digest node e (node g).digest && nat_le (node e).stamp (node g).stamp) given
+  is_stray given e = list_any (λ g. names_later e g) given
 
   -- the given entries without strays
   abbrev pub survivors : List T → List T

@@ -1,5 +1,4 @@
--- Why the frontier asks of every held entry whether it names: one that only drops what each new entry names keeps an
--- entry that is heard late.
+-- Why the frontier asks every held entry what it names: else it keeps an entry that is heard late.
 use Rattle.std.specs.Prelude.{◌≡◌, ℕ, not, List, [], ◌∷◌}
 use Rattle.std.specs.List.{Contains, filter, fold}
 use Rattle.entry_order.specs.Naming.{IsNamedIn, names_digest}
@@ -7,10 +6,13 @@ use Rattle.entry_order.specs.Ascending.{ascending}
 use Rattle.entry_order.specs.Frontier.{frontier, IsFrontier}
 use Rattle.entry_order.specs.Example.{Entry, digest_of, shown, b0, b1}
 
--- each new entry's digest comes in, and what it names goes out
+-- what e names goes out of the digests, and its own comes in
+abbrev pub arrived : List (List ℕ) → Entry → List (List ℕ)
+arrived ds e = (shown e).digest ∷ filter (λ d. not (names_digest shown e d)) ds
+
+-- the digests that are left when all entries have arrived, in order
 abbrev pub frontier_by_arrival : List Entry → List (List ℕ)
-frontier_by_arrival es =
-    ascending (fold (λ ds e. (shown e).digest ∷ filter (λ d. not (names_digest shown e d)) ds) [] es)
+frontier_by_arrival es = ascending (fold arrived [] es)
 
 -- b1 is heard first and names b0
 abbrev pub heard : List Entry

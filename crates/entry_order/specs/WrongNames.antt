@@ -1,4 +1,4 @@
--- Why an entry names the whole frontier: where machines name only their own last entry, the law fails.
+-- Why an entry names the frontier: where machines name only their own last entry, the law fails.
 use Rattle.std.specs.Prelude.{ℕ, ◌+◌, List, [], ◌∷◌, length, Option, Some}
 use Rattle.entry_order.specs.declared.event.Event.{Event}
 use Rattle.entry_order.specs.declared.step.Step.TheVariants.{Act, Hear}
@@ -16,7 +16,8 @@ last_digest (e ∷ f ∷ es) = last_digest (f ∷ es)
 
 -- what a machine sends that names only its own last entry
 abbrev pub next_of_own : ℕ → List (Event Entry) → Option Entry
-next_of_own m h = Some (made m (length (sent h)) (1 + greatest_stamp shown (held h)) (last_digest (sent h)))
+next_of_own m h =
+    Some (made m (length (sent h)) (1 + greatest_stamp shown (held h)) (last_digest (sent h)))
 
 -- A sends; B hears it and sends
 abbrev pub world : World Entry

@@ -5,7 +5,8 @@ ghost use Rattle.entry_order.specs.WrongFrontier.{ArrivalFails};
 ghost use Rattle.entry_order.specs.WrongNames.{OwnLastFails};
 ghost use Rattle.entry_order.specs.WrongStrays.{ByOthersFails};
 
-/// A world of three machines, an entry that one of them hears late, and what is left where it is lost.
+/// A world of three machines and an entry that one of them hears late, and what is left where it
+/// is lost.
 pub fn three_machines()
     ensures { IsExample }
 {}

@@ -1,6 +1,6 @@
-//! The order of entries that name one another by digest: what machines hold, what precedes what, and what an
-//! auditor can say of it when entries are lost. Definitions stand in `specs/`; each law about them is the
-//! contract of a function with an empty body.
+//! The order of entries that name one another by digest: what machines hold, what precedes what,
+//! and what an auditor can say of it when entries are lost. The definitions stand in `specs/`, and
+//! each law about them is the contract of a function with an empty body.
 #![tactic(auto)]
 
 mod event;
