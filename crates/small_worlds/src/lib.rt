@@ -1,0 +1,12 @@
+//! Small worlds of machines, computed by the definitions, however slowly: the steps, what was held
+//! before, paths of names, frontiers, gaps and strays. Each call's contract is the definition.
+#![tactic(auto)]
+
+mod held;
+mod machine;
+mod naming;
+mod world;
+
+pub use held::held_before;
+pub use machine::{Process, Sender};
+pub use world::{act, hear, play, run, stop, take_step};
