@@ -2,11 +2,13 @@
 //! before, paths of names, frontiers, gaps and strays. Each call's contract is the definition.
 #![tactic(auto)]
 
+mod digests;
 mod held;
 mod machine;
 mod naming;
 mod world;
 
+pub use digests::{ascending, frontier, gaps, is_stray};
 pub use held::held_before;
 pub use machine::{Process, Sender};
 pub use world::{act, hear, play, run, stop, take_step};
