@@ -6,9 +6,11 @@ mod digests;
 mod held;
 mod machine;
 mod naming;
+mod paths;
 mod world;
 
 pub use digests::{ascending, frontier, gaps, is_stray};
 pub use held::held_before;
 pub use machine::{Process, Sender};
+pub use paths::precedes;
 pub use world::{act, hear, play, run, stop, take_step};
