@@ -13,4 +13,4 @@ pub use digests::{ascending, frontier, gaps, is_stray};
 pub use held::held_before;
 pub use machine::{Process, Sender};
 pub use paths::precedes;
-pub use world::{act, hear, play, run, stop, take_step};
+pub use world::{act, all_sent, hear, play, run, start, stop, take_step};

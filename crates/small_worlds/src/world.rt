@@ -1,19 +1,28 @@
 //! The steps of a small world.
 
-ghost use Rattle.std.specs.Prelude.{◌≡◌, IfOk, OnOk, OnErr, slice_get, length};
+ghost use Rattle.std.specs.Prelude.{◌≡◌, ◌++◌, IfOk, OnOk, OnErr, slice_get, length};
 ghost use Rattle.entry_order.specs.History.{sent};
 ghost use Rattle.entry_order.specs.Naming.{Distinct};
 ghost use Rattle.entry_order.specs.World.{start, happens, play, history, sent_in};
-ghost use Rattle.entry_order.specs.Receipt.{OrderIsReceiptIn};
+ghost use Rattle.entry_order.specs.Receipt.{IsOrderly, OrderIsReceiptIn};
 ghost use Rattle.entry_order.specs.declared.step.Step.TheVariants.{Act, Hear, Stop};
 
 use crate::machine::{Sender, Process};
-use entry_order::Step;
+use entry_order::{Event, Step};
 use std::alloc::{AllocError, Global};
 
-/// All steps, in order, from the start. Where different entries have different digests, an entry
-/// precedes another by names exactly where the other's maker held it, or something that has it
-/// before, when it sent.
+/// So many machines before anything happens.
+pub fn start<T: Sender>(alloc: Global, count: u32) -> Result<Vec<Process<T>>, AllocError>
+    ensures { IfOk result (λ machines. machines.items ≡ start count) }
+{
+    let mut machines = Vec::new(alloc);
+    for _place in 0..count {
+        machines.push(Process::new(alloc))?;
+    }
+    Ok(machines)
+}
+
+/// All steps, in order, from the start.
 pub fn run<T: Sender>(
     alloc: Global,
     log: usize,
@@ -21,7 +30,11 @@ pub fn run<T: Sender>(
     steps: &[Step],
 ) -> Result<(), AllocError>
     requires { machines.old ≡ start (length machines.old) }
-    ensures { OnOk result (Distinct T.node (sent_in machines.new) → OrderIsReceiptIn T.node machines.new) }
+    ensures played { OnOk result
+        (machines.new ≡ play T.node T.next log (start (length machines.old)) steps.now) }
+    ensures orderly { OnOk result (IsOrderly T.node machines.new) }
+    ensures order { OnOk result
+        (Distinct T.node (sent_in machines.new) → OrderIsReceiptIn T.node machines.new) }
 {
     play(alloc, log, machines, steps)
 }
@@ -129,4 +142,31 @@ fn sent_at<T: Sender>(
     } else {
         Ok(None)
     }
+}
+
+/// Copies of all entries that were sent, machine by machine.
+pub fn all_sent<T: Sender>(alloc: Global, machines: &[Process<T>]) -> Result<Vec<T>, AllocError>
+    ensures { IfOk result (λ entries. entries.items ≡ sent_in machines.now) }
+{
+    let mut entries = Vec::new(alloc);
+    for machine in machines {
+        push_sent(alloc, machine.events(), &mut entries)?;
+    }
+    Ok(entries)
+}
+
+// Adds copies of what was sent in this history.
+fn push_sent<T: Sender>(
+    alloc: Global,
+    history: &[Event<T>],
+    entries: &mut Vec<T>,
+) -> Result<(), AllocError>
+    ensures { OnOk result (entries.new.items ≡ entries.old.items ++ sent history.now) }
+{
+    for event in history {
+        if let Event::Sent(entry) = event {
+            entries.push(entry.copy(alloc)?)?;
+        }
+    }
+    Ok(())
 }
