@@ -10,7 +10,7 @@ ghost use Rattle.entry_order.specs.Receipt.{IsOrderly};
 use crate::machine::{Sender, Process};
 use entry_order::{Event, Knot};
 use std::alloc::{AllocError, Global};
-use crate::naming::greatest_stamp;
+use crate::history::clock;
 
 fn raise(counts: &mut [usize], maker: usize, number: usize)
     requires { number < 2 ^ 32 }
@@ -83,7 +83,7 @@ fn top_of<T: Sender>(machines: &[Process<T>], machine: usize) -> u32
     requires { machine < length machines.now }
     ensures { result ≡ greatest_stamp T.node (held (history machines.now machine)) }
 {
-    greatest_stamp(machines[machine].events())
+    clock(machines[machine].events())
 }
 
 fn is_counted<T: Sender>(

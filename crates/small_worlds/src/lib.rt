@@ -4,6 +4,7 @@
 
 mod digests;
 mod held;
+mod history;
 mod machine;
 mod naming;
 mod paths;
@@ -11,6 +12,7 @@ mod world;
 
 pub use digests::{ascending, frontier, gaps, is_stray};
 pub use held::held_before;
+pub use history::{clock, held_frontier, holds, sent_count};
 pub use machine::{Process, Sender};
 pub use paths::precedes;
 pub use world::{act, all_sent, hear, play, run, start, stop, take_step};

@@ -9,7 +9,7 @@ ghost use Rattle.entry_order.specs.World.{IsLawful, cannot_hear, hear, send, sto
 use entry_order::{Event, Knot};
 use std::alloc::{AllocError, Global};
 use std::marker::Model;
-use crate::naming::has_digest;
+use crate::history::holds;
 
 /// An entry that machines can make.
 pub trait Sender: Knot + Drop {
@@ -100,7 +100,7 @@ impl<T: Sender> Process<T> {
     pub fn holds(&self, digest: &[u8; 32]) -> bool
         ensures { result ≡ has_digest T.node (held self.now.history) digest.now }
     {
-        has_digest(&self.history, digest)
+        holds(&self.history, digest)
     }
 
     fn cannot_hear(&self, log: usize, digest: &[u8; 32]) -> bool
