@@ -5,9 +5,10 @@ ghost use Rattle.std.specs.List.{filter, flat_map};
 ghost use Rattle.entry_order.specs.Ascending.{ascending, insert_digest};
 ghost use Rattle.entry_order.specs.Frontier.{frontier};
 ghost use Rattle.entry_order.specs.Naming.{is_named, has_digest};
-ghost use Rattle.entry_order.specs.Survivors.{gaps, is_stray, names_later};
+ghost use Rattle.entry_order.specs.Survivors.{gaps, is_stray, names_later, survivors};
 ghost use Rattle.small_worlds.specs.Digests.{put_at};
 
+use crate::machine::Sender;
 use crate::naming::{has_digest, is_named, names_digest};
 use entry_order::Knot;
 use std::alloc::{AllocError, Global};
@@ -126,4 +127,17 @@ fn names_later<T: Knot>(entry: &T, other: &T) -> bool
 {
     let names = names_digest(entry, other.digest());
     names && entry.stamp() <= other.stamp()
+}
+
+/// Copies of the survivors of those given.
+pub fn survivors<T: Sender>(alloc: Global, given: &[T]) -> Result<Vec<T>, AllocError>
+    ensures { IfOk result (λ kept. kept.items ≡ survivors T.node given.now) }
+{
+    let mut kept = Vec::new(alloc);
+    for entry in given {
+        if !is_stray(given, entry) {
+            kept.push(entry.copy(alloc)?)?;
+        }
+    }
+    Ok(kept)
 }

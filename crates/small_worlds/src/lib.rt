@@ -10,7 +10,7 @@ mod naming;
 mod paths;
 mod world;
 
-pub use digests::{ascending, frontier, gaps, is_stray};
+pub use digests::{ascending, frontier, gaps, is_stray, survivors};
 pub use held::held_before;
 pub use history::{clock, held_frontier, holds, sent_count};
 pub use machine::{Process, Sender};
