@@ -7,13 +7,13 @@ use Rattle.entry_order.specs.History.{held}
 use Rattle.entry_order.specs.World.{World, start, play}
 use Rattle.entry_order.specs.HeldBefore.{WasSentAfter, HeldBefore, HeldBefore.itself, HeldBefore.descendant}
 use Rattle.entry_order.specs.Receipt.{IsOrderly}
-use Rattle.entry_order.specs.Forms.{Held, IsChain, HeldByChain, HeldWithin, FormsAgree}
-use Rattle.entry_order.proofs.Frontiers.{stamp_below}
+use Rattle.entry_order.specs.Forms.{HeldItself, IsChain, HeldByChain, HeldWithin, FormsAgree}
+use Rattle.entry_order.proofs.Stamps.{stamp_below}
 use Rattle.entry_order.proofs.Orders.{along, next_of}
 use Rattle.entry_order.proofs.Plays.{IsOrderly-play, IsOrderly-start}
 
 module _ {T : Type 0} (w : World T) where
-  chain_on : (f : T) (gs : List T) (g e : T) → IsChain w f gs g → Held w g e → IsChain w f (gs ++ g ∷ []) e
+  chain_on : (f : T) (gs : List T) (g e : T) → IsChain w f gs g → HeldItself w g e → IsChain w f (gs ++ g ∷ []) e
   chain_on f [] g e c h = (c, h)
   chain_on f (d ∷ gs) g e c h = (c.0, chain_on d gs g e c.1 h)
 
@@ -23,7 +23,8 @@ module _ {T : Type 0} (w : World T) where
 
   pub to_chain : (f e : T) → HeldBefore w f e → HeldByChain w f e
   to_chain f e (itself past s c) = ([], (past, s, c))
-  to_chain f e (descendant {g = g} past s c h) = let r = to_chain f g h in (r.0 ++ g ∷ [], chain_on f r.0 g e r.1 (past, s, c))
+  to_chain f e (descendant {g = g} past s c h) =
+      let r = to_chain f g h in (r.0 ++ g ∷ [], chain_on f r.0 g e r.1 (past, s, c))
 
   from_within : (n : ℕ) (f e : T) → HeldWithin w n f e → HeldBefore w f e
   from_within zero f e h = absurd h
@@ -32,17 +33,27 @@ module _ {T : Type 0} (w : World T) where
 
 module _ {T : Type 0} (node : T → Node) (w : World T) (orderly : IsOrderly node w) where
   -- who is held has a lower stamp
-  pub lower : (past : List (Event T)) (e : T) → WasSentAfter w past e → (g : T) → Contains (held past) g → (node g).stamp < (node e).stamp
-  lower past e s g c = let b = stamp_below node (held past) g c in let is = (next_of node w orderly past e s).stamp in omega arith
+  pub lower : (past : List (Event T)) (e : T) → WasSentAfter w past e → (g : T) → Contains (held past) g →
+      (node g).stamp < (node e).stamp
+  lower past e s g c =
+      let b = stamp_below node (held past) g c in let is = (next_of node w orderly past e s).stamp in omega arith
 
   to_within : (f e : T) → HeldBefore w f e → (n : ℕ) → (node e).stamp ≤ n → HeldWithin w n f e
   to_within f e (itself past s c) zero l = absurd (let b = lower past e s f c in omega arith)
   to_within f e (itself past s c) (suc n) l = inl (past, s, c)
   to_within f e (descendant {g = g} past s c h) zero l = absurd (let b = lower past e s g c in omega arith)
-  to_within f e (descendant {g = g} past s c h) (suc n) l = let b = lower past e s g c in inr (g, (past, s, c), to_within f g h n (omega arith))
+  to_within f e (descendant {g = g} past s c h) (suc n) l =
+      let b = lower past e s g c in inr (g, (past, s, c), to_within f g h n (omega arith))
 
 pub forms_agree : {T : Type 0} (node : T → Node) → FormsAgree node
 forms_agree node next log machines steps lawful distinct f e =
     let w = play node next log (start machines) steps in
-    let orderly : IsOrderly node w = IsOrderly-play node next log lawful (start machines) steps (IsOrderly-start node machines) in
-    ((λ c. from_chain w f c.0 e c.1, to_chain w f e), (from_within w (node e).stamp f e, λ h. to_within node w orderly f e h (node e).stamp (omega arith)))
+    let orderly : IsOrderly node w =
+    IsOrderly-play node next log lawful (start machines) steps (IsOrderly-start node machines) in (
+      (λ c. from_chain w f c.0 e c.1, to_chain w f e),
+      (
+        from_within w
+            (node e).stamp f e,
+        λ h. to_within node w orderly f e h (node e).stamp (omega arith),
+      ),
+    )

@@ -1,21 +1,24 @@
 -- What is left of an honest place.
-use Rattle.std.proofs.Common.{◌≡◌, ℕ, ◌<◌, Bool, true, false, cond, List, [], ◌∷◌, ◌++◌, length, refl, sym, ap, subst, ◌∙◌, arith}
-use Rattle.std.specs.Prelude.{not, ◌&&◌, nat_le}
+use Rattle.std.proofs.Common.{◌≡◌, ℕ, ◌<◌, Bool, true, false, cond, List, [], ◌∷◌, ◌++◌, length, refl, sym, ap, subst}
+use Rattle.std.proofs.Common.{◌∙◌, arith}
+use Rattle.std.specs.Prelude.{not}
 use Rattle.std.specs.List.{Contains, filter}
-use Rattle.std.proofs.lemmas.Bool.{and_parts, leb-true, not_from_false, false_from_ne_true}
+use Rattle.std.proofs.lemmas.Bool.{not_from_false}
 use Rattle.entry_order.specs.declared.event.Event.{Event}
 use Rattle.entry_order.specs.declared.event.Event.TheVariants.{Sent, Got}
 use Rattle.entry_order.specs.Node.{Node}
-use Rattle.entry_order.specs.Naming.{names_digest, Distinct}
+use Rattle.entry_order.specs.Naming.{IsNamedIn, IsBorneIn, Distinct}
 use Rattle.entry_order.specs.History.{held, sent}
 use Rattle.entry_order.specs.World.{World, start, history, sent_in, play}
 use Rattle.entry_order.specs.Receipt.{IsOrderly}
 use Rattle.entry_order.specs.Survivors.{is_stray, gaps}
 use Rattle.entry_order.specs.Completion.{Completion}
 use Rattle.entry_order.specs.Honest.{HasNoFork, OrderIsHeld, IsAllKnown, AgreesWith, HonestEntriesAgree}
-use Rattle.entry_order.proofs.Lists.{Contains-head, Contains-later, list_any_some}
-use Rattle.entry_order.proofs.Frontiers.{frontier_entry, named}
-use Rattle.entry_order.proofs.Graphs.{gap_cases}
+use Rattle.entry_order.specs.Made.{NumberedIsDistinct}
+use Rattle.entry_order.proofs.Lists.{Contains-head, Contains-later}
+use Rattle.entry_order.proofs.Frontiers.{frontier_entry}
+use Rattle.entry_order.proofs.Strays.{no_stray_from}
+use Rattle.entry_order.proofs.Completions.{gap_cases}
 use Rattle.entry_order.proofs.Machines.{in_world, length_start, length_play}
 use Rattle.entry_order.proofs.Orders.{was_sent, held_was_sent, next_of, rises, one_order}
 use Rattle.entry_order.proofs.Plays.{IsOrderly-play, IsOrderly-start}
@@ -24,27 +27,31 @@ use Rattle.entry_order.proofs.Settled.{settled, at_place}
 filter_all : {X : Type 0} (p : X → Bool) (xs : List X) → ((x : X) → Contains xs x → p x ≡ true) → filter p xs ≡ xs
 filter_all p [] each = refl
 filter_all p (x ∷ xs) each =
-    ap (λ b. cond b (x ∷ filter p xs) (filter p xs)) (each x (Contains-head x xs)) ∙ ap (λ ys. x ∷ ys) (filter_all p xs (λ y c. each y (Contains-later x xs y c)))
+    ap (λ b. cond b (x ∷ filter p xs) (filter p xs)) (each x (Contains-head x xs))
+    ∙ ap (λ ys. x ∷ ys) (filter_all p xs (λ y c. each y (Contains-later x xs y c)))
 
 -- in one history, the entry that was sent after so many others is one
-nth_sent : {T : Type 0} (p q : List (Event T)) (e f : T) (l m : List (Event T)) → p ++ Sent e ∷ l ≡ q ++ Sent f ∷ m → length (sent p) ≡ length (sent q) → e ≡ f
+nth_sent : {T : Type 0} (p q : List (Event T)) (e f : T) (l m : List (Event T)) →
+    p ++ Sent e ∷ l ≡ q ++ Sent f ∷ m → length (sent p) ≡ length (sent q) → e ≡ f
 nth_sent [] [] e f l m s n = cc
 nth_sent [] (Sent g ∷ q) e f l m s n = absurd (omega arith)
 nth_sent [] (Got g ∷ q) e f l m s n = cc
 nth_sent (Sent g ∷ p) [] e f l m s n = absurd (omega arith)
 nth_sent (Got g ∷ p) [] e f l m s n = cc
-nth_sent (Sent g ∷ p) (Sent h ∷ q) e f l m s n = let tail : p ++ Sent e ∷ l ≡ q ++ Sent f ∷ m = cc in nth_sent p q e f l m tail (omega arith)
+nth_sent (Sent g ∷ p) (Sent h ∷ q) e f l m s n =
+    let tail : p ++ Sent e ∷ l ≡ q ++ Sent f ∷ m = cc in nth_sent p q e f l m tail (omega arith)
 nth_sent (Sent g ∷ p) (Got h ∷ q) e f l m s n = cc
 nth_sent (Got g ∷ p) (Sent h ∷ q) e f l m s n = cc
-nth_sent (Got g ∷ p) (Got h ∷ q) e f l m s n = let tail : p ++ Sent e ∷ l ≡ q ++ Sent f ∷ m = cc in nth_sent p q e f l m tail n
+nth_sent (Got g ∷ p) (Got h ∷ q) e f l m s n =
+    let tail : p ++ Sent e ∷ l ≡ q ++ Sent f ∷ m = cc in nth_sent p q e f l m tail n
 
 -- a list without a member is empty
 none_inside : {X : Type 0} (xs : List X) → ((x : X) → Contains xs x → ⊥) → xs ≡ []
 none_inside [] none = refl
 none_inside (x ∷ xs) none = absurd (none x (Contains-head x xs))
 
-module _ {T : Type 0} (node : T → Node) (w : World T) (orderly : IsOrderly node w) (distinct : Distinct node (sent_in w)) where
-  no_fork : HasNoFork node (sent_in w)
+module _ {T : Type 0} (node : T → Node) (w : World T) (orderly : IsOrderly node w) where
+  pub no_fork : HasNoFork node (sent_in w)
   no_fork e f ce cf made number =
       let a = was_sent w e ce in
       let b = was_sent w f cf in
@@ -53,10 +60,11 @@ module _ {T : Type 0} (node : T → Node) (w : World T) (orderly : IsOrderly nod
       let one : a.1.0 ≡ b.1.0 = sym na.maker ∙ made ∙ nb.maker in
       nth_sent a.0 b.0 e f a.1.1 b.1.1 (sym a.1.2 ∙ ap (history w) one ∙ b.1.2) (sym na.number ∙ number ∙ nb.number)
 
-  lacks_nothing : (e : T) (d : List ℕ) → Contains (sent_in w) e → Contains (node e).names d → (g : T) × Contains (sent_in w) g × ((node g).digest ≡ d)
-  lacks_nothing e d c n =
+  lacks_nothing : (d : List ℕ) → IsNamedIn node (sent_in w) d → IsBorneIn node (sent_in w) d
+  lacks_nothing d (e, c, n) =
       let a = was_sent w e c in
-      let r = frontier_entry node (held a.0) d (subst (λ (ds : List (List ℕ)). Contains ds d) (next_of node w orderly a.0 e a.1).names n) in
+      let r = frontier_entry node (held a.0) d
+      (subst (λ (ds : List (List ℕ)). Contains ds d) (next_of node w orderly a.0 e a.1).names n) in
       (r.0, held_was_sent node w orderly a.0 e a.1 r.0 r.1, r.2)
 
   in_roster : (machines : ℕ) → length w ≡ machines → (e : T) → Contains (sent_in w) e → (node e).maker < machines
@@ -66,22 +74,29 @@ module _ {T : Type 0} (node : T → Node) (w : World T) (orderly : IsOrderly nod
       let maker = (next_of node w orderly a.0 e a.1).maker in
       omega arith
 
-  module _ (machines : ℕ) (count : length w ≡ machines) (given : List T) (were_sent : (e : T) → Contains given e → Contains (sent_in w) e) where
+  module _ (distinct : Distinct node (sent_in w)) (machines : ℕ) (count : length w ≡ machines) (given : List T)
+      (were_sent : (e : T) → Contains given e → Contains (sent_in w) e) where
     no_stray : (e : T) → Contains given e → is_stray node given e ≡ false
-    no_stray e c = false_from_ne_true (is_stray node given e) (λ stray.
-        let r = list_any_some (λ g. names_digest node e (node g).digest && nat_le (node e).stamp (node g).stamp) given stray in
-        let parts = and_parts (names_digest node e (node r.0).digest) (nat_le (node e).stamp (node r.0).stamp) r.2 in
-        let up = rises node w orderly distinct r.0 e (were_sent r.0 r.1) (were_sent e c) (named node e (node r.0).digest parts.0) in
-        let down = leb-true (node e).stamp (node r.0).stamp parts.1 in
-        omega arith)
+    no_stray e c = no_stray_from node given e (λ (g, cg, names, high).
+        let up = rises node w orderly distinct g e (were_sent g cg) (were_sent e c) names in
+        absurd (omega arith))
 
     completed : Completion node machines given (sent_in w)
-    completed = record { in_roster = in_roster machines count; keeps = were_sent; distinct = distinct; lacks_nothing = lacks_nothing }
+    completed =
+        record {
+          in_roster = in_roster machines count;
+          keeps = were_sent;
+          distinct = distinct;
+          lacks_nothing =
+              lacks_nothing;
+        }
 
     order : OrderIsHeld node w given
     order parents ragged graph y x f e fy ex =
         let s = settled node machines given parents ragged graph y x f e fy ex in
-        let same = one_order node w orderly distinct f e (were_sent f (at_place given y f fy)) (were_sent e (at_place given x e ex)) in
+        let same =
+        one_order node w orderly distinct f e (were_sent f (at_place given y f fy))
+        (were_sent e (at_place given x e ex)) in
         (λ t. same.0 (s.0 t (sent_in w) completed), λ t h. s.1 t (sent_in w) completed (same.1 h))
 
     module _ (all : (e : T) → Contains (sent_in w) e → Contains given e) where
@@ -89,8 +104,8 @@ module _ {T : Type 0} (node : T → Node) (w : World T) (orderly : IsOrderly nod
       no_gap : (d : List ℕ) → Contains (gaps node given) d → ⊥
       no_gap d c =
           let g = gap_cases node given d c in
-          let lack = lacks_nothing g.0 d (were_sent g.0 g.1) g.2 in
-          g.3 lack.0 (all lack.0 lack.1) lack.2
+          let lack = lacks_nothing d (g.0.0, were_sent g.0.0 g.0.1, g.0.2) in
+          g.1 (lack.0, all lack.0 lack.1, lack.2)
 
       all_known : IsAllKnown node given
       all_known = record {
@@ -102,7 +117,9 @@ module _ {T : Type 0} (node : T → Node) (w : World T) (orderly : IsOrderly nod
 
     agrees : AgreesWith node machines w given
     agrees = record {
-      survive = filter_all (λ e. not (is_stray node given e)) given (λ e c. not_from_false (is_stray node given e) (no_stray e c));
+      survive =
+          filter_all (λ e. not (is_stray node given e)) given
+          (λ e c. not_from_false (is_stray node given e) (no_stray e c));
       no_fork = λ e f ce cf. no_fork e f (were_sent e ce) (were_sent f cf);
       completed = completed;
       order = order;
@@ -115,3 +132,10 @@ honest_entries_agree {T} node next log machines steps lawful distinct given were
     let orderly = IsOrderly-play node next log lawful (start machines) steps (IsOrderly-start node machines) in
     let count = length_play node next log (start {T = T} machines) steps ∙ length_start T machines in
     agrees node w orderly distinct machines count given were_sent
+
+-- where a digest tells maker and number, two entries with one digest were sent at one place
+pub numbered_is_distinct : {T : Type 0} (node : T → Node) → NumberedIsDistinct node
+numbered_is_distinct node next log machines steps lawful tells e f ce cf is =
+    let orderly = IsOrderly-play node next log lawful (start machines) steps (IsOrderly-start node machines) in
+    let same = tells e f is in
+    no_fork node (play node next log (start machines) steps) orderly e f ce cf same.0 same.1

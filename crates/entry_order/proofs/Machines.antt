@@ -1,5 +1,6 @@
 -- Worlds of which one machine is changed, and how many machines they have.
-use Rattle.std.proofs.Common.{◌≡◌, ℕ, zero, suc, ◌<◌, true, false, cond, List, [], ◌∷◌, ◌++◌, length, Option, Some, refl, ap, ◌∙◌, arith}
+use Rattle.std.proofs.Common.{◌≡◌, ℕ, zero, suc, ◌<◌, true, false, cond, List, [], ◌∷◌, ◌++◌, length, Option, Some}
+use Rattle.std.proofs.Common.{refl, ap, ◌∙◌, arith}
 use Rattle.std.specs.Prelude.{slice_get, ◌==◌}
 use Rattle.entry_order.specs.declared.event.Event.{Event}
 use Rattle.entry_order.specs.declared.event.Event.TheVariants.{Sent, Got}
@@ -14,19 +15,22 @@ length_start T zero = refl
 length_start T (suc n) = ap suc (length_start T n)
 
 module _ {T : Type 0} where
-  pub get_same : (m : ℕ) (change : Machine T → Machine T) (v : World T) (a : Machine T) → slice_get v m ≡ Some a → slice_get (with_machine m change v) m ≡ Some (change a)
+  pub get_same : (m : ℕ) (change : Machine T → Machine T) (v : World T) (a : Machine T) → slice_get v m ≡ Some a →
+      slice_get (with_machine m change v) m ≡ Some (change a)
   get_same m change [] a e = cc
   get_same zero change (b ∷ v) a e = let same : b ≡ a = cc in ap (λ u. Some (change u)) same
   get_same (suc m) change (b ∷ v) a e = get_same m change v a e
 
-  pub get_other : (m n : ℕ) (change : Machine T → Machine T) (v : World T) → (n ≡ m → ⊥) → slice_get (with_machine m change v) n ≡ slice_get v n
+  pub get_other : (m n : ℕ) (change : Machine T → Machine T) (v : World T) → (n ≡ m → ⊥) →
+      slice_get (with_machine m change v) n ≡ slice_get v n
   get_other m n change [] e = refl
   get_other zero zero change (b ∷ v) e = absurd (e refl)
   get_other zero (suc n) change (b ∷ v) e = refl
   get_other (suc m) zero change (b ∷ v) e = refl
   get_other (suc m) (suc n) change (b ∷ v) e = get_other m n change v (λ s. e (ap suc s))
 
-  pub length-with_machine : (m : ℕ) (change : Machine T → Machine T) (v : World T) → length (with_machine m change v) ≡ length v
+  pub length-with_machine : (m : ℕ) (change : Machine T → Machine T) (v : World T) →
+      length (with_machine m change v) ≡ length v
   length-with_machine m change [] = refl
   length-with_machine zero change (b ∷ v) = refl
   length-with_machine (suc m) change (b ∷ v) = ap suc (length-with_machine m change v)
@@ -36,14 +40,16 @@ module _ {T : Type 0} where
   get_start (suc n) zero l = refl
   get_start (suc n) (suc m) l = get_start n m (omega arith)
 
-  pub in_world : (w : World T) (m : ℕ) (before : List (Event T)) (x : Event T) (later : List (Event T)) → history w m ≡ before ++ x ∷ later → m < length w
+  pub in_world : (w : World T) (m : ℕ) (before : List (Event T)) (x : Event T) (later : List (Event T)) →
+      history w m ≡ before ++ x ∷ later → m < length w
   in_world [] m [] x later e = cc
   in_world [] m (b ∷ before) x later e = cc
   in_world (a ∷ w) zero before x later e = omega arith
   in_world (a ∷ w) (suc m) before x later e = let l = in_world w m before x later e in omega arith
 
   -- the entry that was sent after others, by its number
-  pub nth_of_sent : (p : List (Event T)) (e : T) (l : List (Event T)) → slice_get (sent (p ++ Sent e ∷ l)) (length (sent p)) ≡ Some e
+  pub nth_of_sent : (p : List (Event T)) (e : T) (l : List (Event T)) →
+      slice_get (sent (p ++ Sent e ∷ l)) (length (sent p)) ≡ Some e
   nth_of_sent [] e l = refl
   nth_of_sent (Sent g ∷ p) e l = nth_of_sent p e l
   nth_of_sent (Got g ∷ p) e l = nth_of_sent p e l
@@ -53,7 +59,9 @@ module _ {T : Type 0} (node : T → Node) (next : ℕ → List (Event T) → Opt
   length_happens : (v : World T) (s : Step) → length (happens node next log v s) ≡ length v
   length_happens v (Act m) = length-with_machine m (λ a. send (next m a.history) a) v
   length_happens v (Hear at from number) =
-      elim (at == from) as (λ b. length (cond b v (with_machine at (hear node log (slice_get (sent (history v from)) number)) v)) ≡ length v)
+      elim (at == from) as
+      (λ b. length
+      (cond b v (with_machine at (hear node log (slice_get (sent (history v from)) number)) v)) ≡ length v)
       [ true ↦ refl | false ↦ length-with_machine at (hear node log (slice_get (sent (history v from)) number)) v ]
   length_happens v (Stop m) = length-with_machine m stop v
 

@@ -1,9 +1,10 @@
 -- Playing the moments of an orderly world in their order gives its histories again.
-use Rattle.std.proofs.Common.{◌≡◌, ℕ, ◌<◌, ◌≤◌, Bool, true, false, cond, leb, List, [], ◌∷◌, ◌++◌, map, length, Option, Some, refl, sym, ap, subst, ◌∙◌, inl, inr, append_assoc, length-append, arith}
+use Rattle.std.proofs.Common.{◌≡◌, ℕ, ◌<◌, ◌≤◌, Bool, true, false, cond, leb, List, [], ◌∷◌, ◌++◌, map, length}
+use Rattle.std.proofs.Common.{Option, Some, refl, sym, ap, subst, ◌∙◌, inl, inr, append_assoc, length-append, arith}
 use Rattle.std.specs.Prelude.{slice_get, ◌==◌}
 use Rattle.std.specs.List.{Contains, filter}
 use Rattle.std.proofs.lemmas.Option.{slice_get_past}
-use Rattle.entry_order.proofs.Frontiers.{bearer}
+use Rattle.entry_order.proofs.Naming.{has_digest_from}
 use Rattle.std.specs.Cmp.Lexicographic.{slice_cmp}
 use Rattle.std.specs.Ordering.{nat_cmp, ordering_reverse}
 use Rattle.std.specs.declared.cmp.Ordering.TheVariants.{Less, Greater}
@@ -15,11 +16,15 @@ use Rattle.entry_order.specs.declared.step.Step.{Step}
 use Rattle.entry_order.specs.Node.{Node}
 use Rattle.entry_order.specs.Naming.{has_digest}
 use Rattle.entry_order.specs.History.{held, sent, IsLegal}
-use Rattle.entry_order.specs.World.{Machine, World, start, history, history_of, with_machine, append, send, refuses, hear, happens, play}
+use Rattle.entry_order.specs.World.{Machine, World, start, history, history_of, with_machine, append, send, cannot_hear}
+use Rattle.entry_order.specs.World.{hear, happens, play}
 use Rattle.entry_order.specs.Receipt.{IsOrderly}
-use Rattle.entry_order.specs.Merged.{PlacedEvent, rank, IsSortedByRank, placed, IsMergedOf, step_of, IsMadeBy, MergedIsPlayedAgain}
-use Rattle.entry_order.proofs.Lists.{Contains-none, Contains-head, Contains-later, Contains-at, Contains-cons_cases, Contains-filter, Contains-filter_cases}
-use Rattle.entry_order.proofs.Machines.{length_start, get_same, get_other, get_start, in_world, nth_of_sent, length_play}
+use Rattle.entry_order.specs.Merged.{PlacedEvent, rank, IsSortedByRank, placed, IsMergedOf, step_of, IsMadeBy}
+use Rattle.entry_order.specs.Merged.{MergedIsPlayedAgain}
+use Rattle.entry_order.proofs.Lists.{Contains-none, Contains-head, Contains-later, Contains-at, Contains-cons_cases}
+use Rattle.entry_order.proofs.Lists.{Contains-filter, Contains-filter_cases}
+use Rattle.entry_order.proofs.Machines.{length_start, get_same, get_other, get_start, in_world, nth_of_sent}
+use Rattle.entry_order.proofs.Machines.{length_play}
 use Rattle.entry_order.proofs.Ranks.{later_rank, receipt_rank}
 use Rattle.entry_order.proofs.Orders.{member_split, was_sent}
 
@@ -30,35 +35,69 @@ module _ {T : Type 0} where
   Lower x y = slice_cmp nat_cmp (rank x) (rank y) ≡ Less
 
   not_both : (x y : PlacedEvent T) → Lower x y → Lower y x → ⊥
-  not_both x y a b = let e : Less ≡ Greater = sym a ∙ nat_list_cmp_total.antisymm (rank x) (rank y) ∙ ap ordering_reverse b in cc
+  not_both x y a b =
+      let e : Less ≡ Greater = sym a ∙ nat_list_cmp_total.antisymm (rank x) (rank y) ∙ ap ordering_reverse b in cc
 
-  same_sorted : (xs ys : List (PlacedEvent T)) → IsSortedByRank xs → IsSortedByRank ys → ((d : PlacedEvent T) → Contains xs d → Contains ys d) → ((d : PlacedEvent T) → Contains ys d → Contains xs d) → xs ≡ ys
+  same_sorted : (xs ys : List (PlacedEvent T)) → IsSortedByRank xs → IsSortedByRank ys →
+      ((d : PlacedEvent T) → Contains xs d → Contains ys d) →
+      ((d : PlacedEvent T) → Contains ys d → Contains xs d) → xs ≡ ys
   same_sorted [] [] a b to from = refl
   same_sorted [] (y ∷ ys) a b to from = absurd (Contains-none y (from y (Contains-head y ys)))
   same_sorted (x ∷ xs) [] a b to from = absurd (Contains-none x (to x (Contains-head x xs)))
   same_sorted (x ∷ xs) (y ∷ ys) a b to from =
       let heads : x ≡ y =
-      elim (Contains-cons_cases y ys x (to x (Contains-head x xs)))
-      [ inl e ↦ sym e | inr u ↦ elim (Contains-cons_cases x xs y (from y (Contains-head y ys))) [ inl e ↦ e | inr v ↦ absurd (not_both x y (a.0 y v) (b.0 x u)) ] ] in
+      elim (Contains-cons_cases y ys x (to x (Contains-head x xs))) [
+        | inl e ↦ sym e
+        | inr u ↦ elim
+            (Contains-cons_cases x xs y (from y (Contains-head y ys))) [
+              | inl e ↦ e
+              | inr v ↦ absurd
+                  (not_both x y (a.0 y v) (b.0 x u))
+            ]
+      ] in
       let forth : (d : PlacedEvent T) → Contains xs d → Contains ys d =
-      λ d c. elim (Contains-cons_cases y ys d (to d (Contains-later x xs d c))) [ inl e ↦ absurd (let m : Lower x x = subst (λ u. Lower x u) (sym (heads ∙ e)) (a.0 d c) in not_both x x m m) | inr u ↦ u ] in
+      λ d c. elim
+      (Contains-cons_cases y ys d (to d (Contains-later x xs d c))) [
+        | inl e ↦ absurd
+            (let m : Lower x x = subst (λ u. Lower x u) (sym (heads ∙ e)) (a.0 d c) in not_both x x m m)
+        | inr u ↦ u
+      ] in
       let back : (d : PlacedEvent T) → Contains ys d → Contains xs d =
-      λ d c. elim (Contains-cons_cases x xs d (from d (Contains-later y ys d c))) [ inl e ↦ absurd (let m : Lower y y = subst (λ u. Lower y u) (sym e ∙ heads) (b.0 d c) in not_both y y m m) | inr u ↦ u ] in
+      λ d c. elim
+      (Contains-cons_cases x xs d (from d (Contains-later y ys d c))) [
+        | inl e ↦ absurd
+            (let m : Lower y y = subst (λ u. Lower y u) (sym e ∙ heads) (b.0 d c) in not_both y y m m)
+        | inr u ↦ u
+      ] in
       let tails : xs ≡ ys = same_sorted xs ys a.1 b.1 forth back in
       λ i. heads i ∷ tails i
 
-  filter_sorted : (p : PlacedEvent T → Bool) (xs : List (PlacedEvent T)) → IsSortedByRank xs → IsSortedByRank (filter p xs)
+  filter_sorted : (p : PlacedEvent T → Bool) (xs : List (PlacedEvent T)) → IsSortedByRank xs →
+      IsSortedByRank (filter p xs)
   filter_sorted p [] a = tt
   filter_sorted p (x ∷ xs) a =
-      elim (p x) as (λ b. IsSortedByRank (cond b (x ∷ filter p xs) (filter p xs)))
-      [ true ↦ (λ y h. a.0 y (Contains-filter_cases p xs y h).0, filter_sorted p xs a.1) | false ↦ filter_sorted p xs a.1 ]
+      elim (p x) as (λ b. IsSortedByRank (cond b (x ∷ filter p xs) (filter p xs))) [
+        | true ↦
+            (λ y h. a.0 y (Contains-filter_cases p xs y h).0, filter_sorted p xs a.1)
+        | false ↦ filter_sorted p xs a.1
+      ]
 
   -- what is lower than a member stands before it
-  lower_is_before : (d : List (PlacedEvent T)) (x : PlacedEvent T) (r : List (PlacedEvent T)) (y : PlacedEvent T) → IsSortedByRank (d ++ x ∷ r) → Contains (d ++ x ∷ r) y → Lower y x → Contains d y
+  lower_is_before : (d : List (PlacedEvent T)) (x : PlacedEvent T) (r : List (PlacedEvent T)) (y : PlacedEvent T) →
+      IsSortedByRank (d ++ x ∷ r) → Contains (d ++ x ∷ r) y → Lower y x → Contains d y
   lower_is_before [] x r y a c l =
-      elim (Contains-cons_cases x r y c) [ inl e ↦ absurd (let m : Lower y y = subst (λ u. Lower y u) e l in not_both y y m m) | inr h ↦ absurd (not_both x y (a.0 y h) l) ]
+      elim (Contains-cons_cases x r y c) [
+        | inl e ↦ absurd
+            (let m : Lower y y = subst (λ u. Lower y u) e l in not_both y y m m)
+        | inr h ↦ absurd
+            (not_both x y (a.0 y h) l)
+      ]
   lower_is_before (z ∷ d) x r y a c l =
-      elim (Contains-cons_cases z (d ++ x ∷ r) y c) [ inl e ↦ Contains-at z d y e | inr h ↦ Contains-later z d y (lower_is_before d x r y a.1 h l) ]
+      elim (Contains-cons_cases z (d ++ x ∷ r) y c) [
+        | inl e ↦ Contains-at z d y e
+        | inr h ↦ Contains-later z d y
+            (lower_is_before d x r y a.1 h l)
+      ]
 
   -- the events of one machine, in their order
   abbrev part : ℕ → List (PlacedEvent T) → List (Event T)
@@ -68,29 +107,50 @@ module _ {T : Type 0} where
   part_append : (m : ℕ) (xs ys : List (PlacedEvent T)) → part m (xs ++ ys) ≡ part m xs ++ part m ys
   part_append m [] ys = refl
   part_append m (x ∷ xs) ys =
-      elim (x.machine == m) as (λ b. cond b (x.event ∷ part m (xs ++ ys)) (part m (xs ++ ys)) ≡ cond b (x.event ∷ part m xs) (part m xs) ++ part m ys)
+      elim (x.machine == m) as
+      (λ b. cond b (x.event ∷ part m (xs ++ ys)) (part m (xs ++ ys)) ≡ cond b (x.event ∷ part m xs)
+      (part m xs) ++ part m ys)
       [ true ↦ ap (λ h. x.event ∷ h) (part_append m xs ys) | false ↦ part_append m xs ys ]
 
-  part_of_one : (m : ℕ) (x : PlacedEvent T) (rest : List (Event T)) → x.machine ≡ m → cond (x.machine == m) (x.event ∷ rest) rest ≡ x.event ∷ rest
+  part_of_one : (m : ℕ) (x : PlacedEvent T) (rest : List (Event T)) → x.machine ≡ m →
+      cond (x.machine == m) (x.event ∷ rest) rest ≡ x.event ∷ rest
   part_of_one m x rest e = ap (λ b. cond b (x.event ∷ rest) rest) (eq-eqb x.machine m e)
 
-  part_of_other : (m : ℕ) (x : PlacedEvent T) (rest : List (Event T)) → (x.machine ≡ m → ⊥) → cond (x.machine == m) (x.event ∷ rest) rest ≡ rest
+  part_of_other : (m : ℕ) (x : PlacedEvent T) (rest : List (Event T)) → (x.machine ≡ m → ⊥) →
+      cond (x.machine == m) (x.event ∷ rest) rest ≡ rest
   part_of_other m x rest e = ap (λ b. cond b (x.event ∷ rest) rest) (ne_eqb x.machine m e)
 
-  part_is_filter : (m : ℕ) (xs : List (PlacedEvent T)) → part m xs ≡ map (λ x. x.event) (filter (λ x. x.machine == m) xs)
+  part_is_filter : (m : ℕ) (xs : List (PlacedEvent T)) →
+      part m xs ≡ map (λ x. x.event) (filter (λ x. x.machine == m) xs)
   part_is_filter m [] = refl
   part_is_filter m (x ∷ xs) =
-      elim (x.machine == m) as (λ b. cond b (x.event ∷ part m xs) (part m xs) ≡ map (λ x. x.event) (cond b (x ∷ filter (λ x. x.machine == m) xs) (filter (λ x. x.machine == m) xs)))
+      elim (x.machine == m) as
+      (λ b. cond b (x.event ∷ part m xs) (part m xs) ≡ map (λ x. x.event)
+      (cond b (x ∷ filter (λ x. x.machine == m) xs) (filter (λ x. x.machine == m) xs)))
       [ true ↦ ap (λ h. x.event ∷ h) (part_is_filter m xs) | false ↦ part_is_filter m xs ]
 
   Contains-part : (xs : List (PlacedEvent T)) (x : PlacedEvent T) → Contains xs x → Contains (part x.machine xs) x.event
   Contains-part [] x c = absurd (Contains-none x c)
   Contains-part (z ∷ xs) x c =
-      let here : z ≡ x → Contains (cond (z.machine == x.machine) (z.event ∷ part x.machine xs) (part x.machine xs)) x.event =
-      λ e. subst (λ h. Contains h x.event) (sym (part_of_one x.machine z (part x.machine xs) (ap (λ u. u.machine) e))) (Contains-at z.event (part x.machine xs) x.event (ap (λ u. u.event) e)) in
-      let later : Contains (part x.machine xs) x.event → (b : Bool) → Contains (cond b (z.event ∷ part x.machine xs) (part x.machine xs)) x.event =
-      λ h b. elim b as (λ b. Contains (cond b (z.event ∷ part x.machine xs) (part x.machine xs)) x.event) [ true ↦ Contains-later z.event (part x.machine xs) x.event h | false ↦ h ] in
-      elim (Contains-cons_cases z xs x c) [ inl e ↦ here e | inr h ↦ later (Contains-part xs x h) (z.machine == x.machine) ]
+      let here : z ≡ x →
+      Contains (cond (z.machine == x.machine) (z.event ∷ part x.machine xs) (part x.machine xs)) x.event =
+      λ e. subst (λ h. Contains h x.event)
+      (sym (part_of_one x.machine z (part x.machine xs) (ap (λ u. u.machine) e)))
+      (Contains-at z.event (part x.machine xs) x.event (ap (λ u. u.event) e)) in
+      let later : Contains (part x.machine xs) x.event → (b : Bool) →
+      Contains (cond b (z.event ∷ part x.machine xs) (part x.machine xs)) x.event =
+      λ h b. elim b as
+      (λ b. Contains
+      (cond b (z.event ∷ part x.machine xs) (part x.machine xs)) x.event) [
+        | true ↦ Contains-later z.event
+            (part x.machine xs) x.event h
+        | false ↦ h
+      ] in
+      elim (Contains-cons_cases z xs x c) [
+        | inl e ↦ here e
+        | inr h ↦ later (Contains-part xs x h)
+            (z.machine == x.machine)
+      ]
 
 -- ---- the moments of one machine
 
@@ -107,30 +167,59 @@ module _ {T : Type 0} (node : T → Node) where
   nothing_more [] = refl
   nothing_more (x ∷ xs) = ap (λ ys. x ∷ ys) (nothing_more xs)
 
-  has_placed : (m : ℕ) (before b : List (Event T)) (x : Event T) (l : List (Event T)) → Contains (placed_of m before (b ++ x ∷ l)) (placed node m (before ++ b) x)
-  has_placed m before [] x l = Contains-at (placed node m before x) (placed_of m (before ++ x ∷ []) l) (placed node m (before ++ []) x) (ap (λ p. placed node m p x) (sym (nothing_more before)))
+  has_placed : (m : ℕ) (before b : List (Event T)) (x : Event T) (l : List (Event T)) →
+      Contains (placed_of m before (b ++ x ∷ l)) (placed node m (before ++ b) x)
+  has_placed m before [] x l =
+      Contains-at (placed node m before x) (placed_of m (before ++ x ∷ []) l) (placed node m (before ++ []) x)
+      (ap (λ p. placed node m p x) (sym (nothing_more before)))
   has_placed m before (c ∷ b) x l =
-      Contains-later (placed node m before c) (placed_of m (before ++ c ∷ []) (b ++ x ∷ l)) (placed node m (before ++ c ∷ b) x)
-      (subst (λ p. Contains (placed_of m (before ++ c ∷ []) (b ++ x ∷ l)) (placed node m p x)) (append_assoc before (c ∷ []) b) (has_placed m (before ++ c ∷ []) b x l))
+      Contains-later (placed node m before c) (placed_of m (before ++ c ∷ []) (b ++ x ∷ l))
+      (placed node m (before ++ c ∷ b) x)
+      (subst (λ p. Contains (placed_of m (before ++ c ∷ []) (b ++ x ∷ l)) (placed node m p x))
+      (append_assoc before (c ∷ []) b) (has_placed m (before ++ c ∷ []) b x l))
 
-  placed_cases : (m : ℕ) (before h : List (Event T)) (y : PlacedEvent T) → Contains (placed_of m before h) y → (b : List (Event T)) × (l : List (Event T)) × (h ≡ b ++ y.event ∷ l) × (y ≡ placed node m (before ++ b) y.event)
+  placed_cases : (m : ℕ) (before h : List (Event T)) (y : PlacedEvent T) → Contains (placed_of m before h) y →
+      (b : List (Event T)) × (l : List (Event T)) × (h ≡ b ++ y.event ∷ l) × (y ≡ placed node m (before ++ b) y.event)
   placed_cases m before [] y c = absurd (Contains-none y c)
   placed_cases m before (x ∷ h) y c =
-      let first : placed node m before x ≡ y → (b : List (Event T)) × (l : List (Event T)) × (x ∷ h ≡ b ++ y.event ∷ l) × (y ≡ placed node m (before ++ b) y.event) =
-      λ e. let same : x ≡ y.event = ap (λ u. u.event) e in ([], h, ap (λ u. u ∷ h) same, sym e ∙ ap (λ u. placed node m before u) same ∙ ap (λ p. placed node m p y.event) (sym (nothing_more before))) in
-      let later : Contains (placed_of m (before ++ x ∷ []) h) y → (b : List (Event T)) × (l : List (Event T)) × (x ∷ h ≡ b ++ y.event ∷ l) × (y ≡ placed node m (before ++ b) y.event) =
-      λ g. let r = placed_cases m (before ++ x ∷ []) h y g in (x ∷ r.0, r.1, ap (λ u. x ∷ u) r.2, r.3 ∙ ap (λ p. placed node m p y.event) (append_assoc before (x ∷ []) r.0)) in
-      elim (Contains-cons_cases (placed node m before x) (placed_of m (before ++ x ∷ []) h) y c) [ inl e ↦ first e | inr g ↦ later g ]
+      let first : placed node m before x ≡ y →
+      (b : List (Event T)) × (l : List (Event T)) × (x ∷ h ≡ b ++ y.event ∷ l)
+      × (y ≡ placed node m (before ++ b) y.event) =
+      λ e. let same : x ≡ y.event =
+      ap (λ u. u.event) e in (
+        [],
+        h,
+        ap (λ u. u ∷ h) same,
+        sym e ∙ ap (λ u. placed node m before u) same
+            ∙ ap (λ p. placed node m p y.event) (sym (nothing_more before)),
+      ) in
+      let later : Contains (placed_of m (before ++ x ∷ []) h) y →
+      (b : List (Event T)) × (l : List (Event T)) × (x ∷ h ≡ b ++ y.event ∷ l)
+      × (y ≡ placed node m (before ++ b) y.event) =
+      λ g. let r =
+      placed_cases m (before ++ x ∷ []) h y g in (
+        x ∷ r.0,
+        r.1,
+        ap (λ u. x ∷ u) r.2,
+        r.3
+            ∙ ap (λ p. placed node m p y.event) (append_assoc before (x ∷ []) r.0),
+      ) in
+      elim (Contains-cons_cases (placed node m before x)
+      (placed_of m (before ++ x ∷ []) h) y c) [ inl e ↦ first e | inr g ↦ later g ]
 
-  placed_rise : (m : ℕ) (before h whole : List (Event T)) → IsLegal node m whole → whole ≡ before ++ h → IsSortedByRank (placed_of m before h)
+  placed_rise : (m : ℕ) (before h whole : List (Event T)) → IsLegal node m whole → whole ≡ before ++ h →
+      IsSortedByRank (placed_of m before h)
   placed_rise m before [] whole legal is = tt
   placed_rise m before (x ∷ h) whole legal is =
       let step : (before ++ x ∷ []) ++ h ≡ before ++ x ∷ h = append_assoc before (x ∷ []) h in (
         λ y c.
             let r = placed_cases m (before ++ x ∷ []) h y c in
             let place : (before ++ x ∷ []) ++ r.0 ≡ before ++ x ∷ r.0 = append_assoc before (x ∷ []) r.0 in
-            let at : whole ≡ (before ++ x ∷ r.0) ++ y.event ∷ r.1 = is ∙ ap (λ u. before ++ x ∷ u) r.2 ∙ sym (append_assoc before (x ∷ r.0) (y.event ∷ r.1)) in
-            subst (λ u. slice_cmp nat_cmp (rank (placed node m before x)) (rank u) ≡ Less) (sym (r.3 ∙ ap (λ p. placed node m p y.event) place)) (later_rank node m whole legal before x r.0 y.event r.1 at),
+            let at : whole ≡ (before ++ x ∷ r.0) ++ y.event ∷ r.1 =
+            is ∙ ap (λ u. before ++ x ∷ u) r.2 ∙ sym (append_assoc before (x ∷ r.0) (y.event ∷ r.1)) in
+            subst (λ u. slice_cmp nat_cmp (rank (placed node m before x)) (rank u) ≡ Less)
+            (sym (r.3 ∙ ap (λ p. placed node m p y.event) place))
+            (later_rank node m whole legal before x r.0 y.event r.1 at),
         placed_rise m (before ++ x ∷ []) h whole legal (is ∙ sym step),
       )
 
@@ -139,55 +228,82 @@ module _ {T : Type 0} (node : T → Node) where
     part_is_history : (m : ℕ) → part m xs ≡ history w m
     part_is_history m = part_is_filter m xs ∙ ap (map (λ x. x.event)) same ∙ events_of_placed m [] (history w m)
       where
-        to : (y : PlacedEvent T) → Contains (filter (λ x. x.machine == m) xs) y → Contains (placed_of m [] (history w m)) y
+        to : (y : PlacedEvent T) → Contains (filter (λ x. x.machine == m) xs) y →
+            Contains (placed_of m [] (history w m)) y
         to y c =
             let r = Contains-filter_cases (λ x. x.machine == m) xs y c in
             let mine : y.machine ≡ m = eqb-true y.machine m r.1 in
             let s = (merged.events y).0 r.0 in
             let is : history w m ≡ s.0 ++ y.event ∷ s.1 = ap (history w) (sym mine) ∙ s.2 in
-            subst (λ u. Contains (placed_of m [] (history w m)) u) (sym (s.3 ∙ ap (λ n. placed node n s.0 y.event) mine))
-            (subst (λ h. Contains (placed_of m [] h) (placed node m s.0 y.event)) (sym is) (has_placed m [] s.0 y.event s.1))
+            subst (λ u. Contains (placed_of m [] (history w m)) u)
+            (sym (s.3 ∙ ap (λ n. placed node n s.0 y.event) mine))
+            (subst (λ h. Contains (placed_of m [] h) (placed node m s.0 y.event)) (sym is)
+            (has_placed m [] s.0 y.event s.1))
 
-        from : (y : PlacedEvent T) → Contains (placed_of m [] (history w m)) y → Contains (filter (λ x. x.machine == m) xs) y
+        from : (y : PlacedEvent T) → Contains (placed_of m [] (history w m)) y →
+            Contains (filter (λ x. x.machine == m) xs) y
         from y c =
             let r = placed_cases m [] (history w m) y c in
             let mine : y.machine ≡ m = ap (λ u. u.machine) r.3 in
             let is : history w y.machine ≡ r.0 ++ y.event ∷ r.1 = ap (history w) mine ∙ r.2 in
-            Contains-filter (λ x. x.machine == m) xs y ((merged.events y).1 (r.0, r.1, is, r.3 ∙ ap (λ n. placed node n r.0 y.event) (sym mine))) (eq-eqb y.machine m mine)
+            Contains-filter (λ x. x.machine == m) xs y
+            ((merged.events y).1 (r.0, r.1, is, r.3 ∙ ap (λ n. placed node n r.0 y.event) (sym mine)))
+            (eq-eqb y.machine m mine)
 
         same : filter (λ x. x.machine == m) xs ≡ placed_of m [] (history w m)
-        same = same_sorted (filter (λ x. x.machine == m) xs) (placed_of m [] (history w m)) (filter_sorted (λ x. x.machine == m) xs merged.sorted) (placed_rise m [] (history w m) (history w m) (orderly.legal m) refl) to from
+        same = same_sorted (filter (λ x. x.machine == m) xs) (placed_of m [] (history w m))
+            (filter_sorted (λ x. x.machine == m) xs merged.sorted)
+            (placed_rise m [] (history w m) (history w m) (orderly.legal m) refl) to from
 
 -- ---- playing again
 
-module _ {T : Type 0} (node : T → Node) (next : ℕ → List (Event T) → Option T) (log : ℕ) (w : World T) (orderly : IsOrderly node w) (played : IsMadeBy node next w) (fits : (m : ℕ) → length (history w m) ≤ log) (xs : List (PlacedEvent T)) (merged : IsMergedOf node w xs) where
+module _ {T : Type 0} (node : T → Node) (next : ℕ → List (Event T) → Option T) (log : ℕ) (w : World T)
+    (orderly : IsOrderly node w) (played : IsMadeBy node next w) (fits : (m : ℕ) → length (history w m) ≤ log)
+    (xs : List (PlacedEvent T)) (merged : IsMergedOf node w xs) where
   abbrev step : PlacedEvent T → Step
   step x = step_of node x.machine x.event
 
-  split_history : (m : ℕ) (d : List (PlacedEvent T)) (x : PlacedEvent T) (r : List (PlacedEvent T)) → xs ≡ d ++ x ∷ r → history w m ≡ part m d ++ part m (x ∷ r)
+  split_history : (m : ℕ) (d : List (PlacedEvent T)) (x : PlacedEvent T) (r : List (PlacedEvent T)) →
+      xs ≡ d ++ x ∷ r → history w m ≡ part m d ++ part m (x ∷ r)
   split_history m d x r is = sym (part_is_history node w orderly xs merged m) ∙ ap (part m) is ∙ part_append m d (x ∷ r)
 
-  at_own : (d : List (PlacedEvent T)) (x : PlacedEvent T) (r : List (PlacedEvent T)) → xs ≡ d ++ x ∷ r → history w x.machine ≡ part x.machine d ++ x.event ∷ part x.machine r
-  at_own d x r is = split_history x.machine d x r is ∙ ap (λ h. part x.machine d ++ h) (part_of_one x.machine x (part x.machine r) refl)
+  at_own : (d : List (PlacedEvent T)) (x : PlacedEvent T) (r : List (PlacedEvent T)) → xs ≡ d ++ x ∷ r →
+      history w x.machine ≡ part x.machine d ++ x.event ∷ part x.machine r
+  at_own d x r is =
+      split_history x.machine d x r is
+      ∙ ap (λ h. part x.machine d ++ h) (part_of_one x.machine x (part x.machine r) refl)
 
   -- what is got had been sent before, in this order
-  heard_ready : (d : List (PlacedEvent T)) (x : PlacedEvent T) (r : List (PlacedEvent T)) (e : T) → xs ≡ d ++ x ∷ r → x.event ≡ Got e → ((node e).maker < length w) × (slice_get (sent (part (node e).maker d)) (node e).number ≡ Some e)
+  heard_ready : (d : List (PlacedEvent T)) (x : PlacedEvent T) (r : List (PlacedEvent T)) (e : T) →
+      xs ≡ d ++ x ∷ r → x.event ≡ Got e →
+      ((node e).maker < length w) × (slice_get (sent (part (node e).maker d)) (node e).number ≡ Some e)
   heard_ready d x r e is got =
       let here : Contains xs x = subst (λ u. Contains u x) (sym is) (contains_middle d x r) in
       let ms = (merged.events x).0 here in
-      let in_history : Contains (history w x.machine) (Got e) = subst (λ h. Contains h (Got e)) (sym ms.2) (subst (λ u. Contains (ms.0 ++ u ∷ ms.1) (Got e)) (sym got) (contains_middle ms.0 (Got e) ms.1)) in
+      let in_history : Contains (history w x.machine) (Got e) =
+      subst (λ h. Contains h (Got e)) (sym ms.2)
+      (subst (λ u. Contains (ms.0 ++ u ∷ ms.1) (Got e)) (sym got) (contains_middle ms.0 (Got e) ms.1)) in
       let s = was_sent w e (orderly.heard x.machine e in_history) in
       let legal = (orderly.legal s.1.0 s.0 (Sent e) s.1.1 s.1.2).1 in
       let y = placed node s.1.0 s.0 (Sent e) in
       let there : Contains xs y = (merged.events y).1 (s.0, s.1.1, s.1.2, refl) in
-      let lower : Lower y x = subst (λ u. Lower y u) (sym (ms.3 ∙ ap (λ u. placed node x.machine ms.0 u) got)) (receipt_rank node s.1.0 s.0 e legal.stamp x.machine ms.0) in
-      let earlier : Contains d y = lower_is_before d x r y (subst IsSortedByRank is merged.sorted) (subst (λ u. Contains u y) is there) lower in
+      let lower : Lower y x =
+      subst (λ u. Lower y u) (sym (ms.3 ∙ ap (λ u. placed node x.machine ms.0 u) got))
+      (receipt_rank node s.1.0 s.0 e legal.stamp x.machine ms.0) in
+      let earlier : Contains d y =
+      lower_is_before d x r y (subst IsSortedByRank is merged.sorted) (subst (λ u. Contains u y) is there) lower in
       let p = member_split (part s.1.0 d) (Sent e) (Contains-part d y earlier) in
       let whole : history w s.1.0 ≡ p.0 ++ Sent e ∷ (p.1 ++ part s.1.0 (x ∷ r)) =
-      split_history s.1.0 d x r is ∙ ap (λ h. h ++ part s.1.0 (x ∷ r)) p.2 ∙ append_assoc p.0 (Sent e ∷ p.1) (part s.1.0 (x ∷ r)) in
+      split_history s.1.0 d x r is ∙ ap (λ h. h ++ part s.1.0 (x ∷ r)) p.2
+      ∙ append_assoc p.0 (Sent e ∷ p.1) (part s.1.0 (x ∷ r)) in
       let number = (orderly.legal s.1.0 p.0 (Sent e) (p.1 ++ part s.1.0 (x ∷ r)) whole).1.number in
-      let found : slice_get (sent (part s.1.0 d)) (node e).number ≡ Some e = ap (λ h. slice_get (sent h) (node e).number) p.2 ∙ ap (slice_get (sent (p.0 ++ Sent e ∷ p.1))) number ∙ nth_of_sent p.0 e p.1 in
-      (subst (λ n. n < length w) (sym legal.maker) (in_world w s.1.0 s.0 (Sent e) s.1.1 s.1.2), ap (λ n. slice_get (sent (part n d)) (node e).number) legal.maker ∙ found)
+      let found : slice_get (sent (part s.1.0 d)) (node e).number ≡ Some e =
+      ap (λ h. slice_get (sent h) (node e).number) p.2 ∙ ap (slice_get (sent (p.0 ++ Sent e ∷ p.1))) number
+      ∙ nth_of_sent p.0 e p.1 in (
+        subst (λ n. n < length w) (sym legal.maker) (in_world w s.1.0 s.0 (Sent e) s.1.1 s.1.2),
+        ap
+            (λ n. slice_get (sent (part n d)) (node e).number) legal.maker ∙ found,
+      )
     where
       contains_middle : {X : Type 0} (b : List X) (x : X) (l : List X) → Contains (b ++ x ∷ l) x
       contains_middle [] x l = Contains-head x l
@@ -197,52 +313,83 @@ module _ {T : Type 0} (node : T → Node) (next : ℕ → List (Event T) → Opt
   abbrev IsAt : World T → List (PlacedEvent T) → Type 0
   IsAt v done = (m : ℕ) → m < length w → slice_get v m ≡ Some (record { history = part m done; stopped = false })
 
-  grow : (v : World T) (done : List (PlacedEvent T)) (x : PlacedEvent T) (change : Machine T → Machine T) → IsAt v done → change (record { history = part x.machine done; stopped = false }) ≡ append x.event (record { history = part x.machine done; stopped = false }) → IsAt (with_machine x.machine change v) (done ++ x ∷ [])
+  grow : (v : World T) (done : List (PlacedEvent T)) (x : PlacedEvent T) (change : Machine T → Machine T) →
+      IsAt v done →
+      change (record { history = part x.machine done; stopped = false }) ≡ append x.event
+      (record { history = part x.machine done; stopped = false }) →
+      IsAt (with_machine x.machine change v) (done ++ x ∷ [])
   grow v done x change at by m l =
-      let mine : m ≡ x.machine → slice_get (with_machine x.machine change v) m ≡ Some (record { history = part m (done ++ x ∷ []); stopped = false }) =
+      let mine : m ≡ x.machine →
+      slice_get (with_machine x.machine change v) m ≡ Some
+      (record { history = part m (done ++ x ∷ []); stopped = false }) =
       λ e.
-      let new : part m (done ++ x ∷ []) ≡ part m done ++ x.event ∷ [] = part_append m done (x ∷ []) ∙ ap (λ h. part m done ++ h) (part_of_one m x [] (sym e)) in
-      let was : slice_get v x.machine ≡ Some (record { history = part x.machine done; stopped = false }) = at x.machine (subst (λ n. n < length w) e l) in
-      ap (slice_get (with_machine x.machine change v)) e ∙ get_same x.machine change v (record { history = part x.machine done; stopped = false }) was
-      ∙ ap Some by ∙ ap (λ n. Some (record { history = part n done ++ x.event ∷ []; stopped = false })) (sym e) ∙ ap (λ h. Some (record { history = h; stopped = false })) (sym new) in
-      let other : (m ≡ x.machine → ⊥) → slice_get (with_machine x.machine change v) m ≡ Some (record { history = part m (done ++ x ∷ []); stopped = false }) =
+      let new : part m (done ++ x ∷ []) ≡ part m done ++ x.event ∷ [] =
+      part_append m done (x ∷ []) ∙ ap (λ h. part m done ++ h) (part_of_one m x [] (sym e)) in
+      let was : slice_get v x.machine ≡ Some (record { history = part x.machine done; stopped = false }) =
+      at x.machine (subst (λ n. n < length w) e l) in
+      ap (slice_get (with_machine x.machine change v)) e
+      ∙ get_same x.machine change v (record { history = part x.machine done; stopped = false }) was
+      ∙ ap Some by ∙ ap (λ n. Some (record { history = part n done ++ x.event ∷ []; stopped = false })) (sym e)
+      ∙ ap (λ h. Some (record { history = h; stopped = false })) (sym new) in
+      let other : (m ≡ x.machine → ⊥) →
+      slice_get (with_machine x.machine change v) m ≡ Some
+      (record { history = part m (done ++ x ∷ []); stopped = false }) =
       λ e.
-      let new : part m (done ++ x ∷ []) ≡ part m done = part_append m done (x ∷ []) ∙ ap (λ h. part m done ++ h) (part_of_other m x [] (λ s. e (sym s))) ∙ nothing_more node (part m done) in
+      let new : part m (done ++ x ∷ []) ≡ part m done =
+      part_append m done (x ∷ []) ∙ ap (λ h. part m done ++ h) (part_of_other m x [] (λ s. e (sym s)))
+      ∙ nothing_more node (part m done) in
       get_other x.machine m change v e ∙ at m l ∙ ap (λ h. Some (record { history = h; stopped = false })) (sym new) in
       elim (cases_eq m x.machine) [ inl e ↦ mine e | inr e ↦ other e ]
 
   -- one placed more is played
-  one_by : (v : World T) (done : List (PlacedEvent T)) (x : PlacedEvent T) (rest : List (PlacedEvent T)) → xs ≡ done ++ x ∷ rest → IsAt v done → (ev : Event T) → x.event ≡ ev → IsAt (happens node next log v (step_of node x.machine ev)) (done ++ x ∷ [])
+  one_by : (v : World T) (done : List (PlacedEvent T)) (x : PlacedEvent T) (rest : List (PlacedEvent T)) →
+      xs ≡ done ++ x ∷ rest → IsAt v done → (ev : Event T) → x.event ≡ ev →
+      IsAt (happens node next log v (step_of node x.machine ev)) (done ++ x ∷ [])
   one_by v done x rest is at (Sent e) ev =
       let a : Machine T = record { history = part x.machine done; stopped = false } in
-      let now : next x.machine (part x.machine done) ≡ Some e = played x.machine (part x.machine done) e (part x.machine rest) (at_own done x rest is ∙ ap (λ u. part x.machine done ++ u ∷ part x.machine rest) ev) in
+      let now : next x.machine (part x.machine done) ≡ Some e =
+      played x.machine (part x.machine done) e (part x.machine rest)
+      (at_own done x rest is ∙ ap (λ u. part x.machine done ++ u ∷ part x.machine rest) ev) in
       grow v done x (λ a. send (next x.machine a.history) a) at (ap (λ o. send o a) now ∙ ap (λ u. append u a) (sym ev))
   one_by v done x rest is at (Got e) ev =
       let a : Machine T = record { history = part x.machine done; stopped = false } in
-      let own : history w x.machine ≡ part x.machine done ++ Got e ∷ part x.machine rest = at_own done x rest is ∙ ap (λ u. part x.machine done ++ u ∷ part x.machine rest) ev in
+      let own : history w x.machine ≡ part x.machine done ++ Got e ∷ part x.machine rest =
+      at_own done x rest is ∙ ap (λ u. part x.machine done ++ u ∷ part x.machine rest) ev in
       let may = orderly.legal x.machine (part x.machine done) (Got e) (part x.machine rest) own in
       let ready = heard_ready done x rest e is ev in
       let free : has_digest node (held (part x.machine done)) (node e).digest ≡ false =
-      false_from_ne_true (has_digest node (held (part x.machine done)) (node e).digest) (λ t. let b = bearer node (held (part x.machine done)) (node e).digest t in may.0 b.0 b.1 b.2) in
+      false_from_ne_true (has_digest node (held (part x.machine done)) (node e).digest)
+      (λ t. let b = has_digest_from node (held (part x.machine done)) (node e).digest t in may.0 b.0 b.1 b.2) in
       let room : leb log (length (part x.machine done)) ≡ false =
-      let f = fits x.machine in let l = ap length own in let n = length-append (part x.machine done) (Got e ∷ part x.machine rest) in lt-leb log (length (part x.machine done)) (omega arith) in
-      let open_to_it : refuses node log a (node e).digest ≡ false = or_from (has_digest node (held (part x.machine done)) (node e).digest) (leb log (length (part x.machine done))) free room in
-      let found : slice_get (sent (history v (node e).maker)) (node e).number ≡ Some e = ap (λ o. slice_get (sent (history_of o)) (node e).number) (at (node e).maker ready.0) ∙ ready.1 in
+      let f = fits x.machine in let l = ap length own in let n =
+      length-append (part x.machine done) (Got e ∷ part x.machine rest) in
+      lt-leb log (length (part x.machine done)) (omega arith) in
+      let open_to_it : cannot_hear node log a (node e).digest ≡ false =
+      or_from (has_digest node (held (part x.machine done)) (node e).digest)
+      (leb log (length (part x.machine done))) free room in
+      let found : slice_get (sent (history v (node e).maker)) (node e).number ≡ Some e =
+      ap (λ o. slice_get (sent (history_of o)) (node e).number) (at (node e).maker ready.0) ∙ ready.1 in
       let change = hear node log (slice_get (sent (history v (node e).maker)) (node e).number) in
       let apart : (x.machine == (node e).maker) ≡ false = ne_eqb x.machine (node e).maker (λ s. may.1 (sym s)) in
-      let does : change a ≡ append x.event a = ap (λ o. hear node log o a) found ∙ ap (λ b. cond b a (append (Got e) a)) open_to_it ∙ ap (λ u. append u a) (sym ev) in
-      subst (λ u. IsAt u (done ++ x ∷ [])) (sym (ap (λ b. cond b v (with_machine x.machine change v)) apart)) (grow v done x change at does)
+      let does : change a ≡ append x.event a =
+      ap (λ o. hear node log o a) found ∙ ap (λ b. cond b a (append (Got e) a)) open_to_it
+      ∙ ap (λ u. append u a) (sym ev) in
+      subst (λ u. IsAt u (done ++ x ∷ [])) (sym (ap (λ b. cond b v (with_machine x.machine change v)) apart))
+      (grow v done x change at does)
 
-  play_from : (rest done : List (PlacedEvent T)) (v : World T) → xs ≡ done ++ rest → IsAt v done → IsAt (play node next log v (map step rest)) xs
+  play_from : (rest done : List (PlacedEvent T)) (v : World T) → xs ≡ done ++ rest → IsAt v done →
+      IsAt (play node next log v (map step rest)) xs
   play_from [] done v is at = subst (IsAt v) (sym (is ∙ nothing_more node done)) at
   play_from (x ∷ rest) done v is at =
-      play_from rest (done ++ x ∷ []) (happens node next log v (step x)) (is ∙ sym (append_assoc done (x ∷ []) rest)) (one_by v done x rest is at x.event refl)
+      play_from rest (done ++ x ∷ []) (happens node next log v (step x))
+      (is ∙ sym (append_assoc done (x ∷ []) rest)) (one_by v done x rest is at x.event refl)
 
   again : (m : ℕ) → history (play node next log (start (length w)) (map step xs)) m ≡ history w m
   again m =
       let v = play node next log (start {T = T} (length w)) (map step xs) in
       let inside : m < length w → history v m ≡ history w m =
-      λ l. ap history_of (play_from xs [] (start (length w)) refl (λ n less. get_start (length w) n less) m l) ∙ part_is_history node w orderly xs merged m in
+      λ l. ap history_of (play_from xs [] (start (length w)) refl (λ n less. get_start (length w) n less) m l)
+      ∙ part_is_history node w orderly xs merged m in
       let outside : length w ≤ m → history v m ≡ history w m =
       λ l.
       let n = length_play node next log (start {T = T} (length w)) (map step xs) ∙ length_start T (length w) in
@@ -250,4 +397,5 @@ module _ {T : Type 0} (node : T → Node) (next : ℕ → List (Event T) → Opt
       elim (cases_lt m (length w)) [ inl l ↦ inside l | inr l ↦ outside l ]
 
 pub merged_is_played_again : {T : Type 0} (node : T → Node) → MergedIsPlayedAgain node
-merged_is_played_again node next log w orderly played fits xs merged m = again node next log w orderly played fits xs merged m
+merged_is_played_again node next log w orderly played fits xs merged m =
+    again node next log w orderly played fits xs merged m

@@ -1,5 +1,6 @@
 -- The two orders are one, in each world whose histories are legal and whose entries were sent before they were got.
-use Rattle.std.proofs.Common.{◌≡◌, ℕ, zero, suc, ◌+◌, ◌<◌, Bool, true, false, List, [], ◌∷◌, ◌++◌, length, refl, sym, ap, subst, inl, inr, Some, Option, arith}
+use Rattle.std.proofs.Common.{◌≡◌, ℕ, zero, suc, ◌+◌, ◌<◌, Bool, true, false, List, [], ◌∷◌, ◌++◌, length, refl, sym}
+use Rattle.std.proofs.Common.{ap, subst, inl, inr, Some, Option, arith}
 use Rattle.std.specs.Prelude.{slice_get, ◌↔◌}
 use Rattle.std.specs.List.{Contains}
 use Rattle.std.proofs.lemmas.List.Elements.{Contains-append_left, Contains-append_right}
@@ -13,13 +14,17 @@ use Rattle.entry_order.specs.World.{Machine, World, history, history_of, sent_in
 use Rattle.entry_order.specs.HeldBefore.{WasSentAfter, HeldBefore, HeldBefore.itself, HeldBefore.descendant}
 use Rattle.entry_order.specs.Precedes.{IsPath, Precedes}
 use Rattle.entry_order.specs.Receipt.{IsOrderly}
-use Rattle.entry_order.proofs.Lists.{Contains-none, Contains-head, Contains-later, Contains-at, Contains-cons_cases, Contains-map_cases, Contains-flat_map_cases}
-use Rattle.entry_order.proofs.Frontiers.{frontier_entry, in_frontier, namer, stamp_below}
+use Rattle.entry_order.proofs.Lists.{Contains-none, Contains-head, Contains-later, Contains-at, Contains-cons_cases}
+use Rattle.entry_order.proofs.Lists.{Contains-map_cases, Contains-flat_map_cases}
+use Rattle.entry_order.proofs.Frontiers.{frontier_entry, in_frontier}
+use Rattle.entry_order.proofs.Naming.{is_named_from}
+use Rattle.entry_order.proofs.Stamps.{stamp_below}
 
 -- ---- what was sent
 
 -- a member stands between what is before it and what is later
-pub member_split : {X : Type 0} (xs : List X) (x : X) → Contains xs x → (before : List X) × (later : List X) × (xs ≡ before ++ x ∷ later)
+pub member_split : {X : Type 0} (xs : List X) (x : X) → Contains xs x →
+    (before : List X) × (later : List X) × (xs ≡ before ++ x ∷ later)
 member_split [] x c = absurd (Contains-none x c)
 member_split {X} (z ∷ xs) x c =
     let deeper : Contains xs x → (before : List X) × (later : List X) × (z ∷ xs ≡ before ++ x ∷ later) =
@@ -31,14 +36,22 @@ module _ {T : Type 0} where
   Contains-sent [] e c = absurd (Contains-none (Sent e) c)
   Contains-sent (Sent g ∷ h) e c =
       let first : Sent g ≡ Sent e → g ≡ e = λ s. cc in
-      elim (Contains-cons_cases (Sent g) h (Sent e) c) [ inl s ↦ Contains-at g (sent h) e (first s) | inr l ↦ Contains-later g (sent h) e (Contains-sent h e l) ]
+      elim (Contains-cons_cases (Sent g) h (Sent e) c) [
+        | inl s ↦ Contains-at g (sent h) e
+            (first s)
+        | inr l ↦ Contains-later g (sent h) e (Contains-sent h e l)
+      ]
   Contains-sent (Got g ∷ h) e c =
       elim (Contains-cons_cases (Got g) h (Sent e) c) [ inl s ↦ cc | inr l ↦ Contains-sent h e l ]
 
   pub Contains-sent_cases : (h : List (Event T)) (e : T) → Contains (sent h) e → Contains h (Sent e)
   Contains-sent_cases [] e c = absurd (Contains-none e c)
   Contains-sent_cases (Sent g ∷ h) e c =
-      elim (Contains-cons_cases g (sent h) e c) [ inl s ↦ Contains-at (Sent g) h (Sent e) (ap Sent s) | inr l ↦ Contains-later (Sent g) h (Sent e) (Contains-sent_cases h e l) ]
+      elim (Contains-cons_cases g (sent h) e c) [
+        | inl s ↦ Contains-at (Sent g) h (Sent e)
+            (ap Sent s)
+        | inr l ↦ Contains-later (Sent g) h (Sent e) (Contains-sent_cases h e l)
+      ]
   Contains-sent_cases (Got g ∷ h) e c = Contains-later (Got g) h (Sent e) (Contains-sent_cases h e c)
 
   pub sent_in_from : (w : World T) (m : ℕ) (e : T) → Contains (history w m) (Sent e) → Contains (sent_in w) e
@@ -49,8 +62,11 @@ module _ {T : Type 0} where
   pub sent_in_cases : (w : World T) (e : T) → Contains (sent_in w) e → (m : ℕ) × Contains (history w m) (Sent e)
   sent_in_cases w e c =
       let r = Contains-flat_map_cases (λ (a : Machine T). sent a.history) w e c in
-      let at : slice_get w r.1.0 ≡ Some r.0 = slice_get_read w (length w) r.1.0 r.0 refl r.1.1 (sym r.1.2) in
-      (r.1.0, subst (λ (o : Option (Machine T)). Contains (history_of o) (Sent e)) (sym at) (Contains-sent_cases r.0.history e r.2))
+      let at : slice_get w r.1.0 ≡ Some r.0 = slice_get_read w (length w) r.1.0 r.0 refl r.1.1 (sym r.1.2) in (
+        r.1.0,
+        subst (λ (o : Option (Machine T)). Contains (history_of o) (Sent e)) (sym at)
+            (Contains-sent_cases r.0.history e r.2),
+      )
 
   -- each entry that was sent was sent after some history
   pub was_sent : (w : World T) (e : T) → Contains (sent_in w) e → (past : List (Event T)) × WasSentAfter w past e
@@ -60,10 +76,14 @@ module _ {T : Type 0} where
       (s.0, (r.0, s.1, s.2))
 
   pub sent_from_after : (w : World T) (past : List (Event T)) (e : T) → WasSentAfter w past e → Contains (sent_in w) e
-  sent_from_after w past e (m, later, is) = sent_in_from w m e (subst (λ (h : List (Event T)). Contains h (Sent e)) (sym is) (Contains-append_right past (Sent e ∷ later) (Sent e) (Contains-head (Sent e) later)))
+  sent_from_after w past e (m, later, is) =
+      sent_in_from w m e
+      (subst (λ (h : List (Event T)). Contains h (Sent e)) (sym is)
+      (Contains-append_right past (Sent e ∷ later) (Sent e) (Contains-head (Sent e) later)))
 
 -- two paths make one
-join : {T : Type 0} (node : T → Node) (E : List T) (f : T) (bs : List T) (g : T) (cs : List T) (e : T) → IsPath node E f bs g → Contains E g → IsPath node E g cs e → IsPath node E f (bs ++ g ∷ cs) e
+join : {T : Type 0} (node : T → Node) (E : List T) (f : T) (bs : List T) (g : T) (cs : List T) (e : T) →
+    IsPath node E f bs g → Contains E g → IsPath node E g cs e → IsPath node E f (bs ++ g ∷ cs) e
 join node E f [] g cs e p c q = (c, p, q)
 join node E f (b ∷ bs) g cs e p c q = (p.0, p.1, join node E b bs g cs e p.2 c q)
 
@@ -74,10 +94,13 @@ along w f g e h (descendant {g = d} past s c i) = descendant past s c (along w f
 
 module _ {T : Type 0} (node : T → Node) (w : World T) (orderly : IsOrderly node w) where
   -- what a machine held when it sent was sent
-  pub held_was_sent : (past : List (Event T)) (e : T) → WasSentAfter w past e → (f : T) → Contains (held past) f → Contains (sent_in w) f
+  pub held_was_sent : (past : List (Event T)) (e : T) → WasSentAfter w past e → (f : T) → Contains (held past) f →
+      Contains (sent_in w) f
   held_was_sent past e (m, later, is) f c =
       let r = Contains-map_cases entry_of past f c in
-      of_event r.0 (subst (λ (h : List (Event T)). Contains h r.0) (sym is) (Contains-append_left past (Sent e ∷ later) r.0 r.1)) r.2
+      of_event r.0
+      (subst (λ (h : List (Event T)). Contains h r.0) (sym is)
+      (Contains-append_left past (Sent e ∷ later) r.0 r.1)) r.2
     where
       of_event : (x : Event T) → Contains (history w m) x → entry_of x ≡ f → Contains (sent_in w) f
       of_event (Sent g) h s = subst (λ (u : T). Contains (sent_in w) u) s (sent_in_from w m g h)
@@ -89,36 +112,50 @@ module _ {T : Type 0} (node : T → Node) (w : World T) (orderly : IsOrderly nod
 
   module _ (distinct : Distinct node (sent_in w)) where
     -- what an entry names, its maker held
-    edge : (past : List (Event T)) (e : T) → WasSentAfter w past e → (f : T) → Contains (sent_in w) f → Names node e f → Contains (held past) f
+    edge : (past : List (Event T)) (e : T) → WasSentAfter w past e → (f : T) → Contains (sent_in w) f →
+        Names node e f → Contains (held past) f
     edge past e s f c n =
-        let r = frontier_entry node (held past) (node f).digest (subst (λ (ds : List (List ℕ)). Contains ds (node f).digest) (next_of past e s).names n) in
+        let r = frontier_entry node (held past) (node f).digest
+        (subst (λ (ds : List (List ℕ)). Contains ds (node f).digest) (next_of past e s).names n) in
         subst (λ (u : T). Contains (held past) u) (distinct r.0 f (held_was_sent past e s r.0 r.1) c r.2) r.1
 
     -- stamps rise along names
-    pub rises : (f g : T) → Contains (sent_in w) f → Contains (sent_in w) g → Names node g f → (node f).stamp < (node g).stamp
+    pub rises : (f g : T) → Contains (sent_in w) f → Contains (sent_in w) g → Names node g f →
+        (node f).stamp < (node g).stamp
     rises f g cf cg n =
         let r = was_sent w g cg in
         let below = stamp_below node (held r.0) f (edge r.0 g r.1 f cf n) in
         let is = (next_of r.0 g r.1).stamp in
         omega arith
 
-    -- from each entry that e's maker held there is a path to e: either it is in the frontier, or a later one of those held names it
-    covered_by : (past : List (Event T)) (e : T) → WasSentAfter w past e → (fuel : ℕ) (f : T) → Contains (held past) f → greatest_stamp node (held past) < (node f).stamp + suc fuel → (b : Bool) → is_named node (held past) (node f).digest ≡ b
-        → ((g : T) → Contains (held past) g → greatest_stamp node (held past) < (node g).stamp + fuel → (between : List T) × IsPath node (sent_in w) g between e)
+    -- from each entry that e's maker held there is a path to e: it is in the frontier, or a later one held names it
+    covered_by : (past : List (Event T)) (e : T) → WasSentAfter w past e → (fuel : ℕ) (f : T) →
+        Contains (held past) f → greatest_stamp node (held past) < (node f).stamp + suc fuel → (b : Bool) →
+        is_named node (held past) (node f).digest ≡ b
+        → ((g : T) → Contains (held past) g → greatest_stamp node (held past) < (node g).stamp + fuel →
+        (between : List T) × IsPath node (sent_in w) g between e)
         → (between : List T) × IsPath node (sent_in w) f between e
-    covered_by past e s fuel f c enough false free from = ([], subst (λ (ds : List (List ℕ)). Contains ds (node f).digest) (sym (next_of past e s).names) (in_frontier node (held past) f c free))
+    covered_by past e s fuel f c enough false free from = (
+      [],
+      subst (λ (ds : List (List ℕ)). Contains ds (node f).digest) (sym (next_of past e s).names)
+          (in_frontier node (held past) f c free),
+    )
     covered_by past e s fuel f c enough true named from =
-        let n = namer node (held past) f named in
+        let n = is_named_from node (held past) (node f).digest named in
         let cg = held_was_sent past e s n.0 n.1 in
         let up = rises f n.0 (held_was_sent past e s f c) cg n.2 in
         let rest = from n.0 n.1 (omega arith) in
         (n.0 ∷ rest.0, (cg, n.2, rest.1))
 
-    covered : (past : List (Event T)) (e : T) → WasSentAfter w past e → (fuel : ℕ) (f : T) → Contains (held past) f → greatest_stamp node (held past) < (node f).stamp + fuel → (between : List T) × IsPath node (sent_in w) f between e
+    covered : (past : List (Event T)) (e : T) → WasSentAfter w past e → (fuel : ℕ) (f : T) →
+        Contains (held past) f → greatest_stamp node (held past) < (node f).stamp + fuel →
+        (between : List T) × IsPath node (sent_in w) f between e
     covered past e s zero f c enough = absurd (let below = stamp_below node (held past) f c in omega arith)
-    covered past e s (suc fuel) f c enough = covered_by past e s fuel f c enough (is_named node (held past) (node f).digest) refl (covered past e s fuel)
+    covered past e s (suc fuel) f c enough =
+        covered_by past e s fuel f c enough (is_named node (held past) (node f).digest) refl (covered past e s fuel)
 
-    reached : (past : List (Event T)) (e : T) → WasSentAfter w past e → (f : T) → Contains (held past) f → (between : List T) × IsPath node (sent_in w) f between e
+    reached : (past : List (Event T)) (e : T) → WasSentAfter w past e → (f : T) → Contains (held past) f →
+        (between : List T) × IsPath node (sent_in w) f between e
     reached past e s f c = covered past e s (greatest_stamp node (held past) + 1) f c (omega arith)
 
     path_from_held : (f e : T) → HeldBefore w f e → (between : List T) × IsPath node (sent_in w) f between e
@@ -131,9 +168,13 @@ module _ {T : Type 0} (node : T → Node) (w : World T) (orderly : IsOrderly nod
     held_from_name : (f e : T) → Contains (sent_in w) f → Contains (sent_in w) e → Names node e f → HeldBefore w f e
     held_from_name f e cf ce n = let r = was_sent w e ce in itself r.0 r.1 (edge r.0 e r.1 f cf n)
 
-    held_from_path : (f : T) (between : List T) (e : T) → Contains (sent_in w) f → Contains (sent_in w) e → IsPath node (sent_in w) f between e → HeldBefore w f e
+    held_from_path : (f : T) (between : List T) (e : T) → Contains (sent_in w) f → Contains (sent_in w) e →
+        IsPath node (sent_in w) f between e → HeldBefore w f e
     held_from_path f [] e cf ce n = held_from_name f e cf ce n
-    held_from_path f (g ∷ gs) e cf ce p = along w f g e (held_from_name f g cf p.0 p.1) (held_from_path g gs e p.0 ce p.2)
+    held_from_path f (g ∷ gs) e cf ce p =
+        along w f g e (held_from_name f g cf p.0 p.1) (held_from_path g gs e p.0 ce p.2)
 
-    pub one_order : (f e : T) → Contains (sent_in w) f → Contains (sent_in w) e → Precedes node (sent_in w) f e ↔ HeldBefore w f e
-    one_order f e cf ce = (λ p. held_from_path f p.2 e cf ce p.3, λ h. let p = path_from_held f e h in (cf, ce, p.0, p.1))
+    pub one_order : (f e : T) → Contains (sent_in w) f → Contains (sent_in w) e →
+        Precedes node (sent_in w) f e ↔ HeldBefore w f e
+    one_order f e cf ce =
+        (λ p. held_from_path f p.2 e cf ce p.3, λ h. let p = path_from_held f e h in (cf, ce, p.0, p.1))

@@ -1,5 +1,6 @@
 -- Each world that steps lead to has legal histories, and each entry that was got had been sent.
-use Rattle.std.proofs.Common.{◌≡◌, ◌≢◌, ℕ, zero, suc, Bool, true, false, cond, List, [], ◌∷◌, ◌++◌, length, refl, sym, ap, subst, ◌∙◌, ◌⊎◌, inl, inr, Some, None, Option}
+use Rattle.std.proofs.Common.{◌≡◌, ◌≢◌, ℕ, zero, suc, Bool, true, false, cond, List, [], ◌∷◌, ◌++◌, length, refl, sym}
+use Rattle.std.proofs.Common.{ap, subst, ◌∙◌, ◌⊎◌, inl, inr, Some, None, Option}
 use Rattle.std.specs.Prelude.{slice_get, ◌||◌, nat_le, ◌==◌}
 use Rattle.std.specs.List.{Contains}
 use Rattle.std.specs.Str.{bytes_eq}
@@ -15,7 +16,8 @@ use Rattle.entry_order.specs.declared.step.Step.TheVariants.{Act, Hear, Stop}
 use Rattle.entry_order.specs.Node.{Node}
 use Rattle.entry_order.specs.Naming.{has_digest, IsNew}
 use Rattle.entry_order.specs.History.{held, sent, MayFollow, IsLegal}
-use Rattle.entry_order.specs.World.{Machine, World, start, history, sent_in, with_machine, append, stop, send, refuses, hear, IsLawful, happens, play}
+use Rattle.entry_order.specs.World.{Machine, World, start, history, sent_in, with_machine, append, stop, send}
+use Rattle.entry_order.specs.World.{cannot_hear, hear, IsLawful, happens, play}
 use Rattle.entry_order.specs.Receipt.{IsOrderly, OrderIsReceipt}
 use Rattle.entry_order.proofs.Lists.{Contains-none, Contains-cons_cases}
 use Rattle.entry_order.proofs.Orders.{Contains-sent_cases, member_split, sent_in_from, sent_in_cases, one_order}
@@ -23,7 +25,8 @@ use Rattle.entry_order.proofs.Orders.{Contains-sent_cases, member_split, sent_in
 -- ---- one event more in a history
 
 -- where one more is put at the end, a place in the list is an earlier one or the last
-last_or_earlier : {X : Type 0} (xs : List X) (x : X) (before : List X) (y : X) (later : List X) → xs ++ x ∷ [] ≡ before ++ y ∷ later → ((rest : List X) × (xs ≡ before ++ y ∷ rest)) ⊎ ((xs ≡ before) × (x ≡ y))
+last_or_earlier : {X : Type 0} (xs : List X) (x : X) (before : List X) (y : X) (later : List X) →
+    xs ++ x ∷ [] ≡ before ++ y ∷ later → ((rest : List X) × (xs ≡ before ++ y ∷ rest)) ⊎ ((xs ≡ before) × (x ≡ y))
 last_or_earlier [] x [] y later e = inr (refl, cc)
 last_or_earlier [] x (b ∷ []) y later e = cc
 last_or_earlier [] x (b ∷ c ∷ before) y later e = cc
@@ -31,15 +34,18 @@ last_or_earlier (a ∷ xs) x [] y later e = inl (xs, cc)
 last_or_earlier {X} (a ∷ xs) x (b ∷ before) y later e =
     let head : a ≡ b = cc in
     let tail : xs ++ x ∷ [] ≡ before ++ y ∷ later = cc in
-    let earlier : (rest : List X) × (xs ≡ before ++ y ∷ rest) → (rest : List X) × (a ∷ xs ≡ b ∷ (before ++ y ∷ rest)) = λ r. (r.0, cc (r.1, head)) in
+    let earlier : (rest : List X) × (xs ≡ before ++ y ∷ rest) →
+    (rest : List X) × (a ∷ xs ≡ b ∷ (before ++ y ∷ rest)) = λ r. (r.0, cc (r.1, head)) in
     let last : (xs ≡ before) × (x ≡ y) → (a ∷ xs ≡ b ∷ before) × (x ≡ y) = λ r. (cc (r.0, head), r.1) in
     elim (last_or_earlier xs x before y later tail) [ inl r ↦ inl (earlier r) | inr r ↦ inr (last r) ]
 
 module _ {T : Type 0} (node : T → Node) where
-  IsLegal-push : (owner : ℕ) (h : List (Event T)) (x : Event T) → IsLegal node owner h → MayFollow node owner h x → IsLegal node owner (h ++ x ∷ [])
+  IsLegal-push : (owner : ℕ) (h : List (Event T)) (x : Event T) → IsLegal node owner h → MayFollow node owner h x →
+      IsLegal node owner (h ++ x ∷ [])
   IsLegal-push owner h x legal may before y later e =
       let last : (h ≡ before) × (x ≡ y) → MayFollow node owner before y =
-      λ r. subst (λ (u : Event T). MayFollow node owner before u) r.1 (subst (λ (p : List (Event T)). MayFollow node owner p x) r.0 may) in
+      λ r. subst (λ (u : Event T). MayFollow node owner before u) r.1
+      (subst (λ (p : List (Event T)). MayFollow node owner p x) r.0 may) in
       elim (last_or_earlier h x before y later e) [ inl r ↦ legal before y r.0 r.1 | inr r ↦ last r ]
 
   IsLegal-none : (owner : ℕ) → IsLegal node owner []
@@ -51,13 +57,18 @@ module _ {T : Type 0} (node : T → Node) where
   IsNew-from_test es e free g c s =
       let (i, l, at) = c in
       let found : has_digest node es (node e).digest ≡ true =
-      list_any_at (λ u. bytes_eq (node u).digest (node e).digest) es i g l (ap (λ u. bytes_eq (node u).digest (node e).digest) at ∙ (bytes_eq-Decides (node g).digest (node e).digest).1 s) in
+      list_any_at (λ u. bytes_eq (node u).digest (node e).digest) es i g l
+      (ap (λ u. bytes_eq (node u).digest (node e).digest) at
+      ∙ (bytes_eq-Decides (node g).digest (node e).digest).1 s) in
       false≢true (sym free ∙ found)
 
 -- ---- one machine changed
 
 -- a machine's history after machine m changed
-changed : {T : Type 0} (m : ℕ) (change : Machine T → Machine T) (w : World T) (n : ℕ) → (history (with_machine m change w) n ≡ history w n) ⊎ ((n ≡ m) × ((a : Machine T) × (history w n ≡ a.history) × (history (with_machine m change w) n ≡ (change a).history)))
+changed : {T : Type 0} (m : ℕ) (change : Machine T → Machine T) (w : World T) (n : ℕ) →
+    (history (with_machine m change w) n ≡ history w n) ⊎
+    ((n ≡ m)
+    × ((a : Machine T) × (history w n ≡ a.history) × (history (with_machine m change w) n ≡ (change a).history)))
 changed m change [] n = inl refl
 changed zero change (a ∷ w) zero = inr (refl, (a, refl, refl))
 changed zero change (a ∷ w) (suc n) = inl refl
@@ -77,15 +88,24 @@ module _ {T : Type 0} (node : T → Node) (w : World T) where
   Grows n h new = (new ≡ h) ⊎ ((x : Event T) × (new ≡ h ++ x ∷ []) × MayFollow node n h x × WasSentIfGot x)
 
   -- what a change does to one history is what the step does to the world's
-  Grows-changed : (m : ℕ) (change : Machine T → Machine T) → ((a : Machine T) → history w m ≡ a.history → Grows m a.history (change a).history) → (n : ℕ) → Grows n (history w n) (history (with_machine m change w) n)
+  Grows-changed : (m : ℕ) (change : Machine T → Machine T) →
+      ((a : Machine T) → history w m ≡ a.history → Grows m a.history (change a).history) → (n : ℕ) →
+      Grows n (history w n) (history (with_machine m change w) n)
   Grows-changed m change grows n =
-      let at : (n ≡ m) × ((a : Machine T) × (history w n ≡ a.history) × (history (with_machine m change w) n ≡ (change a).history)) → Grows n (history w n) (history (with_machine m change w) n) =
+      let at : (n ≡ m)
+      × ((a : Machine T) × (history w n ≡ a.history)
+      × (history (with_machine m change w) n ≡ (change a).history)) →
+      Grows n (history w n) (history (with_machine m change w) n) =
       λ (is, (a, was, new)).
-      let here : Grows n a.history (change a).history = subst (λ (i : ℕ). Grows i a.history (change a).history) (sym is) (grows a (subst (λ (i : ℕ). history w i ≡ a.history) is was)) in
-      subst (λ (h : List (Event T)). Grows n h (history (with_machine m change w) n)) (sym was) (subst (λ (h : List (Event T)). Grows n a.history h) (sym new) here) in
+      let here : Grows n a.history (change a).history =
+      subst (λ (i : ℕ). Grows i a.history (change a).history) (sym is)
+      (grows a (subst (λ (i : ℕ). history w i ≡ a.history) is was)) in
+      subst (λ (h : List (Event T)). Grows n h (history (with_machine m change w) n)) (sym was)
+      (subst (λ (h : List (Event T)). Grows n a.history h) (sym new) here) in
       elim (changed m change w n) [ inl e ↦ inl e | inr r ↦ at r ]
 
-  Grows-send : (m : ℕ) (o : Option T) (a : Machine T) → ((e : T) → o ≡ Some e → MayFollow node m a.history (Sent e)) → Grows m a.history (send o a).history
+  Grows-send : (m : ℕ) (o : Option T) (a : Machine T) →
+      ((e : T) → o ≡ Some e → MayFollow node m a.history (Sent e)) → Grows m a.history (send o a).history
   Grows-send m None a may = inl refl
   Grows-send m (Some e) a may = by a.stopped
     where
@@ -93,48 +113,73 @@ module _ {T : Type 0} (node : T → Node) (w : World T) where
       by true = inl refl
       by false = inr (Sent e, refl, may e refl, tt)
 
-  Grows-hear : (m log : ℕ) (o : Option T) (a : Machine T) → ((e : T) → o ≡ Some e → ((node e).maker ≢ m) × Contains (sent_in w) e) → Grows m a.history (hear node log o a).history
+  Grows-hear : (m log : ℕ) (o : Option T) (a : Machine T) →
+      ((e : T) → o ≡ Some e → ((node e).maker ≢ m) × Contains (sent_in w) e) →
+      Grows m a.history (hear node log o a).history
   Grows-hear m log None a from = inl refl
-  Grows-hear m log (Some e) a from = by (refuses node log a (node e).digest) refl
+  Grows-hear m log (Some e) a from = by (cannot_hear node log a (node e).digest) refl
     where
-      by : (b : Bool) → refuses node log a (node e).digest ≡ b → Grows m a.history (cond b a (append (Got e) a)).history
+      by : (b : Bool) → cannot_hear node log a (node e).digest ≡ b → Grows m a.history (cond b a (append (Got e) a)).history
       by true s = inl refl
       by false s =
-          let free = (or_parts a.stopped (has_digest node (held a.history) (node e).digest) (or_parts (a.stopped || has_digest node (held a.history) (node e).digest) (nat_le log (length a.history)) s).0).1 in
+          let free =
+          (or_parts a.stopped (has_digest node (held a.history) (node e).digest)
+          (or_parts (a.stopped || has_digest node (held a.history) (node e).digest)
+          (nat_le log (length a.history)) s).0).1 in
           let sure = from e refl in
           inr (Got e, refl, (IsNew-from_test node (held a.history) e free, sure.0), sure.1)
 
-  module _ (next : ℕ → List (Event T) → Option T) (log : ℕ) (lawful : IsLawful node next) (orderly : IsOrderly node w) where
+  module _ (next : ℕ → List (Event T) → Option T) (log : ℕ) (lawful : IsLawful node next)
+      (orderly : IsOrderly node w) where
     -- what a machine sent has it as its maker
     made_by : (from : ℕ) (e : T) → Contains (sent (history w from)) e → (node e).maker ≡ from
-    made_by from e c = let s = member_split (history w from) (Sent e) (Contains-sent_cases (history w from) e c) in (orderly.legal from s.0 (Sent e) s.1 s.2).1.maker
+    made_by from e c =
+        let s = member_split (history w from) (Sent e) (Contains-sent_cases (history w from) e c) in
+        (orderly.legal from s.0 (Sent e) s.1 s.2).1.maker
 
-    nth_was_sent : (from number : ℕ) (e : T) → slice_get (sent (history w from)) number ≡ Some e → Contains (sent (history w from)) e
-    nth_was_sent from number e s = (number, slice_get_within (sent (history w from)) number e s, get_or_from_slice_get (sent (history w from)) number e e s)
+    nth_was_sent : (from number : ℕ) (e : T) → slice_get (sent (history w from)) number ≡ Some e →
+        Contains (sent (history w from)) e
+    nth_was_sent from number e s = (
+      number,
+      slice_get_within (sent (history w from)) number e s,
+      get_or_from_slice_get
+          (sent (history w from)) number e e s,
+    )
 
     Grows-step : (s : Step) (n : ℕ) → Grows n (history w n) (history (happens node next log w s) n)
-    Grows-step (Act m) n = Grows-changed m (λ a. send (next m a.history) a) (λ a was. Grows-send m (next m a.history) a (λ e is. lawful m a.history e is)) n
+    Grows-step (Act m) n =
+        Grows-changed m (λ a. send (next m a.history) a)
+        (λ a was. Grows-send m (next m a.history) a (λ e is. lawful m a.history e is)) n
     Grows-step (Hear at from number) n = by (at == from) refl
       where
-        by : (b : Bool) → (at == from) ≡ b → Grows n (history w n) (history (cond b w (with_machine at (hear node log (slice_get (sent (history w from)) number)) w)) n)
+        by : (b : Bool) → (at == from) ≡ b →
+            Grows n (history w n)
+            (history (cond b w (with_machine at (hear node log (slice_get (sent (history w from)) number)) w)) n)
         by true s = inl refl
         by false s =
             Grows-changed at (hear node log (slice_get (sent (history w from)) number))
             (λ a was. Grows-hear at log (slice_get (sent (history w from)) number) a
-            (λ e is. let c = nth_was_sent from number e is in (λ me. eqb-false at from s (sym me ∙ made_by from e c), sent_in_from w from e (Contains-sent_cases (history w from) e c))))
+            (λ e is. let c = nth_was_sent from number e is in (
+              λ me. eqb-false at from s (sym me ∙ made_by from e c),
+              sent_in_from w from e
+                  (Contains-sent_cases (history w from) e c),
+            )))
             n
     Grows-step (Stop m) n = Grows-changed m stop (λ a was. inl refl) n
 
     -- what was in a history still is
-    Contains-step : (s : Step) (m : ℕ) (x : Event T) → Contains (history w m) x → Contains (history (happens node next log w s) m) x
+    Contains-step : (s : Step) (m : ℕ) (x : Event T) → Contains (history w m) x →
+        Contains (history (happens node next log w s) m) x
     Contains-step s m x c =
         elim (Grows-step s m) [
           | inl e ↦ subst (λ (h : List (Event T)). Contains h x) (sym e) c
-          | inr r ↦ subst (λ (h : List (Event T)). Contains h x) (sym r.1) (Contains-append_left (history w m) (r.0 ∷ []) x c)
+          | inr r ↦ subst (λ (h : List (Event T)). Contains h x) (sym r.1)
+              (Contains-append_left (history w m) (r.0 ∷ []) x c)
         ]
 
     sent_in-step : (s : Step) (e : T) → Contains (sent_in w) e → Contains (sent_in (happens node next log w s)) e
-    sent_in-step s e c = let r = sent_in_cases w e c in sent_in_from (happens node next log w s) r.0 e (Contains-step s r.0 (Sent e) r.1)
+    sent_in-step s e c =
+        let r = sent_in_cases w e c in sent_in_from (happens node next log w s) r.0 e (Contains-step s r.0 (Sent e) r.1)
 
     IsOrderly-step : (s : Step) → IsOrderly node (happens node next log w s)
     IsOrderly-step s = record { legal = legal; heard = heard }
@@ -143,17 +188,27 @@ module _ {T : Type 0} (node : T → Node) (w : World T) where
         legal m =
             elim (Grows-step s m) [
               | inl e ↦ subst (λ (h : List (Event T)). IsLegal node m h) (sym e) (orderly.legal m)
-              | inr r ↦ subst (λ (h : List (Event T)). IsLegal node m h) (sym r.1) (IsLegal-push node m (history w m) r.0 (orderly.legal m) r.2)
+              | inr r ↦ subst (λ (h : List (Event T)). IsLegal node m h) (sym r.1)
+                  (IsLegal-push node m (history w m) r.0 (orderly.legal m) r.2)
             ]
 
-        got_before : (m : ℕ) (e : T) → Grows m (history w m) (history (happens node next log w s) m) → Contains (history (happens node next log w s) m) (Got e) → Contains (sent_in w) e
+        got_before : (m : ℕ) (e : T) → Grows m (history w m) (history (happens node next log w s) m) →
+            Contains (history (happens node next log w s) m) (Got e) → Contains (sent_in w) e
         got_before m e (inl is) c = orderly.heard m e (subst (λ (h : List (Event T)). Contains h (Got e)) is c)
         got_before m e (inr (x, is, may, was)) c =
             let new : Contains (x ∷ []) (Got e) → Contains (sent_in w) e =
-            λ h. elim (Contains-cons_cases x [] (Got e) h) [ inl y ↦ subst WasSentIfGot y was | inr n ↦ absurd (Contains-none (Got e) n) ] in
-            elim (Contains-append_cases (history w m) (x ∷ []) (Got e) (subst (λ (h : List (Event T)). Contains h (Got e)) is c)) [ inl h ↦ orderly.heard m e h | inr h ↦ new h ]
+            λ h. elim
+            (Contains-cons_cases x [] (Got e) h) [
+              | inl y ↦ subst WasSentIfGot y was
+              | inr n ↦ absurd
+                  (Contains-none (Got e) n)
+            ] in
+            elim (Contains-append_cases (history w m) (x ∷ []) (Got e)
+            (subst (λ (h : List (Event T)). Contains h
+            (Got e)) is c)) [ inl h ↦ orderly.heard m e h | inr h ↦ new h ]
 
-        heard : (m : ℕ) (e : T) → Contains (history (happens node next log w s) m) (Got e) → Contains (sent_in (happens node next log w s)) e
+        heard : (m : ℕ) (e : T) → Contains (history (happens node next log w s) m) (Got e) →
+            Contains (sent_in (happens node next log w s)) e
         heard m e c = sent_in-step s e (got_before m e (Grows-step s m) c)
 
 -- ---- the whole run
@@ -166,14 +221,19 @@ module _ {T : Type 0} (node : T → Node) where
 
   pub IsOrderly-start : (machines : ℕ) → IsOrderly node (start machines)
   IsOrderly-start machines = record {
-    legal = λ m. subst (λ (h : List (Event T)). IsLegal node m h) (sym (start_is_empty machines m)) (IsLegal-none node m);
-    heard = λ m e c. absurd (Contains-none (Got e) (subst (λ (h : List (Event T)). Contains h (Got e)) (start_is_empty machines m) c));
+    legal = λ m. subst (λ (h : List (Event T)). IsLegal node m h) (sym (start_is_empty machines m))
+        (IsLegal-none node m);
+    heard = λ m e c. absurd
+        (Contains-none (Got e) (subst (λ (h : List (Event T)). Contains h (Got e)) (start_is_empty machines m) c));
   }
 
-  pub IsOrderly-play : (next : ℕ → List (Event T) → Option T) (log : ℕ) → IsLawful node next → (w : World T) (steps : List Step) → IsOrderly node w → IsOrderly node (play node next log w steps)
+  pub IsOrderly-play : (next : ℕ → List (Event T) → Option T) (log : ℕ) → IsLawful node next →
+      (w : World T) (steps : List Step) → IsOrderly node w → IsOrderly node (play node next log w steps)
   IsOrderly-play next log lawful w [] o = o
-  IsOrderly-play next log lawful w (s ∷ steps) o = IsOrderly-play next log lawful (happens node next log w s) steps (IsOrderly-step node w next log lawful o s)
+  IsOrderly-play next log lawful w (s ∷ steps) o =
+      IsOrderly-play next log lawful (happens node next log w s) steps (IsOrderly-step node w next log lawful o s)
 
   pub order_is_receipt : OrderIsReceipt node
   order_is_receipt next log machines steps lawful distinct f e cf ce =
-      one_order node (play node next log (start machines) steps) (IsOrderly-play next log lawful (start machines) steps (IsOrderly-start machines)) distinct f e cf ce
+      one_order node (play node next log (start machines) steps)
+      (IsOrderly-play next log lawful (start machines) steps (IsOrderly-start machines)) distinct f e cf ce

@@ -1,5 +1,6 @@
 -- Ranks rise along a history, and from a sending to each receipt of it.
-use Rattle.std.proofs.Common.{◌≡◌, ℕ, ◌+◌, ◌<◌, ◌≤◌, max, List, [], ◌∷◌, ◌++◌, map, length, refl, sym, ap, subst, ◌∙◌, inl, inr, append_assoc, length-append, arith}
+use Rattle.std.proofs.Common.{◌≡◌, ℕ, ◌+◌, ◌<◌, ◌≤◌, max, List, [], ◌∷◌, ◌++◌, map, length, refl, sym, ap, subst, ◌∙◌}
+use Rattle.std.proofs.Common.{inl, inr, append_assoc, length-append, arith}
 use Rattle.std.specs.List.{fold}
 use Rattle.std.specs.Cmp.Lexicographic.{slice_cmp}
 use Rattle.std.specs.Ordering.{nat_cmp, ordering_then}
@@ -13,7 +14,7 @@ use Rattle.entry_order.specs.Node.{Node}
 use Rattle.entry_order.specs.History.{entry_of, held, greatest_stamp, IsLegal}
 use Rattle.entry_order.specs.Merged.{kind, rank, placed}
 use Rattle.entry_order.proofs.Lists.{Contains-head, Contains-map}
-use Rattle.entry_order.proofs.Frontiers.{stamp_below, top_at_least}
+use Rattle.entry_order.proofs.Stamps.{stamp_below, top_at_least}
 
 less : (a b : ℕ) → a < b → nat_cmp a b ≡ Less
 less a b l = grind (arith, nat_tests)
@@ -24,7 +25,8 @@ tied a b e = grind (arith, nat_tests)
 first_less : (a b : ℕ) (xs ys : List ℕ) → a < b → slice_cmp nat_cmp (a ∷ xs) (b ∷ ys) ≡ Less
 first_less a b xs ys l = ap (λ o. ordering_then o (slice_cmp nat_cmp xs ys)) (less a b l)
 
-first_tied : (a b : ℕ) (xs ys : List ℕ) → a ≡ b → slice_cmp nat_cmp xs ys ≡ Less → slice_cmp nat_cmp (a ∷ xs) (b ∷ ys) ≡ Less
+first_tied : (a b : ℕ) (xs ys : List ℕ) → a ≡ b → slice_cmp nat_cmp xs ys ≡ Less →
+    slice_cmp nat_cmp (a ∷ xs) (b ∷ ys) ≡ Less
 first_tied a b xs ys e l = ap (λ o. ordering_then o (slice_cmp nat_cmp xs ys)) (tied a b e) ∙ l
 
 fold_append : {A B : Type 0} (f : B → A → B) (a : B) (xs ys : List A) → fold f a (xs ++ ys) ≡ fold f (fold f a xs) ys
@@ -39,17 +41,23 @@ module _ {T : Type 0} (node : T → Node) where
   -- what is held more doesn't lower the greatest stamp
   pub greatest_more : (p q : List (Event T)) → greatest_stamp node (held p) ≤ greatest_stamp node (held (p ++ q))
   greatest_more p q =
-      let e = ap (greatest_stamp node) (map_append entry_of p q) ∙ fold_append (λ top e. max top (node e).stamp) 0 (held p) (held q) in
+      let e = ap (greatest_stamp node) (map_append entry_of p q)
+      ∙ fold_append (λ top e. max top (node e).stamp) 0 (held p) (held q) in
       let l = top_at_least node (greatest_stamp node (held p)) (held q) in
       omega arith
 
-  pub stamp_at_most : (p : List (Event T)) (x : Event T) → (node (entry_of x)).stamp ≤ greatest_stamp node (held (p ++ x ∷ []))
-  stamp_at_most p x = stamp_below node (held (p ++ x ∷ [])) (entry_of x) (Contains-map entry_of (p ++ x ∷ []) x (Contains-append_right p (x ∷ []) x (Contains-head x [])))
+  pub stamp_at_most : (p : List (Event T)) (x : Event T) →
+      (node (entry_of x)).stamp ≤ greatest_stamp node (held (p ++ x ∷ []))
+  stamp_at_most p x =
+      stamp_below node (held (p ++ x ∷ [])) (entry_of x)
+      (Contains-map entry_of (p ++ x ∷ []) x (Contains-append_right p (x ∷ []) x (Contains-head x [])))
 
   -- after a sending the greatest stamp is the entry's
-  pub top_of_sent : (p : List (Event T)) (e : T) → (node e).stamp ≡ 1 + greatest_stamp node (held p) → greatest_stamp node (held (p ++ Sent e ∷ [])) ≡ (node e).stamp
+  pub top_of_sent : (p : List (Event T)) (e : T) → (node e).stamp ≡ 1 + greatest_stamp node (held p) →
+      greatest_stamp node (held (p ++ Sent e ∷ [])) ≡ (node e).stamp
   top_of_sent p e is =
-      let a = ap (greatest_stamp node) (map_append entry_of p (Sent e ∷ [])) ∙ fold_append (λ top e. max top (node e).stamp) 0 (held p) (e ∷ []) in
+      let a = ap (greatest_stamp node) (map_append entry_of p (Sent e ∷ []))
+      ∙ fold_append (λ top e. max top (node e).stamp) 0 (held p) (e ∷ []) in
       omega arith
 
   later_place : (before : List (Event T)) (x : Event T) (b : List (Event T)) → length before < length (before ++ x ∷ b)
@@ -58,48 +66,61 @@ module _ {T : Type 0} (node : T → Node) where
   -- the later event of two has the higher rank
   by_later : (m : ℕ) (before : List (Event T)) (x : Event T) (b : List (Event T)) (y : Event T) →
       greatest_stamp node (held (before ++ x ∷ [])) ≤ greatest_stamp node (held ((before ++ x ∷ b) ++ y ∷ [])) →
-      (greatest_stamp node (held (before ++ x ∷ [])) ≡ greatest_stamp node (held ((before ++ x ∷ b) ++ y ∷ [])) → kind y ≡ 1) →
+      (greatest_stamp node (held (before ++ x ∷ [])) ≡ greatest_stamp node (held ((before ++ x ∷ b) ++ y ∷ [])) →
+      kind y ≡ 1) →
       slice_cmp nat_cmp (rank (placed node m before x)) (rank (placed node m (before ++ x ∷ b) y)) ≡ Less
   by_later m before x b y le got =
       let tx = greatest_stamp node (held (before ++ x ∷ [])) in
       let ty = greatest_stamp node (held ((before ++ x ∷ b) ++ y ∷ [])) in
       let px = length before in
       let py = length (before ++ x ∷ b) in
-      let places : slice_cmp nat_cmp (m ∷ px ∷ []) (m ∷ py ∷ []) ≡ Less = first_tied m m (px ∷ []) (py ∷ []) refl (first_less px py [] [] (later_place before x b)) in
-      let kinds : (c : ℕ) → kind x ≡ c → c ≤ 1 → kind y ≡ 1 → slice_cmp nat_cmp (kind x ∷ m ∷ px ∷ []) (kind y ∷ m ∷ py ∷ []) ≡ Less =
+      let places : slice_cmp nat_cmp (m ∷ px ∷ []) (m ∷ py ∷ []) ≡ Less =
+      first_tied m m (px ∷ []) (py ∷ []) refl (first_less px py [] [] (later_place before x b)) in
+      let kinds : (c : ℕ) → kind x ≡ c → c ≤ 1 → kind y ≡ 1 →
+      slice_cmp nat_cmp (kind x ∷ m ∷ px ∷ []) (kind y ∷ m ∷ py ∷ []) ≡ Less =
       λ c is l one. elim (cases_order c 1) [
         | inl same ↦ first_tied (kind x) (kind y) (m ∷ px ∷ []) (m ∷ py ∷ []) (is ∙ same ∙ sym one) places
-        | inr o ↦ first_less (kind x) (kind y) (m ∷ px ∷ []) (m ∷ py ∷ []) (elim o [ inl low ↦ omega arith | inr high ↦ absurd (omega arith) ])
+        | inr o ↦ first_less (kind x) (kind y) (m ∷ px ∷ []) (m ∷ py ∷ [])
+            (elim o [ inl low ↦ omega arith | inr high ↦ absurd (omega arith) ])
       ] in
       elim (cases_order tx ty) [
-        | inl same ↦ first_tied tx ty (kind x ∷ m ∷ px ∷ []) (kind y ∷ m ∷ py ∷ []) same (kinds (kind x) refl (kind_le x) (got same))
-        | inr o ↦ first_less tx ty (kind x ∷ m ∷ px ∷ []) (kind y ∷ m ∷ py ∷ []) (elim o [ inl low ↦ low | inr high ↦ absurd (omega arith) ])
+        | inl same ↦ first_tied tx ty (kind x ∷ m ∷ px ∷ []) (kind y ∷ m ∷ py ∷ []) same
+            (kinds (kind x) refl (kind_le x) (got same))
+        | inr o ↦ first_less tx ty (kind x ∷ m ∷ px ∷ []) (kind y ∷ m ∷ py ∷ [])
+            (elim o [ inl low ↦ low | inr high ↦ absurd (omega arith) ])
       ]
     where
       kind_le : (z : Event T) → kind z ≤ 1
       kind_le (Sent e) = omega arith
       kind_le (Got e) = omega arith
 
-  pub later_rank : (m : ℕ) (h : List (Event T)) → IsLegal node m h → (before : List (Event T)) (x : Event T) (b : List (Event T)) (y : Event T) (l : List (Event T)) → h ≡ (before ++ x ∷ b) ++ y ∷ l →
+  pub later_rank : (m : ℕ) (h : List (Event T)) → IsLegal node m h →
+      (before : List (Event T)) (x : Event T) (b : List (Event T)) (y : Event T) (l : List (Event T)) →
+      h ≡ (before ++ x ∷ b) ++ y ∷ l →
       slice_cmp nat_cmp (rank (placed node m before x)) (rank (placed node m (before ++ x ∷ b) y)) ≡ Less
   later_rank m h legal before x b (Got e) l is =
       by_later m before x b (Got e) (up (Got e)) (λ _. refl)
     where
-      up : (y : Event T) → greatest_stamp node (held (before ++ x ∷ [])) ≤ greatest_stamp node (held ((before ++ x ∷ b) ++ y ∷ []))
+      up : (y : Event T) →
+          greatest_stamp node (held (before ++ x ∷ [])) ≤ greatest_stamp node (held ((before ++ x ∷ b) ++ y ∷ []))
       up y =
-          let s : (before ++ x ∷ []) ++ (b ++ y ∷ []) ≡ (before ++ x ∷ b) ++ y ∷ [] = append_assoc before (x ∷ []) (b ++ y ∷ []) ∙ sym (append_assoc before (x ∷ b) (y ∷ [])) in
-          subst (λ (q : List (Event T)). greatest_stamp node (held (before ++ x ∷ [])) ≤ greatest_stamp node (held q)) s (greatest_more (before ++ x ∷ []) (b ++ y ∷ []))
+          let s : (before ++ x ∷ []) ++ (b ++ y ∷ []) ≡ (before ++ x ∷ b) ++ y ∷ [] =
+          append_assoc before (x ∷ []) (b ++ y ∷ []) ∙ sym (append_assoc before (x ∷ b) (y ∷ [])) in
+          subst (λ (q : List (Event T)). greatest_stamp node (held (before ++ x ∷ [])) ≤ greatest_stamp node
+          (held q)) s (greatest_more (before ++ x ∷ []) (b ++ y ∷ []))
   later_rank m h legal before x b (Sent e) l is =
       let may = legal (before ++ x ∷ b) (Sent e) l is in
       let s : (before ++ x ∷ []) ++ b ≡ before ++ x ∷ b = append_assoc before (x ∷ []) b in
       let low : greatest_stamp node (held (before ++ x ∷ [])) ≤ greatest_stamp node (held (before ++ x ∷ b)) =
-      subst (λ (q : List (Event T)). greatest_stamp node (held (before ++ x ∷ [])) ≤ greatest_stamp node (held q)) s (greatest_more (before ++ x ∷ []) b) in
+      subst (λ (q : List (Event T)). greatest_stamp node (held (before ++ x ∷ [])) ≤ greatest_stamp node
+      (held q)) s (greatest_more (before ++ x ∷ []) b) in
       let top = top_of_sent (before ++ x ∷ b) e may.1.stamp in
       let stamp = may.1.stamp in
       by_later m before x b (Sent e) (omega arith) (λ same. absurd (omega arith))
 
   -- a receipt has a higher rank than the sending
-  pub receipt_rank : (s : ℕ) (past : List (Event T)) (e : T) → (node e).stamp ≡ 1 + greatest_stamp node (held past) → (m : ℕ) (before : List (Event T)) →
+  pub receipt_rank : (s : ℕ) (past : List (Event T)) (e : T) →
+      (node e).stamp ≡ 1 + greatest_stamp node (held past) → (m : ℕ) (before : List (Event T)) →
       slice_cmp nat_cmp (rank (placed node s past (Sent e))) (rank (placed node m before (Got e))) ≡ Less
   receipt_rank s past e is m before =
       let ts = greatest_stamp node (held (past ++ Sent e ∷ [])) in
@@ -107,6 +128,8 @@ module _ {T : Type 0} (node : T → Node) where
       let top = top_of_sent past e is in
       let up = stamp_at_most before (Got e) in
       elim (cases_order ts tg) [
-        | inl same ↦ first_tied ts tg (0 ∷ s ∷ length past ∷ []) (1 ∷ m ∷ length before ∷ []) same (first_less 0 1 (s ∷ length past ∷ []) (m ∷ length before ∷ []) (omega arith))
-        | inr o ↦ first_less ts tg (0 ∷ s ∷ length past ∷ []) (1 ∷ m ∷ length before ∷ []) (elim o [ inl low ↦ low | inr high ↦ absurd (omega arith) ])
+        | inl same ↦ first_tied ts tg (0 ∷ s ∷ length past ∷ []) (1 ∷ m ∷ length before ∷ []) same
+            (first_less 0 1 (s ∷ length past ∷ []) (m ∷ length before ∷ []) (omega arith))
+        | inr o ↦ first_less ts tg (0 ∷ s ∷ length past ∷ []) (1 ∷ m ∷ length before ∷ [])
+            (elim o [ inl low ↦ low | inr high ↦ absurd (omega arith) ])
       ]

@@ -1,8 +1,10 @@
 -- The three values are the ancestors by walks, and so what holds in every completion.
-use Rattle.std.proofs.Common.{◌≡◌, ℕ, zero, suc, ◌≤◌, Bool, true, false, cond, List, [], ◌∷◌, ◌++◌, length, refl, sym, ap, subst, ◌∙◌, inl, inr, Some, arith}
+use Rattle.std.proofs.Common.{◌≡◌, ℕ, zero, suc, ◌≤◌, Bool, true, false, cond, List, [], ◌∷◌, ◌++◌, length, refl, sym}
+use Rattle.std.proofs.Common.{ap, subst, ◌∙◌, inl, inr, Some, arith}
 use Rattle.std.specs.Prelude.{slice_get, not, ◌||◌, ◌==◌}
 use Rattle.std.specs.List.{Contains, list_any, list_all}
-use Rattle.std.proofs.lemmas.Bool.{or_cases, or_left, or_right, and_parts, and_from, eqb-true, eq-eqb, not-true, not_from_false, true≢false, false≢true}
+use Rattle.std.proofs.lemmas.Bool.{or_cases, or_left, or_right, and_parts, and_from, eqb-true, eq-eqb, not-true}
+use Rattle.std.proofs.lemmas.Bool.{not_from_false, true≢false, false≢true}
 use Rattle.std.proofs.lemmas.List.Folds.{list_any_at}
 use Rattle.std.proofs.lemmas.Option.{slice_get_within, get_or_from_slice_get, slice_get_read}
 use Rattle.entry_order.specs.declared.three.Three.TheVariants.{False, Unknown, True}
@@ -13,18 +15,25 @@ use Rattle.entry_order.specs.Completion.{Completion}
 use Rattle.entry_order.specs.Ancestors.{IsWalk, IsAncestor, Descends, reaches, is_whole, before}
 use Rattle.entry_order.specs.Settled.{IsWhole, IsGraphOf, OrderIsSettled}
 use Rattle.entry_order.proofs.Lists.{Contains-none, Contains-head, Contains-later, Contains-cons_cases, list_any_some}
-use Rattle.entry_order.proofs.Graphs.{before_in_completion, before_among_survivors}
+use Rattle.entry_order.proofs.Completions.{before_in_completion, before_among_survivors}
 
 -- each passes, and the other way round
 list_all_each : {X : Type 0} (p : X → Bool) (xs : List X) → list_all p xs ≡ true → (x : X) → Contains xs x → p x ≡ true
 list_all_each p [] e x c = absurd (Contains-none x c)
 list_all_each p (z ∷ xs) e x c =
     let parts = and_parts (p z) (list_all p xs) e in
-    elim (Contains-cons_cases z xs x c) [ inl s ↦ subst (λ u. p u ≡ true) s parts.0 | inr l ↦ list_all_each p xs parts.1 x l ]
+    elim (Contains-cons_cases z xs x c) [
+      | inl s ↦ subst
+          (λ u. p u ≡ true) s parts.0
+      | inr l ↦ list_all_each p xs parts.1 x l
+    ]
 
-list_all_from_each : {X : Type 0} (p : X → Bool) (xs : List X) → ((x : X) → Contains xs x → p x ≡ true) → list_all p xs ≡ true
+list_all_from_each : {X : Type 0} (p : X → Bool) (xs : List X) → ((x : X) → Contains xs x → p x ≡ true) →
+    list_all p xs ≡ true
 list_all_from_each p [] each = refl
-list_all_from_each p (z ∷ xs) each = and_from (p z) (list_all p xs) (each z (Contains-head z xs)) (list_all_from_each p xs (λ x c. each x (Contains-later z xs x c)))
+list_all_from_each p (z ∷ xs) each =
+    and_from (p z) (list_all p xs) (each z (Contains-head z xs))
+    (list_all_from_each p xs (λ x c. each x (Contains-later z xs x c)))
 
 list_any_of : {X : Type 0} (p : X → Bool) (xs : List X) (x : X) → Contains xs x → p x ≡ true → list_any p xs ≡ true
 list_any_of p xs x (i, l, at) e = list_any_at p xs i x l (ap p at ∙ e)
@@ -34,29 +43,36 @@ module _ (parents : ℕ → List ℕ) where
   ancestor_from_reaches zero y x e = absurd (true≢false (sym e))
   ancestor_from_reaches (suc n) y x e =
       let r = list_any_some (λ z. (z == y) || reaches parents n y z) (parents x) e in
-      let deeper : reaches parents n y r.0 ≡ true → IsAncestor parents y x = λ h. let w = ancestor_from_reaches n y r.0 h in (r.0 ∷ w.0, (r.1, w.1)) in
-      let here : (r.0 == y) ≡ true → IsAncestor parents y x = λ h. ([], subst (λ (u : ℕ). Contains (parents x) u) (eqb-true r.0 y h) r.1) in
+      let deeper : reaches parents n y r.0 ≡ true → IsAncestor parents y x = λ h. let w =
+      ancestor_from_reaches n y r.0 h in (r.0 ∷ w.0, (r.1, w.1)) in
+      let here : (r.0 == y) ≡ true → IsAncestor parents y x =
+      λ h. ([], subst (λ (u : ℕ). Contains (parents x) u) (eqb-true r.0 y h) r.1) in
       elim (or_cases (r.0 == y) (reaches parents n y r.0) r.2) [ inl h ↦ here h | inr h ↦ deeper h ]
 
   module _ (descends : Descends parents) where
     reaches_from_walk : (n y x : ℕ) (zs : List ℕ) → x ≤ n → IsWalk parents x zs y → reaches parents n y x ≡ true
     reaches_from_walk zero y x [] l w = absurd (let d = descends x y w in omega arith)
     reaches_from_walk zero y x (z ∷ zs) l w = absurd (let d = descends x z w.0 in omega arith)
-    reaches_from_walk (suc n) y x [] l w = list_any_of (λ z. (z == y) || reaches parents n y z) (parents x) y w (or_left (y == y) (reaches parents n y y) (eq-eqb y y refl))
+    reaches_from_walk (suc n) y x [] l w =
+        list_any_of (λ z. (z == y) || reaches parents n y z) (parents x) y w
+        (or_left (y == y) (reaches parents n y y) (eq-eqb y y refl))
     reaches_from_walk (suc n) y x (z ∷ zs) l w =
         let d = descends x z w.0 in
-        list_any_of (λ z. (z == y) || reaches parents n y z) (parents x) z w.0 (or_right (z == y) (reaches parents n y z) (reaches_from_walk n y z zs (omega arith) w.1))
+        list_any_of (λ z. (z == y) || reaches parents n y z) (parents x) z w.0
+        (or_right (z == y) (reaches parents n y z) (reaches_from_walk n y z zs (omega arith) w.1))
 
     module _ (ragged : ℕ → Bool) where
       clean_itself : (n x : ℕ) → is_whole parents ragged n x ≡ true → ragged x ≡ false
       clean_itself zero x e = not-true (ragged x) e
-      clean_itself (suc n) x e = not-true (ragged x) (and_parts (not (ragged x)) (list_all (λ z. is_whole parents ragged n z) (parents x)) e).0
+      clean_itself (suc n) x e =
+          not-true (ragged x) (and_parts (not (ragged x)) (list_all (λ z. is_whole parents ragged n z) (parents x)) e).0
 
       -- neither x nor an ancestor is ragged
       abbrev IsClean : ℕ → Type 0
       IsClean x = (ragged x ≡ false) × ((y : ℕ) → IsAncestor parents y x → ragged y ≡ false)
 
-      clean_ancestor : (n x : ℕ) → x ≤ n → is_whole parents ragged n x ≡ true → (y : ℕ) (zs : List ℕ) → IsWalk parents x zs y → ragged y ≡ false
+      clean_ancestor : (n x : ℕ) → x ≤ n → is_whole parents ragged n x ≡ true → (y : ℕ) (zs : List ℕ) →
+          IsWalk parents x zs y → ragged y ≡ false
       clean_ancestor zero x l e y [] w = absurd (let d = descends x y w in omega arith)
       clean_ancestor zero x l e y (z ∷ zs) w = absurd (let d = descends x z w.0 in omega arith)
       clean_ancestor (suc n) x l e y [] w =
@@ -65,13 +81,16 @@ module _ (parents : ℕ → List ℕ) where
       clean_ancestor (suc n) x l e y (z ∷ zs) w =
           let parts = and_parts (not (ragged x)) (list_all (λ z. is_whole parents ragged n z) (parents x)) e in
           let d = descends x z w.0 in
-          clean_ancestor n z (omega arith) (list_all_each (λ z. is_whole parents ragged n z) (parents x) parts.1 z w.0) y zs w.1
+          clean_ancestor n z (omega arith)
+          (list_all_each (λ z. is_whole parents ragged n z) (parents x) parts.1 z w.0) y zs w.1
 
       is_whole_from_clean : (n x : ℕ) → IsClean x → is_whole parents ragged n x ≡ true
       is_whole_from_clean zero x clean = not_from_false (ragged x) clean.0
       is_whole_from_clean (suc n) x clean =
-          and_from (not (ragged x)) (list_all (λ z. is_whole parents ragged n z) (parents x)) (not_from_false (ragged x) clean.0)
-          (list_all_from_each (λ z. is_whole parents ragged n z) (parents x) (λ z c. is_whole_from_clean n z (clean.1 z ([], c), λ y a. clean.1 y (z ∷ a.0, (c, a.1)))))
+          and_from (not (ragged x)) (list_all (λ z. is_whole parents ragged n z) (parents x))
+          (not_from_false (ragged x) clean.0)
+          (list_all_from_each (λ z. is_whole parents ragged n z) (parents x)
+          (λ z c. is_whole_from_clean n z (clean.1 z ([], c), λ y a. clean.1 y (z ∷ a.0, (c, a.1)))))
 
 -- ---- places and entries
 
@@ -82,24 +101,32 @@ place_of : {T : Type 0} (S : List T) (e : T) → Contains S e → (i : ℕ) × (
 place_of S e (i, l, s) = (i, slice_get_read S (length S) i e refl l (sym s))
 
 -- a walk with one arrow more at its far end
-walk_on : (parents : ℕ → List ℕ) (x : ℕ) (zs : List ℕ) (y z : ℕ) → IsWalk parents x zs y → Contains (parents y) z → IsWalk parents x (zs ++ y ∷ []) z
+walk_on : (parents : ℕ → List ℕ) (x : ℕ) (zs : List ℕ) (y z : ℕ) → IsWalk parents x zs y → Contains (parents y) z →
+    IsWalk parents x (zs ++ y ∷ []) z
 walk_on parents x [] y z w c = (w, c)
 walk_on parents x (v ∷ zs) y z w c = (w.0, walk_on parents v zs y z w.1 c)
 
 -- a path with one entry more before its last
-path_on : {T : Type 0} (node : T → Node) (S : List T) (f : T) (gs : List T) (g e : T) → IsPath node S f gs g → Contains S g → Names node e g → IsPath node S f (gs ++ g ∷ []) e
+path_on : {T : Type 0} (node : T → Node) (S : List T) (f : T) (gs : List T) (g e : T) → IsPath node S f gs g →
+    Contains S g → Names node e g → IsPath node S f (gs ++ g ∷ []) e
 path_on node S f [] g e p c n = (c, p, n)
 path_on node S f (h ∷ gs) g e p c n = (p.0, p.1, path_on node S h gs g e p.2 c n)
 
-module _ {T : Type 0} (node : T → Node) (machines : ℕ) (S : List T) (parents : ℕ → List ℕ) (ragged : ℕ → Bool) (graph : IsGraphOf node S parents ragged) where
-  path_from_walk : (x y : ℕ) (zs : List ℕ) (e f : T) → slice_get S x ≡ Some e → slice_get S y ≡ Some f → IsWalk parents x zs y → (gs : List T) × IsPath node S f gs e
+module _ {T : Type 0} (node : T → Node) (machines : ℕ) (S : List T) (parents : ℕ → List ℕ) (ragged : ℕ → Bool)
+    (graph : IsGraphOf node S parents ragged) where
+  path_from_walk : (x y : ℕ) (zs : List ℕ) (e f : T) → slice_get S x ≡ Some e → slice_get S y ≡ Some f →
+      IsWalk parents x zs y → (gs : List T) × IsPath node S f gs e
   path_from_walk x y [] e f ex fy w = ([], (graph.arrows x y e f ex fy).0 w)
   path_from_walk x y (z ∷ zs) e f ex fy w =
       let g = graph.inside x z w.0 in
-      let rest = path_from_walk z y zs g.0 f g.1 fy w.1 in
-      (rest.0 ++ g.0 ∷ [], path_on node S f rest.0 g.0 e rest.1 (at_place S z g.0 g.1) ((graph.arrows x z e g.0 ex g.1).0 w.0))
+      let rest = path_from_walk z y zs g.0 f g.1 fy w.1 in (
+        rest.0 ++ g.0 ∷ [],
+        path_on node S f rest.0 g.0 e rest.1 (at_place S z g.0 g.1)
+            ((graph.arrows x z e g.0 ex g.1).0 w.0),
+      )
 
-  walk_from_path : (x y : ℕ) (e f : T) (gs : List T) → slice_get S x ≡ Some e → slice_get S y ≡ Some f → IsPath node S f gs e → IsAncestor parents y x
+  walk_from_path : (x y : ℕ) (e f : T) (gs : List T) → slice_get S x ≡ Some e → slice_get S y ≡ Some f →
+      IsPath node S f gs e → IsAncestor parents y x
   walk_from_path x y e f [] ex fy n = ([], (graph.arrows x y e f ex fy).1 n)
   walk_from_path x y e f (g ∷ gs) ex fy p =
       let z = place_of S g p.0 in
@@ -110,7 +137,9 @@ module _ {T : Type 0} (node : T → Node) (machines : ℕ) (S : List T) (parents
     whole_from_clean : IsClean parents graph.descends ragged x → IsWhole node S e
     whole_from_clean clean = record {
       itself = (graph.gaps_shown x e ex).0 clean.0;
-      ancestors = λ g p. let z = place_of S g p.0 in (graph.gaps_shown z.0 g z.1).0 (clean.1 z.0 (walk_from_path x z.0 e g p.2 ex z.1 p.3));
+      ancestors =
+          λ g p. let z = place_of S g p.0 in
+          (graph.gaps_shown z.0 g z.1).0 (clean.1 z.0 (walk_from_path x z.0 e g p.2 ex z.1 p.3));
     }
 
     is_inside : (z : ℕ) (zs : List ℕ) (u : ℕ) → IsWalk parents u zs z → (g : T) × (slice_get S z ≡ Some g)
@@ -132,7 +161,9 @@ module _ {T : Type 0} (node : T → Node) (machines : ℕ) (S : List T) (parents
         (at_place S y f fy, at_place S x e ex, p.0, p.1)
 
     reaches_from_precedes : Precedes node S f e → reaches parents x y x ≡ true
-    reaches_from_precedes p = let a = walk_from_path x y e f p.2 ex fy p.3 in reaches_from_walk parents graph.descends x y x a.0 (omega arith) a.1
+    reaches_from_precedes p =
+        let a = walk_from_path x y e f p.2 ex fy p.3 in
+        reaches_from_walk parents graph.descends x y x a.0 (omega arith) a.1
 
     pub settled : (before parents ragged y x ≡ True → (G : List T) → Completion node machines S G → Precedes node G f e)
         × (before parents ragged y x ≡ False → (G : List T) → Completion node machines S G → ¬ (Precedes node G f e))
@@ -140,16 +171,31 @@ module _ {T : Type 0} (node : T → Node) (machines : ℕ) (S : List T) (parents
     settled = by (reaches parents x y x) refl (is_whole parents ragged x x) refl
       where
         by : (r : Bool) → reaches parents x y x ≡ r → (c : Bool) → is_whole parents ragged x x ≡ c →
-            (cond r True (cond c False Unknown) ≡ True → (G : List T) → Completion node machines S G → Precedes node G f e)
-            × (cond r True (cond c False Unknown) ≡ False → (G : List T) → Completion node machines S G → ¬ (Precedes node G f e))
+            (cond r True (cond c False Unknown) ≡ True → (G : List T) → Completion node machines S G →
+            Precedes node G f e)
+            × (cond r True (cond c False Unknown) ≡ False → (G : List T) → Completion node machines S G →
+            ¬ (Precedes node G f e))
             × (cond r True (cond c False Unknown) ≡ Unknown → ¬ (IsWhole node S e))
-        by true er c ec = (λ _ G h. before_in_completion node S machines G h f e (precedes_from_reaches er), λ o. cc, λ o. cc)
+        by true er c ec =
+            (λ _ G h. before_in_completion node S machines G h f e (precedes_from_reaches er), λ o. cc, λ o. cc)
         by false er true ec = (
           λ o. cc,
-          λ _ G h p. false≢true (sym er ∙ reaches_from_precedes (before_among_survivors node S machines G h f e (at_place S x e ex) (whole_from_clean (clean_itself parents graph.descends ragged x x ec, λ z a. clean_ancestor parents graph.descends ragged x x (omega arith) ec z a.0 a.1)) p)),
+          λ _ G h p. false≢true
+              (sym er ∙ reaches_from_precedes
+              (before_among_survivors node S machines G h f e (at_place S x e ex)
+              (whole_from_clean (
+                clean_itself parents graph.descends ragged x x ec,
+                λ z a. clean_ancestor parents graph.descends ragged x x (omega arith) ec z a.0 a.1,
+              )) p)),
           λ o. cc,
         )
-        by false er false ec = (λ o. cc, λ o. cc, λ _ whole. false≢true (sym ec ∙ is_whole_from_clean parents graph.descends ragged x x (clean_from_whole whole)))
+        by false er false ec = (
+          λ o. cc,
+          λ o. cc,
+          λ _ whole. false≢true
+              (sym ec ∙ is_whole_from_clean parents graph.descends ragged x x (clean_from_whole whole)),
+        )
 
 pub order_is_settled : {T : Type 0} (node : T → Node) → OrderIsSettled node
-order_is_settled node machines S parents ragged graph y x f e fy ex = settled node machines S parents ragged graph y x f e fy ex
+order_is_settled node machines S parents ragged graph y x f e fy ex =
+    settled node machines S parents ragged graph y x f e fy ex

@@ -1,4 +1,4 @@
--- Ancestors in a graph whose nodes are numbered, each parent below its child, and what is known of their order.
+-- Ancestors in a graph of numbered nodes, each parent below its child, and what is known of order.
 use Rattle.std.specs.Prelude.{ℕ, zero, suc, ◌<◌, Bool, false, not, ◌&&◌, ◌||◌, ◌==◌, if◌then◌else◌}
 use Rattle.std.specs.Prelude.{List, [], ◌∷◌}
 use Rattle.std.specs.List.{Contains, list_any, list_all}

@@ -11,13 +11,13 @@ use Rattle.entry_order.specs.HeldBefore.{WasSentAfter, HeldBefore}
 
 module _ {T : Type 0} (w : World T) where
   -- when e was sent its maker held f
-  abbrev pub Held : T → T → Type 0
-  Held f e = (past : List (Event T)) × WasSentAfter w past e × Contains (held past) f
+  abbrev pub HeldItself : T → T → Type 0
+  HeldItself f e = (past : List (Event T)) × WasSentAfter w past e × Contains (held past) f
 
   -- from f through these to e, each was held when the next was sent
   abbrev pub IsChain : T → List T → T → Type 0
-  IsChain f [] e = Held f e
-  IsChain f (g ∷ gs) e = Held f g × IsChain g gs e
+  IsChain f [] e = HeldItself f e
+  IsChain f (g ∷ gs) e = HeldItself f g × IsChain g gs e
 
   -- by a list, as a path by names is
   abbrev pub HeldByChain : T → T → Type 0
@@ -26,12 +26,13 @@ module _ {T : Type 0} (w : World T) where
   -- by recursion, with a bound on how deep it goes
   abbrev pub HeldWithin : ℕ → T → T → Type 0
   HeldWithin zero f e = ⊥
-  HeldWithin (suc n) f e = Held f e ⊎ ((g : T) × Held g e × HeldWithin n f g)
+  HeldWithin (suc n) f e = HeldItself f e ⊎ ((g : T) × HeldItself g e × HeldWithin n f g)
 
 -- the three are one; the bound is the entry's stamp
 abbrev pub FormsAgree : {T : Type 0} → (T → Node) → Type 0
 FormsAgree {T} node =
-    (next : ℕ → List (Event T) → Option T) (log machines : ℕ) (steps : List Step) → IsLawful node next →
+    (next : ℕ → List (Event T) → Option T) (log machines : ℕ) (steps : List Step) →
+    IsLawful node next →
     let w = play node next log (start machines) steps in
     Distinct node (sent_in w) →
     (f e : T) → (HeldByChain w f e ↔ HeldBefore w f e)

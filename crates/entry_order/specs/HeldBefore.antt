@@ -1,4 +1,4 @@
--- What the makers of entries held when they sent: Lamport's happened before, of sent entries. No digest is in it.
+-- What the makers of entries held when they sent. No digest and no name is in it.
 use Rattle.std.specs.Prelude.{◌≡◌, ℕ, List, ◌∷◌, ◌++◌}
 use Rattle.std.specs.List.{Contains}
 use Rattle.entry_order.specs.declared.event.Event.{Event}
@@ -8,9 +8,10 @@ use Rattle.entry_order.specs.World.{World, history}
 
 -- e was sent in w by a machine whose history was past
 abbrev pub WasSentAfter : {T : Type 0} → World T → List (Event T) → T → Type 0
-WasSentAfter {T} w past e = (m : ℕ) × (later : List (Event T)) × (history w m ≡ past ++ Sent e ∷ later)
+WasSentAfter {T} w past e =
+    (m : ℕ) × (later : List (Event T)) × (history w m ≡ past ++ Sent e ∷ later)
 
--- when e was sent its maker held f, or it held some g that has f held before it (Lamport's happened before)
+-- when e was sent its maker held f, or some g that has f held before it (Lamport's happened before)
 pub data HeldBefore {T : Type 0} (w : World T) (f : T) : T → Type 0 where
   itself : {e : T} (past : List (Event T)) →
       WasSentAfter w past e → Contains (held past) f → HeldBefore w f e

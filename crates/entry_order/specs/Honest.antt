@@ -35,8 +35,8 @@ module _ {T : Type 0} (node : T → Node) where
         (y x : ℕ) (f e : T) → slice_get S y ≡ Some f → slice_get S x ≡ Some e →
         before parents ragged y x ≢ Unknown
 
-  -- the entries given agree with w: none is a stray, no two are a fork, what was sent in w completes them,
-  -- what is said of their order is what the machines held, and where they are all, nothing is unknown
+  -- the entries given agree with w: no stray, no fork, what w sent completes them,
+  -- their order is what the machines held, and where they are all, nothing is unknown
   pub record AgreesWith (machines : ℕ) (w : World T) (given : List T) : Type 0 where
     pub survive : survivors node given ≡ given
     pub no_fork : HasNoFork given
@@ -47,7 +47,9 @@ module _ {T : Type 0} (node : T → Node) where
   -- any entries that were sent in a world of machines that follow the rules agree with it
   abbrev pub HonestEntriesAgree : Type 0
   HonestEntriesAgree =
-      (next : ℕ → List (Event T) → Option T) (log machines : ℕ) (steps : List Step) → IsLawful node next →
+      (next : ℕ → List (Event T) → Option T) (log machines : ℕ) (steps : List Step) →
+      IsLawful node next →
       let w = play node next log (start machines) steps in
       Distinct node (sent_in w) →
-      (given : List T) → ((e : T) → Contains given e → Contains (sent_in w) e) → AgreesWith machines w given
+      (given : List T) → ((e : T) → Contains given e → Contains (sent_in w) e) →
+      AgreesWith machines w given

@@ -1,16 +1,19 @@
 -- A machine whose next entry is made of its number, its stamp and its names.
-use Rattle.std.specs.Prelude.{◌≡◌, ℕ, ◌+◌, Bool, not, ◌&&◌, List, Option, Some, None, length, if◌then◌else◌}
+use Rattle.std.specs.Prelude.{◌≡◌, ℕ, ◌+◌, Bool, not, ◌&&◌, if◌then◌else◌}
+use Rattle.std.specs.Prelude.{List, length, Option, Some, None}
 use Rattle.entry_order.specs.declared.event.Event.{Event}
+use Rattle.entry_order.specs.declared.step.Step.{Step}
 use Rattle.entry_order.specs.Node.{Node}
-use Rattle.entry_order.specs.Naming.{has_digest}
+use Rattle.entry_order.specs.Naming.{has_digest, Distinct}
 use Rattle.entry_order.specs.Frontier.{frontier}
 use Rattle.entry_order.specs.History.{held, sent, greatest_stamp}
-use Rattle.entry_order.specs.World.{IsLawful}
+use Rattle.entry_order.specs.World.{start, sent_in, IsLawful, play}
 
 module _ {T : Type 0} (node : T → Node) (made : ℕ → ℕ → ℕ → List (List ℕ) → T) where
   -- the entry that machine m makes after the history h
   abbrev pub made_after : ℕ → List (Event T) → T
-  made_after m h = made m (length (sent h)) (1 + greatest_stamp node (held h)) (frontier node (held h))
+  made_after m h =
+      made m (length (sent h)) (1 + greatest_stamp node (held h)) (frontier node (held h))
 
   -- it is sent where the rules allow it and its digest is new
   abbrev pub next_made : (ℕ → List (Event T) → Bool) → ℕ → List (Event T) → Option T
@@ -28,4 +31,18 @@ module _ {T : Type 0} (node : T → Node) (made : ℕ → ℕ → ℕ → List (
 
   -- so whatever the rules allow, it is what a legal history asks
   abbrev pub MadeIsLawful : Type 0
-  MadeIsLawful = ShowsItsParts → (allowed : ℕ → List (Event T) → Bool) → IsLawful node (next_made allowed)
+  MadeIsLawful =
+      ShowsItsParts → (allowed : ℕ → List (Event T) → Bool) → IsLawful node (next_made allowed)
+
+-- two entries with one digest are of one maker and have one number
+abbrev pub DigestTellsNumber : {T : Type 0} → (T → Node) → Type 0
+DigestTellsNumber {T} node =
+    (e f : T) → (node e).digest ≡ (node f).digest →
+    ((node e).maker ≡ (node f).maker) × ((node e).number ≡ (node f).number)
+
+-- where that is so, different entries of a world have different digests
+abbrev pub NumberedIsDistinct : {T : Type 0} → (T → Node) → Type 0
+NumberedIsDistinct {T} node =
+    (next : ℕ → List (Event T) → Option T) (log machines : ℕ) (steps : List Step) →
+    IsLawful node next → DigestTellsNumber node →
+    Distinct node (sent_in (play node next log (start machines) steps))

@@ -13,7 +13,7 @@ use Rattle.entry_order.specs.History.{held, greatest_stamp}
 use Rattle.entry_order.specs.World.{World, start, history, play}
 use Rattle.entry_order.specs.Receipt.{IsOrderly}
 
--- an event with its machine, its place in that machine's history, and the machine's logical clock after it
+-- an event with its machine, its place in the history, and the machine's logical clock after it
 pub record PlacedEvent (T : Type 0) : Type 0 where
   pub clock : ℕ
   pub machine : ℕ
@@ -33,10 +33,11 @@ rank x = x.clock ∷ kind x.event ∷ x.machine ∷ x.place ∷ []
 abbrev pub IsSortedByRank : {T : Type 0} → List (PlacedEvent T) → Type 0
 IsSortedByRank [] = Unit {0}
 IsSortedByRank {T} (x ∷ xs) =
-    ((y : PlacedEvent T) → Contains xs y → slice_cmp nat_cmp (rank x) (rank y) ≡ Less) × IsSortedByRank xs
+    ((y : PlacedEvent T) → Contains xs y → slice_cmp nat_cmp (rank x) (rank y) ≡ Less)
+    × IsSortedByRank xs
 
 module _ {T : Type 0} (node : T → Node) where
-  -- the event x of machine m, after the history before. The clock is the greatest stamp that m then holds
+  -- the event x of machine m, after the history before; the clock is the greatest stamp then held
   abbrev pub placed : ℕ → List (Event T) → Event T → PlacedEvent T
   placed m before x = record {
     clock = greatest_stamp node (held (before ++ x ∷ []));

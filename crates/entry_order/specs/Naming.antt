@@ -9,6 +9,14 @@ module _ {T : Type 0} (node : T → Node) where
   abbrev pub Names : T → T → Type 0
   Names e f = Contains (node e).names (node f).digest
 
+  -- an entry of E names the digest
+  abbrev pub IsNamedIn : List T → List ℕ → Type 0
+  IsNamedIn E d = (e : T) × Contains E e × Contains (node e).names d
+
+  -- an entry of E bears the digest
+  abbrev pub IsBorneIn : List T → List ℕ → Type 0
+  IsBorneIn E d = (e : T) × Contains E e × ((node e).digest ≡ d)
+
   -- whether e names the digest
   abbrev pub names_digest : T → List ℕ → Bool
   names_digest e d = list_any (λ c. bytes_eq c d) (node e).names

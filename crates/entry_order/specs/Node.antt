@@ -1,8 +1,7 @@
 -- What an entry shows of the other entries.
 use Rattle.std.specs.Prelude.{ℕ, List}
 
--- an entry's digest, the digests that it names, its maker, its number among its maker's entries, and its stamp:
--- Lamport's logical clock at its sending (Auditorium, EVT 2007)
+-- what an entry shows; its stamp is its maker's logical clock (Auditorium, EVT 2007; Lamport 1978)
 pub record Node : Type 0 where
   pub digest : List ℕ
   pub names : List (List ℕ)

@@ -19,7 +19,7 @@ module _ {T : Type 0} (node : T → Node) where
     pub itself : NamesNoGap S x
     pub ancestors : (y : T) → Precedes node S y x → NamesNoGap S y
 
-  -- the nodes are the places of S: a parent is what the entry names, and a ragged node is one that names a gap
+  -- the nodes are the places of S, a parent is what the entry names, and the ragged ones name a gap
   pub record IsGraphOf (S : List T) (parents : ℕ → List ℕ) (ragged : ℕ → Bool) : Type 0 where
     pub descends : Descends parents
     pub inside : (i p : ℕ) → Contains (parents i) p → (f : T) × (slice_get S p ≡ Some f)
@@ -34,6 +34,8 @@ module _ {T : Type 0} (node : T → Node) where
       (machines : ℕ) (S : List T) (parents : ℕ → List ℕ) (ragged : ℕ → Bool) →
       IsGraphOf S parents ragged →
       (y x : ℕ) (f e : T) → slice_get S y ≡ Some f → slice_get S x ≡ Some e →
-      (before parents ragged y x ≡ True → (G : List T) → Completion node machines S G → Precedes node G f e)
-      × (before parents ragged y x ≡ False → (G : List T) → Completion node machines S G → ¬ (Precedes node G f e))
+      (before parents ragged y x ≡ True →
+      (G : List T) → Completion node machines S G → Precedes node G f e)
+      × (before parents ragged y x ≡ False →
+      (G : List T) → Completion node machines S G → ¬ (Precedes node G f e))
       × (before parents ragged y x ≡ Unknown → ¬ (IsWhole S e))

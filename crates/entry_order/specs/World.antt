@@ -1,5 +1,6 @@
 -- A world of machines that send, hear one another and stop, and the play of a list of such steps.
-use Rattle.std.specs.Prelude.{◌≡◌, ℕ, zero, suc, Bool, true, false, ◌||◌, nat_le, ◌==◌, if◌then◌else◌}
+use Rattle.std.specs.Prelude.{◌≡◌, ℕ, zero, suc, nat_le, ◌==◌}
+use Rattle.std.specs.Prelude.{Bool, true, false, ◌||◌, if◌then◌else◌}
 use Rattle.std.specs.Prelude.{List, [], ◌∷◌, ◌++◌, replicate, length, slice_get, Option, Some, None}
 use Rattle.std.specs.List.{flat_map}
 use Rattle.entry_order.specs.declared.event.Event.{Event}
@@ -57,17 +58,19 @@ send (Some e) a = if a.stopped then a else append (Sent e) a
 
 module _ {T : Type 0} (node : T → Node) where
   -- the machine has stopped, holds the digest, or has log events
-  abbrev pub refuses : ℕ → Machine T → List ℕ → Bool
-  refuses log a digest = a.stopped || has_digest node (held a.history) digest || nat_le log (length a.history)
+  abbrev pub cannot_hear : ℕ → Machine T → List ℕ → Bool
+  cannot_hear log a digest =
+      a.stopped || has_digest node (held a.history) digest || nat_le log (length a.history)
 
-  -- the machine gets this entry, where there is one, unless it refuses
+  -- the machine gets this entry, where there is one, unless it cannot_hear
   abbrev pub hear : ℕ → Option T → Machine T → Machine T
   hear log None a = a
-  hear log (Some e) a = if refuses log a (node e).digest then a else append (Got e) a
+  hear log (Some e) a = if cannot_hear log a (node e).digest then a else append (Got e) a
 
-  -- next m h: what machine m sends after the history h, if it may send anything. It is what a legal history asks
+  -- next m h, what m sends after the history h if it may send anything, is what a legal history asks
   abbrev pub IsLawful : (ℕ → List (Event T) → Option T) → Type 0
-  IsLawful next = (m : ℕ) (h : List (Event T)) (e : T) → next m h ≡ Some e → MayFollow node m h (Sent e)
+  IsLawful next =
+      (m : ℕ) (h : List (Event T)) (e : T) → next m h ≡ Some e → MayFollow node m h (Sent e)
 
   module _ (next : ℕ → List (Event T) → Option T) (log : ℕ) where
     -- the world after a step

@@ -1,15 +1,23 @@
 //! The laws of the order of entries. Each is the contract of a function with an empty body.
 
+ghost use Rattle.entry_order.specs.Ascending.{AscendingIsUnique};
 ghost use Rattle.entry_order.specs.Forms.{FormsAgree};
+ghost use Rattle.entry_order.specs.Frontier.{FrontierIsUnique};
 ghost use Rattle.entry_order.specs.Honest.{HonestEntriesAgree};
+ghost use Rattle.entry_order.specs.Made.{MadeIsLawful, NumberedIsDistinct};
 ghost use Rattle.entry_order.specs.Merged.{MergedIsPlayedAgain};
 ghost use Rattle.entry_order.specs.Receipt.{OrderIsReceipt, OrderIsReceiptInOrderlyWorlds};
 ghost use Rattle.entry_order.specs.Settled.{OrderIsSettled};
+ghost use Rattle.entry_order.specs.Survivors.{
+  GapsAreUnique,
+  SurvivorsAreNoStrays,
+  SurvivorsHaveNoCycle,
+};
+ghost use Rattle.std.specs.Prelude.{ℕ, List};
 
 use crate::Knot;
-
-/// In every world whose histories are legal and where what was got was sent, an entry precedes another
-/// exactly where it was held before it.
+/// In every world whose histories are legal and where what was got was sent, an entry precedes
+/// another exactly where it was held before it.
 pub fn order_is_receipt_in_orderly_worlds<T: Knot>()
     ensures { OrderIsReceiptInOrderlyWorlds T.node }
 {}
@@ -24,13 +32,14 @@ pub fn order_is_settled<T: Knot>()
     ensures { OrderIsSettled T.node }
 {}
 
-/// Any entries that an honest place sent have no stray and no fork, and what is said of their order is
-/// what its machines held.
+/// Any entries that an honest place sent have no stray and no fork, and what is said of their order
+/// is what its machines held.
 pub fn honest_entries_agree<T: Knot>()
     ensures { HonestEntriesAgree T.node }
 {}
 
-/// The events of an orderly world, sorted by logical clock, can be played again and give its histories.
+/// The events of an orderly world, sorted by logical clock, can be played again and give its
+/// histories.
 pub fn merged_is_played_again<T: Knot>()
     ensures { MergedIsPlayedAgain T.node }
 {}
@@ -38,4 +47,39 @@ pub fn merged_is_played_again<T: Knot>()
 /// Three forms of being held before are one.
 pub fn forms_agree<T: Knot>()
     ensures { FormsAgree T.node }
+{}
+
+/// What is made of its number, its stamp and the frontier is what a legal history asks, whatever
+/// the rules allow.
+pub fn made_is_lawful<T: Knot>()
+    ensures { (made : ℕ → ℕ → ℕ → List (List ℕ) → T) → MadeIsLawful T.node made }
+{}
+
+/// Where a digest tells its entry's maker and number, different entries of a world have different
+/// digests.
+pub fn numbered_is_distinct<T: Knot>()
+    ensures { NumberedIsDistinct T.node }
+{}
+
+/// A list is the ascending list of some digests exactly where it rises and has those members.
+pub fn ascending_is_unique()
+    ensures { AscendingIsUnique }
+{}
+
+/// A list is the frontier exactly where it rises and has the digests that are borne and that no
+/// entry names.
+pub fn frontier_is_unique<T: Knot>()
+    ensures { FrontierIsUnique T.node }
+{}
+
+/// A list is the gaps exactly where it rises and has the digests that are named and that no entry
+/// bears.
+pub fn gaps_are_unique<T: Knot>()
+    ensures { GapsAreUnique T.node }
+{}
+
+/// The survivors are the given entries that are no strays, and none of them is its own ancestor.
+pub fn survivors_are_no_strays<T: Knot>()
+    ensures exactly { SurvivorsAreNoStrays T.node }
+    ensures no_cycle { SurvivorsHaveNoCycle T.node }
 {}

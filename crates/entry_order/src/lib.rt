@@ -1,19 +1,24 @@
-//! The order of entries that name one another by digest: what machines hold, what precedes what, and what an
-//! auditor can say of it when entries are lost. Definitions stand in `specs/`; each law about them is the
-//! contract of a function with an empty body.
+//! The order of entries that name one another by digest: what machines hold, what precedes what,
+//! and what an auditor can say of it when entries are lost. The definitions stand in `specs/`, and
+//! each law about them is the contract of a function with an empty body.
 #![tactic(auto)]
 
 mod event;
+mod examples;
 mod knot;
 mod laws;
 mod step;
 mod three;
 
 pub use event::Event;
+pub use examples::{
+    frontier_by_arrival_fails, naming_own_last_fails, strays_by_others_fail, three_machines,
+};
 pub use knot::Knot;
 pub use laws::{
-    forms_agree, honest_entries_agree, merged_is_played_again, order_is_receipt,
-    order_is_receipt_in_orderly_worlds, order_is_settled,
+    ascending_is_unique, forms_agree, frontier_is_unique, gaps_are_unique, honest_entries_agree,
+    made_is_lawful, merged_is_played_again, numbered_is_distinct, order_is_receipt,
+    order_is_receipt_in_orderly_worlds, order_is_settled, survivors_are_no_strays,
 };
 pub use step::Step;
 pub use three::Three;

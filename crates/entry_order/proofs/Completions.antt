@@ -1,0 +1,86 @@
+-- What is the same in every completion.
+use Rattle.std.proofs.Common.{◌≡◌, ℕ, Bool, true, false, List, [], ◌∷◌, refl, sym, subst, ◌∙◌, ◌⊎◌, inl, inr}
+use Rattle.std.specs.Prelude.{◌↔◌, not}
+use Rattle.std.specs.List.{Contains, filter, flat_map}
+use Rattle.std.proofs.lemmas.Bool.{not_from_false, not-true, true≢false, false_from_ne_true}
+use Rattle.entry_order.specs.Node.{Node}
+use Rattle.entry_order.specs.Naming.{Names, IsNamedIn, IsBorneIn, has_digest}
+use Rattle.entry_order.specs.Precedes.{IsPath, Precedes}
+use Rattle.entry_order.specs.Survivors.{gaps, IsGaps}
+use Rattle.entry_order.specs.Completion.{Completion}
+use Rattle.entry_order.specs.Settled.{NamesNoGap, IsWhole}
+use Rattle.entry_order.proofs.Lists.{Contains-filter, Contains-filter_cases, Contains-flat_map, Contains-flat_map_cases}
+use Rattle.entry_order.proofs.Ascending.{Contains-ascending, Contains-ascending_cases, same_ascending}
+use Rattle.entry_order.proofs.Ascending.{ascending_ascending}
+use Rattle.entry_order.proofs.Naming.{has_digest_of, has_digest_from}
+
+module _ {T : Type 0} (node : T → Node) (S : List T) where
+  gap_members : (d : List ℕ) → Contains (gaps node S) d ↔ (IsNamedIn node S d × (¬ (IsBorneIn node S d)))
+  gap_members d =
+      let names = flat_map (λ y. (node y).names) S in
+      let free = λ (c : List ℕ). not (has_digest node S c) in (
+        λ c.
+            let kept = Contains-filter_cases free names d (Contains-ascending_cases (filter free names) d c) in (
+              Contains-flat_map_cases (λ y. (node y).names) S d kept.0,
+              λ borne. true≢false (sym (has_digest_of node S d borne) ∙ not-true (has_digest node S d) kept.1),
+            ),
+        λ (named, lost).
+            let there = Contains-flat_map (λ y. (node y).names) S named.0 d named.1 named.2 in
+            let none = false_from_ne_true (has_digest node S d) (λ t. lost (has_digest_from node S d t)) in
+            Contains-ascending (filter free names) d
+            (Contains-filter free names d there (not_from_false (has_digest node S d) none)),
+      )
+
+  -- a gap is named by an entry and borne by none
+  pub gap_cases : (d : List ℕ) → Contains (gaps node S) d → IsNamedIn node S d × (¬ (IsBorneIn node S d))
+  gap_cases d c = (gap_members d).0 c
+
+  pub gaps_are_unique : (ds : List (List ℕ)) → (ds ≡ gaps node S) ↔ IsGaps node S ds
+  gaps_are_unique ds =
+      let digests = filter (λ d. not (has_digest node S d)) (flat_map (λ y. (node y).names) S) in (
+        λ is. subst (λ o. IsGaps node S o) (sym is)
+            (record { rises = ascending_ascending digests; members = gap_members }),
+        λ is.
+            same_ascending ds (gaps node S) is.rises (ascending_ascending digests)
+            (λ d c. (gap_members d).1 ((is.members d).0 c)) (λ d c. (is.members d).1 ((gap_members d).0 c)),
+      )
+
+  -- a named digest is a gap, or an entry has it
+  pub gap_or_bearer : (x : T) (d : List ℕ) → Contains S x → Contains (node x).names d →
+      Contains (gaps node S) d ⊎ IsBorneIn node S d
+  gap_or_bearer x d c n = by (has_digest node S d) refl
+    where
+      by : (b : Bool) → has_digest node S d ≡ b → Contains (gaps node S) d ⊎ IsBorneIn node S d
+      by true e = inr (has_digest_from node S d e)
+      by false e =
+          let named = Contains-flat_map (λ y. (node y).names) S x d c n in
+          inl (Contains-ascending (filter (λ c. not (has_digest node S c)) (flat_map (λ y. (node y).names) S)) d
+          (Contains-filter (λ c. not (has_digest node S c)) (flat_map (λ y. (node y).names) S) d named
+          (not_from_false (has_digest node S d) e)))
+
+  module _ (machines : ℕ) (G : List T) (completion : Completion node machines S G) where
+    kept_path : (f : T) (between : List T) (e : T) → IsPath node S f between e → IsPath node G f between e
+    kept_path f [] e p = p
+    kept_path f (g ∷ gs) e p = (completion.keeps g p.0, p.1, kept_path g gs e p.2)
+
+    -- a path among the survivors is a path in the completion
+    pub before_in_completion : (y x : T) → Precedes node S y x → Precedes node G y x
+    before_in_completion y x p = (completion.keeps y p.0, completion.keeps x p.1, p.2, kept_path y p.2 x p.3)
+
+    -- an entry of the completion that a survivor names is a survivor, where that survivor names no gap
+    named_survives : (x f : T) → Contains S x → NamesNoGap node S x → Contains G f → Names node x f → Contains S f
+    named_survives x f cx whole cf n =
+        let same : (g : T) × Contains S g × ((node g).digest ≡ (node f).digest) → Contains S f =
+        λ r. subst (λ (u : T). Contains S u) (completion.distinct r.0 f (completion.keeps r.0 r.1) cf r.2) r.1 in
+        elim (gap_or_bearer x (node f).digest cx n) [ inl gap ↦ absurd (whole (node f).digest n gap) | inr r ↦ same r ]
+
+    survives : (x : T) → Contains S x → IsWhole node S x → (f : T) (between : List T) → Contains G f →
+        IsPath node G f between x → Contains S f × IsPath node S f between x
+    survives x cx whole f [] cf n = (named_survives x f cx whole.itself cf n, n)
+    survives x cx whole f (g ∷ gs) cf p =
+        let rest = survives x cx whole g gs p.0 p.2 in
+        (named_survives g f rest.0 (whole.ancestors g (rest.0, cx, gs, rest.1)) cf p.1, (rest.0, p.1, rest.1))
+
+    -- where x is whole, its ancestors in the completion are its ancestors among the survivors
+    pub before_among_survivors : (y x : T) → Contains S x → IsWhole node S x → Precedes node G y x → Precedes node S y x
+    before_among_survivors y x cx whole p = let r = survives x cx whole y p.2 p.0 p.3 in (r.0, cx, p.2, r.1)

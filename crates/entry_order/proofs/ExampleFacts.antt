@@ -1,0 +1,112 @@
+-- The example's facts: its lists compute, and a path would begin where an entry is named.
+use Rattle.std.proofs.Common.{◌≡◌, ◌<◌, ◌≤◌, true, false, List, [], ◌∷◌, refl, sym, subst, ◌∙◌, inl, inr, arith}
+use Rattle.std.specs.List.{Contains}
+use Rattle.std.proofs.lemmas.Bool.{true≢false}
+use Rattle.entry_order.specs.declared.event.Event.TheVariants.{Sent, Got}
+use Rattle.entry_order.specs.declared.step.Step.TheVariants.{Act, Hear}
+use Rattle.entry_order.specs.Node.{Node}
+use Rattle.entry_order.specs.Naming.{is_named, Distinct}
+use Rattle.entry_order.specs.World.{sent_in, IsLawful}
+use Rattle.entry_order.specs.HeldBefore.{HeldBefore, HeldBefore.itself, HeldBefore.descendant}
+use Rattle.entry_order.specs.Precedes.{Precedes}
+use Rattle.entry_order.specs.Settled.{NamesNoGap, IsWhole}
+use Rattle.entry_order.specs.Made.{DigestTellsNumber}
+use Rattle.entry_order.specs.Example.{Entry, digest_of, shown, made, next, world, a0, a1, b0, b1, c0, c1, left}
+use Rattle.entry_order.specs.Example.{IsExample}
+use Rattle.entry_order.proofs.Lists.{Contains-none, Contains-cons_cases}
+use Rattle.entry_order.proofs.Naming.{is_named_of}
+use Rattle.entry_order.proofs.Strays.{rises_along}
+use Rattle.entry_order.proofs.Made.{made_is_lawful}
+use Rattle.entry_order.proofs.Honest.{numbered_is_distinct}
+
+lawful : IsLawful shown next
+lawful =
+    made_is_lawful shown made
+    (record { maker = λ m n s ns. refl; number = λ m n s ns. refl; stamp = λ m n s ns. refl; names = λ m n s ns. refl })
+    (λ m h. true)
+
+pub tells_number : DigestTellsNumber shown
+tells_number e f is = (cc, cc)
+
+-- from an entry that none of E names no path leads on
+pub no_path : {T : Type 0} (node : T → Node) (E : List T) (f : T) → is_named node E (node f).digest ≡ false →
+    (e : T) → ¬ (Precedes node E f e)
+no_path node E f free e (cf, ce, [], n) = true≢false (sym (is_named_of node E (node f).digest (e, ce, n)) ∙ free)
+no_path node E f free e (cf, ce, g ∷ gs, p) = true≢false (sym (is_named_of node E (node f).digest (g, p.0, p.1)) ∙ free)
+
+distinct : Distinct shown (sent_in world)
+distinct =
+    numbered_is_distinct shown next 64 3
+    (Act 0 ∷ Hear 1 0 0 ∷ Act 1 ∷ Act 1 ∷ Hear 2 0 0 ∷ Hear 2 1 1 ∷ Act 2 ∷ Hear 2 1 0 ∷ Act 2 ∷ Act 0 ∷ [])
+    lawful tells_number
+
+held_before : HeldBefore world b0 c0
+held_before =
+    descendant (Got a0 ∷ Got b1 ∷ []) (2, Got b0 ∷ Sent c1 ∷ [], refl) (1, omega arith, refl)
+    (itself (Got a0 ∷ Sent b0 ∷ []) (1, [], refl) (1, omega arith, refl))
+
+precedes : Precedes shown (sent_in world) b0 c0
+precedes = (
+  (2, omega arith, refl),
+  (4, omega arith, refl),
+  b1 ∷ [],
+  ((3, omega arith, refl), (0, omega arith, refl), (1, omega arith, refl)),
+)
+
+-- what a1 names is no gap
+names_no_gap : NamesNoGap shown left a1
+names_no_gap d named gap =
+    elim (Contains-cons_cases (digest_of 0 0) [] d named) [
+      | inl is ↦ elim
+          (Contains-cons_cases (digest_of 1 0) [] d gap) [ inl lost ↦ cc | inr none ↦ absurd (Contains-none d none) ]
+      | inr none ↦ absurd (Contains-none d none)
+    ]
+
+-- an entry that is left with a stamp below 2 is a0, which names nothing
+names_none : (y : Entry) → Contains left y → y.stamp < 2 → NamesNoGap shown left y
+names_none y c low d named gap =
+    elim (Contains-cons_cases a0 (a1 ∷ b1 ∷ c0 ∷ c1 ∷ []) y c) [
+      | inl is ↦ absurd (Contains-none d (subst (λ (u : Entry). Contains u.names d) (sym is) named))
+      | inr later ↦ absurd (let high = later_stamps y later in omega arith)
+    ]
+  where
+    later_stamps : (y : Entry) → Contains (a1 ∷ b1 ∷ c0 ∷ c1 ∷ []) y → 2 ≤ y.stamp
+    later_stamps y c =
+        elim (Contains-cons_cases a1 (b1 ∷ c0 ∷ c1 ∷ []) y c) [
+          | inl is ↦ stamp_of a1 is (omega arith)
+          | inr c ↦ elim (Contains-cons_cases b1 (c0 ∷ c1 ∷ []) y c) [
+            | inl is ↦ stamp_of b1 is (omega arith)
+            | inr c ↦ elim (Contains-cons_cases c0 (c1 ∷ []) y c) [
+              | inl is ↦ stamp_of c0 is (omega arith)
+              | inr c ↦ elim (Contains-cons_cases c1 [] y c) [
+                | inl is ↦ stamp_of c1 is (omega arith)
+                | inr none ↦ absurd (Contains-none y none)
+              ]
+            ]
+          ]
+        ]
+      where
+        stamp_of : (e : Entry) → e ≡ y → 2 ≤ e.stamp → 2 ≤ y.stamp
+        stamp_of e is l = subst (λ (u : Entry). 2 ≤ u.stamp) is l
+
+whole : IsWhole shown left a1
+whole = record {
+  itself = names_no_gap;
+  ancestors = λ y p. names_none y p.0 (rises_along shown left y p.2 a1 p.0 p.1 p.3);
+}
+
+pub is_example : IsExample
+is_example = record {
+  lawful = lawful;
+  distinct = distinct;
+  all_sent = refl;
+  history_of_c = refl;
+  held_before = held_before;
+  precedes = precedes;
+  not_before = no_path shown (sent_in world) a1 refl c1;
+  not_after = no_path shown (sent_in world) c1 refl a1;
+  no_stray = refl;
+  gap = refl;
+  not_whole = λ w. w.itself (digest_of 1 0) (0, omega arith, refl) (0, omega arith, refl);
+  whole = whole;
+}

@@ -1,0 +1,38 @@
+-- The tests of names and digests say what they test.
+use Rattle.std.proofs.Common.{◌≡◌, ℕ, true, List, refl, ap, subst, ◌∙◌}
+use Rattle.std.specs.List.{Contains}
+use Rattle.std.specs.Str.{bytes_eq}
+use Rattle.std.proofs.lemmas.List.Folds.{list_any_at}
+use Rattle.std.proofs.lemmas.Slice.Eq.{bytes_eq-Decides}
+use Rattle.entry_order.specs.Node.{Node}
+use Rattle.entry_order.specs.Naming.{IsNamedIn, IsBorneIn, names_digest, is_named, has_digest}
+use Rattle.entry_order.proofs.Lists.{list_any_some}
+
+module _ {T : Type 0} (node : T → Node) where
+  pub names_digest_of : (e : T) (d : List ℕ) → Contains (node e).names d → names_digest node e d ≡ true
+  names_digest_of e d (i, l, at) =
+      list_any_at (λ c. bytes_eq c d) (node e).names i d l (ap (λ c. bytes_eq c d) at ∙ (bytes_eq-Decides d d).1 refl)
+
+  pub names_digest_from : (e : T) (d : List ℕ) → names_digest node e d ≡ true → Contains (node e).names d
+  names_digest_from e d t =
+      let s = list_any_some (λ c. bytes_eq c d) (node e).names t in
+      subst (λ c. Contains (node e).names c) ((bytes_eq-Decides s.0 d).0 s.2) s.1
+
+  pub is_named_of : (E : List T) (d : List ℕ) → IsNamedIn node E d → is_named node E d ≡ true
+  is_named_of E d (e, (i, l, at), n) =
+      list_any_at (λ g. names_digest node g d) E i e l (ap (λ g. names_digest node g d) at ∙ names_digest_of e d n)
+
+  pub is_named_from : (E : List T) (d : List ℕ) → is_named node E d ≡ true → IsNamedIn node E d
+  is_named_from E d t =
+      let r = list_any_some (λ g. names_digest node g d) E t in
+      (r.0, r.1, names_digest_from r.0 d r.2)
+
+  pub has_digest_of : (E : List T) (d : List ℕ) → IsBorneIn node E d → has_digest node E d ≡ true
+  has_digest_of E d (e, (i, l, at), is) =
+      let here = (bytes_eq-Decides (node e).digest d).1 is in
+      list_any_at (λ g. bytes_eq (node g).digest d) E i e l (ap (λ g. bytes_eq (node g).digest d) at ∙ here)
+
+  pub has_digest_from : (E : List T) (d : List ℕ) → has_digest node E d ≡ true → IsBorneIn node E d
+  has_digest_from E d t =
+      let r = list_any_some (λ g. bytes_eq (node g).digest d) E t in
+      (r.0, r.1, (bytes_eq-Decides (node r.0).digest d).0 r.2)

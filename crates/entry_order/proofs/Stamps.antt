@@ -1,0 +1,22 @@
+-- The greatest stamp is at least each stamp.
+use Rattle.std.proofs.Common.{◌≡◌, ℕ, ◌≤◌, max, List, [], ◌∷◌, ap, inl, inr, arith}
+use Rattle.std.specs.List.{Contains, fold}
+use Rattle.entry_order.specs.Node.{Node}
+use Rattle.entry_order.specs.History.{greatest_stamp}
+use Rattle.entry_order.proofs.Lists.{Contains-none, Contains-cons_cases}
+
+module _ {T : Type 0} (node : T → Node) where
+  pub top_at_least : (top : ℕ) (es : List T) → top ≤ fold (λ top e. max top (node e).stamp) top es
+  top_at_least top [] = omega arith
+  top_at_least top (z ∷ es) = let rest = top_at_least (max top (node z).stamp) es in omega arith
+
+  top_above : (top : ℕ) (es : List T) (e : T) → Contains es e →
+      (node e).stamp ≤ fold (λ top e. max top (node e).stamp) top es
+  top_above top [] e c = absurd (Contains-none e c)
+  top_above top (z ∷ es) e c =
+      let first : z ≡ e → (node e).stamp ≤ fold (λ top e. max top (node e).stamp) (max top (node z).stamp) es =
+      λ s. let at = ap (λ u. (node u).stamp) s in let rest = top_at_least (max top (node z).stamp) es in omega arith in
+      elim (Contains-cons_cases z es e c) [ inl s ↦ first s | inr h ↦ top_above (max top (node z).stamp) es e h ]
+
+  pub stamp_below : (es : List T) (e : T) → Contains es e → (node e).stamp ≤ greatest_stamp node es
+  stamp_below es e c = top_above 0 es e c

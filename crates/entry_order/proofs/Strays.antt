@@ -1,0 +1,64 @@
+-- Survivors are no strays, and so stamps rise along their names.
+use Rattle.std.proofs.Common.{◌≡◌, ◌<◌, true, false, List, [], ◌∷◌, sym, ap, ◌∙◌, inl, inr, arith}
+use Rattle.std.specs.Prelude.{not, ◌&&◌, nat_le}
+use Rattle.std.specs.List.{Contains}
+use Rattle.std.proofs.lemmas.Bool.{cases_lt, and_parts, and_from, le-leb, leb-true, not-true, not_from_false}
+use Rattle.std.proofs.lemmas.Bool.{true≢false, false_from_ne_true}
+use Rattle.std.proofs.lemmas.List.Folds.{list_any_at}
+use Rattle.entry_order.specs.Node.{Node}
+use Rattle.entry_order.specs.Naming.{Names, names_digest}
+use Rattle.entry_order.specs.Precedes.{IsPath}
+use Rattle.entry_order.specs.Survivors.{IsStray, is_stray, survivors, SurvivorsAreNoStrays, SurvivorsHaveNoCycle}
+use Rattle.entry_order.proofs.Lists.{Contains-filter, Contains-filter_cases, list_any_some}
+use Rattle.entry_order.proofs.Naming.{names_digest_of, names_digest_from}
+
+module _ {T : Type 0} (node : T → Node) where
+  is_stray_of : (given : List T) (e : T) → IsStray node given e → is_stray node given e ≡ true
+  is_stray_of given e (g, (i, l, at), names, high) =
+      let test = λ (g : T). names_digest node e (node g).digest && nat_le (node e).stamp (node g).stamp in
+      let named = names_digest_of node e (node g).digest names in
+      let both =
+      and_from (names_digest node e (node g).digest) (nat_le (node e).stamp (node g).stamp) named
+      (le-leb (node e).stamp (node g).stamp high) in
+      list_any_at test given i g l (ap test at ∙ both)
+
+  is_stray_from : (given : List T) (e : T) → is_stray node given e ≡ true → IsStray node given e
+  is_stray_from given e t =
+      let r = list_any_some
+      (λ g. names_digest node e (node g).digest && nat_le (node e).stamp (node g).stamp) given t in
+      let parts = and_parts (names_digest node e (node r.0).digest) (nat_le (node e).stamp (node r.0).stamp) r.2 in
+      (r.0, r.1, names_digest_from node e (node r.0).digest parts.0, leb-true (node e).stamp (node r.0).stamp parts.1)
+
+  pub no_stray_from : (given : List T) (e : T) → (¬ (IsStray node given e)) → is_stray node given e ≡ false
+  no_stray_from given e sound = false_from_ne_true (is_stray node given e) (λ t. sound (is_stray_from given e t))
+
+  pub survivors_are_no_strays : SurvivorsAreNoStrays node
+  survivors_are_no_strays given e = (
+    λ c.
+        let r = Contains-filter_cases (λ e. not (is_stray node given e)) given e c in
+        (r.0, λ stray. true≢false (sym (is_stray_of given e stray) ∙ not-true (is_stray node given e) r.1)),
+    λ (c, sound).
+        Contains-filter (λ e. not (is_stray node given e)) given e c
+        (not_from_false (is_stray node given e) (no_stray_from given e sound)),
+  )
+
+  -- what is no stray has a higher stamp than each given entry that it names
+  pub stamp_rises : (given : List T) (e f : T) → (¬ (IsStray node given e)) → Contains given f → Names node e f →
+      (node f).stamp < (node e).stamp
+  stamp_rises given e f sound c n =
+      elim (cases_lt (node f).stamp (node e).stamp) [ inl l ↦ l | inr l ↦ absurd (sound (f, c, n, l)) ]
+
+  pub rises_along : (given : List T) (f : T) (between : List T) (e : T) → Contains (survivors node given) f →
+      Contains (survivors node given) e → IsPath node (survivors node given) f between e →
+      (node f).stamp < (node e).stamp
+  rises_along given f [] e cf ce n =
+      stamp_rises given e f ((survivors_are_no_strays given e).0 ce).1 ((survivors_are_no_strays given f).0 cf).0 n
+  rises_along given f (g ∷ gs) e cf ce p =
+      let first =
+      stamp_rises given g f ((survivors_are_no_strays given g).0 p.0).1
+      ((survivors_are_no_strays given f).0 cf).0 p.1 in
+      let rest = rises_along given g gs e p.0 ce p.2 in
+      omega arith
+
+  pub survivors_have_no_cycle : SurvivorsHaveNoCycle node
+  survivors_have_no_cycle given e p = let rise = rises_along given e p.2 e p.0 p.1 p.3 in absurd (omega arith)

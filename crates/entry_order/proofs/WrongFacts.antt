@@ -1,0 +1,65 @@
+-- The wrong definitions fail at their examples.
+use Rattle.std.proofs.Common.{[], ◌∷◌, refl, sym, ◌∙◌, inl, inr, arith}
+use Rattle.std.specs.List.{Contains}
+use Rattle.entry_order.specs.declared.event.Event.TheVariants.{Got}
+use Rattle.entry_order.specs.Naming.{IsNamedIn, Distinct}
+use Rattle.entry_order.specs.World.{sent_in}
+use Rattle.entry_order.specs.HeldBefore.{HeldBefore.itself}
+use Rattle.entry_order.specs.Receipt.{OrderIsReceiptIn}
+use Rattle.entry_order.specs.Frontier.{IsFrontier}
+use Rattle.entry_order.specs.Example.{Entry, digest_of, shown, made, b1}
+use Rattle.entry_order.specs.WrongNames.{world, OwnLastFails}
+use Rattle.entry_order.specs.WrongFrontier.{frontier_by_arrival, heard, ArrivalFails}
+use Rattle.entry_order.specs.WrongStrays.{ByOthersFails}
+use Rattle.entry_order.proofs.Lists.{Contains-none, Contains-cons_cases}
+use Rattle.entry_order.proofs.ExampleFacts.{no_path}
+
+abbrev sent_by_a : Entry
+sent_by_a = made 0 0 1 []
+
+abbrev sent_by_b : Entry
+sent_by_b = made 1 0 2 []
+
+distinct : Distinct shown (sent_in world)
+distinct e f ce cf is =
+    elim (Contains-cons_cases sent_by_a (sent_by_b ∷ []) e ce) [
+      | inl ea ↦ elim (Contains-cons_cases sent_by_a (sent_by_b ∷ []) f cf) [
+        | inl fa ↦ sym ea ∙ fa
+        | inr c ↦ elim (Contains-cons_cases sent_by_b [] f c) [ inl fb ↦ cc | inr none ↦ absurd (Contains-none f none) ]
+      ]
+      | inr c ↦ elim (Contains-cons_cases sent_by_b [] e c) [
+        | inl eb ↦ elim (Contains-cons_cases sent_by_a (sent_by_b ∷ []) f cf) [
+          | inl fa ↦ cc
+          | inr c ↦ elim
+              (Contains-cons_cases sent_by_b [] f c) [ inl fb ↦ sym eb ∙ fb | inr none ↦ absurd (Contains-none f none) ]
+        ]
+        | inr none ↦ absurd (Contains-none e none)
+      ]
+    ]
+
+own_last_fails : ¬ (OrderIsReceiptIn shown world)
+own_last_fails order =
+    let same = order sent_by_a sent_by_b (0, omega arith, refl) (1, omega arith, refl) in
+    no_path shown (sent_in world) sent_by_a refl sent_by_b
+    (same.1 (itself (Got sent_by_a ∷ []) (1, [], refl) (0, omega arith, refl)))
+
+pub naming_own_last_fails : OwnLastFails
+naming_own_last_fails = record { distinct = distinct; fails = own_last_fails }
+
+named : IsNamedIn shown heard (digest_of 1 0)
+named = (b1, (0, omega arith, refl), (0, omega arith, refl))
+
+keeps : Contains (frontier_by_arrival heard) (digest_of 1 0)
+keeps = (0, omega arith, refl)
+
+arrival_fails : ¬ (IsFrontier shown heard (frontier_by_arrival heard))
+arrival_fails is = ((is.members (digest_of 1 0)).0 keeps).1 named
+
+pub frontier_by_arrival_fails : ArrivalFails
+frontier_by_arrival_fails = record { right = refl; keeps = keeps; named = named; fails = arrival_fails }
+
+pub strays_by_others_fail : ByOthersFails
+strays_by_others_fail = record {
+  right = refl;
+  fails = ((0, omega arith, refl), (0, omega arith, refl), [], (0, omega arith, refl));
+}

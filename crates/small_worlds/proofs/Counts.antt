@@ -1,0 +1,414 @@
+-- What is counted from an entry is what was held before it.
+use Rattle.std.proofs.Common.{◌≡◌, ℕ, zero, suc, ◌+◌, ◌-◌, ◌<◌, ◌≤◌, Bool, true, false, cond, List, [], ◌∷◌, ◌++◌, length, Some, refl, sym, ap, subst, ◌∙◌, ◌⊎◌, inl, inr, arith, replicate}
+use Rattle.std.specs.Prelude.{slice_get, slice_index, slice_set, ◌↔◌, ◌==◌, nat_lt, nat_le, ◌&&◌}
+use Rattle.std.specs.List.{Contains}
+use Rattle.std.proofs.lemmas.List.{length-replicate, get_or-set_same, get_or-set_other, length-set}
+use Rattle.std.proofs.lemmas.Bool.{cases_eq, cases_lt, and_parts, and_from, ltb-true, leb-true, leb-false, lt-ltb, eqb-true, eqb-false}
+use Rattle.std.proofs.lemmas.Option.{slice_get_within, get_or_from_slice_get}
+use Rattle.entry_order.specs.declared.event.Event.{Event}
+use Rattle.entry_order.specs.declared.event.Event.TheVariants.{Sent, Got}
+use Rattle.entry_order.specs.Node.{Node}
+use Rattle.entry_order.specs.History.{entry_of, held, sent, greatest_stamp}
+use Rattle.entry_order.specs.World.{Machine, World, history, history_of, sent_in}
+use Rattle.entry_order.specs.HeldBefore.{WasSentAfter, HeldBefore, HeldBefore.itself}
+use Rattle.entry_order.specs.Receipt.{IsOrderly}
+use Rattle.entry_order.specs.Forms.{IsChain}
+use Rattle.entry_order.proofs.Lists.{Contains-none, Contains-head, Contains-later, Contains-at, Contains-cons_cases, Contains-map, Contains-map_cases}
+use Rattle.entry_order.proofs.Orders.{along, was_sent, held_was_sent, next_of, sent_from_after, Contains-sent_cases}
+use Rattle.entry_order.proofs.Stamps.{stamp_below}
+use Rattle.entry_order.proofs.Forms.{to_chain, lower}
+use Rattle.entry_order.proofs.Machines.{nth_of_sent, in_world}
+use Rattle.small_worlds.specs.Counts.{raised, taken_in, spread_one, spread, spread_times, is_held_before}
+
+-- ---- one count raised
+
+module _ (c : List ℕ) (m n : ℕ) where
+  raised_cases : (raised c m n ≡ c) ⊎ ((m < length c) × (slice_index c m ≤ n) × (raised c m n ≡ slice_set c m (n + 1)))
+  raised_cases = by (nat_lt m (length c) && nat_le (slice_index c m) n) refl
+    where
+      by : (b : Bool) → (nat_lt m (length c) && nat_le (slice_index c m) n) ≡ b → (cond b (slice_set c m (n + 1)) c ≡ c) ⊎ ((m < length c) × (slice_index c m ≤ n) × (cond b (slice_set c m (n + 1)) c ≡ slice_set c m (n + 1)))
+      by false e = inl refl
+      by true e = let p = and_parts (nat_lt m (length c)) (nat_le (slice_index c m) n) e in inr (ltb-true m (length c) p.0, leb-true (slice_index c m) n p.1, refl)
+
+  raised_length : length (raised c m n) ≡ length c
+  raised_length = elim raised_cases [ inl e ↦ ap length e | inr r ↦ ap length r.2 ∙ length-set c m (n + 1) ]
+
+  raised_keeps : (a : ℕ) → slice_index c a ≤ slice_index (raised c m n) a
+  raised_keeps a = elim raised_cases [ inl e ↦ (let s = ap (λ d. slice_index d a) e in omega arith) | inr r ↦ elim (cases_eq a m) [ inl e ↦ at r.0 r.1 r.2 e | inr e ↦ other r.2 e ] ]
+    where
+      at : m < length c → slice_index c m ≤ n → raised c m n ≡ slice_set c m (n + 1) → a ≡ m → slice_index c a ≤ slice_index (raised c m n) a
+      at l le is e =
+          let s = ap (λ d. slice_index d a) is in
+          let t = ap (slice_index (slice_set c m (n + 1))) e ∙ get_or-set_same c m (n + 1) 0 l in
+          let u = ap (slice_index c) e in
+          omega arith
+
+      other : raised c m n ≡ slice_set c m (n + 1) → (a ≡ m → ⊥) → slice_index c a ≤ slice_index (raised c m n) a
+      other is e = let s = ap (λ d. slice_index d a) is ∙ get_or-set_other c m a (n + 1) 0 e in omega arith
+
+  raised_covers : m < length c → n < slice_index (raised c m n) m
+  raised_covers l = by (nat_le (slice_index c m) n) refl
+    where
+      by : (b : Bool) → nat_le (slice_index c m) n ≡ b → n < slice_index (raised c m n) m
+      by true e =
+          let both : (nat_lt m (length c) && nat_le (slice_index c m) n) ≡ true = and_from (nat_lt m (length c)) (nat_le (slice_index c m) n) (lt-ltb m (length c) l) e in
+          let is : raised c m n ≡ slice_set c m (n + 1) = ap (λ b. cond b (slice_set c m (n + 1)) c) both in
+          let s = ap (λ d. slice_index d m) is ∙ get_or-set_same c m (n + 1) 0 l in
+          omega arith
+      by false e = let low = leb-false (slice_index c m) n e in let node = raised_keeps m in omega arith
+
+  raised_from : (a i : ℕ) → i < slice_index (raised c m n) a → (i < slice_index c a) ⊎ ((a ≡ m) × (i ≤ n))
+  raised_from a i l = elim raised_cases [ inl e ↦ inl (let s = ap (λ d. slice_index d a) e in omega arith) | inr r ↦ elim (cases_eq a m) [ inl e ↦ inr (e, at r.0 r.2 e) | inr e ↦ inl (other r.2 e) ] ]
+    where
+      at : m < length c → raised c m n ≡ slice_set c m (n + 1) → a ≡ m → i ≤ n
+      at inside is e =
+          let s = ap (λ d. slice_index d a) is ∙ ap (slice_index (slice_set c m (n + 1))) e ∙ get_or-set_same c m (n + 1) 0 inside in
+          omega arith
+
+      other : raised c m n ≡ slice_set c m (n + 1) → (a ≡ m → ⊥) → i < slice_index c a
+      other is e = let s = ap (λ d. slice_index d a) is ∙ get_or-set_other c m a (n + 1) 0 e in omega arith
+
+-- ---- places among what was sent
+
+some_at : {X : Type 0} (xs : List X) (i : ℕ) → i < length xs → (x : X) × (slice_get xs i ≡ Some x)
+some_at [] i l = absurd (omega arith)
+some_at (x ∷ xs) zero l = (x, refl)
+some_at (x ∷ xs) (suc i) l = some_at xs i (omega arith)
+
+module _ {T : Type 0} where
+  nth_split : (h : List (Event T)) (i : ℕ) (x : T) → slice_get (sent h) i ≡ Some x → (p : List (Event T)) × (l : List (Event T)) × (h ≡ p ++ Sent x ∷ l) × (length (sent p) ≡ i)
+  nth_split [] i x e = cc
+  nth_split (Sent g ∷ h) zero x e = let same : g ≡ x = cc in ([], h, ap (λ u. Sent u ∷ h) same, refl)
+  nth_split (Sent g ∷ h) (suc i) x e = let r = nth_split h i x e in (Sent g ∷ r.0, r.1, ap (λ u. Sent g ∷ u) r.2, ap suc r.3)
+  nth_split (Got g ∷ h) i x e = let r = nth_split h i x e in (Got g ∷ r.0, r.1, ap (λ u. Got g ∷ u) r.2, r.3)
+
+  -- what was held when an earlier entry was sent is held when a later one is
+  past_grows : (p q : List (Event T)) (e f : T) (l m : List (Event T)) (x : Event T) → p ++ Sent e ∷ l ≡ q ++ Sent f ∷ m → length (sent p) ≤ length (sent q) → Contains p x → Contains q x
+  past_grows [] q e f l m x is le c = absurd (Contains-none x c)
+  past_grows (Sent g ∷ p) [] e f l m x is le c = absurd (omega arith)
+  past_grows (Got g ∷ p) [] e f l m x is le c = cc
+  past_grows (Sent g ∷ p) (Sent h ∷ q) e f l m x is le c =
+      let tail : p ++ Sent e ∷ l ≡ q ++ Sent f ∷ m = cc in let head : Sent h ≡ Sent g = cc in
+      elim (Contains-cons_cases (Sent g) p x c) [ inl s ↦ Contains-at (Sent h) q x (head ∙ s) | inr d ↦ Contains-later (Sent h) q x (past_grows p q e f l m x tail (omega arith) d) ]
+  past_grows (Sent g ∷ p) (Got h ∷ q) e f l m x is le c = cc
+  past_grows (Got g ∷ p) (Sent h ∷ q) e f l m x is le c = cc
+  past_grows (Got g ∷ p) (Got h ∷ q) e f l m x is le c =
+      let tail : p ++ Sent e ∷ l ≡ q ++ Sent f ∷ m = cc in let head : Got h ≡ Got g = cc in
+      elim (Contains-cons_cases (Got g) p x c) [ inl s ↦ Contains-at (Got h) q x (head ∙ s) | inr d ↦ Contains-later (Got h) q x (past_grows p q e f l m x tail le d) ]
+
+  -- an entry that was sent earlier is held when a later one is sent
+  earlier_held : (p q : List (Event T)) (e f : T) (l m : List (Event T)) → p ++ Sent e ∷ l ≡ q ++ Sent f ∷ m → length (sent p) < length (sent q) → Contains q (Sent e)
+  earlier_held [] [] e f l m is lt = absurd (omega arith)
+  earlier_held [] (h ∷ q) e f l m is lt = let head : h ≡ Sent e = cc in Contains-at h q (Sent e) head
+  earlier_held (Sent g ∷ p) [] e f l m is lt = absurd (omega arith)
+  earlier_held (Got g ∷ p) [] e f l m is lt = cc
+  earlier_held (Sent g ∷ p) (Sent h ∷ q) e f l m is lt = let tail : p ++ Sent e ∷ l ≡ q ++ Sent f ∷ m = cc in Contains-later (Sent h) q (Sent e) (earlier_held p q e f l m tail (omega arith))
+  earlier_held (Sent g ∷ p) (Got h ∷ q) e f l m is lt = cc
+  earlier_held (Got g ∷ p) (Sent h ∷ q) e f l m is lt = cc
+  earlier_held (Got g ∷ p) (Got h ∷ q) e f l m is lt = let tail : p ++ Sent e ∷ l ≡ q ++ Sent f ∷ m = cc in Contains-later (Got h) q (Sent e) (earlier_held p q e f l m tail lt)
+
+-- ---- a past taken in
+
+module _ {T : Type 0} (node : T → Node) where
+  abbrev take_all : List (Event T) → List ℕ → List ℕ
+  take_all [] c = c
+  take_all (x ∷ p) c = take_all p (raised c (node (entry_of x)).maker (node (entry_of x)).number)
+
+  taken_in_is : (p : List (Event T)) (e : T) (l : List (Event T)) (c : List ℕ) → taken_in node (p ++ Sent e ∷ l) (length (sent p)) c ≡ take_all p c
+  taken_in_is [] e l c = refl
+  taken_in_is (Sent g ∷ p) e l c = taken_in_is p e l (raised c (node g).maker (node g).number)
+  taken_in_is (Got g ∷ p) e l c = taken_in_is p e l (raised c (node g).maker (node g).number)
+
+  take_all_length : (p : List (Event T)) (c : List ℕ) → length (take_all p c) ≡ length c
+  take_all_length [] c = refl
+  take_all_length (x ∷ p) c = take_all_length p (raised c (node (entry_of x)).maker (node (entry_of x)).number) ∙ raised_length c (node (entry_of x)).maker (node (entry_of x)).number
+
+  take_all_keeps : (p : List (Event T)) (c : List ℕ) (a : ℕ) → slice_index c a ≤ slice_index (take_all p c) a
+  take_all_keeps [] c a = omega arith
+  take_all_keeps (x ∷ p) c a =
+      let one = raised_keeps c (node (entry_of x)).maker (node (entry_of x)).number a in
+      let rest = take_all_keeps p (raised c (node (entry_of x)).maker (node (entry_of x)).number) a in
+      omega arith
+
+  take_all_covers : (p : List (Event T)) (c : List ℕ) (x : Event T) → Contains p x → (node (entry_of x)).maker < length c → (node (entry_of x)).number < slice_index (take_all p c) (node (entry_of x)).maker
+  take_all_covers [] c x h l = absurd (Contains-none x h)
+  take_all_covers (z ∷ p) c x h l =
+      let d = raised c (node (entry_of z)).maker (node (entry_of z)).number in
+      let n = raised_length c (node (entry_of z)).maker (node (entry_of z)).number in
+      let here : z ≡ x → (node (entry_of x)).number < slice_index (take_all p d) (node (entry_of x)).maker =
+      λ s. subst (λ u. (node (entry_of u)).maker < length c → (node (entry_of u)).number < slice_index (take_all p d) (node (entry_of u)).maker) s
+      (λ inside. let one = raised_covers c (node (entry_of z)).maker (node (entry_of z)).number inside in let rest = take_all_keeps p d (node (entry_of z)).maker in omega arith) l in
+      elim (Contains-cons_cases z p x h) [ inl s ↦ here s | inr g ↦ take_all_covers p d x g (omega arith) ]
+
+  take_all_from : (p : List (Event T)) (c : List ℕ) (a i : ℕ) → i < slice_index (take_all p c) a → (i < slice_index c a) ⊎ ((x : Event T) × Contains p x × (a ≡ (node (entry_of x)).maker) × (i ≤ (node (entry_of x)).number))
+  take_all_from [] c a i l = inl l
+  take_all_from (z ∷ p) c a i l =
+      let d = raised c (node (entry_of z)).maker (node (entry_of z)).number in
+      elim (take_all_from p d a i l) [
+        | inl g ↦ elim (raised_from c (node (entry_of z)).maker (node (entry_of z)).number a i g) [ inl h ↦ inl h | inr r ↦ inr (z, Contains-head z p, r.0, r.1) ]
+        | inr r ↦ inr (r.0, Contains-later z p r.0 r.1, r.2, r.3)
+      ]
+
+-- ---- what is counted
+
+module _ {T : Type 0} (node : T → Node) (w : World T) (orderly : IsOrderly node w) where
+  -- x is the entry of machine a with the number i
+  abbrev IsNth : ℕ → ℕ → T → Type 0
+  IsNth a i x = slice_get (sent (history w a)) i ≡ Some x
+
+  was_sent_after : (a i : ℕ) (x : T) → IsNth a i x → (p : List (Event T)) × (s : WasSentAfter w p x) × (length (sent p) ≡ i) × (s.0 ≡ a)
+  was_sent_after a i x e = let r = nth_split (history w a) i x e in (r.0, (a, r.1, r.2), r.3, refl)
+
+  -- its maker and its number say where it is
+  is_own : (a i : ℕ) (x : T) → IsNth a i x → ((node x).maker ≡ a) × ((node x).number ≡ i)
+  is_own a i x e = let r = nth_split (history w a) i x e in let n = next_of node w orderly r.0 x (a, r.1, r.2) in (n.maker, n.number ∙ r.3)
+
+  is_nth : (x : T) → Contains (sent_in w) x → IsNth (node x).maker (node x).number x
+  is_nth x c =
+      let s = was_sent w x c in
+      let n = next_of node w orderly s.0 x s.1 in
+      subst (λ a. IsNth a (node x).number x) (sym n.maker)
+      (ap (λ h. slice_get (sent h) (node x).number) s.1.2 ∙ ap (slice_get (sent (s.0 ++ Sent x ∷ s.1.1))) n.number ∙ nth_of_sent s.0 x s.1.1)
+
+  nth_was_sent : (a i : ℕ) (x : T) → IsNth a i x → Contains (sent_in w) x
+  nth_was_sent a i x e = let r = nth_split (history w a) i x e in sent_from_after w r.0 x (a, r.1, r.2)
+
+  -- an earlier entry of the same maker was held
+  own_earlier : (a i j : ℕ) (y z : T) → IsNth a i y → IsNth a j z → i < j → HeldBefore w y z
+  own_earlier a i j y z ey ez l =
+      let p = nth_split (history w a) i y ey in
+      let q = nth_split (history w a) j z ez in
+      itself q.0 (a, q.1, q.2) (Contains-map entry_of q.0 (Sent y) (earlier_held p.0 q.0 y z p.1 q.1 (sym p.2 ∙ q.2) (omega arith)))
+
+  -- what an earlier entry's maker held, it held at a later one too
+  held_later : (a i j : ℕ) (y z : T) (p : List (Event T)) (l : List (Event T)) → history w a ≡ p ++ Sent z ∷ l → length (sent p) ≡ j → i ≤ j → (q : List (Event T)) (m : List (Event T)) → history w a ≡ q ++ Sent y ∷ m → length (sent q) ≡ i → (f : T) → Contains (held q) f → (x : Event T) × Contains p x × (entry_of x ≡ f)
+  held_later a i j y z p l is n le q m at o f c =
+      let r = Contains-map_cases entry_of q f c in
+      (r.0, past_grows q p y z m l r.0 (sym at ∙ is) (omega arith) r.1, r.2)
+
+  module _ (e : T) where
+    -- each entry that is counted was held before e
+    abbrev Sound : List ℕ → Type 0
+    Sound c = (a i : ℕ) (x : T) → i < slice_index c a → IsNth a i x → HeldBefore w x e
+
+    -- no more is counted than was sent
+    abbrev InRange : List ℕ → Type 0
+    InRange c = (a : ℕ) → slice_index c a ≤ length (sent (history w a))
+
+    sound_take_all : (p : List (Event T)) (c : List ℕ) → Sound c × InRange c → ((x : Event T) → Contains p x → HeldBefore w (entry_of x) e × Contains (sent_in w) (entry_of x)) → Sound (take_all node p c) × InRange (take_all node p c)
+    sound_take_all p c good each = (sound, in_range)
+      where
+        sound : Sound (take_all node p c)
+        sound a i x l nth =
+            let new : (z : Event T) × Contains p z × (a ≡ (node (entry_of z)).maker) × (i ≤ (node (entry_of z)).number) → HeldBefore w x e =
+            λ r.
+            let z = entry_of r.0 in
+            let zn : IsNth a (node z).number z = subst (λ b. IsNth b (node z).number z) (sym r.2) (is_nth z (each r.0 r.1).1) in
+            let same : i ≡ (node z).number → HeldBefore w x e =
+            λ s. let both : Some z ≡ Some x = sym zn ∙ ap (slice_get (sent (history w a))) (sym s) ∙ nth in let one : z ≡ x = cc in subst (λ u. HeldBefore w u e) one (each r.0 r.1).0 in
+            let below : i < (node z).number → HeldBefore w x e = λ s. along w x z e (own_earlier a i (node z).number x z nth zn s) (each r.0 r.1).0 in
+            elim (cases_eq i (node z).number) [ inl s ↦ same s | inr s ↦ below (omega arith) ] in
+            elim (take_all_from node p c a i l) [ inl old ↦ good.0 a i x old nth | inr r ↦ new r ]
+
+        in_range : InRange (take_all node p c)
+        in_range a =
+            let over : length (sent (history w a)) < slice_index (take_all node p c) a → ⊥ =
+            λ l. elim (take_all_from node p c a (length (sent (history w a))) l) [
+              | inl old ↦ (let g = good.1 a in omega arith)
+              | inr r ↦ (let z = entry_of r.0 in let zn : IsNth a (node z).number z = subst (λ b. IsNth b (node z).number z) (sym r.2) (is_nth z (each r.0 r.1).1) in let inside = slice_get_within (sent (history w a)) (node z).number z zn in let le = r.3 in omega arith)
+            ] in
+            elim (cases_lt (length (sent (history w a))) (slice_index (take_all node p c) a)) [ inl l ↦ absurd (over l) | inr l ↦ l ]
+
+    -- one machine's turn
+    sound_one : (a : Machine T) (place : ℕ) (c : List ℕ) → history w place ≡ a.history → Sound c × InRange c → Sound (spread_one node a place c) × InRange (spread_one node a place c)
+    sound_one a place c at good = by (slice_index c place == 0) refl
+      where
+        by : (b : Bool) → (slice_index c place == 0) ≡ b → Sound (cond b c (taken_in node a.history (slice_index c place - 1) c)) × InRange (cond b c (taken_in node a.history (slice_index c place - 1) c))
+        by true _ = good
+        by false s =
+            let some = eqb-false (slice_index c place) 0 s in
+            let n = slice_index c place - 1 in
+            let g = good.1 place in
+            let z = some_at (sent (history w place)) n (omega arith) in
+            let p = nth_split (history w place) n z.0 z.1 in
+            let zheld : HeldBefore w z.0 e = good.0 place n z.0 (omega arith) z.1 in
+            let is : taken_in node a.history n c ≡ take_all node p.0 c = ap (λ h. taken_in node h n c) (sym at ∙ p.2) ∙ ap (λ m. taken_in node (p.0 ++ Sent z.0 ∷ p.1) m c) (sym p.3) ∙ taken_in_is node p.0 z.0 p.1 c in
+            subst (λ d. Sound d × InRange d) (sym is)
+            (sound_take_all p.0 c good (λ x h.
+            let held_x = Contains-map entry_of p.0 x h in
+            (along w (entry_of x) z.0 e (itself p.0 (place, p.1, p.2) held_x) zheld, held_was_sent node w orderly p.0 z.0 (place, p.1, p.2) (entry_of x) held_x)))
+
+    sound_spread : (u : World T) (place : ℕ) (c : List ℕ) → ((j : ℕ) → slice_get u j ≡ slice_get w (place + j)) → Sound c × InRange c → Sound (spread node u place c) × InRange (spread node u place c)
+    sound_spread [] place c at good = good
+    sound_spread (a ∷ u) place c at good =
+        let here : history w place ≡ a.history = ap history_of (ap (slice_get w) (omega arith) ∙ sym (at 0)) in
+        sound_spread u (place + 1) (spread_one node a place c) (λ j. at (suc j) ∙ ap (slice_get w) (omega arith)) (sound_one a place c here good)
+
+    sound_times : (n : ℕ) (c : List ℕ) → Sound c × InRange c → Sound (spread_times node n w c) × InRange (spread_times node n w c)
+    sound_times zero c good = good
+    sound_times (suc n) c good = sound_spread w 0 (spread_times node n w c) (λ j. ap (slice_get w) (omega arith)) (sound_times n c good)
+
+-- ---- all that was held before is counted
+
+zeros_index : (n a : ℕ) → slice_index (replicate n 0) a ≡ 0
+zeros_index zero a = refl
+zeros_index (suc n) zero = refl
+zeros_index (suc n) (suc a) = zeros_index n a
+
+module _ {T : Type 0} (node : T → Node) where
+  taken_in_keeps : (h : List (Event T)) (n : ℕ) (c : List ℕ) (a : ℕ) → slice_index c a ≤ slice_index (taken_in node h n c) a
+  taken_in_keeps [] n c a = omega arith
+  taken_in_keeps (Sent e ∷ h) zero c a = omega arith
+  taken_in_keeps (Sent e ∷ h) (suc n) c a = let one = raised_keeps c (node e).maker (node e).number a in let rest = taken_in_keeps h n (raised c (node e).maker (node e).number) a in omega arith
+  taken_in_keeps (Got e ∷ h) n c a = let one = raised_keeps c (node e).maker (node e).number a in let rest = taken_in_keeps h n (raised c (node e).maker (node e).number) a in omega arith
+
+  taken_in_length : (h : List (Event T)) (n : ℕ) (c : List ℕ) → length (taken_in node h n c) ≡ length c
+  taken_in_length [] n c = refl
+  taken_in_length (Sent e ∷ h) zero c = refl
+  taken_in_length (Sent e ∷ h) (suc n) c = taken_in_length h n (raised c (node e).maker (node e).number) ∙ raised_length c (node e).maker (node e).number
+  taken_in_length (Got e ∷ h) n c = taken_in_length h n (raised c (node e).maker (node e).number) ∙ raised_length c (node e).maker (node e).number
+
+  one_keeps : (a : Machine T) (place : ℕ) (c : List ℕ) (i : ℕ) → slice_index c i ≤ slice_index (spread_one node a place c) i
+  one_keeps a place c i =
+      elim (slice_index c place == 0) as (λ b. slice_index c i ≤ slice_index (cond b c (taken_in node a.history (slice_index c place - 1) c)) i)
+      [ true ↦ omega arith | false ↦ taken_in_keeps a.history (slice_index c place - 1) c i ]
+
+  one_length : (a : Machine T) (place : ℕ) (c : List ℕ) → length (spread_one node a place c) ≡ length c
+  one_length a place c =
+      elim (slice_index c place == 0) as (λ b. length (cond b c (taken_in node a.history (slice_index c place - 1) c)) ≡ length c)
+      [ true ↦ refl | false ↦ taken_in_length a.history (slice_index c place - 1) c ]
+
+  spread_keeps : (u : World T) (place : ℕ) (c : List ℕ) (i : ℕ) → slice_index c i ≤ slice_index (spread node u place c) i
+  spread_keeps [] place c i = omega arith
+  spread_keeps (a ∷ u) place c i = let one = one_keeps a place c i in let rest = spread_keeps u (place + 1) (spread_one node a place c) i in omega arith
+
+  spread_length : (u : World T) (place : ℕ) (c : List ℕ) → length (spread node u place c) ≡ length c
+  spread_length [] place c = refl
+  spread_length (a ∷ u) place c = spread_length u (place + 1) (spread_one node a place c) ∙ one_length a place c
+
+  times_keeps : (n : ℕ) (w : World T) (c : List ℕ) (i : ℕ) → slice_index c i ≤ slice_index (spread_times node n w c) i
+  times_keeps zero w c i = omega arith
+  times_keeps (suc n) w c i = let rest = times_keeps n w c i in let one = spread_keeps w 0 (spread_times node n w c) i in omega arith
+
+  times_length : (n : ℕ) (w : World T) (c : List ℕ) → length (spread_times node n w c) ≡ length c
+  times_length zero w c = refl
+  times_length (suc n) w c = spread_length w 0 (spread_times node n w c) ∙ times_length n w c
+
+module _ {T : Type 0} (node : T → Node) (w : World T) (orderly : IsOrderly node w) where
+  maker_in_world : (f : T) → Contains (sent_in w) f → (node f).maker < length w
+  maker_in_world f c = let s = was_sent w f c in let n = next_of node w orderly s.0 f s.1 in let l = in_world w s.1.0 s.0 (Sent f) s.1.1 s.1.2 in let e = n.maker in omega arith
+
+  module _ (e : T) where
+    covers_one : (a : Machine T) (b : ℕ) (c : List ℕ) → history w b ≡ a.history → InRange node w orderly e c → (n : ℕ) (h : T) → n < slice_index c b → IsNth node w orderly b n h → (q m : List (Event T)) → history w b ≡ q ++ Sent h ∷ m → length (sent q) ≡ n →
+        (f : T) → Contains (held q) f → (node f).maker < length c → (node f).number < slice_index (spread_one node a b c) (node f).maker
+    covers_one a b c at good n h l nth q m split number f held_f inside = by (slice_index c b == 0) refl
+      where
+        by : (t : Bool) → (slice_index c b == 0) ≡ t → (node f).number < slice_index (cond t c (taken_in node a.history (slice_index c b - 1) c)) (node f).maker
+        by true s = absurd (let z = eqb-true (slice_index c b) 0 s in omega arith)
+        by false s =
+            let g = good b in
+            let j = slice_index c b - 1 in
+            let z = some_at (sent (history w b)) j (omega arith) in
+            let p = nth_split (history w b) j z.0 z.1 in
+            let x = held_later node w orderly b n j h z.0 p.0 p.1 p.2 p.3 (omega arith) q m split number f held_f in
+            let is : taken_in node a.history j c ≡ take_all node p.0 c = ap (λ h. taken_in node h j c) (sym at ∙ p.2) ∙ ap (λ m. taken_in node (p.0 ++ Sent z.0 ∷ p.1) m c) (sym p.3) ∙ taken_in_is node p.0 z.0 p.1 c in
+            let covered : (node f).number < slice_index (take_all node p.0 c) (node f).maker =
+            subst (λ u. (node u).maker < length c → (node u).number < slice_index (take_all node p.0 c) (node u).maker) x.2 (take_all_covers node p.0 c x.0 x.1) inside in
+            subst (λ d. (node f).number < slice_index d (node f).maker) (sym is) covered
+
+    covers_spread : (u : World T) (place : ℕ) (c : List ℕ) → ((j : ℕ) → slice_get u j ≡ slice_get w (place + j)) → Sound node w orderly e c × InRange node w orderly e c → (j b : ℕ) → b ≡ place + j → j < length u →
+        (n : ℕ) (h : T) → n < slice_index c b → IsNth node w orderly b n h → (q m : List (Event T)) → history w b ≡ q ++ Sent h ∷ m → length (sent q) ≡ n →
+        (f : T) → Contains (held q) f → (node f).maker < length c → (node f).number < slice_index (spread node u place c) (node f).maker
+    covers_spread [] place c at good j b is l n h low nth q m split number f held_f inside = absurd (omega arith)
+    covers_spread (a ∷ u) place c at good zero b is l n h low nth q m split number f held_f inside =
+        let same : b ≡ place = omega arith in
+        let here : history w b ≡ a.history = ap history_of (ap (slice_get w) is ∙ sym (at 0)) in
+        let one = subst (λ p. (node f).number < slice_index (spread_one node a p c) (node f).maker) same (covers_one a b c here good.1 n h low nth q m split number f held_f inside) in
+        let rest = spread_keeps node u (place + 1) (spread_one node a place c) (node f).maker in
+        omega arith
+    covers_spread (a ∷ u) place c at good (suc j) b is l n h low nth q m split number f held_f inside =
+        let here : history w place ≡ a.history = ap history_of (ap (slice_get w) (omega arith) ∙ sym (at 0)) in
+        let kept = one_keeps node a place c b in
+        let long = one_length node a place c in
+        covers_spread u (place + 1) (spread_one node a place c) (λ i. at (suc i) ∙ ap (slice_get w) (omega arith)) (sound_one node w orderly e a place c here good) j b (omega arith) (omega arith) n h (omega arith) nth q m split number f held_f (omega arith)
+
+    module _ (b j : ℕ) (nth : IsNth node w orderly b j e) where
+      first : List ℕ
+      first = taken_in node (history w b) j (replicate (length w) 0)
+
+      zeros_good : Sound node w orderly e (replicate (length w) 0) × InRange node w orderly e (replicate (length w) 0)
+      zeros_good = (λ a i x l _. absurd (let z = zeros_index (length w) a in omega arith), λ a. let z = zeros_index (length w) a in omega arith)
+
+      first_is : (p l : List (Event T)) → history w b ≡ p ++ Sent e ∷ l → length (sent p) ≡ j → first ≡ take_all node p (replicate (length w) 0)
+      unfolding first
+      first_is p l is n = ap (λ h. taken_in node h j (replicate (length w) 0)) is ∙ ap (λ m. taken_in node (p ++ Sent e ∷ l) m (replicate (length w) 0)) (sym n) ∙ taken_in_is node p e l (replicate (length w) 0)
+
+      first_good : Sound node w orderly e first × InRange node w orderly e first
+      first_good =
+          let p = nth_split (history w b) j e nth in
+          subst (λ d. Sound node w orderly e d × InRange node w orderly e d) (sym (first_is p.0 p.1 p.2 p.3))
+          (sound_take_all node w orderly e p.0 (replicate (length w) 0) zeros_good (λ x h.
+          let held_x = Contains-map entry_of p.0 x h in
+          (itself p.0 (b, p.1, p.2) held_x, held_was_sent node w orderly p.0 e (b, p.1, p.2) (entry_of x) held_x)))
+
+      long : length first ≡ length w
+      unfolding first
+      long = taken_in_length node (history w b) j (replicate (length w) 0) ∙ length-replicate (length w) 0
+
+      -- who is at most so many links away is counted after so many rounds
+      counted : (n : ℕ) (f : T) (gs : List T) → IsChain w f gs e → length gs ≤ n → (node f).number < slice_index (spread_times node n w first) (node f).maker
+      counted n f [] (past, s, c) l =
+          let own = is_own node w orderly b j e nth in
+          let nx = next_of node w orderly past e s in
+          let same : s.0 ≡ b = sym nx.maker ∙ own.0 in
+          let is : history w b ≡ past ++ Sent e ∷ s.1 = ap (history w) (sym same) ∙ s.2 in
+          let at = first_is past s.1 is (sym nx.number ∙ own.1) in
+          let x = Contains-map_cases entry_of past f c in
+          let inside = maker_in_world f (held_was_sent node w orderly past e s f c) in
+          let zeros = length-replicate {A = ℕ} (length w) 0 in
+          let covered : (node f).number < slice_index (take_all node past (replicate (length w) 0)) (node f).maker =
+          subst (λ u. (node u).maker < length {A = ℕ} (replicate (length w) 0) → (node u).number < slice_index (take_all node past (replicate (length w) 0)) (node u).maker) x.2 (take_all_covers node past (replicate (length w) 0) x.0 x.1) (omega arith) in
+          let kept = times_keeps node n w first (node f).maker in
+          let now = ap (λ d. slice_index d (node f).maker) at in
+          omega arith
+      counted zero f (g ∷ gs) h l = absurd (omega arith)
+      counted (suc n) f (g ∷ gs) h l =
+          let s = h.0.1 in
+          let past = h.0.0 in
+          let before = counted n g gs h.1 (omega arith) in
+          let sent_g = sent_from_after w past g s in
+          let nx = next_of node w orderly past g s in
+          let is : history w (node g).maker ≡ past ++ Sent g ∷ s.1 = ap (history w) nx.maker ∙ s.2 in
+          let inside = maker_in_world f (held_was_sent node w orderly past g s f h.0.2) in
+          let longer = times_length node n w first ∙ long in
+          covers_spread w 0 (spread_times node n w first) (λ i. ap (slice_get w) (omega arith)) (sound_times node w orderly e n first first_good) (node g).maker (node g).maker (omega arith) (maker_in_world g sent_g)
+          (node g).number g before (is_nth node w orderly g sent_g) past s.1 is (sym nx.number) f h.0.2 (omega arith)
+
+  -- stamps rise along a chain
+  chain_stamps : (f : T) (gs : List T) (e : T) → IsChain w f gs e → (node f).stamp + length gs < (node e).stamp
+  chain_stamps f [] e (past, s, c) = let l = lower node w orderly past e s f c in omega arith
+  chain_stamps f (g ∷ gs) e (h, rest) = let l = lower node w orderly h.0 g h.1 f h.2 in let r = chain_stamps g gs e rest in omega arith
+
+  pub is_held_before_right : (a i b j : ℕ) (f e : T) → slice_get (sent (history w a)) i ≡ Some f → slice_get (sent (history w b)) j ≡ Some e → (is_held_before node w a i b j ≡ true) ↔ HeldBefore w f e
+  unfolding first
+  is_held_before_right a i b j f e nf ne = (sound, complete)
+    where
+      rounds : ℕ
+      rounds = greatest_stamp node (held (history w b))
+
+      sound : is_held_before node w a i b j ≡ true → HeldBefore w f e
+      sound t = (sound_times node w orderly e (greatest_stamp node (held (history w b))) (first e b j ne) (first_good e b j ne)).0 a i f (ltb-true i (slice_index (spread_times node (greatest_stamp node (held (history w b))) w (first e b j ne)) a) t) nf
+
+      complete : HeldBefore w f e → is_held_before node w a i b j ≡ true
+      complete h =
+          let c = to_chain w f e h in
+          let own = is_own node w orderly a i f nf in
+          let up = chain_stamps f c.0 e c.1 in
+          let top = stamp_below node (held (history w b)) e (Contains-map entry_of (history w b) (Sent e) (Contains-sent_cases (history w b) e (let r = nth_was_sent node w orderly b j e ne in sent_here r))) in
+          let l = counted e b j ne (greatest_stamp node (held (history w b))) f c.0 c.1 (omega arith) in
+          let m = ap (slice_index (spread_times node (greatest_stamp node (held (history w b))) w (first e b j ne))) own.0 in
+          let n = own.1 in
+          lt-ltb i (slice_index (spread_times node (greatest_stamp node (held (history w b))) w (first e b j ne)) a) (omega arith)
+        where
+          sent_here : Contains (sent_in w) e → Contains (sent (history w b)) e
+          sent_here _ = (j, slice_get_within (sent (history w b)) j e ne, get_or_from_slice_get (sent (history w b)) j e e ne)

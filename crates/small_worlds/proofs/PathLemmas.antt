@@ -1,0 +1,117 @@
+-- What the search of paths finds is a path among the survivors.
+use Rattle.std.proofs.Common.{◌≡◌, ℕ, zero, suc, ◌+◌, ◌-◌, ◌<◌, ◌≤◌, true, false, List, [], ◌∷◌, length, get_or, drop, refl, sym, ap, subst, ◌∙◌, inl, inr, arith}
+use Rattle.std.specs.Prelude.{not, ◌&&◌, ◌||◌, ◌↔◌, slice_get, Some}
+use Rattle.std.specs.List.{Contains, list_any}
+use Rattle.std.proofs.lemmas.Bool.{or_cases, or_left, or_right, and_parts, and_from, not_from_false}
+use Rattle.std.proofs.lemmas.List.Folds.{list_any_at}
+use Rattle.std.proofs.lemmas.List.{at_drop_all}
+use Rattle.std.proofs.lemmas.Option.{slice_get_read}
+use Rattle.entry_order.specs.Node.{Node}
+use Rattle.entry_order.specs.Precedes.{IsPath, Precedes}
+use Rattle.entry_order.specs.Survivors.{is_stray, survivors}
+use Rattle.entry_order.proofs.Lists.{Contains-filter, Contains-filter_cases, list_any_some}
+use Rattle.entry_order.proofs.Naming.{names_digest_of, names_digest_from}
+use Rattle.entry_order.proofs.Strays.{rises_along}
+use Rattle.small_worlds.specs.Paths.{names_entry, is_next, leads, is_before}
+
+-- one step of the search, its bound written as the code does
+pub leads_step : {T : Type 0} (node : T → Node) (given : List T) (n : ℕ) (f e : T) → 0 < n →
+    leads node given n f e ≡ (names_entry node e f || list_any (λ g. is_next node given f g && leads node given (n - 1) g e) given)
+leads_step node given zero f e l = absurd (omega arith)
+leads_step node given (suc n) f e l = let less : suc n - 1 ≡ n = omega arith in rw less refl
+
+-- it finds a path over the next entry at a place
+pub leads_over : {T : Type 0} (node : T → Node) (given : List T) (n : ℕ) (f e : T) → 0 < n → (i : ℕ) (g : T) → i < length given →
+    g ≡ get_or given i g → is_next node given f g ≡ true → leads node given (n - 1) g e ≡ true → leads node given n f e ≡ true
+leads_over {T} node given n f e l i g inside at next rest =
+    let test = λ (g : T). is_next node given f g && leads node given (n - 1) g e in
+    let both = and_from (is_next node given f g) (leads node given (n - 1) g e) next rest in
+    leads_step node given n f e l ∙ or_right (names_entry node e f) (list_any test given) (list_any_at test given i g inside (ap test (sym at) ∙ both))
+
+-- it finds none where none is left
+pub leads_nowhere : {T : Type 0} (node : T → Node) (given : List T) (n : ℕ) (f e : T) → 0 < n → names_entry node e f ≡ false → (i : ℕ) → length given ≤ i →
+    list_any (λ g. is_next node given f g && leads node given (n - 1) g e) (drop i given)
+    ≡ list_any (λ g. is_next node given f g && leads node given (n - 1) g e) given → leads node given n f e ≡ false
+leads_nowhere {T} node given n f e l none i past same =
+    let test = λ (g : T). is_next node given f g && leads node given (n - 1) g e in
+    leads_step node given n f e l ∙ ap (λ b. b || list_any test given) none ∙ sym same ∙ at_drop_all (list_any test) given i past
+
+module _ {T : Type 0} (node : T → Node) (given : List T) where
+  -- what is no stray survives
+  survives : (g : T) → Contains given g → is_stray node given g ≡ false → Contains (survivors node given) g
+  survives g c free = Contains-filter (λ e. not (is_stray node given e)) given g c (not_from_false (is_stray node given g) free)
+
+  from_leads : (n : ℕ) (f e : T) → leads node given n f e ≡ true →
+      (between : List T) × IsPath node (survivors node given) f between e
+  from_leads zero f e t = ([], names_digest_from node e (node f).digest t)
+  from_leads (suc n) f e t =
+      let on : list_any (λ g. is_next node given f g && leads node given n g e) given ≡ true →
+          (between : List T) × IsPath node (survivors node given) f between e =
+      λ t.
+      let r = list_any_some (λ g. is_next node given f g && leads node given n g e) given t in
+      let both = and_parts (is_next node given f r.0) (leads node given n r.0 e) r.2 in
+      let next = and_parts (not (is_stray node given r.0)) (names_entry node r.0 f) both.0 in
+      let rest = from_leads n r.0 e both.1 in
+      let here = Contains-filter (λ e. not (is_stray node given e)) given r.0 r.1 next.0 in
+      (r.0 ∷ rest.0, (here, names_digest_from node r.0 (node f).digest next.1, rest.1)) in
+      elim (or_cases (names_entry node e f) (list_any (λ g. is_next node given f g && leads node given n g e) given) t) [
+        | inl t ↦ ([], names_digest_from node e (node f).digest t)
+        | inr t ↦ on t
+      ]
+
+  to_leads : (n : ℕ) (f : T) (between : List T) (e : T) → length between ≤ n →
+      IsPath node (survivors node given) f between e → leads node given n f e ≡ true
+  to_leads zero f [] e l p = names_digest_of node e (node f).digest p
+  to_leads zero f (g ∷ gs) e l p = absurd (omega arith)
+  to_leads (suc n) f [] e l p =
+      or_left (names_entry node e f) (list_any (λ g. is_next node given f g && leads node given n g e) given) (names_digest_of node e (node f).digest p)
+  to_leads (suc n) f (g ∷ gs) e l p =
+      let c = Contains-filter_cases (λ e. not (is_stray node given e)) given g p.0 in
+      let next = and_from (not (is_stray node given g)) (names_entry node g f) c.1 (names_digest_of node g (node f).digest p.1) in
+      let rest = to_leads n g gs e (omega arith) p.2 in
+      let both = and_from (is_next node given f g) (leads node given n g e) next rest in
+      let (i, inside, at) = c.0 in
+      let test = λ (g : T). is_next node given f g && leads node given n g e in
+      or_right (names_entry node e f) (list_any test given) (list_any_at test given i g inside (ap test at ∙ both))
+
+  -- stamps rise along a path, so it isn't longer than its end's stamp
+  long : (f : T) (between : List T) (e : T) → Contains (survivors node given) f → Contains (survivors node given) e →
+      IsPath node (survivors node given) f between e → length between + (node f).stamp < (node e).stamp
+  long f [] e cf ce p = let rise = rises_along node given f [] e cf ce p in omega arith
+  long f (g ∷ gs) e cf ce p =
+      let first = rises_along node given f [] g cf p.0 p.1 in
+      let rest = long g gs e p.0 ce p.2 in
+      omega arith
+
+  leads_is_path : (f e : T) → Contains (survivors node given) f → Contains (survivors node given) e →
+      (leads node given (node e).stamp f e ≡ true) ↔ Precedes node (survivors node given) f e
+  leads_is_path f e cf ce = (
+    λ t. let r = from_leads (node e).stamp f e t in (cf, ce, r.0, r.1),
+    λ p. let l = long f p.2 e cf ce p.3 in to_leads (node e).stamp f p.2 e (omega arith) p.3,
+  )
+
+  pub is_before_right : (f e : T) → Contains given f → Contains given e →
+      (is_before node given f e ≡ true) ↔ Precedes node (survivors node given) f e
+  is_before_right f e cf ce = (
+    λ t.
+        let first = and_parts (not (is_stray node given f)) (not (is_stray node given e) && leads node given (node e).stamp f e) t in
+        let second = and_parts (not (is_stray node given e)) (leads node given (node e).stamp f e) first.1 in
+        let sf = Contains-filter (λ e. not (is_stray node given e)) given f cf first.0 in
+        let se = Contains-filter (λ e. not (is_stray node given e)) given e ce second.0 in
+        (leads_is_path f e sf se).0 second.1,
+    λ p.
+        let kf = Contains-filter_cases (λ e. not (is_stray node given e)) given f p.0 in
+        let ke = Contains-filter_cases (λ e. not (is_stray node given e)) given e p.1 in
+        and_from (not (is_stray node given f)) (not (is_stray node given e) && leads node given (node e).stamp f e) kf.1
+        (and_from (not (is_stray node given e)) (leads node given (node e).stamp f e) ke.1 ((leads_is_path f e p.0 p.1).1 p)),
+  )
+
+  -- so it is for entries at places, as the code reads them
+  pub is_before_at : (i j : ℕ) (f e g h : T) → i < length given → j < length given → f ≡ get_or given i f → e ≡ get_or given j e →
+      slice_get given i ≡ Some g → slice_get given j ≡ Some h → (is_before node given f e ≡ true) ↔ Precedes node (survivors node given) g h
+  is_before_at i j f e g h li lj fi ej gi hj =
+      let first : f ≡ g = (let read = sym (slice_get_read given (length given) i f refl li fi) ∙ gi in cc) in
+      let second : e ≡ h = (let read = sym (slice_get_read given (length given) j e refl lj ej) ∙ hj in cc) in
+      subst (λ (u : T). (is_before node given f e ≡ true) ↔ Precedes node (survivors node given) u h) first
+      (subst (λ (u : T). (is_before node given f e ≡ true) ↔ Precedes node (survivors node given) f u) second
+      (is_before_right f e (i, li, sym fi) (j, lj, sym ej)))

@@ -1,0 +1,7 @@
+use Rattle.std.proofs.Common.{◌∙◌}
+use Rattle.std.proofs.lemmas.Result.{IfOk-weaker}
+use Rattle.small_worlds.proofs.Fusions.{frontier_held}
+use Rattle.small_worlds.proofs.history.held_frontier.Goals as goal
+
+pub returns : goal.returns
+returns g c = IfOk-weaker c.frontier.result _ _ (λ ds is. is ∙ frontier_held g.T.Knot.node c.args.history.now) c.frontier.ensures

@@ -1,0 +1,36 @@
+use Rattle.std.proofs.Common.{◌∙◌, ap, sym, subst, length}
+use Rattle.std.proofs.lemmas.Result.{on_ok_weaker}
+use Rattle.entry_order.specs.Naming.{Distinct}
+use Rattle.entry_order.specs.World.{World, start, sent_in, play}
+use Rattle.entry_order.specs.Receipt.{IsOrderly, OrderIsReceiptIn}
+use Rattle.entry_order.proofs.Plays.{order_is_receipt, IsOrderly-play, IsOrderly-start}
+use Rattle.small_worlds.proofs.world.run.Goals as goal
+
+pub returns-clause-played : goal.returns-clause-played
+returns-clause-played g c =
+    on_ok_weaker c.play.result
+    (λ is. is ∙ ap (λ w. play g.T.Knot.node g.T.Sender.next c.args.log w c.args.steps.now) c.requires) c.play.ensures
+
+pub returns-clause-orderly : goal.returns-clause-orderly
+returns-clause-orderly g c =
+    let node = g.T.Knot.node in
+    let next = g.T.Sender.next in
+    let n = length c.args.machines.now in
+    on_ok_weaker c.play.result
+    (λ is.
+        let e = is ∙ ap (λ w. play node next c.args.log w c.args.steps.now) c.requires in
+        subst (λ (w : World g.row.T.Denot). IsOrderly node w) (sym e)
+        (IsOrderly-play node next c.args.log g.met.T.Sender.lawful (start n) c.args.steps.now (IsOrderly-start node n)))
+    c.play.ensures
+
+pub returns-clause-order : goal.returns-clause-order
+returns-clause-order g c =
+    let node = g.T.Knot.node in
+    let next = g.T.Sender.next in
+    let n = length c.args.machines.now in
+    on_ok_weaker c.play.result
+    (λ is.
+        let e = is ∙ ap (λ w. play node next c.args.log w c.args.steps.now) c.requires in
+        subst (λ (w : World g.row.T.Denot). Distinct node (sent_in w) → OrderIsReceiptIn node w) (sym e)
+        (order_is_receipt node next c.args.log n c.args.steps.now g.met.T.Sender.lawful))
+    c.play.ensures
