@@ -1,0 +1,2 @@
+pub mod SameQueue
+pub mod Views
