@@ -1,3 +1,4 @@
 pub mod LogText
 pub mod LogFile
+pub mod FileFaults
 pub mod Parts

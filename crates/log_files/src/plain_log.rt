@@ -59,18 +59,24 @@ impl From<AllocError> for LogFault {
     }
 }
 
-/// The most bytes of a log's file.
-const MAX_BYTES: usize = 67_108_864;
+impl From<FileFault> for LogFault {
+    ghost use Rattle.std.specs.Prelude.{◌≡◌};
+    ghost use Rattle.log_files.specs.FileFaults.{log_fault_of};
 
-/// The fault of a log whose file isn't read.
-fn fault_of_file(fault: FileFault) -> LogFault {
-    match fault {
-        FileFault::Absent => LogFault::Absent,
-        FileFault::TooLong => LogFault::TooLong,
-        FileFault::ReadFault => LogFault::ReadFault,
-        FileFault::Memory => LogFault::Memory,
+    ghost from_gives = { λ fault e. e ≡ log_fault_of fault };
+
+    fn from(fault: FileFault) -> LogFault {
+        match fault {
+            FileFault::Absent => LogFault::Absent,
+            FileFault::TooLong => LogFault::TooLong,
+            FileFault::ReadFault => LogFault::ReadFault,
+            FileFault::Memory => LogFault::Memory,
+        }
     }
 }
+
+/// The most bytes of a log's file.
+const MAX_BYTES: usize = 67_108_864;
 
 /// Reads a log's file, and leaves the signatures of its entries unverified. No file changes.
 ///
@@ -99,11 +105,9 @@ pub fn read_plain_log<S: Store>(
     ensures unchanged { (S.files store.new ≡ S.files store.old)
         × (S.write_faults store.new ≡ S.write_faults store.old) }
 {
-    match read_file(alloc, store, name, MAX_BYTES) {
-        Ok(bytes) => match plain_log_of(alloc, &bytes)? {
-            Some(log) => Ok(log),
-            None => Err(LogFault::Header),
-        },
-        Err(fault) => Err(fault_of_file(fault)),
+    let bytes = read_file(alloc, store, name, MAX_BYTES)?;
+    match plain_log_of(alloc, &bytes)? {
+        Some(log) => Ok(log),
+        None => Err(LogFault::Header),
     }
 }

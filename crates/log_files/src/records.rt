@@ -1,11 +1,11 @@
 //! Reading the header and the records of a log from bytes.
-ghost use Rattle.std.specs.Prelude.{◌≡◌, ◌≢◌, ◌≤◌, ◌↔◌, length, drop, Err, IfOk, IfSome, IfNone, IsTrue, MatchOption};
+ghost use Rattle.std.specs.Prelude.{◌≡◌, ◌≢◌, ◌≤◌, ◌↔◌, length, drop, Err, IfOk, IfSome, IfNone, OnOk, IsTrue, MatchOption};
 ghost use Rattle.canonical_sexp.specs.Text.{text_of, Fits};
 ghost use Rattle.entry_format.specs.declared.plain.EntryFault.{EntryFault};
 ghost use Rattle.canonical_sexp.specs.Forest.{Forest};
 ghost use Rattle.canonical_sexp.specs.declared.sexp.Sexp.TheVariants.{List as Branch};
 ghost use Rattle.log_files.specs.LogText.{HasHeader, IsRecordOf, Gives, SaysFrom, Says};
-ghost use Rattle.log_files.specs.Parts.{IsHeader, IsEntryIn};
+ghost use Rattle.log_files.specs.Parts.{IsHeader, IsEntryIn, Adds};
 
 use crate::plain_log::{End, PlainLog};
 use canonical_sexp::{Memory, Read, Sexp, read_one};
@@ -64,44 +64,67 @@ pub fn plain_log_of(alloc: Global, bytes: &[u8]) -> Result<Option<PlainLog>, Mem
     ensures { IfOk result (λ found.
         MatchOption found (HasHeader bytes.now → ⊥) (λ log. Says bytes.now log)) }
 {
-    let start = match read_one(alloc, bytes)? {
-        Read::Whole { value, used } if is_header(&value) => used,
-        _ => return Ok(None),
+    let Read::Whole { value, used } = read_one(alloc, bytes)? else {
+        return Ok(None);
     };
-    Ok(Some(records_from(alloc, bytes, start)?))
+    if !is_header(&value) {
+        return Ok(None);
+    }
+    Ok(Some(records_from(alloc, bytes, used)?))
 }
 
-/// Reads the records from a place on.
+/// Adds what a record gives to the log's entries or to its refused records.
+fn add_record(
+    alloc: Global,
+    log: &mut PlainLog,
+    place: u32,
+    tree: &Sexp,
+    text: &[u8],
+) -> Result<(), Memory>
+    requires fits { Fits tree.now }
+    requires text { text.now ≡ text_of tree.now }
+    ensures { OnOk result (Adds tree.now place log.old log.new) }
+{
+    match entry_of(alloc, tree, text) {
+        Ok(plain) => log.kept.push(plain)?,
+        Err(fault) => match fault {
+            EntryFault::Memory => return Err(AllocError),
+            _ => log.refused.push((place, fault))?,
+        },
+    }
+    Ok(())
+}
+
+/// Reads the records from the place `start` on.
 fn records_from(alloc: Global, bytes: &[u8], start: usize) -> Result<PlainLog, Memory>
     requires within { start ≤ length bytes.now }
     requires short { length bytes.now ≤ 67108864 }
     ensures { IfOk result (λ log. SaysFrom start (drop start bytes.now) log) }
 {
-    let mut kept = Vec::new(alloc);
-    let mut refused = Vec::new(alloc);
+    let mut log = PlainLog {
+        kept: Vec::new(alloc),
+        refused: Vec::new(alloc),
+        end: End::Clean,
+    };
     let mut at = start;
     let mut place = 0;
     while at < bytes.len() {
         match read_one(alloc, &bytes[at..])? {
             Read::Whole { value, used } => {
-                match entry_of(alloc, &value, &bytes[at..at + used]) {
-                    Ok(plain) => kept.push(plain)?,
-                    Err(EntryFault::Memory) => return Err(AllocError),
-                    Err(fault) => refused.push((place, fault))?,
-                }
+                add_record(alloc, &mut log, place, &value, &bytes[at..at + used])?;
                 at += used;
                 place += 1;
             }
             Read::Cut => {
-                let end = End::Torn(at as u64);
-                return Ok(PlainLog { kept, refused, end });
+                log.end = End::Torn(at as u64);
+                return Ok(log);
             }
             Read::Bad { at: bad, why } => {
-                let end = End::Malformed((at + bad) as u64, why);
-                return Ok(PlainLog { kept, refused, end });
+                log.end = End::Malformed((at + bad) as u64, why);
+                return Ok(log);
             }
         }
     }
-    let end = End::Clean;
-    Ok(PlainLog { kept, refused, end })
+    log.end = End::Clean;
+    Ok(log)
 }
