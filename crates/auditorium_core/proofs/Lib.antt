@@ -1,2 +1,3 @@
-pub mod Headers
 pub mod WordLists
+pub mod Told
+pub mod GapLines

@@ -1,7 +1,10 @@
--- What a command of the source means.
-use Rattle.auditorium_core.specs.declared.words.Command.{Command as Parsed}
-use Rattle.auditorium_core.specs.declared.words.Command.TheVariants.{Gaps}
-use Rattle.auditorium_core.specs.Words.{Command, gaps}
+-- What a request of the source says of the words.
+use Rattle.std.specs.Prelude.{ℕ, List}
+use Rattle.auditorium_core.specs.declared.words.Request.{Request}
+use Rattle.auditorium_core.specs.declared.words.Request.TheVariants.{Usage, Gaps}
+use Rattle.auditorium_core.specs.Words.{gaps, Means, AreGood}
 
-abbrev pub meaning_of : Parsed → Command
-meaning_of (Gaps log) = gaps log.now
+-- the words are those of the command, or they aren't good
+abbrev pub Asks : List (List ℕ) → Request → Type 0
+Asks words Usage = ¬ AreGood words
+Asks words (Gaps log) = Means words (gaps log.now)

@@ -1,6 +1,7 @@
 // Answers: what is to be written, and how the program ends then.
-ghost use Rattle.std.specs.Prelude.{◌≡◌, IfOk};
-ghost use Rattle.auditorium_core.specs.Lines.{done_answer, usage_answer, absent_answer, refused_answer};
+ghost use Rattle.std.specs.Prelude.{◌≡◌, IfOk, string_bytes};
+ghost use Rattle.auditorium_core.specs.Lines.{usage_answer, absent_answer, refused_answer};
+ghost use Rattle.auditorium_core.specs.Gaps.{findings_answer};
 
 use crate::status::Status;
 use std::alloc::{AllocError, Global};
@@ -23,13 +24,13 @@ impl Model for Answer {
 }
 
 impl Answer {
-    /// The answer where nothing was to be told.
-    pub fn done(alloc: Global) -> Answer
-        ensures { result ≡ done_answer }
+    /// The answer of these lines: where there are none, nothing was found.
+    pub fn findings(lines: String) -> Answer
+        ensures { result ≡ findings_answer (string_bytes lines) }
     {
         Answer {
-            status: Status::Done,
-            output: Vec::new(alloc),
+            status: if lines.is_empty() { Status::Done } else { Status::Findings },
+            output: lines.into_bytes(),
         }
     }
 

@@ -5,6 +5,7 @@
 #![tactic(auto)]
 
 mod answer;
+mod causes;
 mod gaps;
 mod program;
 mod status;

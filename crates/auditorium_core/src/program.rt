@@ -7,7 +7,7 @@ ghost use Rattle.auditorium_core.specs.Outcome.{outside, HasDone};
 use crate::answer::{Answer, Fault};
 use crate::gaps::gaps;
 use crate::status::Status;
-use crate::words::{Command, command_of};
+use crate::words::{Request, request_of};
 use hall_outside::{Failed, Sink, Store, write_all};
 use std::alloc::Global;
 
@@ -45,8 +45,8 @@ fn answer_of<S: Store>(alloc: Global, words: &[String], store: &mut S) -> Result
     ensures unchanged { (S.files store.new ≡ S.files store.old)
         × (S.write_faults store.new ≡ S.write_faults store.old) }
 {
-    match command_of(words) {
-        Some(Command::Gaps(log)) => gaps(alloc, store, log),
-        None => Ok(Answer::usage(alloc)?),
+    match request_of(words) {
+        Request::Usage => Ok(Answer::usage(alloc)?),
+        Request::Gaps(log) => gaps(alloc, store, log),
     }
 }

@@ -1,27 +1,27 @@
 // The words of the command line.
-ghost use Rattle.std.specs.Prelude.{◌↔◌, map, string_bytes, IsTrue, All, IfSome, IfNone};
-ghost use Rattle.auditorium_core.specs.Words.{IsWord, Means, AreGood};
-ghost use Rattle.auditorium_core.specs.Meaning.{meaning_of};
+ghost use Rattle.std.specs.Prelude.{◌↔◌, map, string_bytes, IsTrue, All};
+ghost use Rattle.auditorium_core.specs.Words.{IsWord};
+ghost use Rattle.auditorium_core.specs.Meaning.{Asks};
 
-/// What good words ask for.
+/// What the words ask for.
 #[derive(Clone, Copy)]
-pub(crate) enum Command<'a> {
+pub(crate) enum Request<'a> {
+    /// The words aren't good.
+    Usage,
     /// The gaps of the log in this file.
     Gaps(&'a str),
 }
 
-/// The command that the words are, or `None` where they aren't good.
-pub(crate) fn command_of(words: &[String]) -> Option<Command<'_>>
-    ensures some { IfSome result (λ command.
-        Means (map string_bytes words.now) (meaning_of command)) }
-    ensures none { IfNone result (¬ AreGood (map string_bytes words.now)) }
+/// What the words ask for.
+pub(crate) fn request_of(words: &[String]) -> Request<'_>
+    ensures { Asks (map string_bytes words.now) result }
 {
     if !have_form(words) {
-        return None;
+        return Request::Usage;
     }
     match words {
-        [command, log] if command.as_str() == "gaps" => Some(Command::Gaps(log.as_str())),
-        _ => None,
+        [command, log] if command.as_str() == "gaps" => Request::Gaps(log.as_str()),
+        _ => Request::Usage,
     }
 }
 
