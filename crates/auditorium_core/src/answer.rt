@@ -29,7 +29,11 @@ impl Answer {
         ensures { result ≡ findings_answer (string_bytes lines) }
     {
         Answer {
-            status: if lines.is_empty() { Status::Done } else { Status::Findings },
+            status: if lines.is_empty() {
+                Status::Done
+            } else {
+                Status::Findings
+            },
             output: lines.into_bytes(),
         }
     }
@@ -55,12 +59,7 @@ impl Answer {
     }
 
     /// The answer where the named file is refused at a place.
-    pub fn refused(
-        alloc: Global,
-        name: &str,
-        place: u64,
-        cause: &str,
-    ) -> Result<Answer, AllocError>
+    pub fn refused(alloc: Global, name: &str, place: u64, cause: &str) -> Result<Answer, AllocError>
         ensures { IfOk result (λ answer. answer ≡ refused_answer name.now place cause.now) }
     {
         Ok(Answer {

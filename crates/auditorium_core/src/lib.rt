@@ -13,3 +13,6 @@ mod words;
 
 pub use program::auditorium_still;
 pub use status::Status;
+
+#[cfg(test)]
+mod tests;

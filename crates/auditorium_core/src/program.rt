@@ -21,10 +21,10 @@ pub fn auditorium_still<S: Store, K: Sink>(
 ) -> Status
     ensures { HasDone (map string_bytes words.now)
         (outside (S.files store.old) (S.answered store.old) (S.read_faults store.old)
-            (S.write_faults store.old) (K.written out.old) (K.faults out.old))
+        (S.write_faults store.old) (K.written out.old) (K.faults out.old))
         result
         (outside (S.files store.new) (S.answered store.new) (S.read_faults store.new)
-            (S.write_faults store.new) (K.written out.new) (K.faults out.new)) }
+        (S.write_faults store.new) (K.written out.new) (K.faults out.new)) }
 {
     match answer_of(alloc, words, store) {
         Ok(answer) => match write_all(out, answer.output()) {

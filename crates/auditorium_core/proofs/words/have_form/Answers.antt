@@ -6,11 +6,10 @@ use Rattle.auditorium_core.proofs.WordLists.{has_form_at, lacks_form_at, all_hav
 use Rattle.auditorium_core.proofs.words.have_form.Goals as goal
 
 pub returns-then-not-is_word : goal.returns-then-not-is_word
-returns-then-not-is_word c =
-    (
-      (λ yes. absurd (false≢true yes)),
-      (λ all. c.if-not-is_word.ensures.1 (lacks_form_at c.args.words.now c.loop-word.word-index c.word-item.result c.as_str.result.now c.loop-word-test.true c.word-item.is c.as_str.ensures.value all)),
-    )
+returns-then-not-is_word c = (
+  (λ yes. absurd (false≢true yes)),
+  (λ all. c.if-not-is_word.ensures.1 (lacks_form_at c.args.words.now c.loop-word.word-index c.word-item.result c.as_str.result.now c.loop-word-test.true c.word-item.is c.as_str.ensures.value all)),
+)
 
 pub loop-word-preserved : goal.loop-word-preserved
 loop-word-preserved c =
