@@ -1,11 +1,10 @@
 -- Chains, step by step.
-use Rattle.std.proofs.Common.{◌≡◌, ℕ, ◌+◌, ◌-◌, ◌<◌, ◌≤◌, List, [], ◌∷◌, ◌++◌, length, refl, sym, ap, ◌∙◌, inl, inr, arith}
+use Rattle.std.proofs.Common.{◌≡◌, ℕ, ◌+◌, ◌-◌, ◌<◌, ◌≤◌, List, [], ◌∷◌, ◌++◌, refl, sym, ap, inl, inr, arith}
 use Rattle.std.proofs.lemmas.Bool.{cases_lt}
 use Rattle.std.proofs.lemmas.List.{append_assoc}
 use Rattle.std.proofs.lemmas.List.Sums.{fold_push}
-use Rattle.std.specs.List.{fold, range_with_len}
 use Rattle.sha2.specs.Sha256.{sha256}
-use Rattle.lms_ots.specs.Ots.{chain, step, u16str, u32str, u8str}
+use Rattle.lms_ots.specs.Ots.{chain, step, u16str, u32str}
 use Rattle.lms_ots.proofs.Pieces.{range_with_len_next}
 
 -- what a step hashes, with the bytes up to its place as one piece

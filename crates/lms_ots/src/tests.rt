@@ -88,30 +88,36 @@ fn keys_and_signatures_are_those_of_another_program(rt: HostRuntime) -> Result<(
     Ok(())
 }
 
+// Alters one byte, where there is one.
+fn flip(bytes: &mut [u8], at: usize) {
+    if let Some(byte) = bytes.get_mut(at) {
+        *byte ^= 1;
+    }
+}
+
 #[test]
 fn a_changed_signature_has_another_candidate_or_none(rt: HostRuntime) -> Result<(), Fail> {
     let alloc = rt.alloc();
     for kind in [OtsKind::W1, OtsKind::W2, OtsKind::W4, OtsKind::W8] {
         let public = ots_public(kind, &ID, INDEX, &SEED);
         let mut signature = ots_sign(alloc, kind, &ID, INDEX, &SEED, b"")?;
-        let len = signature.len();
-        assert!(rt; len > 68);
-        for at in [4, 36, 68, len - 1] {
-            signature[at] ^= 1;
+        // A byte of C, of the first two elements and of the last.
+        for at in [4, 36, 68, kind.signature_len() - 1] {
+            flip(signature.as_mut_slice(), at);
             let other = ots_candidate(kind, &ID, INDEX, b"", &signature)?;
             assert_ne!(rt; other, public, "{kind:?} at {at}");
-            signature[at] ^= 1;
+            flip(signature.as_mut_slice(), at);
         }
-        signature[0] ^= 1;
-        assert_eq!(rt;
-            ots_candidate(kind, &ID, INDEX, b"", &signature),
-            Err(OtsFault::WrongType)
-        );
-        let short = ots_candidate(kind, &ID, INDEX, b"", &signature[..len - 1]);
-        assert_eq!(rt; short, Err(OtsFault::WrongLength));
+        flip(signature.as_mut_slice(), 0);
+        let typed = ots_candidate(kind, &ID, INDEX, b"", &signature);
+        assert_eq!(rt; typed, Err(OtsFault::WrongType), "{kind:?}");
+        flip(signature.as_mut_slice(), 0);
         signature.push(0)?;
         let long = ots_candidate(kind, &ID, INDEX, b"", &signature);
-        assert_eq!(rt; long, Err(OtsFault::WrongLength));
+        assert_eq!(rt; long, Err(OtsFault::WrongLength), "{kind:?}");
+        signature.truncate(kind.signature_len() - 1);
+        let short = ots_candidate(kind, &ID, INDEX, b"", &signature);
+        assert_eq!(rt; short, Err(OtsFault::WrongLength), "{kind:?}");
     }
     Ok(())
 }

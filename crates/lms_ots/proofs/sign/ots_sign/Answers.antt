@@ -1,6 +1,6 @@
 use Rattle.std.proofs.Common.{◌≡◌, ℕ, List, ◌++◌, ◌∙◌, ap, arith}
 use Rattle.lms_ots.specs.Digits.{coef}
-use Rattle.lms_ots.specs.Ots.{chain, randomizer, u32str}
+use Rattle.lms_ots.specs.Ots.{chain}
 use Rattle.lms_ots.proofs.Elements.{joined_next, signature_is, signed_element}
 use Rattle.lms_ots.proofs.sign.ots_sign.Goals as goal
 
