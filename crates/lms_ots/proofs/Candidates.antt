@@ -4,7 +4,7 @@ use Rattle.std.proofs.lemmas.List.{append_assoc, drop-drop, take_at, drop_at}
 use Rattle.std.specs.List.{flat_map, fold, range_with_len}
 use Rattle.sha2.proofs.Facts256.{length-sha256}
 use Rattle.lms_ots.specs.declared.kind.OtsKind.{OtsKind}
-use Rattle.lms_ots.specs.Parameters.{parameters}
+use Rattle.lms_ots.specs.Parameters.{parameters, signature_len}
 use Rattle.lms_ots.specs.Digits.{coef, cksm}
 use Rattle.lms_ots.specs.Ots.{candidate_of, chain, digit_of, element_in, key_from_elements, message_hash, public_key, randomizer, randomizer_in, secret_element, signature_of, step, u16str, u32str}
 use Rattle.lms_ots.proofs.DigitLemmas.{coef_le}
@@ -76,6 +76,23 @@ same_pieces f g a (suc n) same =
     let rest : flat_map f (range_with_len (a + 1) n) ≡ flat_map g (range_with_len (a + 1) n) =
     same_pieces f g (a + 1) n (λ i h. let e : a + suc i ≡ a + 1 + i = omega arith in rw e at (same (suc i) (omega arith))) in
     rw (first, rest) refl
+
+length-pieces : (f : ℕ → List ℕ) → ((i : ℕ) → length (f i) ≡ 32) → (a n : ℕ) → length (flat_map f (range_with_len a n)) ≡ 32 * n
+length-pieces f wide a zero = refl
+length-pieces f wide a (suc n) =
+    let rest = length-pieces f wide (a + 1) n in
+    omega (arith, wide a, rest, length-append (f a) (flat_map f (range_with_len (a + 1) n)))
+
+pub length-signature_of : (kind : OtsKind) (id : List ℕ) (q : ℕ) (seed message : List ℕ) → length (signature_of kind id q seed message) ≡ signature_len kind
+unfolding signature_of digit_of
+length-signature_of kind id q seed message =
+    let p : ℕ = (parameters kind).p in
+    let c : List ℕ = randomizer id q seed in
+    let t : List ℕ = u32str (parameters kind).typecode in
+    let f : ℕ → List ℕ = λ i. chain id q i 0 (digit_of kind (message_hash id q c message) i) (secret_element id q seed i) in
+    let ys : List ℕ = flat_map f (range_with_len 0 p) in
+    let pieces : length ys ≡ 32 * p = length-pieces f (λ i. length-chain id _ q i 0 _ (length-secret id seed q i)) 0 p in
+    omega (arith, pieces, length-u32str (parameters kind).typecode, length-randomizer id seed q, length-append t c, length-append (t ++ c) ys)
 
 -- what a signature made of these parts holds
 randomizer_in_parts : (t c ys : List ℕ) → length t ≡ 4 → length c ≡ 32 → randomizer_in (t ++ c ++ ys) ≡ c

@@ -1,5 +1,5 @@
 // Keys, signatures and candidates.
-ghost use Rattle.std.specs.Prelude.{◌≡◌, ◌≢◌, ◌↔◌, ℕ, ◌∷◌, ◌++◌, length, take, IfOk, IsErrOf};
+ghost use Rattle.std.specs.Prelude.{◌≡◌, ◌≢◌, ◌↔◌, ℕ, ◌∷◌, ◌++◌, length, take, vec_len, IfOk, IsErrOf};
 ghost use Rattle.sha2.specs.Hashers.{Holds256};
 ghost use Rattle.lms_ots.specs.Parameters.{parameters, signature_len};
 ghost use Rattle.lms_ots.specs.Digits.{cksm};
@@ -54,7 +54,8 @@ pub fn ots_sign(
     seed: &[u8; 32],
     message: &[u8],
 ) -> Result<Vec<u8>, Memory>
-    ensures { IfOk result (λ s. s.items ≡ signature_of kind id.now q seed.now message.now) }
+    ensures value { IfOk result (λ s. s.items ≡ signature_of kind id.now q seed.now message.now) }
+    ensures len { IfOk result (λ s. vec_len s ≡ signature_len kind) }
 {
     let parameters = kind.parameters();
     let c = randomizer(id, q, seed);
