@@ -1,5 +1,5 @@
 // Keys, signatures and candidates.
-ghost use Rattle.std.specs.Prelude.{◌≡◌, ◌≢◌, ◌↔◌, ℕ, ◌∷◌, ◌++◌, length, take, vec_len, IfOk, IsErrOf};
+ghost use Rattle.std.specs.Prelude.{◌≡◌, ◌≢◌, ◌↔◌, ℕ, ◌∷◌, ◌++◌, length, take, vec_len, IfOk, OnOk, IsErrOf};
 ghost use Rattle.sha2.specs.Hashers.{Holds256};
 ghost use Rattle.lms_ots.specs.Parameters.{parameters, signature_len};
 ghost use Rattle.lms_ots.specs.Digits.{cksm};
@@ -80,7 +80,9 @@ pub fn ots_candidate(
     message: &[u8],
     signature: &[u8],
 ) -> Result<[u8; 32], OtsFault>
-    ensures ok { IfOk result (λ key. key ≡ candidate_of kind id.now q message.now signature.now) }
+    ensures value { IfOk result (λ key. key ≡ candidate_of kind id.now q message.now signature.now) }
+    ensures form { OnOk result ((length signature.now ≡ signature_len kind)
+        × (take 4 signature.now ≡ u32str (parameters kind).typecode)) }
 
     // The first that applies is told.
     ensures length { IsErrOf result OtsFault.WrongLength
