@@ -1,5 +1,5 @@
 -- A signature's candidate is the public key.
-use Rattle.std.proofs.Common.{◌≡◌, ℕ, zero, suc, ◌+◌, ◌-◌, ◌*◌, ◌^◌, ◌<◌, ◌≤◌, List, ◌++◌, length, take, drop, refl, sym, ap, ◌∙◌, arith, length-append}
+use Rattle.std.proofs.Common.{◌≡◌, ℕ, zero, suc, ◌+◌, ◌-◌, ◌*◌, ◌^◌, ◌<◌, ◌≤◌, List, ◌++◌, length, refl, sym, ap, ◌∙◌, arith, length-append}
 use Rattle.std.proofs.lemmas.List.{append_assoc, drop-drop, take_at, drop_at}
 use Rattle.std.specs.List.{flat_map, fold, range_with_len}
 use Rattle.sha2.proofs.Facts256.{length-sha256}
@@ -8,6 +8,7 @@ use Rattle.lms_ots.specs.Parameters.{parameters, signature_len}
 use Rattle.lms_ots.specs.Digits.{coef, cksm}
 use Rattle.lms_ots.specs.Ots.{candidate_of, chain, digit_of, element_in, key_from_elements, message_hash, public_key, randomizer, randomizer_in, secret_element, signature_of, step, u16str, u32str}
 use Rattle.lms_ots.proofs.DigitLemmas.{coef_le}
+use Rattle.lms_ots.proofs.Pieces.{length-pieces, piece_at, same_pieces}
 
 -- steps a number of times, from a place on
 abbrev runs : List ℕ → ℕ → ℕ → ℕ → ℕ → List ℕ → List ℕ
@@ -49,40 +50,11 @@ length-randomizer : (id seed : List ℕ) (q : ℕ) → length (randomizer id q s
 unfolding randomizer
 length-randomizer id seed q = length-sha256 _
 
-length-u32str : (n : ℕ) → length (u32str n) ≡ 4
+pub length-u32str : (n : ℕ) → length (u32str n) ≡ 4
 unfolding u32str
 length-u32str n = refl
 
--- the piece i of pieces of 32 bytes
-piece_at : (f : ℕ → List ℕ) → ((i : ℕ) → length (f i) ≡ 32) → (a n i : ℕ) → i < n → take 32 (drop (32 * i) (flat_map f (range_with_len a n))) ≡ f (a + i)
-piece_at f wide a zero i h = absurd (omega arith)
-piece_at f wide a (suc n) zero h =
-    let at : a + 0 ≡ a = omega arith in
-    let start : 32 * zero ≡ 0 = omega arith in
-    rw (start, at) (take_at (f a) (flat_map f (range_with_len (a + 1) n)) 32 (wide a))
-piece_at f wide a (suc n) (suc i) h =
-    let at : a + suc i ≡ a + 1 + i = omega arith in
-    let rest = piece_at f wide (a + 1) n i (omega arith) in
-    let start : 32 * suc i ≡ 32 + 32 * i = omega arith in
-    let others : List ℕ = flat_map f (range_with_len (a + 1) n) in
-    rw (start, at, ← drop-drop (32 * i) 32 (f a ++ others), drop_at (f a) others 32 (wide a)) rest
-
--- pieces that agree at each place
-same_pieces : (f g : ℕ → List ℕ) (a n : ℕ) → ((i : ℕ) → i < n → f (a + i) ≡ g (a + i)) → flat_map f (range_with_len a n) ≡ flat_map g (range_with_len a n)
-same_pieces f g a zero same = refl
-same_pieces f g a (suc n) same =
-    let at : a + 0 ≡ a = omega arith in
-    let first : f a ≡ g a = rw at at (same 0 (omega arith)) in
-    let rest : flat_map f (range_with_len (a + 1) n) ≡ flat_map g (range_with_len (a + 1) n) =
-    same_pieces f g (a + 1) n (λ i h. let e : a + suc i ≡ a + 1 + i = omega arith in rw e at (same (suc i) (omega arith))) in
-    rw (first, rest) refl
-
-length-pieces : (f : ℕ → List ℕ) → ((i : ℕ) → length (f i) ≡ 32) → (a n : ℕ) → length (flat_map f (range_with_len a n)) ≡ 32 * n
-length-pieces f wide a zero = refl
-length-pieces f wide a (suc n) =
-    let rest = length-pieces f wide (a + 1) n in
-    omega (arith, wide a, rest, length-append (f a) (flat_map f (range_with_len (a + 1) n)))
-
+-- a signature has the length of its kind
 pub length-signature_of : (kind : OtsKind) (id : List ℕ) (q : ℕ) (seed message : List ℕ) → length (signature_of kind id q seed message) ≡ signature_len kind
 unfolding signature_of digit_of
 length-signature_of kind id q seed message =
