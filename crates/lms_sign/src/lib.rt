@@ -14,3 +14,6 @@ pub use calls::sign_each;
 pub use public::{KeyFault, LmsPublic};
 pub use secret::{LmsSecret, Memory, SignFault};
 pub use verifying::verify;
+
+#[cfg(test)]
+mod tests;
