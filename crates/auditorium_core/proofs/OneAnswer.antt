@@ -1,5 +1,5 @@
 -- Words and files have at most one answer.
-use Rattle.std.proofs.Common.{◌≡◌, ◌∙◌, ℕ, ◌<◌, ◌≤◌, ◌⊎◌, inl, inr, List, [], ◌∷◌, ◌++◌, Option, Some, None, length, ap, sym, subst, arith}
+use Rattle.std.proofs.Common.{◌≡◌, ◌∙◌, ℕ, ◌<◌, ◌≤◌, ◌⊎◌, inl, inr, List, ◌++◌, Option, Some, None, length, ap, sym, subst, arith}
 use Rattle.std.specs.Prelude.{codes}
 use Rattle.entry_order.specs.Survivors.{gaps as gaps_of}
 use Rattle.entry_format.specs.Nodes.{node_of}
@@ -10,9 +10,9 @@ use Rattle.log_files.specs.declared.plain_log.PlainLog.{PlainLog}
 use Rattle.log_files.specs.declared.plain_log.LogFault.{LogFault}
 use Rattle.log_files.specs.declared.plain_log.LogFault.TheVariants.{Absent, TooLong, Header, ReadFault, Memory}
 use Rattle.log_files.specs.LogText.{HasHeader, Says}
-use Rattle.log_files.specs.LogFile.{max_bytes, IsLogOf, IsRefused}
+use Rattle.log_files.specs.LogFile.{max_bytes, IsRefused}
 use Rattle.hall_outside.specs.Files.{Files}
-use Rattle.auditorium_core.specs.Words.{Command, gaps, words_of, Means, AreGood}
+use Rattle.auditorium_core.specs.Words.{Command, gaps, words_of, Means}
 use Rattle.auditorium_core.specs.Lines.{Answer, absent_answer, refused_answer}
 use Rattle.auditorium_core.specs.Gaps.{refused_lines, end_line, gap_lines, log_lines, findings_answer, IsRefusal, IsGapsAnswer}
 use Rattle.auditorium_core.specs.Answer.{IsAnswer, Answers}

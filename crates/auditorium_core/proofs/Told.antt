@@ -1,10 +1,9 @@
 -- Answers over files that may not be told.
-use Rattle.std.proofs.Common.{◌≡◌, ◌≢◌, ℕ, List, Option, Some, None, ◌⊎◌, inl, inr}
+use Rattle.std.proofs.Common.{◌≡◌, ◌≢◌, ℕ, List, Option, Some, None, inl}
 use Rattle.std.specs.Prelude.{Result, Ok, Err, IfOk, IfSome}
 use Rattle.hall_outside.specs.Counts.{ComesExactly}
 use Rattle.hall_outside.specs.Files.{Files, OnFile}
 use Rattle.auditorium_core.specs.declared.answer.Fault.{Fault}
-use Rattle.auditorium_core.specs.declared.status.Status.{Status}
 use Rattle.auditorium_core.specs.declared.status.Status.TheVariants as status
 use Rattle.auditorium_core.specs.Words.{Command, Means}
 use Rattle.auditorium_core.specs.Lines.{Answer}

@@ -1,5 +1,4 @@
-use Rattle.std.proofs.Common.{◌≡◌, ◌∙◌, ◌++◌, ◌∷◌, [], List, ℕ, ap, string_bytes, get_or}
-use Rattle.std.specs.Prelude.{codes}
+use Rattle.std.proofs.Common.{string_bytes}
 use Rattle.auditorium_core.proofs.GapLines.{gap_more}
 use Rattle.auditorium_core.proofs.gaps.add_gaps.Goals as goal
 

@@ -1,4 +1,4 @@
-use Rattle.std.proofs.Common.{◌≡◌, ◌∙◌, inl, ap, string_bytes}
+use Rattle.std.proofs.Common.{◌∙◌, inl, ap}
 use Rattle.log_files.specs.LogFile.{IsLogOf}
 use Rattle.auditorium_core.specs.Gaps.{IsGapsAnswer, findings_answer}
 use Rattle.auditorium_core.proofs.Told.{on_file}
