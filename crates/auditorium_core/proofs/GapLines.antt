@@ -9,8 +9,10 @@ use Rattle.auditorium_core.specs.Lines.{line}
 use Rattle.auditorium_core.specs.Gaps.{gap_lines}
 
 -- one line more
-pub gap_more : (digests : List (List ℕ)) (i : ℕ) (start now digits new : List ℕ) → i < length digests → now ≡ start ++ gap_lines (take i digests)
-    → digits ≡ encode_lower (get_or digests i []) → new ≡ now ++ (codes "gap " ++ (digits ++ 10 ∷ [])) → new ≡ start ++ gap_lines (take (i + 1) digests)
+pub gap_more : (digests : List (List ℕ)) (i : ℕ) (start now digits new : List ℕ) → i < length digests
+    → now ≡ start ++ gap_lines (take i digests)
+    → digits ≡ encode_lower (get_or digests i []) → new ≡ now ++ (codes "gap " ++ (digits ++ 10 ∷ []))
+    → new ≡ start ++ gap_lines (take (i + 1) digests)
 gap_more digests i start now digits new within so_far is written =
     let gap : List ℕ → List ℕ = λ digest. line (codes "gap " ++ encode_lower digest) in
     let grown : gap_lines (take (i + 1) digests) ≡ gap_lines (take i digests) ++ gap (get_or digests i []) =

@@ -1,3 +1,4 @@
 pub mod WordLists
 pub mod Told
 pub mod GapLines
+pub mod OneAnswer

@@ -11,13 +11,15 @@ use Rattle.auditorium_core.specs.Lines.{Answer}
 use Rattle.auditorium_core.specs.Answer.{IsAnswer, IsOfAnswers, IsAnswerOf}
 
 -- what follows of a file follows of one that is told
-pub on_file : (files : Option Files) (name : List ℕ) (P Q : Option (List ℕ) → Type 0) → ((file : Option (List ℕ)) → P file → Q file)
+pub on_file : (files : Option Files) (name : List ℕ) (P Q : Option (List ℕ) → Type 0)
+    → ((file : Option (List ℕ)) → P file → Q file)
     → OnFile files name P → OnFile files name Q
 on_file None name P Q step h = tt
 on_file (Some files) name P Q step h = step (files name) h
 
 -- the answer to a command is the answer to its words
-command_told : (words : List (List ℕ)) (command : Command) (files : Option Files) (before now : ℕ) (answer : Answer) → Means words command
+command_told : (words : List (List ℕ)) (command : Command) (files : Option Files) (before now : ℕ) (answer : Answer)
+    → Means words command
     → IfSome files (λ at. IsAnswer command at answer) → (answer.status ≢ status.Usage) × IsOfAnswers answer.status
     → ComesExactly before now (answer.status ≡ status.Absent) → IsAnswerOf words files before now answer
 command_told words command None before now answer means told answered absent = record {
@@ -35,10 +37,13 @@ command_told words command (Some files) before now answer means told answered ab
   absent = absent;
 }
 
-pub command_answer : (words : List (List ℕ)) (command : Command) (files : Option Files) (before now : ℕ) (result : Result Answer Fault)
+pub command_answer : (words : List (List ℕ)) (command : Command) (files : Option Files) (before now : ℕ)
+    (result : Result Answer Fault)
     → Means words command → IfOk result (λ answer. IfSome files (λ at. IsAnswer command at answer))
     → IfOk result (λ answer. (answer.status ≢ status.Usage) × IsOfAnswers answer.status)
     → IfOk result (λ answer. ComesExactly before now (answer.status ≡ status.Absent))
     → IfOk result (IsAnswerOf words files before now)
-command_answer words command files before now (Ok answer) means told answered absent = command_told words command files before now answer means told answered absent
+command_answer words command files before now
+    (Ok answer) means told answered absent = command_told words command files before now answer means told answered
+    absent
 command_answer words command files before now (Err fault) means told answered absent = tt

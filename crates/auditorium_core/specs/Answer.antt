@@ -27,7 +27,8 @@ IsOfAnswers other = Unit {0}
 
 -- The answer is that of the words and the files, where files are told. In any case Usage comes
 -- exactly where the words aren't good, and Absent exactly where the store said so in the call.
-pub record IsAnswerOf (words : List (List ℕ)) (files : Option Files) (absences_before absences_now : ℕ) (answer : Answer) : Type 0 where
+pub record IsAnswerOf (words : List (List ℕ)) (files : Option Files) (absences_before absences_now : ℕ)
+    (answer : Answer) : Type 0 where
   pub told : IfSome files (λ files. Answers words files answer)
   pub no_fault : IsOfAnswers answer.status
   pub not_good : ¬ AreGood words → answer ≡ usage_answer

@@ -7,10 +7,12 @@
 mod answer;
 mod causes;
 mod gaps;
+mod laws;
 mod program;
 mod status;
 mod words;
 
+pub use laws::one_answer_is_right;
 pub use program::auditorium_still;
 pub use status::Status;
 

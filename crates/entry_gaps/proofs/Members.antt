@@ -50,8 +50,8 @@ module _ {T : Type 0} (node : T → Node) (E : List T) where
         rises = without.rises;
         members = λ x. (
           (λ h. let m = (without.members x).0 h in
-            (named_in names named x n moved m.0, (λ b. m.1 (borne_by digests borne x d moved_digests b)))),
+              (named_in names named x n moved m.0, (λ b. m.1 (borne_by digests borne x d moved_digests b)))),
           (λ (named_x, not_borne). (without.members x).1
-            (named_by names named x n moved named_x, (λ b. not_borne (borne_in digests borne x d moved_digests b)))),
+              (named_by names named x n moved named_x, (λ b. not_borne (borne_in digests borne x d moved_digests b)))),
         );
       })

@@ -28,33 +28,35 @@ compare = slice_cmp nat_cmp
 below : (x y : List ℕ) → is_lt (compare y x) ≡ false → x ≢ y → compare x y ≡ Less
 below x y not_lt differ = by (compare y x) refl not_lt
   where
-  by : (o : Ordering) → compare y x ≡ o → is_lt o ≡ false → compare x y ≡ Less
-  by Less e h = cc
-  by Equal e h = absurd (differ (sym (exact_bytes y x e)))
-  by Greater e h = nat_list_cmp_total.antisymm x y ∙ ap ordering_reverse e
+    by : (o : Ordering) → compare y x ≡ o → is_lt o ≡ false → compare x y ≡ Less
+    by Less e h = cc
+    by Equal e h = absurd (differ (sym (exact_bytes y x e)))
+    by Greater e h = nat_list_cmp_total.antisymm x y ∙ ap ordering_reverse e
 
 -- a later digest of a sorted list isn't below an earlier one
-not_below : (xs : List (List ℕ)) → IsSorted compare xs → (i j : ℕ) (d : List ℕ) → i ≤ j → j < length xs → is_lt (compare (get_or xs j d) (get_or xs i d)) ≡ false
-not_below xs sorted i j d le within = sorted_far (λ x y. is_lt (compare x y)) (ranks_by nat_list_cmp_total (λ x. x)) xs sorted i j d le within
+not_below : (xs : List (List ℕ)) → IsSorted compare xs → (i j : ℕ) (d : List ℕ) → i ≤ j → j < length xs
+    → is_lt (compare (get_or xs j d) (get_or xs i d)) ≡ false
+not_below xs sorted i j d le within = sorted_far (λ x y. is_lt (compare x y))
+    (ranks_by nat_list_cmp_total (λ x. x)) xs sorted i j d le within
 
 -- a digest is neither below nor above itself
 compare_self : (x : List ℕ) → compare x x ≡ Equal
 compare_self x = by (compare x x) refl
   where
-  by : (o : Ordering) → compare x x ≡ o → compare x x ≡ Equal
-  by Less e = let f : Less ≡ Greater = sym e ∙ nat_list_cmp_total.antisymm x x ∙ ap ordering_reverse e in cc
-  by Equal e = e
-  by Greater e = let f : Greater ≡ Less = sym e ∙ nat_list_cmp_total.antisymm x x ∙ ap ordering_reverse e in cc
+    by : (o : Ordering) → compare x x ≡ o → compare x x ≡ Equal
+    by Less e = let f : Less ≡ Greater = sym e ∙ nat_list_cmp_total.antisymm x x ∙ ap ordering_reverse e in cc
+    by Equal e = e
+    by Greater e = let f : Greater ≡ Less = sym e ∙ nat_list_cmp_total.antisymm x x ∙ ap ordering_reverse e in cc
 
 -- two digests of which neither is below the other are one
 same_level : (x y : List ℕ) → is_lt (compare y x) ≡ false → is_lt (compare x y) ≡ false → x ≡ y
 same_level x y not_above not_below = by (compare x y) refl
   where
-  by : (o : Ordering) → compare x y ≡ o → x ≡ y
-  by Less e = absurd (false≢true (sym not_below ∙ ap is_lt e))
-  by Equal e = exact_bytes x y e
-  by Greater e =
-      absurd (false≢true (sym not_above ∙ ap is_lt (nat_list_cmp_total.antisymm y x ∙ ap ordering_reverse e)))
+    by : (o : Ordering) → compare x y ≡ o → x ≡ y
+    by Less e = absurd (false≢true (sym not_below ∙ ap is_lt e))
+    by Equal e = exact_bytes x y e
+    by Greater e =
+        absurd (false≢true (sym not_above ∙ ap is_lt (nat_list_cmp_total.antisymm y x ∙ ap ordering_reverse e)))
 
 -- what a search that failed says
 pub not_found : (xs : List (List ℕ)) (x : List ℕ) (r : Result ℕ ℕ) → IsSorted compare xs
@@ -144,9 +146,9 @@ skips named borne found i d within is why so_far = record {
     (λ (h, missing). elim (taken_cases named i d c within is h) [
       | inl before ↦ (so_far.members c).1 (before, missing)
       | inr same ↦ elim why [
-          | inl borne_d ↦ absurd (missing (let P : List ℕ → Type 0 = λ x. Contains borne x in subst P same borne_d))
-          | inr again ↦ (so_far.members c).1 (taken_prev named i d c within again.0 (again.1 ∙ same), missing)
-        ]
+        | inl borne_d ↦ absurd (missing (let P : List ℕ → Type 0 = λ x. Contains borne x in subst P same borne_d))
+        | inr again ↦ (so_far.members c).1 (taken_prev named i d c within again.0 (again.1 ∙ same), missing)
+      ]
     ]),
   );
 }
@@ -170,8 +172,8 @@ lower named i d c sorted within is new h =
     (let Q : List ℕ → Type 0 = λ x. L x prev in
     subst Q (sym is) (not_below named sorted (i - 1) i d (omega arith) within)) in
     below c d c_first (λ same.
-      let P : List ℕ → Type 0 = λ x. L prev x in
-      new (omega (arith, at.1)) (same_level prev d prev_first (subst P same c_before_prev)))
+    let P : List ℕ → Type 0 = λ x. L prev x in
+    new (omega (arith, at.1)) (same_level prev d prev_first (subst P same c_before_prev)))
 
 -- a digest that is taken up
 pub takes_up : (named borne found : List (List ℕ)) (i : ℕ) (d : List ℕ) → IsSorted compare named
@@ -184,9 +186,9 @@ takes_up named borne found i d sorted within is missing new so_far = record {
     (λ h. elim (pushed_cases found d c h) [
       | inl before ↦ (let m = (so_far.members c).0 before in (taken_before named i d c within m.0, m.1))
       | inr same ↦ (
-          taken_last named i d c within is same,
-          (λ borne_c. missing (let P : List ℕ → Type 0 = λ x. Contains borne x in subst P (sym same) borne_c)),
-        )
+        taken_last named i d c within is same,
+        (λ borne_c. missing (let P : List ℕ → Type 0 = λ x. Contains borne x in subst P (sym same) borne_c)),
+      )
     ]),
     (λ (h, missing_c). elim (taken_cases named i d c within is h) [
       | inl before ↦ Contains-append_left found (d ∷ []) c ((so_far.members c).1 (before, missing_c))

@@ -75,11 +75,7 @@ fn names_of<T: Knot>(alloc: Global, entries: &[T]) -> Result<Vec<[u8; 32]>, Memo
 }
 
 /// Those of the named digests that aren't borne, each once. Both lists are sorted.
-fn without(
-    alloc: Global,
-    named: &[[u8; 32]],
-    borne: &[[u8; 32]],
-) -> Result<Vec<[u8; 32]>, Memory>
+fn without(alloc: Global, named: &[[u8; 32]], borne: &[[u8; 32]]) -> Result<Vec<[u8; 32]>, Memory>
     requires named { IsSorted (slice_cmp nat_cmp) named.now }
     requires borne { IsSorted (slice_cmp nat_cmp) borne.now }
     ensures { IfOk result (λ found. IsWithout named.now borne.now found.items) }

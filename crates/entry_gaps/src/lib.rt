@@ -4,3 +4,6 @@
 mod gaps_of_entries;
 
 pub use gaps_of_entries::{Digests, Memory, gaps};
+
+#[cfg(test)]
+mod tests;

@@ -19,9 +19,9 @@ loop-i-preserved c =
     let again : c.if-i-gt0.is_again ≡ true → (0 < i) × (get_or named (i - 1) d ≡ d) =
     λ yes. elim c.if-i-gt0.branch [
       | then-i-gt0 w ↦ (
-          w.if-i-gt0.true,
-          prev ∙ (bytes_eq-Decides (get_or named (i - 1) []) d).0 (sym w.eq-is_again.ensures ∙ sym w.is_again-is ∙ yes),
-        )
+        w.if-i-gt0.true,
+        prev ∙ (bytes_eq-Decides (get_or named (i - 1) []) d).0 (sym w.eq-is_again.ensures ∙ sym w.is_again-is ∙ yes),
+      )
       | else-i-gt0 w ↦ absurd (omega (arith, w.if-i-gt0.false, (Decides-ltb 0 i).0 (sym w.is_again-is ∙ yes)))
     ] in
     let new : c.if-i-gt0.is_again ≡ false → 0 < i → get_or named (i - 1) d ≢ d =
@@ -35,15 +35,18 @@ loop-i-preserved c =
       | then-not-is_again+then-is_err+in_ok-push w ↦
           subst P (sym (ap (λ v. v.items) w.found-is ∙ w.in_ok-push.ensures.items))
           (takes_up named c.args.borne.now c.loop-i.found.items i d c.requires.named within is
-          (not_found c.args.borne.now d w.binary_search.result c.requires.borne w.binary_search.ensures.position (sym w.is_err.ensures.value ∙ w.if-is_err.true))
+          (not_found c.args.borne.now d w.binary_search.result c.requires.borne w.binary_search.ensures.position
+          (sym w.is_err.ensures.value ∙ w.if-is_err.true))
           (new w.if-not-is_again.true) c.loop-i.invariant)
       | else-not-is_again w ↦
           subst P (sym (ap (λ v. v.items) w.found-is)) (elim w.else-not-is_again.branch [
             | else-not-is_again-via-then-not-is_again+else-is_err v ↦
                 skips named c.args.borne.now c.loop-i.found.items i d within is
-                (inl (is_found c.args.borne.now d v.binary_search.result v.binary_search.ensures.bound v.binary_search.ensures.position (sym v.is_err.ensures.value ∙ v.if-is_err.false)))
+                (inl (is_found c.args.borne.now d v.binary_search.result v.binary_search.ensures.bound
+                v.binary_search.ensures.position (sym v.is_err.ensures.value ∙ v.if-is_err.false)))
                 c.loop-i.invariant
             | else-not-is_again-via-else-not-is_again v ↦
-                skips named c.args.borne.now c.loop-i.found.items i d within is (inr (again v.if-not-is_again.false)) c.loop-i.invariant
+                skips named c.args.borne.now c.loop-i.found.items i d within is
+                (inr (again v.if-not-is_again.false)) c.loop-i.invariant
           ])
     ]

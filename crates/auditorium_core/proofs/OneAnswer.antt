@@ -1,0 +1,113 @@
+-- Words and files have at most one answer.
+use Rattle.std.proofs.Common.{◌≡◌, ◌∙◌, ℕ, ◌<◌, ◌≤◌, ◌⊎◌, inl, inr, List, [], ◌∷◌, ◌++◌, Option, Some, None, length, ap, sym, subst, arith}
+use Rattle.std.specs.Prelude.{codes}
+use Rattle.entry_order.specs.Survivors.{gaps as gaps_of}
+use Rattle.entry_format.specs.Nodes.{node_of}
+use Rattle.entry_format.specs.declared.plain.Plain.{Plain}
+use Rattle.entry_format.specs.declared.plain.EntryFault.{EntryFault}
+use Rattle.log_files.specs.declared.plain_log.End.{End}
+use Rattle.log_files.specs.declared.plain_log.PlainLog.{PlainLog}
+use Rattle.log_files.specs.declared.plain_log.LogFault.{LogFault}
+use Rattle.log_files.specs.declared.plain_log.LogFault.TheVariants.{Absent, TooLong, Header, ReadFault, Memory}
+use Rattle.log_files.specs.LogText.{HasHeader, Says}
+use Rattle.log_files.specs.LogFile.{max_bytes, IsLogOf, IsRefused}
+use Rattle.hall_outside.specs.Files.{Files}
+use Rattle.auditorium_core.specs.Words.{Command, gaps, words_of, Means, AreGood}
+use Rattle.auditorium_core.specs.Lines.{Answer, absent_answer, refused_answer}
+use Rattle.auditorium_core.specs.Gaps.{refused_lines, end_line, gap_lines, log_lines, findings_answer, IsRefusal, IsGapsAnswer}
+use Rattle.auditorium_core.specs.Answer.{IsAnswer, Answers}
+
+-- bytes say at most one log, and only where they have a header
+pub record SayOne : Type 0 where
+  pub entries : (bytes : List ℕ) (log other : PlainLog) → Says bytes log → Says bytes other
+      → log.kept.items ≡ other.kept.items
+  pub refused : (bytes : List ℕ) (log other : PlainLog) → Says bytes log → Says bytes other
+      → log.refused.items ≡ other.refused.items
+  pub end : (bytes : List ℕ) (log other : PlainLog) → Says bytes log → Says bytes other → log.end ≡ other.end
+  pub header : (bytes : List ℕ) (log : PlainLog) → Says bytes log → HasHeader bytes
+
+-- one log has one text of lines
+same_lines : (name : List ℕ) (log other : PlainLog) → log.kept.items ≡ other.kept.items
+    → log.refused.items ≡ other.refused.items
+    → log.end ≡ other.end → log_lines name log ≡ log_lines name other
+same_lines name log other kept refused end =
+    ap (λ (r : List (ℕ × EntryFault)). refused_lines name r ++ end_line name log.end ++ gap_lines
+    (gaps_of node_of log.kept.items)) refused
+    ∙ ap (λ (e : End). refused_lines name other.refused.items ++ end_line name e ++ gap_lines
+    (gaps_of node_of log.kept.items)) end
+    ∙ ap (λ (k : List Plain). refused_lines name other.refused.items ++ end_line name other.end ++ gap_lines
+    (gaps_of node_of k)) kept
+
+-- what an answer of `gaps` is, where there is a file
+abbrev Cases : List ℕ → List ℕ → Answer → Type 0
+Cases name bytes answer =
+    ((max_bytes < length bytes) × (answer ≡ refused_answer name 0 (codes "TooLong")))
+    ⊎ (((length bytes ≤ max_bytes) × (HasHeader bytes → ⊥) × (answer ≡ refused_answer name 0 (codes "Header")))
+    ⊎ ((log : PlainLog) × (length bytes ≤ max_bytes) × Says bytes log
+    × (answer ≡ findings_answer (log_lines name log))))
+
+refusal_cases : (name bytes : List ℕ) (answer : Answer) (fault : LogFault) → IsRefused fault (Some bytes)
+    → IsRefusal name fault answer → Cases name bytes answer
+refusal_cases name bytes answer Absent is e = cc
+refusal_cases name bytes answer TooLong is e = inl (is, e)
+refusal_cases name bytes answer Header is e = inr (inl (is.0, is.1, e))
+refusal_cases name bytes answer ReadFault is e = absurd e
+refusal_cases name bytes answer Memory is e = absurd e
+
+cases : (name bytes : List ℕ) (answer : Answer) → IsGapsAnswer name (Some bytes) answer → Cases name bytes answer
+cases name bytes answer (inl (log, is, e)) = inr (inr (log, is.0, is.1, e))
+cases name bytes answer (inr (fault, is, e)) = refusal_cases name bytes answer fault is e
+
+-- where there is no file, the answer is that
+absent_alone : (name : List ℕ) (answer : Answer) (fault : LogFault) → IsRefused fault None
+    → IsRefusal name fault answer → answer ≡ absent_answer name
+absent_alone name answer Absent is e = e
+absent_alone name answer TooLong is e = absurd is
+absent_alone name answer Header is e = absurd is
+absent_alone name answer ReadFault is e = absurd e
+absent_alone name answer Memory is e = absurd e
+
+no_file : (name : List ℕ) (answer : Answer) → IsGapsAnswer name None answer → answer ≡ absent_answer name
+no_file name answer (inl (log, is, e)) = absurd is
+no_file name answer (inr (fault, is, e)) = absent_alone name answer fault is e
+
+same_case : SayOne → (name bytes : List ℕ) (a b : Answer) → Cases name bytes a → Cases name bytes b → a ≡ b
+same_case one name bytes a b (inl (long, e)) (inl (long', f)) = e ∙ sym f
+same_case one name bytes a b (inl (long, e)) (inr (inl (short, none, f))) = absurd (omega arith)
+same_case one name bytes a b (inl (long, e)) (inr (inr (log, short, says, f))) = absurd (omega arith)
+same_case one name bytes a b (inr (inl (short, none, e))) (inl (long, f)) = absurd (omega arith)
+same_case one name bytes a b (inr (inl (short, none, e))) (inr (inl (short', none', f))) = e ∙ sym f
+same_case one name bytes a b (inr (inl (short, none, e))) (inr (inr (log, short', says, f))) = absurd
+    (none (one.header bytes log says))
+same_case one name bytes a b (inr (inr (log, short, says, e))) (inl (long, f)) = absurd (omega arith)
+same_case one name bytes a b (inr (inr (log, short, says, e))) (inr (inl (short', none, f))) = absurd
+    (none (one.header bytes log says))
+same_case one name bytes a b (inr (inr (log, short, says, e))) (inr (inr (other, short', says', f))) =
+    e ∙ ap findings_answer
+    (same_lines name log other (one.entries bytes log other says says') (one.refused bytes log other says says')
+    (one.end bytes log other says says')) ∙ sym f
+
+same_gaps : SayOne → (name : List ℕ) (file : Option (List ℕ)) (a b : Answer) → IsGapsAnswer name file a
+    → IsGapsAnswer name file b → a ≡ b
+same_gaps one name None a b x y = no_file name a x ∙ sym (no_file name b y)
+same_gaps one name (Some bytes) a b x y = same_case one name bytes a b (cases name bytes a x) (cases name bytes b y)
+
+-- words mean one command
+same_command : (words : List (List ℕ)) (a b : Command) → Means words a → Means words b → a ≡ b
+same_command words (gaps x) (gaps y) m n =
+    let e : words_of (gaps x) ≡ words_of (gaps y) = sym m.spelt ∙ n.spelt in
+    let f : x ≡ y = cc in
+    ap gaps f
+
+same_answer : SayOne → (command : Command) (files : Files) (a b : Answer) → IsAnswer command files a
+    → IsAnswer command files b → a ≡ b
+same_answer one (gaps log) files a b x y = same_gaps one log (files log) a b x y
+
+pub one_answer : SayOne → (words : List (List ℕ)) (files : Files) (a b : Answer) → Answers words files a
+    → Answers words files b → a ≡ b
+one_answer one words files a b (inl (command, means, is)) (inl (other, means', is')) =
+    let P : Command → Type 0 = λ c. IsAnswer c files b in
+    same_answer one command files a b is (subst P (same_command words other command means' means) is')
+one_answer one words files a b (inl (command, means, is)) (inr (bad, f)) = absurd (bad (command, means))
+one_answer one words files a b (inr (bad, e)) (inl (command, means, is)) = absurd (bad (command, means))
+one_answer one words files a b (inr (bad, e)) (inr (bad', f)) = e ∙ sym f

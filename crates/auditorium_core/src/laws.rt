@@ -1,0 +1,15 @@
+// Laws about answers, which hold of the definitions alone.
+ghost use Rattle.std.specs.Prelude.{◌≡◌, ℕ, List};
+ghost use Rattle.hall_outside.specs.Files.{Files};
+ghost use Rattle.auditorium_core.specs.Lines.{Answer};
+ghost use Rattle.auditorium_core.specs.Answer.{Answers};
+
+use log_files::bytes_say_one_log;
+
+/// Words and files have at most one answer. It does nothing.
+pub fn one_answer_is_right()
+    ensures { (words : List (List ℕ)) (files : Files) (answer other : Answer) →
+        Answers words files answer → Answers words files other → answer ≡ other }
+{
+    bytes_say_one_log();
+}
