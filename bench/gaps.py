@@ -1,0 +1,72 @@
+#!/usr/bin/env python3
+"""bench/gaps.py PROGRAM [ROUNDS]: makes a log of 40,000,000 bytes, and runs `sha256sum LOG` and `PROGRAM gaps LOG`
+by turns. It prints the ratio of the least times, and the program's peak memory over the log's size."""
+import hashlib
+import os
+import subprocess
+import sys
+import tempfile
+import time
+
+SIZE = 40_000_000
+
+
+def atom(octets):
+    return b"%d:%s" % (len(octets), octets)
+
+
+def number(value):
+    return atom(b"%d" % value)
+
+
+def entry(election, number_of, names):
+    """The signed text of an entry of machine 0 that names these digests."""
+    named = b"".join(atom(name) for name in sorted(names))
+    body = b"(5:entry1:1" + atom(election) + number(0) + number(number_of) + number(number_of + 1)
+    return b"(6:sealed" + body + b"(" + named + b")(6:opened))" + atom(b"s" * 2348) + b")"
+
+
+def log_of(size):
+    """A log whose entries each name the one before them and, now and then, one that is missing."""
+    election = hashlib.sha256(b"election").digest()
+    parts, length, names, count = [b"(3:log1:11:0)"], 13, [], 0
+    while length < size:
+        text = entry(election, count, names)
+        parts.append(b"(4:sent" + text + b")")
+        length += len(parts[-1])
+        names = [hashlib.sha256(text).digest()]
+        if count % 1000 == 0:
+            names.append(hashlib.sha256(b"missing %d" % count).digest())
+        count += 1
+    return b"".join(parts)
+
+
+def timed(command):
+    """The seconds that the command takes, and its peak memory in bytes."""
+    start = time.perf_counter()
+    process = subprocess.Popen(command, stdout=subprocess.DEVNULL)
+    _, _, usage = os.wait4(process.pid, 0)
+    return time.perf_counter() - start, usage.ru_maxrss * 1024
+
+
+def main():
+    program = os.path.abspath(sys.argv[1])
+    rounds = int(sys.argv[2]) if len(sys.argv) > 2 else 5
+    with tempfile.TemporaryDirectory() as folder:
+        path = os.path.join(folder, "bench.log")
+        log = log_of(SIZE)
+        with open(path, "wb") as file:
+            file.write(log)
+        sums, runs, peak = [], [], 0
+        for _ in range(rounds):
+            sums.append(timed(["sha256sum", path])[0])
+            seconds, memory = timed([program, "gaps", path])
+            runs.append(seconds)
+            peak = max(peak, memory)
+        print(f"log: {len(log)} bytes")
+        print(f"sha256sum: {min(sums):.3f} s; gaps: {min(runs):.3f} s; ratio {min(runs) / min(sums):.2f}")
+        print(f"peak memory: {peak} bytes, {peak / len(log):.2f} times the log")
+
+
+if __name__ == "__main__":
+    main()

@@ -1,0 +1,35 @@
+-- The words as lists of bytes.
+use Rattle.std.proofs.Common.{◌≡◌, ◌∙◌, ℕ, ◌+◌, ◌<◌, ◌≤◌, List, [], ◌∷◌, length, map, get_or, String, Global, string_bytes, ap, sym, subst, arith, refl}
+use Rattle.std.specs.Prelude.{All}
+use Rattle.std.proofs.lemmas.List.{get_or-map, length-map}
+use Rattle.auditorium_core.specs.Words.{IsWord}
+
+-- the bytes of a word
+pub bytes_at : (words : List (String Global)) (i : ℕ) (word : String Global) (d : List ℕ) → i < length words → word ≡ get_or words i word
+    → string_bytes word ≡ get_or (map string_bytes words) i d
+bytes_at words i word d within is = ap string_bytes is ∙ sym (get_or-map string_bytes words i word d within)
+
+-- a word that has the form, at its place
+pub has_form_at : (words : List (String Global)) (i : ℕ) (word : String Global) (text d : List ℕ) → i < length words → word ≡ get_or words i word
+    → text ≡ string_bytes word → IsWord text → IsWord (get_or (map string_bytes words) i d)
+has_form_at words i word text d within is e h = let P : List ℕ → Type 0 = λ t. IsWord t in subst P (e ∙ bytes_at words i word d within is) h
+
+-- a word without the form
+pub lacks_form_at : (words : List (String Global)) (i : ℕ) (word : String Global) (text : List ℕ) → i < length words → word ≡ get_or words i word
+    → text ≡ string_bytes word → All IsWord (map string_bytes words) → IsWord text
+lacks_form_at words i word text within is e all =
+    let P : List ℕ → Type 0 = λ t. IsWord t in
+    subst P (sym (e ∙ bytes_at words i word text within is)) (all i text (omega (arith, length-map words string_bytes)))
+
+-- words of which each has the form
+pub all_have_form : (words : List (String Global)) (n : ℕ) → length words ≤ n → ((k : ℕ) → k < n → (d : List ℕ) → IsWord (get_or (map string_bytes words) k d))
+    → All IsWord (map string_bytes words)
+all_have_form words n past h = λ k d within. h k (omega (arith, length-map words string_bytes)) d
+
+-- two words
+pub two_words : (words : List (String Global)) (a b : String Global) → 2 ≤ length words → length words < 3 → a ≡ get_or words 0 a → b ≡ get_or words 1 b
+    → map string_bytes words ≡ string_bytes a ∷ string_bytes b ∷ []
+two_words [] a b low high x y = absurd (omega arith)
+two_words (v ∷ []) a b low high x y = absurd (omega arith)
+two_words (v ∷ w ∷ []) a b low high x y = ap (λ s. string_bytes s ∷ string_bytes w ∷ []) (sym x) ∙ ap (λ s. string_bytes a ∷ string_bytes s ∷ []) (sym y)
+two_words (v ∷ w ∷ u ∷ more) a b low high x y = absurd (omega arith)

@@ -1,0 +1,20 @@
+use Rattle.std.proofs.Common.{◌≡◌, ◌∙◌, List, ℕ, [], ◌∷◌, string_bytes, ap, sym, refl}
+use Rattle.std.specs.Prelude.{codes}
+use Rattle.std.proofs.lemmas.Bool.{false≢true}
+use Rattle.std.proofs.lemmas.Slice.Eq.{bytes_eq-Decides}
+use Rattle.auditorium_core.proofs.WordLists.{two_words}
+use Rattle.auditorium_core.proofs.words.request_of.Goals as goal
+
+pub returns-then-not-have_form : goal.returns-then-not-have_form
+returns-then-not-have_form c = λ (command, means). false≢true (c.if-not-have_form.ensures.1 means.form)
+
+pub returns-in-len2 : goal.returns-in-len2
+returns-in-len2 c =
+    let first : c.as_str.result.now ≡ codes "gaps" = (bytes_eq-Decides c.as_str.result.now (codes "gaps")).0 (sym c.if-eq.ensures) in
+    record {
+      form = c.if-not-have_form.ensures.0 refl;
+      spelt = two_words c.args.words.now c.command-item.result c.log-item.result c.in-len2.len_at_least c.in-len2.len_below
+          c.command-item.is c.log-item.is
+          ∙ ap (λ w. w ∷ string_bytes c.log-item.result ∷ []) (sym c.as_str.ensures.value ∙ first)
+          ∙ ap (λ w. codes "gaps" ∷ w ∷ []) (sym c.as_str-in-len2.ensures.value);
+    }

@@ -1,0 +1,93 @@
+// The command `gaps`: what one log says, without its signatures.
+ghost use Rattle.std.specs.Prelude.{◌≡◌, ◌≢◌, ◌++◌, IfOk, OnOk, IsErrOf, string_bytes};
+ghost use Rattle.hall_outside.specs.Counts.{HasCause, ComesExactly};
+ghost use Rattle.hall_outside.specs.Files.{OnFile};
+ghost use Rattle.auditorium_core.specs.Answer.{IsOfAnswers};
+ghost use Rattle.auditorium_core.specs.Gaps.{refused_lines, end_line, gap_lines, log_lines, IsGapsAnswer};
+
+use crate::answer::{Answer, Fault};
+use crate::causes::{name_of_fault, name_of_why};
+use crate::status::Status;
+use entry_format::EntryFault;
+use hall_outside::Store;
+use log_files::{End, LogFault, PlainLog, read_plain_log};
+use std::alloc::{AllocError, Global};
+use std::fmt::Write;
+
+/// The answer of `gaps` for the log in this file.
+pub(crate) fn gaps<S: Store>(alloc: Global, store: &mut S, log: &str) -> Result<Answer, Fault>
+    ensures told { IfOk result (λ answer.
+        OnFile (S.files store.old) log.now (λ file. IsGapsAnswer log.now file answer)) }
+    ensures status { IfOk result (λ answer.
+        (answer.status ≢ Status.Usage) × IsOfAnswers answer.status) }
+    ensures absent { IfOk result (λ answer. ComesExactly (S.answered store.old).absences
+        (S.answered store.new).absences (answer.status ≡ Status.Absent)) }
+    ensures read_fault { HasCause (S.read_faults store.old) (S.read_faults store.new)
+        (IsErrOf result Fault.ReadFault) }
+    ensures unchanged { (S.files store.new ≡ S.files store.old)
+        × (S.write_faults store.new ≡ S.write_faults store.old) }
+{
+    match read_plain_log(alloc, store, log) {
+        Ok(plain) => Ok(Answer::findings(lines_of(alloc, log, &plain)?)),
+        Err(LogFault::Absent) => Ok(Answer::absent(alloc, log)?),
+        Err(LogFault::TooLong) => Ok(Answer::refused(alloc, log, 0, "TooLong")?),
+        Err(LogFault::Header) => Ok(Answer::refused(alloc, log, 0, "Header")?),
+        Err(LogFault::ReadFault) => Err(Fault::ReadFault),
+        Err(LogFault::Memory) => Err(Fault::Memory),
+    }
+}
+
+/// The lines of a log: refused records, an end that isn't clean, and gaps.
+fn lines_of(alloc: Global, name: &str, log: &PlainLog) -> Result<String, AllocError>
+    ensures { IfOk result (λ lines. string_bytes lines ≡ log_lines name.now log.now) }
+{
+    let mut lines = String::new(alloc);
+    add_refused(&mut lines, name, log.refused.as_slice())?;
+    add_end(&mut lines, name, log.end)?;
+    let gaps = entry_gaps::gaps(alloc, log.kept.as_slice())?;
+    add_gaps(alloc, &mut lines, gaps.as_slice())?;
+    Ok(lines)
+}
+
+/// Adds a line for each refused record.
+fn add_refused(
+    lines: &mut String,
+    name: &str,
+    refused: &[(u32, EntryFault)],
+) -> Result<(), AllocError>
+    ensures { OnOk result (string_bytes lines.new
+        ≡ string_bytes lines.old ++ refused_lines name.now refused.now) }
+{
+    for (place, fault) in refused {
+        let cause = name_of_fault(*fault);
+        write!(lines, "refused {name} {place} {cause}\n")?;
+    }
+    Ok(())
+}
+
+/// Adds a line for an end that isn't clean.
+fn add_end(lines: &mut String, name: &str, end: End) -> Result<(), AllocError>
+    ensures { OnOk result
+        (string_bytes lines.new ≡ string_bytes lines.old ++ end_line name.now end) }
+{
+    match end {
+        End::Clean => Ok(()),
+        End::Torn(at) => write!(lines, "torn {name} {at}\n"),
+        End::Malformed(at, why) => {
+            let cause = name_of_why(why);
+            write!(lines, "malformed {name} {at} {cause}\n")
+        }
+    }
+}
+
+/// Adds a line for each gap.
+fn add_gaps(alloc: Global, lines: &mut String, digests: &[[u8; 32]]) -> Result<(), AllocError>
+    ensures { OnOk result
+        (string_bytes lines.new ≡ string_bytes lines.old ++ gap_lines digests.now) }
+{
+    for digest in digests {
+        let digits = hex::encode(alloc, *digest)?;
+        write!(lines, "gap {digits}\n")?;
+    }
+    Ok(())
+}

@@ -1,0 +1,52 @@
+// From the words of the command line to the bytes that go out.
+ghost use Rattle.std.specs.Prelude.{◌≡◌, map, string_bytes, IfOk, IsErrOf};
+ghost use Rattle.hall_outside.specs.Counts.{HasCause};
+ghost use Rattle.auditorium_core.specs.Answer.{IsAnswerOf};
+ghost use Rattle.auditorium_core.specs.Outcome.{outside, HasDone};
+
+use crate::answer::{Answer, Fault};
+use crate::gaps::gaps;
+use crate::status::Status;
+use crate::words::{Request, request_of};
+use hall_outside::{Failed, Sink, Store, write_all};
+use std::alloc::Global;
+
+/// Does what the words ask for, and answers how the program ends. It reads the files that the words
+/// name, and takes all its memory before it writes.
+pub fn auditorium_still<S: Store, K: Sink>(
+    alloc: Global,
+    words: &[String],
+    store: &mut S,
+    out: &mut K,
+) -> Status
+    ensures { HasDone (map string_bytes words.now)
+        (outside (S.files store.old) (S.answered store.old) (S.read_faults store.old)
+        (S.write_faults store.old) (K.written out.old) (K.faults out.old))
+        result
+        (outside (S.files store.new) (S.answered store.new) (S.read_faults store.new)
+        (S.write_faults store.new) (K.written out.new) (K.faults out.new)) }
+{
+    match answer_of(alloc, words, store) {
+        Ok(answer) => match write_all(out, answer.output()) {
+            Ok(()) => answer.status(),
+            Err(Failed) => Status::WriteFault,
+        },
+        Err(Fault::ReadFault) => Status::ReadFault,
+        Err(Fault::Memory) => Status::Memory,
+    }
+}
+
+/// The answer to the words. Nothing is written.
+fn answer_of<S: Store>(alloc: Global, words: &[String], store: &mut S) -> Result<Answer, Fault>
+    ensures ok { IfOk result (IsAnswerOf (map string_bytes words.now) (S.files store.old)
+        (S.answered store.old).absences (S.answered store.new).absences) }
+    ensures read_fault { HasCause (S.read_faults store.old) (S.read_faults store.new)
+        (IsErrOf result Fault.ReadFault) }
+    ensures unchanged { (S.files store.new ≡ S.files store.old)
+        × (S.write_faults store.new ≡ S.write_faults store.old) }
+{
+    match request_of(words) {
+        Request::Usage => Ok(Answer::usage(alloc)?),
+        Request::Gaps(log) => gaps(alloc, store, log),
+    }
+}

@@ -1,0 +1,7 @@
+use Rattle.std.proofs.Common.{take}
+use Rattle.entry_gaps.specs.Without.{IsWithout}
+use Rattle.entry_gaps.proofs.gaps_of_entries.without.Given as goal
+
+-- the same of the digests so far
+abbrev pub invariant-loop-i : goal.invariant-loop-i
+invariant-loop-i l = IsWithout (take l.i l.named) l.borne l.found.items

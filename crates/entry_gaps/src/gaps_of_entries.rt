@@ -1,0 +1,95 @@
+//! The gaps of entries, found in sorted digests.
+ghost use Rattle.std.specs.Prelude.{◌≡◌, map, IfOk, IsSorted};
+ghost use Rattle.std.specs.List.{flat_map};
+ghost use Rattle.std.specs.Ordering.{nat_cmp};
+ghost use Rattle.std.specs.Cmp.Lexicographic.{slice_cmp};
+ghost use Rattle.entry_order.specs.Survivors.{gaps as gaps_of};
+ghost use Rattle.entry_gaps.specs.Without.{IsWithout};
+
+use entry_order::{Knot, gaps_are_unique};
+use std::alloc::{AllocError, Global};
+use std::marker::Model;
+
+/// Want of memory.
+pub type Memory = AllocError;
+
+/// Digests of 32 bytes each. A contract sees them as a list.
+#[derive(Debug, Drop)]
+pub struct Digests {
+    digests: Vec<[u8; 32]>,
+}
+
+impl Model for Digests {
+    ghost use Rattle.std.specs.Prelude.{List, ℕ};
+
+    ghost Value = { List (List ℕ) };
+
+    ghost view = { λ d. d.digests.items };
+}
+
+impl Digests {
+    /// Lends the digests.
+    pub fn as_slice(&self) -> &[[u8; 32]]
+        ensures { result.now ≡ self.now }
+    {
+        self.digests.as_slice()
+    }
+}
+
+/// The digests that one of the entries names and none of them bears, each once, ascending in the
+/// order of their bytes. It takes time for n entries and names as sorting them, n log n.
+pub fn gaps<T: Knot>(alloc: Global, entries: &[T]) -> Result<Digests, Memory>
+    ensures { IfOk result (λ digests. digests ≡ gaps_of T.node entries.now) }
+{
+    gaps_are_unique::<T>();
+    let mut borne = digests_of(alloc, entries)?;
+    borne.sort_unstable();
+    let mut named = names_of(alloc, entries)?;
+    named.sort_unstable();
+    let digests = without(alloc, named.as_slice(), borne.as_slice())?;
+    Ok(Digests { digests })
+}
+
+/// The digests that the entries bear, in their order.
+fn digests_of<T: Knot>(alloc: Global, entries: &[T]) -> Result<Vec<[u8; 32]>, Memory>
+    ensures { IfOk result (λ digests.
+        digests.items ≡ map (λ entry. (T.node entry).digest) entries.now) }
+{
+    let mut digests = Vec::with_capacity(alloc, entries.len())?;
+    for entry in entries {
+        digests.push(*entry.digest())?;
+    }
+    Ok(digests)
+}
+
+/// The digests that the entries name, in their order.
+fn names_of<T: Knot>(alloc: Global, entries: &[T]) -> Result<Vec<[u8; 32]>, Memory>
+    ensures { IfOk result (λ names.
+        names.items ≡ flat_map (λ entry. (T.node entry).names) entries.now) }
+{
+    let mut names = Vec::new(alloc);
+    for entry in entries {
+        names.extend_from_slice(entry.names())?;
+    }
+    Ok(names)
+}
+
+/// Those of the named digests that aren't borne, each once. Both lists are sorted.
+fn without(
+    alloc: Global,
+    named: &[[u8; 32]],
+    borne: &[[u8; 32]],
+) -> Result<Vec<[u8; 32]>, Memory>
+    requires named { IsSorted (slice_cmp nat_cmp) named.now }
+    requires borne { IsSorted (slice_cmp nat_cmp) borne.now }
+    ensures { IfOk result (λ found. IsWithout named.now borne.now found.items) }
+{
+    let mut found = Vec::new(alloc);
+    for i in 0..named.len() {
+        let is_again = i > 0 && named[i - 1] == named[i];
+        if !is_again && borne.binary_search(&named[i]).is_err() {
+            found.push(named[i])?;
+        }
+    }
+    Ok(found)
+}

@@ -1,0 +1,6 @@
+//! The gaps of entries: the digests that an entry names and none of them bears.
+#![tactic(auto)]
+
+mod gaps_of_entries;
+
+pub use gaps_of_entries::{Digests, Memory, gaps};

@@ -1,0 +1,5 @@
+pub mod Pieces
+pub mod DigitLemmas
+pub mod ChainLemmas
+pub mod Elements
+pub mod Candidates

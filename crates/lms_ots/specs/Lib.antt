@@ -1,0 +1,4 @@
+pub mod Parameters
+pub mod Width
+pub mod Digits
+pub mod Ots

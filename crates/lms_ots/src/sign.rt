@@ -1,0 +1,166 @@
+// Keys, signatures and candidates.
+ghost use Rattle.std.specs.Prelude.{◌≡◌, ◌≢◌, ◌↔◌, ℕ, ◌∷◌, ◌++◌, length, take, vec_len, IfOk, OnOk, IsErrOf};
+ghost use Rattle.sha2.specs.Hashers.{Holds256};
+ghost use Rattle.lms_ots.specs.Parameters.{parameters, signature_len};
+ghost use Rattle.lms_ots.specs.Digits.{cksm};
+ghost use Rattle.lms_ots.specs.Ots.{candidate_of, message_hash, public_key, randomizer, signature_of, u16str, u32str};
+
+use crate::chain::{chain, secret_element, u16_bytes, u32_bytes, write_at};
+use crate::digits::{checksum, digit};
+use crate::kind::OtsKind;
+use sha2::{Digest, Sha256};
+use std::alloc::{AllocError, Global};
+use thiserror::Error;
+
+/// Want of memory.
+pub type Memory = AllocError;
+
+/// Why a signature has no candidate.
+#[derive(Clone, Copy, Debug, PartialEq, Eq, Error)]
+pub enum OtsFault {
+    #[error("the signature hasn't the length of its kind")]
+    WrongLength,
+    #[error("the signature has another typecode")]
+    WrongType,
+}
+
+// The domain separation of public keys and of messages (RFC 8554, 4.3 and 4.5).
+const D_PBLC: u16 = 0x8080;
+
+const D_MESG: u16 = 0x8181;
+
+/// The public key of the one-time key `q` of `id`: RFC 8554, 4.3, of the elements that `seed` gives
+/// by the RFC's Appendix A.
+pub fn ots_public(kind: OtsKind, id: &[u8; 16], q: u32, seed: &[u8; 32]) -> [u8; 32]
+    ensures { result ≡ public_key kind id.now q seed.now }
+{
+    let parameters = kind.parameters();
+    let last = parameters.largest();
+    let mut key = hasher(id, q, D_PBLC);
+    'public_elements: for i in 0..parameters.p {
+        let secret = secret_element(id, q, seed, i);
+        key.update(chain(id, q, i, 0, last, secret));
+    }
+    key.finalize()
+}
+
+/// The signature of `message` under the one-time key `q` of `id`: RFC 8554, 4.5. The randomizer is a
+/// function of key and seed, so signing is a function.
+pub fn ots_sign(
+    alloc: Global,
+    kind: OtsKind,
+    id: &[u8; 16],
+    q: u32,
+    seed: &[u8; 32],
+    message: &[u8],
+) -> Result<Vec<u8>, Memory>
+    ensures value { IfOk result (λ s. s.items ≡ signature_of kind id.now q seed.now message.now) }
+    ensures len { IfOk result (λ s. vec_len s ≡ signature_len kind) }
+{
+    let parameters = kind.parameters();
+    let c = randomizer(id, q, seed);
+    let digits = digits_of(kind, id, q, &c, message);
+    let mut signature = Vec::with_capacity(alloc, kind.signature_len())?;
+    signature.extend_from_slice(&u32_bytes(parameters.typecode))?;
+    signature.extend_from_slice(&c)?;
+    'signed_elements: for i in 0..parameters.p {
+        let secret = secret_element(id, q, seed, i);
+        let place = digit(&digits, usize::from(i), parameters.w);
+        signature.extend_from_slice(&chain(id, q, i, 0, place, secret))?;
+    }
+    Ok(signature)
+}
+
+/// The public key under which `signature` would be one of `message`: RFC 8554, 4.6. It takes no
+/// memory.
+pub fn ots_candidate(
+    kind: OtsKind,
+    id: &[u8; 16],
+    q: u32,
+    message: &[u8],
+    signature: &[u8],
+) -> Result<[u8; 32], OtsFault>
+    ensures value { IfOk result (λ key. key ≡ candidate_of kind id.now q message.now signature.now) }
+    ensures form { OnOk result ((length signature.now ≡ signature_len kind)
+        × (take 4 signature.now ≡ u32str (parameters kind).typecode)) }
+
+    // The first that applies is told.
+    ensures length { IsErrOf result OtsFault.WrongLength
+        ↔ (length signature.now ≢ signature_len kind) }
+    ensures typecode { IsErrOf result OtsFault.WrongType
+        ↔ ((length signature.now ≡ signature_len kind)
+        × (take 4 signature.now ≢ u32str (parameters kind).typecode)) }
+{
+    let parameters = kind.parameters();
+    if signature.len() != kind.signature_len() {
+        return Err(OtsFault::WrongLength);
+    }
+    if !signature.starts_with(&u32_bytes(parameters.typecode)) {
+        return Err(OtsFault::WrongType);
+    }
+    Ok(candidate(kind, id, q, message, signature))
+}
+
+fn candidate(kind: OtsKind, id: &[u8; 16], q: u32, message: &[u8], signature: &[u8]) -> [u8; 32]
+    requires { length signature.now ≡ signature_len kind }
+    ensures { result ≡ candidate_of kind id.now q message.now signature.now }
+{
+    let parameters = kind.parameters();
+    let last = parameters.largest();
+    let digits = digits_of(kind, id, q, &array_of(&signature[4..36]), message);
+    let mut key = hasher(id, q, D_PBLC);
+    'candidate_elements: for i in 0..parameters.p {
+        let at = 36 + 32 * usize::from(i);
+        let element = array_of(&signature[at..at + 32]);
+        let place = digit(&digits, usize::from(i), parameters.w);
+        key.update(chain(id, q, i, place, last, element));
+    }
+    key.finalize()
+}
+
+// The hash of the message with its checksum, whose digits are signed.
+fn digits_of(kind: OtsKind, id: &[u8; 16], q: u32, c: &[u8; 32], message: &[u8]) -> [u8; 34]
+    ensures { let hash = message_hash id.now q c.now message.now in
+        result ≡ hash ++ u16str (cksm kind hash) }
+{
+    let mut hasher = hasher(id, q, D_MESG);
+    hasher.update(c);
+    hasher.update(message);
+    let hash = hasher.finalize();
+    let mut digits = [0; 34];
+    write_at(&mut digits, 0, &hash);
+    write_at(&mut digits, 32, &u16_bytes(checksum(&hash, kind)));
+    digits
+}
+
+// The randomizer C.
+fn randomizer(id: &[u8; 16], q: u32, seed: &[u8; 32]) -> [u8; 32]
+    ensures { result ≡ randomizer id.now q seed.now }
+{
+    let mut hasher = Sha256::new();
+    hasher.update("auditorium C");
+    hasher.update(id);
+    hasher.update(u32_bytes(q));
+    hasher.update(seed);
+    hasher.finalize()
+}
+
+// A hasher that has taken in what each hash of a key begins with.
+fn hasher(id: &[u8; 16], q: u32, domain: u16) -> Sha256
+    ensures { Holds256 result (id.now ++ u32str q ++ u16str domain) }
+{
+    let mut hasher = Sha256::new();
+    hasher.update(id);
+    hasher.update(u32_bytes(q));
+    hasher.update(u16_bytes(domain));
+    hasher
+}
+
+fn array_of(bytes: &[u8]) -> [u8; 32]
+    requires { length bytes.now ≡ 32 }
+    ensures { result ≡ bytes.now }
+{
+    let mut array = [0; 32];
+    array.copy_from_slice(bytes);
+    array
+}

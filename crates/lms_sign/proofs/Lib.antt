@@ -1,0 +1,9 @@
+pub mod Heights
+pub mod Types
+pub mod TreeNumbers
+pub mod Ascents
+pub mod NodeLists
+pub mod Verified
+pub mod Answered
+pub mod Parts
+pub mod Signatures

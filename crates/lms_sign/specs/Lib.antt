@@ -1,0 +1,6 @@
+pub mod Height
+pub mod Tree
+pub mod Nodes
+pub mod Signs
+pub mod Secret
+pub mod Calls

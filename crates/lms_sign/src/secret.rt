@@ -1,0 +1,152 @@
+// Secret keys.
+ghost use Rattle.std.specs.Prelude.{◌≡◌, ◌↔◌, ◌+◌, ◌^◌, ◌<◌, ◌≤◌, IfOk, OnOk, OnErr, IsErrOf};
+ghost use Rattle.lms_sign.specs.Height.{IsHeight};
+ghost use Rattle.lms_sign.specs.Secret.{public_of, signed_by};
+ghost use Rattle.lms_sign.specs.Signs.{Signs, index_in};
+
+use crate::nodes::{leaf_count, nodes_of, push_path};
+use crate::public::{LmsPublic, lms_typecode, u32_bytes};
+use lms_ots::{OtsKind, ots_sign};
+use std::alloc::{AllocError, Global};
+use std::marker::Model;
+use thiserror::Error;
+
+/// Want of memory.
+pub type Memory = AllocError;
+
+/// Why a secret key doesn't sign.
+#[derive(Clone, Copy, Debug, PartialEq, Eq, Error)]
+pub enum SignFault {
+    #[error("each index of the key has signed")]
+    Spent,
+    #[error("out of memory")]
+    Memory,
+}
+
+impl From<AllocError> for SignFault {
+    ghost use Rattle.lms_sign.specs.declared.secret.SignFault.TheVariants.{Memory};
+
+    ghost from_gives = { λ _ e. e ≡ Memory };
+
+    fn from(_refused: AllocError) -> SignFault {
+        SignFault::Memory
+    }
+}
+
+/// A secret key that signs with the indexes 0, 1, 2 and so on, each once. All nodes of its tree are
+/// kept from its making on.
+#[derive(Debug, Drop)]
+pub struct LmsSecret {
+    kind: OtsKind,
+    height: u32,
+    id: [u8; 16],
+    seed: [u8; 32],
+    next: u32,
+    nodes: Vec<[u8; 32]>,
+}
+
+impl Model for LmsSecret {
+    ghost use Rattle.std.specs.Prelude.{◌≡◌, ◌^◌, ◌≤◌, length};
+    ghost use Rattle.lms_sign.specs.Height.{IsHeight};
+    ghost use Rattle.lms_sign.specs.Nodes.{HoldsTree};
+    ghost use Rattle.lms_sign.specs.Secret.{Secret};
+
+    ghost Value = { Secret };
+
+    ghost view = { λ s.
+        record { kind = s.kind; height = s.height; id = s.id; seed = s.seed; next = s.next } };
+
+    ghost invariant = { λ s. IsHeight s.height × (s.next ≤ 2 ^ s.height) × (length s.id ≡ 16)
+        × HoldsTree s.kind s.height s.id s.seed s.nodes.items };
+}
+
+impl LmsSecret {
+    /// A new key, from its identifier and seed. `height` is 5 or 10.
+    pub fn make(
+        alloc: Global,
+        kind: OtsKind,
+        height: u32,
+        id: [u8; 16],
+        seed: [u8; 32],
+    ) -> Result<LmsSecret, Memory>
+        requires { IsHeight height }
+        ensures { IfOk result (λ s. s ≡ record {
+          kind = kind;
+          height = height;
+          id = id;
+          seed = seed;
+          next = 0;
+        }) }
+    {
+        let nodes = nodes_of(alloc, kind, height, &id, &seed)?;
+        Ok(LmsSecret {
+            kind,
+            height,
+            id,
+            seed,
+            next: 0,
+            nodes,
+        })
+    }
+
+    /// The public key.
+    pub fn public(&self) -> LmsPublic
+        ensures { result ≡ public_of self.now }
+    {
+        LmsPublic::of_root(self.kind, self.height, &self.id, &self.nodes[1])
+    }
+
+    /// The index that signs next, counted from 0.
+    pub fn next(&self) -> u32
+        ensures value { result ≡ self.now.next }
+        ensures within { result ≤ 2 ^ self.now.height }
+    {
+        let _height = self.height;
+        self.next
+    }
+
+    /// Signs `message` with the next index, which is used up. A refusal uses none up.
+    pub fn sign(&mut self, alloc: Global, message: &[u8]) -> Result<Vec<u8>, SignFault>
+        ensures ok { IfOk result (λ s. s.items ≡ signed_by self.old message.now) }
+        ensures signs { IfOk result (λ s. Signs (public_of self.old) message.now s.items) }
+        ensures index { IfOk result (λ s. index_in s.items ≡ self.old.next) }
+        ensures next { OnOk result (self.new ≡ record self.old { next = self.old.next + 1 }) }
+        ensures err { OnErr result (self.new ≡ self.old) }
+        ensures spent { IsErrOf result SignFault.Spent
+            ↔ (self.old.next ≡ 2 ^ self.old.height) }
+    {
+        let signature = self.signature(alloc, message)?;
+        self.advance();
+        Ok(signature)
+    }
+
+    /// The signature of `message` with the next index, which isn't used up.
+    pub fn signature(&self, alloc: Global, message: &[u8]) -> Result<Vec<u8>, SignFault>
+        ensures ok { IfOk result (λ s. s.items ≡ signed_by self.now message.now) }
+        ensures signs { IfOk result (λ s. Signs (public_of self.now) message.now s.items) }
+        ensures index { IfOk result (λ s. index_in s.items ≡ self.now.next) }
+        ensures left { OnOk result (self.now.next < 2 ^ self.now.height) }
+        ensures spent { IsErrOf result SignFault.Spent
+            ↔ (self.now.next ≡ 2 ^ self.now.height) }
+    {
+        if self.next == leaf_count(self.height) {
+            return Err(SignFault::Spent);
+        }
+        let one_time = ots_sign(alloc, self.kind, &self.id, self.next, &self.seed, message)?;
+        let len = 4 + one_time.len() + 4 + 32 * self.height as usize;
+        let mut signature = Vec::with_capacity(alloc, len)?;
+        signature.extend_from_slice(&u32_bytes(self.next))?;
+        signature.extend_from_slice(&one_time)?;
+        signature.extend_from_slice(&u32_bytes(lms_typecode(self.height)))?;
+        push_path(&mut signature, &self.nodes, self.height, self.next)?;
+        Ok(signature)
+    }
+
+    /// Uses the next index up.
+    pub fn advance(&mut self)
+        requires { self.old.next < 2 ^ self.old.height }
+        ensures { self.new ≡ record self.old { next = self.old.next + 1 } }
+    {
+        self.next += 1;
+    }
+}

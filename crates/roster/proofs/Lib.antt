@@ -1,0 +1,4 @@
+pub mod Trees
+pub mod Raws
+pub mod Forms
+pub mod Fits

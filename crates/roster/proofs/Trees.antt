@@ -1,0 +1,60 @@
+-- The trees of machines, one by one.
+use Rattle.std.proofs.Common.{◌≡◌, ℕ, zero, suc, ◌<◌, List, [], ◌∷◌, length, get_or, map, All, refl, ap, sym, ◌∙◌, arith}
+use Rattle.std.proofs.lemmas.List.Elements.{All-head, All-tail}
+use Rattle.canonical_sexp.specs.declared.sexp.Sexp.{Sexp}
+use Rattle.roster.specs.declared.post.Post.{Post}
+use Rattle.roster.specs.declared.post.Role.{Role}
+use Rattle.roster.specs.declared.post.Role.TheVariants.{Supervisor, Booth}
+use Rattle.roster.specs.RosterText.{role_word, post_tree, headed, HasKey}
+use Rattle.canonical_sexp.specs.declared.sexp.Sexp.TheVariants.{Atom}
+use Rattle.canonical_sexp.specs.Sexp.{members_of, forest_of}
+use Rattle.canonical_sexp.proofs.Rows.{members_of-forest_of}
+use Rattle.std.specs.Prelude.{codes}
+
+-- one of some trees that are machines
+pub post_at : (trees : List Sexp) (posts : List Post) (i : ℕ) (d : Sexp) → i < length trees → trees ≡ map post_tree posts → All HasKey posts
+    → (post : Post) × HasKey post × (get_or trees i d ≡ post_tree post)
+post_at [] posts i d within e all = absurd (omega arith)
+post_at (tree ∷ trees) [] i d within e all = absurd (let long : length (tree ∷ trees) ≡ 0 = ap length e in omega arith)
+post_at (tree ∷ trees) (post ∷ posts) zero d within e all = let same : tree ≡ post_tree post = cc in (post, All-head HasKey post posts all, same)
+post_at (tree ∷ trees) (post ∷ posts) (suc i) d within e all =
+    let rest : trees ≡ map post_tree posts = cc in
+    post_at trees posts i d (omega arith) rest (All-tail HasKey post posts all)
+
+-- a list has one row of members
+pub same_behind : (trees others : List Sexp) → headed trees ≡ headed others → trees ≡ others
+same_behind trees others same =
+    let all : List Sexp → List Sexp = λ ts. Atom (codes "roster") ∷ Atom (codes "1") ∷ ts in
+    let forest : forest_of (all trees) ≡ forest_of (all others) = cc in
+    let rows : all trees ≡ all others = sym (members_of-forest_of (all trees)) ∙ ap members_of forest ∙ members_of-forest_of (all others) in
+    cc
+
+-- a role has one word
+one_role : (role other : Role) → role_word role ≡ role_word other → role ≡ other
+one_role Supervisor Supervisor same = refl
+one_role Supervisor Booth same = cc
+one_role Booth Supervisor same = cc
+one_role Booth Booth same = refl
+
+-- a tree is that of one machine
+one_post : (post other : Post) → post_tree post ≡ post_tree other → post ≡ other
+one_post post other same =
+    let name : post.name ≡ other.name = cc in
+    let word : role_word post.role ≡ role_word other.role = cc in
+    let role : post.role ≡ other.role = one_role post.role other.role word in
+    let key : post.key ≡ other.key = cc in
+    ap (λ (n : List ℕ). record { name = n; role = post.role; key = post.key }) name
+    ∙ ap (λ (r : Role). record { name = other.name; role = r; key = post.key }) role
+    ∙ ap (λ (k : List ℕ). record { name = other.name; role = other.role; key = k }) key
+
+-- so a row of trees is that of one list of machines
+pub one_list : (posts others : List Post) → map post_tree posts ≡ map post_tree others → posts ≡ others
+one_list [] [] same = refl
+one_list [] (other ∷ others) same = cc
+one_list (post ∷ posts) [] same = cc
+one_list (post ∷ posts) (other ∷ others) same =
+    let tree : post_tree post ≡ post_tree other = cc in
+    let first : post ≡ other = one_post post other tree in
+    let row : map post_tree posts ≡ map post_tree others = cc in
+    let rest : posts ≡ others = one_list posts others row in
+    cc

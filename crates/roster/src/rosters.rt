@@ -1,0 +1,112 @@
+//! Rosters, their text and their election.
+ghost use Rattle.std.specs.Prelude.{◌≡◌, ◌≢◌, Ok, Err, IfOk};
+ghost use Rattle.sha2.specs.Sha256.{sha256};
+ghost use Rattle.roster.specs.Machines.{HaveText};
+ghost use Rattle.roster.specs.Reading.{Reads};
+
+use crate::faults::RosterFault;
+use crate::post::Post;
+use crate::reading::{fault_of, posts_of, raws_of, trees_of, whole_tree};
+use crate::writing::tree_of;
+use canonical_sexp::write;
+use sha2::{Digest, Sha256};
+use std::alloc::{AllocError, Global};
+use std::marker::Model;
+
+/// Want of memory.
+pub type Memory = AllocError;
+
+/// The machines of a roster, in their order. Contracts see them as a list.
+#[derive(Debug, Drop)]
+pub struct Posts {
+    items: Vec<Post>,
+}
+
+impl Model for Posts {
+    ghost use Rattle.std.specs.Prelude.{List};
+    ghost use Rattle.roster.specs.declared.post.Post.{Post};
+
+    ghost Value = { List Post };
+
+    ghost view = { λ posts. posts.items.items };
+}
+
+impl Posts {
+    /// These machines.
+    pub fn new(items: Vec<Post>) -> Posts
+        ensures { result ≡ items.items }
+    {
+        Posts { items }
+    }
+
+    /// Lends the machines.
+    pub fn as_slice(&self) -> &[Post]
+        ensures { result.now ≡ self.now }
+    {
+        self.items.as_slice()
+    }
+}
+
+/// A roster. A machine is named by its place in it, from 0.
+#[derive(Debug, Drop)]
+pub struct Roster {
+    pub machines: Posts,
+}
+
+impl Roster {
+    /// Reads a roster's text.
+    ///
+    /// # Errors
+    ///
+    /// The first cause that applies, in the order of `RosterFault`.
+    pub fn read(alloc: Global, bytes: &[u8]) -> Result<Roster, RosterFault>
+        ensures { result ≢ Err RosterFault.Memory → Reads bytes.now result }
+    {
+        let tree = match whole_tree(alloc, bytes) {
+            Ok(tree) => tree,
+            Err(fault) => return Err(fault),
+        };
+        let Some(trees) = trees_of(&tree) else {
+            return Err(RosterFault::WrongShape);
+        };
+        let Some(raws) = raws_of(alloc, trees)? else {
+            return Err(RosterFault::WrongShape);
+        };
+        if let Some(fault) = fault_of(raws.as_slice()) {
+            return Err(fault);
+        }
+        let machines = posts_of(alloc, raws.as_slice())?;
+        Ok(Roster { machines })
+    }
+
+    /// The roster's text. It is read back as the same roster.
+    pub fn write(&self, alloc: Global) -> Result<Vec<u8>, Memory>
+        requires { HaveText self.now.machines }
+        ensures { IfOk result (λ bytes. Reads bytes.items (Ok self.now)) }
+    {
+        let tree = tree_of(alloc, self.machines.as_slice())?;
+        let mut text = Vec::new(alloc);
+        write(alloc, &tree, &mut text)?;
+        Ok(text)
+    }
+
+    /// An equal roster.
+    pub fn copy(&self, alloc: Global) -> Result<Roster, Memory>
+        ensures { IfOk result (λ roster. roster ≡ self.now) }
+    {
+        let mut machines = Vec::new(alloc);
+        for post in self.machines.as_slice() {
+            machines.push(post.copy(alloc)?)?;
+        }
+        Ok(Roster {
+            machines: Posts::new(machines),
+        })
+    }
+}
+
+/// The election of a roster: SHA-256 of its text.
+pub fn election(bytes: &[u8]) -> [u8; 32]
+    ensures { result ≡ sha256 bytes.now }
+{
+    Sha256::digest(bytes)
+}

@@ -1,0 +1,50 @@
+//! The tree of a roster.
+ghost use Rattle.std.specs.Prelude.{◌≡◌, IfOk};
+ghost use Rattle.canonical_sexp.specs.declared.sexp.Sexp.TheVariants.{Atom};
+ghost use Rattle.roster.specs.RosterText.{role_word, post_tree, roster_tree};
+
+use crate::post::{Post, Role};
+use canonical_sexp::{Members, Memory, Octets, Sexp};
+use std::alloc::Global;
+
+/// The atom with these octets.
+fn atom(alloc: Global, octets: &[u8]) -> Result<Sexp, Memory>
+    ensures { IfOk result (λ tree. tree ≡ Atom octets.now) }
+{
+    let octets = Vec::from_slice(alloc, octets)?;
+    Ok(Sexp::Atom(Octets::new(octets)))
+}
+
+/// The word of a role.
+fn word_of(role: Role) -> &'static [u8]
+    ensures { result.now ≡ role_word role }
+{
+    match role {
+        Role::Supervisor => b"supervisor",
+        Role::Booth => b"booth",
+    }
+}
+
+/// The tree of a machine.
+fn tree_of_post(alloc: Global, post: &Post) -> Result<Sexp, Memory>
+    ensures { IfOk result (λ tree. tree ≡ post_tree post.now) }
+{
+    let mut members = Members::new(alloc);
+    members.push(atom(alloc, post.name.as_str().as_bytes())?)?;
+    members.push(atom(alloc, word_of(post.role))?)?;
+    members.push(atom(alloc, &post.key)?)?;
+    Ok(Sexp::List(members))
+}
+
+/// The tree of the roster of these machines.
+pub(crate) fn tree_of(alloc: Global, machines: &[Post]) -> Result<Sexp, Memory>
+    ensures { IfOk result (λ tree. tree ≡ roster_tree machines.now) }
+{
+    let mut members = Members::new(alloc);
+    members.push(atom(alloc, b"roster")?)?;
+    members.push(atom(alloc, b"1")?)?;
+    for post in machines {
+        members.push(tree_of_post(alloc, post)?)?;
+    }
+    Ok(Sexp::List(members))
+}
