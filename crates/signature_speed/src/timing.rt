@@ -22,8 +22,8 @@ fn hash_plainly(count: u32) -> u8 {
     message[22]
 }
 
-// Prints the nanoseconds of `hashes` plain hashes, of making a key, and of signing and verifying with
-// each of the first 32 indexes, whose messages are their numbers as four bytes.
+// Prints the nanoseconds of `hashes` plain hashes, of making a key, and of signing and verifying
+// with each of the first 32 indexes, whose messages are their numbers as four bytes.
 pub(crate) fn time_all(
     rt: &(impl Print + CpuClock),
     alloc: Global,
