@@ -39,8 +39,8 @@ IsDeed (Cancel session) = session < 2 ^ 32
 abbrev pub body_tree : Entry → Sexp
 body_tree entry =
     list_of (Atom (codes "entry") ∷ Atom (codes "1") ∷ Atom entry.election ∷ number_atom entry.maker
-    ∷ number_atom entry.number
-    ∷ number_atom entry.stamp ∷ list_of (map Atom entry.names) ∷ deed_tree entry.deed ∷ [])
+    ∷ number_atom entry.number ∷ number_atom entry.stamp ∷ list_of (map Atom entry.names)
+    ∷ deed_tree entry.deed ∷ [])
 
 -- the numbers are of 32 bits, and the digests are digests
 pub record IsEntry (entry : Entry) : Type 0 where

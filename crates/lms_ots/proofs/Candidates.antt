@@ -1,12 +1,14 @@
 -- A signature's candidate is the public key.
-use Rattle.std.proofs.Common.{◌≡◌, ℕ, zero, suc, ◌+◌, ◌-◌, ◌*◌, ◌^◌, ◌<◌, ◌≤◌, List, ◌++◌, length, refl, sym, ap, ◌∙◌, arith, length-append}
+use Rattle.std.proofs.Common.{◌≡◌, ℕ, zero, suc, ◌+◌, ◌-◌, ◌*◌, ◌^◌, ◌<◌, ◌≤◌, List, ◌++◌, length, refl, sym, ap, ◌∙◌}
+use Rattle.std.proofs.Common.{arith, length-append}
 use Rattle.std.proofs.lemmas.List.{append_assoc, drop-drop, take_at, drop_at}
 use Rattle.std.specs.List.{flat_map, fold, range_with_len}
 use Rattle.sha2.proofs.Facts256.{length-sha256}
 use Rattle.lms_ots.specs.declared.kind.OtsKind.{OtsKind}
 use Rattle.lms_ots.specs.Parameters.{parameters, signature_len}
 use Rattle.lms_ots.specs.Digits.{coef, cksm}
-use Rattle.lms_ots.specs.Ots.{candidate_of, chain, digit_of, element_in, key_from_elements, message_hash, public_key, randomizer, randomizer_in, secret_element, signature_of, step, u16str, u32str}
+use Rattle.lms_ots.specs.Ots.{candidate_of, chain, digit_of, element_in, key_from_elements, message_hash, public_key}
+use Rattle.lms_ots.specs.Ots.{randomizer, randomizer_in, secret_element, signature_of, step, u16str, u32str}
 use Rattle.lms_ots.proofs.DigitLemmas.{coef_le}
 use Rattle.lms_ots.proofs.Pieces.{length-pieces, piece_at, same_pieces}
 
@@ -14,7 +16,8 @@ use Rattle.lms_ots.proofs.Pieces.{length-pieces, piece_at, same_pieces}
 abbrev runs : List ℕ → ℕ → ℕ → ℕ → ℕ → List ℕ → List ℕ
 runs id q i from n tmp = fold (step id q i) tmp (range_with_len from n)
 
-runs-add : (id tmp : List ℕ) (q i from n m : ℕ) → runs id q i from (n + m) tmp ≡ runs id q i (from + n) m (runs id q i from n tmp)
+runs-add : (id tmp : List ℕ) (q i from n m : ℕ)
+    → runs id q i from (n + m) tmp ≡ runs id q i (from + n) m (runs id q i from n tmp)
 runs-add id tmp q i from zero m =
     let e : zero + m ≡ m = omega arith in
     let f : from + zero ≡ from = omega arith in
@@ -25,7 +28,8 @@ runs-add id tmp q i from (suc n) m =
     rw (e, f) (runs-add id (step id q i tmp from) q i (from + 1) n m)
 
 -- two parts of a chain are one
-chain-chain : (id tmp : List ℕ) (q i a most : ℕ) → a ≤ most → chain id q i a most (chain id q i 0 a tmp) ≡ chain id q i 0 most tmp
+chain-chain : (id tmp : List ℕ) (q i a most : ℕ) → a ≤ most
+    → chain id q i a most (chain id q i 0 a tmp) ≡ chain id q i 0 most tmp
 unfolding chain
 chain-chain id tmp q i a most h =
     let first : a - 0 ≡ a = omega arith in
@@ -50,27 +54,39 @@ length-randomizer : (id seed : List ℕ) (q : ℕ) → length (randomizer id q s
 unfolding randomizer
 length-randomizer id seed q = length-sha256 _
 
+-- the lengths of the parts
 pub length-u32str : (n : ℕ) → length (u32str n) ≡ 4
 unfolding u32str
 length-u32str n = refl
 
 -- a signature has the length of its kind
-pub length-signature_of : (kind : OtsKind) (id : List ℕ) (q : ℕ) (seed message : List ℕ) → length (signature_of kind id q seed message) ≡ signature_len kind
+pub length-signature_of : (kind : OtsKind) (id : List ℕ) (q : ℕ) (seed message : List ℕ)
+    → length (signature_of kind id q seed message) ≡ signature_len kind
 unfolding signature_of digit_of
 length-signature_of kind id q seed message =
     let p : ℕ = (parameters kind).p in
     let c : List ℕ = randomizer id q seed in
     let t : List ℕ = u32str (parameters kind).typecode in
-    let f : ℕ → List ℕ = λ i. chain id q i 0 (digit_of kind (message_hash id q c message) i) (secret_element id q seed i) in
+    let f : ℕ → List ℕ =
+    λ i. chain id q i 0 (digit_of kind (message_hash id q c message) i) (secret_element id q seed i) in
     let ys : List ℕ = flat_map f (range_with_len 0 p) in
-    let pieces : length ys ≡ 32 * p = length-pieces f (λ i. length-chain id _ q i 0 _ (length-secret id seed q i)) 0 p in
-    omega (arith, pieces, length-u32str (parameters kind).typecode, length-randomizer id seed q, length-append t c, length-append (t ++ c) ys)
+    let pieces : length ys ≡ 32 * p =
+    length-pieces f (λ i. length-chain id _ q i 0 _ (length-secret id seed q i)) 0 p in
+    omega (
+      arith,
+      pieces,
+      length-u32str (parameters kind).typecode,
+      length-randomizer id seed q,
+      length-append t c,
+      length-append (t ++ c) ys,
+    )
 
 -- what a signature made of these parts holds
 randomizer_in_parts : (t c ys : List ℕ) → length t ≡ 4 → length c ≡ 32 → randomizer_in (t ++ c ++ ys) ≡ c
 randomizer_in_parts t c ys lt lc = rw (append_assoc t c ys, drop_at t (c ++ ys) 4 lt) (take_at c ys 32 lc)
 
-element_in_parts : (t c : List ℕ) (f : ℕ → List ℕ) (n i : ℕ) → length t ≡ 4 → length c ≡ 32 → ((i : ℕ) → length (f i) ≡ 32) → i < n
+element_in_parts : (t c : List ℕ) (f : ℕ → List ℕ) (n i : ℕ) → length t ≡ 4 → length c ≡ 32
+    → ((i : ℕ) → length (f i) ≡ 32) → i < n
     → element_in (t ++ c ++ flat_map f (range_with_len 0 n)) i ≡ f i
 element_in_parts t c f n i lt lc wide h =
     let ys : List ℕ = flat_map f (range_with_len 0 n) in
@@ -79,7 +95,9 @@ element_in_parts t c f n i lt lc wide h =
     let piece = piece_at f wide 0 n i h in
     rw (← drop-drop (32 * i) 36 (t ++ c ++ ys), drop_at (t ++ c) ys 36 front) (rw at at piece)
 
-pub candidate-signed : (kind : OtsKind) (id : List ℕ) (q : ℕ) (seed message : List ℕ) → candidate_of kind id q message (signature_of kind id q seed message) ≡ public_key kind id q seed
+-- the candidate of a signature is its key's public key
+pub candidate-signed : (kind : OtsKind) (id : List ℕ) (q : ℕ) (seed message : List ℕ)
+    → candidate_of kind id q message (signature_of kind id q seed message) ≡ public_key kind id q seed
 unfolding candidate_of signature_of public_key key_from_elements digit_of
 candidate-signed kind id q seed message =
     let w : ℕ = (parameters kind).w in
@@ -91,12 +109,15 @@ candidate-signed kind id q seed message =
     let signed : ℕ → List ℕ = λ i. chain id q i 0 (coef digits i w) (secret_element id q seed i) in
     let s : List ℕ = t ++ c ++ flat_map signed (range_with_len 0 p) in
     let same_c : randomizer_in s ≡ c = randomizer_in_parts t c _ (length-u32str _) (length-randomizer id seed q) in
-    let wide : (i : ℕ) → length (signed i) ≡ 32 = λ i. length-chain id _ q i 0 (coef digits i w) (length-secret id seed q i) in
+    let wide : (i : ℕ) → length (signed i) ≡ 32 =
+    λ i. length-chain id _ q i 0 (coef digits i w) (length-secret id seed q i) in
     let found : ℕ → List ℕ = λ i. chain id q i (coef digits i w) (2 ^ w - 1) (element_in s i) in
     let known : ℕ → List ℕ = λ i. chain id q i 0 (2 ^ w - 1) (secret_element id q seed i) in
     let each : (i : ℕ) → i < p → found (0 + i) ≡ known (0 + i) = λ i h.
     let at : 0 + i ≡ i = omega arith in
-    rw at (ap (chain id q i (coef digits i w) (2 ^ w - 1)) (element_in_parts t c signed p i (length-u32str _) (length-randomizer id seed q) wide h)
+    rw at (ap (chain id q i (coef digits i w) (2 ^ w - 1))
+    (element_in_parts t c signed p i (length-u32str _) (length-randomizer id seed q) wide h)
     ∙ chain-chain id (secret_element id q seed i) q i (coef digits i w) (2 ^ w - 1) (coef_le digits i w)) in
-    let all : flat_map found (range_with_len 0 p) ≡ flat_map known (range_with_len 0 p) = same_pieces found known 0 p each in
+    let all : flat_map found (range_with_len 0 p) ≡ flat_map known (range_with_len 0 p) =
+    same_pieces found known 0 p each in
     rw (same_c, all) refl

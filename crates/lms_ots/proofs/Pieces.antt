@@ -1,6 +1,8 @@
 -- Lists that are made of pieces.
-use Rattle.std.proofs.Common.{◌≡◌, ℕ, zero, suc, ◌+◌, ◌*◌, ◌<◌, List, [], ◌∷◌, ◌++◌, length, take, drop, refl, ap, ◌∙◌, arith, add-zero, length-append, length-drop}
-use Rattle.std.proofs.lemmas.List.{append_assoc, append-nil, drop_all, take_all, take_at, take_more_set, length-set, drop-drop, drop_at}
+use Rattle.std.proofs.Common.{◌≡◌, ℕ, zero, suc, ◌+◌, ◌*◌, ◌<◌, List, [], ◌∷◌, ◌++◌, length, take, drop, refl, ap}
+use Rattle.std.proofs.Common.{◌∙◌, arith, add-zero, length-append, length-drop}
+use Rattle.std.proofs.lemmas.List.{append_assoc, append-nil, drop_all, take_all, take_at, take_more_set, length-set}
+use Rattle.std.proofs.lemmas.List.{drop-drop, drop_at}
 use Rattle.std.specs.List.{flat_map, range_with_len}
 use borrow.Rule.Slice.PartMut.{put_mid, post_of}
 use Rattle.std.specs.Prelude.{slice_set}
@@ -17,20 +19,26 @@ range_with_len_next a (suc n) =
     rw more (ap (λ (xs : List ℕ). a ∷ xs) (rw (one, at) at rest))
 
 -- one piece more
-pub flat_map_next : (f : ℕ → List ℕ) (n : ℕ) → flat_map f (range_with_len 0 (n + 1)) ≡ flat_map f (range_with_len 0 n) ++ f n
+pub flat_map_next : (f : ℕ → List ℕ) (n : ℕ)
+    → flat_map f (range_with_len 0 (n + 1)) ≡ flat_map f (range_with_len 0 n) ++ f n
 flat_map_next f n =
     let zero_add : 0 + n ≡ n = omega arith in
-    ap (flat_map f) (range_with_len_next 0 n) ∙ flat_map-append f (range_with_len 0 n) ((0 + n) ∷ []) ∙ rw (append-nil, zero_add) refl
+    ap (flat_map f) (range_with_len_next 0 n) ∙ flat_map-append f (range_with_len 0 n) ((0 + n) ∷ [])
+    ∙ rw (append-nil, zero_add) refl
 
 -- the bytes that a step hashes, after its place and tmp were written
-pub step_bytes : (xs t : List ℕ) (j : ℕ) → length xs ≡ 55 → length t ≡ 32 → put_mid 23 32 (slice_set xs 22 j) t ≡ take 22 xs ++ (j ∷ t)
+pub step_bytes : (xs t : List ℕ) (j : ℕ) → length xs ≡ 55 → length t ≡ 32
+    → put_mid 23 32 (slice_set xs 22 j) t ≡ take 22 xs ++ (j ∷ t)
 step_bytes xs t j lx lt =
     let front : take 23 (slice_set xs 22 j) ≡ take 22 xs ++ j ∷ [] = take_more_set xs 22 j (omega arith) in
-    let rest : post_of 23 32 (slice_set xs 22 j) ≡ [] = drop_all 32 (drop 23 (slice_set xs 22 j)) (omega (arith, length-drop 23 (slice_set xs 22 j), length-set xs 22 j)) in
+    let rest : post_of 23 32 (slice_set xs 22 j) ≡ [] =
+    drop_all 32 (drop 23 (slice_set xs 22 j))
+    (omega (arith, length-drop 23 (slice_set xs 22 j), length-set xs 22 j)) in
     rw (rest, front, append-nil, append_assoc) refl
 
 -- two pieces that fill an array
-pub two_writes : (a b x y : List ℕ) → length x ≡ 32 → length y ≡ 2 → length b ≡ 34 → take (0 + length x) a ≡ x → take (32 + length y) b ≡ take 32 a ++ y → b ≡ x ++ y
+pub two_writes : (a b x y : List ℕ) → length x ≡ 32 → length y ≡ 2 → length b ≡ 34 → take (0 + length x) a ≡ x
+    → take (32 + length y) b ≡ take 32 a ++ y → b ≡ x ++ y
 two_writes a b x y lx ly lb first second =
     let front : take 32 a ≡ x = rw lx at first in
     let all : take 34 b ≡ b = take_all 34 b (omega arith) in
@@ -38,7 +46,8 @@ two_writes a b x y lx ly lb first second =
     rw (all, front) at whole
 
 -- the piece i of pieces of 32 bytes
-pub piece_at : (f : ℕ → List ℕ) → ((i : ℕ) → length (f i) ≡ 32) → (a n i : ℕ) → i < n → take 32 (drop (32 * i) (flat_map f (range_with_len a n))) ≡ f (a + i)
+pub piece_at : (f : ℕ → List ℕ) → ((i : ℕ) → length (f i) ≡ 32) → (a n i : ℕ) → i < n
+    → take 32 (drop (32 * i) (flat_map f (range_with_len a n))) ≡ f (a + i)
 piece_at f wide a zero i h = absurd (omega arith)
 piece_at f wide a (suc n) zero h =
     let at : a + 0 ≡ a = omega arith in
@@ -52,17 +61,20 @@ piece_at f wide a (suc n) (suc i) h =
     rw (start, at, ← drop-drop (32 * i) 32 (f a ++ others), drop_at (f a) others 32 (wide a)) rest
 
 -- pieces that agree at each place
-pub same_pieces : (f g : ℕ → List ℕ) (a n : ℕ) → ((i : ℕ) → i < n → f (a + i) ≡ g (a + i)) → flat_map f (range_with_len a n) ≡ flat_map g (range_with_len a n)
+pub same_pieces : (f g : ℕ → List ℕ) (a n : ℕ) → ((i : ℕ) → i < n → f (a + i) ≡ g (a + i))
+    → flat_map f (range_with_len a n) ≡ flat_map g (range_with_len a n)
 same_pieces f g a zero same = refl
 same_pieces f g a (suc n) same =
     let at : a + 0 ≡ a = omega arith in
     let first : f a ≡ g a = rw at at (same 0 (omega arith)) in
     let rest : flat_map f (range_with_len (a + 1) n) ≡ flat_map g (range_with_len (a + 1) n) =
-    same_pieces f g (a + 1) n (λ i h. let e : a + suc i ≡ a + 1 + i = omega arith in rw e at (same (suc i) (omega arith))) in
+    same_pieces f g (a + 1) n
+    (λ i h. let e : a + suc i ≡ a + 1 + i = omega arith in rw e at (same (suc i) (omega arith))) in
     rw (first, rest) refl
 
 -- how long they are together
-pub length-pieces : (f : ℕ → List ℕ) → ((i : ℕ) → length (f i) ≡ 32) → (a n : ℕ) → length (flat_map f (range_with_len a n)) ≡ 32 * n
+pub length-pieces : (f : ℕ → List ℕ) → ((i : ℕ) → length (f i) ≡ 32) → (a n : ℕ)
+    → length (flat_map f (range_with_len a n)) ≡ 32 * n
 length-pieces f wide a zero = refl
 length-pieces f wide a (suc n) =
     let rest = length-pieces f wide (a + 1) n in

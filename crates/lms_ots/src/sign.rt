@@ -54,7 +54,8 @@ pub fn ots_sign(
     seed: &[u8; 32],
     message: &[u8],
 ) -> Result<Vec<u8>, Memory>
-    ensures value { IfOk result (λ s. s.items ≡ signature_of kind id.now q seed.now message.now) }
+    ensures value { IfOk result (λ s.
+        s.items ≡ signature_of kind id.now q seed.now message.now) }
     ensures len { IfOk result (λ s. vec_len s ≡ signature_len kind) }
 {
     let parameters = kind.parameters();
@@ -80,7 +81,8 @@ pub fn ots_candidate(
     message: &[u8],
     signature: &[u8],
 ) -> Result<[u8; 32], OtsFault>
-    ensures value { IfOk result (λ key. key ≡ candidate_of kind id.now q message.now signature.now) }
+    ensures value { IfOk result (λ key.
+        key ≡ candidate_of kind id.now q message.now signature.now) }
     ensures form { OnOk result ((length signature.now ≡ signature_len kind)
         × (take 4 signature.now ≡ u32str (parameters kind).typecode)) }
 

@@ -1,5 +1,6 @@
 -- The answers of calls, one more.
-use Rattle.std.proofs.Common.{◌≡◌, ℕ, ◌+◌, List, [], ◌∷◌, ◌++◌, Result, Ok, Err, length, map, refl, sym, ap, ◌∙◌, arith, length-append, add-zero}
+use Rattle.std.proofs.Common.{◌≡◌, ℕ, ◌+◌, List, [], ◌∷◌, ◌++◌, Result, Ok, Err, length, map, refl, sym, ap, ◌∙◌}
+use Rattle.std.proofs.Common.{arith}
 use Rattle.std.proofs.lemmas.List.{append-nil, length_push, map_push}
 use Rattle.std.specs.List.{range_with_len}
 use Rattle.std.specs.Prelude.{IfOk, OnOk, OnErr}
@@ -21,17 +22,20 @@ pub accepted_err : {T E : Type 0} → (xs : List (Result T E)) (e : E) → accep
 accepted_err xs e = accepted-append xs (Err e ∷ []) ∙ append-nil (accepted xs)
 
 -- a call of `sign` continues the row of indexes
-pub sign_answered : {V E : Type 0} → (index : V → ℕ) (xs ys : List (Result V E)) (r : Result V E) (start : ℕ) (old new : Secret) → ys ≡ xs ++ r ∷ []
+pub sign_answered : {V E : Type 0}
+    → (index : V → ℕ) (xs ys : List (Result V E)) (r : Result V E) (start : ℕ) (old new : Secret) → ys ≡ xs ++ r ∷ []
     → IfOk r (λ v. index v ≡ old.next) → OnOk r (new ≡ record old { next = old.next + 1 }) → OnErr r (new ≡ old)
     → old.next ≡ start + length (accepted xs) → map index (accepted xs) ≡ range_with_len start (length (accepted xs))
-    → (new.next ≡ start + length (accepted ys)) × (map index (accepted ys) ≡ range_with_len start (length (accepted ys)))
+    → (new.next ≡ start + length (accepted ys))
+    × (map index (accepted ys) ≡ range_with_len start (length (accepted ys)))
 sign_answered {V} {E} index xs ys (Ok v) start old new e at changed kept next row =
     let all : accepted ys ≡ accepted xs ++ v ∷ [] = ap (accepted {T = V} {E = E}) e ∙ accepted_ok xs v in
     let count : length (accepted xs ++ v ∷ []) ≡ length (accepted xs) + 1 = length_push (accepted xs) v in
     let value : index v ≡ start + length (accepted xs) = at ∙ next in
     let one : new.next ≡ old.next + 1 = ap (λ (s : Secret). s.next) changed in (
       rw (all, count) (omega arith),
-      rw (all, count, map_push index (accepted xs) v, row, value) (sym (range_with_len_next start (length (accepted xs)))),
+      rw (all, count, map_push index (accepted xs) v, row, value)
+          (sym (range_with_len_next start (length (accepted xs)))),
     )
 sign_answered {V} {E} index xs ys (Err f) start old new e at changed kept next row =
     let all : accepted ys ≡ accepted xs = ap (accepted {T = V} {E = E}) e ∙ accepted_err xs f in

@@ -7,10 +7,12 @@ module _ (a b c d : List ℕ) where
   first_part n la = rw (append_assoc (a ++ b) c d, append_assoc a b (c ++ d)) (take_at a (b ++ (c ++ d)) n la)
 
   pub second_part : (m n : ℕ) → length a ≡ m → length b ≡ n → take n (drop m (a ++ b ++ c ++ d)) ≡ b
-  second_part m n la lb = rw (append_assoc (a ++ b) c d, append_assoc a b (c ++ d), drop_at a (b ++ (c ++ d)) m la) (take_at b (c ++ d) n lb)
+  second_part m n la lb =
+      rw (append_assoc (a ++ b) c d, append_assoc a b (c ++ d), drop_at a (b ++ (c ++ d)) m la) (take_at b (c ++ d) n lb)
 
   pub third_part : (m n : ℕ) → length a + length b ≡ m → length c ≡ n → take n (drop m (a ++ b ++ c ++ d)) ≡ c
-  third_part m n la lc = rw (append_assoc (a ++ b) c d, drop_at (a ++ b) (c ++ d) m (length-append a b ∙ la)) (take_at c d n lc)
+  third_part m n la lc =
+      rw (append_assoc (a ++ b) c d, drop_at (a ++ b) (c ++ d) m (length-append a b ∙ la)) (take_at c d n lc)
 
   pub fourth_part : (m : ℕ) → length a + length b + length c ≡ m → drop m (a ++ b ++ c ++ d) ≡ d
   fourth_part m l = drop_at (a ++ b ++ c) d m (omega (arith, length-append a b, length-append (a ++ b) c))

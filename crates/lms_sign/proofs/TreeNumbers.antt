@@ -1,9 +1,10 @@
 -- The numbers of nodes.
-use Rattle.std.proofs.Common.{◌≡◌, ℕ, zero, suc, ◌+◌, ◌-◌, ◌*◌, ◌/◌, ◌%◌, ◌^◌, ◌<◌, ◌≤◌, bit_xor, refl, sym, ap, ◌∙◌, inl, inr, arith, add-one}
+use Rattle.std.proofs.Common.{◌≡◌, ℕ, zero, suc, ◌+◌, ◌-◌, ◌*◌, ◌/◌, ◌%◌, ◌^◌, ◌<◌, ◌≤◌, bit_xor, refl, sym, ap, ◌∙◌}
+use Rattle.std.proofs.Common.{inl, inr, arith, add-one}
 use Rattle.std.proofs.Math.Nat.{pow-suc}
 use Rattle.std.proofs.Math.Pow.{pow_mono}
 use Rattle.std.proofs.lemmas.Bool.{cases_lt}
-use Rattle.std.proofs.lemmas.Nat.{div_below, le-div, pow-add, pow_pos, shr-shr, xor_block, xor_comm}
+use Rattle.std.proofs.lemmas.Nat.{div_below, le-div, pow-add, pow_pos, xor_block, xor_comm}
 use Rattle.lms_sign.specs.Tree.{sibling}
 
 xor_bit : (r : ℕ) → r < 2 → bit_xor r 1 + r ≡ 1
@@ -15,7 +16,8 @@ xor_bit (suc (suc r)) h = absurd (omega arith)
 pub xor_one : (n : ℕ) → bit_xor n 1 + 2 * (n % 2) ≡ n + 1
 xor_one n =
     let parts : n / 2 * 2 + n % 2 ≡ n = omega arith in
-    let blocks : bit_xor (n / 2 * 2 + n % 2) 1 ≡ bit_xor (n / 2) 0 * 2 + bit_xor (n % 2) 1 = xor_block 1 (n / 2) 0 (n % 2) 1 (omega arith) (omega arith) in
+    let blocks : bit_xor (n / 2 * 2 + n % 2) 1 ≡ bit_xor (n / 2) 0 * 2 + bit_xor (n % 2) 1 =
+    xor_block 1 (n / 2) 0 (n % 2) 1 (omega arith) (omega arith) in
     let high : bit_xor (n / 2) 0 ≡ n / 2 = xor_comm (n / 2) 0 in
     let low : bit_xor (n % 2) 1 + n % 2 ≡ 1 = xor_bit (n % 2) (omega arith) in
     let whole : bit_xor n 1 ≡ bit_xor (n / 2) 0 * 2 + bit_xor (n % 2) 1 = rw parts at blocks in
@@ -29,7 +31,12 @@ pow_next d = rw add-one (omega (arith, pow-suc 2 d))
 pub is_leaf : (d n h r : ℕ) → d + n ≡ h → 2 ^ h ≤ r → r < 2 * 2 ^ d → (d ≡ h) × (n ≡ 0)
 is_leaf d n h r e low high =
     let same : d ≡ h =
-    elim (cases_lt d h) [ inl lt ↦ absurd (let up : 2 ^ (d + 1) ≤ 2 ^ h = pow_mono (omega arith) in omega (arith, pow_next d)) | inr ge ↦ omega arith ] in
+    elim (cases_lt d h) [
+      | inl lt ↦
+          absurd (let up : 2 ^ (d + 1) ≤ 2 ^ h = pow_mono (omega arith) in omega (arith, pow_next d))
+      | inr ge ↦
+          omega arith
+    ] in
     (same, omega arith)
 
 -- nodes below 2 ^ h aren't
@@ -38,11 +45,15 @@ is_interior d n h r e high low =
     elim (cases_lt d h) [ inl lt ↦ lt | inr ge ↦ absurd (let up : 2 ^ h ≤ 2 ^ d = pow_mono ge in omega arith) ]
 
 -- the node i levels above leaf q has the depth d
-pub above_leaf : (d i h q : ℕ) → d + i ≡ h → q < 2 ^ h → (2 ^ d ≤ (2 ^ h + q) / 2 ^ i) × ((2 ^ h + q) / 2 ^ i < 2 * 2 ^ d)
+pub above_leaf : (d i h q : ℕ) → d + i ≡ h → q < 2 ^ h
+    → (2 ^ d ≤ (2 ^ h + q) / 2 ^ i) × ((2 ^ h + q) / 2 ^ i < 2 * 2 ^ d)
 above_leaf d i h q e below =
     let whole : 2 ^ h ≡ 2 ^ d * 2 ^ i = ap (λ (k : ℕ). 2 ^ k) (sym e) ∙ pow-add 2 d i in
-    let twice : 2 * 2 ^ d * 2 ^ i ≡ 2 * (2 ^ d * 2 ^ i) = omega arith in
-    (le-div (2 ^ d) (2 ^ h + q) (2 ^ i) (pow_pos i) (omega arith), div_below (2 ^ h + q) (2 ^ i) (2 * 2 ^ d) (pow_pos i) (omega arith))
+    let twice : 2 * 2 ^ d * 2 ^ i ≡ 2 * (2 ^ d * 2 ^ i) = omega arith in (
+      le-div (2 ^ d) (2 ^ h + q) (2 ^ i) (pow_pos i) (omega arith),
+      div_below (2 ^ h + q) (2 ^ i) (2 * 2 ^ d)
+          (pow_pos i) (omega arith),
+    )
 
 -- its sibling has that depth too, below the root
 pub beside_leaf : (d i h q : ℕ) → d + i ≡ h → 0 < d → q < 2 ^ h → (2 ^ d ≤ sibling h q i) × (sibling h q i < 2 * 2 ^ d)

@@ -15,7 +15,8 @@ pub fn sign_each(
     messages: &[&[u8]],
 ) -> Result<Vec<Result<Vec<u8>, SignFault>>, Memory>
     ensures answers { IfOk result (λ answers. length answers.items ≡ length messages.now) }
-    ensures indexes { IfOk result (λ answers. map (λ s. index_in s.items) (accepted answers.items)
+    ensures indexes { IfOk result (λ answers.
+        map (λ s. index_in s.items) (accepted answers.items)
         ≡ range_with_len secret.old.next (length (accepted answers.items))) }
     ensures next { IfOk result (λ answers.
         secret.new.next ≡ secret.old.next + length (accepted answers.items)) }

@@ -1,12 +1,11 @@
 -- Bytes say at most one log.
-use Rattle.std.proofs.Common.{◌≡◌, ◌∙◌, ℕ, ◌+◌, ◌<◌, ◌≤◌, ◌⊎◌, inl, inr, List, [], ◌∷◌, ◌++◌, length, Result, Ok, Err}
-use Rattle.std.proofs.Common.{refl, ap, sym, subst, arith, append_assoc, append-nil, length-append}
+use Rattle.std.proofs.Common.{◌≡◌, ◌∙◌, ℕ, ◌+◌, ◌<◌, inl, inr, List, [], ◌∷◌, ◌++◌, length, Result}
+use Rattle.std.proofs.Common.{refl, ap, sym, subst, arith, append_assoc, length-append}
 use Rattle.std.specs.Prelude.{All, codes}
 use Rattle.std.specs.List.{flat_map}
 use Rattle.std.proofs.lemmas.List.Elements.{All-head, All-tail}
 use Rattle.canonical_sexp.specs.declared.sexp.Sexp.{Sexp}
 use Rattle.canonical_sexp.specs.declared.sexp.Sexp.TheVariants.{Atom, List as Branch}
-use Rattle.canonical_sexp.specs.declared.read.Read.{Read}
 use Rattle.canonical_sexp.specs.declared.read.Read.TheVariants as read
 use Rattle.canonical_sexp.specs.Forest.{Forest}
 use Rattle.canonical_sexp.specs.Forms.{list_of}
@@ -22,7 +21,7 @@ use Rattle.entry_format.proofs.Forms.{one_reading}
 use Rattle.log_files.specs.declared.plain_log.End.{End}
 use Rattle.log_files.specs.declared.plain_log.End.TheVariants.{Clean, Torn, Malformed}
 use Rattle.log_files.specs.declared.plain_log.PlainLog.{PlainLog}
-use Rattle.log_files.specs.LogText.{header_tree, IsEnd, AreRecords, IsRecordOf, Gives, EachGives}
+use Rattle.log_files.specs.LogText.{header_tree, IsEnd, IsRecordOf, Gives, EachGives}
 use Rattle.log_files.specs.LogText.{kept_of, refused_of, SaysFrom, Says}
 use Rattle.log_files.proofs.Headers.{header_fits}
 

@@ -7,4 +7,5 @@ use Rattle.lms_ots.proofs.sign.ots_public.Given as goal
 
 abbrev pub invariant-public_elements : goal.invariant-public_elements
 invariant-public_elements l =
-    Holds256 l.key (l.id ++ u32str l.q ++ u16str d_pblc ++ flat_map (public_element l.id l.q l.seed l.last) (range_with_len 0 l.i))
+    Holds256 l.key (l.id ++ u32str l.q ++ u16str d_pblc ++ flat_map (public_element l.id l.q l.seed l.last)
+    (range_with_len 0 l.i))

@@ -7,18 +7,25 @@ use Rattle.lms_ots.proofs.sign.ots_sign.Goals as goal
 
 pub signed_elements-preserved : goal.signed_elements-preserved
 signed_elements-preserved c =
-    let place : c.digit-place.result ≡ coef c.digits_of-digits.result c.signed_elements.i c.parameters-parameters.result.w = cc in
-    let element : c.chain.result ≡ signed_element c.args.id.now c.args.q c.args.seed.now c.digits_of-digits.result c.parameters-parameters.result.w c.signed_elements.i =
-    c.chain.ensures ∙ ap (λ a. chain c.args.id.now c.args.q c.signed_elements.i 0 a c.secret_element-secret.result) place
+    let place : c.digit-place.result ≡ coef c.digits_of-digits.result c.signed_elements.i
+    c.parameters-parameters.result.w = cc in
+    let element : c.chain.result ≡ signed_element c.args.id.now c.args.q c.args.seed.now c.digits_of-digits.result
+    c.parameters-parameters.result.w c.signed_elements.i =
+    c.chain.ensures ∙ ap (λ a. chain c.args.id.now c.args.q c.signed_elements.i 0 a c.secret_element-secret.result)
+    place
     ∙ ap (chain c.args.id.now c.args.q c.signed_elements.i 0 _) c.secret_element-secret.ensures in
     c.in_ok-extend_from_slice-3.ensures.items
     ∙ ap (λ (front : List ℕ). front ++ c.chain.result) c.signed_elements.invariant
-    ∙ joined_next _ c.chain.result (signed_element c.args.id.now c.args.q c.args.seed.now c.digits_of-digits.result c.parameters-parameters.result.w) c.signed_elements.i element
+    ∙ joined_next _ c.chain.result
+    (signed_element c.args.id.now c.args.q c.args.seed.now c.digits_of-digits.result
+    c.parameters-parameters.result.w) c.signed_elements.i element
 
 pub returns-clause-value : goal.returns-clause-value
 returns-clause-value c =
-    signature_is c.args.kind c.parameters-parameters.result c.args.id.now c.args.seed.now c.args.message.now c.digits_of-digits.result c.signed_elements.signature.items c.args.q c.signed_elements.i
-    c.parameters-parameters.ensures.table (omega arith) (rw c.randomizer-c.ensures at c.digits_of-digits.ensures) c.signed_elements.invariant
+    signature_is c.args.kind c.parameters-parameters.result c.args.id.now c.args.seed.now c.args.message.now
+    c.digits_of-digits.result c.signed_elements.signature.items c.args.q c.signed_elements.i
+    c.parameters-parameters.ensures.table (omega arith) (rw c.randomizer-c.ensures at c.digits_of-digits.ensures)
+    c.signed_elements.invariant
 
 pub returns-clause-len : goal.returns-clause-len
 returns-clause-len c =

@@ -6,4 +6,5 @@ use Rattle.lms_ots.proofs.sign.ots_sign.Given as goal
 
 abbrev pub invariant-signed_elements : goal.invariant-signed_elements
 invariant-signed_elements l =
-    l.signature.items ≡ u32str l.parameters.typecode ++ randomizer l.id l.q l.seed ++ flat_map (signed_element l.id l.q l.seed l.digits l.parameters.w) (range_with_len 0 l.i)
+    l.signature.items ≡ u32str l.parameters.typecode ++ randomizer l.id l.q l.seed
+    ++ flat_map (signed_element l.id l.q l.seed l.digits l.parameters.w) (range_with_len 0 l.i)

@@ -1,4 +1,0 @@
-pub mod DigestText
-pub mod SpanLists
-pub mod LineLemmas
-pub mod TokenLemmas
