@@ -13,19 +13,31 @@ const DIGEST: &str = "19196633800a8ff5b0f231ffc1f2308a4b3bfc7cabc6be3ec874ff226b
 
 const GAP: &str = "gap ffffffffffffffffffffffffffffffffffffffffffffffffffffffffffffffff\n";
 
-/// A log of an entry, and of one that names it and 32 bytes 0xff.
-fn log_with_a_gap(alloc: Global) -> Result<Vec<u8>, Fail> {
+/// No entry, since its names don't rise.
+const EQUAL_NAMES: &[u8] = b"(6:sealed(5:entry1:132:eeeeeeeeeeeeeeeeeeeeeeeeeeeeeeee1:01:01:1\
+    (32:nnnnnnnnnnnnnnnnnnnnnnnnnnnnnnnn32:nnnnnnnnnnnnnnnnnnnnnnnnnnnnnnnn)(6:opened))9:signature)";
+
+/// The SHA-256 of `EQUAL_NAMES`.
+const REFUSED: &str = "bca88ba140f12485200c12831ffea5f934a799307851fb74542d3b0bd7ad75f0";
+
+const REFUSED_BEARER: &str = "refused x 0 NamesNotRising\n\
+    gap bca88ba140f12485200c12831ffea5f934a799307851fb74542d3b0bd7ad75f0\n";
+
+/// A log of this record, and of an entry that names this digest and maybe 32 bytes 0xff.
+fn log_of(alloc: Global, record: &[u8], digest: &str, more: bool) -> Result<Vec<u8>, Fail> {
     let mut log = Vec::from_slice(alloc, HEADER)?;
     log.extend_from_slice(b"(4:sent")?;
-    log.extend_from_slice(OPENED)?;
+    log.extend_from_slice(record)?;
     log.extend_from_slice(b")(4:sent(6:sealed(5:entry1:132:eeeeeeeeeeeeeeeeeeeeeeeeeeeeeeee")?;
     log.extend_from_slice(b"1:01:11:2(32:")?;
-    let named = hex::decode(alloc, DIGEST).ok();
+    let named = hex::decode(alloc, digest).ok();
     if let Some(digest) = named {
         log.extend_from_slice(digest.as_slice())?;
     }
-    log.extend_from_slice(b"32:")?;
-    log.extend_from_slice(&[255; 32])?;
+    if more {
+        log.extend_from_slice(b"32:")?;
+        log.extend_from_slice(&[255; 32])?;
+    }
     log.extend_from_slice(b")(6:closed))9:signature))")?;
     Ok(log)
 }
@@ -52,10 +64,18 @@ fn run(
 #[test]
 fn each_command_line_has_its_status_and_output(rt: HostRuntime) -> Result<(), Fail> {
     let alloc = rt.alloc();
-    let gap = log_with_a_gap(alloc)?;
+    let gap = log_of(alloc, OPENED, DIGEST, true)?;
+    let bearer = log_of(alloc, EQUAL_NAMES, REFUSED, false)?;
     for (words, log, status, output) in [
         ("gaps x", HEADER, Status::Done, ""),
         ("gaps x", gap.as_slice(), Status::Findings, GAP),
+        // A refused record bears nothing.
+        (
+            "gaps x",
+            bearer.as_slice(),
+            Status::Findings,
+            REFUSED_BEARER,
+        ),
         (
             "gaps x",
             b"(3:log1:11:0)(03:abc)".as_slice(),
@@ -118,7 +138,7 @@ fn a_failing_read_writes_nothing(rt: HostRuntime) -> Result<(), Fail> {
 #[test]
 fn a_failing_write_leaves_a_prefix(rt: HostRuntime) -> Result<(), Fail> {
     let alloc = rt.alloc();
-    let gap = log_with_a_gap(alloc)?;
+    let gap = log_of(alloc, OPENED, DIGEST, true)?;
     // 69 bytes go out, 3 at each of 23 writes, or 34 at the first of three.
     for (greatest, failing, sent) in [
         (3, 1, 0),

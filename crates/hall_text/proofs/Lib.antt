@@ -1,0 +1,4 @@
+pub mod DigestText
+pub mod SpanLists
+pub mod LineLemmas
+pub mod TokenLemmas

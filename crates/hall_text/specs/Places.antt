@@ -1,0 +1,11 @@
+-- Places of a text at which the reader of tokens stands.
+use Rattle.std.specs.Prelude.{◌⊎◌, ℕ, ◌-◌, ◌<◌, List, length, slice_index}
+use Rattle.hall_text.specs.Spans.{IsWordByte, IsParenthesis}
+
+-- no word goes on across the place
+abbrev pub IsBetween : List ℕ → ℕ → Type 0
+IsBetween text at = 0 < at → at < length text → IsWordByte (slice_index text at) → ¬ (IsWordByte (slice_index text (at - 1)))
+
+-- a byte stands there with which a token begins
+abbrev pub BeginsToken : List ℕ → ℕ → Type 0
+BeginsToken text at = IsWordByte (slice_index text at) ⊎ IsParenthesis (slice_index text at)

@@ -1,0 +1,42 @@
+-- Where the tokens and the lines of a text stand.
+use Rattle.std.specs.Prelude.{◌≡◌, ◌≢◌, ◌↔◌, ◌⊎◌, ℕ, ◌+◌, ◌-◌, ◌<◌, ◌≤◌, List, length, slice_index, Contains, AllPairs}
+use Rattle.hall_text.specs.declared.spans.Span.{Span}
+
+-- a byte of a word: from `!` to `~`, and no parenthesis
+abbrev pub IsWordByte : ℕ → Type 0
+IsWordByte byte = (33 ≤ byte) × (byte ≤ 126) × (byte ≢ 40) × (byte ≢ 41)
+
+-- a parenthesis
+abbrev pub IsParenthesis : ℕ → Type 0
+IsParenthesis byte = (byte ≡ 40) ⊎ (byte ≡ 41)
+
+-- the text's bytes from `start` up to and without `end` are a word that goes on at neither side
+pub record IsWord (text : List ℕ) (span : Span) : Type 0 where
+  pub some : span.start < span.end
+  pub inside : span.end ≤ length text
+  pub bytes : (i : ℕ) → span.start ≤ i → i < span.end → IsWordByte (slice_index text i)
+  pub begins : 0 < span.start → ¬ (IsWordByte (slice_index text (span.start - 1)))
+  pub ends : span.end < length text → ¬ (IsWordByte (slice_index text span.end))
+
+-- a parenthesis alone
+pub record IsAlone (text : List ℕ) (span : Span) : Type 0 where
+  pub one : span.end ≡ span.start + 1
+  pub inside : span.end ≤ length text
+  pub byte : IsParenthesis (slice_index text span.start)
+
+-- a token: a word or a parenthesis
+abbrev pub IsToken : List ℕ → Span → Type 0
+IsToken text span = IsWord text span ⊎ IsAlone text span
+
+-- a line, without its newline: it begins at the text's start or behind a newline, has none, and ends before one; or it has some bytes and ends with the text
+pub record IsLine (text : List ℕ) (span : Span) : Type 0 where
+  pub order : span.start ≤ span.end
+  pub inside : span.end ≤ length text
+  pub begins : 0 < span.start → slice_index text (span.start - 1) ≡ 10
+  pub none : (i : ℕ) → span.start ≤ i → i < span.end → slice_index text i ≢ 10
+  pub ends : ((span.end < length text) × (slice_index text span.end ≡ 10)) ⊎ ((span.end ≡ length text) × (span.start < span.end))
+
+-- the list has exactly the spans of which the fact holds, in their order
+pub record AreAll (P : Span → Type 0) (spans : List Span) : Type 0 where
+  pub ordered : AllPairs (λ (a b : Span). a.start < b.start) spans
+  pub exactly : (span : Span) → Contains spans span ↔ P span

@@ -1,0 +1,26 @@
+//! Words that stand for values.
+ghost use Rattle.std.specs.Prelude.{◌≡◌};
+ghost use Rattle.canonical_sexp.specs.Forms.{Finds};
+ghost use Rattle.hex.specs.Hex.{encode_lower, IsBytes};
+ghost use Rattle.hall_text.specs.Words.{IsDigestText};
+
+use hex::{FromHex, encode_to_slice};
+
+/// How many bytes a digest has.
+const DIGEST: usize = 32;
+
+/// The digest of 32 bytes that the word is, in exactly 64 lower-case hexadecimal digits. Of any
+/// other word `None`. It takes no memory.
+pub fn digest_hex(word: &[u8]) -> Option<[u8; 32]>
+    ensures { Finds (IsDigestText word.now) result }
+{
+    let digest = <[u8; DIGEST] as FromHex>::from_hex(word).ok()?;
+    // Upper-case digits are read too, so the digest is written back and compared.
+    let mut text = [0; 2 * DIGEST];
+    encode_to_slice(digest.as_slice(), &mut text).ok()?;
+    if text.as_slice() == word {
+        Some(digest)
+    } else {
+        None
+    }
+}
