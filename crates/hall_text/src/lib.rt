@@ -1,11 +1,10 @@
-//! The words, numbers and lines of the texts that people write by hand: scripts and rules. Each
-//! reader says exactly what it accepts, and what it doesn't.
+//! The words and lines of the texts that people write by hand: scripts and rules. Each reader says
+//! exactly what it accepts, and what it doesn't.
 #![tactic(auto)]
 
 mod spans;
 mod words;
 
-pub use canonical_sexp::number_of as decimal;
 pub use spans::{Memory, Span, lines, tokens};
 pub use words::digest_hex;
 

@@ -1,27 +1,7 @@
 //! The readers on examples: each accepted form, and the nearest that is refused.
-use crate::{Span, decimal, digest_hex, lines, tokens};
+use crate::{Span, digest_hex, lines, tokens};
 use std::alloc::Global;
 use std::test::Fail;
-
-#[test]
-fn decimals_are_canonical_and_fit(rt: HostRuntime) {
-    for (word, want) in [
-        ("0", Some(0)),
-        ("7", Some(7)),
-        ("4294967295", Some(4_294_967_295)),
-        ("4294967296", None),
-        ("42949672950", None),
-        ("01", None),
-        ("00", None),
-        ("", None),
-        ("-1", None),
-        ("+1", None),
-        ("1 ", None),
-        ("1x", None),
-    ] {
-        assert_eq!(rt; decimal(word.as_bytes()), want, "of {word}");
-    }
-}
 
 #[test]
 fn digests_are_lower_case_and_whole(rt: HostRuntime) {
