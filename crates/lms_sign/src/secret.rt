@@ -34,8 +34,8 @@ impl From<AllocError> for SignFault {
 }
 
 /// A secret key that signs with the indexes 0, 1, 2 and so on, each once. All nodes of its tree are
-/// kept from its making on.
-#[derive(Debug, Drop)]
+/// kept from its making on. It can't be printed, so that its seed isn't printed by accident.
+#[derive(Drop)]
 pub struct LmsSecret {
     kind: OtsKind,
     height: u32,
