@@ -1,5 +1,5 @@
 -- Which members a list has.
-use Rattle.std.proofs.Common.{◌≡◌, ℕ, Bool, true, false, cond, List, [], ◌∷◌, ◌⊎◌, inl, inr, refl, subst, arith, lit<}
+use Rattle.std.proofs.Common.{◌≡◌, ℕ, Bool, true, false, cond, List, [], ◌∷◌, ◌⊎◌, inl, inr, refl, sym, subst, arith, lit<}
 use Rattle.std.specs.Prelude.{Any, Contains, IsTrue, ◌↔◌, nat_eq, filter}
 use Rattle.std.specs.List.{list_any}
 use Rattle.std.proofs.lemmas.Bool.{eqb-true, eq-eqb}
@@ -25,9 +25,9 @@ first_in y xs = (0, omega arith, refl)
 
 in_cons : {X : Type 0} (y : X) (xs : List X) (x : X) → Contains (y ∷ xs) x → (y ≡ x) ⊎ Contains xs x
 in_cons y xs x at = elim (Contains-append_cases (y ∷ []) xs x at) [
-  inl first ↦ elim (Contains-push_cases [] y x first) [ inl none ↦ absurd (omega arith) | inr same ↦ inl same ]
+  | inl first ↦ elim (Contains-push_cases [] y x first) [ inl none ↦ absurd (omega arith) | inr same ↦ inl same ]
   | inr later ↦ inr later
-  ]
+]
 
 -- a filter keeps the members that pass
 is_kept_by : {X : Type 0} (p : X → Bool) (y : X) (xs : List X) (x : X) (passes : Bool) → p y ≡ passes →
@@ -35,12 +35,12 @@ is_kept_by : {X : Type 0} (p : X → Bool) (y : X) (xs : List X) (x : X) (passes
     Contains (cond passes (y ∷ filter p xs) (filter p xs)) x ↔ (Contains (y ∷ xs) x × (p x ≡ true))
 is_kept_by p y xs x true is rest = (
   λ at. elim (in_cons y (filter p xs) x at) [
-    inl same ↦ (subst (Contains (y ∷ xs)) same (first_in y xs), cc)
-  | inr later ↦ (Contains-append_right (y ∷ []) xs x (rest.0 later).0, (rest.0 later).1)
+    | inl same ↦ (subst (Contains (y ∷ xs)) same (first_in y xs), cc)
+    | inr later ↦ (Contains-append_right (y ∷ []) xs x (rest.0 later).0, (rest.0 later).1)
   ],
   λ at. elim (in_cons y xs x at.0) [
-    inl same ↦ subst (Contains (y ∷ filter p xs)) same (first_in y (filter p xs))
-  | inr later ↦ Contains-append_right (y ∷ []) (filter p xs) x (rest.1 (later, at.1))
+    | inl same ↦ subst (Contains (y ∷ filter p xs)) same (first_in y (filter p xs))
+    | inr later ↦ Contains-append_right (y ∷ []) (filter p xs) x (rest.1 (later, at.1))
   ],
 )
 is_kept_by p y xs x false is rest = (
@@ -52,3 +52,11 @@ pub is_kept : {X : Type 0} (p : X → Bool) (xs : List X) (x : X) →
     Contains (filter p xs) x ↔ (Contains xs x × (p x ≡ true))
 is_kept p [] x = (λ at. absurd (omega arith), λ at. at.0)
 is_kept p (y ∷ xs) x = is_kept_by p y xs x (p y) refl (is_kept p xs x)
+
+-- the same, where the slice is lent of a vector
+pub is_listed : (test : Bool) (lent xs : List ℕ) (x : ℕ) → test ≡ list_any (λ y. nat_eq y x) lent → lent ≡ xs →
+    IsTrue test ↔ Contains xs x
+is_listed test lent xs x answer same =
+    let P : Bool → Type 0 = λ t. IsTrue t ↔ Contains xs x in
+    let Q : List ℕ → Type 0 = λ l. IsTrue (list_any (λ y. nat_eq y x) l) ↔ Contains xs x in
+    subst P (sym answer) (subst Q (sym same) (is_member xs x))

@@ -1,5 +1,5 @@
 -- How far a row of tests is decided.
-use Rattle.std.proofs.Common.{◌≡◌, ◌∙◌, ap, ℕ, ◌+◌, ◌<◌, ◌≤◌, Bool, true, false, List, [], ◌∷◌, length, get_or, drop}
+use Rattle.std.proofs.Common.{◌≡◌, ◌∙◌, ap, ℕ, ◌+◌, ◌<◌, ◌≤◌, Bool, true, false, not, List, [], ◌∷◌, length, get_or, drop}
 use Rattle.std.proofs.Common.{refl, sym, subst, inl, inr}
 use Rattle.std.specs.Prelude.{Result, Ok, Err, IsTrue, ◌↔◌}
 use Rattle.std.proofs.lemmas.List.{drop_more, drop_all}
@@ -52,3 +52,12 @@ first_by_tests (test ∷ tests) [] answer same first = absurd same
 first_by_tests (test ∷ tests) (cause ∷ row) answer same (inl first) = inl (same.0.0 first.0, first.1 ∙ ap Err same.1)
 first_by_tests (test ∷ tests) (cause ∷ row) answer same (inr later) =
     inr (λ applies. later.0 (same.0.1 applies), first_by_tests tests row answer same.2 later.1)
+
+-- two facts that hold alike with a third
+pub iff_trans : {A B C : Type 0} → A ↔ B → B ↔ C → A ↔ C
+iff_trans first second = (λ a. second.0 (first.0 a), λ c. first.1 (second.1 c))
+
+-- the test turned round
+pub is_not : {A : Type 0} (test : Bool) → IsTrue test ↔ A → IsTrue (not test) ↔ (A → ⊥)
+is_not true same = (λ untrue. cc, λ none. absurd (none (same.0 refl)))
+is_not false same = (λ always. λ holds. let untrue : false ≡ true = same.1 holds in cc, λ none. refl)

@@ -1,5 +1,5 @@
 -- Kinds of deeds (VoteBox, USENIX Security 2008).
-use Rattle.std.specs.Prelude.{◌≡◌, ℕ, List}
+use Rattle.std.specs.Prelude.{◌≡◌, ◌⊎◌, ℕ, List}
 use Rattle.entry_format.specs.declared.deed.Deed.{Deed}
 use Rattle.entry_format.specs.declared.deed.Deed.TheVariants.{Opened, Authorise, Override, Closed, Activate, Commit}
 use Rattle.entry_format.specs.declared.deed.Deed.TheVariants.{Cast, Cancel}
@@ -34,13 +34,6 @@ Authorises session deed = (booth : ℕ) × (deed ≡ Authorise booth session)
 abbrev pub Commits : ℕ → Deed → Type 0
 Commits session deed = (ballot : List ℕ) × (deed ≡ Commit session ballot)
 
--- a Cast or a Cancel of the session
+-- a Cast of the session, of whichever ballot, or a Cancel of it
 abbrev pub Ends : ℕ → Deed → Type 0
-Ends session (Cast s ballot) = s ≡ session
-Ends session (Cancel s) = s ≡ session
-Ends session Opened = ⊥
-Ends session (Authorise booth s) = ⊥
-Ends session (Override s) = ⊥
-Ends session Closed = ⊥
-Ends session (Activate s) = ⊥
-Ends session (Commit s ballot) = ⊥
+Ends session deed = ((ballot : List ℕ) × (deed ≡ Cast session ballot)) ⊎ (deed ≡ Cancel session)
