@@ -63,9 +63,15 @@ impl Model for BoothState {
     ghost Value = { Notes };
 
     ghost view = { λ s. record {
-        owner = s.owner; closed = s.closed; authorised = s.authorised.items;
-        overridden = s.overridden.items; activated = s.activated.items;
-        committed = s.committed.items; ended = s.ended.items; spare = s.spare } };
+      owner = s.owner;
+      closed = s.closed;
+      authorised = s.authorised.items;
+      overridden = s.overridden.items;
+      activated = s.activated.items;
+      committed = s.committed.items;
+      ended = s.ended.items;
+      spare = s.spare;
+    } };
 
     ghost invariant = { λ s. (vec_len s.authorised + s.spare ≤ vec_capacity s.authorised)
         × (vec_len s.overridden + s.spare ≤ vec_capacity s.overridden)
@@ -120,7 +126,12 @@ impl BoothState {
                     push_reserved(&mut self.committed, Commitment { session, ballot });
                 }
             }
-            Deed::Cast { session, .. } | Deed::Cancel { session } => {
+            Deed::Cast { session, .. } => {
+                if own {
+                    push_reserved(&mut self.ended, session);
+                }
+            }
+            Deed::Cancel { session } => {
                 if own {
                     push_reserved(&mut self.ended, session);
                 }
@@ -152,12 +163,18 @@ impl BoothState {
             Deed::Commit { session, .. } => first_of(&[
                 (!self.activated.contains(&session), BoothNot::NotActive),
                 (self.ended.contains(&session), BoothNot::Ended),
-                (has_committed(&self.committed, session), BoothNot::AlreadyCommitted),
+                (
+                    has_committed(&self.committed, session),
+                    BoothNot::AlreadyCommitted,
+                ),
                 (self.overridden.contains(&session), BoothNot::Overridden),
                 (self.closed, BoothNot::Closed),
             ]),
             Deed::Cast { session, ballot } => first_of(&[
-                (!has_commitment(&self.committed, &Commitment { session, ballot }), BoothNot::NotCommitted),
+                (
+                    !has_commitment(&self.committed, &Commitment { session, ballot }),
+                    BoothNot::NotCommitted,
+                ),
                 (self.ended.contains(&session), BoothNot::Ended),
                 (self.overridden.contains(&session), BoothNot::Overridden),
                 (self.closed, BoothNot::Closed),
