@@ -7,6 +7,7 @@ use Rattle.entry_format.specs.declared.deed.Deed.TheVariants.{Opened, Authorise,
 use Rattle.entry_format.specs.declared.deed.Deed.TheVariants.{Cast, Cancel}
 use Rattle.entry_format.specs.declared.entry.Entry.{Entry}
 use Rattle.deed_history.specs.Deeds.{Ends}
+use Rattle.deed_history.proofs.Ending.{no_end}
 use Rattle.deed_history.proofs.Entries.{IsOwnSuch, IsSuchEntry, stays, is_added}
 use Rattle.booth_core.specs.declared.commitment.Commitment.{Commitment}
 use Rattle.booth_core.specs.Causes.{IsAuthorised, IsOverridden, IsClosed, HasActivated, HasCommittedTo, HasEndedOwn}
@@ -23,12 +24,7 @@ pub record IsOther (owner : ℕ) (entry : Entry) : Type 0 where
       IsOwnSuch owner (λ deed. deed ≡ Commit session ballot) entry → ⊥
   pub ended : (session : ℕ) → IsOwnSuch owner (Ends session) entry → ⊥
 
--- a deed that is no end
-pub no_end : (deed : Deed) (session : ℕ) → ((ballot : List ℕ) → deed ≡ Cast session ballot → ⊥) →
-    (deed ≡ Cancel session → ⊥) → Ends session deed → ⊥
-no_end deed session cast cancel (inl one) = cast one.0 one.1
-no_end deed session cast cancel (inr one) = cancel one
-
+-- another entry leaves the marks and lists as they were
 pub noted_other : (notes : Notes) (spare owner : ℕ) (entries : List Entry) (entry : Entry) →
     StandsFor notes owner entries → IsOther owner entry →
     StandsFor (record notes { spare = spare }) owner (entries ++ entry ∷ [])
@@ -179,20 +175,6 @@ noted_ended notes spare owner entries entry session stands ends own =
       ended = λ s. is_added (IsOwnSuch owner (Ends s)) entries entry notes.ended session s (stands.ended s)
           (λ same. (own, (ends s).0 same), λ such. (ends s).1 such.1);
     }
-
-pub cast_ends : (entry : Entry) (session : ℕ) (ballot : List ℕ) → entry.deed ≡ Cast session ballot → (s : ℕ) →
-    (session ≡ s) ↔ Ends s entry.deed
-cast_ends entry session ballot is s = (
-  λ same. inl (ballot, cc),
-  λ ends. elim ends [ inl cast ↦ cc (cast.1) | inr cancel ↦ cc ],
-)
-
-pub cancel_ends : (entry : Entry) (session : ℕ) → entry.deed ≡ Cancel session → (s : ℕ) →
-    (session ≡ s) ↔ Ends s entry.deed
-cancel_ends entry session is s = (
-  λ same. inr cc,
-  λ ends. elim ends [ inl cast ↦ cc (cast.1) | inr cancel ↦ cc ],
-)
 
 -- the deeds that count only where they are the booth's own, and the one that never counts
 abbrev pub CountsIfOwn : Deed → Type 0

@@ -12,6 +12,7 @@ use Rattle.entry_format.specs.declared.deed.Deed.TheVariants.{Cast, Cancel}
 use Rattle.entry_format.specs.declared.entry.Entry.{Entry}
 use Rattle.deed_history.specs.Deeds.{Authorises, Ends}
 use Rattle.deed_history.specs.Held.{HasEnded}
+use Rattle.deed_history.proofs.Ending.{no_end}
 use Rattle.deed_history.proofs.Entries.{IsOwnSuch, IsSuchEntry, any_kept, any_cases, stays, is_marked, is_added}
 use Rattle.deed_history.proofs.Members.{is_kept}
 use Rattle.supervisor_core.specs.declared.running.Running.{Running}
@@ -72,12 +73,6 @@ is_own notes owner entries entry deed stands is = (
   λ same. (eqb-true entry.maker notes.owner same ∙ stands.same_owner, is),
   λ own. eq-eqb entry.maker notes.owner (own.0 ∙ sym stands.same_owner),
 )
-
--- neither of two deeds is an end
-pub no_end : (deed : Deed) (session : ℕ) → ((ballot : List ℕ) → deed ≡ Cast session ballot → ⊥) →
-    (deed ≡ Cancel session → ⊥) → Ends session deed → ⊥
-no_end deed session cast cancel (inl one) = cast one.0 one.1
-no_end deed session cast cancel (inr one) = cancel one
 
 pub noted_opened : (notes : Notes) (spare owner : ℕ) (entries : List Entry) (entry : Entry) →
     StandsFor notes owner entries → entry.deed ≡ Opened →
@@ -274,20 +269,6 @@ noted_end notes spare owner entries entry session stands ends =
           (λ such. no_end (Authorise b s) session (λ ballot e. cc) (λ e. cc) (only (Authorise b s) such.1));
       ended = λ s. is_added (IsSuchEntry (Ends s)) entries entry notes.ended session s (stands.ended s) (ends s);
     }
-
-pub cast_ends : (entry : Entry) (session : ℕ) (ballot : List ℕ) → entry.deed ≡ Cast session ballot → (s : ℕ) →
-    (session ≡ s) ↔ Ends s entry.deed
-cast_ends entry session ballot is s = (
-  λ same. inl (ballot, cc),
-  λ ends. elim ends [ inl cast ↦ cc (cast.1) | inr cancel ↦ cc ],
-)
-
-pub cancel_ends : (entry : Entry) (session : ℕ) → entry.deed ≡ Cancel session → (s : ℕ) →
-    (session ≡ s) ↔ Ends s entry.deed
-cancel_ends entry session is s = (
-  λ same. inr cc,
-  λ ends. elim ends [ inl cast ↦ cc (cast.1) | inr cancel ↦ cc ],
-)
 
 -- a deed that isn't the supervisor's business, whoever did it
 abbrev pub IsOtherDeed : Deed → Type 0

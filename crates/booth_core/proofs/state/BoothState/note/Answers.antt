@@ -1,9 +1,9 @@
 use Rattle.std.proofs.Common.{◌≡◌, ◌∙◌, ap, sym, subst}
 use Rattle.entry_format.specs.declared.deed.Deed.TheVariants.{Authorise, Activate, Commit, Cast, Cancel}
+use Rattle.deed_history.proofs.Ending.{cast_ends, cancel_ends}
 use Rattle.booth_core.specs.State.{StandsFor}
 use Rattle.booth_core.proofs.Noted.{noted_other, noted_authorised, noted_overridden, noted_closed, noted_activated}
 use Rattle.booth_core.proofs.Noted.{noted_committed, noted_ended, other_of_another, other_opened, other_booth}
-use Rattle.booth_core.proofs.Noted.{cast_ends, cancel_ends}
 use Rattle.booth_core.proofs.state.BoothState.note.Goals as goal
 
 pub returns-then-booth-self-clause-kept : goal.returns-then-booth-self-clause-kept

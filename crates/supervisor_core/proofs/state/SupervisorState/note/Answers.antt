@@ -1,10 +1,11 @@
 use Rattle.std.proofs.Common.{◌≡◌, ◌∙◌, ℕ, true, inl, inr, sym, subst}
 use Rattle.entry_format.specs.declared.deed.Deed.TheVariants.{Override, Activate, Commit}
 use Rattle.deed_history.specs.Held.{HasEnded}
+use Rattle.deed_history.proofs.Ending.{no_end, cast_ends, cancel_ends}
 use Rattle.deed_history.proofs.Members.{is_listed}
 use Rattle.supervisor_core.specs.State.{StandsFor}
 use Rattle.supervisor_core.proofs.Noted.{noted_opened, noted_closed, noted_other, noted_running, noted_ended_before}
-use Rattle.supervisor_core.proofs.Noted.{noted_end, other_deed, no_end, cast_ends, cancel_ends}
+use Rattle.supervisor_core.proofs.Noted.{noted_end, other_deed}
 use Rattle.supervisor_core.proofs.state.SupervisorState.note.Goals as goal
 
 pub returns-in-Opened-clause-kept : goal.returns-in-Opened-clause-kept
