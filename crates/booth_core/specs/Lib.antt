@@ -1,0 +1,4 @@
+pub mod Notes
+pub mod Causes
+pub mod Table
+pub mod State

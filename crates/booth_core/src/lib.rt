@@ -1,0 +1,11 @@
+//! What a booth of a polling place may do, and the first cause against it. A history is the list
+//! of the entries that the booth holds; the causes are sentences over it in `specs/`.
+#![tactic(auto)]
+
+mod commitment;
+mod state;
+
+pub use state::{BoothNot, BoothState, Memory};
+
+#[cfg(test)]
+mod tests;

@@ -1,0 +1,4 @@
+pub mod Rows
+pub mod Entries
+pub mod Ending
+pub mod Members

@@ -1,0 +1,62 @@
+-- Which members a list has.
+use Rattle.std.proofs.Common.{◌≡◌, ℕ, Bool, true, false, cond, List, [], ◌∷◌, ◌⊎◌, inl, inr, refl, sym, subst, arith, lit<}
+use Rattle.std.specs.Prelude.{Any, Contains, IsTrue, ◌↔◌, nat_eq, filter}
+use Rattle.std.specs.List.{list_any}
+use Rattle.std.proofs.lemmas.Bool.{eqb-true, eq-eqb}
+use Rattle.std.proofs.lemmas.List.Folds.{Any-from_list_any, list_any-from_Any}
+use Rattle.std.proofs.lemmas.List.Elements.{Contains-append_right, Contains-append_cases, Contains-push_cases}
+use Rattle.std.proofs.lemmas.List.Elements.{Contains-push}
+
+-- a place where the member stands
+at_place : (xs : List ℕ) (x y : ℕ) → Contains xs y → y ≡ x → Contains xs x
+at_place xs x y at same = subst (Contains xs) same at
+
+-- the answer of a slice's `contains`
+pub is_member : (xs : List ℕ) (x : ℕ) → IsTrue (list_any (λ y. nat_eq y x) xs) ↔ Contains xs x
+is_member xs x = (
+  λ found.
+      let any : Any (λ y. nat_eq y x ≡ true) xs = Any-from_list_any (λ y. nat_eq y x) xs found in
+      at_place xs x any.1 (any.0, any.2, any.3) (eqb-true any.1 x any.4),
+  λ at. list_any-from_Any (λ y. nat_eq y x) xs (at.0, x, at.1, at.2, eq-eqb x x refl),
+)
+
+first_in : {X : Type 0} (y : X) (xs : List X) → Contains (y ∷ xs) y
+first_in y xs = (0, omega arith, refl)
+
+in_cons : {X : Type 0} (y : X) (xs : List X) (x : X) → Contains (y ∷ xs) x → (y ≡ x) ⊎ Contains xs x
+in_cons y xs x at = elim (Contains-append_cases (y ∷ []) xs x at) [
+  | inl first ↦ elim (Contains-push_cases [] y x first) [ inl none ↦ absurd (omega arith) | inr same ↦ inl same ]
+  | inr later ↦ inr later
+]
+
+-- a filter keeps the members that pass
+is_kept_by : {X : Type 0} (p : X → Bool) (y : X) (xs : List X) (x : X) (passes : Bool) → p y ≡ passes →
+    Contains (filter p xs) x ↔ (Contains xs x × (p x ≡ true)) →
+    Contains (cond passes (y ∷ filter p xs) (filter p xs)) x ↔ (Contains (y ∷ xs) x × (p x ≡ true))
+is_kept_by p y xs x true is rest = (
+  λ at. elim (in_cons y (filter p xs) x at) [
+    | inl same ↦ (subst (Contains (y ∷ xs)) same (first_in y xs), cc)
+    | inr later ↦ (Contains-append_right (y ∷ []) xs x (rest.0 later).0, (rest.0 later).1)
+  ],
+  λ at. elim (in_cons y xs x at.0) [
+    | inl same ↦ subst (Contains (y ∷ filter p xs)) same (first_in y (filter p xs))
+    | inr later ↦ Contains-append_right (y ∷ []) (filter p xs) x (rest.1 (later, at.1))
+  ],
+)
+is_kept_by p y xs x false is rest = (
+  λ at. (Contains-append_right (y ∷ []) xs x (rest.0 at).0, (rest.0 at).1),
+  λ at. elim (in_cons y xs x at.0) [ inl same ↦ absurd (cc (at.1)) | inr later ↦ rest.1 (later, at.1) ],
+)
+
+pub is_kept : {X : Type 0} (p : X → Bool) (xs : List X) (x : X) →
+    Contains (filter p xs) x ↔ (Contains xs x × (p x ≡ true))
+is_kept p [] x = (λ at. absurd (omega arith), λ at. at.0)
+is_kept p (y ∷ xs) x = is_kept_by p y xs x (p y) refl (is_kept p xs x)
+
+-- the same, where the slice is lent of a vector
+pub is_listed : (test : Bool) (lent xs : List ℕ) (x : ℕ) → test ≡ list_any (λ y. nat_eq y x) lent → lent ≡ xs →
+    IsTrue test ↔ Contains xs x
+is_listed test lent xs x answer same =
+    let P : Bool → Type 0 = λ t. IsTrue t ↔ Contains xs x in
+    let Q : List ℕ → Type 0 = λ l. IsTrue (list_any (λ y. nat_eq y x) l) ↔ Contains xs x in
+    subst P (sym answer) (subst Q (sym same) (is_member xs x))

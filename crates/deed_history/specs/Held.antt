@@ -1,0 +1,17 @@
+-- What the entries say that a machine holds, sent or received (Auditorium, EVT 2007).
+use Rattle.std.specs.Prelude.{◌≡◌, ℕ, List, Any}
+use Rattle.entry_format.specs.declared.deed.Deed.{Deed}
+use Rattle.entry_format.specs.declared.entry.Entry.{Entry}
+use Rattle.deed_history.specs.Deeds.{Ends}
+
+-- an entry with such a deed is held
+abbrev pub Holds : List Entry → (Deed → Type 0) → Type 0
+Holds entries IsSuch = Any (λ entry. IsSuch entry.deed) entries
+
+-- an own one is held: its maker is the owner of the history
+abbrev pub HoldsOwn : ℕ → List Entry → (Deed → Type 0) → Type 0
+HoldsOwn owner entries IsSuch = Any (λ entry. (entry.maker ≡ owner) × IsSuch entry.deed) entries
+
+-- a session has ended where a Cast or a Cancel of it is held
+abbrev pub HasEnded : List Entry → ℕ → Type 0
+HasEnded entries session = Holds entries (Ends session)

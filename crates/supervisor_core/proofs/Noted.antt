@@ -1,0 +1,291 @@
+-- The state after one entry more.
+use Rattle.std.proofs.Common.{◌≡◌, ℕ, Bool, true, false, not, ◌||◌, List, [], ◌∷◌, ◌++◌, ◌⊎◌, inl, inr, nat_eq}
+use Rattle.std.proofs.Common.{refl, sym, subst, ap, ◌∙◌}
+use Rattle.std.specs.Prelude.{Any, Contains, IsTrue, ◌↔◌, ◌==◌, filter}
+use Rattle.std.proofs.lemmas.Bool.{eqb-true, eq-eqb}
+use Rattle.std.proofs.lemmas.Bool.Decides.{eqb_tells}
+use Rattle.std.proofs.lemmas.List.Quantifiers.{Any-push}
+use Rattle.std.proofs.lemmas.List.Elements.{Contains-push, Contains-push_cases, Contains-append_left}
+use Rattle.entry_format.specs.declared.deed.Deed.{Deed}
+use Rattle.entry_format.specs.declared.deed.Deed.TheVariants.{Opened, Authorise, Override, Closed, Activate, Commit}
+use Rattle.entry_format.specs.declared.deed.Deed.TheVariants.{Cast, Cancel}
+use Rattle.entry_format.specs.declared.entry.Entry.{Entry}
+use Rattle.deed_history.specs.Deeds.{Authorises, Ends}
+use Rattle.deed_history.specs.Held.{HasEnded}
+use Rattle.deed_history.proofs.Ending.{no_end}
+use Rattle.deed_history.proofs.Entries.{IsOwnSuch, IsSuchEntry, any_kept, any_cases, stays, is_marked, is_added}
+use Rattle.deed_history.proofs.Members.{is_kept}
+use Rattle.supervisor_core.specs.declared.running.Running.{Running}
+use Rattle.supervisor_core.specs.Causes.{HasOpened, HasClosed, HasAuthorised, IsRunning}
+use Rattle.supervisor_core.specs.Notes.{Notes}
+use Rattle.supervisor_core.specs.State.{StandsFor}
+
+-- the deed is none that the supervisor's state depends on by itself
+pub record IsOther (owner : ℕ) (entry : Entry) : Type 0 where
+  pub opened : IsOwnSuch owner (λ deed. deed ≡ Opened) entry → ⊥
+  pub closed : IsOwnSuch owner (λ deed. deed ≡ Closed) entry → ⊥
+  pub authorised : (booth session : ℕ) → IsOwnSuch owner (λ deed. deed ≡ Authorise booth session) entry → ⊥
+  pub ended : (session : ℕ) → Ends session entry.deed → ⊥
+
+abbrev OwnAuthorise : ℕ → ℕ → ℕ → Entry → Type 0
+OwnAuthorise owner booth session = IsOwnSuch owner (λ deed. deed ≡ Authorise booth session)
+
+-- a running session stays so
+running_stays : (A : Type 0) (owner : ℕ) (entries : List Entry) (entry : Entry) (booth session : ℕ) →
+    A ↔ IsRunning owner entries booth session → (OwnAuthorise owner booth session entry → ⊥) →
+    (Ends session entry.deed → ⊥) → A ↔ IsRunning owner (entries ++ entry ∷ []) booth session
+running_stays A owner entries entry booth session before none lasts = (
+  λ a. (
+    any_kept (OwnAuthorise owner booth session) entries entry (before.0 a).0,
+    λ ended. elim (any_cases (IsSuchEntry (Ends session)) entries entry ended) [
+      | inl old ↦ (before.0 a).1 old
+      | inr new ↦ lasts new
+    ],
+  ),
+  λ after. elim (any_cases (OwnAuthorise owner booth session) entries entry after.0) [
+    | inl old ↦ before.1 (old, λ ended. after.1 (any_kept (IsSuchEntry (Ends session)) entries entry ended))
+    | inr new ↦ absurd (none new)
+  ],
+)
+
+authorises_stays : (owner session : ℕ) (entry : Entry) →
+    ((booth : ℕ) → OwnAuthorise owner booth session entry → ⊥) → IsOwnSuch owner (Authorises session) entry → ⊥
+authorises_stays owner session entry none such = none such.1.0 (such.0, such.1.1)
+
+pub noted_other : (notes : Notes) (spare owner : ℕ) (entries : List Entry) (entry : Entry) →
+    StandsFor notes owner entries → IsOther owner entry →
+    StandsFor (record notes { spare = spare }) owner (entries ++ entry ∷ [])
+noted_other notes spare owner entries entry stands other = record {
+  same_owner = stands.same_owner;
+  opened = stays (IsOwnSuch owner (λ deed. deed ≡ Opened)) entries entry stands.opened other.opened;
+  closed = stays (IsOwnSuch owner (λ deed. deed ≡ Closed)) entries entry stands.closed other.closed;
+  authorised = λ session. stays (IsOwnSuch owner (Authorises session)) entries entry (stands.authorised session)
+      (authorises_stays owner session entry (λ booth. other.authorised booth session));
+  running = λ booth session. running_stays (Contains notes.running (record { booth = booth; session = session })) owner
+      entries entry booth session (stands.running booth session) (other.authorised booth session) (other.ended session);
+  ended = λ session. stays (IsSuchEntry (Ends session)) entries entry (stands.ended session) (other.ended session);
+}
+
+-- the test of the maker
+is_own : (notes : Notes) (owner : ℕ) (entries : List Entry) (entry : Entry) (deed : Deed) → StandsFor notes owner entries →
+    entry.deed ≡ deed → IsTrue (nat_eq entry.maker notes.owner) ↔ IsOwnSuch owner (λ d. d ≡ deed) entry
+is_own notes owner entries entry deed stands is = (
+  λ same. (eqb-true entry.maker notes.owner same ∙ stands.same_owner, is),
+  λ own. eq-eqb entry.maker notes.owner (own.0 ∙ sym stands.same_owner),
+)
+
+pub noted_opened : (notes : Notes) (spare owner : ℕ) (entries : List Entry) (entry : Entry) →
+    StandsFor notes owner entries → entry.deed ≡ Opened →
+    StandsFor (record notes { opened = notes.opened || nat_eq entry.maker notes.owner; spare = spare }) owner
+    (entries ++ entry ∷ [])
+noted_opened notes spare owner entries entry stands is = record {
+  same_owner = stands.same_owner;
+  opened = is_marked (IsOwnSuch owner (λ deed. deed ≡ Opened)) entries entry notes.opened
+      (nat_eq entry.maker notes.owner) stands.opened (is_own notes owner entries entry Opened stands is);
+  closed = stays (IsOwnSuch owner (λ deed. deed ≡ Closed)) entries entry stands.closed (λ such. cc);
+  authorised = λ session. stays (IsOwnSuch owner (Authorises session)) entries entry (stands.authorised session)
+      (λ such. cc (such.1.1));
+  running = λ booth session. running_stays (Contains notes.running (record { booth = booth; session = session })) owner
+      entries entry booth session (stands.running booth session) (λ such. cc)
+      (no_end entry.deed session (λ ballot e. cc) (λ e. cc));
+  ended = λ session. stays (IsSuchEntry (Ends session)) entries entry (stands.ended session)
+      (no_end entry.deed session (λ ballot e. cc) (λ e. cc));
+}
+
+pub noted_closed : (notes : Notes) (spare owner : ℕ) (entries : List Entry) (entry : Entry) →
+    StandsFor notes owner entries → entry.deed ≡ Closed →
+    StandsFor (record notes { closed = notes.closed || nat_eq entry.maker notes.owner; spare = spare }) owner
+    (entries ++ entry ∷ [])
+noted_closed notes spare owner entries entry stands is = record {
+  same_owner = stands.same_owner;
+  opened = stays (IsOwnSuch owner (λ deed. deed ≡ Opened)) entries entry stands.opened (λ such. cc);
+  closed = is_marked (IsOwnSuch owner (λ deed. deed ≡ Closed)) entries entry notes.closed
+      (nat_eq entry.maker notes.owner) stands.closed (is_own notes owner entries entry Closed stands is);
+  authorised = λ session. stays (IsOwnSuch owner (Authorises session)) entries entry (stands.authorised session)
+      (λ such. cc (such.1.1));
+  running = λ booth session. running_stays (Contains notes.running (record { booth = booth; session = session })) owner
+      entries entry booth session (stands.running booth session) (λ such. cc)
+      (no_end entry.deed session (λ ballot e. cc) (λ e. cc));
+  ended = λ session. stays (IsSuchEntry (Ends session)) entries entry (stands.ended session)
+      (no_end entry.deed session (λ ballot e. cc) (λ e. cc));
+}
+
+abbrev run : ℕ → ℕ → Running
+run booth session = record { booth = booth; session = session }
+
+-- whether a session has ended doesn't change
+lasts_before : (entries : List Entry) (entry : Entry) (session : ℕ) → (HasEnded (entries ++ entry ∷ []) session → ⊥) →
+    HasEnded entries session → ⊥
+lasts_before entries entry session lasts ended = lasts (any_kept (IsSuchEntry (Ends session)) entries entry ended)
+
+lasts_after : (entries : List Entry) (entry : Entry) (session : ℕ) → (HasEnded entries session → ⊥) →
+    (Ends session entry.deed → ⊥) → HasEnded (entries ++ entry ∷ []) session → ⊥
+lasts_after entries entry session lasts none ended = elim (any_cases (IsSuchEntry (Ends session)) entries entry ended) [
+  | inl old ↦ lasts old
+  | inr new ↦ none new
+]
+
+-- one session more
+running_added : (notes : Notes) (owner : ℕ) (entries : List Entry) (entry : Entry) (booth session b s : ℕ) →
+    StandsFor notes owner entries → entry.deed ≡ Authorise booth session → entry.maker ≡ owner →
+    (HasEnded entries session → ⊥) →
+    Contains (notes.running ++ run booth session ∷ []) (run b s) ↔ IsRunning owner (entries ++ entry ∷ []) b s
+running_added notes owner entries entry booth session b s stands is own lasts =
+    let none : Ends s entry.deed → ⊥ = no_end entry.deed s (λ ballot e. cc) (λ e. cc) in (
+      λ at. elim (Contains-push_cases notes.running (run booth session) (run b s) at) [
+        | inl old ↦ (
+          any_kept (OwnAuthorise owner b s) entries entry ((stands.running b s).0 old).0,
+          lasts_after entries entry s ((stands.running b s).0 old).1 none,
+        )
+        | inr new ↦
+            let same_booth : booth ≡ b = ap (λ one. one.booth) new in
+            let same_session : session ≡ s = ap (λ one. one.session) new in
+            let such : OwnAuthorise owner b s entry = (own, cc) in (
+              Any-push (OwnAuthorise owner b s) entries entry such,
+              lasts_after entries entry s (subst (λ n. HasEnded entries n → ⊥) same_session lasts) none,
+            )
+      ],
+      λ after. elim (any_cases (OwnAuthorise owner b s) entries entry after.0) [
+        | inl old ↦ Contains-append_left notes.running (run booth session ∷ []) (run b s)
+            ((stands.running b s).1 (old, lasts_before entries entry s after.1))
+        | inr new ↦
+            let same : Authorise booth session ≡ Authorise b s = cc (new.1) in
+            let same_booth : booth ≡ b = cc in
+            let same_session : session ≡ s = cc in
+            let same_run : run booth session ≡ run b s = cc in
+            subst (Contains (notes.running ++ run booth session ∷ [])) same_run
+            (Contains-push notes.running (run booth session))
+      ],
+    )
+
+-- an authorised session that has ended isn't one more
+running_same : (notes : Notes) (owner : ℕ) (entries : List Entry) (entry : Entry) (booth session b s : ℕ) →
+    StandsFor notes owner entries → entry.deed ≡ Authorise booth session → HasEnded entries session →
+    Contains notes.running (run b s) ↔ IsRunning owner (entries ++ entry ∷ []) b s
+running_same notes owner entries entry booth session b s stands is ended =
+    let none : Ends s entry.deed → ⊥ = no_end entry.deed s (λ ballot e. cc) (λ e. cc) in (
+      λ at. (
+        any_kept (OwnAuthorise owner b s) entries entry ((stands.running b s).0 at).0,
+        lasts_after entries entry s ((stands.running b s).0 at).1 none,
+      ),
+      λ after.
+          let lasts : HasEnded entries s → ⊥ = lasts_before entries entry s after.1 in
+          elim (any_cases (OwnAuthorise owner b s) entries entry after.0) [
+            | inl old ↦ (stands.running b s).1 (old, lasts)
+            | inr new ↦
+                let same : session ≡ s = cc (new.1) in
+                absurd (lasts (subst (HasEnded entries) same ended))
+          ],
+    )
+
+-- the test of `retain`
+other_session : (m n : ℕ) → IsTrue (not (m == n)) → m ≡ n → ⊥
+other_session m n told same = let equal : nat_eq m n ≡ true = eq-eqb m n same in cc
+
+is_other_session : (m n : ℕ) → (m ≡ n → ⊥) → IsTrue (not (m == n))
+is_other_session m n other = elim (eqb_tells m n) [ inl told ↦ absurd (other told.1) | inr told ↦ cc ]
+
+-- one session fewer
+running_ended : (notes : Notes) (owner : ℕ) (entries : List Entry) (entry : Entry) (session b s : ℕ) →
+    StandsFor notes owner entries → (session ≡ s) ↔ Ends s entry.deed → (OwnAuthorise owner b s entry → ⊥) →
+    Contains (filter (λ one. not (one.session == session)) notes.running) (run b s)
+    ↔ IsRunning owner (entries ++ entry ∷ []) b s
+running_ended notes owner entries entry session b s stands ends none =
+    let kept = is_kept (λ one. not (one.session == session)) notes.running (run b s) in (
+      λ at.
+          let before : IsRunning owner entries b s = (stands.running b s).0 (kept.0 at).0 in (
+            any_kept (OwnAuthorise owner b s) entries entry before.0,
+            lasts_after entries entry s before.1 (λ new. other_session s session (kept.0 at).1 (sym (ends.1 new))),
+          ),
+      λ after.
+          let other : s ≡ session → ⊥ = λ same. after.1 (Any-push (IsSuchEntry (Ends s)) entries entry
+          (ends.0 (sym same))) in
+          elim (any_cases (OwnAuthorise owner b s) entries entry after.0) [
+            | inl old ↦ kept.1 (
+              (stands.running b s).1 (old, lasts_before entries entry s after.1),
+              is_other_session s session other,
+            )
+            | inr new ↦ absurd (none new)
+          ],
+    )
+
+-- a session begins, unless it has ended
+pub noted_running : (notes : Notes) (spare owner : ℕ) (entries : List Entry) (entry : Entry) (booth session : ℕ) →
+    StandsFor notes owner entries → entry.deed ≡ Authorise booth session → entry.maker ≡ owner →
+    (HasEnded entries session → ⊥) →
+    StandsFor (record notes {
+      authorised = notes.authorised ++ session ∷ [];
+      running = notes.running ++ record { booth = booth; session = session } ∷ [];
+      spare = spare;
+    }) owner (entries ++ entry ∷ [])
+noted_running notes spare owner entries entry booth session stands is own lasts = record {
+  same_owner = stands.same_owner;
+  opened = stays (IsOwnSuch owner (λ deed. deed ≡ Opened)) entries entry stands.opened (λ such. cc);
+  closed = stays (IsOwnSuch owner (λ deed. deed ≡ Closed)) entries entry stands.closed (λ such. cc);
+  authorised = λ s. is_added (IsOwnSuch owner (Authorises s)) entries entry notes.authorised session s
+      (stands.authorised s) (λ same. (own, (booth, cc)), λ such. cc (such.1.1));
+  running = λ b s. running_added notes owner entries entry booth session b s stands is own lasts;
+  ended = λ s. stays (IsSuchEntry (Ends s)) entries entry (stands.ended s)
+      (no_end entry.deed s (λ ballot e. cc) (λ e. cc));
+}
+
+-- a session that has ended doesn't begin
+pub noted_ended_before : (notes : Notes) (spare owner : ℕ) (entries : List Entry) (entry : Entry) (booth session : ℕ) →
+    StandsFor notes owner entries → entry.deed ≡ Authorise booth session → entry.maker ≡ owner →
+    HasEnded entries session →
+    StandsFor (record notes { authorised = notes.authorised ++ session ∷ []; spare = spare }) owner
+    (entries ++ entry ∷ [])
+noted_ended_before notes spare owner entries entry booth session stands is own ended = record {
+  same_owner = stands.same_owner;
+  opened = stays (IsOwnSuch owner (λ deed. deed ≡ Opened)) entries entry stands.opened (λ such. cc);
+  closed = stays (IsOwnSuch owner (λ deed. deed ≡ Closed)) entries entry stands.closed (λ such. cc);
+  authorised = λ s. is_added (IsOwnSuch owner (Authorises s)) entries entry notes.authorised session s
+      (stands.authorised s) (λ same. (own, (booth, cc)), λ such. cc (such.1.1));
+  running = λ b s. running_same notes owner entries entry booth session b s stands is ended;
+  ended = λ s. stays (IsSuchEntry (Ends s)) entries entry (stands.ended s)
+      (no_end entry.deed s (λ ballot e. cc) (λ e. cc));
+}
+
+-- a session ends
+pub noted_end : (notes : Notes) (spare owner : ℕ) (entries : List Entry) (entry : Entry) (session : ℕ) →
+    StandsFor notes owner entries → ((s : ℕ) → (session ≡ s) ↔ Ends s entry.deed) →
+    StandsFor (record notes {
+      running = filter (λ one. not (one.session == session)) notes.running;
+      ended = notes.ended ++ session ∷ [];
+      spare = spare;
+    }) owner (entries ++ entry ∷ [])
+noted_end notes spare owner entries entry session stands ends =
+    let only = λ (deed : Deed) (is : entry.deed ≡ deed). subst (Ends session) is ((ends session).0 refl) in
+    record {
+      same_owner = stands.same_owner;
+      opened = stays (IsOwnSuch owner (λ deed. deed ≡ Opened)) entries entry stands.opened
+          (λ such. no_end Opened session (λ ballot e. cc) (λ e. cc) (only Opened such.1));
+      closed = stays (IsOwnSuch owner (λ deed. deed ≡ Closed)) entries entry stands.closed
+          (λ such. no_end Closed session (λ ballot e. cc) (λ e. cc) (only Closed such.1));
+      authorised = λ s. stays (IsOwnSuch owner (Authorises s)) entries entry (stands.authorised s)
+          (λ such. no_end (Authorise such.1.0 s) session (λ ballot e. cc) (λ e. cc)
+          (only (Authorise such.1.0 s) such.1.1));
+      running = λ b s. running_ended notes owner entries entry session b s stands (ends s)
+          (λ such. no_end (Authorise b s) session (λ ballot e. cc) (λ e. cc) (only (Authorise b s) such.1));
+      ended = λ s. is_added (IsSuchEntry (Ends s)) entries entry notes.ended session s (stands.ended s) (ends s);
+    }
+
+-- a deed that isn't the supervisor's business, whoever did it
+abbrev pub IsOtherDeed : Deed → Type 0
+IsOtherDeed Opened = ⊥
+IsOtherDeed (Authorise booth session) = ⊥
+IsOtherDeed (Override session) = Unit {0}
+IsOtherDeed Closed = ⊥
+IsOtherDeed (Activate session) = Unit {0}
+IsOtherDeed (Commit session ballot) = Unit {0}
+IsOtherDeed (Cast session ballot) = ⊥
+IsOtherDeed (Cancel session) = ⊥
+
+pub other_deed : (owner : ℕ) (entry : Entry) (deed : Deed) → entry.deed ≡ deed → IsOtherDeed deed → IsOther owner entry
+other_deed owner entry deed is other = record {
+  opened = λ such. subst IsOtherDeed (sym is ∙ such.1) other;
+  closed = λ such. subst IsOtherDeed (sym is ∙ such.1) other;
+  authorised = λ booth session such. subst IsOtherDeed (sym is ∙ such.1) other;
+  ended = λ session. no_end entry.deed session (λ ballot e. subst IsOtherDeed (sym is ∙ e) other)
+      (λ e. subst IsOtherDeed (sym is ∙ e) other);
+}

@@ -1,0 +1,82 @@
+-- The tests of each row are true exactly where its causes apply.
+use Rattle.std.proofs.Common.{◌≡◌, ℕ, suc, inl, inr, ◌+◌, ◌<◌, Bool, true, false, not, List, [], ◌∷◌, length, nat_eq, refl, sym, subst, ap, arith}
+use Rattle.std.specs.Prelude.{Any, Contains, IsTrue, ◌↔◌, Result}
+use Rattle.std.specs.List.{list_any}
+use Rattle.entry_format.specs.declared.deed.Deed.TheVariants.{Opened, Authorise, Override, Closed}
+use Rattle.entry_format.specs.declared.entry.Entry.{Entry}
+use Rattle.deed_history.proofs.Members.{is_member}
+use Rattle.deed_history.proofs.Rows.{first_by_tests, iff_trans, is_not}
+use Rattle.deed_history.specs.Refusals.{IsFirstOf, tests_of}
+use Rattle.supervisor_core.specs.declared.state.SupervisorNot.{SupervisorNot}
+use Rattle.supervisor_core.specs.declared.running.Running.{Running}
+use Rattle.supervisor_core.specs.declared.state.SupervisorNot.TheVariants as cause
+use Rattle.supervisor_core.specs.Causes.{IsBusy, IsRunning, HasSessionsLeft}
+use Rattle.supervisor_core.specs.Notes.{Notes}
+use Rattle.supervisor_core.specs.State.{StandsFor}
+use Rattle.supervisor_core.specs.Table.{causes_of, Refuses}
+
+-- a session at a booth
+abbrev run : ℕ → ℕ → Running
+run session booth = record { booth = booth; session = session }
+
+-- a list has a member exactly where it has a length
+some_member : (running : List Running) → (0 < length running) ↔ ((booth session : ℕ) × Contains running (run session booth))
+some_member [] = (λ some. absurd (omega arith), λ one. absurd (omega arith))
+some_member (one ∷ rest) = (λ some. (one.booth, one.session, (0, omega arith, refl)), λ any. omega arith)
+
+pub authorise_row : (notes : Notes) (owner : ℕ) (entries : List Entry) (booth session : ℕ) (used busy : Bool)
+    (answer : Result (Unit {0}) SupervisorNot) → StandsFor notes owner entries →
+    IsTrue used ↔ Contains notes.authorised session →
+    IsTrue busy ↔ Any (λ session. session.booth ≡ booth) notes.running →
+    IsFirstOf (tests_of ((not notes.opened, cause.NotOpened) ∷ (notes.closed, cause.Closed) ∷ (used, cause.SessionUsed)
+    ∷ (busy, cause.BoothBusy) ∷ [])) answer → Refuses owner entries (Authorise booth session) answer
+authorise_row notes owner entries booth session used busy answer stands listed any =
+    let is_busy : IsTrue busy ↔ IsBusy owner entries booth = (
+      λ told.
+          let one : Any (λ session. session.booth ≡ booth) notes.running = any.0 told in
+          let at : Contains notes.running one.1 = (one.0, one.2, one.3) in
+          let same : one.1 ≡ run one.1.session booth = ap (run one.1.session) one.4 in
+          (one.1.session, (stands.running booth one.1.session).0 (subst (Contains notes.running) same at)),
+      λ one.
+          let at : Contains notes.running (run one.0 booth) = (stands.running booth one.0).1 one.1 in
+          any.1 (at.0, run one.0 booth, at.1, at.2, refl),
+    ) in
+    first_by_tests ((not notes.opened, cause.NotOpened) ∷ (notes.closed, cause.Closed) ∷ (used, cause.SessionUsed)
+    ∷ (busy, cause.BoothBusy) ∷ []) (causes_of owner entries (Authorise booth session)) answer (
+      is_not notes.opened stands.opened,
+      refl,
+      (
+        stands.closed,
+        refl,
+        (iff_trans listed (stands.authorised session), refl, (is_busy, refl, tt)),
+      ),
+    )
+
+pub override_row : (notes : Notes) (owner : ℕ) (entries : List Entry) (session : ℕ) (used over : Bool)
+    (answer : Result (Unit {0}) SupervisorNot) → StandsFor notes owner entries →
+    IsTrue used ↔ Contains notes.authorised session → IsTrue over ↔ Contains notes.ended session →
+    IsFirstOf (tests_of ((not used, cause.NoSession) ∷ (over, cause.SessionEnded) ∷ [])) answer →
+    Refuses owner entries (Override session) answer
+override_row notes owner entries session used over answer stands listed ended =
+    first_by_tests ((not used, cause.NoSession) ∷ (over, cause.SessionEnded) ∷ [])
+    (causes_of owner entries (Override session)) answer (
+      is_not used (iff_trans listed (stands.authorised session)),
+      refl,
+      (iff_trans ended (stands.ended session), refl, tt),
+    )
+
+pub closed_row : (notes : Notes) (owner : ℕ) (entries : List Entry) (left : Bool)
+    (answer : Result (Unit {0}) SupervisorNot) → StandsFor notes owner entries →
+    IsTrue left ↔ (0 < length notes.running) →
+    IsFirstOf (tests_of ((not notes.opened, cause.NotOpened) ∷ (notes.closed, cause.Closed)
+    ∷ (left, cause.SessionsLeft) ∷ [])) answer → Refuses owner entries Closed answer
+closed_row notes owner entries left answer stands any =
+    let some : (0 < length notes.running) ↔ HasSessionsLeft owner entries = (
+      λ long.
+          let one : (booth session : ℕ) × Contains notes.running (run session booth) = (some_member notes.running).0 long in
+          (one.0, (one.1, (stands.running one.0 one.1).0 one.2)),
+      λ one. (some_member notes.running).1 (one.0, one.1.0, (stands.running one.0 one.1.0).1 one.1.1),
+    ) in
+    first_by_tests ((not notes.opened, cause.NotOpened) ∷ (notes.closed, cause.Closed) ∷ (left, cause.SessionsLeft) ∷ [])
+    (causes_of owner entries Closed) answer
+    (is_not notes.opened stands.opened, refl, (stands.closed, refl, (iff_trans any some, refl, tt)))

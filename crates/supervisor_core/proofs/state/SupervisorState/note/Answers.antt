@@ -1,0 +1,78 @@
+use Rattle.std.proofs.Common.{◌≡◌, ◌∙◌, ℕ, true, inl, inr, sym, subst}
+use Rattle.entry_format.specs.declared.deed.Deed.TheVariants.{Override, Activate, Commit}
+use Rattle.deed_history.specs.Held.{HasEnded}
+use Rattle.deed_history.proofs.Ending.{no_end, cast_ends, cancel_ends}
+use Rattle.deed_history.proofs.Members.{is_listed}
+use Rattle.supervisor_core.specs.State.{StandsFor}
+use Rattle.supervisor_core.proofs.Noted.{noted_opened, noted_closed, noted_other, noted_running, noted_ended_before}
+use Rattle.supervisor_core.proofs.Noted.{noted_end, other_deed}
+use Rattle.supervisor_core.proofs.state.SupervisorState.note.Goals as goal
+
+pub returns-in-Opened-clause-kept : goal.returns-in-Opened-clause-kept
+returns-in-Opened-clause-kept c = λ owner entries stands.
+    noted_opened _ _ owner entries c.args.entry.now
+    (subst (λ notes. StandsFor notes owner entries) (sym c.self.view_is) stands) c.in-Opened.is
+
+pub returns-in-Closed-clause-kept : goal.returns-in-Closed-clause-kept
+returns-in-Closed-clause-kept c = λ owner entries stands.
+    noted_closed _ _ owner entries c.args.entry.now
+    (subst (λ notes. StandsFor notes owner entries) (sym c.self.view_is) stands) c.in-Closed.is
+
+pub returns-then-not-contains-clause-kept : goal.returns-then-not-contains-clause-kept
+returns-then-not-contains-clause-kept c = λ owner entries stands.
+    let before = subst (λ notes. StandsFor notes owner entries) (sym c.self.view_is) stands in
+    let session : ℕ = c.in-Authorise.session in
+    let listed = is_listed _ _ _ session c.contains.ensures.value c.deref.ensures.value in
+    let lasts : HasEnded entries session → ⊥ = λ ended.
+    let told : c.contains.result ≡ true = listed.1 ((before.ended session).1 ended) in
+    cc in
+    rw (c.push_reserved.ensures.items, c.push_reserved-then-not-contains.ensures.items)
+    (noted_running _ _ owner entries c.args.entry.now c.in-Authorise.booth session before c.in-Authorise.is
+    (c.if-own.true ∙ before.same_owner) lasts)
+
+pub returns-else-not-contains-clause-kept : goal.returns-else-not-contains-clause-kept
+returns-else-not-contains-clause-kept c = λ owner entries stands.
+    let before = subst (λ notes. StandsFor notes owner entries) (sym c.self.view_is) stands in
+    let session : ℕ = c.in-Authorise.session in
+    let listed = is_listed _ _ _ session c.contains.ensures.value c.deref.ensures.value in
+    let ended : HasEnded entries session = (before.ended session).0 (listed.0 c.if-not-contains.false) in
+    rw (c.push_reserved.ensures.items)
+    (noted_ended_before _ _ owner entries c.args.entry.now c.in-Authorise.booth session before c.in-Authorise.is
+    (c.if-own.true ∙ before.same_owner) ended)
+
+pub returns-else-own-clause-kept : goal.returns-else-own-clause-kept
+returns-else-own-clause-kept c = λ owner entries stands.
+    let before = subst (λ notes. StandsFor notes owner entries) (sym c.self.view_is) stands in
+    let other : c.args.entry.now.maker ≡ owner → ⊥ = λ own. c.if-own.false (own ∙ sym before.same_owner) in
+    noted_other _ _ owner entries c.args.entry.now before (record {
+      opened = λ such. other such.0;
+      closed = λ such. other such.0;
+      authorised = λ booth session such. other such.0;
+      ended = λ session. no_end c.args.entry.now.deed session (λ ballot e. cc) (λ e. cc);
+    })
+
+pub returns-in-Override-clause-kept : goal.returns-in-Override-clause-kept
+returns-in-Override-clause-kept c = λ owner entries stands.
+    noted_other _ _ owner entries c.args.entry.now
+    (subst (λ notes. StandsFor notes owner entries) (sym c.self.view_is) stands)
+    (elim c.in-Override.is [
+      | inl one ↦ other_deed owner c.args.entry.now (Override one.0) one.1 tt
+      | inr others ↦ elim others [
+        | inl one ↦ other_deed owner c.args.entry.now (Activate one.0) one.1 tt
+        | inr one ↦ other_deed owner c.args.entry.now (Commit one.0 one.1) one.2 tt
+      ]
+    ])
+
+pub returns-in-Cast-clause-kept : goal.returns-in-Cast-clause-kept
+returns-in-Cast-clause-kept c = λ owner entries stands.
+    rw (c.end_session.ensures.running, c.end_session.ensures.ended)
+    (noted_end _ _ owner entries c.args.entry.now c.in-Cast.session
+    (subst (λ notes. StandsFor notes owner entries) (sym c.self.view_is) stands)
+    (cast_ends c.args.entry.now c.in-Cast.session c.in-Cast.ballot c.in-Cast.is))
+
+pub returns-in-Cancel-clause-kept : goal.returns-in-Cancel-clause-kept
+returns-in-Cancel-clause-kept c = λ owner entries stands.
+    rw (c.end_session-in-Cancel.ensures.running, c.end_session-in-Cancel.ensures.ended)
+    (noted_end _ _ owner entries c.args.entry.now c.in-Cancel.session
+    (subst (λ notes. StandsFor notes owner entries) (sym c.self.view_is) stands)
+    (cancel_ends c.args.entry.now c.in-Cancel.session c.in-Cancel.is))

@@ -1,0 +1,11 @@
+//! What the supervisor of a polling place may do, and the first cause against it. A history is the
+//! list of the entries that the supervisor holds; the causes are sentences over it in `specs/`.
+#![tactic(auto)]
+
+mod running;
+mod state;
+
+pub use state::{Memory, SupervisorNot, SupervisorState};
+
+#[cfg(test)]
+mod tests;
