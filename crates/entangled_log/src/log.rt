@@ -63,7 +63,8 @@ impl<T: Knot> Log<T> {
         })
     }
 
-    /// What the owner puts into the entry that it sends next.
+    /// What the owner puts into the entry that it sends next: how many it has sent, Lamport's
+    /// logical clock (1978), and the frontier. Want of memory is told last.
     pub fn next(&self, alloc: Global) -> Result<Next, NextFault>
         ensures ok { IfOk result (λ next. IsNextOf T.node self.now.events next) }
         ensures spent { (result ≡ Err NextFault.StampSpent)

@@ -10,3 +10,6 @@ mod noting;
 
 pub use entry_order::Knot;
 pub use frontier::{Frontier, Memory};
+
+#[cfg(test)]
+mod tests;
