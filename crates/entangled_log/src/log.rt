@@ -1,0 +1,152 @@
+//! The log of a machine.
+
+ghost use Rattle.std.specs.Prelude.{◌≡◌, ◌↔◌, ◌<◌, ◌≤◌, [], length, Err, IfOk, IsTrue};
+ghost use Rattle.entry_order.specs.declared.event.Event.TheVariants.{Sent};
+ghost use Rattle.entry_order.specs.History.{IsLegal, IsNext, MayFollow, held};
+ghost use Rattle.entry_order.specs.Naming.{IsBorneIn, IsNew};
+ghost use Rattle.entangled_log.specs.declared.next.NextFault.{NextFault};
+ghost use Rattle.entangled_log.specs.Hearing.{IsAnswer, log_after};
+ghost use Rattle.entangled_log.specs.Logs.{with_event};
+ghost use Rattle.entangled_log.specs.Nexts.{HasGreatestStamp, IsNextOf};
+ghost use Rattle.entangled_log.specs.Whole.{NamesOnlyHeld};
+
+use crate::heard::Heard;
+use crate::history::{frontier_at, holds, is_whole, next_stamp, sent_count};
+use crate::next::{Next, NextFault};
+use entry_order::{Event, Knot};
+use log_frontier::Frontier;
+use std::alloc::{AllocError, Global};
+use std::marker::Model;
+
+/// Want of memory.
+pub type Memory = AllocError;
+
+/// The log of the machine `owner`: what it sent and heard, in order, at most `capacity` events.
+/// Auditorium (EVT 2007): an entry that is sent names all that no held entry names.
+#[derive(Drop)]
+pub struct Log<T: Knot> {
+    owner: u32,
+    capacity: usize,
+    events: Vec<Event<T>>,
+    frontier: Frontier,
+}
+
+impl<T: Knot> Model for Log<T> {
+    ghost use Rattle.std.specs.Prelude.{vec_capacity};
+    ghost use Rattle.entangled_log.specs.Logs.{History, IsKept};
+
+    ghost Value = { History T };
+
+    ghost view = { λ l. record {
+      owner = l.owner;
+      capacity = l.capacity;
+      events = l.events.items;
+    } };
+
+    ghost invariant = { λ l.
+        IsKept T.node l.owner l.capacity l.events.items l.frontier (vec_capacity l.events) };
+}
+
+impl<T: Knot> Log<T> {
+    /// A log without events, with room for `capacity` of them.
+    pub fn make(alloc: Global, owner: u32, capacity: usize) -> Result<Log<T>, Memory>
+        ensures { IfOk result (λ log.
+            log ≡ record { owner = owner; capacity = capacity; events = [] }) }
+    {
+        let frontier = Frontier::make(alloc, capacity)?;
+        let events = Vec::with_capacity(alloc, capacity)?;
+        Ok(Log {
+            owner,
+            capacity,
+            events,
+            frontier,
+        })
+    }
+
+    /// What the owner puts into the entry that it sends next: how many it has sent, Lamport's
+    /// logical clock (1978), and the frontier. Want of memory is told last.
+    pub fn next(&self, alloc: Global) -> Result<Next, NextFault>
+        ensures ok { IfOk result (λ next. IsNextOf T.node self.now.events next) }
+        ensures spent { (result ≡ Err NextFault.StampSpent)
+            ↔ HasGreatestStamp T.node (held self.now.events) }
+    {
+        let Some(stamp) = next_stamp(&self.events) else {
+            return Err(NextFault::StampSpent);
+        };
+        Ok(Next {
+            number: sent_count(&self.events) as u32,
+            stamp,
+            names: frontier_at(alloc, &self.events, self.frontier.list())?,
+        })
+    }
+
+    /// Appends an entry of the owner, which is as `next` says. It takes no memory.
+    pub fn push_sent(&mut self, s: T)
+        requires next { IsNext T.node self.old.owner self.old.events s }
+        requires new { IsNew T.node (held self.old.events) s }
+        requires room { length self.old.events < self.old.capacity }
+        ensures { self.new ≡ with_event (Sent s) self.old }
+    {
+        self.append(Event::Sent(s));
+    }
+
+    /// Appends an entry of another machine, unless it can't be taken: then it comes back, and the
+    /// log stays. It takes no memory.
+    pub fn hear(&mut self, s: T) -> Heard<T>
+        ensures answer { IsAnswer T.node self.old s result }
+        ensures log { self.new ≡ log_after result s self.old }
+    {
+        if s.maker() == self.owner {
+            return Heard::Own(s);
+        }
+        if holds(&self.events, s.digest()) {
+            return Heard::Already(s);
+        }
+        if self.events.len() >= self.capacity {
+            return Heard::Full(s);
+        }
+        self.append(Event::Got(s));
+        Heard::Taken
+    }
+
+    // Appends an event, for which there is room.
+    fn append(&mut self, event: Event<T>)
+        requires may { MayFollow T.node self.old.owner self.old.events event }
+        requires room { length self.old.events < self.old.capacity }
+        ensures { self.new ≡ with_event event self.old }
+    {
+        let place = self.events.len();
+        self.events.push_reserved(event);
+        self.frontier.note(&self.events, place);
+    }
+
+    /// Whether every digest that a held entry names is that of a held entry.
+    pub fn is_whole(&self) -> bool
+        ensures { IsTrue result ↔ NamesOnlyHeld T.node (held self.now.events) }
+    {
+        is_whole(&self.events)
+    }
+
+    /// Whether an entry with the digest is held.
+    pub fn holds(&self, digest: &[u8; 32]) -> bool
+        ensures { IsTrue result ↔ IsBorneIn T.node (held self.now.events) digest.now }
+    {
+        holds(&self.events, digest)
+    }
+
+    /// What was sent and heard, in order.
+    pub fn events(&self) -> &[Event<T>]
+        ensures events { result.now ≡ self.now.events }
+        ensures legal { IsLegal T.node self.now.owner self.now.events }
+        ensures within { length self.now.events ≤ self.now.capacity }
+    {
+        &self.events
+    }
+
+    /// The number of the machine whose log this is.
+    pub fn owner(&self) -> u32
+        ensures { result ≡ self.now.owner }
+    {
+        self.owner
+    }
+}
