@@ -73,7 +73,7 @@ cut_is_not_whole text answer (inl is) tree e = cc
 cut_is_not_whole text answer (inr (at, why, is)) tree e = cc
 
 -- a text with rising names has no fault
-no_fault : (text : List ℕ) (fault : EntryFault) → IsFormFault text fault → HasRisingNames text → ⊥
+pub no_fault : (text : List ℕ) (fault : EntryFault) → IsFormFault text fault → HasRisingNames text → ⊥
 no_fault text NotCanonical h (entry, signature, form, rises) = h (signed_tree entry signature, form.within, form.spelt)
 no_fault text WrongShape h (entry, signature, form, rises) = h.1 (entry, signature, form)
 no_fault text NamesNotRising h rising = h.1 rising
@@ -120,7 +120,7 @@ only_not_rising text BadSignature h form = absurd h
 only_not_rising text Memory h form = absurd h
 
 -- at most one fault applies
-one_fault : (text : List ℕ) (fault other : EntryFault) → IsFormFault text fault → IsFormFault text other → fault ≡ other
+pub one_fault : (text : List ℕ) (fault other : EntryFault) → IsFormFault text fault → IsFormFault text other → fault ≡ other
 one_fault text fault NotCanonical h k = only_not_canonical text fault h k
 one_fault text fault WrongShape h k = only_wrong_shape text fault h k.0 k.1
 one_fault text fault NamesNotRising h k = only_not_rising text fault h k.0

@@ -3,6 +3,9 @@
 ghost use Rattle.std.specs.Prelude.{◌≡◌, ℕ, List, Result};
 ghost use Rattle.entry_format.specs.EntryText.{IsSignedText};
 ghost use Rattle.entry_format.specs.Reading.{Reads};
+ghost use Rattle.entry_format.specs.SealedEntry.{SealedEntry};
+ghost use Rattle.entry_format.specs.Unsealing.{Unseals};
+ghost use Rattle.roster.specs.declared.post.Post.{Post};
 ghost use Rattle.entry_format.specs.declared.entry.Entry.{Entry};
 ghost use Rattle.entry_format.specs.declared.plain.Plain.{Plain};
 ghost use Rattle.entry_format.specs.declared.plain.EntryFault.{EntryFault};
@@ -18,4 +21,12 @@ pub fn texts_have_one_entry()
 pub fn one_reading_is_right()
     ensures { (text : List ℕ) (reading other : Result Plain EntryFault) →
         Reads text reading → Reads text other → reading ≡ other }
+{}
+
+/// At most one answer of unsealing is right.
+pub fn one_unsealing_is_right()
+    ensures { (machines : List Post) (election text : List ℕ)
+        (answer other : Result SealedEntry EntryFault) →
+        Unseals machines election text answer → Unseals machines election text other →
+        answer ≡ other }
 {}

@@ -5,14 +5,22 @@
 
 mod deed;
 mod entry;
+mod form;
 mod laws;
 mod plain;
 mod reading;
+mod sealed;
+mod sealing;
+mod unsealing;
+mod writing;
 
 pub use deed::Deed;
 pub use entry::{Entry, Names};
-pub use laws::{one_reading_is_right, texts_have_one_entry};
+pub use laws::{one_reading_is_right, one_unsealing_is_right, texts_have_one_entry};
 pub use plain::{EntryFault, Plain, read_unsigned, read_unsigned_tree};
+pub use sealed::{Memory, Sealed};
+pub use sealing::{SealFault, seal};
+pub use unsealing::{unseal, unseal_tree};
 
 #[cfg(test)]
 mod tests;

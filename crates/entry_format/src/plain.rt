@@ -4,8 +4,8 @@ ghost use Rattle.canonical_sexp.specs.Text.{text_of, Fits};
 ghost use Rattle.entry_format.specs.Reading.{Reads};
 
 use crate::entry::Entry;
-use crate::reading::{entry_of, is_rising, signed_parts};
-use canonical_sexp::{Read, Sexp, read_one};
+use crate::form::{read_form, whole_tree};
+use canonical_sexp::Sexp;
 use entry_order::Knot;
 use sha2::{Digest, Sha256};
 use std::alloc::{AllocError, Global};
@@ -85,14 +85,9 @@ impl Knot for Plain {
 pub fn read_unsigned(alloc: Global, text: &[u8]) -> Result<Plain, EntryFault>
     ensures { result ≢ Err EntryFault.Memory → Reads text.now result }
 {
-    match read_one(alloc, text)? {
-        Read::Whole { value, used } => {
-            if used < text.len() {
-                return Err(EntryFault::NotCanonical);
-            }
-            read_unsigned_tree(alloc, &value, text)
-        }
-        Read::Cut | Read::Bad { .. } => Err(EntryFault::NotCanonical),
+    match whole_tree(alloc, text) {
+        Ok(tree) => read_unsigned_tree(alloc, &tree, text),
+        Err(fault) => Err(fault),
     }
 }
 
@@ -106,15 +101,11 @@ pub fn read_unsigned_tree(alloc: Global, tree: &Sexp, text: &[u8]) -> Result<Pla
     requires text { text.now ≡ text_of tree.now }
     ensures { result ≢ Err EntryFault.Memory → Reads text.now result }
 {
-    let Some((body, _signature)) = signed_parts(tree) else {
-        return Err(EntryFault::WrongShape);
-    };
-    let Some(entry) = entry_of(alloc, body)? else {
-        return Err(EntryFault::WrongShape);
-    };
-    if !is_rising(entry.names.as_slice()) {
-        return Err(EntryFault::NamesNotRising);
+    match read_form(alloc, tree) {
+        Ok(form) => Ok(Plain {
+            entry: form.entry,
+            digest: Sha256::digest(text),
+        }),
+        Err(fault) => Err(fault),
     }
-    let digest = Sha256::digest(text);
-    Ok(Plain { entry, digest })
 }

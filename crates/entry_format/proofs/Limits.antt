@@ -1,0 +1,111 @@
+-- The texts of entries are within the limits of canonical texts.
+use Rattle.std.proofs.Common.{◌≡◌, ℕ, ◌-◌, ◌^◌, ◌<◌, ◌≤◌, List, [], ◌∷◌, ◌++◌, length, map, All, refl, ap, sym, ◌∙◌}
+use Rattle.std.proofs.Common.{arith, append_assoc}
+use Rattle.std.specs.Prelude.{codes}
+use Rattle.std.specs.Fmt.{decimal}
+use Rattle.std.proofs.lemmas.Fmt.{decimal_digit}
+use Rattle.std.proofs.lemmas.List.Elements.{All-head, All-tail}
+use Rattle.canonical_sexp.specs.declared.sexp.Sexp.{Sexp}
+use Rattle.canonical_sexp.specs.declared.sexp.Sexp.TheVariants.{Atom, List as Branch}
+use Rattle.canonical_sexp.specs.Forest.{Forest, no_trees, atom_then, list_then, count_of}
+use Rattle.canonical_sexp.specs.Sexp.{forest_of}
+use Rattle.canonical_sexp.specs.Text.{text_of, texts_of, atom_text, AreWithin, IsWithin, Fits}
+use Rattle.canonical_sexp.proofs.Decimal.{length-decimal-le_20}
+use Rattle.canonical_sexp.proofs.Rows.{AreWithin-one, count_of-one}
+use Rattle.entry_format.specs.declared.deed.Deed.{Deed}
+use Rattle.entry_format.specs.declared.deed.Deed.TheVariants.{Opened, Authorise, Override, Closed, Activate, Commit}
+use Rattle.entry_format.specs.declared.deed.Deed.TheVariants.{Cast, Cancel}
+use Rattle.entry_format.specs.declared.entry.Entry.{Entry}
+use Rattle.entry_format.specs.EntryText.{IsDigest, IsDeed, IsEntry, deed_tree, body_tree, signed_tree}
+
+-- the members of a list
+abbrev members_in : Sexp → Forest
+members_in (Atom octets) = no_trees
+members_in (Branch members) = members
+
+-- what is within a depth is within a greater one
+deeper : (d e : ℕ) (f : Forest) → d ≤ e → AreWithin d f → AreWithin e f
+deeper d e no_trees le h = tt
+deeper d e (atom_then octets rest) le h = (h.0, deeper d e rest le h.1)
+deeper d e (list_then inner rest) le h =
+    (omega arith, h.1, deeper (d - 1) (e - 1) inner (omega arith) h.2, deeper d e rest le h.3)
+
+-- the body of a signed entry within the limits
+pub body_fits : (entry : Entry) (signature : List ℕ) → Fits (signed_tree entry signature) → Fits (body_tree entry)
+body_fits entry signature h = (omega arith, h.2.1.1, deeper 6 7 (members_in (body_tree entry)) (omega arith) h.2.1.2)
+
+short : (n : ℕ) → n < 2 ^ 32 → length (decimal n) ≤ 262144
+short n small = omega (arith, length-decimal-le_20 n (omega arith))
+
+octets_short : (digest : List ℕ) → IsDigest digest → length digest ≤ 262144
+octets_short digest is = omega arith
+
+deed_within : (deed : Deed) → IsDeed deed → IsWithin 6 (deed_tree deed)
+deed_within Opened h = (omega arith, omega arith, (omega arith, tt))
+deed_within (Authorise booth session) h =
+    (omega arith, omega arith, (omega arith, (short booth h.0, (short session h.1, tt))))
+deed_within (Override session) h = (omega arith, omega arith, (omega arith, (short session h, tt)))
+deed_within Closed h = (omega arith, omega arith, (omega arith, tt))
+deed_within (Activate session) h = (omega arith, omega arith, (omega arith, (short session h, tt)))
+deed_within (Commit session ballot) h =
+    (omega arith, omega arith, (omega arith, (short session h.0, (octets_short ballot h.1, tt))))
+deed_within (Cast session ballot) h =
+    (omega arith, omega arith, (omega arith, (short session h.0, (octets_short ballot h.1, tt))))
+deed_within (Cancel session) h = (omega arith, omega arith, (omega arith, (short session h, tt)))
+
+names_within : (names : List (List ℕ)) → All IsDigest names → AreWithin 5 (forest_of (map Atom names))
+names_within [] all = tt
+names_within (name ∷ names) all =
+    (octets_short name (All-head IsDigest name names all), names_within names (All-tail IsDigest name names all))
+
+names_counted : (names : List (List ℕ)) → count_of (forest_of (map Atom names)) ≡ length names
+names_counted [] = refl
+names_counted (name ∷ names) = let rest = names_counted names in omega (arith, rest)
+
+-- an entry with at most 16,384 names and a signature of at most 262,144 octets
+pub signed_fits : (entry : Entry) (signature : List ℕ) → IsEntry entry → length entry.names ≤ 16384 →
+    length signature ≤ 262144 → Fits (signed_tree entry signature)
+signed_fits entry signature h few small =
+    let names : (0 < 6) × (count_of (forest_of (map Atom entry.names)) ≤ 16384)
+    × AreWithin 5 (forest_of (map Atom entry.names)) × AreWithin 6 (forest_of (deed_tree entry.deed ∷ [])) = (
+      omega arith,
+      omega (arith, names_counted entry.names),
+      names_within entry.names h.names,
+      AreWithin-one 6 (deed_tree entry.deed) (deed_within entry.deed h.deed),
+    ) in (
+      omega arith,
+      omega arith,
+      (
+        omega arith,
+        (
+          omega arith,
+          omega (arith, count_of-one (deed_tree entry.deed)),
+          (
+            omega arith,
+            (
+              omega arith,
+              (
+                octets_short entry.election h.election,
+                (short entry.maker h.maker, (short entry.number h.number, (short entry.stamp h.stamp, names))),
+              ),
+            ),
+          ),
+          (small, tt),
+        ),
+      ),
+    )
+
+behind : (inner after more : List ℕ) → (inner ++ 41 ∷ after) ++ more ≡ (inner ++ 41 ∷ []) ++ (after ++ more)
+behind inner after more = append_assoc inner (41 ∷ after) more ∙ sym (append_assoc inner (41 ∷ []) (after ++ more))
+
+-- where the body stands in the signed text
+pub body_stands : (entry : Entry) (signature : List ℕ) →
+    text_of (signed_tree entry signature)
+    ≡ codes "(6:sealed" ++ text_of (body_tree entry) ++ ((atom_text signature ++ []) ++ 41 ∷ [])
+body_stands entry signature =
+    let inner : List ℕ = texts_of (members_in (body_tree entry)) in
+    let after : List ℕ = atom_text signature ++ [] in
+    let word : atom_text (codes "sealed") ≡ codes "6:sealed" =
+    ap (λ (ds : List ℕ). ds ++ 58 ∷ codes "sealed") (decimal_digit 6 (omega arith)) in
+    ap (λ (front : List ℕ). 40 ∷ ((front ++ 40 ∷ (inner ++ 41 ∷ after)) ++ 41 ∷ [])) word
+    ∙ ap (λ (bs : List ℕ). codes "(6:sealed(" ++ bs) (behind inner after (41 ∷ []))

@@ -1,0 +1,35 @@
+use Rattle.std.proofs.Common.{◌≡◌, ◌<◌, length, refl, sym, true≢false, rules, arith}
+use Rattle.canonical_sexp.specs.Text.{text_of}
+use Rattle.entry_format.specs.EntryText.{body_tree}
+use Rattle.entry_format.specs.Unsealing.{key_at}
+use Rattle.entry_format.proofs.Keys.{key_is, signs_same}
+use Rattle.entry_format.proofs.unsealing.valid_key.Goals as goal
+
+-- the signature doesn't verify
+pub returns-then-not-is_signed-clause-err : goal.returns-then-not-is_signed-clause-err
+returns-then-not-is_signed-clause-err c =
+    let entry = c.args.entry.now in
+    let machines = c.args.machines.now in
+    let election : entry.election ≡ c.args.election.now = search rules in
+    let maker : entry.maker < length machines = omega arith in
+    let key = key_is machines entry.maker c.index-machines-maker.result maker in (
+      election,
+      maker,
+      c.if-not-has_index.ensures.0 refl,
+      λ signs. true≢false (sym (c.if-not-is_signed.ensures.1 (signs_same (key_at machines entry.maker) _
+          (text_of (body_tree entry)) _ c.args.signature.now (sym key) (sym c.requires) signs))),
+    )
+
+pub returns-clause-ok : goal.returns-clause-ok
+returns-clause-ok c =
+    let entry = c.args.entry.now in
+    let machines = c.args.machines.now in
+    let election : entry.election ≡ c.args.election.now = search rules in
+    let maker : entry.maker < length machines = omega arith in
+    record {
+      of_election = election;
+      maker = maker;
+      of_maker = key_is machines entry.maker c.index-machines-maker.result maker;
+      index = c.if-not-has_index.ensures.0 refl;
+      signs = signs_same _ _ _ _ c.args.signature.now refl c.requires (c.if-not-is_signed.ensures.0 refl);
+    }

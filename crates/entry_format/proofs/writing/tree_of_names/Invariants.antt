@@ -1,0 +1,12 @@
+use Rattle.std.proofs.Common.{◌≡◌, map, take, All}
+use Rattle.canonical_sexp.specs.declared.sexp.Sexp.TheVariants.{Atom}
+use Rattle.canonical_sexp.specs.Sexp.{members_of}
+use Rattle.entry_format.specs.EntryText.{IsDigest}
+use Rattle.entry_format.proofs.writing.tree_of_names.Given as goal
+
+-- the trees of the digests so far
+abbrev pub invariant-loop-name : goal.invariant-loop-name
+invariant-loop-name l = record {
+  trees : members_of l.members ≡ map Atom (take l.name-index l.names);
+  digests : All IsDigest (take l.name-index l.names);
+}
