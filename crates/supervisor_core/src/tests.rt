@@ -1,5 +1,5 @@
-//! Histories in which each cause applies alone, in which each two causes of a row apply together, and
-//! in which an entry comes near to a cause. The answers are those of another program.
+//! Histories in which each cause applies alone, in which each two causes of a row apply together,
+//! and in which an entry comes near to a cause. The answers are those of another program.
 ghost use Rattle.deed_history.specs.Deeds.{IsSupervisorDeed};
 
 use super::*;
