@@ -26,7 +26,7 @@ fn event(letter: u8) -> (u32, Deed) {
         b'k' => (OWNER, Deed::Cancel { session: 7 }),
         b'q' => (OWNER, Deed::Cancel { session: 8 }),
         b'x' => (OWNER, Deed::Cast { session: 7, ballot }),
-        // The same of another machine.
+        // The same of another maker.
         b'O' => (OWNER, Deed::Override { session: 7 }),
         b'C' => (2, Deed::Closed),
         b'T' => (2, Deed::Activate { session: 7 }),

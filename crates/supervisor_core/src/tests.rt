@@ -23,7 +23,7 @@ fn event(letter: u8) -> (u32, Deed) {
         b'x' => (1, Deed::Cast { session: 7, ballot }),
         b'k' => (1, Deed::Cancel { session: 7 }),
         b'e' => (1, Deed::Cancel { session: 8 }),
-        // The same of another machine.
+        // The same of another maker.
         b'O' => (2, Deed::Opened),
         b'C' => (2, Deed::Closed),
         _ => (2, authorise(2, 7)),
