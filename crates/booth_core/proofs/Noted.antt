@@ -1,6 +1,6 @@
 -- The state after one entry more.
-use Rattle.std.proofs.Common.{◌≡◌, ℕ, Bool, true, List, [], ◌∷◌, ◌++◌, ◌⊎◌, inl, inr, refl, sym, subst, ap, ◌∙◌}
-use Rattle.std.specs.Prelude.{Contains, IsTrue, ◌↔◌}
+use Rattle.std.proofs.Common.{◌≡◌, ℕ, true, List, [], ◌∷◌, ◌++◌, refl, sym, subst, ap, ◌∙◌}
+use Rattle.std.specs.Prelude.{◌↔◌}
 use Rattle.std.proofs.lemmas.List.Quantifiers.{Any-push}
 use Rattle.entry_format.specs.declared.deed.Deed.{Deed}
 use Rattle.entry_format.specs.declared.deed.Deed.TheVariants.{Opened, Authorise, Override, Closed, Activate, Commit}
@@ -10,7 +10,6 @@ use Rattle.deed_history.specs.Deeds.{Ends}
 use Rattle.deed_history.proofs.Ending.{no_end}
 use Rattle.deed_history.proofs.Entries.{IsOwnSuch, IsSuchEntry, stays, is_added}
 use Rattle.booth_core.specs.declared.commitment.Commitment.{Commitment}
-use Rattle.booth_core.specs.Causes.{IsAuthorised, IsOverridden, IsClosed, HasActivated, HasCommittedTo, HasEndedOwn}
 use Rattle.booth_core.specs.Notes.{Notes}
 use Rattle.booth_core.specs.State.{StandsFor}
 
@@ -31,17 +30,22 @@ pub noted_other : (notes : Notes) (spare owner : ℕ) (entries : List Entry) (en
 noted_other notes spare owner entries entry stands other = record {
   same_owner = stands.same_owner;
   closed = stays (IsSuchEntry (λ deed. deed ≡ Closed)) entries entry stands.closed other.closed;
-  authorised = λ s. stays (IsSuchEntry (λ deed. deed ≡ Authorise owner s)) entries entry (stands.authorised s) (other.authorised s);
-  overridden = λ s. stays (IsSuchEntry (λ deed. deed ≡ Override s)) entries entry (stands.overridden s) (other.overridden s);
-  activated = λ s. stays (IsOwnSuch owner (λ deed. deed ≡ Activate s)) entries entry (stands.activated s) (other.activated s);
-  committed = λ s x. stays (IsOwnSuch owner (λ deed. deed ≡ Commit s x)) entries entry (stands.committed s x) (other.committed s x);
+  authorised = λ s. stays (IsSuchEntry (λ deed. deed ≡ Authorise owner s)) entries entry (stands.authorised s)
+      (other.authorised s);
+  overridden = λ s. stays (IsSuchEntry (λ deed. deed ≡ Override s)) entries entry (stands.overridden s)
+      (other.overridden s);
+  activated = λ s. stays (IsOwnSuch owner (λ deed. deed ≡ Activate s)) entries entry (stands.activated s)
+      (other.activated s);
+  committed = λ s x. stays (IsOwnSuch owner (λ deed. deed ≡ Commit s x)) entries entry (stands.committed s x)
+      (other.committed s x);
   ended = λ s. stays (IsOwnSuch owner (Ends s)) entries entry (stands.ended s) (other.ended s);
 }
 
 -- a session is authorised at this booth
 pub noted_authorised : (notes : Notes) (spare owner : ℕ) (entries : List Entry) (entry : Entry) (session : ℕ) →
     StandsFor notes owner entries → entry.deed ≡ Authorise owner session →
-    StandsFor (record notes { authorised = notes.authorised ++ session ∷ []; spare = spare }) owner (entries ++ entry ∷ [])
+    StandsFor (record notes { authorised = notes.authorised ++ session ∷ []; spare = spare }) owner
+    (entries ++ entry ∷ [])
 noted_authorised notes spare owner entries entry session stands is = record {
   same_owner = stands.same_owner;
   closed = stays (IsSuchEntry (λ deed. deed ≡ Closed)) entries entry stands.closed
@@ -61,7 +65,8 @@ noted_authorised notes spare owner entries entry session stands is = record {
 -- a session is overridden
 pub noted_overridden : (notes : Notes) (spare owner : ℕ) (entries : List Entry) (entry : Entry) (session : ℕ) →
     StandsFor notes owner entries → entry.deed ≡ Override session →
-    StandsFor (record notes { overridden = notes.overridden ++ session ∷ []; spare = spare }) owner (entries ++ entry ∷ [])
+    StandsFor (record notes { overridden = notes.overridden ++ session ∷ []; spare = spare }) owner
+    (entries ++ entry ∷ [])
 noted_overridden notes spare owner entries entry session stands is = record {
   same_owner = stands.same_owner;
   closed = stays (IsSuchEntry (λ deed. deed ≡ Closed)) entries entry stands.closed
@@ -100,7 +105,8 @@ noted_closed notes spare owner entries entry stands is = record {
 -- this booth activates a session
 pub noted_activated : (notes : Notes) (spare owner : ℕ) (entries : List Entry) (entry : Entry) (session : ℕ) →
     StandsFor notes owner entries → entry.deed ≡ Activate session → entry.maker ≡ owner →
-    StandsFor (record notes { activated = notes.activated ++ session ∷ []; spare = spare }) owner (entries ++ entry ∷ [])
+    StandsFor (record notes { activated = notes.activated ++ session ∷ []; spare = spare }) owner
+    (entries ++ entry ∷ [])
 noted_activated notes spare owner entries entry session stands is own = record {
   same_owner = stands.same_owner;
   closed = stays (IsSuchEntry (λ deed. deed ≡ Closed)) entries entry stands.closed
@@ -135,9 +141,10 @@ commits entry session s ballot x is own = (
 )
 
 -- this booth commits to a ballot
-pub noted_committed : (notes : Notes) (spare owner : ℕ) (entries : List Entry) (entry : Entry) (session : ℕ) (ballot : List ℕ) →
-    StandsFor notes owner entries → entry.deed ≡ Commit session ballot → entry.maker ≡ owner →
-    StandsFor (record notes { committed = notes.committed ++ record { session = session; ballot = ballot } ∷ []; spare = spare }) owner (entries ++ entry ∷ [])
+pub noted_committed : (notes : Notes) (spare owner : ℕ) (entries : List Entry) (entry : Entry) (session : ℕ)
+    (ballot : List ℕ) → StandsFor notes owner entries → entry.deed ≡ Commit session ballot → entry.maker ≡ owner →
+    StandsFor (record notes { committed = notes.committed ++ to session ballot ∷ []; spare = spare }) owner
+    (entries ++ entry ∷ [])
 noted_committed notes spare owner entries entry session ballot stands is own = record {
   same_owner = stands.same_owner;
   closed = stays (IsSuchEntry (λ deed. deed ≡ Closed)) entries entry stands.closed
@@ -148,8 +155,8 @@ noted_committed notes spare owner entries entry session ballot stands is own = r
       (λ such. cc);
   activated = λ s. stays (IsOwnSuch owner (λ deed. deed ≡ Activate s)) entries entry (stands.activated s)
       (λ such. cc);
-  committed = λ s x. is_added (IsOwnSuch owner (λ deed. deed ≡ Commit s x)) entries entry notes.committed (to session ballot) (to s x)
-      (stands.committed s x) (commits entry session s ballot x is own);
+  committed = λ s x. is_added (IsOwnSuch owner (λ deed. deed ≡ Commit s x)) entries entry
+      notes.committed (to session ballot) (to s x) (stands.committed s x) (commits entry session s ballot x is own);
   ended = λ s. stays (IsOwnSuch owner (Ends s)) entries entry (stands.ended s)
       (λ such. no_end entry.deed s (λ ballot e. cc) (λ e. cc) such.1);
 }

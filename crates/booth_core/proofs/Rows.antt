@@ -1,5 +1,5 @@
 -- The tests of each row are true exactly where its causes apply.
-use Rattle.std.proofs.Common.{◌≡◌, ℕ, Bool, true, false, not, List, [], ◌∷◌, refl, sym, subst, ap}
+use Rattle.std.proofs.Common.{◌≡◌, ℕ, Bool, not, List, [], ◌∷◌, refl, subst, ap}
 use Rattle.std.specs.Prelude.{Any, Contains, IsTrue, ◌↔◌, Result}
 use Rattle.entry_format.specs.declared.deed.Deed.TheVariants.{Activate, Commit, Cast, Cancel}
 use Rattle.entry_format.specs.declared.entry.Entry.{Entry}

@@ -12,5 +12,6 @@ pub record StandsFor (notes : Notes) (owner : ℕ) (entries : List Entry) : Type
   pub overridden : (session : ℕ) → Contains notes.overridden session ↔ IsOverridden entries session
   pub activated : (session : ℕ) → Contains notes.activated session ↔ HasActivated owner entries session
   pub committed : (session : ℕ) (ballot : List ℕ) →
-      Contains notes.committed (record { session = session; ballot = ballot }) ↔ HasCommittedTo owner entries session ballot
+      Contains notes.committed (record { session = session; ballot = ballot })
+      ↔ HasCommittedTo owner entries session ballot
   pub ended : (session : ℕ) → Contains notes.ended session ↔ HasEndedOwn owner entries session

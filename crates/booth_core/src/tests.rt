@@ -1,5 +1,5 @@
-//! Histories in which each cause applies alone, in which each two causes of a row apply together, and
-//! in which an entry comes near to a cause. The answers are those of another program.
+//! Histories in which each cause applies alone, in which each two causes of a row apply together,
+//! and in which an entry comes near to a cause. The answers are those of another program.
 ghost use Rattle.deed_history.specs.Deeds.{IsBoothDeed};
 
 use super::*;
@@ -26,7 +26,7 @@ fn event(letter: u8) -> (u32, Deed) {
         b'k' => (OWNER, Deed::Cancel { session: 7 }),
         b'q' => (OWNER, Deed::Cancel { session: 8 }),
         b'x' => (OWNER, Deed::Cast { session: 7, ballot }),
-        // The same of another machine.
+        // The same of another maker.
         b'O' => (OWNER, Deed::Override { session: 7 }),
         b'C' => (2, Deed::Closed),
         b'T' => (2, Deed::Activate { session: 7 }),

@@ -1,7 +1,7 @@
 -- The state after one entry more.
-use Rattle.std.proofs.Common.{◌≡◌, ℕ, Bool, true, false, not, ◌||◌, List, [], ◌∷◌, ◌++◌, ◌⊎◌, inl, inr, nat_eq}
+use Rattle.std.proofs.Common.{◌≡◌, ℕ, true, not, ◌||◌, List, [], ◌∷◌, ◌++◌, inl, inr, nat_eq}
 use Rattle.std.proofs.Common.{refl, sym, subst, ap, ◌∙◌}
-use Rattle.std.specs.Prelude.{Any, Contains, IsTrue, ◌↔◌, ◌==◌, filter}
+use Rattle.std.specs.Prelude.{Contains, IsTrue, ◌↔◌, ◌==◌, filter}
 use Rattle.std.proofs.lemmas.Bool.{eqb-true, eq-eqb}
 use Rattle.std.proofs.lemmas.Bool.Decides.{eqb_tells}
 use Rattle.std.proofs.lemmas.List.Quantifiers.{Any-push}
@@ -16,7 +16,7 @@ use Rattle.deed_history.proofs.Ending.{no_end}
 use Rattle.deed_history.proofs.Entries.{IsOwnSuch, IsSuchEntry, any_kept, any_cases, stays, is_marked, is_added}
 use Rattle.deed_history.proofs.Members.{is_kept}
 use Rattle.supervisor_core.specs.declared.running.Running.{Running}
-use Rattle.supervisor_core.specs.Causes.{HasOpened, HasClosed, HasAuthorised, IsRunning}
+use Rattle.supervisor_core.specs.Causes.{IsRunning}
 use Rattle.supervisor_core.specs.Notes.{Notes}
 use Rattle.supervisor_core.specs.State.{StandsFor}
 
@@ -67,8 +67,9 @@ noted_other notes spare owner entries entry stands other = record {
 }
 
 -- the test of the maker
-is_own : (notes : Notes) (owner : ℕ) (entries : List Entry) (entry : Entry) (deed : Deed) → StandsFor notes owner entries →
-    entry.deed ≡ deed → IsTrue (nat_eq entry.maker notes.owner) ↔ IsOwnSuch owner (λ d. d ≡ deed) entry
+is_own : (notes : Notes) (owner : ℕ) (entries : List Entry) (entry : Entry) (deed : Deed) →
+    StandsFor notes owner entries → entry.deed ≡ deed →
+    IsTrue (nat_eq entry.maker notes.owner) ↔ IsOwnSuch owner (λ d. d ≡ deed) entry
 is_own notes owner entries entry deed stands is = (
   λ same. (eqb-true entry.maker notes.owner same ∙ stands.same_owner, is),
   λ own. eq-eqb entry.maker notes.owner (own.0 ∙ sym stands.same_owner),

@@ -1,16 +1,14 @@
 -- The tests of each row are true exactly where its causes apply.
-use Rattle.std.proofs.Common.{◌≡◌, ℕ, suc, inl, inr, ◌+◌, ◌<◌, Bool, true, false, not, List, [], ◌∷◌, length, nat_eq, refl, sym, subst, ap, arith}
+use Rattle.std.proofs.Common.{◌≡◌, ℕ, ◌<◌, Bool, not, List, [], ◌∷◌, length, refl, subst, ap, arith}
 use Rattle.std.specs.Prelude.{Any, Contains, IsTrue, ◌↔◌, Result}
-use Rattle.std.specs.List.{list_any}
-use Rattle.entry_format.specs.declared.deed.Deed.TheVariants.{Opened, Authorise, Override, Closed}
+use Rattle.entry_format.specs.declared.deed.Deed.TheVariants.{Authorise, Override, Closed}
 use Rattle.entry_format.specs.declared.entry.Entry.{Entry}
-use Rattle.deed_history.proofs.Members.{is_member}
 use Rattle.deed_history.proofs.Rows.{first_by_tests, iff_trans, is_not}
 use Rattle.deed_history.specs.Refusals.{IsFirstOf, tests_of}
 use Rattle.supervisor_core.specs.declared.state.SupervisorNot.{SupervisorNot}
 use Rattle.supervisor_core.specs.declared.running.Running.{Running}
 use Rattle.supervisor_core.specs.declared.state.SupervisorNot.TheVariants as cause
-use Rattle.supervisor_core.specs.Causes.{IsBusy, IsRunning, HasSessionsLeft}
+use Rattle.supervisor_core.specs.Causes.{IsBusy, HasSessionsLeft}
 use Rattle.supervisor_core.specs.Notes.{Notes}
 use Rattle.supervisor_core.specs.State.{StandsFor}
 use Rattle.supervisor_core.specs.Table.{causes_of, Refuses}
@@ -20,7 +18,8 @@ abbrev run : ℕ → ℕ → Running
 run session booth = record { booth = booth; session = session }
 
 -- a list has a member exactly where it has a length
-some_member : (running : List Running) → (0 < length running) ↔ ((booth session : ℕ) × Contains running (run session booth))
+some_member : (running : List Running) →
+    (0 < length running) ↔ ((booth session : ℕ) × Contains running (run session booth))
 some_member [] = (λ some. absurd (omega arith), λ one. absurd (omega arith))
 some_member (one ∷ rest) = (λ some. (one.booth, one.session, (0, omega arith, refl)), λ any. omega arith)
 
@@ -73,10 +72,12 @@ pub closed_row : (notes : Notes) (owner : ℕ) (entries : List Entry) (left : Bo
 closed_row notes owner entries left answer stands any =
     let some : (0 < length notes.running) ↔ HasSessionsLeft owner entries = (
       λ long.
-          let one : (booth session : ℕ) × Contains notes.running (run session booth) = (some_member notes.running).0 long in
+          let one : (booth session : ℕ) × Contains notes.running (run session booth) =
+          (some_member notes.running).0 long in
           (one.0, (one.1, (stands.running one.0 one.1).0 one.2)),
       λ one. (some_member notes.running).1 (one.0, one.1.0, (stands.running one.0 one.1.0).1 one.1.1),
     ) in
-    first_by_tests ((not notes.opened, cause.NotOpened) ∷ (notes.closed, cause.Closed) ∷ (left, cause.SessionsLeft) ∷ [])
+    first_by_tests ((not notes.opened, cause.NotOpened) ∷ (notes.closed, cause.Closed)
+    ∷ (left, cause.SessionsLeft) ∷ [])
     (causes_of owner entries Closed) answer
     (is_not notes.opened stands.opened, refl, (stands.closed, refl, (iff_trans any some, refl, tt)))

@@ -29,7 +29,8 @@ pub fn is_any_left(running: &[Running]) -> bool
 
 /// Takes the session out, at whichever booth it is.
 fn take_out(running: &mut Vec<Running>, session: u32)
-    ensures items { running.new.items ≡ filter (λ one. not (one.session == session)) running.old.items }
+    ensures items { running.new.items
+        ≡ filter (λ one. not (one.session == session)) running.old.items }
     ensures len { vec_len running.new ≤ vec_len running.old }
     ensures capacity { vec_capacity running.new ≡ vec_capacity running.old }
 {

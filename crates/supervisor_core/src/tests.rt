@@ -1,5 +1,5 @@
-//! Histories in which each cause applies alone, in which each two causes of a row apply together, and
-//! in which an entry comes near to a cause. The answers are those of another program.
+//! Histories in which each cause applies alone, in which each two causes of a row apply together,
+//! and in which an entry comes near to a cause. The answers are those of another program.
 ghost use Rattle.deed_history.specs.Deeds.{IsSupervisorDeed};
 
 use super::*;
@@ -23,7 +23,7 @@ fn event(letter: u8) -> (u32, Deed) {
         b'x' => (1, Deed::Cast { session: 7, ballot }),
         b'k' => (1, Deed::Cancel { session: 7 }),
         b'e' => (1, Deed::Cancel { session: 8 }),
-        // The same of another machine.
+        // The same of another maker.
         b'O' => (2, Deed::Opened),
         b'C' => (2, Deed::Closed),
         _ => (2, authorise(2, 7)),

@@ -1,4 +1,3 @@
-use Rattle.std.proofs.Common.{arith}
 use Rattle.deed_history.proofs.Rows.{decided_more, decided_here, decided_whole}
 use Rattle.deed_history.proofs.refusals.first_of.Goals as goal
 
@@ -14,4 +13,5 @@ loop-applies-preserved g c = decided_more c.args.row.now c.loop-applies.applies-
     c.loop-applies-test.true c.loop-applies-item.is c.if-applies.false c.loop-applies.invariant
 
 pub returns : goal.returns
-returns g c = decided_whole c.args.row.now c.loop-applies.applies-index c.loop-applies-test.false c.loop-applies.invariant
+returns g c = decided_whole c.args.row.now c.loop-applies.applies-index c.loop-applies-test.false
+    c.loop-applies.invariant

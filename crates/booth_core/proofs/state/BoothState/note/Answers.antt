@@ -1,4 +1,4 @@
-use Rattle.std.proofs.Common.{◌≡◌, ◌∙◌, ap, sym, subst}
+use Rattle.std.proofs.Common.{◌∙◌, ap, sym, subst}
 use Rattle.entry_format.specs.declared.deed.Deed.TheVariants.{Authorise, Activate, Commit, Cast, Cancel}
 use Rattle.deed_history.proofs.Ending.{cast_ends, cancel_ends}
 use Rattle.booth_core.specs.State.{StandsFor}
@@ -11,7 +11,8 @@ returns-then-booth-self-clause-kept c = λ owner entries stands.
     let before = subst (λ notes. StandsFor notes owner entries) (sym c.self.view_is) stands in
     rw (c.push_reserved.ensures.items)
     (noted_authorised _ _ owner entries c.args.entry.now c.in-Authorise.session before
-    (c.in-Authorise.is ∙ ap (λ booth. Authorise booth c.in-Authorise.session) (c.if-booth-self.true ∙ before.same_owner)))
+    (c.in-Authorise.is
+    ∙ ap (λ booth. Authorise booth c.in-Authorise.session) (c.if-booth-self.true ∙ before.same_owner)))
 
 pub returns-else-booth-self-clause-kept : goal.returns-else-booth-self-clause-kept
 returns-else-booth-self-clause-kept c = λ owner entries stands.

@@ -1,6 +1,5 @@
 use Rattle.std.proofs.Common.{◌≡◌, ◌<◌, length, sym, subst}
 use Rattle.std.specs.Prelude.{Any, IsTrue, ◌↔◌}
-use Rattle.entry_format.specs.declared.deed.Deed.{Deed}
 use Rattle.deed_history.proofs.Members.{is_listed}
 use Rattle.supervisor_core.specs.State.{StandsFor}
 use Rattle.supervisor_core.specs.Table.{Refuses}
@@ -9,7 +8,7 @@ use Rattle.supervisor_core.proofs.state.SupervisorState.may.Goals as goal
 
 pub returns-in-Authorise : goal.returns-in-Authorise
 returns-in-Authorise c = λ owner entries stands.
-    let busy = subst (λ running. IsTrue c.is_busy.result ↔ Any (λ session. session.booth ≡ c.in-Authorise.booth) running)
+    let busy = subst (λ all. IsTrue c.is_busy.result ↔ Any (λ session. session.booth ≡ c.in-Authorise.booth) all)
     c.deref-in-Authorise.ensures.value c.is_busy.ensures in
     subst (λ deed. Refuses owner entries deed c.first_of-in-Authorise.result) (sym c.in-Authorise.is)
     (authorise_row _ owner entries c.in-Authorise.booth c.in-Authorise.session c.contains.result c.is_busy.result _
