@@ -10,7 +10,8 @@ use Rattle.std.specs.declared.cmp.Ordering.{Ordering}
 use Rattle.std.specs.declared.cmp.Ordering.TheVariants.{Less, Equal, Greater}
 use Rattle.std.proofs.lemmas.Cmp.{nat_list_cmp_total}
 use Rattle.std.proofs.lemmas.Map.Lookups.{exact_bytes}
-use Rattle.std.proofs.lemmas.List.Elements.{All-head, All-tail, All-cons, All-append, All-take, All-drop, All-filter, All-weaker}
+use Rattle.std.proofs.lemmas.List.Elements.{All-head, All-tail, All-cons, All-append}
+use Rattle.std.proofs.lemmas.List.Elements.{All-take, All-drop, All-filter, All-weaker}
 use Rattle.entry_order.specs.Node.{Node}
 use Rattle.entry_order.specs.Naming.{names_digest, is_named, IsNew}
 use Rattle.entry_order.specs.Ascending.{inserted, insert_digest}
@@ -32,11 +33,13 @@ insert_step : (o : Ordering) (d c : List ℕ) (cs : List (List ℕ)) → slice_c
     insert_digest d cs ≡ put_at d cs (low d cs) →
     inserted o d c cs (insert_digest d cs) ≡ put_at d (c ∷ cs) (low d (c ∷ cs))
 insert_step Less d c cs e apart rest =
-    let back : is_lt (slice_cmp nat_cmp c d) ≡ false = ap is_lt (nat_list_cmp_total.antisymm c d ∙ ap ordering_reverse e) in
+    let back : is_lt (slice_cmp nat_cmp c d) ≡ false =
+    ap is_lt (nat_list_cmp_total.antisymm c d ∙ ap ordering_reverse e) in
     sym (ap (λ b. put_at d (c ∷ cs) (cond b (1 + low d cs) 0)) back)
 insert_step Equal d c cs e apart rest = absurd (apart (sym (exact_bytes d c e)))
 insert_step Greater d c cs e apart rest =
-    let back : is_lt (slice_cmp nat_cmp c d) ≡ true = ap is_lt (nat_list_cmp_total.antisymm c d ∙ ap ordering_reverse e) in
+    let back : is_lt (slice_cmp nat_cmp c d) ≡ true =
+    ap is_lt (nat_list_cmp_total.antisymm c d ∙ ap ordering_reverse e) in
     let one : 1 + low d cs ≡ suc (low d cs) = omega arith in
     ap (λ ds. c ∷ ds) rest
     ∙ sym (ap (λ b. put_at d (c ∷ cs) (cond b (1 + low d cs) 0)) back ∙ ap (put_at d (c ∷ cs)) one)
@@ -68,7 +71,8 @@ map_filter f q p [] all = refl
 map_filter f q p (x ∷ xs) all =
     let rest = map_filter f q p xs (All-tail (λ x. q x ≡ p (f x)) x xs all) in
     ap (λ b. map f (cond b (x ∷ filter q xs) (filter q xs))) (All-head (λ x. q x ≡ p (f x)) x xs all)
-    ∙ elim (p (f x)) as (λ b. map f (cond b (x ∷ filter q xs) (filter q xs)) ≡ cond b (f x ∷ filter p (map f xs)) (filter p (map f xs)))
+    ∙ elim (p (f x)) as (λ b. map f (cond b (x ∷ filter q xs) (filter q xs))
+    ≡ cond b (f x ∷ filter p (map f xs)) (filter p (map f xs)))
     [ true ↦ ap (λ ys. f x ∷ ys) rest | false ↦ rest ]
 
 get_append : {A : Type 0} (xs ys : List A) (i : ℕ) → i < length xs → slice_get (xs ++ ys) i ≡ slice_get xs i
@@ -188,7 +192,8 @@ last_split (y ∷ xs) (suc n) x l e = ap (λ ys. y ∷ ys) (last_split xs n x (o
 
 -- the same of a list whose last entry is e
 module _ {T : Type 0} (node : T → Node) (held : List T) (place : ℕ) (e : T) (ps : List ℕ)
-    (last : place + 1 ≡ length held) (is : e ≡ get_or held place e) (front : IsFrontierAt node (take place held) ps) where
+    (last : place + 1 ≡ length held) (is : e ≡ get_or held place e)
+    (front : IsFrontierAt node (take place held) ps) where
   whole : held ≡ take place held ++ e ∷ []
   whole = last_split held place e (omega arith) is
 

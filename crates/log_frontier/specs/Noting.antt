@@ -8,6 +8,7 @@ use Rattle.entry_order.specs.Naming.{names_digest}
 use Rattle.log_frontier.specs.Places.{digest_at}
 
 module _ {T : Type 0} (node : T → Node) where
+  -- whether e doesn't name the entry, if there is one
   abbrev pub is_not_named_by : T → Option T → Bool
   is_not_named_by e None = true
   is_not_named_by e (Some f) = not (names_digest node e (node f).digest)

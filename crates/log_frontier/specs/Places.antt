@@ -11,6 +11,7 @@ pub record Places : Type 0 where
   pub spare : ℕ
 
 module _ {T : Type 0} (node : T → Node) where
+  -- the digest of the entry, and none where there is no entry
   abbrev pub digest_of : Option T → List ℕ
   digest_of None = []
   digest_of (Some e) = (node e).digest

@@ -9,5 +9,7 @@ returns g c =
     let node = g.T.Knot.node in
     let events = c.args.events.now in
     let digest = c.args.digest.now in
-    let same = c.has_digest.ensures ∙ has_digest_held node events digest in
-    (λ t. has_digest_from node (held events) digest (sym same ∙ t), λ b. same ∙ has_digest_of node (held events) digest b)
+    let same = c.has_digest.ensures ∙ has_digest_held node events digest in (
+      λ t. has_digest_from node (held events) digest (sym same ∙ t),
+      λ b. same ∙ has_digest_of node (held events) digest b,
+    )
