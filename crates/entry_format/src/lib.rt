@@ -23,4 +23,6 @@ pub use sealing::{SealFault, seal};
 pub use unsealing::{unseal, unseal_tree};
 
 #[cfg(test)]
+mod sealed_tests;
+#[cfg(test)]
 mod tests;
