@@ -7,6 +7,9 @@ and for w4 at height 10, the program hashes as many messages of 55 bytes as maki
 the key, signs 32 messages and verifies the signatures, all in one run and in processor time. Each
 ratio is that of the time of one hash there to the time of one in the plain loop; a message of several
 blocks counts as that many hashes. The median of five runs is printed.
+
+For w4 at heights 5 and 10 the rate of unsealing an entry is given as a part of the rate of verifying
+its signature, both in one run of the program; the median of nine runs is printed.
 """
 
 import os
@@ -20,6 +23,8 @@ IDENTIFIER = bytes(range(16))
 SEED = bytes([7] * 32)
 SIGNATURES = 32
 RUNS = 5
+UNSEALINGS = 1000
+UNSEALING_RUNS = 9
 
 
 def blocks(length):
@@ -70,6 +75,16 @@ def measure(program, kind, height):
     )
 
 
+def unsealing_rate(program, kind, height):
+    """The rate of unsealing over that of verifying."""
+    answer = subprocess.run(
+        [program, "unseal", kind, str(height), str(UNSEALINGS)], check=True, capture_output=True, text=True
+    ).stdout.split()
+    told = {answer[i]: int(answer[i + 1]) for i in range(0, 8, 2)}
+    assert told["accepted"] == told["valid"] == UNSEALINGS, "a signature or an entry was refused"
+    return told["verifying"] / told["unsealing"]
+
+
 def main():
     here = os.path.dirname(os.path.abspath(__file__))
     built = os.path.join(here, "..", "crates", "signature_speed", "out", "signature_speed")
@@ -83,6 +98,9 @@ def main():
             f" signing {signing:.2f} of {counts[1] / SIGNATURES:.0f},"
             f" verifying {verifying:.2f} of {counts[2] / SIGNATURES:.0f}"
         )
+    for height in [5, 10]:
+        rates = [unsealing_rate(program, "w4", height) for _ in range(UNSEALING_RUNS)]
+        print(f"w4 h{height}: unsealing at {statistics.median(rates):.2f} of the rate of verifying")
 
 
 if __name__ == "__main__":

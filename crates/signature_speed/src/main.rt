@@ -1,12 +1,14 @@
 //! Times keys, signatures and verification, and writes and checks them as files.
 //!
 //! Without words it prints what it made for each kind. `time KIND HEIGHT HASHES` prints processor
-//! times, `sign KIND HEIGHT INDEX SECRET MESSAGE KEY SIGNATURE` writes a key and a signature, and
-//! `verify KEY MESSAGE SIGNATURE` checks one; SECRET is a file of an identifier and a seed.
+//! times, `unseal KIND HEIGHT COUNT` those of verifying and of unsealing one entry, `sign KIND HEIGHT
+//! INDEX SECRET MESSAGE KEY SIGNATURE` writes a key and a signature, and `verify KEY MESSAGE
+//! SIGNATURE` checks one; SECRET is a file of an identifier and a seed.
 #![tactic(auto)]
 
 mod files;
 mod timing;
+mod unsealing;
 
 ghost use Rattle.std.specs.Prelude.{IfSome};
 ghost use Rattle.lms_sign.specs.Height.{IsHeight};
@@ -19,6 +21,7 @@ use sha2::{Digest, Sha256};
 use std::alloc::Global;
 use std::env;
 use timing::time_all;
+use unsealing::time_unsealing;
 
 // The identifier and the seed of the keys that are timed.
 pub(crate) const ID: [u8; 16] = [0, 1, 2, 3, 4, 5, 6, 7, 8, 9, 10, 11, 12, 13, 14, 15];
@@ -78,7 +81,7 @@ fn run(rt: &HostRuntime, alloc: Global, words: &[String]) -> Result<()> {
         ensure!(words.len() == 4, "verify KEY MESSAGE SIGNATURE");
         return verify_files(rt, words[1].as_str(), words[2].as_str(), words[3].as_str());
     }
-    ensure!(words.len() >= 4, "time, sign or verify");
+    ensure!(words.len() >= 4, "time, unseal, sign or verify");
     let Some(kind) = kind_from(words[1].as_str()) else {
         bail!("a kind is w1, w2, w4 or w8");
     };
@@ -89,7 +92,10 @@ fn run(rt: &HostRuntime, alloc: Global, words: &[String]) -> Result<()> {
     if command == "time" {
         return time_all(rt, alloc, kind, height, number);
     }
-    ensure!(command == "sign", "time, sign or verify");
+    if command == "unseal" {
+        return time_unsealing(rt, alloc, kind, height, number);
+    }
+    ensure!(command == "sign", "time, unseal, sign or verify");
     ensure!(
         words.len() == 8,
         "sign KIND HEIGHT INDEX SECRET MESSAGE KEY SIGNATURE"
