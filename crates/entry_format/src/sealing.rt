@@ -1,5 +1,5 @@
 //! From an entry to its sealed form.
-ghost use Rattle.std.specs.Prelude.{◌≡◌, ◌<◌, ◌≤◌, ◌^◌, length, IfOk, OnOk, IsErrOf};
+ghost use Rattle.std.specs.Prelude.{◌≡◌, ◌↔◌, ◌<◌, ◌≤◌, ◌^◌, length, IfOk, OnOk, IsErrOf};
 ghost use Rattle.sha2.specs.Sha256.{sha256};
 ghost use Rattle.canonical_sexp.specs.Text.{text_of};
 ghost use Rattle.entry_order.specs.Ascending.{IsAscending};
@@ -43,7 +43,7 @@ impl From<AllocError> for SealFault {
 ///
 /// # Errors
 ///
-/// `Spent`, where each index has signed, or `Memory`. The entry is dropped.
+/// `Spent`, where each index has signed, and else `Memory`. The entry is dropped.
 pub fn seal(
     alloc: Global,
     roster: &Roster,
@@ -63,11 +63,13 @@ pub fn seal(
     ensures valid { IfOk result (λ sealed.
         IsValid roster.now.machines entry.election sealed.text sealed) }
 
-    // Unless memory was wanting, `Spent` comes exactly where the key is spent.
-    ensures spent { IsErrOf result SealFault.Spent →
-        secret.now.next ≡ 2 ^ secret.now.height }
+    ensures spent { IsErrOf result SealFault.Spent
+        ↔ (secret.now.next ≡ 2 ^ secret.now.height) }
     ensures left { OnOk result (secret.now.next < 2 ^ secret.now.height) }
 {
+    if secret.is_spent() {
+        return Err(SealFault::Spent);
+    }
     let body = tree_of(alloc, &entry)?;
     let mut message = Vec::new(alloc);
     write(alloc, &body, &mut message)?;

@@ -7,24 +7,8 @@ ghost use Rattle.entry_format.specs.Parts.{IsSigned};
 
 use crate::deed::Deed;
 use crate::entry::Entry;
-use canonical_sexp::{Members, Memory, Octets, Sexp};
+use canonical_sexp::{Members, Memory, Sexp, atom, number_atom};
 use std::alloc::Global;
-
-/// The atom with these octets.
-fn atom(alloc: Global, octets: &[u8]) -> Result<Sexp, Memory>
-    ensures { IfOk result (λ tree. tree ≡ Atom octets.now) }
-{
-    let octets = Vec::from_slice(alloc, octets)?;
-    Ok(Sexp::Atom(Octets::new(octets)))
-}
-
-/// The atom of a number.
-fn number_atom(alloc: Global, number: u32) -> Result<Sexp, Memory>
-    ensures { IfOk result (λ tree. tree ≡ number_atom number) }
-{
-    let digits = number.to_string(alloc)?;
-    atom(alloc, digits.as_bytes())
-}
 
 /// A list of one tree.
 fn one(alloc: Global, first: Sexp) -> Result<Sexp, Memory>

@@ -6,7 +6,7 @@ mod spans;
 mod words;
 
 pub use spans::{Memory, Span, lines, tokens};
-pub use words::digest_hex;
+pub use words::{decimal, digest_hex};
 
 #[cfg(test)]
 mod tests;

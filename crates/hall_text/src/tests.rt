@@ -1,7 +1,30 @@
 //! The readers on examples: each accepted form, and the nearest that is refused.
-use crate::{Span, digest_hex, lines, tokens};
+use crate::{Span, decimal, digest_hex, lines, tokens};
 use std::alloc::Global;
 use std::test::Fail;
+
+#[test]
+fn numbers_have_32_bits_and_no_leading_zero(rt: HostRuntime) {
+    for (word, number) in [
+        ("0", Some(0)),
+        ("7", Some(7)),
+        ("10", Some(10)),
+        ("4294967295", Some(4_294_967_295)),
+        ("", None),
+        ("01", None),
+        ("00", None),
+        ("4294967296", None),
+        ("99999999999", None),
+        ("-1", None),
+        ("+1", None),
+        ("1 ", None),
+        (" 1", None),
+        ("a", None),
+        ("1a", None),
+    ] {
+        assert_eq!(rt; decimal(word.as_bytes()), number, "of {word}");
+    }
+}
 
 #[test]
 fn digests_are_lower_case_and_whole(rt: HostRuntime) {

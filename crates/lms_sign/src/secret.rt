@@ -1,5 +1,5 @@
 // Secret keys.
-ghost use Rattle.std.specs.Prelude.{◌≡◌, ◌↔◌, ◌+◌, ◌^◌, ◌<◌, ◌≤◌, IfOk, OnOk, OnErr, IsErrOf};
+ghost use Rattle.std.specs.Prelude.{◌≡◌, ◌==◌, ◌↔◌, ◌+◌, ◌^◌, ◌<◌, ◌≤◌, IfOk, OnOk, OnErr, IsErrOf};
 ghost use Rattle.lms_sign.specs.Height.{IsHeight};
 ghost use Rattle.lms_sign.specs.Secret.{public_of, signed_by};
 ghost use Rattle.lms_sign.specs.Signs.{Signs, index_in};
@@ -103,6 +103,13 @@ impl LmsSecret {
     {
         let _height = self.height;
         self.next
+    }
+
+    /// Whether each index has signed. It takes no memory.
+    pub fn is_spent(&self) -> bool
+        ensures { result ≡ (self.now.next == 2 ^ self.now.height) }
+    {
+        self.next == leaf_count(self.height)
     }
 
     /// Signs `message` with the next index, which is used up. A refusal uses none up.

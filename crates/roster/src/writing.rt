@@ -1,19 +1,10 @@
 //! The tree of a roster.
 ghost use Rattle.std.specs.Prelude.{◌≡◌, IfOk};
-ghost use Rattle.canonical_sexp.specs.declared.sexp.Sexp.TheVariants.{Atom};
 ghost use Rattle.roster.specs.RosterText.{role_word, post_tree, roster_tree};
 
 use crate::post::{Post, Role};
-use canonical_sexp::{Members, Memory, Octets, Sexp};
+use canonical_sexp::{Members, Memory, Sexp, atom};
 use std::alloc::Global;
-
-/// The atom with these octets.
-fn atom(alloc: Global, octets: &[u8]) -> Result<Sexp, Memory>
-    ensures { IfOk result (λ tree. tree ≡ Atom octets.now) }
-{
-    let octets = Vec::from_slice(alloc, octets)?;
-    Ok(Sexp::Atom(Octets::new(octets)))
-}
 
 /// The word of a role.
 fn word_of(role: Role) -> &'static [u8]
