@@ -1,2 +1,3 @@
 mod Rows
 mod Noted
+pub mod Answered

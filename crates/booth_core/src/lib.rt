@@ -3,8 +3,10 @@
 #![tactic(auto)]
 
 mod commitment;
+mod laws;
 mod state;
 
+pub use laws::each_deed_has_one_answer;
 pub use state::{BoothNot, BoothState, Memory};
 
 #[cfg(test)]

@@ -2,3 +2,4 @@ pub mod Rows
 pub mod Entries
 pub mod Ending
 pub mod Members
+pub mod Deciding

@@ -2,9 +2,11 @@
 //! list of the entries that the supervisor holds; the causes are sentences over it in `specs/`.
 #![tactic(auto)]
 
+mod laws;
 mod running;
 mod state;
 
+pub use laws::each_deed_has_one_answer;
 pub use state::{Memory, SupervisorNot, SupervisorState};
 
 #[cfg(test)]

@@ -1,0 +1,167 @@
+-- Tests that decide what entries say, and so which cause is the first.
+use Rattle.std.proofs.Common.{◌≡◌, ℕ, Bool, true, false, ◌&&◌, ◌==◌, List, [], ◌∷◌, refl, inl, inr, ap}
+use Rattle.std.specs.Prelude.{Any, Result, Ok, Err, IsTrue}
+use Rattle.std.specs.Bool.{Decides}
+use Rattle.std.specs.List.{list_any}
+use Rattle.std.specs.Str.{bytes_eq}
+use Rattle.std.proofs.lemmas.Bool.Decides.{Decides-eqb, Decides-and, Decides-like}
+use Rattle.std.proofs.lemmas.List.Folds.{Any-from_list_any, list_any-from_Any}
+use Rattle.std.proofs.lemmas.Slice.Eq.{bytes_eq-Decides}
+use Rattle.entry_format.specs.declared.deed.Deed.{Deed}
+use Rattle.entry_format.specs.declared.deed.Deed.TheVariants.{Opened, Authorise, Override, Closed, Activate, Commit}
+use Rattle.entry_format.specs.declared.deed.Deed.TheVariants.{Cast, Cancel}
+use Rattle.entry_format.specs.declared.entry.Entry.{Entry}
+use Rattle.deed_history.specs.Deeds.{Authorises, Commits, Ends}
+use Rattle.deed_history.specs.Held.{Holds, HoldsOwn, HasEnded}
+use Rattle.deed_history.specs.Refusals.{IsFirstOf, tests_of}
+
+pub any_decides : {X : Type 0} (p : X → Bool) (P : X → Type 0) → ((x : X) → Decides (p x) (P x)) → (xs : List X)
+    → Decides (list_any p xs) (Any P xs)
+any_decides p P each xs = (
+  λ yes.
+      let any : Any (λ x. p x ≡ true) xs = Any-from_list_any p xs yes in
+      (any.0, any.1, any.2, any.3, (each any.1).0 any.4),
+  λ any. list_any-from_Any p xs (any.0, any.1, any.2, any.3, (each any.1).1 any.4),
+)
+
+-- an entry with such a deed is held
+pub holds_decides : (p : Deed → Bool) (P : Deed → Type 0) → ((deed : Deed) → Decides (p deed) (P deed))
+    → (entries : List Entry) → Decides (list_any (λ entry. p entry.deed) entries) (Holds entries P)
+holds_decides p P each entries =
+    any_decides (λ (entry : Entry). p entry.deed) (λ (entry : Entry). P entry.deed) (λ entry. each entry.deed) entries
+
+-- an own one is held
+abbrev pub holds_own : ℕ → (Deed → Bool) → List Entry → Bool
+holds_own owner p entries = list_any (λ entry. (entry.maker == owner) && p entry.deed) entries
+
+pub own_decides : (owner : ℕ) (p : Deed → Bool) (P : Deed → Type 0) → ((deed : Deed) → Decides (p deed) (P deed))
+    → (entries : List Entry) → Decides (holds_own owner p entries) (HoldsOwn owner entries P)
+own_decides owner p P each entries =
+    any_decides (λ (entry : Entry). (entry.maker == owner) && p entry.deed)
+    (λ (entry : Entry). (entry.maker ≡ owner) × P entry.deed)
+    (λ entry. Decides-and (entry.maker == owner) (p entry.deed) (Decides-eqb entry.maker owner) (each entry.deed))
+    entries
+
+-- two numbers, and a number and a digest
+number_and_digest : (session s : ℕ) (ballot x : List ℕ)
+    → Decides ((session == s) && bytes_eq ballot x) ((session ≡ s) × (ballot ≡ x))
+number_and_digest session s ballot x =
+    Decides-and (session == s) (bytes_eq ballot x) (Decides-eqb session s) (bytes_eq-Decides ballot x)
+
+abbrev pub is_opened : Deed → Bool
+is_opened Opened = true
+is_opened _ = false
+
+pub opened_decides : (deed : Deed) → Decides (is_opened deed) (deed ≡ Opened)
+opened_decides Opened = (λ yes. refl, λ is. refl)
+opened_decides _ = (λ yes. cc, λ is. cc)
+
+abbrev pub is_closed : Deed → Bool
+is_closed Closed = true
+is_closed _ = false
+
+pub closed_decides : (deed : Deed) → Decides (is_closed deed) (deed ≡ Closed)
+closed_decides Closed = (λ yes. refl, λ is. refl)
+closed_decides _ = (λ yes. cc, λ is. cc)
+
+abbrev pub authorises : ℕ → Deed → Bool
+authorises session (Authorise booth s) = s == session
+authorises session _ = false
+
+pub authorises_decides : (session : ℕ) (deed : Deed) → Decides (authorises session deed) (Authorises session deed)
+authorises_decides session (Authorise booth s) =
+    let same = Decides-eqb s session in
+    (λ yes. (booth, ap (λ n. Authorise booth n) (same.0 yes)), λ is. same.1 (cc (is.1)))
+authorises_decides session _ = (λ yes. cc, λ is. cc (is.1))
+
+abbrev pub authorises_booth : ℕ → ℕ → Deed → Bool
+authorises_booth booth session (Authorise b s) = (b == booth) && (s == session)
+authorises_booth booth session _ = false
+
+pub authorises_booth_decides : (booth session : ℕ) (deed : Deed)
+    → Decides (authorises_booth booth session deed) (deed ≡ Authorise booth session)
+authorises_booth_decides booth session (Authorise b s) =
+    let same = Decides-and (b == booth) (s == session) (Decides-eqb b booth) (Decides-eqb s session) in
+    (λ yes. let both = same.0 yes in cc (both.0, both.1), λ is. same.1 (cc, cc))
+authorises_booth_decides booth session _ = (λ yes. cc, λ is. cc)
+
+abbrev pub overrides : ℕ → Deed → Bool
+overrides session (Override s) = s == session
+overrides session _ = false
+
+pub overrides_decides : (session : ℕ) (deed : Deed) → Decides (overrides session deed) (deed ≡ Override session)
+overrides_decides session (Override s) =
+    let same = Decides-eqb s session in
+    (λ yes. ap Override (same.0 yes), λ is. same.1 (cc))
+overrides_decides session _ = (λ yes. cc, λ is. cc)
+
+abbrev pub activates : ℕ → Deed → Bool
+activates session (Activate s) = s == session
+activates session _ = false
+
+pub activates_decides : (session : ℕ) (deed : Deed) → Decides (activates session deed) (deed ≡ Activate session)
+activates_decides session (Activate s) =
+    let same = Decides-eqb s session in
+    (λ yes. ap Activate (same.0 yes), λ is. same.1 (cc))
+activates_decides session _ = (λ yes. cc, λ is. cc)
+
+abbrev pub commits : ℕ → Deed → Bool
+commits session (Commit s ballot) = s == session
+commits session _ = false
+
+pub commits_decides : (session : ℕ) (deed : Deed) → Decides (commits session deed) (Commits session deed)
+commits_decides session (Commit s ballot) =
+    let same = Decides-eqb s session in
+    (λ yes. (ballot, ap (λ n. Commit n ballot) (same.0 yes)), λ is. same.1 (cc (is.1)))
+commits_decides session _ = (λ yes. cc, λ is. cc (is.1))
+
+abbrev pub commits_to : ℕ → List ℕ → Deed → Bool
+commits_to session ballot (Commit s x) = (s == session) && bytes_eq x ballot
+commits_to session ballot _ = false
+
+pub commits_to_decides : (session : ℕ) (ballot : List ℕ) (deed : Deed)
+    → Decides (commits_to session ballot deed) (deed ≡ Commit session ballot)
+commits_to_decides session ballot (Commit s x) =
+    let same = number_and_digest s session x ballot in
+    (λ yes. let both = same.0 yes in cc (both.0, both.1), λ is. same.1 (cc, cc))
+commits_to_decides session ballot _ = (λ yes. cc, λ is. cc)
+
+abbrev pub ends : ℕ → Deed → Bool
+ends session (Cast s ballot) = s == session
+ends session (Cancel s) = s == session
+ends session _ = false
+
+pub ends_decides : (session : ℕ) (deed : Deed) → Decides (ends session deed) (Ends session deed)
+ends_decides session (Cast s ballot) =
+    let same = Decides-eqb s session in (
+      λ yes. inl (ballot, ap (λ n. Cast n ballot) (same.0 yes)),
+      λ is. same.1 (elim is [ inl cast ↦ cc (cast.1) | inr cancel ↦ cc ]),
+    )
+ends_decides session (Cancel s) =
+    let same = Decides-eqb s session in (
+      λ yes. inr (ap Cancel (same.0 yes)),
+      λ is. same.1 (elim is [ inl cast ↦ cc (cast.1) | inr cancel ↦ cc ]),
+    )
+ends_decides session _ = (λ yes. cc, λ is. elim is [ inl cast ↦ cc (cast.1) | inr cancel ↦ cc ])
+
+abbrev pub has_ended : List Entry → ℕ → Bool
+has_ended entries session = list_any (λ entry. ends session entry.deed) entries
+
+pub ended_decides : (entries : List Entry) (session : ℕ) → Decides (has_ended entries session) (HasEnded entries session)
+ended_decides entries session = holds_decides (ends session) (Ends session) (ends_decides session) entries
+
+-- of each row of tests one answer is the first
+pub first_test : {Cause : Type 0} (tests : List (Bool × Cause))
+    → (answer : Result (Unit {0}) Cause) × IsFirstOf (tests_of tests) answer
+first_test [] = (Ok tt, refl)
+first_test ((true, cause) ∷ tests) = (Err cause, inl (refl, refl))
+first_test ((false, cause) ∷ tests) = let rest = first_test tests in (rest.0, inr (λ yes. cc, rest.1))
+
+-- and no other is
+pub one_first : {Cause : Type 0} (row : List (Type 0 × Cause)) (answer other : Result (Unit {0}) Cause)
+    → IsFirstOf row answer → IsFirstOf row other → answer ≡ other
+one_first [] answer other first second = cc
+one_first (cause ∷ row) answer other (inl here) (inl there) = cc (here.1, there.1)
+one_first (cause ∷ row) answer other (inl here) (inr later) = absurd (later.0 here.0)
+one_first (cause ∷ row) answer other (inr later) (inl there) = absurd (later.0 there.0)
+one_first (cause ∷ row) answer other (inr later) (inr after) = one_first row answer other later.1 after.1

@@ -1,0 +1,159 @@
+-- Each deed has an answer after each history.
+use Rattle.std.proofs.Common.{◌≡◌, ℕ, Bool, true, false, not, ◌&&◌, ◌==◌, List, [], ◌∷◌, refl, ap, subst}
+use Rattle.std.specs.Prelude.{Any, Result}
+use Rattle.std.specs.Bool.{Decides}
+use Rattle.std.specs.List.{list_any}
+use Rattle.std.proofs.lemmas.Bool.Decides.{Decides-eqb, Decides-and, Decides-like, Decides-not}
+use Rattle.entry_format.specs.declared.deed.Deed.{Deed}
+use Rattle.entry_format.specs.declared.deed.Deed.TheVariants.{Opened, Authorise, Override, Closed, Activate, Commit}
+use Rattle.entry_format.specs.declared.deed.Deed.TheVariants.{Cast, Cancel}
+use Rattle.entry_format.specs.declared.entry.Entry.{Entry}
+use Rattle.deed_history.specs.Deeds.{Authorises}
+use Rattle.deed_history.specs.Held.{HoldsOwn, HasEnded}
+use Rattle.deed_history.specs.Refusals.{tests_of}
+use Rattle.deed_history.proofs.Deciding.{any_decides, holds_own, own_decides, is_opened, opened_decides, is_closed}
+use Rattle.deed_history.proofs.Deciding.{closed_decides, authorises, authorises_decides, has_ended, ended_decides}
+use Rattle.deed_history.proofs.Deciding.{authorises_booth, authorises_booth_decides, first_test}
+use Rattle.deed_history.proofs.Rows.{AreTestsOf, first_by_tests}
+use Rattle.supervisor_core.specs.declared.state.SupervisorNot.{SupervisorNot}
+use Rattle.supervisor_core.specs.declared.state.SupervisorNot.TheVariants as cause
+use Rattle.supervisor_core.specs.Causes.{HasOpened, HasClosed, HasAuthorised, IsRunning, IsBusy, HasSessionsLeft}
+use Rattle.supervisor_core.specs.Table.{causes_of, Refuses}
+
+-- the tests of the sentences
+abbrev has_opened : ℕ → List Entry → Bool
+has_opened owner entries = holds_own owner is_opened entries
+
+opened_is : (owner : ℕ) (entries : List Entry) → Decides (has_opened owner entries) (HasOpened owner entries)
+opened_is owner entries = own_decides owner is_opened (λ deed. deed ≡ Opened) opened_decides entries
+
+abbrev has_closed : ℕ → List Entry → Bool
+has_closed owner entries = holds_own owner is_closed entries
+
+closed_is : (owner : ℕ) (entries : List Entry) → Decides (has_closed owner entries) (HasClosed owner entries)
+closed_is owner entries = own_decides owner is_closed (λ deed. deed ≡ Closed) closed_decides entries
+
+abbrev has_authorised : ℕ → List Entry → ℕ → Bool
+has_authorised owner entries session = holds_own owner (authorises session) entries
+
+authorised_is : (owner : ℕ) (entries : List Entry) (session : ℕ)
+    → Decides (has_authorised owner entries session) (HasAuthorised owner entries session)
+authorised_is owner entries session =
+    own_decides owner (authorises session) (Authorises session) (authorises_decides session) entries
+
+-- the deed authorises the booth for a session that hasn't ended
+abbrev runs_at : List Entry → ℕ → Deed → Bool
+runs_at entries booth (Authorise b s) = (b == booth) && not (has_ended entries s)
+runs_at entries booth _ = false
+
+abbrev RunsAt : List Entry → ℕ → Deed → Type 0
+RunsAt entries booth deed = (session : ℕ) × (deed ≡ Authorise booth session) × (HasEnded entries session → ⊥)
+
+runs_decides : (entries : List Entry) (booth : ℕ) (deed : Deed)
+    → Decides (runs_at entries booth deed) (RunsAt entries booth deed)
+runs_decides entries booth (Authorise b s) =
+    let left = Decides-not (has_ended entries s) (ended_decides entries s) in
+    let both = Decides-and (b == booth) (not (has_ended entries s)) (Decides-eqb b booth) left in (
+      λ yes.
+          let runs = both.0 yes in
+          (s, ap (λ n. Authorise n s) runs.0, runs.1),
+      λ runs.
+          let session : runs.0 ≡ s = cc (runs.1) in
+          let ended : HasEnded entries s → ⊥ = subst (λ n. HasEnded entries n → ⊥) session runs.2 in
+          both.1 (cc (runs.1), ended),
+    )
+runs_decides entries booth _ = (λ yes. cc, λ runs. cc (runs.1))
+
+busy_is : (owner : ℕ) (entries : List Entry) (booth : ℕ)
+    → Decides (holds_own owner (runs_at entries booth) entries) (IsBusy owner entries booth)
+busy_is owner entries booth =
+    Decides-like (holds_own owner (runs_at entries booth) entries)
+    (λ any. (any.4.1.0, ((any.0, any.1, any.2, any.3, (any.4.0, any.4.1.1)), any.4.1.2)))
+    (λ busy.
+    let any = busy.1.0 in
+    (any.0, any.1, any.2, any.3, (any.4.0, (busy.0, any.4.1, busy.1.1))))
+    (own_decides owner (runs_at entries booth) (RunsAt entries booth) (runs_decides entries booth) entries)
+
+-- the same at whichever booth
+abbrev runs : List Entry → Deed → Bool
+runs entries (Authorise b s) = not (has_ended entries s)
+runs entries _ = false
+
+abbrev Runs : List Entry → Deed → Type 0
+Runs entries deed = (booth : ℕ) × RunsAt entries booth deed
+
+left_decides : (entries : List Entry) (deed : Deed) → Decides (runs entries deed) (Runs entries deed)
+left_decides entries (Authorise b s) =
+    let left = Decides-not (has_ended entries s) (ended_decides entries s) in (
+      λ yes. (b, (s, refl, left.0 yes)),
+      λ here.
+          let session : here.1.0 ≡ s = cc (here.1.1) in
+          left.1 (subst (λ n. HasEnded entries n → ⊥) session here.1.2),
+    )
+left_decides entries _ = (λ yes. cc, λ here. cc (here.1.1))
+
+left_is : (owner : ℕ) (entries : List Entry)
+    → Decides (holds_own owner (runs entries) entries) (HasSessionsLeft owner entries)
+left_is owner entries =
+    Decides-like (holds_own owner (runs entries) entries)
+    (λ any.
+    let here = any.4.1 in
+    (here.0, (here.1.0, ((any.0, any.1, any.2, any.3, (any.4.0, here.1.1)), here.1.2))))
+    (λ left.
+    let any = left.1.1.0 in
+    (any.0, any.1, any.2, any.3, (any.4.0, (left.0, (left.1.0, any.4.1, left.1.1.1)))))
+    (own_decides owner (runs entries) (Runs entries) (left_decides entries) entries)
+
+-- the tests of a deed's row
+abbrev tests : ℕ → List Entry → Deed → List (Bool × SupervisorNot)
+tests owner entries Opened = (has_opened owner entries, cause.AlreadyOpened) ∷ []
+tests owner entries (Authorise booth session) =
+    (not (has_opened owner entries), cause.NotOpened)
+    ∷ (has_closed owner entries, cause.Closed)
+    ∷ (has_authorised owner entries session, cause.SessionUsed)
+    ∷ (holds_own owner (runs_at entries booth) entries, cause.BoothBusy)
+    ∷ []
+tests owner entries (Override session) =
+    (not (has_authorised owner entries session), cause.NoSession)
+    ∷ (has_ended entries session, cause.SessionEnded)
+    ∷ []
+tests owner entries Closed =
+    (not (has_opened owner entries), cause.NotOpened)
+    ∷ (has_closed owner entries, cause.Closed)
+    ∷ (holds_own owner (runs entries) entries, cause.SessionsLeft)
+    ∷ []
+tests owner entries _ = []
+
+are_tests : (owner : ℕ) (entries : List Entry) (deed : Deed)
+    → AreTestsOf (tests owner entries deed) (causes_of owner entries deed)
+are_tests owner entries Opened = (opened_is owner entries, refl, tt)
+are_tests owner entries (Authorise booth session) = (
+  Decides-not (has_opened owner entries) (opened_is owner entries),
+  refl,
+  (
+    closed_is owner entries,
+    refl,
+    (authorised_is owner entries session, refl, (busy_is owner entries booth, refl, tt)),
+  ),
+)
+are_tests owner entries (Override session) = (
+  Decides-not (has_authorised owner entries session) (authorised_is owner entries session),
+  refl,
+  (ended_decides entries session, refl, tt),
+)
+are_tests owner entries Closed = (
+  Decides-not (has_opened owner entries) (opened_is owner entries),
+  refl,
+  (closed_is owner entries, refl, (left_is owner entries, refl, tt)),
+)
+are_tests owner entries _ = tt
+
+-- the first cause of the row
+pub answered : (owner : ℕ) (entries : List Entry) (deed : Deed)
+    → (answer : Result (Unit {0}) SupervisorNot) × Refuses owner entries deed answer
+answered owner entries deed =
+    let first = first_test (tests owner entries deed) in (
+      first.0,
+      first_by_tests (tests owner entries deed) (causes_of owner entries deed) first.0 (are_tests owner entries deed)
+          first.1,
+    )
