@@ -60,19 +60,14 @@ frontier_held node h =
     (λ d. ap not (named_held node h d)) (map (λ x. (node (entry_of x)).digest) h)
     ∙ ap (filter (λ d. not (is_named node (held h) d))) (digests_held node h))
 
-fold_held : {T : Type 0} (node : T → Node) (top : ℕ) (h : List (Event T)) →
-    fold (λ top x. max top (node (entry_of x)).stamp) top h ≡ fold (λ top e. max top (node e).stamp) top (held h)
-fold_held node top [] = refl
-fold_held node top (x ∷ h) = fold_held node (max top (node (entry_of x)).stamp) h
-
--- the greatest stamp of the events is that of the entries held
-pub greatest_stamp_held : {T : Type 0} (node : T → Node) (h : List (Event T)) →
-    greatest_stamp (λ x. node (entry_of x)) h ≡ greatest_stamp node (held h)
-greatest_stamp_held node h = fold_held node 0 h
-
 -- the history of a machine of the world
 pub history_at : {T : Type 0} (w : List (Machine T)) (m : ℕ) (d : Machine T) → m < length w →
     history w m ≡ (slice_index_or w m d).history
 history_at [] m d l = absurd (omega arith)
 history_at (a ∷ w) zero d l = refl
 history_at (a ∷ w) (suc m) d l = history_at w m d (omega arith)
+
+-- a list mapped to itself
+pub map_same : {X : Type 0} (xs : List X) → map (λ x. x) xs ≡ xs
+map_same [] = refl
+map_same (x ∷ xs) = ap (λ ys. x ∷ ys) (map_same xs)

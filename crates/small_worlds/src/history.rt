@@ -2,11 +2,11 @@
 
 ghost use Rattle.std.specs.Prelude.{◌≡◌, ◌≤◌, length, IfOk};
 ghost use Rattle.entry_order.specs.Frontier.{frontier};
-ghost use Rattle.entry_order.specs.History.{greatest_stamp, held, sent};
+ghost use Rattle.entry_order.specs.History.{held, sent};
 ghost use Rattle.entry_order.specs.Naming.{has_digest};
 
 use crate::digests::frontier;
-use crate::naming::{greatest_stamp, has_digest};
+use crate::naming::has_digest;
 use entry_order::{Event, Knot};
 use std::alloc::{AllocError, Global};
 
@@ -15,13 +15,6 @@ pub fn holds<T: Knot>(history: &[Event<T>], digest: &[u8; 32]) -> bool
     ensures { result ≡ has_digest T.node (held history.now) digest.now }
 {
     has_digest(history, digest)
-}
-
-/// The logical clock: the greatest stamp that is held, or 0.
-pub fn clock<T: Knot>(history: &[Event<T>]) -> u32
-    ensures { result ≡ greatest_stamp T.node (held history.now) }
-{
-    greatest_stamp(history)
 }
 
 /// The frontier of what is held.

@@ -12,7 +12,8 @@ mod world;
 
 pub use digests::{ascending, frontier, gaps, is_stray, survivors};
 pub use held::held_before;
-pub use history::{clock, held_frontier, holds, sent_count};
+pub use held_counts::clock;
+pub use history::{held_frontier, holds, sent_count};
 pub use machine::{Process, Sender};
 pub use paths::precedes;
 pub use world::{all_sent, play, run, start};

@@ -8,6 +8,7 @@ ghost use Rattle.entry_order.specs.World.{IsLawful, cannot_hear, hear, send, sto
 
 use crate::history::holds;
 use entry_order::{Event, Knot};
+use held_counts::Recorder;
 use std::alloc::{AllocError, Global};
 use std::marker::Model;
 
@@ -45,6 +46,16 @@ impl<T> Model for Process<T> {
     ghost Value = { Machine T };
 
     ghost view = { λ u. record { history = u.history.items; stopped = u.stopped } };
+}
+
+impl<T: Knot> Recorder for Process<T> {
+    type Entry = T;
+
+    ghost machine = { λ process. process };
+
+    fn events(&self) -> &[Event<T>] {
+        &self.history
+    }
 }
 
 impl<T: Sender> Process<T> {

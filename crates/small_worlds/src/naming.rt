@@ -2,7 +2,6 @@
 
 ghost use Rattle.std.specs.Prelude.{◌≡◌};
 ghost use Rattle.entry_order.specs.Naming.{names_digest, is_named, has_digest};
-ghost use Rattle.entry_order.specs.History.{greatest_stamp};
 
 use entry_order::Knot;
 
@@ -25,11 +24,4 @@ pub fn has_digest<T: Knot>(entries: &[T], digest: &[u8; 32]) -> bool
     ensures { result ≡ has_digest T.node entries.now digest.now }
 {
     entries.iter().any(|e| e.digest() == digest)
-}
-
-/// The greatest stamp, or 0 where there is no entry.
-pub fn greatest_stamp<T: Knot>(entries: &[T]) -> u32
-    ensures { result ≡ greatest_stamp T.node entries.now }
-{
-    entries.iter().fold(0, |top: u32, e| top.max(e.stamp()))
 }

@@ -21,7 +21,7 @@ use Rattle.entry_order.proofs.Orders.{along, was_sent, held_was_sent, next_of, s
 use Rattle.entry_order.proofs.Stamps.{stamp_below}
 use Rattle.entry_order.proofs.Forms.{to_chain, lower}
 use Rattle.entry_order.proofs.Machines.{nth_of_sent, in_world}
-use Rattle.small_worlds.specs.Counts.{raised, taken_in, spread_one, spread, spread_times, is_held_before}
+use Rattle.held_counts.specs.Counts.{raised, taken_in, spread_one, spread, spread_times, is_held_before}
 
 -- ---- one count raised
 
