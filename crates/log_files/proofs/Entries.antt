@@ -32,9 +32,9 @@ member_fits : (word : List ℕ) (members : Forest) → Fits (list_of (Atom word 
 member_fits word members fits = (omega arith, fits.2.1.1, AreWithin-deeper 6 7 members (omega arith) fits.2.1.2)
 
 -- the text of the entry stands between the word's and the parenthesis
-record_text : (word : List ℕ) (members : Forest) → text_of (list_of (Atom word ∷ Branch members ∷ []))
+pub text-record : (word : List ℕ) (members : Forest) → text_of (list_of (Atom word ∷ Branch members ∷ []))
     ≡ (40 ∷ atom_text word) ++ (text_of (Branch members) ++ 41 ∷ [])
-record_text word members = ap (λ bs. 40 ∷ bs) (append_assoc (atom_text word) (text_of (Branch members)) (41 ∷ []))
+text-record word members = ap (λ bs. 40 ∷ bs) (append_assoc (atom_text word) (text_of (Branch members)) (41 ∷ []))
 
 middle : (a b c text : List ℕ) → text ≡ a ++ (b ++ c) →
     take (length text - length c - length a) (drop (length a) text) ≡ b
@@ -68,7 +68,7 @@ text_between : (word : List ℕ) (members : Forest) (tree entry : Sexp) (before 
     take (length text - 1 - before) (drop before text) ≡ text_of entry
 text_between word members tree entry before text short front is e spelt =
     let whole : text ≡ (40 ∷ atom_text word) ++ (text_of (Branch members) ++ 41 ∷ []) =
-    spelt ∙ ap text_of (e ∙ ap (λ t. list_of (Atom word ∷ t ∷ [])) is) ∙ record_text word members in
+    spelt ∙ ap text_of (e ∙ ap (λ t. list_of (Atom word ∷ t ∷ [])) is) ∙ text-record word members in
     let place : before ≡ length (40 ∷ atom_text word) = omega (arith, front_length word short) in
     ap (λ n. take (length text - 1 - n) (drop n text)) place
     ∙ middle (40 ∷ atom_text word) (text_of (Branch members)) (41 ∷ []) text whole ∙ ap text_of (sym is)

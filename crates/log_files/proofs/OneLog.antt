@@ -40,7 +40,7 @@ some_text : (tree : Sexp) → 0 < length (text_of tree)
 some_text (Atom octets) = omega (arith, length-append (decimal (length octets)) (58 ∷ octets))
 some_text (Branch members) = omega arith
 
-end_has_none : (offset : ℕ) (bytes : List ℕ) (end : End) → IsEnd offset bytes end → HasNone bytes
+pub end_has_none : (offset : ℕ) (bytes : List ℕ) (end : End) → IsEnd offset bytes end → HasNone bytes
 end_has_none offset bytes Clean h tree more fits e =
     let none : 0 ≡ length (text_of tree ++ more) = ap length (sym h ∙ e) in
     omega (arith, none, length-append (text_of tree) more, some_text tree)
@@ -55,7 +55,7 @@ end_has_none offset bytes (Malformed at why) h tree more fits e =
     cc
 
 -- bytes are one row of trees and one rest that no text begins
-one_row : (trees others : List Sexp) (rest other : List ℕ) → All Fits trees → All Fits others → HasNone rest →
+pub one_row : (trees others : List Sexp) (rest other : List ℕ) → All Fits trees → All Fits others → HasNone rest →
     HasNone other → flat_map text_of trees ++ rest ≡ flat_map text_of others ++ other →
     (trees ≡ others) × (rest ≡ other)
 one_row [] [] rest other h k none also e = (refl, e)
@@ -77,7 +77,7 @@ one_row (t ∷ trees) (u ∷ others) rest other h k none also e =
     (ap (λ x. x ∷ trees) one.0 ∙ ap (λ xs. u ∷ xs) more.0, more.1)
 
 -- bytes have one end
-one_end : (offset : ℕ) (bytes : List ℕ) (end other : End) → IsEnd offset bytes end → IsEnd offset bytes other →
+pub one_end : (offset : ℕ) (bytes : List ℕ) (end other : End) → IsEnd offset bytes end → IsEnd offset bytes other →
     end ≡ other
 one_end offset bytes Clean Clean h k = refl
 one_end offset bytes Clean (Torn at) h k = let none : length bytes ≡ 0 = ap length h in absurd (omega arith)
@@ -117,7 +117,7 @@ one_given tree reading other (inl (members, is, reads)) (inr (none, shape)) = ab
 one_given tree reading other (inr (none, shape)) (inl (members, is, reads)) = absurd (none members is)
 one_given tree reading other (inr (none, shape)) (inr (none', shape')) = shape ∙ sym shape'
 
-each_given : (trees : List Sexp) (readings others : List (Result Plain EntryFault)) → EachGives trees readings →
+pub each_given : (trees : List Sexp) (readings others : List (Result Plain EntryFault)) → EachGives trees readings →
     EachGives trees others → readings ≡ others
 each_given [] [] [] h k = refl
 each_given [] [] (o ∷ others) h k = absurd k

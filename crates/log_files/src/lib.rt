@@ -5,9 +5,11 @@
 mod laws;
 mod plain_log;
 mod records;
+mod written;
 
 pub use laws::bytes_say_one_log;
 pub use plain_log::{End, LogFault, PlainLog, read_plain_log};
+pub use written::log_text;
 
 #[cfg(test)]
 mod tests;

@@ -1,5 +1,7 @@
 //! Logs that are cut, damaged or absent.
 use super::*;
+use entangled_log::Log;
+use entry_format::Sealed;
 use hall_outside::MemoryStore;
 use std::alloc::Global;
 use std::test::Fail;
@@ -125,5 +127,21 @@ fn a_log_that_is_absent_or_not_read_is_told(rt: HostRuntime) -> Result<(), Fail>
             Err(LogFault::ReadFault)
         )
     );
+    Ok(())
+}
+
+#[test]
+fn an_empty_log_is_its_header(rt: HostRuntime) -> Result<(), Fail> {
+    let alloc = rt.alloc();
+    for (owner, want) in [
+        (0, "(3:log1:11:0)"),
+        (4_294_967_295, "(3:log1:110:4294967295)"),
+    ] {
+        let log: Log<Sealed> = Log::make(alloc, owner, 4)?;
+        let text = log_text(alloc, &log)?;
+        assert_eq!(rt; text.as_slice(), want.as_bytes(), "{owner}");
+        let read = answer(&rt, &text)?;
+        assert_eq!(rt; read.as_str(), "0 Clean", "{owner}");
+    }
     Ok(())
 }

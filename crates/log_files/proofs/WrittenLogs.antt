@@ -1,0 +1,210 @@
+-- What the text of a written log says.
+use Rattle.std.proofs.Common.{◌≡◌, ◌∙◌, ℕ, ◌+◌, ◌^◌, ◌<◌, ◌≤◌, inl, inr, List, [], ◌∷◌, ◌++◌, length, map}
+use Rattle.std.proofs.Common.{Result, Ok, refl, ap, sym, subst, arith, append_assoc, append-nil}
+use Rattle.std.specs.Prelude.{All, codes, get_or, take}
+use Rattle.std.specs.List.{flat_map}
+use Rattle.std.proofs.lemmas.Fmt.{decimal_digit}
+use Rattle.std.proofs.lemmas.List.{take_more, take_all, map-append}
+use Rattle.std.proofs.lemmas.Grind.{flat_map-append}
+use Rattle.std.proofs.lemmas.List.Elements.{All-nil, All-cons, All-head, All-tail, All-append}
+use Rattle.canonical_sexp.specs.declared.sexp.Sexp.{Sexp}
+use Rattle.canonical_sexp.specs.declared.sexp.Sexp.TheVariants.{Atom, List as Branch}
+use Rattle.canonical_sexp.specs.Forest.{Forest, no_trees}
+use Rattle.canonical_sexp.specs.Sexp.{forest_of}
+use Rattle.canonical_sexp.specs.Forms.{list_of}
+use Rattle.canonical_sexp.specs.Text.{text_of, atom_text, AreWithin, Fits}
+use Rattle.canonical_sexp.proofs.Unique.{one_tree}
+use Rattle.entry_order.specs.declared.event.Event.{Event}
+use Rattle.entry_order.specs.declared.event.Event.TheVariants.{Sent, Got}
+use Rattle.entry_order.specs.History.{entry_of, held}
+use Rattle.entry_format.specs.declared.deed.Deed.{Deed}
+use Rattle.entry_format.specs.declared.deed.Deed.TheVariants.{Opened, Authorise, Override, Closed, Activate, Commit}
+use Rattle.entry_format.specs.declared.deed.Deed.TheVariants.{Cast, Cancel}
+use Rattle.entry_format.specs.declared.entry.Entry.{Entry}
+use Rattle.entry_format.specs.declared.plain.Plain.{Plain}
+use Rattle.entry_format.specs.declared.plain.EntryFault.{EntryFault}
+use Rattle.entry_format.specs.EntryText.{body_tree, deed_tree, signed_tree}
+use Rattle.entry_format.specs.Reading.{Reads}
+use Rattle.entry_format.specs.SealedEntry.{SealedEntry}
+use Rattle.entry_format.specs.Sealing.{IsSealed}
+use Rattle.log_files.specs.declared.plain_log.End.TheVariants.{Clean}
+use Rattle.log_files.specs.declared.plain_log.PlainLog.{PlainLog}
+use Rattle.log_files.specs.LogText.{header_tree, IsEnd, Gives, EachGives, kept_of, refused_of, SaysFrom, Says}
+use Rattle.log_files.specs.Written.{record_text, log_text, plain_of, HasAll}
+use Rattle.log_files.proofs.Entries.{text-record}
+use Rattle.log_files.proofs.Headers.{header_fits}
+use Rattle.log_files.proofs.OneLog.{end_has_none, one_row, one_end, each_given}
+
+-- the tree of a record
+abbrev record_tree : Event SealedEntry → Sexp
+record_tree (Sent e) = list_of (Atom (codes "sent") ∷ signed_tree e.entry e.signature ∷ [])
+record_tree (Got e) = list_of (Atom (codes "got") ∷ signed_tree e.entry e.signature ∷ [])
+
+-- digests lie in no list, and those of a deed's fields neither, so they are within any depth
+names_at : (names : List (List ℕ)) (d c : ℕ) → AreWithin d (forest_of (map Atom names)) →
+    AreWithin c (forest_of (map Atom names))
+names_at [] d c h = tt
+names_at (name ∷ names) d c h = (h.0, names_at names d c h.1)
+
+deed_at : (deed : Deed) (d c : ℕ) → 0 < c → AreWithin d (forest_of (deed_tree deed ∷ [])) →
+    AreWithin c (forest_of (deed_tree deed ∷ []))
+deed_at Opened d c some h = (some, h.1, h.2, tt)
+deed_at (Authorise booth session) d c some h = (some, h.1, h.2, tt)
+deed_at (Override session) d c some h = (some, h.1, h.2, tt)
+deed_at Closed d c some h = (some, h.1, h.2, tt)
+deed_at (Activate session) d c some h = (some, h.1, h.2, tt)
+deed_at (Commit session ballot) d c some h = (some, h.1, h.2, tt)
+deed_at (Cast session ballot) d c some h = (some, h.1, h.2, tt)
+deed_at (Cancel session) d c some h = (some, h.1, h.2, tt)
+
+-- the members of a list
+abbrev members_in : Sexp → Forest
+members_in (Atom octets) = no_trees
+members_in (Branch members) = members
+
+body_at : (entry : Entry) → AreWithin 6 (members_in (body_tree entry)) → AreWithin 5 (members_in (body_tree entry))
+body_at entry (word, (version, (election, (maker, (number, (stamp, (deep, few, names, deed))))))) =
+    let more : AreWithin 5 (forest_of (list_of (map Atom entry.names) ∷ deed_tree entry.deed ∷ [])) =
+    (omega arith, few, names_at entry.names 5 4 names, deed_at entry.deed 6 5 (omega arith) deed) in
+    (word, (version, (election, (maker, (number, (stamp, more))))))
+
+-- a record of a signed entry that is within the limits is within them too
+record_fits : (word : List ℕ) (entry : Entry) (signature : List ℕ) → length word ≤ 262144 →
+    Fits (signed_tree entry signature) → Fits (list_of (Atom word ∷ signed_tree entry signature ∷ []))
+record_fits word entry signature short (deep, few, (tag, (inside, count, body, end))) =
+    (omega arith, omega arith, (short, (omega arith, few, (tag, (omega arith, count, body_at entry body, end)), tt)))
+
+records_fit : (x : Event SealedEntry) → IsSealed (entry_of x) → Fits (record_tree x)
+records_fit (Sent e) is = record_fits (codes "sent") e.entry e.signature (omega arith) is.spelt.within
+records_fit (Got e) is = record_fits (codes "got") e.entry e.signature (omega arith) is.spelt.within
+
+-- the text of a record of a word of n letters
+record_spelt : (word front : List ℕ) (e : SealedEntry) → IsSealed e → 40 ∷ atom_text word ≡ front →
+    text_of (list_of (Atom word ∷ signed_tree e.entry e.signature ∷ [])) ≡ front ++ e.text ++ codes ")"
+record_spelt word front e is begins =
+    text-record word (members_in (signed_tree e.entry e.signature))
+    ∙ ap (λ (bs : List ℕ). bs ++ (text_of (signed_tree e.entry e.signature) ++ 41 ∷ [])) begins
+    ∙ ap (λ (bs : List ℕ). front ++ (bs ++ 41 ∷ [])) (sym is.spelt.spelt) ∙ sym (append_assoc front e.text (41 ∷ []))
+
+records_spelt : (x : Event SealedEntry) → IsSealed (entry_of x) → text_of (record_tree x) ≡ record_text x
+records_spelt (Sent e) is =
+    record_spelt (codes "sent") (codes "(4:sent") e is
+    (ap (λ (ds : List ℕ). 40 ∷ (ds ++ 58 ∷ codes "sent")) (decimal_digit 4 (omega arith)))
+records_spelt (Got e) is =
+    record_spelt (codes "got") (codes "(3:got") e is
+    (ap (λ (ds : List ℕ). 40 ∷ (ds ++ 58 ∷ codes "got")) (decimal_digit 3 (omega arith)))
+
+-- what the entry of a record is read as
+reads_plain : (e : SealedEntry) → IsSealed e → Reads (text_of (signed_tree e.entry e.signature)) (Ok (plain_of e))
+reads_plain e is = (
+  (e.signature, record { lawful = is.spelt.lawful; within = is.spelt.within; spelt = refl }),
+  is.rising,
+  rw is.spelt.spelt at is.hashed,
+)
+
+gives_plain : (x : Event SealedEntry) → IsSealed (entry_of x) → Gives (record_tree x) (Ok (plain_of (entry_of x)))
+gives_plain (Sent e) is = inl (members_in (signed_tree e.entry e.signature), inl refl, reads_plain e is)
+gives_plain (Got e) is = inl (members_in (signed_tree e.entry e.signature), inr refl, reads_plain e is)
+
+-- what each record is read as
+abbrev readings_of : List (Event SealedEntry) → List (Result Plain EntryFault)
+readings_of events = map (λ x. Ok (plain_of (entry_of x))) events
+
+all_fit : (events : List (Event SealedEntry)) → All IsSealed (held events) → All Fits (map record_tree events)
+all_fit [] all = All-nil Fits
+all_fit (x ∷ events) all =
+    All-cons Fits (record_tree x) (map record_tree events)
+    (records_fit x (All-head IsSealed (entry_of x) (held events) all))
+    (all_fit events (All-tail IsSealed (entry_of x) (held events) all))
+
+all_spelt : (events : List (Event SealedEntry)) → All IsSealed (held events) →
+    flat_map text_of (map record_tree events) ≡ flat_map record_text events
+all_spelt [] all = refl
+all_spelt (x ∷ events) all =
+    ap (λ (bs : List ℕ). bs ++ flat_map text_of (map record_tree events))
+    (records_spelt x (All-head IsSealed (entry_of x) (held events) all))
+    ∙ ap (λ (bs : List ℕ). record_text x ++ bs)
+    (all_spelt events (All-tail IsSealed (entry_of x) (held events) all))
+
+all_given : (events : List (Event SealedEntry)) → All IsSealed (held events) →
+    EachGives (map record_tree events) (readings_of events)
+all_given [] all = tt
+all_given (x ∷ events) all = (
+  gives_plain x (All-head IsSealed (entry_of x) (held events) all),
+  all_given events (All-tail IsSealed (entry_of x) (held events) all),
+)
+
+all_kept : (events : List (Event SealedEntry)) → kept_of (readings_of events) ≡ map plain_of (held events)
+all_kept [] = refl
+all_kept (x ∷ events) = ap (λ (ps : List Plain). plain_of (entry_of x) ∷ ps) (all_kept events)
+
+none_refused : (events : List (Event SealedEntry)) (place : ℕ) → refused_of place (readings_of events) ≡ []
+none_refused [] place = refl
+none_refused (x ∷ events) place = none_refused events (place + 1)
+
+-- the records say exactly the entries
+said_from : (offset : ℕ) (events : List (Event SealedEntry)) (log : PlainLog) → All IsSealed (held events) →
+    SaysFrom offset (flat_map record_text events) log → HasAll events log
+said_from offset events log all h =
+    let trees : List Sexp = map record_tree events in
+    let behind : ℕ = offset + length (flat_map text_of h.trees) in
+    let clean : IsEnd behind [] Clean = refl in
+    let row : (h.trees ≡ trees) × (h.records.rest ≡ []) =
+    one_row h.trees trees h.records.rest [] h.records.within (all_fit events all)
+    (end_has_none behind h.records.rest log.end h.records.ends) (end_has_none behind [] Clean clean)
+    (sym h.records.spelt ∙ sym (all_spelt events all) ∙ sym (append-nil (flat_map text_of trees))) in
+    let P : List Sexp → Type 0 = λ ts. EachGives ts h.readings in
+    let Q : List ℕ → Type 0 = λ bs. IsEnd behind bs log.end in
+    let readings : h.readings ≡ readings_of events =
+    each_given trees h.readings (readings_of events) (subst P row.0 h.gives) (all_given events all) in
+    record {
+      kept = h.kept ∙ ap kept_of readings ∙ all_kept events;
+      refused = h.refused ∙ ap (refused_of 0) readings ∙ none_refused events 0;
+      ends = one_end behind [] log.end Clean (subst Q row.1 h.records.ends) clean;
+    }
+
+-- what was written says exactly the entries
+pub said_of_written : (owner : ℕ) (events : List (Event SealedEntry)) (bytes : List ℕ) (log : PlainLog) →
+    owner < 2 ^ 32 → All IsSealed (held events) → bytes ≡ log_text owner events → Says bytes log → HasAll events log
+said_of_written owner events bytes log small all is h =
+    let one : (header_tree h.owner ≡ header_tree owner) × (h.behind ≡ flat_map record_text events) =
+    one_tree 8 (header_tree h.owner) (header_tree owner) h.behind (flat_map record_text events)
+    (header_fits h.owner h.number) (header_fits owner small) (sym h.header ∙ is) in
+    let P : List ℕ → Type 0 = λ bs. SaysFrom (length (text_of (header_tree h.owner))) bs log in
+    said_from (length (text_of (header_tree h.owner))) events log all (subst P one.1 h.rest)
+
+-- one record more
+pub text_more : (front old new : List ℕ) (events : List (Event SealedEntry)) (i : ℕ) (x : Event SealedEntry) →
+    i < length events → x ≡ get_or events i x → old ≡ front ++ flat_map record_text (take i events) →
+    new ≡ old ++ record_text x → new ≡ front ++ flat_map record_text (take (i + 1) events)
+text_more front old new events i x inside is so_far more =
+    let one : flat_map record_text (take (i + 1) events) ≡ flat_map record_text (take i events) ++ record_text x =
+    ap (flat_map record_text) (take_more events i x inside)
+    ∙ flat_map-append record_text (take i events) (get_or events i x ∷ [])
+    ∙ ap (λ (bs : List ℕ). flat_map record_text (take i events) ++ bs)
+    (append-nil (record_text (get_or events i x)) ∙ ap record_text (sym is)) in
+    more ∙ ap (λ (bs : List ℕ). bs ++ record_text x) so_far
+    ∙ append_assoc front (flat_map record_text (take i events)) (record_text x)
+    ∙ ap (λ (bs : List ℕ). front ++ bs) (sym one)
+
+-- one sealed entry more
+pub sealed_more : (events : List (Event SealedEntry)) (i : ℕ) (x : Event SealedEntry) →
+    i < length events → x ≡ get_or events i x → All IsSealed (held (take i events)) → IsSealed (entry_of x) →
+    All IsSealed (held (take (i + 1) events))
+sealed_more events i x inside is so_far sealed =
+    let P : List SealedEntry → Type 0 = λ es. All IsSealed es in
+    let one : held (take (i + 1) events) ≡ held (take i events) ++ entry_of x ∷ [] =
+    ap held (take_more events i x inside) ∙ map-append entry_of (take i events) (get_or events i x ∷ [])
+    ∙ ap (λ (y : Event SealedEntry). held (take i events) ++ entry_of y ∷ []) (sym is) in
+    subst P (sym one) (All-append IsSealed (held (take i events)) (entry_of x ∷ []) so_far
+    (All-cons IsSealed (entry_of x) [] sealed (All-nil IsSealed)))
+
+-- once all records are written
+pub said_of_all : (owner : ℕ) (events others : List (Event SealedEntry)) (i : ℕ) (bytes : List ℕ) (log : PlainLog) →
+    owner < 2 ^ 32 → length events ≤ i → events ≡ others → All IsSealed (held (take i events)) →
+    bytes ≡ text_of (header_tree owner) ++ flat_map record_text (take i events) → Says bytes log → HasAll others log
+said_of_all owner events others i bytes log small past same sealed is h =
+    let all : take i events ≡ others = take_all i events past ∙ same in
+    let P : List (Event SealedEntry) → Type 0 = λ xs. All IsSealed (held xs) in
+    said_of_written owner others bytes log small (subst P all sealed)
+    (is ∙ ap (λ (xs : List (Event SealedEntry)). text_of (header_tree owner) ++ flat_map record_text xs) all) h
