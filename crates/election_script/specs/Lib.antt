@@ -1,0 +1,10 @@
+pub mod Lawful
+pub mod Grammar
+pub mod Written
+pub mod Kinds
+pub mod Before
+pub mod Faults
+pub mod Reading
+pub mod Words
+pub mod Draft
+pub mod Lines
