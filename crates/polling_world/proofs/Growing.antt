@@ -1,0 +1,178 @@
+-- Worlds of which one machine has one event more, or has stopped.
+use Rattle.std.proofs.Common.{◌≡◌, ℕ, zero, suc, ◌+◌, ◌*◌, ◌≤◌, ◌⊎◌, inl, inr, List, [], ◌∷◌, ◌++◌, length, max}
+use Rattle.std.proofs.Common.{Some, refl, sym, ap, subst, arith, length-append}
+use Rattle.std.specs.Prelude.{slice_get}
+use Rattle.std.specs.List.{Contains, fold}
+use Rattle.std.proofs.lemmas.List.Elements.{Contains-append_left, Contains-append_cases}
+use Rattle.entry_order.specs.declared.event.Event.{Event}
+use Rattle.entry_order.specs.declared.event.Event.TheVariants.{Sent, Got}
+use Rattle.entry_order.specs.Node.{Node}
+use Rattle.entry_order.specs.History.{entry_of, held, sent, greatest_stamp, MayFollow, IsLegal}
+use Rattle.entry_order.specs.World.{Machine, World, history, sent_in, with_machine, append, stop}
+use Rattle.entry_order.specs.Receipt.{IsOrderly}
+use Rattle.entry_order.proofs.Lists.{Contains-none, Contains-head, Contains-later, Contains-cons_cases}
+use Rattle.entry_order.proofs.Lists.{Contains-map_cases}
+use Rattle.entry_order.proofs.Orders.{sent_in_from, sent_in_cases}
+use Rattle.entangled_log.proofs.Legal.{IsLegal-push}
+
+module _ {T : Type 0} where
+  -- ---- a machine that has stopped
+
+  history_stop : (w : World T) (at n : ℕ) → history (with_machine at stop w) n ≡ history w n
+  history_stop [] at n = refl
+  history_stop (a ∷ w) zero zero = refl
+  history_stop (a ∷ w) zero (suc n) = refl
+  history_stop (a ∷ w) (suc at) zero = refl
+  history_stop (a ∷ w) (suc at) (suc n) = history_stop w at n
+
+  -- as many entries were sent
+  pub sent_in_stop : (w : World T) (at : ℕ) → sent_in (with_machine at stop w) ≡ sent_in w
+  sent_in_stop [] at = refl
+  sent_in_stop (a ∷ w) zero = refl
+  sent_in_stop (a ∷ w) (suc at) = ap (λ (es : List T). sent a.history ++ es) (sent_in_stop w at)
+
+  -- ---- a machine with one event more
+
+  -- each history stays, or is the machine's
+  grown : (w : World T) (at n : ℕ) (x : Event T) (a : Machine T) → slice_get w at ≡ Some a →
+      (history (with_machine at (append x) w) n ≡ history w n)
+      ⊎ ((n ≡ at) × (history w n ≡ a.history) × (history (with_machine at (append x) w) n ≡ a.history ++ x ∷ []))
+  grown [] at n x a e = inl refl
+  grown (b ∷ w) zero zero x a e =
+      let same : b ≡ a = cc in
+      inr (refl, ap (λ (u : Machine T). u.history) same, ap (λ (u : Machine T). u.history ++ x ∷ []) same)
+  grown (b ∷ w) zero (suc n) x a e = inl refl
+  grown (b ∷ w) (suc at) zero x a e = inl refl
+  grown (b ∷ w) (suc at) (suc n) x a e =
+      elim (grown w at n x a e) [ inl s ↦ inl s | inr r ↦ inr (ap suc r.0, r.1, r.2) ]
+
+  -- what was in a history still is
+  Contains-grown : (w : World T) (at n : ℕ) (x y : Event T) (a : Machine T) → slice_get w at ≡ Some a →
+      Contains (history w n) y → Contains (history (with_machine at (append x) w) n) y
+  Contains-grown w at n x y a e c =
+      elim (grown w at n x a e) [
+        | inl s ↦ subst (λ (h : List (Event T)). Contains h y) (sym s) c
+        | inr r ↦ subst (λ (h : List (Event T)). Contains h y) (sym r.2)
+            (Contains-append_left a.history (x ∷ []) y (subst (λ (h : List (Event T)). Contains h y) r.1 c))
+      ]
+
+  -- what is in a history was, or is the one event more
+  Contains-grown_cases : (w : World T) (at n : ℕ) (x y : Event T) (a : Machine T) → slice_get w at ≡ Some a →
+      Contains (history (with_machine at (append x) w) n) y → Contains (history w n) y ⊎ (x ≡ y)
+  Contains-grown_cases w at n x y a e c =
+      elim (grown w at n x a e) [
+        | inl s ↦ inl (subst (λ (h : List (Event T)). Contains h y) s c)
+        | inr r ↦ elim (Contains-append_cases a.history (x ∷ []) y
+            (subst (λ (h : List (Event T)). Contains h y) r.2 c)) [
+              | inl h ↦ inl (subst (λ (h : List (Event T)). Contains h y) (sym r.1) h)
+              | inr h ↦ elim (Contains-cons_cases x [] y h) [ inl s ↦ inr s | inr n ↦ absurd (Contains-none y n) ]
+            ]
+      ]
+
+  pub sent_in-grown : (w : World T) (at : ℕ) (x : Event T) (a : Machine T) → slice_get w at ≡ Some a → (e : T) →
+      Contains (sent_in w) e → Contains (sent_in (with_machine at (append x) w)) e
+  sent_in-grown w at x a is e c =
+      let r = sent_in_cases w e c in
+      sent_in_from (with_machine at (append x) w) r.0 e (Contains-grown w at r.0 x (Sent e) a is r.1)
+
+  pub sent_in-grown_cases : (w : World T) (at : ℕ) (x : Event T) (a : Machine T) → slice_get w at ≡ Some a → (e : T) →
+      Contains (sent_in (with_machine at (append x) w)) e → Contains (sent_in w) e ⊎ (x ≡ Sent e)
+  sent_in-grown_cases w at x a is e c =
+      let r = sent_in_cases (with_machine at (append x) w) e c in
+      elim (Contains-grown_cases w at r.0 x (Sent e) a is r.1) [ inl h ↦ inl (sent_in_from w r.0 e h) | inr s ↦ inr s ]
+
+  sent-append : (p q : List (Event T)) → sent (p ++ q) ≡ sent p ++ sent q
+  sent-append [] q = refl
+  sent-append (Sent e ∷ p) q = ap (λ (es : List T). e ∷ es) (sent-append p q)
+  sent-append (Got e ∷ p) q = sent-append p q
+
+  -- one entry more where it was sent, and no more where it was got
+  pub sent_in-count : (w : World T) (at : ℕ) (x : Event T) (a : Machine T) → slice_get w at ≡ Some a →
+      length (sent_in (with_machine at (append x) w)) ≡ length (sent_in w) + length (sent (x ∷ []))
+  sent_in-count [] at x a e = cc
+  sent_in-count (b ∷ w) zero x a e =
+      let one = ap length (sent-append b.history (x ∷ [])) in
+      let two = length-append (sent b.history) (sent (x ∷ [])) in
+      let all = length-append (sent (b.history ++ x ∷ [])) (sent_in w) in
+      let old = length-append (sent b.history) (sent_in w) in
+      omega (arith, one, two, all, old)
+  sent_in-count (b ∷ w) (suc at) x a e =
+      let more = sent_in-count w at x a e in
+      let all = length-append (sent b.history) (sent_in (with_machine at (append x) w)) in
+      let old = length-append (sent b.history) (sent_in w) in
+      omega (arith, more, all, old)
+
+  sent_few : (h : List (Event T)) → length (sent h) ≤ length h
+  sent_few [] = omega arith
+  sent_few (Sent e ∷ h) = let rest = sent_few h in omega (arith, rest)
+  sent_few (Got e ∷ h) = let rest = sent_few h in omega (arith, rest)
+
+  -- no more entries were sent than all logs have room for
+  pub sent_in_few : (w : World T) → ((m : ℕ) (a : Machine T) → slice_get w m ≡ Some a → length a.history ≤ 4096) →
+      length (sent_in w) ≤ 4096 * length w
+  sent_in_few [] small = omega arith
+  sent_in_few (a ∷ w) small =
+      let rest = sent_in_few w (λ m b is. small (suc m) b is) in
+      let here = small zero a refl in
+      omega (arith, rest, here, sent_few a.history, length-append (sent a.history) (sent_in w))
+
+module _ {T : Type 0} (node : T → Node) where
+  fold_at_most : (most top : ℕ) (es : List T) → top ≤ most → ((e : T) → Contains es e → (node e).stamp ≤ most) →
+      fold (λ top e. max top (node e).stamp) top es ≤ most
+  fold_at_most most top [] le all = le
+  fold_at_most most top (e ∷ es) le all =
+      let here = all e (Contains-head e es) in
+      fold_at_most most (max top (node e).stamp) es (omega (arith, here)) (λ f c. all f (Contains-later e es f c))
+
+  greatest_at_most : (most : ℕ) (es : List T) → ((e : T) → Contains es e → (node e).stamp ≤ most) →
+      greatest_stamp node es ≤ most
+  greatest_at_most most es all = fold_at_most most 0 es (omega arith) all
+
+  module _ (w : World T) (orderly : IsOrderly node w) where
+    -- what is held was sent, so it has a stamp as small as what was sent
+    pub held_stamps : (most n : ℕ) → ((e : T) → Contains (sent_in w) e → (node e).stamp ≤ most) → (e : T) →
+        Contains (held (history w n)) e → (node e).stamp ≤ most
+    held_stamps most n all e c =
+        let r = Contains-map_cases entry_of (history w n) e c in
+        subst (λ (f : T). (node f).stamp ≤ most) r.2 (by r.0 r.1)
+      where
+        by : (y : Event T) → Contains (history w n) y → (node (entry_of y)).stamp ≤ most
+        by (Sent f) h = all f (sent_in_from w n f h)
+        by (Got f) h = all f (orderly.heard n f h)
+
+    pub held_greatest : (most n : ℕ) → ((e : T) → Contains (sent_in w) e → (node e).stamp ≤ most) →
+        greatest_stamp node (held (history w n)) ≤ most
+    held_greatest most n all = greatest_at_most most (held (history w n)) (held_stamps most n all)
+
+    module _ (at : ℕ) where
+      -- a machine that stops leaves a world orderly
+      pub IsOrderly-stop : IsOrderly node (with_machine at stop w)
+      IsOrderly-stop = record {
+        legal = λ n. subst (λ (h : List (Event T)). IsLegal node n h) (sym (history_stop w at n)) (orderly.legal n);
+        heard = λ n e c. subst (λ (es : List T). Contains es e) (sym (sent_in_stop w at))
+            (orderly.heard n e (subst (λ (h : List (Event T)). Contains h (Got e)) (history_stop w at n) c));
+      }
+
+      -- so does an event that may follow, if what is got was sent
+      pub IsOrderly-append : (x : Event T) (a : Machine T) → slice_get w at ≡ Some a → MayFollow node at a.history x →
+          ((e : T) → x ≡ Got e → Contains (sent_in w) e) → IsOrderly node (with_machine at (append x) w)
+      IsOrderly-append x a is may was_sent = record { legal = legal; heard = heard }
+        where
+          legal : (n : ℕ) → IsLegal node n (history (with_machine at (append x) w) n)
+          legal n =
+              elim (grown w at n x a is) [
+                | inl s ↦ subst (λ (h : List (Event T)). IsLegal node n h) (sym s) (orderly.legal n)
+                | inr r ↦ subst (λ (h : List (Event T)). IsLegal node n h) (sym r.2)
+                    (IsLegal-push node n a.history x
+                    (subst (λ (h : List (Event T)). IsLegal node n h) r.1 (orderly.legal n))
+                    (subst (λ (i : ℕ). MayFollow node i a.history x) (sym r.0) may))
+              ]
+
+          heard : (n : ℕ) (e : T) → Contains (history (with_machine at (append x) w) n) (Got e) →
+              Contains (sent_in (with_machine at (append x) w)) e
+          heard n e c =
+              sent_in-grown w at x a is e
+              (elim (Contains-grown_cases w at n x (Got e) a is c) [
+                | inl h ↦ orderly.heard n e h
+                | inr s ↦ was_sent e s
+              ])

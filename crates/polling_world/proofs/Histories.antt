@@ -1,0 +1,119 @@
+-- Histories with one event more.
+use Rattle.std.proofs.Common.{◌≡◌, ℕ, ◌+◌, ◌≤◌, List, [], ◌∷◌, ◌++◌, length, map, refl, ap, subst, ◌∙◌}
+use Rattle.std.proofs.Common.{◌⊎◌, inl, inr, arith}
+use Rattle.std.specs.List.{Any, Contains, filter}
+use Rattle.std.specs.Prelude.{not}
+use Rattle.std.specs.Cmp.Lexicographic.{slice_cmp}
+use Rattle.std.specs.Ordering.{nat_cmp}
+use Rattle.std.specs.declared.cmp.Ordering.{Ordering}
+use Rattle.std.specs.declared.cmp.Ordering.TheVariants.{Less, Equal, Greater}
+use Rattle.std.proofs.lemmas.List.{length-map, map_push}
+use Rattle.std.proofs.lemmas.List.Sums.{length-filter, count_by-le-length}
+use Rattle.entry_format.specs.Nodes.{node_of_sealed}
+use Rattle.entry_format.specs.SealedEntry.{SealedEntry}
+use Rattle.entry_order.specs.declared.event.Event.{Event}
+use Rattle.entry_order.specs.declared.event.Event.TheVariants.{Sent, Got}
+use Rattle.entry_order.specs.Ascending.{ascending, insert_digest, inserted, IsAscending}
+use Rattle.entry_order.specs.Frontier.{frontier}
+use Rattle.entry_order.specs.History.{entry_of, held, sent}
+use Rattle.entry_order.specs.Naming.{is_named}
+use Rattle.entry_order.proofs.Ascending.{ascending_ascending}
+use Rattle.entry_order.proofs.Lists.{Contains-map, Contains-map_cases}
+use Rattle.polling_world.specs.Configs.{Config}
+use Rattle.polling_world.specs.Rules.{entries_in}
+use Rattle.polling_world.specs.Sending.{AreMade, MaySend}
+
+-- where one more is put at the end, a place in the list is an earlier one or the last
+last_or_earlier : {X : Type 0} (xs : List X) (x : X) (before : List X) (y : X) (later : List X) →
+    xs ++ x ∷ [] ≡ before ++ y ∷ later → ((rest : List X) × (xs ≡ before ++ y ∷ rest)) ⊎ ((xs ≡ before) × (x ≡ y))
+last_or_earlier [] x [] y later e = inr (refl, cc)
+last_or_earlier [] x (b ∷ []) y later e = cc
+last_or_earlier [] x (b ∷ c ∷ before) y later e = cc
+last_or_earlier (a ∷ xs) x [] y later e = inl (xs, cc)
+last_or_earlier {X} (a ∷ xs) x (b ∷ before) y later e =
+    let head : a ≡ b = cc in
+    let tail : xs ++ x ∷ [] ≡ before ++ y ∷ later = cc in
+    let earlier : (rest : List X) × (xs ≡ before ++ y ∷ rest) →
+    (rest : List X) × (a ∷ xs ≡ b ∷ (before ++ y ∷ rest)) = λ r. (r.0, cc (r.1, head)) in
+    let last : (xs ≡ before) × (x ≡ y) → (a ∷ xs ≡ b ∷ before) × (x ≡ y) = λ r. (cc (r.0, head), r.1) in
+    elim (last_or_earlier xs x before y later tail) [ inl r ↦ inl (earlier r) | inr r ↦ inr (last r) ]
+
+-- one event more is made where, if it was sent, it could be sent
+pub AreMade-push : (config : Config) (h : List (Event SealedEntry)) (x : Event SealedEntry) → AreMade config h →
+    ((e : SealedEntry) → x ≡ Sent e → MaySend config h e) → AreMade config (h ++ x ∷ [])
+AreMade-push config h x made now before e later is =
+    let last : (h ≡ before) × (x ≡ Sent e) → MaySend config before e =
+    λ r. subst (λ (p : List (Event SealedEntry)). MaySend config p e) r.0 (now e r.1) in
+    elim (last_or_earlier h x before (Sent e) later is) [ inl r ↦ made before e r.0 r.1 | inr r ↦ last r ]
+
+-- nothing was made yet
+pub AreMade-none : (config : Config) → AreMade config []
+AreMade-none config [] e later is = cc
+AreMade-none config (b ∷ before) e later is = cc
+
+pub sent_one_more : {T : Type 0} (h : List (Event T)) (e : T) → length (sent (h ++ Sent e ∷ [])) ≡ length (sent h) + 1
+sent_one_more [] e = refl
+sent_one_more (Sent g ∷ h) e = omega (arith, sent_one_more h e)
+sent_one_more (Got g ∷ h) e = sent_one_more h e
+
+pub sent_as_many : {T : Type 0} (h : List (Event T)) (e : T) → length (sent (h ++ Got e ∷ [])) ≡ length (sent h)
+sent_as_many [] e = refl
+sent_as_many (Sent g ∷ h) e = omega (arith, sent_as_many h e)
+sent_as_many (Got g ∷ h) e = sent_as_many h e
+
+pub entries_push : (h : List (Event SealedEntry)) (x : Event SealedEntry) →
+    entries_in (h ++ x ∷ []) ≡ entries_in h ++ (entry_of x).entry ∷ []
+entries_push h x =
+    ap (map (λ (sealed : SealedEntry). sealed.entry)) (map_push (λ (x : Event SealedEntry). entry_of x) h x)
+    ∙ map_push (λ (sealed : SealedEntry). sealed.entry) (held h) (entry_of x)
+
+length-inserted : (o : Ordering) (d c : List ℕ) (cs after : List (List ℕ)) → length after ≤ length cs + 1 →
+    length (inserted o d c cs after) ≤ length cs + 2
+length-inserted Less d c cs after few = omega arith
+length-inserted Equal d c cs after few = omega arith
+length-inserted Greater d c cs after few = omega (arith, few)
+
+length-insert_digest : (d : List ℕ) (ds : List (List ℕ)) → length (insert_digest d ds) ≤ length ds + 1
+length-insert_digest d [] = omega arith
+length-insert_digest d (c ∷ cs) =
+    omega (arith, length-inserted (slice_cmp nat_cmp d c) d c cs (insert_digest d cs) (length-insert_digest d cs))
+
+length-ascending : (ds : List (List ℕ)) → length (ascending ds) ≤ length ds
+length-ascending [] = omega arith
+length-ascending (d ∷ ds) = omega (arith, length-insert_digest d (ascending ds), length-ascending ds)
+
+-- the frontier has at most as many digests as entries are held
+pub few_in_frontier : (h : List (Event SealedEntry)) → length (frontier node_of_sealed (held h)) ≤ length h
+few_in_frontier h =
+    let es = held h in
+    let ds = map (λ (e : SealedEntry). (node_of_sealed e).digest) es in
+    let p = λ (d : List ℕ). not (is_named node_of_sealed es d) in
+    omega (
+      arith,
+      length-ascending (filter p ds),
+      length-filter p ds,
+      count_by-le-length p ds,
+      length-map es (λ (e : SealedEntry). (node_of_sealed e).digest),
+      length-map h (λ (x : Event SealedEntry). entry_of x),
+    )
+
+-- and they rise
+pub frontier_rises : (es : List SealedEntry) → IsAscending (frontier node_of_sealed es)
+frontier_rises es =
+    ascending_ascending
+    (filter (λ d. not (is_named node_of_sealed es d)) (map (λ (e : SealedEntry). (node_of_sealed e).digest) es))
+
+-- an event with the stamp is of an entry that is held, and such an entry is of an event
+pub stamp_held : (stamp : ℕ) (h : List (Event SealedEntry)) →
+    Any (λ (x : Event SealedEntry). (entry_of x).entry.stamp ≡ stamp) h →
+    (e : SealedEntry) × Contains (held h) e × (e.entry.stamp ≡ stamp)
+stamp_held stamp h (k, x, within, is, has) =
+    (entry_of x, Contains-map (λ (x : Event SealedEntry). entry_of x) h x (k, within, is), has)
+
+pub stamp_among : (stamp : ℕ) (h : List (Event SealedEntry)) →
+    (e : SealedEntry) × Contains (held h) e × (e.entry.stamp ≡ stamp) →
+    Any (λ (x : Event SealedEntry). (entry_of x).entry.stamp ≡ stamp) h
+stamp_among stamp h (e, there, has) =
+    let found = Contains-map_cases (λ (x : Event SealedEntry). entry_of x) h e there in
+    let at = found.1 in
+    (at.0, found.0, at.1, at.2, ap (λ (e : SealedEntry). e.entry.stamp) found.2 ∙ has)

@@ -1,0 +1,240 @@
+-- What a machine keeps, when it is made and when an event is appended.
+use Rattle.std.proofs.Common.{◌≡◌, ℕ, ◌+◌, ◌<◌, ◌≤◌, Bool, true, false, List, [], ◌∷◌, ◌++◌, length, All, refl, sym, ap}
+use Rattle.std.proofs.Common.{subst, ◌∙◌, get_or, arith, length-append}
+use Rattle.std.proofs.lemmas.List.{length-map}
+use Rattle.std.proofs.lemmas.Option.{slice_get_within, get_or_from_slice_get}
+use Rattle.std.proofs.lemmas.Bool.{leb-false}
+use Rattle.std.specs.Prelude.{IsTrue, not, ◌||◌, Option, Some, None, slice_get}
+use Rattle.lms_sign.specs.Secret.{Secret}
+use Rattle.roster.specs.declared.post.Post.{Post}
+use Rattle.roster.specs.declared.post.Role.{Role}
+use Rattle.entry_format.specs.declared.deed.Deed.{Deed}
+use Rattle.entry_format.specs.Nodes.{node_of_sealed}
+use Rattle.entry_format.specs.SealedEntry.{SealedEntry}
+use Rattle.entry_order.specs.declared.event.Event.{Event}
+use Rattle.entry_order.specs.declared.event.Event.TheVariants.{Sent, Got}
+use Rattle.entry_order.specs.History.{MayFollow}
+use Rattle.entangled_log.specs.declared.heard.Heard.{Heard}
+use Rattle.entangled_log.specs.declared.heard.Heard.TheVariants.{Taken, Own, Already, Full}
+use Rattle.entangled_log.specs.Hearing.{IsAnswer, log_after}
+use Rattle.entangled_log.specs.Logs.{History}
+use Rattle.entangled_log.proofs.Legal.{IsLegal-push, IsLegal-none}
+use Rattle.election_script.specs.declared.script.Cast0.{Cast0}
+use Rattle.election_script.specs.declared.script.Script.{Script}
+use Rattle.election_script.specs.Lawful.{IsLawful, IsCast, IsDeedAmong, IsDeedOf}
+use Rattle.polling_world.specs.declared.rules.Rules.{Rules}
+use Rattle.polling_world.specs.Configs.{config_of}
+use Rattle.polling_world.specs.Keys.{key_of, post_of, roster_of}
+use Rattle.polling_world.specs.Kept.{IsKept, StandFor, spare_of}
+use Rattle.polling_world.specs.Machines.{MachineState, IsMachine, IsWithinStop, is_reached, log_of, with_event}
+use Rattle.polling_world.specs.Making.{election_of}
+use Rattle.polling_world.specs.Rules.{entries_in}
+use Rattle.polling_world.specs.Sending.{MaySend}
+use Rattle.polling_world.specs.Waiting.{IsGoing}
+use Rattle.polling_world.proofs.Histories.{AreMade-none, AreMade-push, sent_one_more, sent_as_many}
+use Rattle.polling_world.proofs.MadeEntries.{may_follow}
+use Rattle.polling_world.proofs.Rosters.{key_in_roster, roster_has_text}
+
+-- a number that isn't reached allows one event more
+one_more : (stop : Option ℕ) (count : ℕ) → is_reached stop count ≡ false → IsWithinStop stop (count + 1)
+one_more None count going = tt
+one_more (Some stop) count going = omega (arith, leb-false stop count going)
+
+or_false : (a b : Bool) → IsTrue (not (a || b)) → b ≡ false
+or_false true b going = cc
+or_false false true going = cc
+or_false false false going = refl
+
+not_reached : (m : MachineState) → IsGoing m → is_reached m.stop (length m.events) ≡ false
+not_reached m going = or_false m.marked (is_reached m.stop (length m.events)) going
+
+-- one event more, which may follow and, if it is sent, may be sent
+IsMachine-push : (m : MachineState) (x : Event SealedEntry) → IsMachine m → IsGoing m →
+    length m.events < m.config.log → MayFollow node_of_sealed m.config.number m.events x →
+    ((e : SealedEntry) → x ≡ Sent e → MaySend m.config m.events e) → IsMachine (with_event x m)
+IsMachine-push m x machine going room may send =
+    let longer : length (m.events ++ x ∷ []) ≡ length m.events + 1 = length-append m.events (x ∷ []) in
+    record {
+      roster = machine.roster;
+      place = machine.place;
+      public = machine.public;
+      actions = machine.actions;
+      legal = IsLegal-push node_of_sealed m.config.number m.events x machine.legal may;
+      within = omega (arith, longer, room);
+      sent = AreMade-push m.config m.events x machine.sent send;
+      stop = subst (λ n. IsWithinStop m.stop n) (sym longer)
+          (one_more m.stop (length m.events) (not_reached m going));
+    }
+
+module _ (m : MachineState) (election : List ℕ) (next capacity : ℕ) (before after : Rules)
+    (kept : IsKept m election next capacity before) (going : IsGoing m) (room : length m.events < m.config.log) where
+  -- a machine that sends an entry that it may send
+  pub IsKept-sent : (e : SealedEntry) → MaySend m.config m.events e →
+      StandFor after m.config.role m.config.number (entries_in (m.events ++ Sent e ∷ [])) →
+      spare_of before ≤ spare_of after + 1 → IsKept (with_event (Sent e) m) election (next + 1) capacity after
+  IsKept-sent e may noted spare =
+      let longer : length (m.events ++ Sent e ∷ []) ≡ length m.events + 1 = length-append m.events (Sent e ∷ []) in
+      record {
+        machine = IsMachine-push m (Sent e) kept.machine going room (may_follow m.config m.events e may)
+            (λ f is. subst (λ (g : SealedEntry). MaySend m.config m.events g) (cc is) may);
+        of_roster = kept.of_roster;
+        signs_next = omega (arith, kept.signs_next, sent_one_more m.events e);
+        indexed = omega (arith, kept.signs_next, may.unspent);
+        of_log = kept.of_log;
+        noted = noted;
+        spare = omega (arith, kept.spare, spare, longer);
+        few = kept.few;
+      }
+
+  -- a machine that hears an entry that may follow
+  pub IsKept-got : (e : SealedEntry) → MayFollow node_of_sealed m.config.number m.events (Got e) →
+      StandFor after m.config.role m.config.number (entries_in (m.events ++ Got e ∷ [])) →
+      m.config.log ≤ length (m.events ++ Got e ∷ []) + spare_of after →
+      IsKept (with_event (Got e) m) election next capacity after
+  IsKept-got e may noted spare = record {
+    machine = IsMachine-push m (Got e) kept.machine going room may (λ f is. cc);
+    of_roster = kept.of_roster;
+    signs_next = kept.signs_next ∙ sym (sent_as_many m.events e);
+    indexed = kept.indexed;
+    of_log = kept.of_log;
+    noted = noted;
+    spare = spare;
+    few = kept.few;
+  }
+
+-- the script's machine before anything happened
+abbrev pub fresh : Script → ℕ → Cast0 → Option ℕ → MachineState
+fresh script at cast stop =
+    record { config = config_of script at cast; stop = stop; marked = false; events = [] }
+
+-- what is seen of these fields
+abbrev pub state_from : Option ℕ → Bool → List ℕ → Role → List Deed → Secret → List Post → History SealedEntry →
+    MachineState
+state_from stop marked name role actions key posts log = record {
+  config = record {
+    number = log.owner;
+    name = name;
+    role = role;
+    actions = actions;
+    key = record key { next = 0 };
+    roster = posts;
+    log = log.capacity;
+  };
+  stop = stop;
+  marked = marked;
+  events = log.events;
+}
+
+-- what was read of the script is its machine
+pub is_fresh : (script : Script) (at : ℕ) (cast read : Cast0) (stop : Option ℕ) (name : List ℕ) (actions : List Deed)
+    (key : Secret) (posts : List Post) (log : History SealedEntry) → read ≡ cast → name ≡ read.name →
+    actions ≡ read.actions → key ≡ key_of script cast → posts ≡ roster_of script →
+    log ≡ record { owner = at; capacity = script.log; events = [] } →
+    state_from stop false name read.role actions key posts log ≡ fresh script at cast stop
+is_fresh script at cast read stop name actions key posts log reads names acts keys rosters logs =
+    ap (λ n. state_from stop false n read.role actions key posts log) (names ∙ ap (λ (c : Cast0). c.name) reads)
+    ∙ ap (λ r. state_from stop false cast.name r actions key posts log) (ap (λ (c : Cast0). c.role) reads)
+    ∙ ap (λ a. state_from stop false cast.name cast.role a key posts log) (acts ∙ ap (λ (c : Cast0). c.actions) reads)
+    ∙ ap (λ k. state_from stop false cast.name cast.role cast.actions k posts log) keys
+    ∙ ap (λ p. state_from stop false cast.name cast.role cast.actions (key_of script cast) p log) rosters
+    ∙ ap (λ l. state_from stop false cast.name cast.role cast.actions (key_of script cast) (roster_of script) l) logs
+
+-- any number of events to stop at allows none
+none_yet : (stop : Option ℕ) → IsWithinStop stop 0
+none_yet None = tt
+none_yet (Some stop) = omega arith
+
+IsMachine-fresh : (script : Script) (at : ℕ) (cast : Cast0) (stop : Option ℕ) → IsLawful script →
+    slice_get script.machines at ≡ Some cast → IsMachine (fresh script at cast stop)
+IsMachine-fresh script at cast stop lawful is =
+    let within : at < length script.machines = slice_get_within script.machines at cast is in
+    let here : get_or script.machines at cast ≡ cast = get_or_from_slice_get script.machines at cast cast is in
+    let acts : All (λ deed. IsDeedOf cast.role deed × IsDeedAmong script.machines deed) cast.actions =
+    subst (IsCast script.machines) here (lawful.machines.actions at cast within) in
+    record {
+      roster = roster_has_text script lawful;
+      place = omega (arith, within, length-map script.machines (post_of script));
+      public = key_in_roster script at cast is;
+      actions = λ k d inside. (acts k d inside).0;
+      legal = IsLegal-none node_of_sealed at;
+      within = omega arith;
+      sent = AreMade-none (config_of script at cast);
+      stop = none_yet stop;
+    }
+
+-- what the fields keep when the machine is made
+pub IsKept-fresh : (script : Script) (at : ℕ) (cast : Cast0) (stop : Option ℕ) (m : MachineState) (election : List ℕ)
+    (next : ℕ) (state : Rules) → IsLawful script → slice_get script.machines at ≡ Some cast →
+    m ≡ fresh script at cast stop → election ≡ election_of (roster_of script) → next ≡ 0 →
+    StandFor state cast.role at [] → script.log ≤ spare_of state → IsKept m election next script.log state
+IsKept-fresh script at cast stop m election next state lawful is fresh_is elected unused stand room =
+    let P : MachineState → Type 0 = λ m. IsKept m election next script.log state in
+    subst P (sym fresh_is) (
+    record {
+      machine = IsMachine-fresh script at cast stop lawful is;
+      of_roster = elected;
+      signs_next = unused;
+      indexed = omega (arith, unused);
+      of_log = refl;
+      noted = stand;
+      spare = omega (arith, room);
+      few = lawful.log.1;
+    })
+
+-- the machine with this log in place of its own
+abbrev pub with_log : History SealedEntry → MachineState → MachineState
+with_log log m = record {
+  config = record m.config { number = log.owner; log = log.capacity };
+  stop = m.stop;
+  marked = m.marked;
+  events = log.events;
+}
+
+module _ (m : MachineState) (election : List ℕ) (next capacity : ℕ) (before after : Rules)
+    (kept : IsKept m election next capacity before) where
+  -- nothing was taken
+  IsKept-same : StandFor after m.config.role m.config.number (entries_in m.events) →
+      m.config.log ≤ length m.events + spare_of after → IsKept m election next capacity after
+  IsKept-same noted spare = record {
+    machine = kept.machine;
+    of_roster = kept.of_roster;
+    signs_next = kept.signs_next;
+    indexed = kept.indexed;
+    of_log = kept.of_log;
+    noted = noted;
+    spare = spare;
+    few = kept.few;
+  }
+
+  heard_kept : IsGoing m → (e : SealedEntry) (heard : Heard SealedEntry) →
+      IsAnswer node_of_sealed (log_of m) e heard →
+      StandFor after m.config.role m.config.number (entries_in (log_after heard e (log_of m)).events) →
+      m.config.log ≤ length (log_after heard e (log_of m)).events + spare_of after →
+      IsKept (with_log (log_after heard e (log_of m)) m) election next capacity after
+  heard_kept going e Taken answer noted spare =
+      IsKept-got m election next capacity before after kept going answer.2 e (answer.1, answer.0) noted spare
+  heard_kept going e (Own back) answer noted spare = IsKept-same noted spare
+  heard_kept going e (Already back) answer noted spare = IsKept-same noted spare
+  heard_kept going e (Full back) answer noted spare = IsKept-same noted spare
+
+  -- the capacity stays
+  fits_after : (heard : Heard SealedEntry) (e : SealedEntry) →
+      (log_after heard e (log_of m)).capacity ≤ length (log_after heard e (log_of m)).events + spare_of after →
+      m.config.log ≤ length (log_after heard e (log_of m)).events + spare_of after
+  fits_after Taken e fits = fits
+  fits_after (Own back) e fits = fits
+  fits_after (Already back) e fits = fits
+  fits_after (Full back) e fits = fits
+
+  -- a machine whose log heard an entry
+  pub IsKept-heard : IsGoing m → (e : SealedEntry) (heard : Heard SealedEntry) (log : History SealedEntry) →
+      IsAnswer node_of_sealed (log_of m) e heard → log ≡ log_after heard e (log_of m) →
+      StandFor after m.config.role m.config.number (entries_in log.events) →
+      log.capacity ≤ length log.events + spare_of after → IsKept (with_log log m) election next capacity after
+  IsKept-heard going e heard log answer is noted spare =
+      let P : History SealedEntry → Type 0 = λ l. IsKept (with_log l m) election next capacity after in
+      subst P (sym is)
+      (heard_kept going e heard answer
+      (subst (λ (l : History SealedEntry). StandFor after m.config.role m.config.number (entries_in l.events)) is noted)
+      (fits_after heard e
+      (subst (λ (l : History SealedEntry). l.capacity ≤ length l.events + spare_of after) is spare)))

@@ -1,0 +1,16 @@
+pub mod NextTold
+pub mod OnePlay
+pub mod OneLeft
+pub mod Rosters
+pub mod Histories
+pub mod Ruled
+pub mod MadeEntries
+pub mod Keeping
+pub mod Growing
+pub mod Placing
+pub mod Stepping
+pub mod WorldSteps
+pub mod WorldMaking
+pub mod Played
+pub mod ThreeMachines
+pub mod Sessions

@@ -1,0 +1,134 @@
+-- The entries that a machine makes.
+use Rattle.std.proofs.Common.{◌≡◌, ℕ, Bool, false, List, refl, sym, ap, ◌∙◌}
+use Rattle.std.specs.Prelude.{◌↔◌, IsTrue, Some}
+use Rattle.std.proofs.lemmas.Bool.{true≢false}
+use Rattle.sha2.specs.Sha256.{sha256}
+use Rattle.canonical_sexp.specs.Text.{text_of}
+use Rattle.lms_sign.specs.Secret.{Secret, public_of, signed_by}
+use Rattle.entry_format.specs.declared.deed.Deed.{Deed}
+use Rattle.entry_format.specs.declared.entry.Entry.{Entry}
+use Rattle.entry_format.specs.EntryText.{body_tree, signed_tree}
+use Rattle.entry_format.specs.Nodes.{node_of_sealed}
+use Rattle.entry_format.specs.SealedEntry.{SealedEntry}
+use Rattle.entry_format.specs.Unsealing.{key_at, IsValid}
+use Rattle.entry_order.specs.declared.event.Event.{Event}
+use Rattle.entry_order.specs.declared.event.Event.TheVariants.{Sent}
+use Rattle.entry_order.specs.History.{MayFollow, held}
+use Rattle.entry_order.specs.Naming.{IsBorneIn}
+use Rattle.polling_world.specs.Acting.{IsHeldAlready}
+use Rattle.polling_world.specs.Configs.{Config}
+use Rattle.polling_world.specs.Making.{made, entry_with, next_entry}
+use Rattle.polling_world.specs.Machines.{MachineState}
+use Rattle.polling_world.specs.Sending.{MaySend, next_action}
+use Rattle.polling_world.specs.Waiting.{IsReady}
+
+-- what is made has the entry that was asked for
+pub entry-made : (config : Config) (k stamp : ℕ) (names : List (List ℕ)) (deed : Deed) →
+    (made config k stamp names deed).entry ≡ entry_with config k stamp names deed
+unfolding made
+entry-made config k stamp names deed = refl
+
+abbrev sealed_of : Entry → List ℕ → List ℕ → List ℕ → List ℕ → SealedEntry
+sealed_of entry signature text digest key =
+    record { entry = entry; signature = signature; text = text; digest = digest; key = key }
+
+-- a sealed entry is its parts
+same_parts : (s t : SealedEntry) → s.entry ≡ t.entry → s.signature ≡ t.signature → s.text ≡ t.text →
+    s.digest ≡ t.digest → s.key ≡ t.key → s ≡ t
+same_parts s t entry signature text digest key =
+    ap (λ e. sealed_of e s.signature s.text s.digest s.key) entry
+    ∙ ap (λ x. sealed_of t.entry x s.text s.digest s.key) signature
+    ∙ ap (λ x. sealed_of t.entry t.signature x s.digest s.key) text
+    ∙ ap (λ x. sealed_of t.entry t.signature t.text x s.key) digest
+    ∙ ap (λ x. sealed_of t.entry t.signature t.text t.digest x) key
+
+-- a sealed entry whose parts are these is the one that is made
+pub is_made : (config : Config) (k stamp : ℕ) (names : List (List ℕ)) (deed : Deed) (sealed : SealedEntry) →
+    sealed.entry ≡ entry_with config k stamp names deed →
+    sealed.signature ≡ signed_by (record config.key { next = k }) (text_of (body_tree sealed.entry)) →
+    sealed.text ≡ text_of (signed_tree sealed.entry sealed.signature) → sealed.digest ≡ sha256 sealed.text →
+    sealed.key ≡ public_of config.key → sealed ≡ made config k stamp names deed
+unfolding made
+is_made config k stamp names deed sealed entry signature text digest key =
+    let body = entry_with config k stamp names deed in
+    let signed : sealed.signature ≡ (made config k stamp names deed).signature =
+    signature ∙ ap (λ e. signed_by (record config.key { next = k }) (text_of (body_tree e))) entry in
+    let spelt : sealed.text ≡ (made config k stamp names deed).text =
+    text ∙ ap (λ e. text_of (signed_tree e sealed.signature)) entry
+    ∙ ap (λ s. text_of (signed_tree body s)) signed in
+    same_parts sealed (made config k stamp names deed) entry signed spelt (digest ∙ ap sha256 spelt) key
+
+-- an entry is its parts
+abbrev entry_of_parts : List ℕ → ℕ → ℕ → ℕ → List (List ℕ) → Deed → Entry
+entry_of_parts election maker number stamp names deed = record {
+  election = election;
+  maker = maker;
+  number = number;
+  stamp = stamp;
+  names = names;
+  deed = deed;
+}
+
+pub same_entry : (e f : Entry) → e.election ≡ f.election → e.maker ≡ f.maker → e.number ≡ f.number →
+    e.stamp ≡ f.stamp → e.names ≡ f.names → e.deed ≡ f.deed → e ≡ f
+same_entry e f election maker number stamp names deed =
+    ap (λ x. entry_of_parts x e.maker e.number e.stamp e.names e.deed) election
+    ∙ ap (λ x. entry_of_parts f.election x e.number e.stamp e.names e.deed) maker
+    ∙ ap (λ x. entry_of_parts f.election f.maker x e.stamp e.names e.deed) number
+    ∙ ap (λ x. entry_of_parts f.election f.maker f.number x e.names e.deed) stamp
+    ∙ ap (λ x. entry_of_parts f.election f.maker f.number f.stamp x e.deed) names
+    ∙ ap (λ x. entry_of_parts f.election f.maker f.number f.stamp f.names x) deed
+
+-- what a machine's key sealed is what it makes
+pub sealed_is_made : (config : Config) (k stamp : ℕ) (names : List (List ℕ)) (deed : Deed) (secret : Secret)
+    (entry : Entry) (sealed : SealedEntry) → secret ≡ record config.key { next = k } →
+    public_of config.key ≡ key_at config.roster config.number → entry ≡ entry_with config k stamp names deed →
+    sealed.entry ≡ entry → sealed.signature ≡ signed_by secret (text_of (body_tree entry)) →
+    IsValid config.roster entry.election sealed.text sealed → sealed ≡ made config k stamp names deed
+sealed_is_made config k stamp names deed secret entry sealed keys public says same signed valid =
+    is_made config k stamp names deed sealed (same ∙ says)
+    (signed ∙ ap (λ s. signed_by s (text_of (body_tree entry))) keys
+    ∙ ap (λ e. signed_by (record config.key { next = k }) (text_of (body_tree e))) (sym same))
+    valid.kept.spelt.spelt valid.kept.hashed
+    (valid.key ∙ ap (λ e. key_at config.roster e.maker) (same ∙ says) ∙ sym public)
+
+-- what may be sent may follow in a legal history
+pub may_follow : (config : Config) (h : List (Event SealedEntry)) (e : SealedEntry) → MaySend config h e →
+    MayFollow node_of_sealed config.number h (Sent e)
+may_follow config h e may =
+    let entry : e.entry ≡ (entry_with config _ _ _ may.deed) =
+    ap (λ (s : SealedEntry). s.entry) may.made ∙ entry-made config _ _ _ may.deed in (
+      may.new,
+      record {
+        maker = ap (λ (n : Entry). n.maker) entry;
+        number = ap (λ (n : Entry). n.number) entry;
+        stamp = ap (λ (n : Entry). n.stamp) entry;
+        names = ap (λ (n : Entry). n.names) entry;
+      },
+    )
+
+-- the entry of a next action that is ready may be sent where its digest isn't held
+pub may_send : (m : MachineState) (deed : Deed) (e : SealedEntry) (digest : List ℕ) (told : Bool) →
+    next_action m.config m.events ≡ Some deed → IsReady m deed → e ≡ next_entry m.config m.events deed →
+    IsTrue told ↔ IsBorneIn node_of_sealed (held m.events) digest → told ≡ false → digest ≡ e.digest →
+    MaySend m.config m.events e
+may_send m deed e digest told action ready made tells free same = record {
+  deed = deed;
+  action = action;
+  allowed = ready.allowed;
+  room = ready.room;
+  unspent = ready.unspent;
+  made = made;
+  new = λ g there equal. true≢false (sym (tells.1 (g, there, equal ∙ sym same)) ∙ free);
+}
+
+-- where it is held, no entry is sent
+pub held_already : (m : MachineState) (deed : Deed) (e : SealedEntry) (digest : List ℕ) →
+    next_action m.config m.events ≡ Some deed → IsReady m deed → e ≡ next_entry m.config m.events deed →
+    IsBorneIn node_of_sealed (held m.events) digest → digest ≡ e.digest → IsHeldAlready m
+held_already m deed e digest action ready made borne same = record {
+  deed = deed;
+  action = action;
+  ready = ready;
+  held = (borne.0, borne.1, borne.2 ∙ same ∙ ap (λ (s : SealedEntry). s.digest) made);
+}

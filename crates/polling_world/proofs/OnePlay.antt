@@ -1,0 +1,89 @@
+-- The machines of a script play it in one way.
+use mathlib.Core.Path.{fun_ext}
+use Rattle.std.proofs.Common.{◌≡◌, ◌∙◌, ℕ, ◌<◌, Bool, false, ◌||◌, List, [], length, map, get_or, Option, Some, None, refl, sym, subst, ap, arith}
+use Rattle.std.specs.Prelude.{slice_get}
+use Rattle.std.proofs.Math.Bool.{or-false}
+use Rattle.std.proofs.lemmas.List.{same_lists, get_or-map, length-map}
+use Rattle.std.proofs.lemmas.Option.{slice_get-get_or}
+use Rattle.entry_format.specs.Nodes.{node_of_sealed}
+use Rattle.entry_format.specs.SealedEntry.{SealedEntry}
+use Rattle.entry_order.specs.declared.event.Event.{Event}
+use Rattle.entry_order.specs.World.{Machine, World, start, play}
+use Rattle.election_script.specs.declared.script.Cast0.{Cast0}
+use Rattle.election_script.specs.declared.script.Script.{Script}
+use Rattle.polling_world.specs.Configs.{Config, IsOf, config_of}
+use Rattle.polling_world.specs.Machines.{MachineState, has_stopped, is_reached}
+use Rattle.polling_world.specs.Playing.{AreOf, IsPlayed}
+use Rattle.polling_world.specs.Worlds.{TellsNext, machine_of, world_of, configs_of}
+use Rattle.polling_world.proofs.NextTold.{tells_same}
+
+-- a script gives each machine one configuration
+same_config : (script : Script) (a b : Config) → a.number ≡ b.number → IsOf script a → IsOf script b → a ≡ b
+same_config script a b number x y =
+    let at = x.1 in
+    let there = y.1 in
+    let cast : x.0 ≡ y.0 = cc in
+    x.2 ∙ ap (λ n. config_of script n x.0) number ∙ ap (λ (c : Cast0). config_of script b.number c) cast ∙ sym y.2
+
+-- a machine is told by what it is made of and what is seen of it
+same_machine : (m n : MachineState) → m.config ≡ n.config → m.stop ≡ None → n.stop ≡ None → machine_of m ≡ machine_of n → m ≡ n
+same_machine m n config stop stop' same =
+    let events : m.events ≡ n.events = ap (λ (a : Machine SealedEntry). a.history) same in
+    let marked : m.marked ≡ n.marked =
+    sym (or-false m.marked) ∙ sym (ap (λ (s : Option ℕ). m.marked || is_reached s (length m.events)) stop)
+    ∙ ap (λ (a : Machine SealedEntry). a.stopped) same
+    ∙ ap (λ (s : Option ℕ). n.marked || is_reached s (length n.events)) stop' ∙ or-false n.marked in
+    ap (λ (c : Config). record { config = c; stop = m.stop; marked = m.marked; events = m.events }) config
+    ∙ ap (λ (s : Option ℕ). record { config = n.config; stop = s; marked = m.marked; events = m.events })
+    (stop ∙ sym stop')
+    ∙ ap (λ (b : Bool). record { config = n.config; stop = n.stop; marked = b; events = m.events }) marked
+    ∙ ap (λ (es : List (Event SealedEntry)). record { config = n.config; stop = n.stop; marked = n.marked; events = es })
+    events
+
+-- so are machines
+same_machines : (script : Script) (ms ns : List MachineState) → AreOf script ms → AreOf script ns
+    → world_of ms ≡ world_of ns → ms ≡ ns
+same_machines script ms ns p q worlds =
+    let long : length ms ≡ length ns = p.count ∙ sym q.count in
+    same_lists ms ns long (λ k d within.
+    let m : MachineState = get_or ms k d in
+    let n : MachineState = get_or ns k d in
+    let at : slice_get ms k ≡ Some m = slice_get-get_or ms k d within in
+    let there : slice_get ns k ≡ Some n = slice_get-get_or ns k d (omega arith) in
+    let config : m.config ≡ n.config = same_config script m.config n.config
+    (p.number k m at ∙ sym (q.number k n there)) (p.config k m at) (q.config k n there) in
+    let same : machine_of m ≡ machine_of n = sym (get_or-map machine_of ms k d (machine_of d) within)
+    ∙ ap (λ (w : World SealedEntry). get_or w k (machine_of d)) worlds
+    ∙ get_or-map machine_of ns k d (machine_of d) (omega arith) in
+    same_machine m n config (p.no_stop k m at) (q.no_stop k n there) same)
+
+-- the configurations of a script's machines are the script's
+same_configs : (script : Script) (ms ns : List MachineState) → AreOf script ms → AreOf script ns
+    → configs_of ms ≡ configs_of ns
+same_configs script ms ns p q =
+    let made_of : MachineState → Config = λ (m : MachineState). m.config in
+    let long : length (configs_of ms) ≡ length (configs_of ns) =
+    length-map ms made_of ∙ p.count ∙ sym q.count ∙ sym (length-map ns made_of) in
+    same_lists (configs_of ms) (configs_of ns) long (λ k e below.
+    let d : MachineState = record { config = e; stop = None; marked = false; events = [] } in
+    let within : k < length ms = omega (arith, length-map ms made_of) in
+    let also : k < length ns = omega (arith, length-map ns made_of) in
+    let m : MachineState = get_or ms k d in
+    let n : MachineState = get_or ns k d in
+    let at : slice_get ms k ≡ Some m = slice_get-get_or ms k d within in
+    let there : slice_get ns k ≡ Some n = slice_get-get_or ns k d also in
+    get_or-map made_of ms k d e within
+    ∙ same_config script m.config n.config (p.number k m at ∙ sym (q.number k n there)) (p.config k m at)
+    (q.config k n there)
+    ∙ sym (get_or-map made_of ns k d e also))
+
+pub one_play : (script : Script) (ms ns : List MachineState) → IsPlayed script ms → IsPlayed script ns → ms ≡ ns
+one_play script ms ns p q =
+    let configs : configs_of ms ≡ configs_of ns = same_configs script ms ns p.are_of q.are_of in
+    let P : List Config → Type 0 = λ cs. TellsNext cs q.next in
+    let tells : TellsNext (configs_of ms) q.next = subst P (sym configs) q.tells in
+    let next : p.next ≡ q.next = fun_ext (λ (m : ℕ). fun_ext (λ (h : List (Event SealedEntry)).
+    tells_same (configs_of ms) p.next q.next p.tells tells m h)) in
+    same_machines script ms ns p.are_of q.are_of
+    (p.played
+    ∙ ap (λ f. play node_of_sealed f script.log (start (length script.machines)) script.steps) next ∙ sym q.played)

@@ -1,0 +1,170 @@
+-- A script's machines take its steps one after another.
+use Rattle.std.proofs.Common.{◌≡◌, ◌∙◌, ℕ, ◌+◌, ◌<◌, ◌≤◌, List, [], ◌∷◌, length, map, get_or, drop, replicate}
+use Rattle.std.proofs.Common.{Option, Some, None, false, inl, inr, refl, sym, subst, ap, arith}
+use Rattle.std.specs.Prelude.{slice_get, option_map, All}
+use Rattle.std.proofs.lemmas.List.{same_lists, get_or-map, length-map, drop_more, drop_all, get_or-replicate}
+use Rattle.std.proofs.lemmas.List.{length-replicate}
+use Rattle.std.proofs.lemmas.Option.{slice_get-get_or, slice_get-map, slice_get_cases}
+use Rattle.entry_format.specs.Nodes.{node_of_sealed}
+use Rattle.entry_format.specs.SealedEntry.{SealedEntry}
+use Rattle.entry_order.specs.declared.event.Event.{Event}
+use Rattle.entry_order.specs.declared.step.Step.{Step}
+use Rattle.entry_order.specs.declared.step.Step.TheVariants.{Act, Hear, Stop}
+use Rattle.entry_order.specs.World.{Machine, World, start, happens, play}
+use Rattle.election_script.specs.declared.script.Script.{Script}
+use Rattle.election_script.specs.declared.script.Cast0.{Cast0}
+use Rattle.election_script.specs.Lawful.{IsStep, IsLawful}
+use Rattle.polling_world.specs.Configs.{Config, config_of}
+use Rattle.polling_world.specs.Machines.{MachineState, IsFresh}
+use Rattle.polling_world.specs.Playing.{AreOf, IsPlayed}
+use Rattle.polling_world.specs.Steps.{IsStepOf}
+use Rattle.polling_world.specs.Worlds.{machine_of, world_of, configs_of, stops_of, HaveLog, AreFresh, TellsNext}
+use Rattle.polling_world.proofs.NextTold.{next_of, tells_next}
+
+-- lists that a function makes one of
+same_by : {X Y : Type 0} (f : X → Y) (x : X) (o : Option X) → option_map f o ≡ Some (f x)
+    → (y : X) × (o ≡ Some y) × (f x ≡ f y)
+same_by f x None is = cc
+same_by f x (Some y) is = (y, refl, cc)
+
+same_at : {X Y : Type 0} (f : X → Y) (xs ys : List X) (k : ℕ) (x : X) → map f xs ≡ map f ys → slice_get xs k ≡ Some x
+    → (y : X) × (slice_get ys k ≡ Some y) × (f x ≡ f y)
+same_at {X} {Y} f xs ys k x same at =
+    same_by f x (slice_get ys k)
+    (sym (slice_get-map f ys k) ∙ ap (λ (l : List Y). slice_get l k) (sym same) ∙ slice_get-map f xs k
+    ∙ ap (λ (o : Option X). option_map f o) at)
+
+-- what steps leave of what the machines are made of
+pub record Stays (script : Script) (first now : List MachineState) : Type 0 where
+  pub fresh : AreFresh script first
+  pub configs : configs_of now ≡ configs_of first
+  pub stops : stops_of now ≡ stops_of first
+
+pub stays_first : (script : Script) (first : List MachineState) → AreFresh script first → Stays script first first
+stays_first script first fresh = record { fresh = fresh; configs = refl; stops = refl }
+
+pub stays_more : (script : Script) (first now new : List MachineState) → Stays script first now
+    → configs_of new ≡ configs_of now → stops_of new ≡ stops_of now → Stays script first new
+stays_more script first now new stays configs stops =
+    record { fresh = stays.fresh; configs = configs ∙ stays.configs; stops = stops ∙ stays.stops }
+
+-- how many there are
+pub count_stays : (script : Script) (first now : List MachineState) → Stays script first now
+    → length now ≡ length script.machines
+count_stays script first now stays =
+    sym (length-map now (λ (m : MachineState). m.config)) ∙ ap length stays.configs
+    ∙ length-map first (λ (m : MachineState). m.config) ∙ stays.fresh.count
+
+-- a machine is as it was made
+made_at : (script : Script) (first now : List MachineState) (k : ℕ) (m : MachineState) → Stays script first now
+    → slice_get now k ≡ Some m
+    → (f : MachineState) × (slice_get first k ≡ Some f) × (m.config ≡ f.config)
+made_at script first now k m stays at = same_at (λ (u : MachineState). u.config) now first k m stays.configs at
+
+pub are_of : (script : Script) (first now : List MachineState) → Stays script first now → AreOf script now
+are_of script first now stays = record {
+  count = count_stays script first now stays;
+  number = λ k m at.
+      let was = made_at script first now k m stays at in
+      let fresh = stays.fresh.each k was.0 was.1 in
+      ap (λ (c : Config). c.number) was.2 ∙ ap (λ (f : MachineState). f.config.number) fresh.2;
+  config = λ k m at.
+      let was = made_at script first now k m stays at in
+      let fresh = stays.fresh.each k was.0 was.1 in
+      let made = was.2 ∙ ap (λ (f : MachineState). f.config) fresh.2 in
+      let number : m.config.number ≡ k = ap (λ (c : Config). c.number) made in (
+        fresh.0,
+        ap (λ (n : ℕ). slice_get script.machines n) number ∙ fresh.1,
+        made ∙ ap (λ (n : ℕ). config_of script n fresh.0) (sym number),
+      );
+  no_stop = λ k m at.
+      let was = same_at (λ (u : MachineState). u.stop) now first k m stays.stops at in
+      let fresh = stays.fresh.each k was.0 was.1 in
+      was.2 ∙ ap (λ (f : MachineState). f.stop) fresh.2;
+}
+
+pub have_log : (script : Script) (first now : List MachineState) → Stays script first now → HaveLog script.log now
+have_log script first now stays = λ k d within.
+    let at = slice_get-get_or now k d within in
+    let was = made_at script first now k (get_or now k d) stays at in
+    let fresh = stays.fresh.each k was.0 was.1 in
+    ap (λ (c : Config). c.log) was.2 ∙ ap (λ (f : MachineState). f.config.log) fresh.2
+
+-- a step of the script is one of the machines
+step_in : (machines : List Cast0) (count : ℕ) (step : Step) → count ≡ length machines → IsStep machines step
+    → IsStepOf count step
+step_in machines count (Act machine) same is = omega arith
+step_in machines count (Hear at from number) same is = (omega arith, omega arith)
+step_in machines count (Stop machine) same is = omega arith
+
+pub step_of : (script : Script) (first now : List MachineState) (steps : List Step) (i : ℕ) (d : Step)
+    → IsLawful script → Stays script first now → steps ≡ script.steps → i < length steps
+    → IsStepOf (length now) (get_or steps i d)
+step_of script first now steps i d lawful stays same within =
+    let steps_are : All (IsStep script.machines) steps =
+    subst (λ (ss : List Step). All (IsStep script.machines) ss) (sym same) lawful.steps in
+    step_in script.machines (length now) (get_or steps i d) (count_stays script first now stays)
+    (steps_are i d within)
+
+-- nothing happened yet
+starts : (script : Script) (first : List MachineState) (k : ℕ) (d : Machine SealedEntry) → AreFresh script first
+    → k < length first → get_or (world_of first) k d ≡ record { history = []; stopped = false }
+starts script first k d fresh within =
+    elim (slice_get_cases first k).1 [
+      | inl there ↦
+          get_or-map machine_of first k there.0 d within ∙ ap machine_of there.3
+          ∙ ap machine_of (fresh.each k there.0 there.2).2
+      | inr past ↦ absurd (omega arith)
+    ]
+
+pub at_start : (script : Script) (first : List MachineState) → AreFresh script first
+    → world_of first ≡ start (length script.machines)
+at_start script first fresh =
+    let n : ℕ = length script.machines in
+    let empty : Machine SealedEntry = record { history = []; stopped = false } in
+    let count : length (world_of first) ≡ n = length-map first machine_of ∙ fresh.count in
+    same_lists (world_of first) (start n) (count ∙ sym (length-replicate n empty)) (λ k d below.
+    starts script first k d fresh (omega (arith, length-map first machine_of))
+    ∙ sym (get_or-replicate n k empty d (omega arith)))
+
+-- what is left of the steps leads where all of them lead
+abbrev pub Leads : Script → List MachineState → List MachineState → List Step → Type 0
+Leads script first now steps =
+    (next : ℕ → List (Event SealedEntry) → Option SealedEntry) → TellsNext (configs_of first) next →
+    play node_of_sealed next script.log (world_of now) steps
+    ≡ play node_of_sealed next script.log (world_of first) script.steps
+
+pub leads_first : (script : Script) (first : List MachineState) (steps : List Step) → steps ≡ script.steps
+    → Leads script first first steps
+leads_first script first steps same next tells =
+    ap (λ (ss : List Step). play node_of_sealed next script.log (world_of first) ss) same
+
+pub leads_more : (script : Script) (first now new : List MachineState) (steps : List Step) (i : ℕ) (d : Step)
+    → i < length steps → Stays script first now
+    → ((next : ℕ → List (Event SealedEntry) → Option SealedEntry) (log : ℕ) → TellsNext (configs_of now) next
+    → HaveLog log now → world_of new ≡ happens node_of_sealed next log (world_of now) (get_or steps i d))
+    → Leads script first now (drop i steps) → Leads script first new (drop (i + 1) steps)
+leads_more script first now new steps i d within stays happened leads next tells =
+    let rest : List Step = drop (i + 1) steps in
+    let here : get_or steps i d ∷ rest ≡ drop i steps = sym (drop_more steps i d within) in
+    let P : List Config → Type 0 = λ configs. TellsNext configs next in
+    let same = happened next script.log (subst P (sym stays.configs) tells) (have_log script first now stays) in
+    ap (λ (w : World SealedEntry). play node_of_sealed next script.log w rest) same
+    ∙ ap (λ (ss : List Step). play node_of_sealed next script.log (world_of now) ss) here ∙ leads next tells
+
+pub played_whole : (script : Script) (first now : List MachineState) (steps : List Step) (i : ℕ)
+    → length steps ≤ i → Stays script first now → Leads script first now (drop i steps) → IsPlayed script now
+played_whole script first now steps i past stays leads =
+    let next : ℕ → List (Event SealedEntry) → Option SealedEntry = next_of (configs_of first) in
+    let tells : TellsNext (configs_of first) next = tells_next (configs_of first) in
+    let P : List Config → Type 0 = λ configs. TellsNext configs next in
+    record {
+      are_of = are_of script first now stays;
+      next = next;
+      tells = subst P (sym stays.configs) tells;
+      played = ap (λ (ss : List Step). play node_of_sealed next script.log (world_of now) ss)
+          (sym (drop_all i steps past))
+          ∙ leads next tells
+          ∙ ap (λ (w : World SealedEntry). play node_of_sealed next script.log w script.steps)
+          (at_start script first stays.fresh);
+    }

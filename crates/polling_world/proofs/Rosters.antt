@@ -1,0 +1,117 @@
+-- The roster of a script makes a roster that has a text, and each machine's key is at its place.
+use Rattle.std.proofs.Common.{◌≡◌, ℕ, zero, suc, ◌+◌, ◌<◌, List, [], ◌∷◌, ◌++◌, length, map, get_or}
+use Rattle.std.proofs.Common.{refl, sym, ap, ◌∙◌, arith, length-append}
+use Rattle.std.specs.Prelude.{codes, slice_get, Some, count_by, if◌then◌else◌}
+use Rattle.std.specs.List.{fold}
+use Rattle.std.proofs.lemmas.List.{length-map, get_or-map, length-take-le}
+use Rattle.std.proofs.lemmas.List.Elements.{All-map}
+use Rattle.std.proofs.lemmas.Option.{slice_get_within, get_or_from_slice_get}
+use Rattle.sha2.specs.Sha256.{sha256}
+use Rattle.sha2.proofs.Facts256.{length-sha256}
+use Rattle.lms_ots.specs.declared.kind.OtsKind.{OtsKind}
+use Rattle.lms_ots.specs.Parameters.{parameters}
+use Rattle.lms_ots.specs.Ots.{u32str}
+use Rattle.lms_ots.proofs.Candidates.{length-u32str}
+use Rattle.lms_sign.specs.Height.{lms_typecode}
+use Rattle.lms_sign.specs.Secret.{Secret, public_of}
+use Rattle.lms_sign.specs.Tree.{lms_public, node, leaf, interior}
+use Rattle.roster.specs.declared.post.Post.{Post}
+use Rattle.roster.specs.Machines.{AreDistinct, HaveText, IsName, is_supervisor}
+use Rattle.roster.specs.RosterText.{HasKey, roster_tree}
+use Rattle.canonical_sexp.specs.Text.{text_of}
+use Rattle.entry_format.specs.Unsealing.{key_at}
+use Rattle.entry_format.proofs.Keys.{key_is}
+use Rattle.election_script.specs.declared.script.Cast0.{Cast0}
+use Rattle.election_script.specs.declared.script.Script.{Script}
+use Rattle.election_script.specs.Lawful.{IsLawful}
+use Rattle.polling_world.specs.Keys.{machine_id, key_of, post_of, roster_of}
+use Rattle.polling_world.specs.Making.{election_of}
+
+length-node : (kind : OtsKind) (h : ℕ) (id seed : List ℕ) (n r : ℕ) → length (node kind h id seed n r) ≡ 32
+unfolding node leaf interior
+length-node kind h id seed zero r = length-sha256 _
+length-node kind h id seed (suc n) r = length-sha256 _
+
+-- a public key has 56 octets
+length-public : (s : Secret) → length s.id ≡ 16 → length (public_of s) ≡ 56
+unfolding lms_public
+length-public s sixteen =
+    let a = u32str (lms_typecode s.height) in
+    let b = u32str (parameters s.kind).typecode in
+    let t = node s.kind s.height s.id s.seed s.height 1 in
+    omega (
+      arith,
+      length-append (a ++ b ++ s.id) t,
+      length-append (a ++ b) s.id,
+      length-append a b,
+      length-u32str (lms_typecode s.height),
+      length-u32str (parameters s.kind).typecode,
+      sixteen,
+      length-node s.kind s.height s.id s.seed s.height 1,
+    )
+
+length-id : (seed name : List ℕ) → length (machine_id seed name) ≡ 16
+unfolding machine_id
+length-id seed name =
+    let hash = sha256 (codes "auditorium id" ++ seed ++ name) in
+    length-take-le 16 hash (omega (arith, length-sha256 (codes "auditorium id" ++ seed ++ name)))
+
+has_key : (script : Script) (cast : Cast0) → HasKey (post_of script cast)
+has_key script cast = length-public (key_of script cast) (length-id script.seed cast.name)
+
+some_of : (casts : List Cast0) (k : ℕ) → k < length casts → Cast0
+some_of [] k within = absurd (omega arith)
+some_of (cast ∷ casts) k within = cast
+
+distinct_posts : (script : Script) → IsLawful script → AreDistinct (roster_of script)
+distinct_posts script lawful i j d before within same =
+    let casts = script.machines in
+    let long : j < length casts = omega (arith, within, length-map casts (post_of script)) in
+    let cast : Cast0 = some_of casts j long in
+    let first : get_or (roster_of script) i d ≡ post_of script (get_or casts i cast) =
+    get_or-map (post_of script) casts i cast d (omega (arith, before, long)) in
+    let second : get_or (roster_of script) j d ≡ post_of script (get_or casts j cast) =
+    get_or-map (post_of script) casts j cast d long in
+    lawful.machines.distinct i j cast before long
+    (sym (ap (λ (post : Post). post.name) first) ∙ same ∙ ap (λ (post : Post). post.name) second)
+
+sums : (script : Script) (casts : List Cast0) (n : ℕ) →
+    fold (λ n (post : Post). n + (if is_supervisor post.role then 1 else 0)) n (map (post_of script) casts)
+    ≡ fold (λ n (cast : Cast0). n + (if is_supervisor cast.role then 1 else 0)) n casts
+sums script [] n = refl
+sums script (cast ∷ casts) n = sums script casts (n + (if is_supervisor cast.role then 1 else 0))
+
+supervisors : (script : Script) → count_by (λ (post : Post). is_supervisor post.role) (roster_of script)
+    ≡ count_by (λ (cast : Cast0). is_supervisor cast.role) script.machines
+supervisors script = sums script script.machines 0
+
+-- the roster of a lawful script has a text
+pub roster_has_text : (script : Script) → IsLawful script → HaveText (roster_of script)
+roster_has_text script lawful = record {
+  roster = record {
+    few = omega (arith, lawful.machines.few.1, length-map script.machines (post_of script));
+    named = All-map (λ (post : Post). IsName post.name) (post_of script) script.machines lawful.machines.named;
+    distinct = distinct_posts script lawful;
+    supervisor = supervisors script ∙ lawful.machines.supervisor;
+  };
+  keys = All-map HasKey (post_of script) script.machines (λ k d within. has_key script (get_or script.machines k d));
+}
+
+-- a machine that is there has its key in the roster
+pub key_in_roster : (script : Script) (at : ℕ) (cast : Cast0) → slice_get script.machines at ≡ Some cast →
+    public_of (key_of script cast) ≡ key_at (roster_of script) at
+key_in_roster script at cast is =
+    let casts = script.machines in
+    let within : at < length casts = slice_get_within casts at cast is in
+    let there : get_or (roster_of script) at (post_of script cast) ≡ post_of script cast =
+    get_or-map (post_of script) casts at cast (post_of script cast) within
+    ∙ ap (post_of script) (get_or_from_slice_get casts at cast cast is) in
+    sym (ap (λ (post : Post). post.key) there)
+    ∙ key_is (roster_of script) at (post_of script cast) (omega (arith, within, length-map casts (post_of script)))
+
+-- the election of a roster is SHA-256 of its text
+pub election_is : (hash text : List ℕ) (machines posts : List Post) → hash ≡ sha256 text →
+    text ≡ text_of (roster_tree machines) → machines ≡ posts → hash ≡ election_of posts
+unfolding election_of
+election_is hash text machines posts hashed spelt same =
+    hashed ∙ ap sha256 spelt ∙ ap (λ (m : List Post). sha256 (text_of (roster_tree m))) same

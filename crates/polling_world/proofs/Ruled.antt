@@ -1,0 +1,95 @@
+-- The rules of a role.
+use Rattle.std.proofs.Common.{◌≡◌, ℕ, List, [], ◌∷◌, ◌++◌, refl, subst, inl, inr}
+use Rattle.std.specs.Prelude.{Result, IsTrue, ◌↔◌}
+use Rattle.entry_format.specs.declared.deed.Deed.{Deed}
+use Rattle.entry_format.specs.declared.deed.Deed.TheVariants.{Opened, Authorise, Override, Closed, Activate, Commit}
+use Rattle.entry_format.specs.declared.deed.Deed.TheVariants.{Cast, Cancel}
+use Rattle.entry_format.specs.declared.entry.Entry.{Entry}
+use Rattle.roster.specs.declared.post.Role.{Role}
+use Rattle.roster.specs.declared.post.Role.TheVariants.{Supervisor, Booth}
+use Rattle.deed_history.specs.Refusals.{IsFirstOf}
+use Rattle.election_script.specs.Lawful.{IsDeedOf}
+use Rattle.booth_core.specs.Table as booth
+use Rattle.booth_core.specs.Table.{causes_of}
+use Rattle.booth_core.specs.declared.state.BoothNot.{BoothNot}
+use Rattle.supervisor_core.specs.Notes as supervisor_notes
+use Rattle.supervisor_core.specs.State as supervisor_state
+use Rattle.booth_core.specs.Notes as booth_notes
+use Rattle.booth_core.specs.State as booth_state
+use Rattle.polling_world.specs.declared.rules.Rules.{Rules}
+use Rattle.polling_world.specs.declared.rules.Rules.TheVariants as rules
+use Rattle.polling_world.specs.Kept.{IsDeedFor, StandFor}
+use Rattle.polling_world.specs.Rules.{needs_whole}
+
+-- a deed of the role is one that its rules are for
+pub deed_for : (state : Rules) (role : Role) (owner : ℕ) (entries : List Entry) (deed : Deed) →
+    StandFor state role owner entries → IsDeedOf role deed → IsDeedFor state deed
+deed_for (rules.Supervisor notes) Supervisor owner entries deed stand is = is
+deed_for (rules.Supervisor notes) Booth owner entries deed stand is = absurd stand
+deed_for (rules.Booth notes) Supervisor owner entries deed stand is = absurd stand
+deed_for (rules.Booth notes) Booth owner entries deed stand is = is
+
+-- the fifth and last cause of a row by another fact that holds alike
+fifth_alike : (A B P Q R S : Type 0) (p q r s t : BoothNot) (answer : Result (Unit {0}) BoothNot) → A ↔ B →
+    IsFirstOf ((P, p) ∷ (Q, q) ∷ (R, r) ∷ (S, s) ∷ ((A → ⊥), t) ∷ []) answer →
+    IsFirstOf ((P, p) ∷ (Q, q) ∷ (R, r) ∷ (S, s) ∷ ((B → ⊥), t) ∷ []) answer
+fifth_alike A B P Q R S p q r s t answer same (inl one) = inl one
+fifth_alike A B P Q R S p q r s t answer same (inr (u, inl two)) = inr (u, inl two)
+fifth_alike A B P Q R S p q r s t answer same (inr (u, inr (v, inl three))) = inr (u, inr (v, inl three))
+fifth_alike A B P Q R S p q r s t answer same (inr (u, inr (v, inr (w, inl four)))) =
+    inr (u, inr (v, inr (w, inl four)))
+fifth_alike A B P Q R S p q r s t answer same (inr (u, inr (v, inr (w, inr (x, inl five))))) =
+    inr (u, inr (v, inr (w, inr (x, inl (λ b. five.0 (same.1 b), five.1)))))
+fifth_alike A B P Q R S p q r s t answer same (inr (u, inr (v, inr (w, inr (x, inr last))))) =
+    inr (u, inr (v, inr (w, inr (x, inr (λ lacks. last.0 (λ a. lacks (same.0 a)), last.1)))))
+
+-- what a booth's rules answer goes by whether the log is whole only where the deed needs that
+pub same_whole : (A B : Type 0) (owner : ℕ) (entries : List Entry) (deed : Deed) (answer : Result (Unit {0}) BoothNot) →
+    (IsTrue (needs_whole deed) → A ↔ B) → booth.Refuses owner entries A deed answer →
+    booth.Refuses owner entries B deed answer
+same_whole A B owner entries Opened answer same first = first
+same_whole A B owner entries (Authorise booth session) answer same first = first
+same_whole A B owner entries (Override session) answer same first = first
+same_whole A B owner entries Closed answer same first = first
+same_whole A B owner entries (Activate session) answer same first = first
+same_whole A B owner entries (Commit session ballot) answer same first = first
+same_whole A B owner entries (Cast session ballot) answer same first =
+    fifth_alike A B _ _ _ _ _ _ _ _ _ answer (same refl) first
+same_whole A B owner entries (Cancel session) answer same first = first
+
+supervisor_row : (before after : supervisor_notes.Notes) (entry : Entry) →
+    ((owner : ℕ) (entries : List Entry) → supervisor_state.StandsFor before owner entries →
+    supervisor_state.StandsFor after owner (entries ++ entry ∷ [])) →
+    (role : Role) (owner : ℕ) (entries : List Entry) → StandFor (rules.Supervisor before) role owner entries →
+    StandFor (rules.Supervisor after) role owner (entries ++ entry ∷ [])
+supervisor_row before after entry kept Supervisor owner entries stand = kept owner entries stand
+supervisor_row before after entry kept Booth owner entries stand = absurd stand
+
+-- the supervisor's rules with one entry more
+pub supervisor_noted : (state : Rules) (before after : supervisor_notes.Notes) (entry : Entry) →
+    state ≡ rules.Supervisor before →
+    ((owner : ℕ) (entries : List Entry) → supervisor_state.StandsFor before owner entries →
+    supervisor_state.StandsFor after owner (entries ++ entry ∷ [])) →
+    (role : Role) (owner : ℕ) (entries : List Entry) → StandFor state role owner entries →
+    StandFor (rules.Supervisor after) role owner (entries ++ entry ∷ [])
+supervisor_noted state before after entry is kept role owner entries stand =
+    supervisor_row before after entry kept role owner entries
+    (subst (λ (s : Rules). StandFor s role owner entries) is stand)
+
+booth_row : (before after : booth_notes.Notes) (entry : Entry) →
+    ((owner : ℕ) (entries : List Entry) → booth_state.StandsFor before owner entries →
+    booth_state.StandsFor after owner (entries ++ entry ∷ [])) →
+    (role : Role) (owner : ℕ) (entries : List Entry) → StandFor (rules.Booth before) role owner entries →
+    StandFor (rules.Booth after) role owner (entries ++ entry ∷ [])
+booth_row before after entry kept Supervisor owner entries stand = absurd stand
+booth_row before after entry kept Booth owner entries stand = kept owner entries stand
+
+-- a booth's rules with one entry more
+pub booth_noted : (state : Rules) (before after : booth_notes.Notes) (entry : Entry) → state ≡ rules.Booth before →
+    ((owner : ℕ) (entries : List Entry) → booth_state.StandsFor before owner entries →
+    booth_state.StandsFor after owner (entries ++ entry ∷ [])) →
+    (role : Role) (owner : ℕ) (entries : List Entry) → StandFor state role owner entries →
+    StandFor (rules.Booth after) role owner (entries ++ entry ∷ [])
+booth_noted state before after entry is kept role owner entries stand =
+    booth_row before after entry kept role owner entries
+    (subst (λ (s : Rules). StandFor s role owner entries) is stand)

@@ -1,0 +1,127 @@
+-- The machines of a script before anything happened are a world.
+use Rattle.std.proofs.Common.{◌≡◌, ◌∙◌, ℕ, zero, suc, ◌≤◌, ◌⊎◌, inl, inr, List, [], ◌∷◌, ◌++◌, length, map}
+use Rattle.std.proofs.Common.{Some, None, refl, sym, ap, subst, arith, drop}
+use Rattle.std.specs.Prelude.{slice_get}
+use Rattle.std.specs.List.{Contains}
+use Rattle.std.proofs.Common.{length-append, add-one}
+use Rattle.std.proofs.lemmas.Option.{slice_get_within}
+use Rattle.entry_format.specs.Nodes.{node_of_sealed}
+use Rattle.entry_format.specs.SealedEntry.{SealedEntry}
+use Rattle.entry_order.specs.declared.event.Event.{Event}
+use Rattle.entry_order.specs.declared.event.Event.TheVariants.{Sent, Got}
+use Rattle.entry_order.specs.History.{IsLegal}
+use Rattle.entry_order.specs.World.{history}
+use Rattle.entry_order.proofs.Lists.{Contains-none}
+use Rattle.entry_order.proofs.Orders.{sent_in_cases}
+use Rattle.entangled_log.proofs.Legal.{IsLegal-none}
+use Rattle.election_script.specs.declared.script.Script.{Script}
+use Rattle.election_script.specs.Lawful.{IsLawful}
+use Rattle.lms_sign.specs.Secret.{Secret}
+use Rattle.polling_world.specs.Keys.{key_of, IsKeyOf, roster_of}
+use Rattle.polling_world.specs.Machines.{MachineState, IsFresh}
+use Rattle.polling_world.specs.Worlds.{world_of, AreFresh, IsPlaced, IsWorld}
+
+-- what stands first in the rest of a list that was mapped
+pub rest_step : {X Y : Type 0} (f : X → Y) (xs : List X) (n : ℕ) (y : Y) (ys : List Y) →
+    map f (drop n xs) ≡ y ∷ ys →
+    (x : X) × (slice_get xs n ≡ Some x) × (y ≡ f x) × (map f (drop (suc n) xs) ≡ ys)
+rest_step f [] zero y ys e = cc
+rest_step f [] (suc n) y ys e = cc
+rest_step f (x ∷ xs) zero y ys e = (x, refl, cc, cc)
+rest_step f (x ∷ xs) (suc n) y ys e = rest_step f xs n y ys e
+
+pub rest_none : {X Y : Type 0} (f : X → Y) (xs : List X) (n : ℕ) → map f (drop n xs) ≡ [] → length xs ≤ n
+rest_none f [] n e = omega arith
+rest_none f (x ∷ xs) zero e = cc
+rest_none f (x ∷ xs) (suc n) e = let rest = rest_none f xs n e in omega (arith, rest)
+
+-- what stands in a list with one more at its end
+pub push_cases : {X : Type 0} (xs : List X) (x y : X) (n : ℕ) → slice_get (xs ++ x ∷ []) n ≡ Some y →
+    (slice_get xs n ≡ Some y) ⊎ ((n ≡ length xs) × (y ≡ x))
+push_cases [] x y zero e = inr (refl, cc)
+push_cases [] x y (suc n) e = cc
+push_cases (z ∷ xs) x y zero e = inl e
+push_cases (z ∷ xs) x y (suc n) e = elim (push_cases xs x y n e) [ inl s ↦ inl s | inr r ↦ inr (ap suc r.0, r.1) ]
+
+no_history : (ms : List MachineState) →
+    ((place : ℕ) (m : MachineState) → slice_get ms place ≡ Some m → m.events ≡ []) → (n : ℕ) →
+    history (world_of ms) n ≡ []
+no_history [] none n = refl
+no_history (m ∷ ms) none zero = none zero m refl
+no_history (m ∷ ms) none (suc n) = no_history ms (λ place u is. none (suc place) u is) n
+
+module _ (script : Script) (ms : List MachineState)
+    (each : (place : ℕ) (m : MachineState) → slice_get ms place ≡ Some m → IsFresh script place None m) where
+  no_events : (n : ℕ) → history (world_of ms) n ≡ []
+  no_events = no_history ms (λ place m is. ap (λ (u : MachineState). u.events) (each place m is).2)
+
+  fresh_placed : (place : ℕ) (m : MachineState) → slice_get ms place ≡ Some m →
+      IsPlaced (roster_of script) script.log place m
+  fresh_placed place m is =
+      let fresh = each place m is in
+      subst (λ (u : MachineState). IsPlaced (roster_of script) script.log place u) (sym fresh.2) (record {
+        number = refl;
+        of_world = refl;
+        of_size = refl;
+        no_stop = refl;
+        within = omega arith;
+      })
+
+  none_there : (n : ℕ) (x : Event SealedEntry) → Contains (history (world_of ms) n) x → ⊥
+  none_there n x c =
+      Contains-none x (subst (λ (h : List (Event SealedEntry)). Contains h x) (no_events n) c)
+
+  pub fresh_world : IsLawful script → length ms ≤ length script.machines → IsWorld (roster_of script) ms
+  fresh_world lawful count = record {
+    log = script.log;
+    small = lawful.log.1;
+    few = let most = lawful.machines.few.1 in omega (arith, most, count);
+    placed = fresh_placed;
+    orderly = record {
+      legal = λ n. subst (λ (h : List (Event SealedEntry)). IsLegal node_of_sealed n h) (sym (no_events n))
+          (IsLegal-none node_of_sealed n);
+      heard = λ n e c. absurd (none_there n (Got e) c);
+    };
+    stamps = λ e c. (let r = sent_in_cases (world_of ms) e c in absurd (none_there r.0 (Sent e) r.1));
+  }
+
+-- the first machines of the script, and the keys of those that are left
+pub record AreFirst (script : Script) (ms : List MachineState) (left : List Secret) : Type 0 where
+  pub within : length ms ≤ length script.machines
+  pub rest : map (key_of script) (drop (length ms) script.machines) ≡ left
+  pub each : (place : ℕ) (m : MachineState) → slice_get ms place ≡ Some m → IsFresh script place None m
+
+module _ (script : Script) (ms : List MachineState) (left more : List Secret) (key : Secret) (at : ℕ)
+    (first : AreFirst script ms left) (next : left ≡ key ∷ more) (here : at ≡ length ms) where
+  -- the next key is that of the next machine
+  pub next_key : IsKeyOf script at key
+  next_key =
+      let r = rest_step (key_of script) script.machines (length ms) key more (first.rest ∙ next) in
+      (r.0, ap (slice_get script.machines) here ∙ r.1, r.2)
+
+  -- with the next machine they are the first ones
+  pub one_more : (m : MachineState) (new : List MachineState) → IsFresh script at None m → new ≡ ms ++ m ∷ [] →
+      AreFirst script new more
+  one_more m new fresh is =
+      let r = rest_step (key_of script) script.machines (length ms) key more (first.rest ∙ next) in
+      let count : length new ≡ suc (length ms) = ap length is ∙ length-append ms (m ∷ []) ∙ add-one (length ms) in
+      record {
+        within = let inside = slice_get_within script.machines (length ms) r.0 r.1 in omega (arith, inside, count);
+        rest = ap (λ (n : ℕ). map (key_of script) (drop n script.machines)) count ∙ r.3;
+        each = λ place u stands. elim (push_cases ms m u place
+            (ap (λ (us : List MachineState). slice_get us place) (sym is) ∙ stands)) [
+              | inl s ↦ first.each place u s
+              | inr s ↦ subst (λ (v : MachineState). IsFresh script place None v) (sym s.1)
+                  (subst (λ (n : ℕ). IsFresh script n None m) (here ∙ sym s.0) fresh)
+            ];
+      }
+
+-- once no key is left they are all
+pub all_fresh : (script : Script) (ms : List MachineState) (left : List Secret) → AreFirst script ms left →
+    length left ≡ 0 → AreFresh script ms
+all_fresh script ms (key ∷ left) first none = absurd (omega arith)
+all_fresh script ms [] first none = record {
+  count = let past = rest_none (key_of script) script.machines (length ms) first.rest in
+      let within = first.within in omega (arith, past, within);
+  each = first.each;
+}

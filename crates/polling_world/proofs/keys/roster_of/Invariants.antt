@@ -1,0 +1,7 @@
+use Rattle.std.proofs.Common.{◌≡◌, map, take}
+use Rattle.polling_world.specs.Keys.{post_of}
+use Rattle.polling_world.proofs.keys.roster_of.Given as goal
+
+-- the machines so far
+abbrev pub invariant-loop-at : goal.invariant-loop-at
+invariant-loop-at l = l.machines.items ≡ map (post_of l.script) (take l.at l.script.machines)

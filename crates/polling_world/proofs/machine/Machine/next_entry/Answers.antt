@@ -1,0 +1,43 @@
+use Rattle.std.proofs.Common.{◌≡◌, ◌∙◌, ◌+◌, length, refl, sym, ap, subst, arith}
+use Rattle.entry_format.specs.Nodes.{node_of_sealed}
+use Rattle.entry_order.specs.Ascending.{IsAscending}
+use Rattle.entry_order.specs.Frontier.{frontier}
+use Rattle.entry_order.specs.History.{held, sent, greatest_stamp}
+use Rattle.polling_world.specs.Machines.{MachineState}
+use Rattle.polling_world.specs.Making.{election_of, next_entry}
+use Rattle.polling_world.specs.Viewing.{state_of}
+use Rattle.polling_world.proofs.Histories.{frontier_rises, few_in_frontier}
+use Rattle.polling_world.proofs.MadeEntries.{same_entry, sealed_is_made}
+use Rattle.polling_world.proofs.machine.Machine.next_entry.Goals as goal
+
+pub seal-requires-clause-election : goal.seal-requires-clause-election
+unfolding election_of
+seal-requires-clause-election c = c.self.invariant.of_roster
+
+pub seal-requires-clause-rising : goal.seal-requires-clause-rising
+seal-requires-clause-rising c =
+    subst IsAscending (sym (c.new.ensures ∙ c.in-Ok.ensures.ok.names)) (frontier_rises (held c.self.inside.log.events))
+
+pub seal-requires-clause-few : goal.seal-requires-clause-few
+seal-requires-clause-few c =
+    omega (
+      arith,
+      ap length (c.new.ensures ∙ c.in-Ok.ensures.ok.names),
+      few_in_frontier c.self.inside.log.events,
+      c.self.invariant.machine.within,
+      c.self.invariant.few,
+    )
+
+-- what was sealed is what the machine makes next
+pub returns-in-Ok-seal : goal.returns-in-Ok-seal
+returns-in-Ok-seal c =
+    let m = state_of c.self.inside in
+    let next = c.in-Ok.ensures.ok in
+    let h = c.self.inside.log.events in
+    subst (λ (m : MachineState). c.in-Ok-seal.sealed ≡ next_entry m.config m.events c.args.deed) c.self.view_is
+    (sealed_is_made m.config (length (sent h)) (1 + greatest_stamp node_of_sealed (held h))
+    (frontier node_of_sealed (held h)) c.args.deed c.self.inside.key _ c.in-Ok-seal.sealed
+    (ap (λ n. record c.self.inside.key { next = n }) c.self.invariant.signs_next) c.self.invariant.machine.public
+    (same_entry _ _ c.self.invariant.of_roster c.owner.ensures next.number next.stamp
+    (c.new.ensures ∙ next.names) refl)
+    c.in-Ok-seal.ensures.entry c.in-Ok-seal.ensures.signature c.in-Ok-seal.ensures.valid)

@@ -1,0 +1,6 @@
+use Rattle.std.proofs.Common.{◌≡◌, replicate}
+use Rattle.polling_world.proofs.parts.copies_of.Given as goal
+
+-- the copies so far
+abbrev pub invariant-loop-copy : goal.invariant-loop-copy
+invariant-loop-copy l = l.copies.items ≡ replicate l._copy l.sealed

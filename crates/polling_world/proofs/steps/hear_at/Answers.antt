@@ -1,0 +1,25 @@
+use Rattle.std.proofs.Common.{◌∙◌, List, Some, ap, arith, inr, sym}
+use Rattle.std.specs.Prelude.{slice_get}
+use Rattle.entry_format.specs.SealedEntry.{SealedEntry}
+use Rattle.entry_order.specs.declared.event.Event.{Event}
+use Rattle.entry_order.specs.History.{sent}
+use Rattle.entangled_log.specs.Logs.{History}
+use Rattle.polling_world.specs.Machines.{MachineState}
+use Rattle.polling_world.proofs.Placing.{history_at}
+use Rattle.polling_world.proofs.steps.hear_at.Goals as goal
+
+-- the entry that was sent is given
+pub returns-clause-ok : goal.returns-clause-ok
+returns-clause-ok c =
+    let events = history_at c.args.machines.now.items c.args.from c.index.result.now (omega arith)
+    ∙ ap (λ (m : MachineState). m.events) (sym c.index.ensures)
+    ∙ sym (ap (λ (h : History SealedEntry). h.events) c.log.ensures.log) ∙ sym c.events.ensures.events in
+    inr (
+      c.if-at-from.false,
+      (
+        c.in_ok-entry.entry,
+        ap (λ (h : List (Event SealedEntry)). slice_get (sent h) c.args.number) events ∙ c.in-Some.ensures.found
+            ∙ ap (λ (e : SealedEntry). Some e) (sym c.in_ok-entry.ensures),
+        c.give.ensures,
+      ),
+    )

@@ -1,0 +1,34 @@
+use Rattle.std.proofs.Common.{◌≡◌, ◌∙◌, List, Bool, ap, subst}
+use Rattle.std.specs.Prelude.{◌↔◌, IsTrue}
+use Rattle.std.proofs.lemmas.Result.{IfOk-weaker}
+use Rattle.entry_format.specs.Nodes.{node_of_sealed}
+use Rattle.entry_format.specs.SealedEntry.{SealedEntry}
+use Rattle.entry_order.specs.HeldBefore.{HeldBefore}
+use Rattle.entry_order.specs.Receipt.{IsOrderly}
+use Rattle.entry_order.proofs.Orders.{one_order}
+use Rattle.held_counts.specs.Places.{IsSentAt}
+use Rattle.polling_world.specs.Machines.{MachineState}
+use Rattle.polling_world.specs.Worlds.{WorldState, world_of}
+use Rattle.polling_world.proofs.Placing.{sent_at_sent}
+use Rattle.polling_world.proofs.world.World.held_before.Goals as goal
+
+-- where digests differ, what was held before is what names lead to
+pub returns-clause-names : goal.returns-clause-names
+returns-clause-names c =
+    let machines : List MachineState = c.args.self.now.machines in
+    let seen = ap (λ (state : WorldState). state.machines) c.self.view_is in
+    let P : List MachineState → Type 0 = λ ms. IsOrderly node_of_sealed (world_of ms) in
+    let orderly : P machines = subst P seen c.self.invariant.orderly in
+    let lent : c.deref.result.now ≡ machines = c.deref.ensures.value ∙ seen in
+    let Q : Bool → List MachineState → Type 0 = λ yes ms. (f e : SealedEntry) →
+    IsSentAt (world_of ms) c.args.f.0 c.args.f.1 f → IsSentAt (world_of ms) c.args.e.0 c.args.e.1 e →
+    IsTrue yes ↔ HeldBefore (world_of ms) f e in
+    IfOk-weaker c.held_before.result _ _
+    (λ yes held distinct first second f e.
+    let counted : Q yes machines = subst (Q yes) lent held in
+    let said = counted first second f e in
+    let order = one_order node_of_sealed (world_of machines) orderly distinct first second
+    (sent_at_sent (world_of machines) c.args.f.0 c.args.f.1 first f)
+    (sent_at_sent (world_of machines) c.args.e.0 c.args.e.1 second e) in
+    (λ t. order.1 (said.0 t), λ p. said.1 (order.0 p)))
+    c.held_before.ensures

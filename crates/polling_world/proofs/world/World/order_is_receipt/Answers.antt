@@ -1,0 +1,17 @@
+use Rattle.std.proofs.Common.{List, ap, subst}
+use Rattle.entry_format.specs.Nodes.{node_of_sealed}
+use Rattle.entry_order.specs.Naming.{Distinct}
+use Rattle.entry_order.specs.Receipt.{OrderIsReceiptIn}
+use Rattle.entry_order.specs.World.{sent_in}
+use Rattle.entry_order.proofs.Orders.{one_order}
+use Rattle.polling_world.specs.Machines.{MachineState}
+use Rattle.polling_world.specs.Worlds.{WorldState, world_of}
+use Rattle.polling_world.proofs.world.World.order_is_receipt.Goals as goal
+
+pub returns-clause-order : goal.returns-clause-order
+returns-clause-order c =
+    let P : List MachineState → Type 0 = λ ms.
+    Distinct node_of_sealed (sent_in (world_of ms)) → OrderIsReceiptIn node_of_sealed (world_of ms) in
+    let order : P c.self.inside.machines.items = λ distinct.
+    one_order node_of_sealed (world_of c.self.inside.machines.items) c.self.invariant.orderly distinct in
+    subst P (ap (λ (state : WorldState). state.machines) c.self.view_is) order

@@ -1,0 +1,38 @@
+-- What a machine is made of, which no call changes.
+use Rattle.std.specs.Prelude.{◌≡◌, ℕ, List, slice_get, Some}
+use Rattle.entry_format.specs.declared.deed.Deed.{Deed}
+use Rattle.lms_sign.specs.Secret.{Secret}
+use Rattle.roster.specs.declared.post.Post.{Post}
+use Rattle.roster.specs.declared.post.Role.{Role}
+use Rattle.election_script.specs.declared.script.Cast0.{Cast0}
+use Rattle.election_script.specs.declared.script.Script.{Script}
+use Rattle.polling_world.specs.Keys.{key_of, roster_of}
+
+-- a machine's place in the roster, its name and role, what it is to do in order, its key before it signed anything, the
+-- roster, and how many events its log may have
+pub record Config : Type 0 where
+  pub number : ℕ
+  pub name : List ℕ
+  pub role : Role
+  pub actions : List Deed
+  pub key : Secret
+  pub roster : List Post
+  pub log : ℕ
+
+-- what the script gives this machine at this place
+abbrev pub config_of : Script → ℕ → Cast0 → Config
+config_of script number cast = record {
+  number = number;
+  name = cast.name;
+  role = cast.role;
+  actions = cast.actions;
+  key = key_of script cast;
+  roster = roster_of script;
+  log = script.log;
+}
+
+-- it is what the script gives the machine at its place
+abbrev pub IsOf : Script → Config → Type 0
+IsOf script config =
+    (cast : Cast0) × (slice_get script.machines config.number ≡ Some cast)
+    × (config ≡ config_of script config.number cast)

@@ -1,0 +1,14 @@
+pub mod Keys
+pub mod Configs
+pub mod Making
+pub mod Rules
+pub mod Sending
+pub mod Machines
+pub mod Waiting
+pub mod Acting
+pub mod Hearing
+pub mod Kept
+pub mod Viewing
+pub mod Worlds
+pub mod Steps
+pub mod Playing

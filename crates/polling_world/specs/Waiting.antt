@@ -1,0 +1,53 @@
+-- Why a machine's next action isn't done yet.
+use Rattle.std.specs.Prelude.{◌≡◌, ◌<◌, ◌^◌, IsTrue, length, Option, Some, None, Err, not}
+use Rattle.entry_format.specs.declared.deed.Deed.{Deed}
+use Rattle.entry_format.specs.Nodes.{node_of_sealed}
+use Rattle.entry_order.specs.History.{held, sent}
+use Rattle.entangled_log.specs.Nexts.{HasGreatestStamp}
+use Rattle.polling_world.specs.declared.rules.RuleNot.TheVariants as cause
+use Rattle.polling_world.specs.declared.left.Left.{Left}
+use Rattle.polling_world.specs.declared.left.LeftWhy.{LeftWhy}
+use Rattle.polling_world.specs.declared.left.LeftWhy.TheVariants.{Stopped, SupervisorNot, BoothNot, Full, StampSpent}
+use Rattle.polling_world.specs.declared.left.LeftWhy.TheVariants.{Spent, Ready}
+use Rattle.polling_world.specs.Machines.{MachineState, has_stopped}
+use Rattle.polling_world.specs.Rules.{Refuses, MayDo}
+use Rattle.polling_world.specs.Sending.{next_action}
+
+-- the machine hasn't stopped
+abbrev pub IsGoing : MachineState → Type 0
+IsGoing m = IsTrue (not (has_stopped m))
+
+-- its log has room
+abbrev pub HasRoom : MachineState → Type 0
+HasRoom m = length m.events < m.config.log
+
+-- it holds an entry with the greatest stamp that 32 bits hold
+abbrev pub IsStampSpent : MachineState → Type 0
+IsStampSpent m = HasGreatestStamp node_of_sealed (held m.events)
+
+-- nothing stands against the deed
+pub record IsReady (m : MachineState) (deed : Deed) : Type 0 where
+  pub going : IsGoing m
+  pub allowed : MayDo m.config m.events deed
+  pub room : HasRoom m
+  pub stamp : ¬ IsStampSpent m
+  pub unspent : length (sent m.events) < 2 ^ m.config.key.height
+
+-- the first cause against the deed, in this order, or `Ready` where none applies
+abbrev pub IsWhy : MachineState → Deed → LeftWhy → Type 0
+IsWhy m deed Stopped = IsTrue (has_stopped m)
+IsWhy m deed (SupervisorNot why) = IsGoing m × Refuses m.config m.events deed (Err (cause.Supervisor why))
+IsWhy m deed (BoothNot why) = IsGoing m × Refuses m.config m.events deed (Err (cause.Booth why))
+IsWhy m deed Full = IsGoing m × MayDo m.config m.events deed × (length m.events ≡ m.config.log)
+IsWhy m deed StampSpent = IsGoing m × MayDo m.config m.events deed × HasRoom m × IsStampSpent m
+IsWhy m deed Spent =
+    IsGoing m × MayDo m.config m.events deed × HasRoom m × (¬ IsStampSpent m)
+    × (length (sent m.events) ≡ 2 ^ m.config.key.height)
+IsWhy m deed Ready = IsReady m deed
+
+-- what is left: nothing where there is no next action, and else the next action's place and why it isn't done
+abbrev pub IsLeft : MachineState → Option Left → Type 0
+IsLeft m None = next_action m.config m.events ≡ None
+IsLeft m (Some left) =
+    (deed : Deed) × (next_action m.config m.events ≡ Some deed) × (left.place ≡ length (sent m.events))
+    × IsWhy m deed left.why

@@ -1,0 +1,31 @@
+//! What a machine hasn't done of its actions.
+use booth_core::BoothNot;
+use supervisor_core::SupervisorNot;
+
+/// The first action that a machine hasn't done.
+#[derive(Clone, Copy, Debug, PartialEq, Eq)]
+pub struct Left {
+    /// Its place among the machine's actions, counted from 0.
+    pub place: u32,
+    /// The first cause against it.
+    pub why: LeftWhy,
+}
+
+/// Why an action isn't done, the first cause that applies.
+#[derive(Clone, Copy, Debug, PartialEq, Eq)]
+pub enum LeftWhy {
+    /// The machine has stopped.
+    Stopped,
+    /// The supervisor's rules refuse it.
+    SupervisorNot(SupervisorNot),
+    /// The booth's rules refuse it.
+    BoothNot(BoothNot),
+    /// The log has as many events as it can.
+    Full,
+    /// An entry is held with the greatest stamp there is.
+    StampSpent,
+    /// Each index of the key has signed.
+    Spent,
+    /// Nothing stands against it.
+    Ready,
+}

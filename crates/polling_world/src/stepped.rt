@@ -1,0 +1,10 @@
+//! What became of a step.
+
+/// What became of a step of a world.
+#[derive(Clone, Copy, Debug, PartialEq, Eq)]
+pub enum Stepped {
+    /// A machine sent, heard or stopped.
+    Did,
+    /// Nothing changed.
+    Nothing,
+}
