@@ -12,10 +12,11 @@ use Rattle.log_files.specs.declared.plain_log.LogFault.TheVariants.{Absent, TooL
 use Rattle.log_files.specs.LogText.{HasHeader, Says}
 use Rattle.log_files.specs.LogFile.{max_bytes, IsRefused}
 use Rattle.hall_outside.specs.Files.{Files}
-use Rattle.auditorium_core.specs.Words.{Command, gaps, words_of, Means}
+use Rattle.auditorium_core.specs.Words.{Command, gaps, play, words_of, Means}
 use Rattle.auditorium_core.specs.Lines.{Answer, absent_answer, refused_answer}
 use Rattle.auditorium_core.specs.Gaps.{refused_lines, end_line, gap_lines, log_lines, findings_answer, IsRefusal, IsGapsAnswer}
 use Rattle.auditorium_core.specs.Answer.{IsAnswer, Answers}
+use Rattle.auditorium_core.proofs.OnePlayAnswer.{PlayOne, same_play}
 
 -- bytes say at most one log, and only where they have a header
 pub record SayOne : Type 0 where
@@ -98,16 +99,26 @@ same_command words (gaps x) (gaps y) m n =
     let e : words_of (gaps x) ≡ words_of (gaps y) = sym m.spelt ∙ n.spelt in
     let f : x ≡ y = cc in
     ap gaps f
+same_command words (gaps x) (play script prefix) m n =
+    let e : words_of (gaps x) ≡ words_of (play script prefix) = sym m.spelt ∙ n.spelt in
+    cc
+same_command words (play script prefix) (gaps y) m n =
+    let e : words_of (play script prefix) ≡ words_of (gaps y) = sym m.spelt ∙ n.spelt in
+    cc
+same_command words (play script prefix) (play other start) m n =
+    let e : words_of (play script prefix) ≡ words_of (play other start) = sym m.spelt ∙ n.spelt in
+    cc
 
-same_answer : SayOne → (command : Command) (files : Files) (a b : Answer) → IsAnswer command files a
+same_answer : SayOne → PlayOne → (command : Command) (files : Files) (a b : Answer) → IsAnswer command files a
     → IsAnswer command files b → a ≡ b
-same_answer one (gaps log) files a b x y = same_gaps one log (files log) a b x y
+same_answer one way (gaps log) files a b x y = same_gaps one log (files log) a b x y
+same_answer one way (play script prefix) files a b x y = same_play way script prefix (files script) a b x y
 
-pub one_answer : SayOne → (words : List (List ℕ)) (files : Files) (a b : Answer) → Answers words files a
+pub one_answer : SayOne → PlayOne → (words : List (List ℕ)) (files : Files) (a b : Answer) → Answers words files a
     → Answers words files b → a ≡ b
-one_answer one words files a b (inl (command, means, is)) (inl (other, means', is')) =
+one_answer one way words files a b (inl (command, means, is)) (inl (other, means', is')) =
     let P : Command → Type 0 = λ c. IsAnswer c files b in
-    same_answer one command files a b is (subst P (same_command words other command means' means) is')
-one_answer one words files a b (inl (command, means, is)) (inr (bad, f)) = absurd (bad (command, means))
-one_answer one words files a b (inr (bad, e)) (inl (command, means, is)) = absurd (bad (command, means))
-one_answer one words files a b (inr (bad, e)) (inr (bad', f)) = e ∙ sym f
+    same_answer one way command files a b is (subst P (same_command words other command means' means) is')
+one_answer one way words files a b (inl (command, means, is)) (inr (bad, f)) = absurd (bad (command, means))
+one_answer one way words files a b (inr (bad, e)) (inl (command, means, is)) = absurd (bad (command, means))
+one_answer one way words files a b (inr (bad, e)) (inr (bad', f)) = e ∙ sym f

@@ -1,5 +1,5 @@
 -- Answers over files that may not be told.
-use Rattle.std.proofs.Common.{◌≡◌, ◌≢◌, ℕ, List, Option, Some, None, inl}
+use Rattle.std.proofs.Common.{◌≡◌, ◌≢◌, ℕ, List, Option, Some, None, inl, sym, subst}
 use Rattle.std.specs.Prelude.{Result, Ok, Err, IfOk, IfSome}
 use Rattle.hall_outside.specs.Counts.{ComesExactly}
 use Rattle.hall_outside.specs.Files.{Files, OnFile}
@@ -46,3 +46,12 @@ command_answer words command files before now
     (Ok answer) means told answered absent = command_told words command files before now answer means told answered
     absent
 command_answer words command files before now (Err fault) means told answered absent = tt
+
+-- what is answered for the bytes of a file is answered for the file
+pub for_file : (result : Result Answer Fault) (files : Option Files) (name bytes : List ℕ)
+    (P : Option (List ℕ) → Answer → Type 0) → OnFile files name (λ file. file ≡ Some bytes)
+    → IfOk result (λ answer. P (Some bytes) answer) → IfOk result (λ answer. OnFile files name (λ file. P file answer))
+for_file (Ok answer) files name bytes P whole told =
+    on_file files name (λ file. file ≡ Some bytes) (λ file. P file answer)
+    (λ file is. subst (λ f. P f answer) (sym is) told) whole
+for_file (Err fault) files name bytes P whole told = tt

@@ -40,3 +40,15 @@ two_words (v ∷ []) a b low high x y = absurd (omega arith)
 two_words (v ∷ w ∷ []) a b low high x y = ap (λ s. string_bytes s ∷ string_bytes w ∷ []) (sym x)
     ∙ ap (λ s. string_bytes a ∷ string_bytes s ∷ []) (sym y)
 two_words (v ∷ w ∷ u ∷ more) a b low high x y = absurd (omega arith)
+
+-- three words
+pub three_words : (words : List (String Global)) (a b c : String Global) → 3 ≤ length words → length words < 4
+    → a ≡ get_or words 0 a → b ≡ get_or words 1 b → c ≡ get_or words 2 c
+    → map string_bytes words ≡ string_bytes a ∷ string_bytes b ∷ string_bytes c ∷ []
+three_words [] a b c low high x y z = absurd (omega arith)
+three_words (v ∷ []) a b c low high x y z = absurd (omega arith)
+three_words (v ∷ w ∷ []) a b c low high x y z = absurd (omega arith)
+three_words (v ∷ w ∷ u ∷ []) a b c low high x y z = ap (λ s. string_bytes s ∷ string_bytes w ∷ string_bytes u ∷ []) (sym x)
+    ∙ ap (λ s. string_bytes a ∷ string_bytes s ∷ string_bytes u ∷ []) (sym y)
+    ∙ ap (λ s. string_bytes a ∷ string_bytes b ∷ string_bytes s ∷ []) (sym z)
+three_words (v ∷ w ∷ u ∷ t ∷ more) a b c low high x y z = absurd (omega arith)

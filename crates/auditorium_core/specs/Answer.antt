@@ -4,13 +4,15 @@ use Rattle.hall_outside.specs.Counts.{ComesExactly}
 use Rattle.hall_outside.specs.Files.{Files}
 use Rattle.auditorium_core.specs.declared.status.Status.{Status}
 use Rattle.auditorium_core.specs.declared.status.Status.TheVariants as status
-use Rattle.auditorium_core.specs.Words.{Command, gaps, Means, AreGood}
+use Rattle.auditorium_core.specs.Words.{Command, gaps, play, Means, AreGood}
 use Rattle.auditorium_core.specs.Lines.{Answer, usage_answer}
 use Rattle.auditorium_core.specs.Gaps.{IsGapsAnswer}
+use Rattle.auditorium_core.specs.Play.{IsPlayAnswer}
 
 -- what a command gives, over these files
 abbrev pub IsAnswer : Command → Files → Answer → Type 0
 IsAnswer (gaps log) files answer = IsGapsAnswer log (files log) answer
+IsAnswer (play script prefix) files answer = IsPlayAnswer script prefix (files script) answer
 
 -- what words give, over these files
 abbrev pub Answers : List (List ℕ) → Files → Answer → Type 0

@@ -3,6 +3,7 @@ pub mod Words
 pub mod Lines
 pub mod Causes
 pub mod Gaps
+pub mod Play
 pub mod Answer
 pub mod Outcome
 pub mod Meaning

@@ -5,10 +5,13 @@ use Rattle.std.specs.Prelude.{◌≡◌, ◌≢◌, ℕ, ◌<◌, ◌≤◌, Lis
 pub data Command : Type 0 where
   -- the gaps of one log
   gaps : (log : List ℕ) → Command
+  -- a script played on one thread, and what the names of its files begin with
+  play : (script prefix : List ℕ) → Command
 
 -- the words of a command
 abbrev pub words_of : Command → List (List ℕ)
 words_of (gaps log) = codes "gaps" ∷ log ∷ []
+words_of (play script prefix) = codes "play" ∷ script ∷ prefix ∷ []
 
 -- the form of a word: 1 to 1,024 bytes, each from `!` to `~`, of which the first isn't `-`
 pub record IsWord (word : List ℕ) : Type 0 where

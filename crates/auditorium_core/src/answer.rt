@@ -1,31 +1,74 @@
 // Answers: what is to be written, and how the program ends then.
-ghost use Rattle.std.specs.Prelude.{◌≡◌, IfOk, string_bytes};
+ghost use Rattle.std.specs.Prelude.{◌≡◌, ◌++◌, IfOk, string_bytes};
 ghost use Rattle.auditorium_core.specs.Lines.{usage_answer, absent_answer, refused_answer};
 ghost use Rattle.auditorium_core.specs.Gaps.{findings_answer};
+ghost use Rattle.auditorium_core.specs.Play.{status_of_undone};
 
 use crate::status::Status;
 use std::alloc::{AllocError, Global};
 use std::marker::Model;
 
+/// A file that is to be written.
+#[derive(Drop)]
+pub(crate) struct OutputFile {
+    name: String,
+    bytes: Vec<u8>,
+}
+
+impl Model for OutputFile {
+    ghost use Rattle.std.specs.Prelude.{List, ℕ, string_bytes};
+
+    ghost Value = { List ℕ × List ℕ };
+
+    ghost view = { λ file. (string_bytes file.name, file.bytes.items) };
+}
+
+impl OutputFile {
+    /// The file with this name and these bytes.
+    pub fn new(name: String, bytes: Vec<u8>) -> OutputFile
+        ensures { result ≡ (string_bytes name, bytes.items) }
+    {
+        OutputFile { name, bytes }
+    }
+
+    /// The file's name.
+    pub fn name(&self) -> &str
+        ensures { result.now ≡ self.now.0 }
+    {
+        self.name.as_str()
+    }
+
+    /// All its bytes.
+    pub fn bytes(&self) -> &[u8]
+        ensures { result.now ≡ self.now.1 }
+    {
+        self.bytes.as_slice()
+    }
+}
+
 /// An answer, made whole before any of it is written.
 #[derive(Drop)]
 pub(crate) struct Answer {
     status: Status,
+    files: Vec<OutputFile>,
     output: Vec<u8>,
 }
 
 impl Model for Answer {
-    ghost use Rattle.std.specs.Prelude.{[]};
     ghost use Rattle.auditorium_core.specs.Lines.{Answer};
 
     ghost Value = { Answer };
 
-    ghost view = { λ a. record { status = a.status; files = []; output = a.output.items } };
+    ghost view = { λ a. record {
+      status = a.status;
+      files = a.files.items;
+      output = a.output.items;
+    } };
 }
 
 impl Answer {
     /// The answer of these lines: where there are none, nothing was found.
-    pub fn findings(lines: String) -> Answer
+    pub fn findings(alloc: Global, lines: String) -> Answer
         ensures { result ≡ findings_answer (string_bytes lines) }
     {
         Answer {
@@ -34,8 +77,33 @@ impl Answer {
             } else {
                 Status::Findings
             },
+            files: Vec::new(alloc),
             output: lines.into_bytes(),
         }
+    }
+
+    /// The answer of a play with these files and lines, of which the last say what is left.
+    pub fn of_play(
+        files: Vec<OutputFile>,
+        mut lines: String,
+        undone: &str,
+    ) -> Result<Answer, AllocError>
+        ensures { IfOk result (λ answer. answer ≡ record {
+          status = status_of_undone undone.now;
+          files = files.items;
+          output = string_bytes lines ++ undone.now;
+        }) }
+    {
+        lines.push_str(undone)?;
+        Ok(Answer {
+            status: if undone.is_empty() {
+                Status::Done
+            } else {
+                Status::Undone
+            },
+            files,
+            output: lines.into_bytes(),
+        })
     }
 
     /// The answer to words that aren't good.
@@ -44,6 +112,7 @@ impl Answer {
     {
         Ok(Answer {
             status: Status::Usage,
+            files: Vec::new(alloc),
             output: format!(in alloc; "usage\n")?.into_bytes(),
         })
     }
@@ -54,6 +123,7 @@ impl Answer {
     {
         Ok(Answer {
             status: Status::Absent,
+            files: Vec::new(alloc),
             output: format!(in alloc; "absent {name}\n")?.into_bytes(),
         })
     }
@@ -64,6 +134,7 @@ impl Answer {
     {
         Ok(Answer {
             status: Status::Refused,
+            files: Vec::new(alloc),
             output: format!(in alloc; "refused {name} {place} {cause}\n")?.into_bytes(),
         })
     }
@@ -73,6 +144,13 @@ impl Answer {
         ensures { result ≡ self.now.status }
     {
         self.status
+    }
+
+    /// The files to be written, in order.
+    pub fn files(&self) -> &[OutputFile]
+        ensures { result.now ≡ self.now.files }
+    {
+        self.files.as_slice()
     }
 
     /// The whole output.

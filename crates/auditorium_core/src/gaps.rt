@@ -28,7 +28,7 @@ pub(crate) fn gaps<S: Store>(alloc: Global, store: &mut S, log: &str) -> Result<
         × (S.write_faults store.new ≡ S.write_faults store.old) }
 {
     match read_plain_log(alloc, store, log) {
-        Ok(plain) => Ok(Answer::findings(lines_of(alloc, log, &plain)?)),
+        Ok(plain) => Ok(Answer::findings(alloc, lines_of(alloc, log, &plain)?)),
         Err(LogFault::Absent) => Ok(Answer::absent(alloc, log)?),
         Err(LogFault::TooLong) => Ok(Answer::refused(alloc, log, 0, "TooLong")?),
         Err(LogFault::Header) => Ok(Answer::refused(alloc, log, 0, "Header")?),

@@ -4,7 +4,9 @@ ghost use Rattle.hall_outside.specs.Files.{Files};
 ghost use Rattle.auditorium_core.specs.Lines.{Answer};
 ghost use Rattle.auditorium_core.specs.Answer.{Answers};
 
+use election_script::one_reading_is_right;
 use log_files::bytes_say_one_log;
+use polling_world::{scripts_are_played_in_one_way, what_is_left_is_told_in_one_way};
 
 /// Words and files have at most one answer. It does nothing.
 pub fn one_answer_is_right()
@@ -12,4 +14,7 @@ pub fn one_answer_is_right()
         Answers words files answer → Answers words files other → answer ≡ other }
 {
     bytes_say_one_log();
+    one_reading_is_right();
+    scripts_are_played_in_one_way();
+    what_is_left_is_told_in_one_way();
 }

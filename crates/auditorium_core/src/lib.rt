@@ -8,13 +8,17 @@ mod answer;
 mod causes;
 mod gaps;
 mod laws;
+mod play;
 mod program;
 mod status;
 mod words;
+mod writing;
 
 pub use laws::one_answer_is_right;
 pub use program::auditorium_still;
 pub use status::Status;
 
+#[cfg(test)]
+mod play_tests;
 #[cfg(test)]
 mod tests;

@@ -6,9 +6,11 @@ ghost use Rattle.auditorium_core.specs.Outcome.{outside, HasDone};
 
 use crate::answer::{Answer, Fault};
 use crate::gaps::gaps;
+use crate::play::play;
 use crate::status::Status;
 use crate::words::{Request, request_of};
-use hall_outside::{Failed, Sink, Store, write_all};
+use crate::writing::write_answer;
+use hall_outside::{Failed, Sink, Store};
 use std::alloc::Global;
 
 /// Does what the words ask for, and answers how the program ends. It reads the files that the words
@@ -27,7 +29,7 @@ pub fn auditorium_still<S: Store, K: Sink>(
         (S.write_faults store.new) (K.written out.new) (K.faults out.new)) }
 {
     match answer_of(alloc, words, store) {
-        Ok(answer) => match write_all(out, answer.output()) {
+        Ok(answer) => match write_answer(&answer, store, out) {
             Ok(()) => answer.status(),
             Err(Failed) => Status::WriteFault,
         },
@@ -48,5 +50,6 @@ fn answer_of<S: Store>(alloc: Global, words: &[String], store: &mut S) -> Result
     match request_of(words) {
         Request::Usage => Ok(Answer::usage(alloc)?),
         Request::Gaps(log) => gaps(alloc, store, log),
+        Request::Play(script, prefix) => play(alloc, store, script, prefix),
     }
 }

@@ -10,6 +10,8 @@ pub(crate) enum Request<'a> {
     Usage,
     /// The gaps of the log in this file.
     Gaps(&'a str),
+    /// A play of the script in the first file, into files whose names begin with the second word.
+    Play(&'a str, &'a str),
 }
 
 /// What the words ask for.
@@ -21,6 +23,9 @@ pub(crate) fn request_of(words: &[String]) -> Request<'_>
     }
     match words {
         [command, log] if command.as_str() == "gaps" => Request::Gaps(log.as_str()),
+        [command, script, prefix] if command.as_str() == "play" => {
+            Request::Play(script.as_str(), prefix.as_str())
+        }
         _ => Request::Usage,
     }
 }

@@ -4,4 +4,10 @@ use Rattle.auditorium_core.proofs.laws.one_answer_is_right.Goals as goal
 pub returns : goal.returns
 returns c =
     let laws = c.bytes_say_one_log.ensures in
-    one_answer (record { entries = laws.entries; refused = laws.refused; end = laws.end; header = laws.header })
+    one_answer
+    (record { entries = laws.entries; refused = laws.refused; end = laws.end; header = laws.header })
+    (record {
+      reading = c.one_reading_is_right.ensures;
+      played = c.scripts_are_played_in_one_way.ensures;
+      left = c.what_is_left_is_told_in_one_way.ensures;
+    })

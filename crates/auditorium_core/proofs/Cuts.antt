@@ -1,0 +1,32 @@
+-- What a failed write leaves of an answer's files and output.
+use Rattle.std.proofs.Common.{◌≡◌, ◌∙◌, ℕ, List, [], ◌∷◌, Option, refl, sym, subst, inl, inr}
+use Rattle.std.specs.Prelude.{Result, Ok, Err, OnOk, OnErr, IsErr}
+use Rattle.hall_outside.specs.Counts.{HasCause, HasRisen}
+use Rattle.hall_outside.specs.Files.{Files, with_file}
+use Rattle.hall_outside.specs.Writing.{AppendsPrefix}
+use Rattle.hall_outside.specs.declared.stores.Failed.{Failed}
+use Rattle.auditorium_core.specs.Lines.{Answer}
+use Rattle.auditorium_core.specs.Outcome.{Outside, with_files, SetsSome, IsCutShort}
+
+-- all of the files are some of them
+pub all_set : (old : Option Files) (files : List (List ℕ × List ℕ)) → SetsSome old files (with_files old files)
+all_set old [] = refl
+all_set old (file ∷ files) = inr (all_set (with_file old file.0 file.1) files)
+
+-- the output was cut short behind all files
+pub output_cut : (result : Result (Unit {0}) Failed) (answer : Answer) (old new : Outside)
+    → new.files ≡ with_files old.files answer.files
+    → OnErr result (AppendsPrefix old.output answer.output new.output)
+    → HasCause old.output_faults new.output_faults (IsErr result)
+    → OnErr result (IsCutShort answer old new)
+output_cut (Ok done) answer old new files prefix cause = tt
+output_cut (Err failed) answer old new files prefix cause =
+    let risen : HasRisen old.output_faults new.output_faults = cause.only refl in
+    let P : Option Files → Type 0 = λ now. SetsSome old.files answer.files now in
+    record {
+      cause = inr risen;
+      files = subst P (sym files) (all_set old.files answer.files);
+      output = prefix;
+      all_files = λ none. files;
+      no_output = λ none. absurd (none risen);
+    }

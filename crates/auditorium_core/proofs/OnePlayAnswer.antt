@@ -1,0 +1,70 @@
+-- A script has at most one answer to `play`.
+use Rattle.std.proofs.Common.{◌≡◌, ◌∙◌, ℕ, ◌<◌, ◌≤◌, ◌⊎◌, inl, inr, List, [], ◌∷◌, ◌++◌, Option, Some, None, length, ap, sym, subst, arith}
+use Rattle.std.specs.Prelude.{Result, Ok, Err}
+use Rattle.election_script.specs.declared.script.Script.{Script}
+use Rattle.election_script.specs.declared.faults.ScriptFault.{ScriptFault}
+use Rattle.election_script.specs.declared.faults.ScriptFault.TheVariants.{At}
+use Rattle.election_script.specs.declared.faults.ScriptWhy.{ScriptWhy}
+use Rattle.election_script.specs.Reading.{Reads}
+use Rattle.polling_world.specs.declared.left.Left.{Left}
+use Rattle.polling_world.specs.Keys.{roster_of}
+use Rattle.polling_world.specs.Machines.{MachineState}
+use Rattle.polling_world.specs.Playing.{IsPlayed}
+use Rattle.polling_world.specs.Waiting.{IsLeft}
+use Rattle.auditorium_core.specs.Lines.{Answer, refused_answer}
+use Rattle.auditorium_core.specs.Causes.{script_name}
+use Rattle.auditorium_core.specs.Play.{undone_line, SayUndone, play_answer, IsPlayOf, IsPlayAnswer}
+
+-- a text is read in one way, a script is played in one way, and what is left is told in one way
+pub record PlayOne : Type 0 where
+  pub reading : (text : List ℕ) (answer other : Result Script ScriptFault) → Reads text answer → Reads text other
+      → answer ≡ other
+  pub played : (script : Script) (machines others : List MachineState) → IsPlayed script machines
+      → IsPlayed script others → machines ≡ others
+  pub left : (machine : MachineState) (left other : Option Left) → IsLeft machine left → IsLeft machine other
+      → left ≡ other
+
+-- the lines on what is left are the same
+same_undone : PlayOne → (machines : List MachineState) (lines others : List ℕ) → SayUndone machines lines
+    → SayUndone machines others → lines ≡ others
+same_undone one [] lines others p q = p ∙ sym q
+same_undone one (m ∷ machines) lines others p q =
+    let left : p.0 ≡ q.0 = one.left m p.0 q.0 p.2 q.2 in
+    let rest : p.1 ≡ q.1 = same_undone one machines p.1 q.1 p.3 q.3 in
+    p.4 ∙ ap (λ (l : Option Left). undone_line m.config.name l ++ p.1) left
+    ∙ ap (λ (r : List ℕ). undone_line m.config.name q.0 ++ r) rest ∙ sym q.4
+
+same_play_of : PlayOne → (prefix : List ℕ) (script : Script) (a b : Answer) → IsPlayOf prefix script a
+    → IsPlayOf prefix script b → a ≡ b
+same_play_of one prefix script a b p q =
+    let same : p.machines ≡ q.machines = one.played script p.machines q.machines p.played q.played in
+    let Q : List MachineState → Type 0 = λ ks. SayUndone ks p.undone in
+    let lines : p.undone ≡ q.undone = same_undone one q.machines p.undone q.undone (subst Q same p.left) q.left in
+    p.told ∙ ap (λ (ks : List MachineState). play_answer prefix (roster_of script) ks p.undone) same
+    ∙ ap (λ (ls : List ℕ). play_answer prefix (roster_of script) q.machines ls) lines ∙ sym q.told
+
+pub same_play : PlayOne → (name prefix : List ℕ) (file : Option (List ℕ)) (a b : Answer)
+    → IsPlayAnswer name prefix file a → IsPlayAnswer name prefix file b → a ≡ b
+same_play one name prefix None a b p q = p ∙ sym q
+same_play one name prefix (Some bytes) a b (inl (long, e)) (inl (long', f)) = e ∙ sym f
+same_play one name prefix (Some bytes) a b (inl (long, e)) (inr (inl (short, q))) = absurd (omega arith)
+same_play one name prefix (Some bytes) a b (inl (long, e)) (inr (inr (short, q))) = absurd (omega arith)
+same_play one name prefix (Some bytes) a b (inr (inl (short, p))) (inl (long, f)) = absurd (omega arith)
+same_play one name prefix (Some bytes) a b (inr (inr (short, p))) (inl (long, f)) = absurd (omega arith)
+same_play one name prefix (Some bytes) a b (inr (inl (short, (n, why, is, e)))) (inr (inl (short', (k, other, also, f)))) =
+    let same : Err (At n why) ≡ Err (At k other) = one.reading bytes (Err (At n why)) (Err (At k other)) is also in
+    let number : n ≡ k = cc in
+    let cause : why ≡ other = cc in
+    e ∙ ap (λ (m : ℕ). refused_answer name m (script_name why)) number
+    ∙ ap (λ (w : ScriptWhy). refused_answer name k (script_name w)) cause ∙ sym f
+same_play one name prefix (Some bytes) a b (inr (inl (short, (n, why, is, e)))) (inr (inr (short', (script, also, q)))) =
+    let same : Err (At n why) ≡ Ok script = one.reading bytes (Err (At n why)) (Ok script) is also in
+    cc
+same_play one name prefix (Some bytes) a b (inr (inr (short, (script, is, p)))) (inr (inl (short', (k, other, also, f)))) =
+    let same : Ok script ≡ Err (At k other) = one.reading bytes (Ok script) (Err (At k other)) is also in
+    cc
+same_play one name prefix (Some bytes) a b (inr (inr (short, (script, is, p)))) (inr (inr (short', (other, also, q)))) =
+    let read : Ok script ≡ Ok other = one.reading bytes (Ok script) (Ok other) is also in
+    let same : script ≡ other = cc in
+    let P : Script → Type 0 = λ s. IsPlayOf prefix s a in
+    same_play_of one prefix other a b (subst P same p) q

@@ -1,0 +1,109 @@
+-- What `play` gives for a script.
+use Rattle.std.specs.Prelude.{◌≡◌, ℕ, ◌<◌, ◌≤◌, List, [], ◌∷◌, ◌++◌, length, map, Option, Some, None, ◌⊎◌, Ok, Err, codes}
+use Rattle.std.specs.List.{flat_map}
+use Rattle.std.specs.Fmt.{decimal}
+use Rattle.canonical_sexp.specs.Text.{text_of}
+use Rattle.entry_format.specs.Nodes.{node_of_sealed}
+use Rattle.entry_order.specs.History.{sent}
+use Rattle.entry_order.specs.Naming.{Distinct}
+use Rattle.entry_order.specs.Receipt.{OrderIsReceiptIn}
+use Rattle.entry_order.specs.World.{sent_in}
+use Rattle.roster.specs.declared.post.Post.{Post}
+use Rattle.roster.specs.RosterText.{roster_tree}
+use Rattle.log_files.specs.Written.{log_text}
+use Rattle.election_script.specs.declared.script.Script.{Script}
+use Rattle.election_script.specs.declared.faults.ScriptWhy.{ScriptWhy}
+use Rattle.election_script.specs.declared.faults.ScriptFault.TheVariants.{At}
+use Rattle.election_script.specs.Reading.{Reads}
+use Rattle.polling_world.specs.declared.left.Left.{Left}
+use Rattle.polling_world.specs.Keys.{roster_of}
+use Rattle.polling_world.specs.Machines.{MachineState}
+use Rattle.polling_world.specs.Playing.{IsPlayed}
+use Rattle.polling_world.specs.Worlds.{world_of}
+use Rattle.polling_world.specs.Waiting.{IsLeft}
+use Rattle.auditorium_core.specs.declared.status.Status.{Status}
+use Rattle.auditorium_core.specs.declared.status.Status.TheVariants.{Done, Undone, Refused}
+use Rattle.auditorium_core.specs.Lines.{Answer, line, absent_answer, refused_answer}
+use Rattle.auditorium_core.specs.Causes.{script_name, left_name}
+
+-- the most bytes of a script's file
+abbrev pub max_script : ℕ
+max_script = 4194304
+
+-- the roster goes into this file, and a machine's log into that one
+abbrev pub roster_file : List ℕ → List Post → List ℕ × List ℕ
+roster_file prefix machines = (prefix ++ codes ".roster", text_of (roster_tree machines))
+
+abbrev pub log_file : List ℕ → MachineState → List ℕ × List ℕ
+log_file prefix m =
+    (prefix ++ codes "." ++ m.config.name ++ codes ".log", log_text m.config.number m.events)
+
+-- the files of machines with this roster
+abbrev pub play_files : List ℕ → List Post → List MachineState → List (List ℕ × List ℕ)
+play_files prefix roster machines = roster_file prefix roster ∷ map (log_file prefix) machines
+
+-- how many entries a machine sent, and how many events its log has
+abbrev pub machine_line : MachineState → List ℕ
+machine_line m =
+    line (codes "machine " ++ m.config.name ++ codes " sent " ++ decimal (length (sent m.events))
+    ++ codes " held " ++ decimal (length m.events))
+
+abbrev pub machine_lines : List MachineState → List ℕ
+machine_lines machines = flat_map machine_line machines
+
+-- the next action of a machine with this name that isn't done, and why
+abbrev pub undone_line : List ℕ → Option Left → List ℕ
+undone_line name None = []
+undone_line name (Some left) =
+    line (codes "undone " ++ name ++ codes " " ++ decimal left.place ++ codes " " ++ left_name left.why)
+
+-- the lines say for each machine what is left
+abbrev pub SayUndone : List MachineState → List ℕ → Type 0
+SayUndone [] lines = lines ≡ []
+SayUndone (m ∷ machines) lines =
+    (left : Option Left) × (rest : List ℕ) × IsLeft m left × SayUndone machines rest
+    × (lines ≡ undone_line m.config.name left ++ rest)
+
+-- undone, where there is such a line
+abbrev pub status_of_undone : List ℕ → Status
+status_of_undone [] = Done
+status_of_undone (byte ∷ bytes) = Undone
+
+-- the answer of machines with this roster, of which these lines say what is left
+abbrev pub play_answer : List ℕ → List Post → List MachineState → List ℕ → Answer
+play_answer prefix roster machines undone = record {
+  status = status_of_undone undone;
+  files = play_files prefix roster machines;
+  output = machine_lines machines ++ undone;
+}
+
+-- where different entries that these machines sent have different digests, one precedes another exactly where the
+-- other's machine held it, or a descendant of it, when it sent (Auditorium, EVT 2007)
+abbrev pub KeepOrder : List MachineState → Type 0
+KeepOrder machines =
+    Distinct node_of_sealed (sent_in (world_of machines)) → OrderIsReceiptIn node_of_sealed (world_of machines)
+
+-- the answer of the script's machines once they have played
+pub record IsPlayOf (prefix : List ℕ) (script : Script) (answer : Answer) : Type 0 where
+  pub machines : List MachineState
+  pub undone : List ℕ
+  pub played : IsPlayed script machines
+  pub order : KeepOrder machines
+  pub left : SayUndone machines undone
+  pub told : answer ≡ play_answer prefix (roster_of script) machines undone
+
+-- the statuses with which a play answers where the file was read
+abbrev pub IsOfPlay : Status → Type 0
+IsOfPlay Done = Unit {0}
+IsOfPlay Undone = Unit {0}
+IsOfPlay Refused = Unit {0}
+IsOfPlay other = ⊥
+
+-- the answer for the script's file, or where there is none
+abbrev pub IsPlayAnswer : List ℕ → List ℕ → Option (List ℕ) → Answer → Type 0
+IsPlayAnswer name prefix None answer = answer ≡ absent_answer name
+IsPlayAnswer name prefix (Some bytes) answer =
+    ((max_script < length bytes) × (answer ≡ refused_answer name 0 (codes "TooLong")))
+    ⊎ ((length bytes ≤ max_script) × ((number : ℕ) × (why : ScriptWhy) × Reads bytes (Err (At number why))
+    × (answer ≡ refused_answer name number (script_name why))))
+    ⊎ ((length bytes ≤ max_script) × ((script : Script) × Reads bytes (Ok script) × IsPlayOf prefix script answer))

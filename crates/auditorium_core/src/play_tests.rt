@@ -1,0 +1,202 @@
+//! The command `play`. The sizes of the files and the lines are those of the worked scripts.
+use super::*;
+use hall_outside::{MemorySink, MemoryStore};
+use std::alloc::Global;
+use std::test::Fail;
+
+/// A supervisor and a booth.
+const TWO: &str =
+    "seed 0102\nkey w4 h5\nlog 64\nlink 64\nmachine sv supervisor\nmachine b1 booth\n";
+
+/// A supervisor and two booths.
+const THREE: &str = "seed 0102\nkey w4 h5\nlog 64\nlink 64\n\
+    machine sv supervisor\nmachine b1 booth\nmachine b2 booth\n";
+
+/// One session from authorisation to ballot.
+const SESSION: &str = "do sv open\ndo sv authorise b1 1\ndo sv close\ndo b1 activate 1\n\
+    do b1 commit 1 0707070707070707070707070707070707070707070707070707070707070707\n\
+    do b1 cast 1 0707070707070707070707070707070707070707070707070707070707070707\n";
+
+/// The steps of that session, each of which changes something.
+const STEPS: &str = "step act sv\nstep act sv\nstep hear b1 sv 0\nstep hear b1 sv 1\n\
+    step act b1\nstep act b1\nstep act b1\n\
+    step hear sv b1 0\nstep hear sv b1 1\nstep hear sv b1 2\nstep act sv\nstep hear b1 sv 2\n";
+
+/// Steps after which the supervisor hears nothing of the session.
+const UNHEARD: &str = "step act sv\nstep act sv\nstep hear b1 sv 0\nstep hear b1 sv 1\n\
+    step act b1\nstep act b1\nstep act b1\nstep act sv\nstep hear b1 sv 2\n";
+
+/// A session at each booth.
+const SESSIONS: &str = "do sv open\ndo sv authorise b1 1\ndo sv authorise b2 2\ndo b1 activate 1\n\
+    do b1 commit 1 0707070707070707070707070707070707070707070707070707070707070707\n\
+    do b2 activate 2\n";
+
+/// The end of the second one.
+const BALLOT: &str =
+    "do b2 commit 2 0707070707070707070707070707070707070707070707070707070707070707\n\
+    do b2 cast 2 0707070707070707070707070707070707070707070707070707070707070707\n";
+
+/// Both booths hear the supervisor, and the second the later of the first one's two entries.
+const PARTED: &str = "step act sv\nstep act sv\nstep act sv\n\
+    step hear b1 sv 0\nstep hear b1 sv 1\nstep hear b1 sv 2\n\
+    step hear b2 sv 0\nstep hear b2 sv 1\nstep hear b2 sv 2\n\
+    step act b1\nstep act b1\nstep hear b2 b1 1\nstep act b2\n";
+
+/// After that the second booth has an action behind its commitment.
+const BALLOT_STEPS: &str = "step act sv\nstep act sv\nstep act sv\n\
+    step hear b1 sv 0\nstep hear b1 sv 1\nstep hear b1 sv 2\n\
+    step hear b2 sv 0\nstep hear b2 sv 1\nstep hear b2 sv 2\n\
+    step act b1\nstep act b1\nstep hear b2 b1 1\nstep act b2\nstep act b2\nstep act b2\n";
+
+/// The texts, one behind the other.
+fn joined(alloc: Global, parts: &[&str]) -> Result<String, Fail> {
+    let mut text = String::new(alloc);
+    for part in parts {
+        text.push_str(part)?;
+    }
+    Ok(text)
+}
+
+/// Plays the script over a store of which this write fails.
+fn play_over(
+    alloc: Global,
+    script: &str,
+    failing: u64,
+    out: &mut MemorySink,
+) -> Result<(Status, MemoryStore), Fail> {
+    let mut store = MemoryStore::make(alloc, Vec::new(alloc), vec![in alloc; failing]?);
+    store.place(alloc, "s", script.as_bytes())?;
+    let mut words = Vec::new(alloc);
+    for word in ["play", "s", "p"] {
+        words.push(String::from_str(alloc, word)?)?;
+    }
+    let status = auditorium_still(alloc, words.as_slice(), &mut store, out);
+    Ok((status, store))
+}
+
+/// How long a file is; 0 if there is none.
+fn length_of(store: &MemoryStore, name: &str) -> usize {
+    match store.file(name) {
+        Some(bytes) => bytes.len(),
+        None => 0,
+    }
+}
+
+#[test]
+fn a_play_has_its_files_lines_and_status(rt: HostRuntime) -> Result<(), Fail> {
+    let alloc = rt.alloc();
+    for (parts, lengths, status, output) in [
+        (
+            [TWO, SESSION, "", STEPS],
+            [163, 14907, 14907, 0],
+            Status::Done,
+            "machine sv sent 3 held 6\nmachine b1 sent 3 held 6\n",
+        ),
+        (
+            [TWO, SESSION, "", UNHEARD],
+            [163, 4935, 12434, 0],
+            Status::Undone,
+            "machine sv sent 2 held 2\nmachine b1 sent 3 held 5\nundone sv 2 SessionsLeft\n",
+        ),
+        (
+            [THREE, SESSIONS, "", PARTED],
+            [235, 7418, 12406, 12440],
+            Status::Done,
+            "machine sv sent 3 held 3\nmachine b1 sent 2 held 5\nmachine b2 sent 1 held 5\n",
+        ),
+    ] {
+        let script = joined(alloc, &parts)?;
+        let mut out = MemorySink::make(alloc, 100, Vec::new(alloc));
+        let (answered, store) = play_over(alloc, script.as_str(), 100, &mut out)?;
+        assert_eq!(rt; answered, status, "{output}");
+        assert!(rt; out.bytes() == output.as_bytes(), "{output}");
+        let names = ["p.roster", "p.sv.log", "p.b1.log", "p.b2.log"];
+        for (name, length) in names.iter().zip(lengths) {
+            assert_eq!(rt; length_of(&store, name), length, "{name}");
+        }
+    }
+    Ok(())
+}
+
+/// A text so many times over.
+fn repeated(alloc: Global, text: &str, count: usize) -> Result<String, Fail> {
+    let mut all = String::new(alloc);
+    for _ in 0..count {
+        all.push_str(text)?;
+    }
+    Ok(all)
+}
+
+#[test]
+fn what_is_left_has_its_cause(rt: HostRuntime) -> Result<(), Fail> {
+    let alloc = rt.alloc();
+    let overrides = repeated(alloc, "do sv override 1\n", 31)?;
+    let acts = repeated(alloc, "step act sv\n", 33)?;
+    for (parts, status, output) in [
+        (
+            [
+                TWO,
+                "do sv open\ndo sv authorise b1 1\n",
+                overrides.as_str(),
+                acts.as_str(),
+            ],
+            Status::Undone,
+            "machine sv sent 32 held 32\nmachine b1 sent 0 held 0\nundone sv 32 Spent\n",
+        ),
+        (
+            [THREE, SESSIONS, BALLOT, BALLOT_STEPS],
+            Status::Undone,
+            "machine sv sent 3 held 3\nmachine b1 sent 2 held 5\nmachine b2 sent 2 held 6\n\
+                undone b2 2 LogNotWhole\n",
+        ),
+        (
+            [
+                TWO,
+                "do sv open\ndo sv close\n",
+                "do sv authorise b9 1\n",
+                "",
+            ],
+            Status::Refused,
+            "refused s 9 UnknownName\n",
+        ),
+    ] {
+        let script = joined(alloc, &parts)?;
+        let mut out = MemorySink::make(alloc, 100, Vec::new(alloc));
+        let (answered, store) = play_over(alloc, script.as_str(), 100, &mut out)?;
+        assert_eq!(rt; answered, status, "{output}");
+        assert!(rt; out.bytes() == output.as_bytes(), "{output}");
+        let played = length_of(&store, "p.roster") > 0;
+        assert!(rt; played == (status == Status::Undone), "{output}");
+    }
+    Ok(())
+}
+
+#[test]
+fn a_stop_at_a_write_leaves_the_files_before_it(rt: HostRuntime) -> Result<(), Fail> {
+    let alloc = rt.alloc();
+    let script = joined(alloc, &[TWO, SESSION, STEPS])?;
+    // Each of three files is created, and takes its bytes in one piece.
+    for (failing, lengths) in [
+        (1, [0, 0, 0]),
+        (2, [0, 0, 0]),
+        (3, [163, 0, 0]),
+        (4, [163, 0, 0]),
+        (5, [163, 14907, 0]),
+        (6, [163, 14907, 0]),
+        (7, [163, 14907, 14907]),
+    ] {
+        let mut out = MemorySink::make(alloc, 100, Vec::new(alloc));
+        let (answered, store) = play_over(alloc, script.as_str(), failing, &mut out)?;
+        let status = if failing == 7 {
+            Status::Done
+        } else {
+            Status::WriteFault
+        };
+        assert_eq!(rt; answered, status, "write {failing}");
+        assert!(rt; out.bytes().is_empty() == (failing < 7), "write {failing}");
+        for (name, length) in ["p.roster", "p.sv.log", "p.b1.log"].iter().zip(lengths) {
+            assert_eq!(rt; length_of(&store, name), length, "write {failing}: {name}");
+        }
+    }
+    Ok(())
+}

@@ -1,0 +1,43 @@
+// From an answer to the bytes that go out.
+ghost use Rattle.std.specs.Prelude.{◌≡◌, IsErr, OnOk, OnErr};
+ghost use Rattle.hall_outside.specs.Counts.{HasCause};
+ghost use Rattle.auditorium_core.specs.Outcome.{outside, with_files, SetsSome, IsWritten, IsCutShort};
+
+use crate::answer::{Answer, OutputFile};
+use hall_outside::{Failed, Sink, Store, put_file, write_all};
+
+/// Writes the files in order, each whole before the next. It takes no memory.
+fn put_files<S: Store>(store: &mut S, files: &[OutputFile]) -> Result<(), Failed>
+    ensures ok { OnOk result (S.files store.new ≡ with_files (S.files store.old) files.now) }
+    ensures err { OnErr result (SetsSome (S.files store.old) files.now (S.files store.new)) }
+    ensures cause { HasCause (S.write_faults store.old) (S.write_faults store.new) (IsErr result) }
+    ensures answered { S.answered store.new ≡ S.answered store.old }
+    ensures read_faults { S.read_faults store.new ≡ S.read_faults store.old }
+{
+    for file in files {
+        put_file(store, file.name(), file.bytes())?;
+    }
+    Ok(())
+}
+
+/// Writes the answer: first its files, then its output. It takes no memory.
+pub(crate) fn write_answer<S: Store, K: Sink>(
+    answer: &Answer,
+    store: &mut S,
+    out: &mut K,
+) -> Result<(), Failed>
+    ensures ok { OnOk result (IsWritten answer.now
+        (outside (S.files store.old) (S.answered store.old) (S.read_faults store.old)
+        (S.write_faults store.old) (K.written out.old) (K.faults out.old))
+        (outside (S.files store.new) (S.answered store.new) (S.read_faults store.new)
+        (S.write_faults store.new) (K.written out.new) (K.faults out.new))) }
+    ensures err { OnErr result (IsCutShort answer.now
+        (outside (S.files store.old) (S.answered store.old) (S.read_faults store.old)
+        (S.write_faults store.old) (K.written out.old) (K.faults out.old))
+        (outside (S.files store.new) (S.answered store.new) (S.read_faults store.new)
+        (S.write_faults store.new) (K.written out.new) (K.faults out.new))) }
+    ensures answered { S.answered store.new ≡ S.answered store.old }
+{
+    put_files(store, answer.files())?;
+    write_all(out, answer.output())
+}
