@@ -4,12 +4,12 @@ ghost use Rattle.std.specs.Prelude.{◌≡◌, ◌+◌, ◌<◌, ◌↔◌, leng
 ghost use Rattle.std.specs.List.{All};
 ghost use Rattle.entry_order.specs.Frontier.{frontier};
 ghost use Rattle.entry_order.specs.History.{entry_of, greatest_stamp, held, sent};
-ghost use Rattle.entry_order.specs.Naming.{IsBorneIn, has_digest};
+ghost use Rattle.entry_order.specs.Naming.{IsBorneIn};
 ghost use Rattle.log_frontier.specs.Places.{IsFrontierAt, digest_at};
 ghost use Rattle.entangled_log.specs.Nexts.{HasGreatestStamp};
 ghost use Rattle.entangled_log.specs.Whole.{NamesOnlyHeld, lacks, lacks_some};
 
-use entry_order::{Event, Knot};
+use entry_order::{Event, Knot, has_digest};
 use std::alloc::{AllocError, Global};
 
 /// Whether an entry with the digest is held.
@@ -58,13 +58,6 @@ pub fn frontier_at<T: Knot>(
     ensures { IfOk result (λ names. names.items ≡ frontier T.node (held events.now)) }
 {
     digests_at(alloc, events, places)
-}
-
-// Whether one of the entries bears the digest.
-fn has_digest<T: Knot>(entries: &[T], digest: &[u8; 32]) -> bool
-    ensures { result ≡ has_digest T.node entries.now digest.now }
-{
-    entries.iter().any(|e| e.digest() == digest)
 }
 
 // The greatest stamp, or 0 where there is no entry.

@@ -7,6 +7,7 @@ mod event;
 mod examples;
 mod knot;
 mod laws;
+mod names;
 mod step;
 mod three;
 
@@ -20,5 +21,6 @@ pub use laws::{
     made_is_lawful, merged_is_played_again, numbered_is_distinct, order_is_receipt,
     order_is_receipt_in_orderly_worlds, order_is_settled, survivors_are_no_strays,
 };
+pub use names::{has_digest, is_named, names_digest};
 pub use step::Step;
 pub use three::Three;

@@ -5,7 +5,6 @@
 #![tactic(auto)]
 
 mod frontier;
-mod naming;
 mod noting;
 
 pub use entry_order::Knot;

@@ -7,8 +7,7 @@ ghost use Rattle.std.specs.Ordering.{is_lt, nat_cmp};
 ghost use Rattle.log_frontier.specs.Places.{HasNoDigestTwice, IsFrontierAt, digest_at};
 ghost use Rattle.log_frontier.specs.Noting.{count_below, is_left};
 
-use crate::naming::{is_named, names_digest};
-use entry_order::Knot;
+use entry_order::{Knot, is_named, names_digest};
 
 /// The frontier's places when the last entry of these, at `place`, is held too.
 pub fn note_last<T: Knot>(places: &mut Vec<usize>, held: &[T], place: usize)

@@ -9,8 +9,7 @@ ghost use Rattle.entry_order.specs.Survivors.{gaps, is_stray, names_later, survi
 ghost use Rattle.small_worlds.specs.Digests.{put_at};
 
 use crate::machine::Sender;
-use crate::naming::{has_digest, is_named, names_digest};
-use entry_order::Knot;
+use entry_order::{Knot, has_digest, is_named, names_digest};
 use std::alloc::{AllocError, Global};
 use std::cmp::Ordering;
 

@@ -6,8 +6,7 @@ ghost use Rattle.entry_order.specs.History.{held, sent};
 ghost use Rattle.entry_order.specs.Naming.{has_digest};
 
 use crate::digests::frontier;
-use crate::naming::has_digest;
-use entry_order::{Event, Knot};
+use entry_order::{Event, Knot, has_digest};
 use std::alloc::{AllocError, Global};
 
 /// Whether an entry with the digest is held.

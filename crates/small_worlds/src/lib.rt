@@ -6,7 +6,6 @@ mod digests;
 mod held;
 mod history;
 mod machine;
-mod naming;
 mod paths;
 mod world;
 

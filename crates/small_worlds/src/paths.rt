@@ -6,8 +6,7 @@ ghost use Rattle.entry_order.specs.Survivors.{survivors};
 ghost use Rattle.small_worlds.specs.Paths.{is_before, is_next, leads, names_entry};
 
 use crate::digests::is_stray;
-use crate::naming::names_digest;
-use entry_order::Knot;
+use entry_order::{Knot, names_digest};
 
 // Whether the entry names the other.
 fn names_entry<T: Knot>(entry: &T, other: &T) -> bool

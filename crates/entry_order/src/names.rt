@@ -1,9 +1,8 @@
-//! What entries name, by search.
-
+//! What entries name and bear, by search.
 ghost use Rattle.std.specs.Prelude.{◌≡◌};
-ghost use Rattle.entry_order.specs.Naming.{names_digest, is_named};
+ghost use Rattle.entry_order.specs.Naming.{names_digest, is_named, has_digest};
 
-use entry_order::Knot;
+use crate::knot::Knot;
 
 /// Whether the entry names the digest.
 pub fn names_digest<T: Knot>(entry: &T, digest: &[u8; 32]) -> bool
@@ -17,4 +16,11 @@ pub fn is_named<T: Knot>(entries: &[T], digest: &[u8; 32]) -> bool
     ensures { result ≡ is_named T.node entries.now digest.now }
 {
     entries.iter().any(|e| names_digest(e, digest))
+}
+
+/// Whether one of the entries bears the digest.
+pub fn has_digest<T: Knot>(entries: &[T], digest: &[u8; 32]) -> bool
+    ensures { result ≡ has_digest T.node entries.now digest.now }
+{
+    entries.iter().any(|e| e.digest() == digest)
 }
