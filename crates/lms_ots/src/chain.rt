@@ -1,8 +1,9 @@
 // Chains of hashes.
-ghost use Rattle.std.specs.Prelude.{◌≡◌, ◌+◌, ◌≤◌, ◌∷◌, ◌++◌, length, take};
+ghost use Rattle.std.specs.Prelude.{◌≡◌, ◌∷◌, ◌++◌, take};
 ghost use Rattle.sha2.specs.Sha256.{sha256};
 ghost use Rattle.lms_ots.specs.Ots.{chain, secret_element, u16str, u32str};
 
+use crate::octets::{u16_bytes, u32_bytes, write_at};
 use sha2::{Digest, Sha256};
 
 // A step hashes one buffer, whose padding stays within one block: the identifier and the numbers of
@@ -42,14 +43,6 @@ fn head(id: &[u8; 16], q: u32, i: u16) -> [u8; STEP_LEN]
     bytes
 }
 
-// Writes `piece` into `bytes` at `at`.
-pub(crate) fn write_at(bytes: &mut [u8], at: usize, piece: &[u8])
-    requires { at + length piece.now ≤ length bytes.old }
-    ensures { take (at + length piece.now) bytes.new ≡ take at bytes.old ++ piece.now }
-{
-    bytes[at..at + piece.len()].copy_from_slice(piece);
-}
-
 fn step(bytes: &mut [u8; STEP_LEN], j: u8, tmp: &[u8; 32]) -> [u8; 32]
     ensures head { take 22 bytes.new ≡ take 22 bytes.old }
     ensures hash { result ≡ sha256 (take 22 bytes.old ++ (j ∷ tmp.now)) }
@@ -57,18 +50,4 @@ fn step(bytes: &mut [u8; STEP_LEN], j: u8, tmp: &[u8; 32]) -> [u8; 32]
     bytes[PLACE_AT] = j;
     bytes[TMP_AT..].copy_from_slice(tmp);
     Sha256::digest(&*bytes)
-}
-
-#[tactic(auto, unfolding(crate::specs::Ots::u16str))]
-pub(crate) fn u16_bytes(n: u16) -> [u8; 2]
-    ensures { result ≡ u16str n }
-{
-    n.to_be_bytes()
-}
-
-#[tactic(auto, unfolding(crate::specs::Ots::u32str))]
-pub(crate) fn u32_bytes(n: u32) -> [u8; 4]
-    ensures { result ≡ u32str n }
-{
-    n.to_be_bytes()
 }

@@ -8,11 +8,13 @@ mod chain;
 mod digits;
 mod kind;
 mod laws;
+mod octets;
 mod sign;
 
 pub use digits::{checksum, digit};
 pub use kind::OtsKind;
 pub use laws::signed_gives_public;
+pub use octets::{hasher, u16_bytes, u32_bytes, write_at};
 pub use sign::{Memory, OtsFault, ots_candidate, ots_public, ots_sign};
 
 #[cfg(test)]

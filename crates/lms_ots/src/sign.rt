@@ -1,13 +1,13 @@
 // Keys, signatures and candidates.
 ghost use Rattle.std.specs.Prelude.{◌≡◌, ◌≢◌, ◌↔◌, ℕ, ◌∷◌, ◌++◌, length, take, vec_len, IfOk, OnOk, IsErrOf};
-ghost use Rattle.sha2.specs.Hashers.{Holds256};
 ghost use Rattle.lms_ots.specs.Parameters.{parameters, signature_len};
 ghost use Rattle.lms_ots.specs.Digits.{cksm};
 ghost use Rattle.lms_ots.specs.Ots.{candidate_of, message_hash, public_key, randomizer, signature_of, u16str, u32str};
 
-use crate::chain::{chain, secret_element, u16_bytes, u32_bytes, write_at};
+use crate::chain::{chain, secret_element};
 use crate::digits::{checksum, digit};
 use crate::kind::OtsKind;
+use crate::octets::{hasher, u16_bytes, u32_bytes, write_at};
 use sha2::{Digest, Sha256};
 use std::alloc::{AllocError, Global};
 use thiserror::Error;
@@ -145,17 +145,6 @@ fn randomizer(id: &[u8; 16], q: u32, seed: &[u8; 32]) -> [u8; 32]
     hasher.update(u32_bytes(q));
     hasher.update(seed);
     hasher.finalize()
-}
-
-// A hasher that has taken in what each hash of a key begins with.
-fn hasher(id: &[u8; 16], q: u32, domain: u16) -> Sha256
-    ensures { Holds256 result (id.now ++ u32str q ++ u16str domain) }
-{
-    let mut hasher = Sha256::new();
-    hasher.update(id);
-    hasher.update(u32_bytes(q));
-    hasher.update(u16_bytes(domain));
-    hasher
 }
 
 fn array_of(bytes: &[u8]) -> [u8; 32]

@@ -1,16 +1,13 @@
 // Nodes of trees.
 ghost use Rattle.std.specs.Prelude.{◌≡◌, ◌+◌, ◌*◌, ◌/◌, ◌^◌, ◌<◌, ◌≤◌, ◌++◌, [], IfOk, OnOk, length, slice_index_or};
 ghost use Rattle.std.specs.List.{flat_map, range_with_len};
-ghost use Rattle.sha2.specs.Hashers.{Holds256};
-ghost use Rattle.lms_ots.specs.Ots.{u16str, u32str};
 ghost use Rattle.lms_sign.specs.Height.{IsHeight};
 ghost use Rattle.lms_sign.specs.Tree.{interior, leaf, sibling};
 ghost use Rattle.lms_sign.specs.Signs.{parent};
 ghost use Rattle.lms_sign.specs.Nodes.{HoldsFrom, HoldsTree};
 
-use crate::public::u32_bytes;
-use lms_ots::{OtsKind, ots_public};
-use sha2::{Digest, Sha256};
+use lms_ots::{OtsKind, hasher, ots_public};
+use sha2::Digest;
 use std::alloc::{AllocError, Global};
 
 // The domain separation of leaves and of interior nodes (RFC 8554, 5.3).
@@ -123,22 +120,4 @@ pub(crate) fn parent(id: &[u8; 16], r: u32, beside: &[u8; 32], here: &[u8; 32]) 
     } else {
         interior(id, r / 2, beside, here)
     }
-}
-
-// A hasher that has taken in what the hash of a node begins with.
-fn hasher(id: &[u8; 16], r: u32, domain: u16) -> Sha256
-    ensures { Holds256 result (id.now ++ u32str r ++ u16str domain) }
-{
-    let mut hasher = Sha256::new();
-    hasher.update(id);
-    hasher.update(u32_bytes(r));
-    hasher.update(u16_bytes(domain));
-    hasher
-}
-
-#[tactic(auto, unfolding(lms_ots::specs::Ots::u16str))]
-fn u16_bytes(n: u16) -> [u8; 2]
-    ensures { result ≡ u16str n }
-{
-    n.to_be_bytes()
 }

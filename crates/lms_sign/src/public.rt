@@ -7,7 +7,7 @@ ghost use Rattle.lms_ots.specs.Parameters.{parameters};
 ghost use Rattle.lms_sign.specs.Height.{lms_typecode};
 ghost use Rattle.lms_sign.specs.Signs.{HasTypes};
 
-use lms_ots::OtsKind;
+use lms_ots::{OtsKind, u32_bytes, write_at};
 use std::marker::Model;
 use thiserror::Error;
 
@@ -109,23 +109,8 @@ pub(crate) fn u32_at(bytes: &[u8], at: usize) -> u32
     u32::from_be_bytes(number)
 }
 
-// Writes `piece` into `bytes` at `at`.
-fn write_at(bytes: &mut [u8], at: usize, piece: &[u8])
-    requires { at + length piece.now ≤ length bytes.old }
-    ensures { take (at + length piece.now) bytes.new ≡ take at bytes.old ++ piece.now }
-{
-    bytes[at..at + piece.len()].copy_from_slice(piece);
-}
-
 pub(crate) fn lms_typecode(height: u32) -> u32
     ensures { result ≡ lms_typecode height }
 {
     if height == 5 { 5 } else { 6 }
-}
-
-#[tactic(auto, unfolding(lms_ots::specs::Ots::u32str))]
-pub(crate) fn u32_bytes(n: u32) -> [u8; 4]
-    ensures { result ≡ u32str n }
-{
-    n.to_be_bytes()
 }

@@ -5,8 +5,8 @@ ghost use Rattle.lms_sign.specs.Secret.{public_of, signed_by};
 ghost use Rattle.lms_sign.specs.Signs.{Signs, index_in};
 
 use crate::nodes::{leaf_count, nodes_of, push_path};
-use crate::public::{LmsPublic, lms_typecode, u32_bytes};
-use lms_ots::{OtsKind, ots_sign};
+use crate::public::{LmsPublic, lms_typecode};
+use lms_ots::{OtsKind, ots_sign, u32_bytes};
 use std::alloc::{AllocError, Global};
 use std::marker::Model;
 use thiserror::Error;
