@@ -1,7 +1,7 @@
 -- What is read of a text, line by line.
-use Rattle.std.proofs.Common.{◌≡◌, ◌≢◌, ◌∙◌, ℕ, ◌+◌, ◌-◌, ◌<◌, ◌≤◌, Bool, true, false, not, List, [], ◌∷◌, ◌++◌, length, map, take}
+use Rattle.std.proofs.Common.{◌≡◌, ◌∙◌, ℕ, ◌+◌, ◌<◌, ◌≤◌, Bool, true, false, not, List, [], ◌∷◌, ◌++◌, length, map, take}
 use Rattle.std.proofs.Common.{get_or, inl, inr, refl, sym, ap, subst, arith}
-use Rattle.std.specs.Prelude.{Result, Ok, Err, filter, cond, Contains}
+use Rattle.std.specs.Prelude.{Ok, Err, filter, cond}
 use Rattle.std.proofs.lemmas.List.{take_more, take_all, get_or-map, get_or_default, length-map, map-append, append-nil}
 use Rattle.std.proofs.lemmas.List.Elements.{filter-append}
 use borrow.Author.Count.{below_more}
@@ -9,17 +9,13 @@ use Rattle.hall_text.specs.declared.spans.Span.{Span}
 use Rattle.hall_text.specs.Spans.{IsLine, AreAll}
 use Rattle.deed_history.specs.Refusals.{IsFirstOf}
 use Rattle.election_script.specs.declared.draft.Draft.{Draft}
-use Rattle.election_script.specs.declared.draft.LineFault.{LineFault}
-use Rattle.election_script.specs.declared.draft.LineFault.TheVariants.{Why, Memory}
-use Rattle.election_script.specs.declared.faults.ScriptFault.{ScriptFault}
 use Rattle.election_script.specs.declared.faults.ScriptFault.TheVariants.{At}
 use Rattle.election_script.specs.declared.faults.ScriptWhy.{ScriptWhy}
-use Rattle.election_script.specs.declared.script.Script.{Script}
 use Rattle.election_script.specs.Before.{words_of, told_by}
 use Rattle.election_script.specs.Faults.{causes_of, ending_causes}
-use Rattle.election_script.specs.Grammar.{is_passed_over, piece, HasLines, IsTextOf}
-use Rattle.election_script.specs.Lines.{FindsFirst, IsDraft, script_of}
-use Rattle.election_script.specs.Reading.{line_at, Tries, AreGoodBelow, HasNoFault, Reads}
+use Rattle.election_script.specs.Grammar.{is_passed_over, piece}
+use Rattle.election_script.specs.Lines.{IsDraft, script_of}
+use Rattle.election_script.specs.Reading.{line_at, Tries, AreGoodBelow, Reads}
 use Rattle.election_script.proofs.Whole.{whole}
 
 -- the span at a place is a line

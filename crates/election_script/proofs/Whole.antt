@@ -1,11 +1,10 @@
 -- A draft of all lines of a text, behind which nothing is lacking, is its script.
-use Rattle.std.proofs.Common.{◌≡◌, ◌∙◌, ℕ, ◌+◌, ◌<◌, ◌≤◌, List, [], ◌∷◌, ◌++◌, length, map, take, refl, sym, ap, subst, arith}
+use Rattle.std.proofs.Common.{◌≡◌, ◌∙◌, ℕ, ◌≤◌, List, [], ◌∷◌, ◌++◌, map, refl, sym, ap, arith}
 use Rattle.std.specs.Prelude.{not, filter}
 use Rattle.std.specs.List.{join_with_byte}
 use Rattle.std.proofs.lemmas.List.Splits.{join_with_byte-slice_split}
 use Rattle.std.proofs.lemmas.List.{take_all}
 use Rattle.election_script.specs.declared.draft.Draft.{Draft}
-use Rattle.election_script.specs.declared.script.Script.{Script}
 use Rattle.election_script.specs.Before.{words_of, told_by}
 use Rattle.election_script.specs.Grammar.{line_of, lines_of, is_passed_over, HasLines, IsTextOf}
 use Rattle.election_script.specs.Lawful.{IsLawful}

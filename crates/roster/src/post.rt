@@ -1,5 +1,6 @@
 //! A machine of the roster.
 ghost use Rattle.std.specs.Prelude.{◌≡◌, string_bytes, IfOk};
+ghost use Rattle.roster.specs.RosterText.{role_word};
 
 use std::alloc::{AllocError, Global};
 use std::marker::Model;
@@ -11,6 +12,18 @@ pub enum Role {
     Supervisor,
     /// It takes ballots.
     Booth,
+}
+
+impl Role {
+    /// The role's word in texts.
+    pub fn word(self) -> &'static [u8]
+        ensures { result.now ≡ role_word self }
+    {
+        match self {
+            Role::Supervisor => b"supervisor",
+            Role::Booth => b"booth",
+        }
+    }
 }
 
 /// A machine's name. Contracts see the list of its bytes.

@@ -1,20 +1,10 @@
 //! The tree of a roster.
 ghost use Rattle.std.specs.Prelude.{◌≡◌, IfOk};
-ghost use Rattle.roster.specs.RosterText.{role_word, post_tree, roster_tree};
+ghost use Rattle.roster.specs.RosterText.{post_tree, roster_tree};
 
-use crate::post::{Post, Role};
+use crate::post::Post;
 use canonical_sexp::{Members, Memory, Sexp, atom};
 use std::alloc::Global;
-
-/// The word of a role.
-fn word_of(role: Role) -> &'static [u8]
-    ensures { result.now ≡ role_word role }
-{
-    match role {
-        Role::Supervisor => b"supervisor",
-        Role::Booth => b"booth",
-    }
-}
 
 /// The tree of a machine.
 fn tree_of_post(alloc: Global, post: &Post) -> Result<Sexp, Memory>
@@ -22,7 +12,7 @@ fn tree_of_post(alloc: Global, post: &Post) -> Result<Sexp, Memory>
 {
     let mut members = Members::new(alloc);
     members.push(atom(alloc, post.name.as_str().as_bytes())?)?;
-    members.push(atom(alloc, word_of(post.role))?)?;
+    members.push(atom(alloc, post.role.word())?)?;
     members.push(atom(alloc, &post.key)?)?;
     Ok(Sexp::List(members))
 }

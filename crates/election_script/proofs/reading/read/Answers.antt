@@ -1,12 +1,7 @@
-use Rattle.std.proofs.Common.{◌≡◌, ◌∙◌, ℕ, List, Bool, true, false, sym, ap, subst, map, take, get_or}
+use Rattle.std.proofs.Common.{◌∙◌, ℕ, List, sym, ap, map, take}
 use Rattle.hall_text.specs.declared.spans.Span.{Span}
-use Rattle.hall_text.specs.Spans.{IsLine, AreAll}
-use Rattle.election_script.specs.declared.draft.LineFault.{LineFault}
-use Rattle.election_script.specs.Before.{words_of, told_by}
-use Rattle.election_script.specs.Faults.{causes_of}
+use Rattle.election_script.specs.Before.{told_by}
 use Rattle.election_script.specs.Grammar.{is_passed_over, piece}
-use Rattle.election_script.specs.Lines.{FindsFirst, IsDraft}
-use Rattle.election_script.specs.Reading.{line_at}
 use Rattle.election_script.proofs.LineByLine.{span_is, line_is_piece, lent_all, passes, takes, refuses, lacks, reads_whole}
 use Rattle.election_script.proofs.reading.read.Goals as goal
 
