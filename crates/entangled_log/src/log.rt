@@ -80,6 +80,14 @@ impl<T: Knot> Log<T> {
         })
     }
 
+    /// Whether an entry is held with the greatest stamp there is, so that `next` tells a spent stamp.
+    /// It takes no memory.
+    pub fn is_stamp_spent(&self) -> bool
+        ensures { IsTrue result ↔ HasGreatestStamp T.node (held self.now.events) }
+    {
+        next_stamp(&self.events).is_none()
+    }
+
     /// Appends an entry of the owner, which is as `next` says. It takes no memory.
     pub fn push_sent(&mut self, s: T)
         requires next { IsNext T.node self.old.owner self.old.events s }

@@ -1,7 +1,7 @@
 -- Histories with one event more.
 use Rattle.std.proofs.Common.{◌≡◌, ℕ, ◌+◌, ◌≤◌, List, [], ◌∷◌, ◌++◌, length, map, refl, ap, subst, ◌∙◌}
 use Rattle.std.proofs.Common.{◌⊎◌, inl, inr, arith}
-use Rattle.std.specs.List.{Any, Contains, filter}
+use Rattle.std.specs.List.{filter}
 use Rattle.std.specs.Prelude.{not}
 use Rattle.std.specs.Cmp.Lexicographic.{slice_cmp}
 use Rattle.std.specs.Ordering.{nat_cmp}
@@ -18,7 +18,6 @@ use Rattle.entry_order.specs.Frontier.{frontier}
 use Rattle.entry_order.specs.History.{entry_of, held, sent}
 use Rattle.entry_order.specs.Naming.{is_named}
 use Rattle.entry_order.proofs.Ascending.{ascending_ascending}
-use Rattle.entry_order.proofs.Lists.{Contains-map, Contains-map_cases}
 use Rattle.polling_world.specs.Configs.{Config}
 use Rattle.polling_world.specs.Rules.{entries_in}
 use Rattle.polling_world.specs.Sending.{AreMade, MaySend}
@@ -102,18 +101,3 @@ pub frontier_rises : (es : List SealedEntry) → IsAscending (frontier node_of_s
 frontier_rises es =
     ascending_ascending
     (filter (λ d. not (is_named node_of_sealed es d)) (map (λ (e : SealedEntry). (node_of_sealed e).digest) es))
-
--- an event with the stamp is of an entry that is held, and such an entry is of an event
-pub stamp_held : (stamp : ℕ) (h : List (Event SealedEntry)) →
-    Any (λ (x : Event SealedEntry). (entry_of x).entry.stamp ≡ stamp) h →
-    (e : SealedEntry) × Contains (held h) e × (e.entry.stamp ≡ stamp)
-stamp_held stamp h (k, x, within, is, has) =
-    (entry_of x, Contains-map (λ (x : Event SealedEntry). entry_of x) h x (k, within, is), has)
-
-pub stamp_among : (stamp : ℕ) (h : List (Event SealedEntry)) →
-    (e : SealedEntry) × Contains (held h) e × (e.entry.stamp ≡ stamp) →
-    Any (λ (x : Event SealedEntry). (entry_of x).entry.stamp ≡ stamp) h
-stamp_among stamp h (e, there, has) =
-    let found = Contains-map_cases (λ (x : Event SealedEntry). entry_of x) h e there in
-    let at = found.1 in
-    (at.0, found.0, at.1, at.2, ap (λ (e : SealedEntry). e.entry.stamp) found.2 ∙ has)

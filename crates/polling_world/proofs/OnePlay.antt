@@ -1,6 +1,6 @@
 -- The machines of a script play it in one way.
 use mathlib.Core.Path.{fun_ext}
-use Rattle.std.proofs.Common.{◌≡◌, ◌∙◌, ℕ, ◌<◌, Bool, false, ◌||◌, List, [], length, map, get_or, Option, Some, None, refl, sym, subst, ap, arith}
+use Rattle.std.proofs.Common.{◌≡◌, ◌∙◌, ℕ, ◌<◌, Bool, false, ◌||◌, List, [], length, get_or, Option, Some, None, sym, subst, ap, arith}
 use Rattle.std.specs.Prelude.{slice_get}
 use Rattle.std.proofs.Math.Bool.{or-false}
 use Rattle.std.proofs.lemmas.List.{same_lists, get_or-map, length-map}
@@ -12,7 +12,7 @@ use Rattle.entry_order.specs.World.{Machine, World, start, play}
 use Rattle.election_script.specs.declared.script.Cast0.{Cast0}
 use Rattle.election_script.specs.declared.script.Script.{Script}
 use Rattle.polling_world.specs.Configs.{Config, IsOf, config_of}
-use Rattle.polling_world.specs.Machines.{MachineState, has_stopped, is_reached}
+use Rattle.polling_world.specs.Machines.{MachineState, is_reached}
 use Rattle.polling_world.specs.Playing.{AreOf, IsPlayed}
 use Rattle.polling_world.specs.Worlds.{TellsNext, machine_of, world_of, configs_of}
 use Rattle.polling_world.proofs.NextTold.{tells_same}

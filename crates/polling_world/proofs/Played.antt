@@ -1,5 +1,5 @@
 -- A script's machines take its steps one after another.
-use Rattle.std.proofs.Common.{◌≡◌, ◌∙◌, ℕ, ◌+◌, ◌<◌, ◌≤◌, List, [], ◌∷◌, length, map, get_or, drop, replicate}
+use Rattle.std.proofs.Common.{◌≡◌, ◌∙◌, ℕ, ◌+◌, ◌<◌, ◌≤◌, List, [], ◌∷◌, length, map, get_or, drop}
 use Rattle.std.proofs.Common.{Option, Some, None, false, inl, inr, refl, sym, subst, ap, arith}
 use Rattle.std.specs.Prelude.{slice_get, option_map, All}
 use Rattle.std.proofs.lemmas.List.{same_lists, get_or-map, length-map, drop_more, drop_all, get_or-replicate}
@@ -15,7 +15,7 @@ use Rattle.election_script.specs.declared.script.Script.{Script}
 use Rattle.election_script.specs.declared.script.Cast0.{Cast0}
 use Rattle.election_script.specs.Lawful.{IsStep, IsLawful}
 use Rattle.polling_world.specs.Configs.{Config, config_of}
-use Rattle.polling_world.specs.Machines.{MachineState, IsFresh}
+use Rattle.polling_world.specs.Machines.{MachineState}
 use Rattle.polling_world.specs.Playing.{AreOf, IsPlayed}
 use Rattle.polling_world.specs.Steps.{IsStepOf}
 use Rattle.polling_world.specs.Worlds.{machine_of, world_of, configs_of, stops_of, HaveLog, AreFresh, TellsNext}

@@ -16,7 +16,7 @@ ghost use Rattle.polling_world.specs.Waiting.{IsGoing, IsLeft, IsReady, IsWhy};
 use crate::acted::Acted;
 use crate::heard::MachineHeard;
 use crate::left::{Left, LeftWhy};
-use crate::parts::{copies_of, hear_into, is_reached, is_stamp_spent, note_last};
+use crate::parts::{copies_of, hear_into, is_reached, note_last};
 use crate::rules::{RuleNot, Rules};
 use election_script::Script;
 use entangled_log::{Heard, Log, NextFault};
@@ -238,7 +238,7 @@ impl Machine {
         if self.log.events().len() >= self.capacity {
             return LeftWhy::Full;
         }
-        if is_stamp_spent(self.log.events()) {
+        if self.log.is_stamp_spent() {
             return LeftWhy::StampSpent;
         }
         if self.key.is_spent() {

@@ -1,11 +1,10 @@
 //! What is done to the parts of a machine.
-ghost use Rattle.std.specs.Prelude.{◌≡◌, ◌↔◌, ◌<◌, ◌≤◌, ◌+◌, ℕ, List, [], ◌∷◌, ◌++◌, length};
-ghost use Rattle.std.specs.Prelude.{replicate, Any, IfOk, IsTrue};
+ghost use Rattle.std.specs.Prelude.{◌≡◌, ◌<◌, ◌≤◌, ◌+◌, ℕ, List, [], ◌∷◌, ◌++◌, length};
+ghost use Rattle.std.specs.Prelude.{replicate, IfOk};
 ghost use Rattle.entangled_log.specs.Hearing.{IsAnswer, log_after};
-ghost use Rattle.entangled_log.specs.Nexts.{HasGreatestStamp};
 ghost use Rattle.entry_format.specs.Nodes.{node_of_sealed};
 ghost use Rattle.entry_format.specs.SealedEntry.{SealedEntry};
-ghost use Rattle.entry_order.specs.History.{entry_of, held};
+ghost use Rattle.entry_order.specs.History.{entry_of};
 ghost use Rattle.polling_world.specs.Kept.{StandFor, spare_of};
 ghost use Rattle.polling_world.specs.Machines.{is_reached};
 ghost use Rattle.polling_world.specs.Rules.{entries_in};
@@ -15,7 +14,6 @@ ghost use Rattle.roster.specs.declared.post.Role.{Role};
 use crate::rules::Rules;
 use entangled_log::{Event, Heard, Log};
 use entry_format::{Entry, Sealed};
-use entry_order::Knot;
 use std::alloc::{AllocError, Global};
 
 /// Whether there is a number of events to stop at, and there are that many.
@@ -26,21 +24,6 @@ pub fn is_reached(stop_at: Option<u32>, count: usize) -> bool
         None => false,
         Some(stop_at) => stop_at as usize <= count,
     }
-}
-
-/// Whether an entry is held with the greatest stamp there is.
-pub fn is_stamp_spent(events: &[Event<Sealed>]) -> bool
-    ensures { IsTrue result ↔ HasGreatestStamp node_of_sealed (held events.now) }
-{
-    holds_stamp(events, u32::MAX)
-}
-
-/// Whether an entry is held with the stamp.
-fn holds_stamp(events: &[Event<Sealed>], stamp: u32) -> bool
-    ensures { IsTrue result
-        ↔ Any (λ (x : Event SealedEntry). (entry_of x).entry.stamp ≡ stamp) events.now }
-{
-    events.iter().any(|event| event.stamp() == stamp)
 }
 
 /// Equal copies of the entry.

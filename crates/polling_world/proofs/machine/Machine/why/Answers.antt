@@ -1,11 +1,6 @@
-use Rattle.std.proofs.Common.{◌≢◌, ◌^◌, ◌∙◌, List, length, sym, ap, subst, arith}
+use Rattle.std.proofs.Common.{◌≢◌, ◌^◌, ◌∙◌, length, sym, ap, subst, arith}
 use Rattle.std.specs.Prelude.{not}
 use Rattle.std.proofs.lemmas.Bool.{true≢false, eq-eqb}
-use Rattle.entry_format.specs.Nodes.{node_of_sealed}
-use Rattle.entry_format.specs.SealedEntry.{SealedEntry}
-use Rattle.entry_order.specs.declared.event.Event.{Event}
-use Rattle.entry_order.specs.History.{held}
-use Rattle.entangled_log.specs.Nexts.{HasGreatestStamp}
 use Rattle.polling_world.specs.Machines.{MachineState}
 use Rattle.polling_world.specs.Waiting.{IsGoing, IsReady}
 use Rattle.polling_world.proofs.machine.Machine.why.Goals as goal
@@ -24,8 +19,6 @@ returns c =
       going = subst IsGoing (sym c.self.view_is) going;
       allowed = c.in-Ok.ensures fields.role fields.log.owner kept.noted;
       room = omega (arith, c.if-events-self.false, ap length c.events.ensures.events, kept.of_log);
-      stamp = λ has. true≢false (sym (c.is_stamp_spent.ensures.1
-          (subst (λ (h : List (Event SealedEntry)). HasGreatestStamp node_of_sealed (held h))
-          (sym c.events-2.ensures.events) has)) ∙ c.if-is_stamp_spent.false);
+      stamp = λ has. true≢false (sym (c.is_stamp_spent.ensures.1 has) ∙ c.if-is_stamp_spent.false);
       unspent = omega (arith, kept.signs_next, kept.indexed, other);
     })
