@@ -12,5 +12,3 @@ pub mod Stepping
 pub mod WorldSteps
 pub mod WorldMaking
 pub mod Played
-pub mod ThreeMachines
-pub mod Sessions

@@ -1,108 +1,25 @@
 //! A world of a supervisor and two booths.
-ghost use Rattle.std.specs.Prelude.{◌≡◌, ◌<◌, ◌↔◌, length, IfOk, IsTrue};
-ghost use Rattle.election_script.specs.Lawful.{IsLawful};
+ghost use Rattle.std.specs.Prelude.{◌↔◌, ◌<◌, length, IsTrue};
 ghost use Rattle.entry_order.specs.History.{sent};
 ghost use Rattle.entry_order.specs.World.{history};
 ghost use Rattle.polling_world.specs.Worlds.{world_of};
 
 use super::*;
-use election_script::{Cast0, Items, Script};
-use entangled_log::Event;
-use entry_format::{Deed, Sealed};
+use crate::tests::script_of;
 use entry_order::Step;
-use lms_ots::OtsKind;
-use roster::{Name, Role};
 use std::alloc::{AllocError, Global};
 use std::test::Fail;
 
-/// The ballot that the first booth commits to.
-const BALLOT: [u8; 32] = [7; 32];
-
-/// A machine of a script.
-fn cast_of(alloc: Global, name: &str, role: Role, deeds: &[Deed]) -> Result<Cast0, AllocError>
-    ensures { IfOk result (λ cast. cast ≡ record {
-      name = name.now;
-      role = role;
-      actions = deeds.now;
-    }) }
-{
-    let name = String::from_str(alloc, name)?;
-    let mut actions = Items::new(alloc);
-    for deed in deeds {
-        actions.push(*deed)?;
-    }
-    Ok(Cast0 {
-        name: Name::new(name),
-        role,
-        actions,
-    })
-}
-
-/// The script of a supervisor, who authorises a session at each of two booths.
-fn three_machines(alloc: Global) -> Result<Script, AllocError>
-    ensures { IfOk result IsLawful }
-{
-    let supervisor = cast_of(
-        alloc,
-        "sv",
-        Role::Supervisor,
-        &[
-            Deed::Opened,
-            Deed::Authorise {
-                booth: 1,
-                session: 1,
-            },
-            Deed::Authorise {
-                booth: 2,
-                session: 2,
-            },
-        ],
-    )?;
-    let first = cast_of(
-        alloc,
-        "b1",
-        Role::Booth,
-        &[
-            Deed::Activate { session: 1 },
-            Deed::Commit {
-                session: 1,
-                ballot: BALLOT,
-            },
-        ],
-    )?;
-    let second = cast_of(alloc, "b2", Role::Booth, &[Deed::Activate { session: 2 }])?;
-    let mut seed = Items::new(alloc);
-    seed.push(1)?;
-    seed.push(2)?;
-    let mut machines = Items::new(alloc);
-    machines.push(supervisor)?;
-    machines.push(first)?;
-    machines.push(second)?;
-    Ok(Script {
-        seed,
-        kind: OtsKind::W4,
-        height: 5,
-        log: 64,
-        link: 64,
-        machines,
-        loses: Items::new(alloc),
-        stops: Items::new(alloc),
-        steps: Items::new(alloc),
-    })
-}
-
-/// How many entries were sent.
-fn sent_count(events: &[Event<Sealed>]) -> usize
-    ensures { result ≡ length (sent events.now) }
-{
-    let mut count = 0;
-    for event in events {
-        if let Event::Sent(_) = event {
-            count += 1;
-        }
-    }
-    count
-}
+/// A session at each booth. The second booth hears the first one's commitment, and not its
+/// activation.
+const SESSIONS: &str = "machine sv supervisor\nmachine b1 booth\nmachine b2 booth\n\
+    do sv open\ndo sv authorise b1 1\ndo sv authorise b2 2\ndo b1 activate 1\n\
+    do b1 commit 1 0707070707070707070707070707070707070707070707070707070707070707\n\
+    do b2 activate 2\n\
+    step act sv\nstep act sv\nstep act sv\n\
+    step hear b1 sv 0\nstep hear b1 sv 1\nstep hear b1 sv 2\n\
+    step hear b2 sv 0\nstep hear b2 sv 1\nstep hear b2 sv 2\n\
+    step act b1\nstep act b1\nstep hear b2 b1 1\nstep act b2\n";
 
 /// Whether the world has sent the entry.
 fn has_sent(world: &World, entry: (u32, u32)) -> bool
@@ -112,8 +29,7 @@ fn has_sent(world: &World, entry: (u32, u32)) -> bool
     if at >= world.machines.len() {
         return false;
     }
-    let count = sent_count(world.machines[at].log().events());
-    (entry.1 as usize) < count
+    entry.1 < world.machines[at].sent_count()
 }
 
 /// What the world answers of two entries, `None` where one of them wasn't sent.
@@ -144,48 +60,10 @@ fn taken(alloc: Global, world: &mut World, step: &Step) -> Result<Option<Stepped
     Ok(Some(world.step(alloc, step)?))
 }
 
-/// The world after the worked steps: the second booth hears the first one's commit, and not its
-/// activation.
+/// The world after the steps of those sessions.
 fn worked_world(alloc: Global) -> Result<World, Fail> {
-    let script = three_machines(alloc)?;
-    let mut world = World::make(alloc, &script)?;
-    for _entry in 0..3 {
-        let did = taken(alloc, &mut world, &Step::Act(0))?;
-        if did != Some(Stepped::Did) {
-            return Err(Fail::from("the supervisor acts"));
-        }
-    }
-    for at in 1..3u32 {
-        for number in 0..3u32 {
-            let did = taken(
-                alloc,
-                &mut world,
-                &Step::Hear {
-                    at,
-                    from: 0,
-                    number,
-                },
-            )?;
-            if did != Some(Stepped::Did) {
-                return Err(Fail::from("each booth hears the supervisor"));
-            }
-        }
-    }
-    for step in [
-        Step::Act(1),
-        Step::Act(1),
-        Step::Hear {
-            at: 2,
-            from: 1,
-            number: 1,
-        },
-        Step::Act(2),
-    ] {
-        if taken(alloc, &mut world, &step)? != Some(Stepped::Did) {
-            return Err(Fail::from("the booths act"));
-        }
-    }
-    Ok(world)
+    let script = script_of(alloc, 64, SESSIONS)?;
+    Ok(play(alloc, &script)?)
 }
 
 #[test]

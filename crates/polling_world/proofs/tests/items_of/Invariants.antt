@@ -1,6 +1,0 @@
-use Rattle.std.proofs.Common.{◌≡◌, take}
-use Rattle.polling_world.proofs.tests.items_of.Given as goal
-
--- the items so far
-abbrev pub invariant-loop-item : goal.invariant-loop-item
-invariant-loop-item g l = l.list ≡ take l.item-index l.items
