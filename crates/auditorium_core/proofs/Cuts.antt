@@ -1,6 +1,6 @@
 -- What a failed write leaves of an answer's files and output.
-use Rattle.std.proofs.Common.{◌≡◌, ◌∙◌, ℕ, List, [], ◌∷◌, Option, refl, sym, subst, inl, inr}
-use Rattle.std.specs.Prelude.{Result, Ok, Err, OnOk, OnErr, IsErr}
+use Rattle.std.proofs.Common.{◌≡◌, ℕ, List, [], ◌∷◌, Option, refl, sym, subst, inr}
+use Rattle.std.specs.Prelude.{Result, Ok, Err, OnErr, IsErr}
 use Rattle.hall_outside.specs.Counts.{HasCause, HasRisen}
 use Rattle.hall_outside.specs.Files.{Files, with_file}
 use Rattle.hall_outside.specs.Writing.{AppendsPrefix}

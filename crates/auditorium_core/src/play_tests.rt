@@ -1,6 +1,9 @@
 //! The command `play`. The sizes of the files and the lines are those of the worked scripts.
 use super::*;
+use entry_format::Sealed;
+use entry_order::{Event, Knot};
 use hall_outside::{MemorySink, MemoryStore};
+use polling_world::World;
 use std::alloc::Global;
 use std::test::Fail;
 
@@ -113,6 +116,89 @@ fn a_play_has_its_files_lines_and_status(rt: HostRuntime) -> Result<(), Fail> {
         let names = ["p.roster", "p.sv.log", "p.b1.log", "p.b2.log"];
         for (name, length) in names.iter().zip(lengths) {
             assert_eq!(rt; length_of(&store, name), length, "{name}");
+        }
+    }
+    Ok(())
+}
+
+/// What an entry is to be: its maker and number, its stamp, the maker and number of each entry that
+/// it names, in the order of their digests, and the length of its signed text.
+type Expected = (u32, u32, u32, &'static [(u32, u32)], usize);
+
+/// The entries of the session whose steps all change something.
+const SESSION_ENTRIES: &[Expected] = &[
+    (0, 0, 1, &[], 2431),
+    (0, 1, 2, &[(0, 0)], 2475),
+    (1, 0, 3, &[(0, 1)], 2471),
+    (1, 1, 4, &[(1, 0)], 2504),
+    (1, 2, 5, &[(1, 1)], 2502),
+    (0, 2, 6, &[(1, 2)], 2466),
+];
+
+/// The entries of the session that the supervisor hears nothing of.
+const UNHEARD_ENTRIES: &[Expected] = &[
+    (0, 0, 1, &[], 2431),
+    (0, 1, 2, &[(0, 0)], 2475),
+    (1, 0, 3, &[(0, 1)], 2471),
+    (1, 1, 4, &[(1, 0)], 2504),
+    (1, 2, 5, &[(1, 1)], 2502),
+];
+
+/// The entries of two sessions, of which the second booth's names what it heard last of each.
+const PARTED_ENTRIES: &[Expected] = &[
+    (0, 0, 1, &[], 2431),
+    (0, 1, 2, &[(0, 0)], 2475),
+    (0, 2, 3, &[(0, 1)], 2475),
+    (1, 0, 4, &[(0, 2)], 2471),
+    (1, 1, 5, &[(1, 0)], 2504),
+    (2, 0, 6, &[(1, 1), (0, 2)], 2506),
+];
+
+/// The world after the script's steps.
+fn world_of(alloc: Global, script: &str) -> Result<World, Fail> {
+    match election_script::read(alloc, script.as_bytes()) {
+        Ok(script) => Ok(polling_world::play(alloc, &script)?),
+        Err(_) => Err(Fail::from("the script is read")),
+    }
+}
+
+/// The entry that the machine sent under this number.
+fn sent_by(world: &World, (maker, number): (u32, u32)) -> Option<&Sealed> {
+    let machine = world.machines.get(maker as usize)?;
+    for event in machine.log().events() {
+        if let Event::Sent(sealed) = event {
+            if sealed.number() == number {
+                return Some(sealed);
+            }
+        }
+    }
+    None
+}
+
+#[test]
+fn entries_name_what_was_held_last(rt: HostRuntime) -> Result<(), Fail> {
+    let alloc = rt.alloc();
+    for (parts, entries) in [
+        ([TWO, SESSION, STEPS], SESSION_ENTRIES),
+        ([TWO, SESSION, UNHEARD], UNHEARD_ENTRIES),
+        ([THREE, SESSIONS, PARTED], PARTED_ENTRIES),
+    ] {
+        let script = joined(alloc, &parts)?;
+        let world = world_of(alloc, script.as_str())?;
+        for (maker, number, stamp, names, length) in entries {
+            let Some(sealed) = sent_by(&world, (*maker, *number)) else {
+                return Err(Fail::from("the entry was sent"));
+            };
+            assert_eq!(rt; sealed.stamp(), *stamp, "{maker}.{number}");
+            assert_eq!(rt; sealed.text().len(), *length, "{maker}.{number}");
+            assert_eq!(rt; sealed.names().len(), names.len(), "{maker}.{number}");
+            for (name, named) in sealed.names().iter().zip(names.iter()) {
+                let named = sent_by(&world, *named);
+                assert!(rt;
+                    named.is_some_and(|named| named.digest() == name),
+                    "{maker}.{number}"
+                );
+            }
         }
     }
     Ok(())

@@ -101,11 +101,13 @@ fn each_command_line_has_its_status_and_output(rt: HostRuntime) -> Result<(), Fa
             "refused x 0 Header\n",
         ),
         ("gaps y", HEADER, Status::Absent, "absent y\n"),
+        ("play nofile p", HEADER, Status::Absent, "absent nofile\n"),
         ("", HEADER, Status::Usage, "usage\n"),
         ("make 0", HEADER, Status::Usage, "usage\n"),
         ("gaps", HEADER, Status::Usage, "usage\n"),
         ("gaps -x", HEADER, Status::Usage, "usage\n"),
         ("gaps x x", HEADER, Status::Usage, "usage\n"),
+        ("play x", HEADER, Status::Usage, "usage\n"),
         ("gaps ", HEADER, Status::Usage, "usage\n"),
         ("--help", HEADER, Status::Usage, "usage\n"),
     ] {

@@ -1,5 +1,3 @@
-use Rattle.std.proofs.Common.{List, ℕ}
-use Rattle.std.specs.Prelude.{Some, IfOk}
 use Rattle.auditorium_core.specs.Play.{IsPlayAnswer}
 use Rattle.auditorium_core.proofs.Told.{for_file}
 use Rattle.auditorium_core.proofs.play.play.Goals as goal
