@@ -1,0 +1,94 @@
+#!/usr/bin/env python3
+"""Checks what docs/PROMISES.md and the crates' READMEs name. Run from anywhere: python3 bench/promises.py
+
+In docs/PROMISES.md each crate of crates.txt must have one row. In its third column `NAME`, clause `CLAUSE`,
+in `PATH` means that PATH is a file of the crate and that NAME and CLAUSE are words of it, NAME of a function
+or of a definition. In crates/NAME/README.md the names in the column "Kept by" must be words of the crate's
+sources. Each fault is printed; the exit status is 1 if there is one.
+"""
+import pathlib
+import re
+import sys
+
+ROOT = pathlib.Path(__file__).resolve().parent.parent
+NAME = re.compile(r"`([^`]+)`")
+
+
+def crates():
+    """The crates of crates.txt."""
+    lines = (ROOT / "crates.txt").read_text().splitlines()
+    return [line.split(":")[0] for line in lines if ":" in line and not line.startswith("#")]
+
+
+def rows(text, heading):
+    """The rows of the tables whose first line has this heading, as lists of cells."""
+    found, inside = [], False
+    for line in text.splitlines():
+        cells = [cell.strip() for cell in line.strip().strip("|").split("|")]
+        if not line.startswith("|"):
+            inside = False
+        elif heading in cells:
+            inside = True
+        elif inside and not set(line) <= set("|- "):
+            found.append(cells)
+    return found
+
+
+def words_of(path):
+    return set(re.findall(r"\w+", path.read_text()))
+
+
+def row_faults(crate, cell):
+    """What the third cell of a crate's row names in vain."""
+    pending = []
+    for name in NAME.findall(cell):
+        if "/" not in name:
+            pending += name.split("::")
+            continue
+        path = ROOT / "crates" / crate / name
+        if not path.is_file():
+            yield f"{crate}: no file {name}"
+            continue
+        known = words_of(path)
+        yield from (f"{crate}: {name} has no {part}" for part in pending if part not in known)
+        pending = []
+    if cell.endswith(")"):
+        # A definition in parentheses behind the last file is named by that file's contracts.
+        pending = [name for name in pending if name not in known]
+    yield from (f"{crate}: no file is named for {name}" for name in pending)
+
+
+def readme_faults(crate):
+    """What the crate's own README names in vain."""
+    path = ROOT / "crates" / crate / "README.md"
+    if not path.is_file():
+        yield f"{crate}: no README.md"
+        return
+    known = set()
+    for kind in ("src/**/*.rt", "specs/**/*.antt"):
+        for source in (ROOT / "crates" / crate).glob(kind):
+            known |= words_of(source)
+    for cells in rows(path.read_text(), "Kept by"):
+        for name in NAME.findall(cells[1]):
+            if "/" not in name and name not in crates():
+                parts = re.findall(r"\w+", name)
+                yield from (f"{crate}/README.md: no {part}" for part in parts if part != "for" and part not in known)
+
+
+def main():
+    faults = []
+    listed = [(NAME.findall(cells[0])[0], cells) for cells in rows((ROOT / "docs/PROMISES.md").read_text(), "Crate")]
+    names = [crate for crate, _ in listed]
+    faults += [f"no row of {crate}" for crate in crates() if names.count(crate) != 1]
+    faults += [f"a row of {crate}, which isn't in crates.txt" for crate in names if crate not in crates()]
+    for crate, cells in listed:
+        faults += row_faults(crate, cells[2])
+    for crate in crates():
+        faults += readme_faults(crate)
+    for fault in faults:
+        print(fault)
+    return 1 if faults else 0
+
+
+if __name__ == "__main__":
+    sys.exit(main())
