@@ -1,12 +1,20 @@
-"""Compares the orders of small random worlds with those of an independent program.
+"""Compares the orders of small random worlds with those of another program, which isn't part of the repository.
 
-    compare_orders.py PROGRAM ORACLE [--seed N] [--count N]
-    compare_orders.py --answer ORACLE < WORLD
+    compare_orders.py PROGRAM OTHER [--seed N] [--count N]
+    compare_orders.py --answer OTHER < WORLD
 
-PROGRAM is the built `world_orders`, and ORACLE the folder of the independent program, of which the
-modules `world` and `graph` are used: histories, what was held before, and survivors, gaps and paths.
-The first form prints how many worlds agreed, and shows the first that doesn't. The second prints the
-answer to the world on standard input.
+PROGRAM is the built `world_orders`. OTHER is a folder with two Python modules:
+
+    world   History(), with the list `events`, the number `greatest` (the greatest stamp held, or 0) and the
+            calls `sent()` (its own entries in order), `frontier()` (digests, ascending), `holds(digest)` and
+            `append(kind, entry)` with the kind "sent" or "got";
+            hear_answer(at, history, log, entry), which appends the entry as got if it can be heard;
+            held_before(world, (maker, number), (maker, number)) of a world with the list `histories`
+    graph   Graph(entries), with the lists `strays`, `survivors` and `gaps` (digests, ascending) and the call
+            precedes(place, place) of places among the survivors
+
+An entry has `maker`, `number`, `stamp`, `names`, `digest` and `text`. The first form prints how many worlds
+agreed, and shows the first that doesn't. The second prints the answer to the world on standard input.
 """
 
 import argparse
@@ -30,8 +38,8 @@ def entry_of(maker, number, stamp, names):
                            text=(maker, number, stamp, names))
 
 
-class Oracle:
-    """The orders of a world by the modules of the independent program."""
+class Other:
+    """The orders of a world by the modules of the other program."""
 
     def __init__(self, folder):
         sys.path.insert(0, folder)
@@ -118,12 +126,12 @@ def random_world(rng):
             lines.append(f"hear {m} {source} {rng.randrange(acted[source] + 1)}")
         else:
             lines.append(f"stop {m}")
-    borne = [(m, k) for m in range(machines) for k in range(acted[m])]
-    lost = [pair for pair in borne if rng.random() < rng.choice([0, 0.2, 0.5])]
+    sent = [(m, k) for m in range(machines) for k in range(acted[m])]
+    lost = [pair for pair in sent if rng.random() < rng.choice([0, 0.2, 0.5])]
     lines += [f"lose {m} {k}" for m, k in lost]
     forged = [(rng.randrange(machines), 100 + i) for i in range(rng.choice([0, 0, 1, 2, 4]))]
     for m, k in forged:
-        named = [p for p in borne + forged if rng.random() < 0.25]
+        named = [p for p in sent + forged if rng.random() < 0.25]
         words = " ".join(f"{a} {b}" for a, b in named)
         lines.append(f"forge {m} {k} {rng.randrange(1, 9)} {words}".rstrip())
     return lines
@@ -131,30 +139,30 @@ def random_world(rng):
 
 def main():
     parser = argparse.ArgumentParser(description=__doc__.splitlines()[0])
-    parser.add_argument("paths", nargs="+", help="PROGRAM ORACLE, or ORACLE after --answer")
+    parser.add_argument("paths", nargs="+", help="PROGRAM OTHER, or OTHER after --answer")
     parser.add_argument("--answer", action="store_true", help="answer the world on standard input")
     parser.add_argument("--seed", type=int, default=1)
     parser.add_argument("--count", type=int, default=300)
     args = parser.parse_args()
-    oracle = Oracle(args.paths[-1])
+    other = Other(args.paths[-1])
     if args.answer:
-        sys.stdout.write(oracle.answer(sys.stdin.read().splitlines()))
+        sys.stdout.write(other.answer(sys.stdin.read().splitlines()))
         return 0
     agreed = 0
     seen = {"frontier": 0, "held": 0, "stray": 0, "gap": 0, "precedes": 0}
     for turn in range(args.count):
         lines = random_world(random.Random(f"{args.seed} {turn}"))
-        wanted = oracle.answer(lines)
-        told = subprocess.run([args.paths[0]], input="".join(line + "\n" for line in lines),
+        wanted = other.answer(lines)
+        answered = subprocess.run([args.paths[0]], input="".join(line + "\n" for line in lines),
                               capture_output=True, text=True, timeout=120)
-        if told.returncode == 0 and told.stdout == wanted:
+        if answered.returncode == 0 and answered.stdout == wanted:
             agreed += 1
             for line in wanted.splitlines():
                 seen[line.split()[0]] += 1
         elif agreed == turn:
             print("\n".join(lines))
-            print("--- the program answers", told.returncode)
-            print(told.stdout)
+            print("--- the program answers", answered.returncode)
+            print(answered.stdout)
             print("--- wanted")
             print(wanted)
     print(f"{agreed} of {args.count} worlds agreed;",

@@ -1,10 +1,11 @@
-"""Checks keys and signatures against an independent implementation, in both directions.
+"""Checks keys and signatures against another implementation, in both directions. It isn't part of the repository.
 
 usage: python3 bench/lms_against.py FOLDER [PROGRAM]
 
-FOLDER has a module `lms` with `public(kind, height, identifier, seed)`, `signs(key, message,
-signature)` and `signed(kind, height, identifier, seed, index, message)`. PROGRAM is the built
-`signature_speed`.
+FOLDER has a Python module `lms` with these calls, bytes in and out: `public(kind, height, identifier, seed)`
+gives a public key of 56 bytes, `signed(kind, height, identifier, seed, index, message)` a signature, and
+`signs(key, message, signature)` says whether it is one of the message; a kind is "w1", "w2", "w4" or "w8".
+PROGRAM is the built `signature_speed`.
 """
 
 import os
