@@ -9,9 +9,10 @@ its own fields (`view`, `invariant`) isn't public. A clause reaches the definiti
 that they name in turn, in the `specs/` of all crates. A constructor or a field counts as its type.
 
 In docs/DEFINITIONS.md the first column of a table names definitions of the crate whose name heads the
-section. Printed is what the document lacks and what it lists although no public clause reaches it; the exit
-status is 1 if there is any such line. With --list each reached definition is printed with its comment, those
-that the contract of `auditorium_still` reaches marked by `*`.
+section, first all that the contract of `auditorium_still` reaches, then the others. Printed is what the
+document lacks, lists without need, gives to another file or has too late, and what is reached although it
+lies in `specs/inside/`; the exit status is 1 if there is any such line. With --list each reached definition
+is printed with its comment, those that `auditorium_still` reaches marked by `*`.
 """
 import pathlib
 import re
@@ -21,6 +22,7 @@ from collections import defaultdict
 ROOT = pathlib.Path(__file__).resolve().parent.parent
 DOCUMENT = ROOT / "docs" / "DEFINITIONS.md"
 TOP = ("auditorium_core", "auditorium_still")
+FIRST = "## What the headline needs"
 WORD = re.compile(r"[A-Za-z_][\w'?]*(?:\.[A-Za-z_][\w'?]*)?")
 IMPORT = re.compile(r"^\s*(?:pub |ghost )?use Rattle\.(\w+)\.specs\.([\w.]+?)(?:\.\{(.*?)\}| as (\w+));?$", re.S | re.M)
 DEFINITION = re.compile(r"^\s*(?:(?:abbrev|unfoldable|record|data|pub) )+([A-Za-z_][\w'?]*)")
@@ -198,9 +200,11 @@ def starts(known):
 
 
 def listed():
-    """The definitions that the document's tables name, by crate."""
-    found, crate, table = defaultdict(set), None, False
+    """The definitions that the document's tables name, by crate, each with the files that its row names; and
+    those of the first part, by crate and name."""
+    found, first, crate, table, part = defaultdict(dict), set(), None, False, None
     for line in DOCUMENT.read_text().splitlines():
+        part = line if line.startswith("## ") else part
         if line.startswith("#"):
             heading = re.findall(r"`(\w+)`", line)
             crate = heading[0] if heading else None
@@ -209,29 +213,47 @@ def listed():
         elif line.startswith("| Definition"):
             table = True
         elif table and crate:
-            found[crate] |= set(re.findall(r"`([^`]+)`", line.split("|")[1]))
-    return found
+            names, files = (re.findall(r"`([^`]+)`", cell) for cell in line.split("|")[1:3])
+            for name in names:
+                found[crate].setdefault(name, set()).update(files)
+                if part == FIRST:
+                    first.add((crate, name))
+    return found, first
+
+
+def disagreements(known, reached, top):
+    """What the document lacks, lists without need, places wrongly or has too late; and what is reached inside."""
+    shown, first = listed()
+    wanted = defaultdict(lambda: defaultdict(set))
+    for crate, module, name in reached:
+        file = known[crate, module].path.relative_to(ROOT / "crates" / crate).as_posix()
+        wanted[crate][name].add(file)
+        if file.startswith("specs/inside/"):
+            yield f"a public clause reaches {crate} {name}, in {file}"
+    for crate in crates():
+        for name in sorted(wanted[crate].keys() | shown[crate].keys()):
+            if name not in shown[crate]:
+                yield f"lacks {crate} {name}"
+            elif name not in wanted[crate]:
+                yield f"lists without need {crate} {name}"
+            elif not wanted[crate][name] <= shown[crate][name]:
+                yield f"places wrongly {crate} {name}: {', '.join(sorted(wanted[crate][name]))}"
+    late = {(crate, name) for crate, _, name in top} - first
+    yield from (f"has too late {crate} {name}" for crate, name in sorted(late) if name in shown[crate])
+    yield from (f"names no crate: {crate}" for crate in sorted(set(shown) - set(crates())))
 
 
 def main():
     known = modules()
     named = starts(known)
     reached = reached_from(known, sorted(set().union(*named.values())))
+    top = set(reached_from(known, sorted(named[TOP])))
     if "--list" in sys.argv[1:]:
-        top = set(reached_from(known, sorted(named[TOP])))
         for crate, module, name in reached:
             mark = "*" if (crate, module, name) in top else " "
             print(f"{mark} {crate} {module} {name}: {known[crate, module].comments[name]}")
         return 0
-    shown = listed()
-    wanted = defaultdict(set)
-    for crate, module, name in reached:
-        wanted[crate].add(name)
-    lines = []
-    for crate in crates():
-        lines += [f"lacks {crate} {name}" for name in sorted(wanted[crate] - shown[crate])]
-        lines += [f"lists without need {crate} {name}" for name in sorted(shown[crate] - wanted[crate])]
-    lines += [f"names no crate: {crate}" for crate in sorted(set(shown) - set(crates()))]
+    lines = list(disagreements(known, reached, top))
     print("\n".join(lines) or f"{len(reached)} definitions are reached, and all are listed")
     return 1 if lines else 0
 

@@ -5,10 +5,9 @@ Run from anywhere: python3 bench/paths.py
 
 Read are the Markdown files of the repository. A link is looked for from the document's folder. A word in
 backticks that begins with a folder of the top is looked for from the top, and one that begins with `src/`,
-`specs/`, `proofs/` or `must-fail/` from the crate's folder, or in a section on a crate from that crate's;
-the README at the top means `auditorium_core`.
-Words with capitals in their path, as `crates/NAME`, and what lies in an `out` are passed over. Each fault is
-printed; the exit status is 1 if there is one.
+`specs/`, `proofs/` or `must-fail/` from the folder of the crate that the section or the row is on; the README
+at the top means `auditorium_core`. Words with capitals in their second part, as `crates/NAME`, and what lies
+in an `out` are passed over. Each fault is printed; the exit status is 1 if there is one.
 """
 import pathlib
 import re

@@ -53,7 +53,7 @@ def row_faults(crate, cell):
         yield from (f"{crate}: {name} has no {part}" for part in pending if part not in known)
         pending = []
     if cell.endswith(")"):
-        # A definition in parentheses behind the last file is named by that file's contracts.
+        # A definition in parentheses after the last file is named by that file's contracts.
         pending = [name for name in pending if name not in known]
     yield from (f"{crate}: no file is named for {name}" for name in pending)
 
