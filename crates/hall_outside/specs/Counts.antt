@@ -1,5 +1,5 @@
 -- Counts that never fall and stop at the greatest `u64`.
-use Rattle.std.specs.Prelude.{ℕ, ◌+◌, ◌-◌, ◌^◌, ◌<◌, ◌≤◌, ◌⊎◌, max, min}
+use Rattle.std.specs.Prelude.{ℕ, ◌+◌, ◌-◌, ◌^◌, ◌<◌, ◌≤◌, ◌≡◌, ◌⊎◌, Bool, if◌then◌else◌, max, min}
 
 -- the count rose; one that stands at the greatest `u64` counts as risen
 abbrev pub HasRisen : ℕ → ℕ → Type 0
@@ -8,6 +8,10 @@ HasRisen before now = (before < now) ⊎ (2 ^ 64 ≤ now + 1)
 -- the count with `n` more: it stops at the greatest `u64`, and never falls
 abbrev pub raised : ℕ → ℕ → ℕ
 raised count n = max count (min (count + n) (2 ^ 64 - 1))
+
+-- a count of failures: it rises by one where a call fails, and only there
+abbrev pub CountsFailures : ℕ → Bool → ℕ → Type 0
+CountsFailures old ok new = new ≡ (if ok then old else raised old 1)
 
 -- a count never falls, and the answer comes only where it rose
 pub record HasCause (before now : ℕ) (answer : Type 0) : Type 0 where

@@ -1,7 +1,7 @@
 -- What a sink in memory is seen as, and which of its writes fail.
-use Rattle.std.specs.Prelude.{◌≡◌, ℕ, if◌then◌else◌, List, length, min, Contains, Result, IsErr, IfOk, is_ok}
+use Rattle.std.specs.Prelude.{◌≡◌, ℕ, List, length, min, Contains, Result, IsErr, IfOk, is_ok}
 use Rattle.hall_outside.specs.declared.stores.Failed.{Failed}
-use Rattle.hall_outside.specs.Counts.{raised}
+use Rattle.hall_outside.specs.Counts.{raised, CountsFailures}
 
 -- what was written, the most bytes that a write takes, the numbers of the writes that are to fail,
 -- how many writes there were, and how many failed
@@ -18,5 +18,5 @@ pub record IsMemorySinkWrite (old : SinkState) (piece : List ℕ) (result : Resu
   pub number : new.writes ≡ raised old.writes 1
   pub fails : Contains old.failing_writes new.writes → IsErr result
   pub took : IfOk result (λ n. n ≡ min old.greatest (length piece))
-  pub faults : new.faults ≡ (if is_ok result then old.faults else raised old.faults 1)
+  pub faults : CountsFailures old.faults (is_ok result) new.faults
   pub rest : new ≡ record old { written = new.written; writes = new.writes; faults = new.faults }

@@ -4,7 +4,7 @@ use Rattle.std.specs.Str.{bytes_eq}
 use Rattle.hall_outside.specs.declared.stores.Failed.{Failed}
 use Rattle.hall_outside.specs.declared.stores.Taken.{Taken}
 use Rattle.hall_outside.specs.declared.stores.Taken.TheVariants.{Absent, Bytes}
-use Rattle.hall_outside.specs.Counts.{raised}
+use Rattle.hall_outside.specs.Counts.{raised, CountsFailures}
 use Rattle.hall_outside.specs.Reading.{Answered}
 
 -- the bytes of the file with this name, in a list of names and bytes
@@ -34,14 +34,14 @@ pub record IsMemoryRead (name : List ℕ) (at room : ℕ) (old : StoreState) (re
   pub number : new.reads ≡ raised old.reads 1
   pub fails : IsErr result ↔ Contains old.failing_reads new.reads
   pub took : IfOk result (TakesAll (content_of old.files name) at room)
-  pub faults : new.read_faults ≡ (if is_ok result then old.read_faults else raised old.read_faults 1)
+  pub faults : CountsFailures old.read_faults (is_ok result) new.read_faults
   pub rest : new ≡ record old { reads = new.reads; read_faults = new.read_faults; answered = new.answered }
 
 -- a create or an append fails where its number is listed
 pub record IsMemoryWrite (old : StoreState) (ok : Bool) (new : StoreState) : Type 0 where
   pub number : new.writes ≡ raised old.writes 1
   pub fails : Contains old.failing_writes new.writes → ok ≡ false
-  pub faults : new.write_faults ≡ (if ok then old.write_faults else raised old.write_faults 1)
+  pub faults : CountsFailures old.write_faults ok new.write_faults
   pub rest : new ≡ record old { files = new.files; writes = new.writes; write_faults = new.write_faults }
 
 -- an append that doesn't fail takes the whole piece

@@ -1,29 +1,35 @@
 // The files of the system.
-ghost use Rattle.std.specs.Prelude.{◌≡◌, ◌≤◌, length, IfOk, None};
-ghost use Rattle.hall_outside.specs.Reading.{IsTaken};
+ghost use Rattle.std.specs.Prelude.{◌≡◌};
+ghost use Rattle.hall_outside.specs.Counts.{raised as raised_count};
 
 use crate::counts::raised;
+use crate::failure::Failure;
 use crate::stores::{Failed, Store, Taken};
-use std::fs::{self, File, OpenOptions};
-use std::io::{self, ErrorKind, Read, Seek, SeekFrom, Write};
+use crate::system_files::{Reading, Writing, append_part, new_file, read_part};
+use std::io;
 use std::marker::Model;
 use std::rt::Files;
 
-/// How many bytes a read takes at most.
-const PART: usize = 65_536;
-
-/// The files of the system, in the folder where the program runs. It tells nothing of them, and
+/// The files of the system, in the folder where the program runs. It exposes nothing of them, and
 /// counts what it answered.
+///
+/// A file that is created is a new one: it is made empty beside the old one and renamed onto it, so
+/// that two programs never write into one file, a link is replaced and not followed, and a file
+/// that is being read stays as it is for its reader. It is appended to through the handle that
+/// created it. What an append wrote is flushed to the disk before it returns.
 #[derive(Drop)]
-pub struct FolderStore<'a, R> {
+pub struct FolderStore<'a, R: Files> {
     rt: &'a R,
+    reading: Option<Reading<R::File>>,
+    writing: Option<Writing<R::File>>,
+    failure: Option<Failure>,
     read_faults: u64,
     write_faults: u64,
     absences: u64,
     bytes: u64,
 }
 
-impl<'a, R> Model for FolderStore<'a, R> {
+impl<'a, R: Files> Model for FolderStore<'a, R> {
     ghost use Rattle.hall_outside.specs.FolderStore.{FolderState};
 
     ghost Value = { FolderState };
@@ -35,7 +41,7 @@ impl<'a, R> Model for FolderStore<'a, R> {
     } };
 }
 
-impl<'a, R> FolderStore<'a, R> {
+impl<'a, R: Files> FolderStore<'a, R> {
     /// The store, with its counts at 0.
     pub fn make(rt: &'a R) -> FolderStore<'a, R>
         ensures { result ≡ record {
@@ -46,16 +52,48 @@ impl<'a, R> FolderStore<'a, R> {
     {
         FolderStore {
             rt,
+            reading: None,
+            writing: None,
+            failure: None,
             read_faults: 0,
             write_faults: 0,
             absences: 0,
             bytes: 0,
         }
     }
+
+    /// The last call that failed, for a line to the user. It is `None` where none did, or where
+    /// there was no memory to keep the file's name.
+    pub fn failure(&self) -> Option<&Failure> {
+        self.failure.as_ref()
+    }
 }
 
-impl<'a, R: Files> Store for FolderStore<'a, R> {
-    ghost use Rattle.std.specs.Prelude.{None, ⊤};
+impl<'a, R: Files + AllocGlobal> FolderStore<'a, R> {
+    fn read_failed(&mut self, name: &str, reason: io::Error) -> Failed
+        ensures { self.new ≡ record self.old {
+          read_faults = raised_count (self.old).read_faults 1;
+        } }
+    {
+        self.read_faults = raised(self.read_faults, 1);
+        self.failure = Failure::new(self.rt.alloc(), "reading", name, reason);
+        Failed
+    }
+
+    fn write_failed(&mut self, name: &str, reason: io::Error) -> Failed
+        ensures { self.new ≡ record self.old {
+          write_faults = raised_count (self.old).write_faults 1;
+        } }
+    {
+        self.write_faults = raised(self.write_faults, 1);
+        self.failure = Failure::new(self.rt.alloc(), "writing", name, reason);
+        Failed
+    }
+}
+
+impl<'a, R: Files + AllocGlobal> Store for FolderStore<'a, R> {
+    ghost use Rattle.std.specs.Prelude.{None, is_ok};
+    ghost use Rattle.hall_outside.specs.Counts.{CountsFailures};
 
     ghost files = { λ _. None };
 
@@ -65,14 +103,16 @@ impl<'a, R: Files> Store for FolderStore<'a, R> {
 
     ghost answered = { λ s. s.answered };
 
-    ghost reads = { λ _ _ _ _ _ _. ⊤ };
+    ghost reads = { λ _ _ _ old result new.
+        CountsFailures old.read_faults (is_ok result) new.read_faults };
 
-    ghost creates = { λ _ _ _ _. ⊤ };
+    ghost creates = { λ _ old ok new. CountsFailures old.write_faults ok new.write_faults };
 
-    ghost appends = { λ _ _ _ _ _. ⊤ };
+    ghost appends = { λ _ old _ result new.
+        CountsFailures old.write_faults (is_ok result) new.write_faults };
 
     fn read_at(&mut self, name: &str, at: u64, into: &mut [u8]) -> Result<Taken, Failed> {
-        match read_part(self.rt, name, at, into) {
+        match read_part(self.rt, &mut self.reading, name, at, into) {
             Ok(Taken::Absent) => {
                 self.absences = raised(self.absences, 1);
                 Ok(Taken::Absent)
@@ -81,58 +121,24 @@ impl<'a, R: Files> Store for FolderStore<'a, R> {
                 self.bytes = raised(self.bytes, count as u64);
                 Ok(Taken::Bytes(count))
             }
-            Err(_) => {
-                self.read_faults = raised(self.read_faults, 1);
-                Err(Failed)
-            }
+            Err(reason) => Err(self.read_failed(name, reason)),
         }
     }
 
     fn create(&mut self, name: &str) -> Result<(), Failed> {
-        match fs::create(self.rt, name) {
-            Ok(_) => Ok(()),
-            Err(_) => {
-                self.write_faults = raised(self.write_faults, 1);
-                Err(Failed)
+        match new_file(self.rt, name) {
+            Ok(writing) => {
+                self.writing = Some(writing);
+                Ok(())
             }
+            Err(reason) => Err(self.write_failed(name, reason)),
         }
     }
 
     fn append(&mut self, name: &str, piece: &[u8]) -> Result<usize, Failed> {
-        match append_part(self.rt, name, piece) {
-            Ok(count) if count > 0 => Ok(count),
-            _ => {
-                self.write_faults = raised(self.write_faults, 1);
-                Err(Failed)
-            }
+        match append_part(self.rt, &mut self.writing, name, piece) {
+            Ok(count) => Ok(count),
+            Err(reason) => Err(self.write_failed(name, reason)),
         }
     }
-}
-
-fn part() -> [u8; PART] {
-    [0; PART]
-}
-
-// std's `read` promises nothing of the bytes behind its count, so the part is read into an array.
-fn read_part<R: Files>(rt: &R, name: &str, at: u64, into: &mut [u8]) -> io::Result<Taken>
-    ensures { IfOk result (IsTaken None name.now at into.old into.new) }
-{
-    let mut file = match fs::open(rt, name) {
-        Ok(file) => file,
-        Err(e) if e.kind() == ErrorKind::NotFound => return Ok(Taken::Absent),
-        Err(e) => return Err(e),
-    };
-    file.seek(SeekFrom::Start(at))?;
-    let mut buffer = part();
-    let room = into.len().min(PART);
-    let count = file.read(&mut buffer[..room])?;
-    into[..count].copy_from_slice(&buffer[..count]);
-    Ok(Taken::Bytes(count))
-}
-
-fn append_part<R: Files>(rt: &R, name: &str, piece: &[u8]) -> io::Result<usize>
-    ensures { IfOk result (λ n. n ≤ length piece.now) }
-{
-    let mut file = File::options().append(true).open(rt, name)?;
-    file.write(piece)
 }

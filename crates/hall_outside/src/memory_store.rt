@@ -7,8 +7,8 @@ ghost use Rattle.hall_outside.specs.MemoryStore.{content_of, TakesAll};
 ghost use Rattle.hall_outside.specs.StoreView.{stored, IsPlaceOf};
 
 use crate::counts::raised;
-use crate::stores::{Failed, Store, Taken};
-use std::alloc::{AllocError, Global};
+use crate::stores::{Failed, Memory, Store, Taken};
+use std::alloc::Global;
 use std::marker::Model;
 
 /// Files in memory, and the numbers of the calls that are to fail. Reads are counted from 1, and so
@@ -81,8 +81,8 @@ impl MemoryStore {
         }
     }
 
-    /// Sets one file. It counts as no call.
-    pub fn place(&mut self, alloc: Global, name: &str, bytes: &[u8]) -> Result<(), AllocError>
+    /// Sets one file. It counts as no call. Where memory is wanting, the store is as it was.
+    pub fn place(&mut self, alloc: Global, name: &str, bytes: &[u8]) -> Result<(), Memory>
         ensures ok { OnOk result
             (content_of self.new.files ≡ file_set (content_of self.old.files) name.now bytes.now) }
         ensures err { OnErr result (self.new ≡ self.old) }
@@ -196,12 +196,7 @@ fn read_from(files: &[File], name: &str, at: u64, into: &mut [u8]) -> Taken
 }
 
 /// Makes these the bytes of the file.
-fn set_file(
-    alloc: Global,
-    files: &mut Vec<File>,
-    name: &str,
-    bytes: Vec<u8>,
-) -> Result<(), AllocError>
+fn set_file(alloc: Global, files: &mut Vec<File>, name: &str, bytes: Vec<u8>) -> Result<(), Memory>
     ensures ok { OnOk result (content_of (stored files.new.items)
         ≡ file_set (content_of (stored files.old.items)) name.now bytes.items) }
     ensures err { OnErr result (stored files.new.items ≡ stored files.old.items) }
@@ -220,7 +215,7 @@ fn set_file(
 }
 
 /// Appends to a file that is there.
-fn append_to(files: &mut Vec<File>, name: &str, piece: &[u8]) -> Result<(), AllocError>
+fn append_to(files: &mut Vec<File>, name: &str, piece: &[u8]) -> Result<(), Memory>
     requires { IsSome (content_of (stored files.old.items) name.now) }
     ensures ok { OnOk result (content_of (stored files.new.items)
         ≡ file_appended (content_of (stored files.old.items)) name.now piece.now) }

@@ -2,7 +2,7 @@
 ghost use Rattle.std.specs.Prelude.{◌≡◌, ◌+◌, IfOk, IfErr, IsErrOf, vec_len};
 ghost use Rattle.hall_outside.specs.Counts.{HasCause, ComesExactly};
 ghost use Rattle.hall_outside.specs.Files.{OnFile};
-ghost use Rattle.hall_outside.specs.ReadFile.{IsWhole, IsRefused};
+ghost use Rattle.hall_outside.specs.ReadFile.{IsWhole, IsRefused, ReadsOn};
 
 use crate::stores::{Failed, Store, Taken};
 use std::alloc::{AllocError, Global};
@@ -41,7 +41,8 @@ fn buffer(alloc: Global, len: usize) -> Result<Vec<u8>, AllocError>
     vec![in alloc; 0u8; len]
 }
 
-/// Reads a file of at most `limit` bytes whole, in pieces of 65,536 bytes. No file changes.
+/// Reads a file of at most `limit` bytes whole, in pieces of 65,536 bytes. No file changes,
+/// whatever it answers; after a refusal nothing of what was read is kept.
 pub fn read_file<S: Store>(
     alloc: Global,
     store: &mut S,
@@ -60,6 +61,10 @@ pub fn read_file<S: Store>(
         (S.answered store.new).bytes (IsErrOf result FileFault.TooLong) }
     ensures read_fault { HasCause (S.read_faults store.old) (S.read_faults store.new)
         (IsErrOf result FileFault.ReadFault) }
+
+    // It reads to the end, or to the first byte past the limit, in pieces of 65,536 bytes.
+    ensures pieces { (¬ IsErrOf result FileFault.Memory) →
+        ReadsOn (S.reads name.now) 65536 limit 0 store.old store.new }
 
     ensures unchanged { (S.files store.new ≡ S.files store.old)
         × (S.write_faults store.new ≡ S.write_faults store.old) }

@@ -30,7 +30,8 @@ pub trait Sink {
         ensures step { writes self.old piece.now result self.new };
 }
 
-/// Writes all of `bytes`, each write being offered all that is left. It takes no memory.
+/// Writes all of `bytes`, each write being offered all that is left. It takes no memory. After
+/// `Failed` a prefix of the bytes was written.
 pub fn write_all<K: Sink>(sink: &mut K, bytes: &[u8]) -> Result<(), Failed>
     ensures ok { OnOk result (K.written sink.new ≡ appended (K.written sink.old) bytes.now) }
     ensures err { OnErr result

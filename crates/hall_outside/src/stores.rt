@@ -5,7 +5,11 @@ ghost use Rattle.hall_outside.specs.Files.{Files, OnFile, with_file, SetsPrefix}
 ghost use Rattle.hall_outside.specs.Reading.{Answered, IsTaken, counted};
 ghost use Rattle.hall_outside.specs.Writing.{IsCountOf, with_appended, Puts};
 
+use std::alloc::AllocError;
 use thiserror::Error;
+
+/// The system gave no memory: another name of std's error.
+pub type Memory = AllocError;
 
 /// A read, a create, an append or a write failed.
 #[derive(Clone, Copy, Debug, PartialEq, Eq, Error)]
@@ -81,7 +85,8 @@ pub trait Store {
 }
 
 /// Makes a file of these bytes: it is created, then appended to until all is there, each append
-/// being offered all that is left. It takes no memory.
+/// being offered all that is left. It takes no memory. After `Failed` the file is as before, or a
+/// prefix of the bytes, and every other file is as before.
 pub fn put_file<S: Store>(store: &mut S, name: &str, bytes: &[u8]) -> Result<(), Failed>
     ensures ok { OnOk result
         (S.files store.new ≡ with_file (S.files store.old) name.now bytes.now) }

@@ -1,12 +1,13 @@
-use Rattle.std.proofs.Common.{◌≡◌, ◌∙◌, ◌+◌, ◌≤◌, ◌++◌, ℕ, List, length, take, vec_len, ap, sym, arith, subst, length-append}
+use Rattle.std.proofs.Common.{◌≡◌, ◌∙◌, ◌+◌, ◌≤◌, ◌++◌, ℕ, List, length, take, vec_len, ap, sym, arith, subst, inl, inr, refl, length-append}
 use Rattle.std.proofs.lemmas.List.{length-take-le}
-use Rattle.std.specs.Prelude.{Ok}
+use Rattle.std.specs.Prelude.{Ok, Err}
 use Rattle.hall_outside.specs.declared.stores.Taken.{Taken}
-use Rattle.hall_outside.specs.declared.stores.Taken.TheVariants.{Bytes}
+use Rattle.hall_outside.specs.declared.stores.Taken.TheVariants.{Absent, Bytes}
 use Rattle.hall_outside.specs.Counts.{raised}
 use Rattle.hall_outside.specs.Reading.{Answered, counted}
 use Rattle.hall_outside.specs.Files.{OnFile}
 use Rattle.hall_outside.proofs.Offers.{raised_twice}
+use Rattle.hall_outside.proofs.Pieces.{last_read, read_on}
 use Rattle.hall_outside.proofs.Fronts.{IsFront, read_more, read_whole, taken_part, taken_fits, written_back}
 use Rattle.hall_outside.proofs.reading.read_file.Goals as goal
 
@@ -74,4 +75,49 @@ loop-bytes-preserved g c =
           ∙ ap (raised (store.answered c.args.store.now).bytes) (sym longer);
       read_faults = omega (arith, arm.ensures.cause.never_falls);
       write_faults = arm.ensures.write_faults ∙ c.loop-bytes.invariant.write_faults;
+      pieces = λ end more. c.loop-bytes.invariant.pieces end
+          (read_on (store.reads c.args.name.now) c.args.limit (vec_len c.loop-bytes.bytes) c.len.result (length buffer) count
+          (vec_len c.extend_from_slice.new.self) arm.field-0 c.loop-bytes.store c.read_at.new.self end
+          (omega (arith, len, c.loop-bytes.bytes.ok.0)) (omega (
+            arith,
+            ap length c.as_mut_slice.ensures.value,
+            c.loop-bytes.piece.ok.0,
+            c.loop-bytes.invariant.piece,
+          )) arm.ensures.step arm.field-0-is longer more);
     }
+
+pub returns-in-Ok-Absent-clause-pieces : goal.returns-in-Ok-Absent-clause-pieces
+returns-in-Ok-Absent-clause-pieces g c not_memory =
+    c.loop-bytes.invariant.pieces c.read_at.new.self
+    (last_read (g.S.Store.reads c.args.name.now) c.args.limit (vec_len c.loop-bytes.bytes) c.len.result
+    (length c.as_mut_slice.result.now) c.loop-bytes.store c.read_at.new.self (Ok c.in-Ok-Absent.field-0) (Ok Absent)
+    (omega (arith, c.len.ensures, c.loop-bytes.bytes.ok.0))
+    (omega (arith, ap length c.as_mut_slice.ensures.value, c.loop-bytes.piece.ok.0, c.loop-bytes.invariant.piece))
+    c.in-Ok-Absent.ensures.step (ap (λ (t : Taken). Ok t) c.in-Ok-Absent.field-0-is) tt)
+
+pub returns-in-Ok-Bytes-eq0-clause-pieces : goal.returns-in-Ok-Bytes-eq0-clause-pieces
+returns-in-Ok-Bytes-eq0-clause-pieces g c not_memory =
+    c.loop-bytes.invariant.pieces c.read_at.new.self
+    (last_read (g.S.Store.reads c.args.name.now) c.args.limit (vec_len c.loop-bytes.bytes) c.len.result
+    (length c.as_mut_slice.result.now) c.loop-bytes.store c.read_at.new.self (Ok c.in-Ok-Bytes-eq0.field-0) (Ok (Bytes c.in-Ok-Bytes-eq0.field-0-0))
+    (omega (arith, c.len.ensures, c.loop-bytes.bytes.ok.0))
+    (omega (arith, ap length c.as_mut_slice.ensures.value, c.loop-bytes.piece.ok.0, c.loop-bytes.invariant.piece))
+    c.in-Ok-Bytes-eq0.ensures.step (ap (λ (t : Taken). Ok t) c.in-Ok-Bytes-eq0.field-0-is) (inl c.in-Ok-Bytes-eq0.field-0-0-test))
+
+pub returns-then-count-limit-clause-pieces : goal.returns-then-count-limit-clause-pieces
+returns-then-count-limit-clause-pieces g c not_memory =
+    c.loop-bytes.invariant.pieces c.read_at.new.self
+    (last_read (g.S.Store.reads c.args.name.now) c.args.limit (vec_len c.loop-bytes.bytes) c.len.result
+    (length c.as_mut_slice.result.now) c.loop-bytes.store c.read_at.new.self (Ok c.in-Ok-Bytes.field-0) (Ok (Bytes c.in-Ok-Bytes.count))
+    (omega (arith, c.len.ensures, c.loop-bytes.bytes.ok.0))
+    (omega (arith, ap length c.as_mut_slice.ensures.value, c.loop-bytes.piece.ok.0, c.loop-bytes.invariant.piece))
+    c.in-Ok-Bytes.ensures.step (ap (λ (t : Taken). Ok t) c.in-Ok-Bytes.field-0-is) (inr (omega (arith, c.if-count-limit.true, c.loop-bytes.bytes.ok.0))))
+
+pub returns-in-Err-clause-pieces : goal.returns-in-Err-clause-pieces
+returns-in-Err-clause-pieces g c not_memory =
+    c.loop-bytes.invariant.pieces c.read_at.new.self
+    (last_read (g.S.Store.reads c.args.name.now) c.args.limit (vec_len c.loop-bytes.bytes) c.len.result
+    (length c.as_mut_slice.result.now) c.loop-bytes.store c.read_at.new.self (Err c.in-Err.field-0) (Err c.in-Err.field-0)
+    (omega (arith, c.len.ensures, c.loop-bytes.bytes.ok.0))
+    (omega (arith, ap length c.as_mut_slice.ensures.value, c.loop-bytes.piece.ok.0, c.loop-bytes.invariant.piece))
+    c.in-Err.ensures.step refl tt)
