@@ -10,28 +10,28 @@ use std::test::Fail;
 /// The booth's place in the roster.
 const OWNER: u32 = 1;
 
-/// The maker and the deed of an entry, each of one letter.
-fn event(letter: u8) -> (u32, Deed) {
+/// The maker and the deed of an entry. Where nobody is named it is the supervisor that authorises,
+/// overrides and closes, and the booth that does the rest.
+fn event(words: &str) -> (u32, Deed) {
     let ballot = [b'x'; 32];
-    match letter {
-        b'a' => (0, authorise(OWNER, 7)),
-        b'b' => (0, authorise(2, 7)),
-        b's' => (0, authorise(OWNER, 8)),
-        b'o' => (0, Deed::Override { session: 7 }),
-        b'p' => (0, Deed::Override { session: 8 }),
-        b'c' => (0, Deed::Closed),
-        b't' => (OWNER, Deed::Activate { session: 7 }),
-        b'm' => (OWNER, Deed::Commit { session: 7, ballot }),
-        b'n' => (OWNER, other_commit()),
-        b'k' => (OWNER, Deed::Cancel { session: 7 }),
-        b'q' => (OWNER, Deed::Cancel { session: 8 }),
-        b'x' => (OWNER, Deed::Cast { session: 7, ballot }),
-        // The same of another maker.
-        b'O' => (OWNER, Deed::Override { session: 7 }),
-        b'C' => (2, Deed::Closed),
-        b'T' => (2, Deed::Activate { session: 7 }),
-        b'M' => (2, Deed::Commit { session: 7, ballot }),
-        b'K' => (2, Deed::Cancel { session: 7 }),
+    match words {
+        "authorised 7" => (0, authorise(OWNER, 7)),
+        "booth 2 authorised 7" => (0, authorise(2, 7)),
+        "authorised 8" => (0, authorise(OWNER, 8)),
+        "overridden 7" => (0, Deed::Override { session: 7 }),
+        "overridden 8" => (0, Deed::Override { session: 8 }),
+        "closed" => (0, Deed::Closed),
+        "activates 7" => (OWNER, Deed::Activate { session: 7 }),
+        "commits 7" => (OWNER, Deed::Commit { session: 7, ballot }),
+        "commits 7 otherwise" => (OWNER, other_commit()),
+        "cancels 7" => (OWNER, Deed::Cancel { session: 7 }),
+        "cancels 8" => (OWNER, Deed::Cancel { session: 8 }),
+        "casts 7" => (OWNER, Deed::Cast { session: 7, ballot }),
+        "overrides 7" => (OWNER, Deed::Override { session: 7 }),
+        "booth 2 closes" => (2, Deed::Closed),
+        "booth 2 activates 7" => (2, Deed::Activate { session: 7 }),
+        "booth 2 commits 7" => (2, Deed::Commit { session: 7, ballot }),
+        "booth 2 cancels 7" => (2, Deed::Cancel { session: 7 }),
         _ => (2, Deed::Cast { session: 7, ballot }),
     }
 }
@@ -45,8 +45,8 @@ fn authorise(booth: u32, session: u32) -> Deed {
     Deed::Authorise { booth, session }
 }
 
-fn entry_of(alloc: Global, letter: u8) -> Entry {
-    let (maker, deed) = event(letter);
+fn entry_of(alloc: Global, words: &str) -> Entry {
+    let (maker, deed) = event(words);
     Entry {
         election: [0; 32],
         maker,
@@ -57,130 +57,139 @@ fn entry_of(alloc: Global, letter: u8) -> Entry {
     }
 }
 
-/// The state of the history that has an entry for each letter, in their order.
-fn state_of(alloc: Global, letters: &[u8]) -> Result<BoothState, AllocError> {
-    let mut state = BoothState::make(alloc, OWNER, letters.len())?;
-    for letter in letters {
-        state.note(&entry_of(alloc, *letter));
+/// The state of the history that has these entries, separated by commas, in their order.
+fn state_of(alloc: Global, history: &str) -> Result<BoothState, AllocError> {
+    let mut state = BoothState::make(alloc, OWNER, history.len())?;
+    if !history.is_empty() {
+        for words in history.split(',') {
+            state.note(&entry_of(alloc, words));
+        }
     }
     Ok(state)
 }
 
-/// The answer for the deed after the history, where the log is whole or isn't, in words.
-fn answer(rt: &HostRuntime, letters: &str, whole: bool, deed: &Deed) -> Result<String, Fail>
+/// The answer for the deed after the history, where the log is complete or isn't, in words.
+fn answer(rt: &HostRuntime, history: &str, whole: bool, deed: &Deed) -> Result<String, Fail>
     requires { IsBoothDeed deed.now }
 {
-    let state = state_of(rt.alloc(), letters.as_bytes())?;
+    let state = state_of(rt.alloc(), history)?;
     Ok(match state.may(deed, whole) {
         Ok(()) => String::from_str(rt.alloc(), "Ok")?,
         Err(cause) => format!(in rt.alloc(); "{cause:?}")?,
     })
 }
 
+/// The deed of a row.
+fn deed_named(word: &str) -> Deed
+    ensures { IsBoothDeed result }
+{
+    let ballot = [b'x'; 32];
+    match word {
+        "Activate" => Deed::Activate { session: 7 },
+        "Commit" => Deed::Commit { session: 7, ballot },
+        "Cast" => Deed::Cast { session: 7, ballot },
+        _ => Deed::Cancel { session: 7 },
+    }
+}
+
+/// Whether the answer is the row's last part.
+fn is_answered(rt: &HostRuntime, row: &str) -> Result<bool, Fail> {
+    let parts: Vec<&str> = row.split(';').collect(rt.alloc())?;
+    let [word, history, whole, want] = parts.as_slice() else {
+        return Ok(false);
+    };
+    let got = answer(rt, history, *whole == "whole", &deed_named(word))?;
+    Ok(got.as_str() == *want)
+}
+
+/// The deed, the history before it, whether the log is complete, and the answer.
+const ROWS: &str = "Activate;authorised 7;whole;Ok
+Activate;;whole;NotAuthorised
+Activate;authorised 7,cancels 7;whole;Ended
+Activate;authorised 7,activates 7;whole;AlreadyActive
+Activate;authorised 7,overridden 7;whole;Overridden
+Activate;authorised 7,closed;whole;Closed
+Activate;cancels 7;whole;NotAuthorised
+Activate;activates 7;whole;NotAuthorised
+Activate;overridden 7;whole;NotAuthorised
+Activate;closed;whole;NotAuthorised
+Activate;authorised 7,cancels 7,activates 7;whole;Ended
+Activate;authorised 7,cancels 7,overridden 7;whole;Ended
+Activate;authorised 7,cancels 7,closed;whole;Ended
+Activate;authorised 7,activates 7,overridden 7;whole;AlreadyActive
+Activate;authorised 7,activates 7,closed;whole;AlreadyActive
+Activate;authorised 7,overridden 7,closed;whole;Overridden
+Activate;booth 2 authorised 7;whole;NotAuthorised
+Activate;authorised 8;whole;NotAuthorised
+Activate;authorised 7,booth 2 cancels 7;whole;Ok
+Activate;authorised 7,booth 2 casts 7;whole;Ok
+Activate;authorised 7,casts 7;whole;Ended
+Activate;authorised 7,booth 2 activates 7;whole;Ok
+Activate;authorised 7,overrides 7;whole;Overridden
+Activate;authorised 7,overridden 8;whole;Ok
+Activate;authorised 7,booth 2 closes;whole;Closed
+Activate;authorised 7,cancels 8;whole;Ok
+Activate;authorised 7;cut;Ok
+Commit;activates 7;whole;Ok
+Commit;;whole;NotActive
+Commit;activates 7,cancels 7;whole;Ended
+Commit;activates 7,commits 7 otherwise;whole;AlreadyCommitted
+Commit;activates 7,overridden 7;whole;Overridden
+Commit;activates 7,closed;whole;Closed
+Commit;cancels 7;whole;NotActive
+Commit;commits 7 otherwise;whole;NotActive
+Commit;overridden 7;whole;NotActive
+Commit;closed;whole;NotActive
+Commit;activates 7,cancels 7,commits 7 otherwise;whole;Ended
+Commit;activates 7,cancels 7,overridden 7;whole;Ended
+Commit;activates 7,cancels 7,closed;whole;Ended
+Commit;activates 7,commits 7 otherwise,overridden 7;whole;AlreadyCommitted
+Commit;activates 7,commits 7 otherwise,closed;whole;AlreadyCommitted
+Commit;activates 7,overridden 7,closed;whole;Overridden
+Commit;booth 2 activates 7;whole;NotActive
+Commit;activates 7,booth 2 commits 7;whole;Ok
+Commit;activates 7,commits 7;whole;AlreadyCommitted
+Commit;activates 7,booth 2 cancels 7;whole;Ok
+Commit;activates 7;cut;Ok
+Cast;commits 7;whole;Ok
+Cast;;whole;NotCommitted
+Cast;commits 7,cancels 7;whole;Ended
+Cast;commits 7,overridden 7;whole;Overridden
+Cast;commits 7,closed;whole;Closed
+Cast;commits 7;cut;LogNotWhole
+Cast;cancels 7;whole;NotCommitted
+Cast;overridden 7;whole;NotCommitted
+Cast;closed;whole;NotCommitted
+Cast;;cut;NotCommitted
+Cast;commits 7,cancels 7,overridden 7;whole;Ended
+Cast;commits 7,cancels 7,closed;whole;Ended
+Cast;commits 7,cancels 7;cut;Ended
+Cast;commits 7,overridden 7,closed;whole;Overridden
+Cast;commits 7,overridden 7;cut;Overridden
+Cast;commits 7,closed;cut;Closed
+Cast;booth 2 commits 7;whole;NotCommitted
+Cast;commits 7 otherwise;whole;NotCommitted
+Cast;commits 7 otherwise,commits 7;whole;Ok
+Cast;commits 7,booth 2 cancels 7;whole;Ok
+Cast;commits 7,booth 2 casts 7;whole;Ok
+Cast;commits 7,casts 7;whole;Ended
+Cast;commits 7,overrides 7;whole;Overridden
+Cast;commits 7,booth 2 closes;whole;Closed
+Cancel;authorised 7;whole;Ok
+Cancel;;whole;NotAuthorised
+Cancel;authorised 7,cancels 7;whole;Ended
+Cancel;cancels 7;whole;NotAuthorised
+Cancel;booth 2 authorised 7;whole;NotAuthorised
+Cancel;authorised 7,booth 2 cancels 7;whole;Ok
+Cancel;authorised 7,casts 7;whole;Ended
+Cancel;authorised 7,overridden 7;whole;Ok
+Cancel;authorised 7,closed;whole;Ok
+Cancel;authorised 7;cut;Ok";
+
 #[test]
 fn the_first_cause_is_told(rt: HostRuntime) -> Result<(), Fail> {
-    let ballot = [b'x'; 32];
-    for (letters, whole, want) in [
-        ("a", true, "Ok"),
-        ("", true, "NotAuthorised"),
-        ("ak", true, "Ended"),
-        ("at", true, "AlreadyActive"),
-        ("ao", true, "Overridden"),
-        ("ac", true, "Closed"),
-        ("k", true, "NotAuthorised"),
-        ("t", true, "NotAuthorised"),
-        ("o", true, "NotAuthorised"),
-        ("c", true, "NotAuthorised"),
-        ("akt", true, "Ended"),
-        ("ako", true, "Ended"),
-        ("akc", true, "Ended"),
-        ("ato", true, "AlreadyActive"),
-        ("atc", true, "AlreadyActive"),
-        ("aoc", true, "Overridden"),
-        ("b", true, "NotAuthorised"),
-        ("s", true, "NotAuthorised"),
-        ("aK", true, "Ok"),
-        ("aX", true, "Ok"),
-        ("ax", true, "Ended"),
-        ("aT", true, "Ok"),
-        ("aO", true, "Overridden"),
-        ("ap", true, "Ok"),
-        ("aC", true, "Closed"),
-        ("aq", true, "Ok"),
-        ("a", false, "Ok"),
-    ] {
-        let got = answer(&rt, letters, whole, &Deed::Activate { session: 7 })?;
-        assert_eq!(rt; got.as_str(), want, "Activate after {letters}");
-    }
-    for (letters, whole, want) in [
-        ("t", true, "Ok"),
-        ("", true, "NotActive"),
-        ("tk", true, "Ended"),
-        ("tn", true, "AlreadyCommitted"),
-        ("to", true, "Overridden"),
-        ("tc", true, "Closed"),
-        ("k", true, "NotActive"),
-        ("n", true, "NotActive"),
-        ("o", true, "NotActive"),
-        ("c", true, "NotActive"),
-        ("tkn", true, "Ended"),
-        ("tko", true, "Ended"),
-        ("tkc", true, "Ended"),
-        ("tno", true, "AlreadyCommitted"),
-        ("tnc", true, "AlreadyCommitted"),
-        ("toc", true, "Overridden"),
-        ("T", true, "NotActive"),
-        ("tM", true, "Ok"),
-        ("tm", true, "AlreadyCommitted"),
-        ("tK", true, "Ok"),
-        ("t", false, "Ok"),
-    ] {
-        let got = answer(&rt, letters, whole, &Deed::Commit { session: 7, ballot })?;
-        assert_eq!(rt; got.as_str(), want, "Commit after {letters}");
-    }
-    for (letters, whole, want) in [
-        ("m", true, "Ok"),
-        ("", true, "NotCommitted"),
-        ("mk", true, "Ended"),
-        ("mo", true, "Overridden"),
-        ("mc", true, "Closed"),
-        ("m", false, "LogNotWhole"),
-        ("k", true, "NotCommitted"),
-        ("o", true, "NotCommitted"),
-        ("c", true, "NotCommitted"),
-        ("", false, "NotCommitted"),
-        ("mko", true, "Ended"),
-        ("mkc", true, "Ended"),
-        ("mk", false, "Ended"),
-        ("moc", true, "Overridden"),
-        ("mo", false, "Overridden"),
-        ("mc", false, "Closed"),
-        ("M", true, "NotCommitted"),
-        ("n", true, "NotCommitted"),
-        ("nm", true, "Ok"),
-        ("mK", true, "Ok"),
-        ("mX", true, "Ok"),
-        ("mx", true, "Ended"),
-        ("mO", true, "Overridden"),
-        ("mC", true, "Closed"),
-    ] {
-        let got = answer(&rt, letters, whole, &Deed::Cast { session: 7, ballot })?;
-        assert_eq!(rt; got.as_str(), want, "Cast after {letters}");
-    }
-    for (letters, whole, want) in [
-        ("a", true, "Ok"),
-        ("", true, "NotAuthorised"),
-        ("ak", true, "Ended"),
-        ("k", true, "NotAuthorised"),
-        ("b", true, "NotAuthorised"),
-        ("aK", true, "Ok"),
-        ("ax", true, "Ended"),
-        ("ao", true, "Ok"),
-        ("ac", true, "Ok"),
-        ("a", false, "Ok"),
-    ] {
-        let got = answer(&rt, letters, whole, &Deed::Cancel { session: 7 })?;
-        assert_eq!(rt; got.as_str(), want, "Cancel after {letters}");
+    for row in ROWS.split('\n') {
+        assert!(rt; is_answered(&rt, row)?, "{row}");
     }
     Ok(())
 }
