@@ -33,6 +33,7 @@ pub Contains-insert_digest : (d : List ℕ) (ds : List (List ℕ)) (y : List ℕ
 Contains-insert_digest d [] y h = elim h [ inl e ↦ Contains-at d [] y e | inr g ↦ absurd (Contains-none y g) ]
 Contains-insert_digest d (c ∷ cs) y h = added (slice_cmp nat_cmp d c) d c cs y refl h (Contains-insert_digest d cs y)
 
+-- what is in the list after a digest was put in its place was put in or was there
 taken_out : (o : Ordering) (d c : List ℕ) (cs : List (List ℕ)) (y : List ℕ) →
     Contains (inserted o d c cs (insert_digest d cs)) y →
     (Contains (insert_digest d cs) y → (d ≡ y) ⊎ Contains cs y) → (d ≡ y) ⊎ Contains (c ∷ cs) y
@@ -71,6 +72,7 @@ Contains-ascending_cases (d ∷ ds) y h =
 abbrev pub IsBelow : List ℕ → List ℕ → Type 0
 IsBelow d c = slice_cmp nat_cmp d c ≡ Less
 
+-- no two digests are each below the other
 not_both : (x y : List ℕ) → IsBelow x y → IsBelow y x → ⊥
 not_both x y a b = let e : Less ≡ Greater = sym a ∙ nat_list_cmp_total.antisymm x y ∙ ap ordering_reverse b in cc
 
@@ -110,6 +112,7 @@ same_ascending (x ∷ xs) (y ∷ ys) a b to from =
     let tails : xs ≡ ys = same_ascending xs ys a.1 b.1 forth back in
     λ i. heads i ∷ tails i
 
+-- putting a digest beside the first keeps the order, where the rest keeps it
 inserted_ascending : (o : Ordering) (d c : List ℕ) (cs after : List (List ℕ)) → slice_cmp nat_cmp d c ≡ o →
     IsAscending (c ∷ cs) → IsAscending after → ((x : List ℕ) → Contains after x → (d ≡ x) ⊎ Contains cs x) →
     IsAscending (inserted o d c cs after)

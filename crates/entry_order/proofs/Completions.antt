@@ -15,6 +15,7 @@ use Rattle.entry_order.proofs.Ascending.{ascending_ascending}
 use Rattle.entry_order.proofs.Naming.{has_digest_of, has_digest_from}
 
 module _ {T : Type 0} (node : T → Node) (S : List T) where
+  -- the gaps are the digests that are named and not borne
   gap_members : (d : List ℕ) → Contains (gaps node S) d ↔ (IsNamedIn node S d × (¬ (IsBorneIn node S d)))
   gap_members d =
       let names = flat_map (λ y. (node y).names) S in
@@ -60,6 +61,7 @@ module _ {T : Type 0} (node : T → Node) (S : List T) where
           (not_from_false (has_digest node S d) e)))
 
   module _ (machines : ℕ) (G : List T) (completion : Completion node machines S G) where
+    -- a path among survivors is one in the completion
     kept_path : (f : T) (between : List T) (e : T) → IsPath node S f between e → IsPath node G f between e
     kept_path f [] e p = p
     kept_path f (g ∷ gs) e p = (completion.keeps g p.0, p.1, kept_path g gs e p.2)
@@ -75,6 +77,7 @@ module _ {T : Type 0} (node : T → Node) (S : List T) where
         λ r. subst (λ (u : T). Contains S u) (completion.distinct r.0 f (completion.keeps r.0 r.1) cf r.2) r.1 in
         elim (gap_or_bearer x (node f).digest cx n) [ inl gap ↦ absurd (whole (node f).digest n gap) | inr r ↦ same r ]
 
+    -- a path of the completion to a whole survivor is one among survivors
     survives : (x : T) → Contains S x → IsWhole node S x → (f : T) (between : List T) → Contains G f →
         IsPath node G f between x → Contains S f × IsPath node S f between x
     survives x cx whole f [] cf n = (named_survives x f cx whole.itself cf n, n)

@@ -19,6 +19,7 @@ use Rattle.entry_order.proofs.Strays.{rises_along}
 use Rattle.entry_order.proofs.Made.{made_is_lawful}
 use Rattle.entry_order.proofs.Honest.{numbered_is_distinct}
 
+-- the machines of the example follow the rules
 lawful : IsLawful shown next
 lawful =
     made_is_lawful shown made
@@ -35,17 +36,20 @@ pub no_path : {T : Type 0} (node : T → Node) (E : List T) (f : T) → is_named
 no_path node E f free e (cf, ce, [], n) = true≢false (sym (is_named_of node E (node f).digest (e, ce, n)) ∙ free)
 no_path node E f free e (cf, ce, g ∷ gs, p) = true≢false (sym (is_named_of node E (node f).digest (g, p.0, p.1)) ∙ free)
 
+-- its entries have different digests
 distinct : Distinct shown (sent_in world)
 distinct =
     numbered_is_distinct shown next 64 3
     (Act 0 ∷ Hear 1 0 0 ∷ Act 1 ∷ Act 1 ∷ Hear 2 0 0 ∷ Hear 2 1 1 ∷ Act 2 ∷ Hear 2 1 0 ∷ Act 2 ∷ Act 0 ∷ [])
     lawful tells_number
 
+-- the first was held before the second
 held_before : HeldBefore world b0 c0
 held_before =
     descendant (Got a0 ∷ Got b1 ∷ []) (2, Got b0 ∷ Sent c1 ∷ [], refl) (1, omega arith, refl)
     (itself (Got a0 ∷ Sent b0 ∷ []) (1, [], refl) (1, omega arith, refl))
 
+-- and precedes it
 precedes : Precedes shown (sent_in world) b0 c0
 precedes = (
   (2, omega arith, refl),
@@ -90,6 +94,7 @@ names_none y c low d named gap =
         stamp_of : (e : Entry) → e ≡ y → 2 ≤ e.stamp → 2 ≤ y.stamp
         stamp_of e is l = subst (λ (u : Entry). 2 ≤ u.stamp) is l
 
+-- the entry names nothing that is lost
 whole : IsWhole shown left a1
 whole = record {
   itself = names_no_gap;

@@ -1,22 +1,20 @@
 -- The forms of being held before are one.
-use Rattle.std.proofs.Common.{ℕ, zero, suc, ◌<◌, ◌≤◌, List, [], ◌∷◌, ◌++◌, inl, inr, arith}
-use Rattle.std.specs.List.{Contains}
-use Rattle.entry_order.specs.declared.event.Event.{Event}
+use Rattle.std.proofs.Common.{ℕ, zero, suc, ◌≤◌, List, [], ◌∷◌, ◌++◌, inl, inr, arith}
 use Rattle.entry_order.specs.Node.{Node}
-use Rattle.entry_order.specs.History.{held}
 use Rattle.entry_order.specs.World.{World, start, play}
-use Rattle.entry_order.specs.HeldBefore.{WasSentAfter, HeldBefore, HeldBefore.itself, HeldBefore.descendant}
+use Rattle.entry_order.specs.HeldBefore.{HeldBefore, HeldBefore.itself, HeldBefore.descendant}
 use Rattle.entry_order.specs.Receipt.{IsOrderly}
 use Rattle.entry_order.specs.Forms.{HeldItself, IsChain, HeldByChain, HeldWithin, FormsAgree}
-use Rattle.entry_order.proofs.Stamps.{stamp_below}
-use Rattle.entry_order.proofs.Orders.{along, next_of}
+use Rattle.entry_order.proofs.Orders.{along, held_lower}
 use Rattle.entry_order.proofs.Plays.{IsOrderly-play, IsOrderly-start}
 
 module _ {T : Type 0} (w : World T) where
+  -- a chain with one more at its end
   chain_on : (f : T) (gs : List T) (g e : T) → IsChain w f gs g → HeldItself w g e → IsChain w f (gs ++ g ∷ []) e
   chain_on f [] g e c h = (c, h)
   chain_on f (d ∷ gs) g e c h = (c.0, chain_on d gs g e c.1 h)
 
+  -- what is held by a list was held before
   from_chain : (f : T) (gs : List T) (e : T) → IsChain w f gs e → HeldBefore w f e
   from_chain f [] e (past, s, c) = itself past s c
   from_chain f (g ∷ gs) e (h, rest) = along w f g e (itself h.0 h.1 h.2) (from_chain g gs e rest)
@@ -27,24 +25,21 @@ module _ {T : Type 0} (w : World T) where
   to_chain f e (descendant {g = g} past s c h) =
       let r = to_chain f g h in (r.0 ++ g ∷ [], chain_on f r.0 g e r.1 (past, s, c))
 
+  -- what is held within a bound was held before
   from_within : (n : ℕ) (f e : T) → HeldWithin w n f e → HeldBefore w f e
   from_within zero f e h = absurd h
   from_within (suc n) f e (inl (past, s, c)) = itself past s c
   from_within (suc n) f e (inr (g, (past, s, c), rest)) = descendant past s c (from_within n f g rest)
 
 module _ {T : Type 0} (node : T → Node) (w : World T) (orderly : IsOrderly node w) where
-  -- who is held has a lower stamp
-  pub lower : (past : List (Event T)) (e : T) → WasSentAfter w past e → (g : T) → Contains (held past) g →
-      (node g).stamp < (node e).stamp
-  lower past e s g c =
-      let b = stamp_below node (held past) g c in let is = (next_of node w orderly past e s).stamp in omega arith
-
+  -- what was held before is held within the stamp
   to_within : (f e : T) → HeldBefore w f e → (n : ℕ) → (node e).stamp ≤ n → HeldWithin w n f e
-  to_within f e (itself past s c) zero l = absurd (let b = lower past e s f c in omega arith)
+  to_within f e (itself past s c) zero l = absurd (let b = held_lower node w orderly past e s f c in omega arith)
   to_within f e (itself past s c) (suc n) l = inl (past, s, c)
-  to_within f e (descendant {g = g} past s c h) zero l = absurd (let b = lower past e s g c in omega arith)
+  to_within f e (descendant {g = g} past s c h) zero l =
+      absurd (let b = held_lower node w orderly past e s g c in omega arith)
   to_within f e (descendant {g = g} past s c h) (suc n) l =
-      let b = lower past e s g c in inr (g, (past, s, c), to_within f g h n (omega arith))
+      let b = held_lower node w orderly past e s g c in inr (g, (past, s, c), to_within f g h n (omega arith))
 
 -- all forms are one in a world that was played
 pub forms_agree : {T : Type 0} (node : T → Node) → FormsAgree node

@@ -50,6 +50,7 @@ module _ {T : Type 0} (node : T → Node) where
       (Contains-filter (λ d. not (is_named node es d)) (map (λ e. (node e).digest) es) d c
       (not_from_false (is_named node es d) free))
 
+  -- the frontier is the digests that are borne and not named
   frontier_members : (es : List T) (d : List ℕ) →
       Contains (frontier node es) d ↔ (IsBorneIn node es d × (¬ (IsNamedIn node es d)))
   frontier_members es d = (
@@ -74,10 +75,12 @@ module _ {T : Type 0} (node : T → Node) where
             (λ d c. (is.members d).1 ((frontier_members es d).0 c)),
       )
 
+  -- false adds nothing
   or_nothing : (b : Bool) → (b || false) ≡ b
   or_nothing true = refl
   or_nothing false = refl
 
+  -- a digest is named by one entry more where it was, or where that entry names it
   named_push : (es : List T) (e : T) (d : List ℕ) →
       is_named node (es ++ e ∷ []) d ≡ (is_named node es d || names_digest node e d)
   named_push es e d =

@@ -23,6 +23,7 @@ abbrev numbers : ℕ → List ℕ
 numbers zero = []
 numbers (suc n) = numbers n ++ n ∷ []
 
+-- each number below n is among them
 in_numbers : (n p : ℕ) → p < n → Contains (numbers n) p
 in_numbers zero p l = absurd (omega arith)
 in_numbers (suc n) p l =
@@ -39,31 +40,38 @@ module _ {T : Type 0} (node : T → Node) (S : List T) where
   names_both (Some e) None = false
   names_both (Some e) (Some f) = names_digest node e (node f).digest
 
+  -- the places of the entries that the one at a place names
   abbrev parents_of : ℕ → List ℕ
   parents_of i = filter (λ p. names_both (slice_get S i) (slice_get S p)) (numbers (length S))
 
+  -- whether the digest is a gap
   abbrev is_gap : List ℕ → Bool
   is_gap d = list_any (λ c. bytes_eq c d) (gaps node S)
 
+  -- whether the entry, if there is one, names a gap
   abbrev is_ragged : Option T → Bool
   is_ragged None = false
   is_ragged (Some e) = list_any is_gap (node e).names
 
+  -- whether the entry at the place does
   abbrev ragged_of : ℕ → Bool
   ragged_of i = is_ragged (slice_get S i)
 
+  -- where one names the other both are there
   both_cases : (o q : Option T) → names_both o q ≡ true →
       (e : T) × (f : T) × (o ≡ Some e) × (q ≡ Some f) × Names node e f
   both_cases None q t = absurd (true≢false (sym t))
   both_cases (Some e) None t = absurd (true≢false (sym t))
   both_cases (Some e) (Some f) t = (e, f, refl, refl, names_digest_from node e (node f).digest t)
 
+  -- a parent is the place of an entry that is named
   arrow_cases : (i p : ℕ) → Contains (parents_of i) p →
       (e : T) × (f : T) × (slice_get S i ≡ Some e) × (slice_get S p ≡ Some f) × Names node e f
   arrow_cases i p c =
       both_cases (slice_get S i) (slice_get S p)
       (Contains-filter_cases (λ p. names_both (slice_get S i) (slice_get S p)) (numbers (length S)) p c).1
 
+  -- and each such place is a parent
   arrow_from : (i p : ℕ) (e f : T) → slice_get S i ≡ Some e → slice_get S p ≡ Some f → Names node e f →
       Contains (parents_of i) p
   arrow_from i p e f ie pf n =
@@ -72,14 +80,17 @@ module _ {T : Type 0} (node : T → Node) (S : List T) where
       (ap (λ o. names_both o (slice_get S p)) ie ∙ ap (names_both (Some e)) pf
       ∙ names_digest_of node e (node f).digest n)
 
+  -- a gap is found
   is_gap_of : (d : List ℕ) → Contains (gaps node S) d → is_gap d ≡ true
   is_gap_of d c = list_any_of (λ c. bytes_eq c d) (gaps node S) d c ((bytes_eq-Decides d d).1 refl)
 
+  -- what is found is a gap
   is_gap_from : (d : List ℕ) → is_gap d ≡ true → Contains (gaps node S) d
   is_gap_from d t =
       let r = list_any_some (λ c. bytes_eq c d) (gaps node S) t in
       subst (λ u. Contains (gaps node S) u) ((bytes_eq-Decides r.0 d).0 r.2) r.1
 
+  -- a place isn't ragged exactly when its entry names no gap
   gaps_shown : (i : ℕ) (e : T) → slice_get S i ≡ Some e → (ragged_of i ≡ false) ↔ NamesNoGap node S e
   gaps_shown i e ie = (
     λ clean d named gap.

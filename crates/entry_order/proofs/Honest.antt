@@ -14,6 +14,7 @@ use Rattle.entry_order.specs.Receipt.{IsOrderly}
 use Rattle.entry_order.specs.Survivors.{is_stray, gaps}
 use Rattle.entry_order.specs.Completion.{Completion}
 use Rattle.entry_order.specs.Honest.{HasNoFork, OrderIsHeld, IsAllKnown, AgreesWith, HonestEntriesAgree}
+use Rattle.entry_order.specs.Honest.{HonestEntriesAgreeInOrderlyWorlds}
 use Rattle.entry_order.specs.Made.{NumberedIsDistinct}
 use Rattle.entry_order.proofs.Lists.{Contains-head, Contains-later}
 use Rattle.entry_order.proofs.Frontiers.{frontier_entry}
@@ -24,6 +25,7 @@ use Rattle.entry_order.proofs.Orders.{was_sent, held_was_sent, next_of, rises, o
 use Rattle.entry_order.proofs.Plays.{IsOrderly-play, IsOrderly-start}
 use Rattle.entry_order.proofs.Settled.{settled, at_place}
 
+-- a filter that all pass keeps all
 filter_all : {X : Type 0} (p : X → Bool) (xs : List X) → ((x : X) → Contains xs x → p x ≡ true) → filter p xs ≡ xs
 filter_all p [] each = refl
 filter_all p (x ∷ xs) each =
@@ -61,6 +63,7 @@ module _ {T : Type 0} (node : T → Node) (w : World T) (orderly : IsOrderly nod
       let one : a.1.0 ≡ b.1.0 = sym na.maker ∙ made ∙ nb.maker in
       nth_sent a.0 b.0 e f a.1.1 b.1.1 (sym a.1.2 ∙ ap (history w) one ∙ b.1.2) (sym na.number ∙ number ∙ nb.number)
 
+  -- what was sent bears all that it names
   lacks_nothing : (d : List ℕ) → IsNamedIn node (sent_in w) d → IsBorneIn node (sent_in w) d
   lacks_nothing d (e, c, n) =
       let a = was_sent w e c in
@@ -68,6 +71,7 @@ module _ {T : Type 0} (node : T → Node) (w : World T) (orderly : IsOrderly nod
       (subst (λ (ds : List (List ℕ)). Contains ds d) (next_of node w orderly a.0 e a.1).names n) in
       (r.0, held_was_sent node w orderly a.0 e a.1 r.0 r.1, r.2)
 
+  -- each maker is one of the machines
   in_roster : (machines : ℕ) → length w ≡ machines → (e : T) → Contains (sent_in w) e → (node e).maker < machines
   in_roster machines count e c =
       let a = was_sent w e c in
@@ -77,11 +81,13 @@ module _ {T : Type 0} (node : T → Node) (w : World T) (orderly : IsOrderly nod
 
   module _ (distinct : Distinct node (sent_in w)) (machines : ℕ) (count : length w ≡ machines) (given : List T)
       (were_sent : (e : T) → Contains given e → Contains (sent_in w) e) where
+    -- no given entry is a stray
     no_stray : (e : T) → Contains given e → is_stray node given e ≡ false
     no_stray e c = no_stray_from node given e (λ (g, cg, names, high).
         let up = rises node w orderly distinct g e (were_sent g cg) (were_sent e c) names in
         absurd (omega arith))
 
+    -- what was sent completes what is given
     completed : Completion node machines given (sent_in w)
     completed =
         record {
@@ -92,6 +98,7 @@ module _ {T : Type 0} (node : T → Node) (w : World T) (orderly : IsOrderly nod
               lacks_nothing;
         }
 
+    -- the order that is told is that of receipt
     order : OrderIsHeld node w given
     order parents ragged graph y x f e fy ex =
         let s = settled node machines given parents ragged graph y x f e fy ex in
@@ -108,6 +115,7 @@ module _ {T : Type 0} (node : T → Node) (w : World T) (orderly : IsOrderly nod
           let lack = lacks_nothing d (g.0.0, were_sent g.0.0 g.0.1, g.0.2) in
           g.1 (lack.0, all lack.0 lack.1, lack.2)
 
+      -- where all are given, nothing is unknown
       all_known : IsAllKnown node given
       all_known = record {
         no_gaps = none_inside (gaps node given) no_gap;
@@ -116,7 +124,8 @@ module _ {T : Type 0} (node : T → Node) (w : World T) (orderly : IsOrderly nod
             (record { itself = λ d n g. no_gap d g; ancestors = λ z p d n g. no_gap d g });
       }
 
-    agrees : AgreesWith node machines w given
+    -- what is given agrees with the world
+    pub agrees : AgreesWith node machines w given
     agrees = record {
       survive =
           filter_all (λ e. not (is_stray node given e)) given
@@ -127,7 +136,12 @@ module _ {T : Type 0} (node : T → Node) (w : World T) (orderly : IsOrderly nod
       all_known = all_known;
     }
 
--- the law, of a world that was played
+-- the law, of an orderly world
+pub honest_entries_agree_in_orderly_worlds : {T : Type 0} (node : T → Node) → HonestEntriesAgreeInOrderlyWorlds node
+honest_entries_agree_in_orderly_worlds node w orderly distinct given were_sent =
+    agrees node w orderly distinct (length w) refl given were_sent
+
+-- and of a world that was played
 pub honest_entries_agree : {T : Type 0} (node : T → Node) → HonestEntriesAgree node
 honest_entries_agree {T} node next log machines steps lawful distinct given were_sent =
     let w = play node next log (start machines) steps in

@@ -3,8 +3,11 @@ pub mod Naming
 pub mod Stamps
 pub mod Ascending
 pub mod Frontiers
+pub mod Held
+pub mod Histories
 pub mod Orders
 pub mod Plays
+pub mod MadePlays
 pub mod Strays
 pub mod Completions
 pub mod Settled
@@ -15,6 +18,7 @@ pub mod ExampleFacts
 pub mod WrongFacts
 pub mod Ranks
 pub mod Merged
+pub mod MergedOrder
 pub mod Numbered
 pub mod Forms
 pub mod Graphs

@@ -62,6 +62,7 @@ module _ {T : Type 0} where
 
 -- no step changes how many machines there are
 module _ {T : Type 0} (node : T → Node) (next : ℕ → List (Event T) → Option T) (log : ℕ) where
+  -- no step changes how many machines there are
   length_happens : (v : World T) (s : Step) → length (happens node next log v s) ≡ length v
   length_happens v (Act m) = length-with_machine m (λ a. send (next m a.history) a) v
   length_happens v (Hear at from number) =

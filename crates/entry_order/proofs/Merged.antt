@@ -4,6 +4,7 @@ use Rattle.std.proofs.Common.{Option, Some, refl, sym, ap, subst, ◌∙◌, inl
 use Rattle.std.specs.Prelude.{slice_get, ◌==◌}
 use Rattle.std.specs.List.{Contains, filter}
 use Rattle.std.proofs.lemmas.Option.{slice_get_past}
+use Rattle.std.proofs.lemmas.List.{append-nil}
 use Rattle.entry_order.proofs.Naming.{has_digest_from}
 use Rattle.std.specs.Cmp.Lexicographic.{slice_cmp}
 use Rattle.std.specs.Ordering.{nat_cmp, ordering_reverse}
@@ -19,7 +20,8 @@ use Rattle.entry_order.specs.History.{held, sent, IsLegal}
 use Rattle.entry_order.specs.World.{Machine, World, start, history, history_of, with_machine, append, send, cannot_hear}
 use Rattle.entry_order.specs.World.{hear, happens, play}
 use Rattle.entry_order.specs.Receipt.{IsOrderly}
-use Rattle.entry_order.specs.Merged.{PlacedEvent, rank, IsSortedByRank, placed, IsMergedOf, step_of, IsMadeBy}
+use Rattle.entry_order.specs.Merged.{PlacedEvent, rank, IsSortedByRank, placed, IsMergedOf, step_of}
+use Rattle.entry_order.specs.Made.{IsMadeBy}
 use Rattle.entry_order.specs.Merged.{MergedIsPlayedAgain}
 use Rattle.entry_order.proofs.Lists.{Contains-none, Contains-head, Contains-later, Contains-at, Contains-cons_cases}
 use Rattle.entry_order.proofs.Lists.{Contains-filter, Contains-filter_cases}
@@ -31,14 +33,17 @@ use Rattle.entry_order.proofs.Orders.{member_split, was_sent}
 -- ---- sorted lists
 
 module _ {T : Type 0} where
-  abbrev Lower : PlacedEvent T → PlacedEvent T → Type 0
+  -- one event goes before another
+  abbrev pub Lower : PlacedEvent T → PlacedEvent T → Type 0
   Lower x y = slice_cmp nat_cmp (rank x) (rank y) ≡ Less
 
+  -- no two events each go before the other
   not_both : (x y : PlacedEvent T) → Lower x y → Lower y x → ⊥
   not_both x y a b =
       let e : Less ≡ Greater = sym a ∙ nat_list_cmp_total.antisymm (rank x) (rank y) ∙ ap ordering_reverse b in cc
 
-  same_sorted : (xs ys : List (PlacedEvent T)) → IsSortedByRank xs → IsSortedByRank ys →
+  -- two sorted lists with the same members are equal
+  pub same_sorted : (xs ys : List (PlacedEvent T)) → IsSortedByRank xs → IsSortedByRank ys →
       ((d : PlacedEvent T) → Contains xs d → Contains ys d) →
       ((d : PlacedEvent T) → Contains ys d → Contains xs d) → xs ≡ ys
   same_sorted [] [] a b to from = refl
@@ -72,6 +77,7 @@ module _ {T : Type 0} where
       let tails : xs ≡ ys = same_sorted xs ys a.1 b.1 forth back in
       λ i. heads i ∷ tails i
 
+  -- a part of a sorted list is sorted
   filter_sorted : (p : PlacedEvent T → Bool) (xs : List (PlacedEvent T)) → IsSortedByRank xs →
       IsSortedByRank (filter p xs)
   filter_sorted p [] a = tt
@@ -104,6 +110,7 @@ module _ {T : Type 0} where
   part m [] = []
   part m (x ∷ xs) = cond (x.machine == m) (x.event ∷ part m xs) (part m xs)
 
+  -- the events of one machine in two parts of a list
   part_append : (m : ℕ) (xs ys : List (PlacedEvent T)) → part m (xs ++ ys) ≡ part m xs ++ part m ys
   part_append m [] ys = refl
   part_append m (x ∷ xs) ys =
@@ -112,14 +119,17 @@ module _ {T : Type 0} where
       (part m xs) ++ part m ys)
       [ true ↦ ap (λ h. x.event ∷ h) (part_append m xs ys) | false ↦ part_append m xs ys ]
 
+  -- an event of the machine is one of them
   part_of_one : (m : ℕ) (x : PlacedEvent T) (rest : List (Event T)) → x.machine ≡ m →
       cond (x.machine == m) (x.event ∷ rest) rest ≡ x.event ∷ rest
   part_of_one m x rest e = ap (λ b. cond b (x.event ∷ rest) rest) (eq-eqb x.machine m e)
 
+  -- another machine's is not
   part_of_other : (m : ℕ) (x : PlacedEvent T) (rest : List (Event T)) → (x.machine ≡ m → ⊥) →
       cond (x.machine == m) (x.event ∷ rest) rest ≡ rest
   part_of_other m x rest e = ap (λ b. cond b (x.event ∷ rest) rest) (ne_eqb x.machine m e)
 
+  -- they are what a filter by machine keeps
   part_is_filter : (m : ℕ) (xs : List (PlacedEvent T)) →
       part m xs ≡ map (λ x. x.event) (filter (λ x. x.machine == m) xs)
   part_is_filter m [] = refl
@@ -129,6 +139,7 @@ module _ {T : Type 0} where
       (cond b (x ∷ filter (λ x. x.machine == m) xs) (filter (λ x. x.machine == m) xs)))
       [ true ↦ ap (λ h. x.event ∷ h) (part_is_filter m xs) | false ↦ part_is_filter m xs ]
 
+  -- an event of the list is among its machine's
   Contains-part : (xs : List (PlacedEvent T)) (x : PlacedEvent T) → Contains xs x → Contains (part x.machine xs) x.event
   Contains-part [] x c = absurd (Contains-none x c)
   Contains-part (z ∷ xs) x c =
@@ -155,30 +166,30 @@ module _ {T : Type 0} where
 -- ---- the moments of one machine
 
 module _ {T : Type 0} (node : T → Node) where
-  abbrev placed_of : ℕ → List (Event T) → List (Event T) → List (PlacedEvent T)
+  -- the events of a history after a beginning, placed
+  abbrev pub placed_of : ℕ → List (Event T) → List (Event T) → List (PlacedEvent T)
   placed_of m before [] = []
   placed_of m before (x ∷ h) = placed node m before x ∷ placed_of m (before ++ x ∷ []) h
 
+  -- without their places they are the history
   events_of_placed : (m : ℕ) (before h : List (Event T)) → map (λ x. x.event) (placed_of m before h) ≡ h
   events_of_placed m before [] = refl
   events_of_placed m before (x ∷ h) = ap (λ l. x ∷ l) (events_of_placed m (before ++ x ∷ []) h)
 
-  nothing_more : {X : Type 0} (xs : List X) → xs ++ [] ≡ xs
-  nothing_more [] = refl
-  nothing_more (x ∷ xs) = ap (λ ys. x ∷ ys) (nothing_more xs)
-
-  has_placed : (m : ℕ) (before b : List (Event T)) (x : Event T) (l : List (Event T)) →
+  -- each event of a history is placed
+  pub has_placed : (m : ℕ) (before b : List (Event T)) (x : Event T) (l : List (Event T)) →
       Contains (placed_of m before (b ++ x ∷ l)) (placed node m (before ++ b) x)
   has_placed m before [] x l =
       Contains-at (placed node m before x) (placed_of m (before ++ x ∷ []) l) (placed node m (before ++ []) x)
-      (ap (λ p. placed node m p x) (sym (nothing_more before)))
+      (ap (λ p. placed node m p x) (sym (append-nil before)))
   has_placed m before (c ∷ b) x l =
       Contains-later (placed node m before c) (placed_of m (before ++ c ∷ []) (b ++ x ∷ l))
       (placed node m (before ++ c ∷ b) x)
       (subst (λ p. Contains (placed_of m (before ++ c ∷ []) (b ++ x ∷ l)) (placed node m p x))
       (append_assoc before (c ∷ []) b) (has_placed m (before ++ c ∷ []) b x l))
 
-  placed_cases : (m : ℕ) (before h : List (Event T)) (y : PlacedEvent T) → Contains (placed_of m before h) y →
+  -- what is placed is an event of the history
+  pub placed_cases : (m : ℕ) (before h : List (Event T)) (y : PlacedEvent T) → Contains (placed_of m before h) y →
       (b : List (Event T)) × (l : List (Event T)) × (h ≡ b ++ y.event ∷ l) × (y ≡ placed node m (before ++ b) y.event)
   placed_cases m before [] y c = absurd (Contains-none y c)
   placed_cases m before (x ∷ h) y c =
@@ -191,7 +202,7 @@ module _ {T : Type 0} (node : T → Node) where
         h,
         ap (λ u. u ∷ h) same,
         sym e ∙ ap (λ u. placed node m before u) same
-            ∙ ap (λ p. placed node m p y.event) (sym (nothing_more before)),
+            ∙ ap (λ p. placed node m p y.event) (sym (append-nil before)),
       ) in
       let later : Contains (placed_of m (before ++ x ∷ []) h) y →
       (b : List (Event T)) × (l : List (Event T)) × (x ∷ h ≡ b ++ y.event ∷ l)
@@ -207,6 +218,7 @@ module _ {T : Type 0} (node : T → Node) where
       elim (Contains-cons_cases (placed node m before x)
       (placed_of m (before ++ x ∷ []) h) y c) [ inl e ↦ first e | inr g ↦ later g ]
 
+  -- the events of a legal history are sorted
   placed_rise : (m : ℕ) (before h whole : List (Event T)) → IsLegal node m whole → whole ≡ before ++ h →
       IsSortedByRank (placed_of m before h)
   placed_rise m before [] whole legal is = tt
@@ -258,15 +270,18 @@ module _ {T : Type 0} (node : T → Node) where
 -- ---- playing again
 
 module _ {T : Type 0} (node : T → Node) (next : ℕ → List (Event T) → Option T) (log : ℕ) (w : World T)
-    (orderly : IsOrderly node w) (played : IsMadeBy node next w) (fits : (m : ℕ) → length (history w m) ≤ log)
+    (orderly : IsOrderly node w) (played : IsMadeBy next w) (fits : (m : ℕ) → length (history w m) ≤ log)
     (xs : List (PlacedEvent T)) (merged : IsMergedOf node w xs) where
+  -- the step that makes the event
   abbrev step : PlacedEvent T → Step
   step x = step_of node x.machine x.event
 
+  -- a machine's history is its events before a place and from it on
   split_history : (m : ℕ) (d : List (PlacedEvent T)) (x : PlacedEvent T) (r : List (PlacedEvent T)) →
       xs ≡ d ++ x ∷ r → history w m ≡ part m d ++ part m (x ∷ r)
   split_history m d x r is = sym (part_is_history node w orderly xs merged m) ∙ ap (part m) is ∙ part_append m d (x ∷ r)
 
+  -- at the place of its own event
   at_own : (d : List (PlacedEvent T)) (x : PlacedEvent T) (r : List (PlacedEvent T)) → xs ≡ d ++ x ∷ r →
       history w x.machine ≡ part x.machine d ++ x.event ∷ part x.machine r
   at_own d x r is =
@@ -313,6 +328,7 @@ module _ {T : Type 0} (node : T → Node) (next : ℕ → List (Event T) → Opt
   abbrev IsAt : World T → List (PlacedEvent T) → Type 0
   IsAt v done = (m : ℕ) → m < length w → slice_get v m ≡ Some (record { history = part m done; stopped = false })
 
+  -- where a step appends the event to its machine, the world is one event further
   grow : (v : World T) (done : List (PlacedEvent T)) (x : PlacedEvent T) (change : Machine T → Machine T) →
       IsAt v done →
       change (record { history = part x.machine done; stopped = false }) ≡ append x.event
@@ -337,7 +353,7 @@ module _ {T : Type 0} (node : T → Node) (next : ℕ → List (Event T) → Opt
       λ e.
       let new : part m (done ++ x ∷ []) ≡ part m done =
       part_append m done (x ∷ []) ∙ ap (λ h. part m done ++ h) (part_of_other m x [] (λ s. e (sym s)))
-      ∙ nothing_more node (part m done) in
+      ∙ append-nil (part m done) in
       get_other x.machine m change v e ∙ at m l ∙ ap (λ h. Some (record { history = h; stopped = false })) (sym new) in
       elim (cases_eq m x.machine) [ inl e ↦ mine e | inr e ↦ other e ]
 
@@ -377,13 +393,15 @@ module _ {T : Type 0} (node : T → Node) (next : ℕ → List (Event T) → Opt
       subst (λ u. IsAt u (done ++ x ∷ [])) (sym (ap (λ b. cond b v (with_machine x.machine change v)) apart))
       (grow v done x change at does)
 
+  -- the rest is played from where the world is
   play_from : (rest done : List (PlacedEvent T)) (v : World T) → xs ≡ done ++ rest → IsAt v done →
       IsAt (play node next log v (map step rest)) xs
-  play_from [] done v is at = subst (IsAt v) (sym (is ∙ nothing_more node done)) at
+  play_from [] done v is at = subst (IsAt v) (sym (is ∙ append-nil done)) at
   play_from (x ∷ rest) done v is at =
       play_from rest (done ++ x ∷ []) (happens node next log v (step x))
       (is ∙ sym (append_assoc done (x ∷ []) rest)) (one_by v done x rest is at x.event refl)
 
+  -- so the whole play gives each history
   again : (m : ℕ) → history (play node next log (start (length w)) (map step xs)) m ≡ history w m
   again m =
       let v = play node next log (start {T = T} (length w)) (map step xs) in

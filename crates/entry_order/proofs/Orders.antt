@@ -13,7 +13,7 @@ use Rattle.entry_order.specs.History.{entry_of, held, sent, greatest_stamp, IsNe
 use Rattle.entry_order.specs.World.{Machine, World, history, history_of, sent_in}
 use Rattle.entry_order.specs.HeldBefore.{WasSentAfter, HeldBefore, HeldBefore.itself, HeldBefore.descendant}
 use Rattle.entry_order.specs.Precedes.{IsPath, Precedes}
-use Rattle.entry_order.specs.Receipt.{IsOrderly}
+use Rattle.entry_order.specs.Receipt.{IsOrderly, NamesWereHeld, StampsRise}
 use Rattle.entry_order.proofs.Lists.{Contains-none, Contains-head, Contains-later, Contains-at, Contains-cons_cases}
 use Rattle.entry_order.proofs.Lists.{Contains-map_cases, Contains-flat_map_cases}
 use Rattle.entry_order.proofs.Frontiers.{frontier_entry, in_frontier}
@@ -115,11 +115,21 @@ module _ {T : Type 0} (node : T → Node) (w : World T) (orderly : IsOrderly nod
   pub next_of : (past : List (Event T)) (e : T) (s : WasSentAfter w past e) → IsNext node s.0 past e
   next_of past e s = (orderly.legal s.0 past (Sent e) s.1 s.2).1
 
+  -- stamps rise from an entry that its maker held
+  pub held_lower : (past : List (Event T)) (e : T) → WasSentAfter w past e → (f : T) → Contains (held past) f →
+      (node f).stamp < (node e).stamp
+  held_lower past e s f c = omega (arith, stamp_below node (held past) f c, (next_of past e s).stamp)
+
+  -- and so along all that was held before
+  pub held_rises : (f e : T) → HeldBefore w f e → (node f).stamp < (node e).stamp
+  held_rises f e (itself past s c) = held_lower past e s f c
+  held_rises f e (descendant {g = g} past s c h) = omega (arith, held_rises f g h, held_lower past e s g c)
+
   module _ (distinct : Distinct node (sent_in w)) where
     -- what an entry names, its maker held
-    edge : (past : List (Event T)) (e : T) → WasSentAfter w past e → (f : T) → Contains (sent_in w) f →
+    pub named_held : (past : List (Event T)) (e : T) → WasSentAfter w past e → (f : T) → Contains (sent_in w) f →
         Names node e f → Contains (held past) f
-    edge past e s f c n =
+    named_held past e s f c n =
         let r = frontier_entry node (held past) (node f).digest
         (subst (λ (ds : List (List ℕ)). Contains ds (node f).digest) (next_of past e s).names n) in
         subst (λ (u : T). Contains (held past) u) (distinct r.0 f (held_was_sent past e s r.0 r.1) c r.2) r.1
@@ -128,10 +138,7 @@ module _ {T : Type 0} (node : T → Node) (w : World T) (orderly : IsOrderly nod
     pub rises : (f g : T) → Contains (sent_in w) f → Contains (sent_in w) g → Names node g f →
         (node f).stamp < (node g).stamp
     rises f g cf cg n =
-        let r = was_sent w g cg in
-        let below = stamp_below node (held r.0) f (edge r.0 g r.1 f cf n) in
-        let is = (next_of r.0 g r.1).stamp in
-        omega arith
+        let r = was_sent w g cg in held_lower r.0 g r.1 f (named_held r.0 g r.1 f cf n)
 
     -- from each entry that e's maker held there is a path to e: it is in the frontier, or a later one held names it
     covered_by : (past : List (Event T)) (e : T) → WasSentAfter w past e → (fuel : ℕ) (f : T) →
@@ -152,6 +159,7 @@ module _ {T : Type 0} (node : T → Node) (w : World T) (orderly : IsOrderly nod
         let rest = from n.0 n.1 (omega arith) in
         (n.0 ∷ rest.0, (cg, n.2, rest.1))
 
+    -- so it is by induction on how far the stamp is below the greatest
     covered : (past : List (Event T)) (e : T) → WasSentAfter w past e → (fuel : ℕ) (f : T) →
         Contains (held past) f → greatest_stamp node (held past) < (node f).stamp + fuel →
         (between : List T) × IsPath node (sent_in w) f between e
@@ -159,10 +167,12 @@ module _ {T : Type 0} (node : T → Node) (w : World T) (orderly : IsOrderly nod
     covered past e s (suc fuel) f c enough =
         covered_by past e s fuel f c enough (is_named node (held past) (node f).digest) refl (covered past e s fuel)
 
+    -- what was held reaches what was sent by a path
     reached : (past : List (Event T)) (e : T) → WasSentAfter w past e → (f : T) → Contains (held past) f →
         (between : List T) × IsPath node (sent_in w) f between e
     reached past e s f c = covered past e s (greatest_stamp node (held past) + 1) f c (omega arith)
 
+    -- what was held before reaches it too
     path_from_held : (f e : T) → HeldBefore w f e → (between : List T) × IsPath node (sent_in w) f between e
     path_from_held f e (itself past s c) = reached past e s f c
     path_from_held f e (descendant {g = g} past s c h) =
@@ -170,9 +180,11 @@ module _ {T : Type 0} (node : T → Node) (w : World T) (orderly : IsOrderly nod
         let q = reached past e s g c in
         (p.0 ++ g ∷ q.0, join node (sent_in w) f p.0 g q.0 e p.1 (held_was_sent past e s g c) q.1)
 
+    -- what an entry names was held before it
     held_from_name : (f e : T) → Contains (sent_in w) f → Contains (sent_in w) e → Names node e f → HeldBefore w f e
-    held_from_name f e cf ce n = let r = was_sent w e ce in itself r.0 r.1 (edge r.0 e r.1 f cf n)
+    held_from_name f e cf ce n = let r = was_sent w e ce in itself r.0 r.1 (named_held r.0 e r.1 f cf n)
 
+    -- and so was each entry on a path to it
     held_from_path : (f : T) (between : List T) (e : T) → Contains (sent_in w) f → Contains (sent_in w) e →
         IsPath node (sent_in w) f between e → HeldBefore w f e
     held_from_path f [] e cf ce n = held_from_name f e cf ce n
@@ -184,3 +196,11 @@ module _ {T : Type 0} (node : T → Node) (w : World T) (orderly : IsOrderly nod
         Precedes node (sent_in w) f e ↔ HeldBefore w f e
     one_order f e cf ce =
         (λ p. held_from_path f p.2 e cf ce p.3, λ h. let p = path_from_held f e h in (cf, ce, p.0, p.1))
+
+-- the law of names
+pub names_were_held : {T : Type 0} (node : T → Node) → NamesWereHeld node
+names_were_held node w orderly distinct past e s f c n = named_held node w orderly distinct past e s f c n
+
+-- the law of stamps
+pub stamps_rise : {T : Type 0} (node : T → Node) → StampsRise node
+stamps_rise node w orderly f e h = held_rises node w orderly f e h

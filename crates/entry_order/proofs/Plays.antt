@@ -20,38 +20,10 @@ use Rattle.entry_order.specs.World.{Machine, World, start, history, sent_in, wit
 use Rattle.entry_order.specs.World.{cannot_hear, hear, IsLawful, happens, play}
 use Rattle.entry_order.specs.Receipt.{IsOrderly, OrderIsReceipt}
 use Rattle.entry_order.proofs.Lists.{Contains-none, Contains-cons_cases}
+use Rattle.entry_order.proofs.Histories.{IsLegal-push, IsLegal-none}
 use Rattle.entry_order.proofs.Orders.{Contains-sent_cases, member_split, sent_in_from, sent_in_cases, one_order}
 
--- ---- one event more in a history
-
--- where one more is put at the end, a place in the list is an earlier one or the last
-last_or_earlier : {X : Type 0} (xs : List X) (x : X) (before : List X) (y : X) (later : List X) →
-    xs ++ x ∷ [] ≡ before ++ y ∷ later → ((rest : List X) × (xs ≡ before ++ y ∷ rest)) ⊎ ((xs ≡ before) × (x ≡ y))
-last_or_earlier [] x [] y later e = inr (refl, cc)
-last_or_earlier [] x (b ∷ []) y later e = cc
-last_or_earlier [] x (b ∷ c ∷ before) y later e = cc
-last_or_earlier (a ∷ xs) x [] y later e = inl (xs, cc)
-last_or_earlier {X} (a ∷ xs) x (b ∷ before) y later e =
-    let head : a ≡ b = cc in
-    let tail : xs ++ x ∷ [] ≡ before ++ y ∷ later = cc in
-    let earlier : (rest : List X) × (xs ≡ before ++ y ∷ rest) →
-    (rest : List X) × (a ∷ xs ≡ b ∷ (before ++ y ∷ rest)) = λ r. (r.0, cc (r.1, head)) in
-    let last : (xs ≡ before) × (x ≡ y) → (a ∷ xs ≡ b ∷ before) × (x ≡ y) = λ r. (cc (r.0, head), r.1) in
-    elim (last_or_earlier xs x before y later tail) [ inl r ↦ inl (earlier r) | inr r ↦ inr (last r) ]
-
 module _ {T : Type 0} (node : T → Node) where
-  IsLegal-push : (owner : ℕ) (h : List (Event T)) (x : Event T) → IsLegal node owner h → MayFollow node owner h x →
-      IsLegal node owner (h ++ x ∷ [])
-  IsLegal-push owner h x legal may before y later e =
-      let last : (h ≡ before) × (x ≡ y) → MayFollow node owner before y =
-      λ r. subst (λ (u : Event T). MayFollow node owner before u) r.1
-      (subst (λ (p : List (Event T)). MayFollow node owner p x) r.0 may) in
-      elim (last_or_earlier h x before y later e) [ inl r ↦ legal before y r.0 r.1 | inr r ↦ last r ]
-
-  IsLegal-none : (owner : ℕ) → IsLegal node owner []
-  IsLegal-none owner [] x later e = cc
-  IsLegal-none owner (b ∷ before) x later e = cc
-
   -- the test of a digest says that the entry is new
   pub IsNew-from_test : (es : List T) (e : T) → has_digest node es (node e).digest ≡ false → IsNew node es e
   IsNew-from_test es e free g c s =
@@ -65,7 +37,7 @@ module _ {T : Type 0} (node : T → Node) where
 -- ---- one machine changed
 
 -- a machine's history after machine m changed
-changed : {T : Type 0} (m : ℕ) (change : Machine T → Machine T) (w : World T) (n : ℕ) →
+pub changed : {T : Type 0} (m : ℕ) (change : Machine T → Machine T) (w : World T) (n : ℕ) →
     (history (with_machine m change w) n ≡ history w n) ⊎
     ((n ≡ m)
     × ((a : Machine T) × (history w n ≡ a.history) × (history (with_machine m change w) n ≡ (change a).history)))
@@ -104,6 +76,7 @@ module _ {T : Type 0} (node : T → Node) (w : World T) where
       (subst (λ (h : List (Event T)). Grows n a.history h) (sym new) here) in
       elim (changed m change w n) [ inl e ↦ inl e | inr r ↦ at r ]
 
+  -- a machine that sends has one event more that may follow
   Grows-send : (m : ℕ) (o : Option T) (a : Machine T) →
       ((e : T) → o ≡ Some e → MayFollow node m a.history (Sent e)) → Grows m a.history (send o a).history
   Grows-send m None a may = inl refl
@@ -113,6 +86,7 @@ module _ {T : Type 0} (node : T → Node) (w : World T) where
       by true = inl refl
       by false = inr (Sent e, refl, may e refl, tt)
 
+  -- and so has a machine that hears
   Grows-hear : (m log : ℕ) (o : Option T) (a : Machine T) →
       ((e : T) → o ≡ Some e → ((node e).maker ≢ m) × Contains (sent_in w) e) →
       Grows m a.history (hear node log o a).history
@@ -138,6 +112,7 @@ module _ {T : Type 0} (node : T → Node) (w : World T) where
         let s = member_split (history w from) (Sent e) (Contains-sent_cases (history w from) e c) in
         (orderly.legal from s.0 (Sent e) s.1 s.2).1.maker
 
+    -- an entry found by its number was sent
     nth_was_sent : (from number : ℕ) (e : T) → slice_get (sent (history w from)) number ≡ Some e →
         Contains (sent (history w from)) e
     nth_was_sent from number e s = (
@@ -147,6 +122,7 @@ module _ {T : Type 0} (node : T → Node) (w : World T) where
           (sent (history w from)) number e e s,
     )
 
+    -- a step does one of these
     Grows-step : (s : Step) (n : ℕ) → Grows n (history w n) (history (happens node next log w s) n)
     Grows-step (Act m) n =
         Grows-changed m (λ a. send (next m a.history) a)
@@ -178,10 +154,12 @@ module _ {T : Type 0} (node : T → Node) (w : World T) where
               (Contains-append_left (history w m) (r.0 ∷ []) x c)
         ]
 
+    -- what was sent in the world still is
     sent_in-step : (s : Step) (e : T) → Contains (sent_in w) e → Contains (sent_in (happens node next log w s)) e
     sent_in-step s e c =
         let r = sent_in_cases w e c in sent_in_from (happens node next log w s) r.0 e (Contains-step s r.0 (Sent e) r.1)
 
+    -- a step keeps the world orderly
     IsOrderly-step : (s : Step) → IsOrderly node (happens node next log w s)
     IsOrderly-step s = record { legal = legal; heard = heard }
       where
@@ -214,12 +192,13 @@ module _ {T : Type 0} (node : T → Node) (w : World T) where
 
 -- ---- the whole run
 
-module _ {T : Type 0} (node : T → Node) where
-  start_is_empty : (machines m : ℕ) → history (start {T = T} machines) m ≡ []
-  start_is_empty zero m = refl
-  start_is_empty (suc machines) zero = refl
-  start_is_empty (suc machines) (suc m) = start_is_empty machines m
+-- at the start every history is empty
+pub start_is_empty : {T : Type 0} (machines m : ℕ) → history (start {T = T} machines) m ≡ []
+start_is_empty zero m = refl
+start_is_empty (suc machines) zero = refl
+start_is_empty (suc machines) (suc m) = start_is_empty machines m
 
+module _ {T : Type 0} (node : T → Node) where
   -- at the start a world is orderly
   pub IsOrderly-start : (machines : ℕ) → IsOrderly node (start machines)
   IsOrderly-start machines = record {

@@ -1,48 +1,46 @@
 -- Ranks rise along a history, and from a sending to each receipt of it.
-use Rattle.std.proofs.Common.{◌≡◌, ℕ, ◌+◌, ◌<◌, ◌≤◌, max, List, [], ◌∷◌, ◌++◌, map, length, refl, sym, ap, subst, ◌∙◌}
+use Rattle.std.proofs.Common.{◌≡◌, ℕ, ◌+◌, ◌<◌, ◌≤◌, max, List, [], ◌∷◌, ◌++◌, length, refl, sym, ap, subst, ◌∙◌}
 use Rattle.std.proofs.Common.{inl, inr, append_assoc, length-append, arith}
-use Rattle.std.specs.List.{fold}
 use Rattle.std.specs.Cmp.Lexicographic.{slice_cmp}
 use Rattle.std.specs.Ordering.{nat_cmp, ordering_then}
 use Rattle.std.specs.declared.cmp.Ordering.TheVariants.{Less, Equal}
 use Rattle.std.proofs.lemmas.Bool.{cases_order}
 use Rattle.std.proofs.lemmas.Bool.Decides.{nat_tests}
 use Rattle.std.proofs.lemmas.List.Elements.{Contains-append_right}
+use Rattle.std.proofs.lemmas.List.{map-append}
+use Rattle.std.proofs.lemmas.List.Sums.{fold-append}
 use Rattle.entry_order.specs.declared.event.Event.{Event}
 use Rattle.entry_order.specs.declared.event.Event.TheVariants.{Sent, Got}
 use Rattle.entry_order.specs.Node.{Node}
 use Rattle.entry_order.specs.History.{entry_of, held, greatest_stamp, IsLegal}
 use Rattle.entry_order.specs.Merged.{kind, rank, placed}
 use Rattle.entry_order.proofs.Lists.{Contains-head, Contains-map}
+use Rattle.entry_order.proofs.Histories.{greatest_push}
 use Rattle.entry_order.proofs.Stamps.{stamp_below, top_at_least}
 
+-- the order of numbers says less
 less : (a b : ℕ) → a < b → nat_cmp a b ≡ Less
 less a b l = grind (arith, nat_tests)
 
+-- or equal
 tied : (a b : ℕ) → a ≡ b → nat_cmp a b ≡ Equal
 tied a b e = grind (arith, nat_tests)
 
+-- a list whose first number is lower is lower
 first_less : (a b : ℕ) (xs ys : List ℕ) → a < b → slice_cmp nat_cmp (a ∷ xs) (b ∷ ys) ≡ Less
 first_less a b xs ys l = ap (λ o. ordering_then o (slice_cmp nat_cmp xs ys)) (less a b l)
 
+-- where the first numbers are equal the rest decides
 first_tied : (a b : ℕ) (xs ys : List ℕ) → a ≡ b → slice_cmp nat_cmp xs ys ≡ Less →
     slice_cmp nat_cmp (a ∷ xs) (b ∷ ys) ≡ Less
 first_tied a b xs ys e l = ap (λ o. ordering_then o (slice_cmp nat_cmp xs ys)) (tied a b e) ∙ l
-
-fold_append : {A B : Type 0} (f : B → A → B) (a : B) (xs ys : List A) → fold f a (xs ++ ys) ≡ fold f (fold f a xs) ys
-fold_append f a [] ys = refl
-fold_append f a (x ∷ xs) ys = fold_append f (f a x) xs ys
-
-map_append : {A B : Type 0} (f : A → B) (xs ys : List A) → map f (xs ++ ys) ≡ map f xs ++ map f ys
-map_append f [] ys = refl
-map_append f (x ∷ xs) ys = ap (λ zs. f x ∷ zs) (map_append f xs ys)
 
 module _ {T : Type 0} (node : T → Node) where
   -- what is held more doesn't lower the greatest stamp
   pub greatest_more : (p q : List (Event T)) → greatest_stamp node (held p) ≤ greatest_stamp node (held (p ++ q))
   greatest_more p q =
-      let e = ap (greatest_stamp node) (map_append entry_of p q)
-      ∙ fold_append (λ top e. max top (node e).stamp) 0 (held p) (held q) in
+      let e = ap (greatest_stamp node) (map-append entry_of p q)
+      ∙ fold-append (λ top e. max top (node e).stamp) 0 (held p) (held q) in
       let l = top_at_least node (greatest_stamp node (held p)) (held q) in
       omega arith
 
@@ -56,11 +54,9 @@ module _ {T : Type 0} (node : T → Node) where
   -- after a sending the greatest stamp is the entry's
   pub top_of_sent : (p : List (Event T)) (e : T) → (node e).stamp ≡ 1 + greatest_stamp node (held p) →
       greatest_stamp node (held (p ++ Sent e ∷ [])) ≡ (node e).stamp
-  top_of_sent p e is =
-      let a = ap (greatest_stamp node) (map_append entry_of p (Sent e ∷ []))
-      ∙ fold_append (λ top e. max top (node e).stamp) 0 (held p) (e ∷ []) in
-      omega arith
+  top_of_sent p e is = omega (arith, greatest_push node p (Sent e), is)
 
+  -- a later event has a higher place
   later_place : (before : List (Event T)) (x : Event T) (b : List (Event T)) → length before < length (before ++ x ∷ b)
   later_place before x b = omega (arith, length-append before (x ∷ b))
 

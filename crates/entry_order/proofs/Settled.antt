@@ -12,7 +12,7 @@ use Rattle.entry_order.specs.Naming.{Names}
 use Rattle.entry_order.specs.Precedes.{IsPath, Precedes}
 use Rattle.entry_order.specs.Completion.{Completion}
 use Rattle.entry_order.specs.Ancestors.{IsWalk, IsAncestor, Descends, reaches, is_whole, before}
-use Rattle.entry_order.specs.Settled.{IsWhole, IsGraphOf, OrderIsSettled}
+use Rattle.entry_order.specs.Settled.{IsWhole, IsGraphOf, GraphsAreExact, OrderIsSettled}
 use Rattle.entry_order.proofs.Lists.{Contains-none, Contains-head, Contains-later, Contains-cons_cases, list_any_some}
 use Rattle.entry_order.proofs.Lists.{list_any_of}
 use Rattle.entry_order.proofs.Completions.{before_in_completion, before_among_survivors}
@@ -28,6 +28,7 @@ list_all_each p (z ∷ xs) e x c =
       | inr l ↦ list_all_each p xs parts.1 x l
     ]
 
+-- where each passes, all do
 list_all_from_each : {X : Type 0} (p : X → Bool) (xs : List X) → ((x : X) → Contains xs x → p x ≡ true) →
     list_all p xs ≡ true
 list_all_from_each p [] each = refl
@@ -36,6 +37,7 @@ list_all_from_each p (z ∷ xs) each =
     (list_all_from_each p xs (λ x c. each x (Contains-later z xs x c)))
 
 module _ (parents : ℕ → List ℕ) where
+  -- what is reached is an ancestor
   ancestor_from_reaches : (n y x : ℕ) → reaches parents n y x ≡ true → IsAncestor parents y x
   ancestor_from_reaches zero y x e = absurd (true≢false (sym e))
   ancestor_from_reaches (suc n) y x e =
@@ -47,6 +49,7 @@ module _ (parents : ℕ → List ℕ) where
       elim (or_cases (r.0 == y) (reaches parents n y r.0) r.2) [ inl h ↦ here h | inr h ↦ deeper h ]
 
   module _ (descends : Descends parents) where
+    -- and an ancestor is reached within as many arrows as the place's number
     reaches_from_walk : (n y x : ℕ) (zs : List ℕ) → x ≤ n → IsWalk parents x zs y → reaches parents n y x ≡ true
     reaches_from_walk zero y x [] l w = absurd (let d = descends x y w in omega arith)
     reaches_from_walk zero y x (z ∷ zs) l w = absurd (let d = descends x z w.0 in omega arith)
@@ -59,6 +62,7 @@ module _ (parents : ℕ → List ℕ) where
         (or_right (z == y) (reaches parents n y z) (reaches_from_walk n y z zs (omega arith) w.1))
 
     module _ (ragged : ℕ → Bool) where
+      -- a whole place isn't ragged
       clean_itself : (n x : ℕ) → is_whole parents ragged n x ≡ true → ragged x ≡ false
       clean_itself zero x e = not-true (ragged x) e
       clean_itself (suc n) x e =
@@ -68,6 +72,7 @@ module _ (parents : ℕ → List ℕ) where
       abbrev IsClean : ℕ → Type 0
       IsClean x = (ragged x ≡ false) × ((y : ℕ) → IsAncestor parents y x → ragged y ≡ false)
 
+      -- nor is an ancestor of it
       clean_ancestor : (n x : ℕ) → x ≤ n → is_whole parents ragged n x ≡ true → (y : ℕ) (zs : List ℕ) →
           IsWalk parents x zs y → ragged y ≡ false
       clean_ancestor zero x l e y [] w = absurd (let d = descends x y w in omega arith)
@@ -81,6 +86,7 @@ module _ (parents : ℕ → List ℕ) where
           clean_ancestor n z (omega arith)
           (list_all_each (λ z. is_whole parents ragged n z) (parents x) parts.1 z w.0) y zs w.1
 
+      -- and where none is, the place is whole
       is_whole_from_clean : (n x : ℕ) → IsClean x → is_whole parents ragged n x ≡ true
       is_whole_from_clean zero x clean = not_from_false (ragged x) clean.0
       is_whole_from_clean (suc n) x clean =
@@ -95,7 +101,8 @@ module _ (parents : ℕ → List ℕ) where
 pub at_place : {T : Type 0} (S : List T) (i : ℕ) (e : T) → slice_get S i ≡ Some e → Contains S e
 at_place S i e s = (i, slice_get_within S i e s, get_or_from_slice_get S i e e s)
 
-place_of : {T : Type 0} (S : List T) (e : T) → Contains S e → (i : ℕ) × (slice_get S i ≡ Some e)
+-- a survivor has a place
+pub place_of : {T : Type 0} (S : List T) (e : T) → Contains S e → (i : ℕ) × (slice_get S i ≡ Some e)
 place_of S e (i, l, s) = (i, slice_get_read S (length S) i e refl l (sym s))
 
 -- a walk with one arrow more at its far end
@@ -112,6 +119,7 @@ path_on node S f (h ∷ gs) g e p c n = (p.0, p.1, path_on node S h gs g e p.2 c
 
 module _ {T : Type 0} (node : T → Node) (machines : ℕ) (S : List T) (parents : ℕ → List ℕ) (ragged : ℕ → Bool)
     (graph : IsGraphOf node S parents ragged) where
+  -- a walk through places is a path through their entries
   path_from_walk : (x y : ℕ) (zs : List ℕ) (e f : T) → slice_get S x ≡ Some e → slice_get S y ≡ Some f →
       IsWalk parents x zs y → (gs : List T) × IsPath node S f gs e
   path_from_walk x y [] e f ex fy w = ([], (graph.arrows x y e f ex fy).0 w)
@@ -123,6 +131,7 @@ module _ {T : Type 0} (node : T → Node) (machines : ℕ) (S : List T) (parents
             ((graph.arrows x z e g.0 ex g.1).0 w.0),
       )
 
+  -- and a path is a walk
   walk_from_path : (x y : ℕ) (e f : T) (gs : List T) → slice_get S x ≡ Some e → slice_get S y ≡ Some f →
       IsPath node S f gs e → IsAncestor parents y x
   walk_from_path x y e f [] ex fy n = ([], (graph.arrows x y e f ex fy).1 n)
@@ -132,6 +141,7 @@ module _ {T : Type 0} (node : T → Node) (machines : ℕ) (S : List T) (parents
       (rest.0 ++ z.0 ∷ [], walk_on parents x rest.0 z.0 y rest.1 ((graph.arrows z.0 y g f z.1 fy).1 p.1))
 
   module _ (y x : ℕ) (f e : T) (fy : slice_get S y ≡ Some f) (ex : slice_get S x ≡ Some e) where
+    -- an entry whose place and its ancestors aren't ragged is whole
     whole_from_clean : IsClean parents graph.descends ragged x → IsWhole node S e
     whole_from_clean clean = record {
       itself = (graph.gaps_shown x e ex).0 clean.0;
@@ -140,10 +150,12 @@ module _ {T : Type 0} (node : T → Node) (machines : ℕ) (S : List T) (parents
           (graph.gaps_shown z.0 g z.1).0 (clean.1 z.0 (walk_from_path x z.0 e g p.2 ex z.1 p.3));
     }
 
+    -- an ancestor is a survivor's place
     is_inside : (z : ℕ) (zs : List ℕ) (u : ℕ) → IsWalk parents u zs z → (g : T) × (slice_get S z ≡ Some g)
     is_inside z [] u w = graph.inside u z w
     is_inside z (v ∷ zs) u w = is_inside z zs v w.1
 
+    -- the place of a whole entry and its ancestors aren't ragged
     clean_from_whole : IsWhole node S e → IsClean parents graph.descends ragged x
     clean_from_whole whole = (
       (graph.gaps_shown x e ex).1 whole.itself,
@@ -152,16 +164,29 @@ module _ {T : Type 0} (node : T → Node) (machines : ℕ) (S : List T) (parents
           (graph.gaps_shown z g.0 g.1).1 (whole.ancestors g.0 (at_place S z g.0 g.1, at_place S x e ex, p.0, p.1)),
     )
 
-    precedes_from_reaches : reaches parents x y x ≡ true → Precedes node S f e
+    -- a place that is reached is that of an entry that precedes
+    pub precedes_from_reaches : reaches parents x y x ≡ true → Precedes node S f e
     precedes_from_reaches r =
         let a = ancestor_from_reaches parents x y x r in
         let p = path_from_walk x y a.0 e f ex fy a.1 in
         (at_place S y f fy, at_place S x e ex, p.0, p.1)
 
-    reaches_from_precedes : Precedes node S f e → reaches parents x y x ≡ true
+    -- the place of an entry that precedes is reached
+    pub reaches_from_precedes : Precedes node S f e → reaches parents x y x ≡ true
     reaches_from_precedes p =
         let a = walk_from_path x y e f p.2 ex fy p.3 in
         reaches_from_walk parents graph.descends x y x a.0 (omega arith) a.1
+
+    -- where the graph finds x whole, it is
+    pub whole_from_test : is_whole parents ragged x x ≡ true → IsWhole node S e
+    whole_from_test ec = whole_from_clean (
+      clean_itself parents graph.descends ragged x x ec,
+      λ z a. clean_ancestor parents graph.descends ragged x x (omega arith) ec z a.0 a.1,
+    )
+
+    -- and where x is whole, the graph finds it so
+    pub whole_test_from : IsWhole node S e → is_whole parents ragged x x ≡ true
+    whole_test_from whole = is_whole_from_clean parents graph.descends ragged x x (clean_from_whole whole)
 
     -- what each of the three values says
     pub settled : (before parents ragged y x ≡ True → (G : List T) → Completion node machines S G → Precedes node G f e)
@@ -181,21 +206,30 @@ module _ {T : Type 0} (node : T → Node) (machines : ℕ) (S : List T) (parents
           λ o. cc,
           λ _ G h p. false≢true
               (sym er ∙ reaches_from_precedes
-              (before_among_survivors node S machines G h f e (at_place S x e ex)
-              (whole_from_clean (
-                clean_itself parents graph.descends ragged x x ec,
-                λ z a. clean_ancestor parents graph.descends ragged x x (omega arith) ec z a.0 a.1,
-              )) p)),
+              (before_among_survivors node S machines G h f e (at_place S x e ex) (whole_from_test ec) p)),
           λ o. cc,
         )
         by false er false ec = (
           λ o. cc,
           λ o. cc,
           λ _ whole. false≢true
-              (sym ec ∙ is_whole_from_clean parents graph.descends ragged x x (clean_from_whole whole)),
+              (sym ec ∙ whole_test_from whole),
         )
 
 -- the same, of any survivors and their graph
 pub order_is_settled : {T : Type 0} (node : T → Node) → OrderIsSettled node
 order_is_settled node machines S parents ragged graph y x f e fy ex =
     settled node machines S parents ragged graph y x f e fy ex
+
+-- and what it computes is what is meant
+pub graphs_are_exact : {T : Type 0} (node : T → Node) → GraphsAreExact node
+graphs_are_exact node S parents ragged graph y x f e fy ex = (
+  (
+    precedes_from_reaches node 0 S parents ragged graph y x f e fy ex,
+    reaches_from_precedes node 0 S parents ragged graph y x f e fy ex,
+  ),
+  (
+    whole_from_test node 0 S parents ragged graph y x f e fy ex,
+    whole_test_from node 0 S parents ragged graph y x f e fy ex,
+  ),
+)

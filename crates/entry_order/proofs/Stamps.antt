@@ -11,6 +11,7 @@ module _ {T : Type 0} (node : T → Node) where
   top_at_least top [] = omega arith
   top_at_least top (z ∷ es) = let rest = top_at_least (max top (node z).stamp) es in omega arith
 
+  -- a greatest stamp is at least each stamp that it was taken over
   top_above : (top : ℕ) (es : List T) (e : T) → Contains es e →
       (node e).stamp ≤ fold (λ top e. max top (node e).stamp) top es
   top_above top [] e c = absurd (Contains-none e c)

@@ -14,12 +14,15 @@ use Rattle.entry_order.specs.WrongStrays.{ByOthersFails}
 use Rattle.entry_order.proofs.Lists.{Contains-none, Contains-cons_cases}
 use Rattle.entry_order.proofs.ExampleFacts.{no_path}
 
+-- what A sends
 abbrev sent_by_a : Entry
 sent_by_a = made 0 0 1 []
 
+-- what B sends, naming its own last entry alone
 abbrev sent_by_b : Entry
 sent_by_b = made 1 0 2 []
 
+-- their digests differ
 distinct : Distinct shown (sent_in world)
 distinct e f ce cf is =
     elim (Contains-cons_cases sent_by_a (sent_by_b ∷ []) e ce) [
@@ -37,6 +40,7 @@ distinct e f ce cf is =
       ]
     ]
 
+-- B held what A sent, and no path leads there
 own_last_fails : ¬ (OrderIsReceiptIn shown world)
 own_last_fails order =
     let same = order sent_by_a sent_by_b (0, omega arith, refl) (1, omega arith, refl) in
@@ -47,12 +51,15 @@ own_last_fails order =
 pub naming_own_last_fails : OwnLastFails
 naming_own_last_fails = record { distinct = distinct; fails = own_last_fails }
 
+-- the late entry names the first digest
 named : IsNamedIn shown heard (digest_of 1 0)
 named = (b1, (0, omega arith, refl), (0, omega arith, refl))
 
+-- which the list keeps
 keeps : Contains (frontier_by_arrival heard) (digest_of 1 0)
 keeps = (0, omega arith, refl)
 
+-- so the list isn't the frontier
 arrival_fails : ¬ (IsFrontier shown heard (frontier_by_arrival heard))
 arrival_fails is = ((is.members (digest_of 1 0)).0 keeps).1 named
 

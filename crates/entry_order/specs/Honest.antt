@@ -1,5 +1,5 @@
 -- What is left of the logs of an honest polling place, whichever entries are lost.
-use Rattle.std.specs.Prelude.{◌≡◌, ◌≢◌, ℕ, Bool, List, [], Option, Some, slice_get}
+use Rattle.std.specs.Prelude.{◌≡◌, ◌≢◌, ℕ, Bool, List, [], length, Option, Some, slice_get}
 use Rattle.std.specs.List.{Contains}
 use Rattle.entry_order.specs.declared.event.Event.{Event}
 use Rattle.entry_order.specs.declared.step.Step.{Step}
@@ -8,6 +8,7 @@ use Rattle.entry_order.specs.Node.{Node}
 use Rattle.entry_order.specs.Naming.{Distinct}
 use Rattle.entry_order.specs.World.{World, start, sent_in, IsLawful, play}
 use Rattle.entry_order.specs.HeldBefore.{HeldBefore}
+use Rattle.entry_order.specs.Receipt.{IsOrderly}
 use Rattle.entry_order.specs.Survivors.{survivors, gaps}
 use Rattle.entry_order.specs.Completion.{Completion}
 use Rattle.entry_order.specs.Ancestors.{before}
@@ -43,6 +44,13 @@ module _ {T : Type 0} (node : T → Node) where
     pub completed : Completion node machines given (sent_in w)
     pub order : OrderIsHeld w given
     pub all_known : ((e : T) → Contains (sent_in w) e → Contains given e) → IsAllKnown given
+
+  -- any entries that were sent in an orderly world, where different entries have different digests, agree with it
+  abbrev pub HonestEntriesAgreeInOrderlyWorlds : Type 0
+  HonestEntriesAgreeInOrderlyWorlds =
+      (w : World T) → IsOrderly node w → Distinct node (sent_in w) →
+      (given : List T) → ((e : T) → Contains given e → Contains (sent_in w) e) →
+      AgreesWith (length w) w given
 
   -- any entries that were sent in a world of machines that follow the rules agree with it
   abbrev pub HonestEntriesAgree : Type 0

@@ -1,13 +1,26 @@
--- A machine whose next entry is made of its number, its stamp and its names.
+-- What machines make: in a play each entry was its machine's next, made of a number, a stamp and names.
 use Rattle.std.specs.Prelude.{◌≡◌, ℕ, ◌+◌, Bool, not, ◌&&◌, if◌then◌else◌}
-use Rattle.std.specs.Prelude.{List, length, Option, Some, None}
+use Rattle.std.specs.Prelude.{List, ◌∷◌, ◌++◌, length, Option, Some, None}
 use Rattle.entry_order.specs.declared.event.Event.{Event}
+use Rattle.entry_order.specs.declared.event.Event.TheVariants.{Sent}
 use Rattle.entry_order.specs.declared.step.Step.{Step}
 use Rattle.entry_order.specs.Node.{Node}
 use Rattle.entry_order.specs.Naming.{has_digest, Distinct}
 use Rattle.entry_order.specs.Frontier.{frontier}
 use Rattle.entry_order.specs.History.{held, sent, greatest_stamp}
-use Rattle.entry_order.specs.World.{start, sent_in, IsLawful, play}
+use Rattle.entry_order.specs.World.{World, start, history, sent_in, IsLawful, play}
+
+-- each entry that was sent is what its machine sends next after the history before it
+abbrev pub IsMadeBy : {T : Type 0} → (ℕ → List (Event T) → Option T) → World T → Type 0
+IsMadeBy {T} next w =
+    (m : ℕ) (before : List (Event T)) (e : T) (later : List (Event T)) →
+    history w m ≡ before ++ Sent e ∷ later → next m before ≡ Some e
+
+-- so it is after every list of steps, whatever is sent next
+abbrev pub PlaysAreMade : {T : Type 0} → (T → Node) → Type 0
+PlaysAreMade {T} node =
+    (next : ℕ → List (Event T) → Option T) (log machines : ℕ) (steps : List Step) →
+    IsMadeBy next (play node next log (start machines) steps)
 
 module _ {T : Type 0} (node : T → Node) (made : ℕ → ℕ → ℕ → List (List ℕ) → T) where
   -- the entry that machine m makes after the history h

@@ -1,5 +1,5 @@
 -- The events of all machines in one order, and what playing them gives.
-use Rattle.std.specs.Prelude.{◌≡◌, ℕ, ◌≤◌, List, [], ◌∷◌, ◌++◌, map, length, Option, Some, ◌↔◌}
+use Rattle.std.specs.Prelude.{◌≡◌, ℕ, ◌≤◌, List, [], ◌∷◌, ◌++◌, map, length, Option, ◌↔◌}
 use Rattle.std.specs.List.{Contains}
 use Rattle.std.specs.Cmp.Lexicographic.{slice_cmp}
 use Rattle.std.specs.Ordering.{nat_cmp}
@@ -11,6 +11,7 @@ use Rattle.entry_order.specs.declared.step.Step.TheVariants.{Act, Hear}
 use Rattle.entry_order.specs.Node.{Node}
 use Rattle.entry_order.specs.History.{held, greatest_stamp}
 use Rattle.entry_order.specs.World.{World, start, history, play}
+use Rattle.entry_order.specs.Made.{IsMadeBy}
 use Rattle.entry_order.specs.Receipt.{IsOrderly}
 
 -- an event with its machine, its place in the history, and the machine's logical clock after it
@@ -62,11 +63,11 @@ module _ {T : Type 0} (node : T → Node) where
   step_of m (Sent e) = Act m
   step_of m (Got e) = Hear m (node e).maker (node e).number
 
-  -- each entry that was sent is what its machine sends next after the history before it
-  abbrev pub IsMadeBy : (ℕ → List (Event T) → Option T) → World T → Type 0
-  IsMadeBy next w =
-      (m : ℕ) (before : List (Event T)) (e : T) (later : List (Event T)) →
-      history w m ≡ before ++ Sent e ∷ later → next m before ≡ Some e
+  -- every world has a merged order, and only one
+  abbrev pub WorldsHaveOneMergedOrder : Type 0
+  WorldsHaveOneMergedOrder =
+      (w : World T) → (xs : List (PlacedEvent T)) × IsMergedOf w xs
+      × ((ys : List (PlacedEvent T)) → IsMergedOf w ys → ys ≡ xs)
 
   -- playing the events of an orderly world in their merged order gives its histories again
   abbrev pub MergedIsPlayedAgain : Type 0

@@ -1,14 +1,14 @@
 -- Order is receipt: the path order of what was sent is what the machines held.
-use Rattle.std.specs.Prelude.{◌↔◌, ℕ, List, Option}
+use Rattle.std.specs.Prelude.{◌↔◌, ℕ, ◌<◌, List, Option}
 use Rattle.std.specs.List.{Contains}
 use Rattle.entry_order.specs.declared.event.Event.{Event}
 use Rattle.entry_order.specs.declared.event.Event.TheVariants.{Got}
 use Rattle.entry_order.specs.declared.step.Step.{Step}
 use Rattle.entry_order.specs.Node.{Node}
-use Rattle.entry_order.specs.Naming.{Distinct}
-use Rattle.entry_order.specs.History.{IsLegal}
+use Rattle.entry_order.specs.Naming.{Names, Distinct}
+use Rattle.entry_order.specs.History.{held, IsLegal}
 use Rattle.entry_order.specs.World.{World, start, history, sent_in, IsLawful, play}
-use Rattle.entry_order.specs.HeldBefore.{HeldBefore}
+use Rattle.entry_order.specs.HeldBefore.{WasSentAfter, HeldBefore}
 use Rattle.entry_order.specs.Precedes.{Precedes}
 
 -- each history is legal, and what was got was sent
@@ -34,3 +34,16 @@ OrderIsReceipt {T} node =
     IsLawful node next →
     let w = play node next log (start machines) steps in
     Distinct node (sent_in w) → OrderIsReceiptIn node w
+
+-- what an entry names, its maker held when it sent the entry
+abbrev pub NamesWereHeld : {T : Type 0} → (T → Node) → Type 0
+NamesWereHeld {T} node =
+    (w : World T) → IsOrderly node w → Distinct node (sent_in w) →
+    (past : List (Event T)) (e : T) → WasSentAfter w past e →
+    (f : T) → Contains (sent_in w) f → Names node e f → Contains (held past) f
+
+-- an entry that was held before another has a lower stamp
+abbrev pub StampsRise : {T : Type 0} → (T → Node) → Type 0
+StampsRise {T} node =
+    (w : World T) → IsOrderly node w →
+    (f e : T) → HeldBefore w f e → (node f).stamp < (node e).stamp

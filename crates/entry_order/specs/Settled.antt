@@ -1,5 +1,5 @@
 -- What is said of the order of two survivors, and what it says of every completion.
-use Rattle.std.specs.Prelude.{◌≡◌, ◌↔◌, ℕ, Bool, false, List, slice_get, Some}
+use Rattle.std.specs.Prelude.{◌≡◌, ◌↔◌, ℕ, Bool, true, false, List, slice_get, Some}
 use Rattle.std.specs.List.{Contains}
 use Rattle.std.specs.List.Sorted.{IsNonDecreasingBy}
 use Rattle.entry_order.specs.declared.three.Three.TheVariants.{False, Unknown, True}
@@ -8,7 +8,7 @@ use Rattle.entry_order.specs.Naming.{Names}
 use Rattle.entry_order.specs.Precedes.{Precedes}
 use Rattle.entry_order.specs.Survivors.{survivors, gaps}
 use Rattle.entry_order.specs.Completion.{Completion}
-use Rattle.entry_order.specs.Ancestors.{Descends, before}
+use Rattle.entry_order.specs.Ancestors.{Descends, reaches, is_whole, before}
 
 module _ {T : Type 0} (node : T → Node) where
   -- x names no gap of S
@@ -40,6 +40,15 @@ module _ {T : Type 0} (node : T → Node) where
   SurvivorsHaveAGraph =
       (S : List T) → IsNonDecreasingBy (λ e. (node e).stamp) S → survivors node S ≡ S →
       (parents : ℕ → List ℕ) × (ragged : ℕ → Bool) × IsGraphOf S parents ragged
+
+  -- in a graph of survivors one place is reached from another exactly when its entry precedes the other's,
+  -- and a place is found whole exactly when its entry is
+  abbrev pub GraphsAreExact : Type 0
+  GraphsAreExact =
+      (S : List T) (parents : ℕ → List ℕ) (ragged : ℕ → Bool) → IsGraphOf S parents ragged →
+      (y x : ℕ) (f e : T) → slice_get S y ≡ Some f → slice_get S x ≡ Some e →
+      ((reaches parents x y x ≡ true) ↔ Precedes node S f e)
+      × ((is_whole parents ragged x x ≡ true) ↔ IsWhole S e)
 
   -- what is called before is before in every completion, what is called not before is so in none,
   -- and unknown comes only where x isn't whole

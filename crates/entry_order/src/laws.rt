@@ -3,11 +3,24 @@
 ghost use Rattle.entry_order.specs.Ascending.{AscendingIsUnique};
 ghost use Rattle.entry_order.specs.Forms.{FormsAgree};
 ghost use Rattle.entry_order.specs.Frontier.{FrontierIsUnique};
-ghost use Rattle.entry_order.specs.Honest.{HonestEntriesAgree};
-ghost use Rattle.entry_order.specs.Made.{MadeIsLawful, NumberedIsDistinct};
-ghost use Rattle.entry_order.specs.Merged.{MergedIsPlayedAgain};
-ghost use Rattle.entry_order.specs.Receipt.{OrderIsReceipt, OrderIsReceiptInOrderlyWorlds};
-ghost use Rattle.entry_order.specs.Settled.{OrderIsSettled, PathsAreSettled, SurvivorsHaveAGraph};
+ghost use Rattle.entry_order.specs.Honest.{
+  HonestEntriesAgree,
+  HonestEntriesAgreeInOrderlyWorlds,
+};
+ghost use Rattle.entry_order.specs.Made.{MadeIsLawful, NumberedIsDistinct, PlaysAreMade};
+ghost use Rattle.entry_order.specs.Merged.{MergedIsPlayedAgain, WorldsHaveOneMergedOrder};
+ghost use Rattle.entry_order.specs.Receipt.{
+  NamesWereHeld,
+  OrderIsReceipt,
+  OrderIsReceiptInOrderlyWorlds,
+  StampsRise,
+};
+ghost use Rattle.entry_order.specs.Settled.{
+  GraphsAreExact,
+  OrderIsSettled,
+  PathsAreSettled,
+  SurvivorsHaveAGraph,
+};
 ghost use Rattle.entry_order.specs.Survivors.{
   GapsAreUnique,
   SurvivorsAreNoStrays,
@@ -17,7 +30,7 @@ ghost use Rattle.std.specs.Prelude.{ℕ, List};
 
 use crate::Knot;
 /// In every world whose histories are legal and where what was got was sent, an entry precedes
-/// another exactly where it was held before it.
+/// another exactly when it was held before it.
 pub fn order_is_receipt_in_orderly_worlds<T: Knot>()
     ensures { OrderIsReceiptInOrderlyWorlds T.node }
 {}
@@ -27,18 +40,40 @@ pub fn order_is_receipt<T: Knot>()
     ensures { OrderIsReceipt T.node }
 {}
 
+/// In an orderly world each entry that an entry names was held by its maker when it was sent.
+pub fn names_were_held<T: Knot>()
+    ensures { NamesWereHeld T.node }
+{}
+
+/// In an orderly world stamps rise from what was held before to what was sent after it.
+pub fn stamps_rise<T: Knot>()
+    ensures { StampsRise T.node }
+{}
+
 /// What is said of the order of two survivors holds in every completion: by paths among them, and
-/// by the graph that they have.
+/// by the graph that they have, whose ancestors and whole places are exactly those of the entries.
 pub fn order_is_settled<T: Knot>()
     ensures paths { PathsAreSettled T.node }
     ensures settled { OrderIsSettled T.node }
     ensures graph { SurvivorsHaveAGraph T.node }
+    ensures exact { GraphsAreExact T.node }
+{}
+
+/// Any entries that were sent in an orderly world have no stray and no fork, and what is said of
+/// their order is what its machines held.
+pub fn honest_entries_agree_in_orderly_worlds<T: Knot>()
+    ensures { HonestEntriesAgreeInOrderlyWorlds T.node }
 {}
 
 /// Any entries that an honest place sent have no stray and no fork, and what is said of their order
 /// is what its machines held.
 pub fn honest_entries_agree<T: Knot>()
     ensures { HonestEntriesAgree T.node }
+{}
+
+/// Every world has its events in one order by logical clock, and in no other.
+pub fn worlds_have_one_merged_order<T: Knot>()
+    ensures { WorldsHaveOneMergedOrder T.node }
 {}
 
 /// The events of an orderly world, sorted by logical clock, can be played again and give its
@@ -52,30 +87,35 @@ pub fn forms_agree<T: Knot>()
     ensures { FormsAgree T.node }
 {}
 
+/// After any steps each entry was its machine's next when it was sent.
+pub fn plays_are_made<T: Knot>()
+    ensures { PlaysAreMade T.node }
+{}
+
 /// What is made of its number, its stamp and the frontier is what a legal history asks, whatever
 /// the rules allow.
 pub fn made_is_lawful<T: Knot>()
     ensures { (made : ℕ → ℕ → ℕ → List (List ℕ) → T) → MadeIsLawful T.node made }
 {}
 
-/// Where a digest tells its entry's maker and number, different entries of a world have different
+/// Where a digest reports its entry's maker and number, different entries of a world have different
 /// digests.
 pub fn numbered_is_distinct<T: Knot>()
     ensures { NumberedIsDistinct T.node }
 {}
 
-/// A list is the ascending list of some digests exactly where it rises and has those members.
+/// A list is the ascending list of some digests exactly when it rises and has those members.
 pub fn ascending_is_unique()
     ensures { AscendingIsUnique }
 {}
 
-/// A list is the frontier exactly where it rises and has the digests that are borne and that no
+/// A list is the frontier exactly when it rises and has the digests that are borne and that no
 /// entry names.
 pub fn frontier_is_unique<T: Knot>()
     ensures { FrontierIsUnique T.node }
 {}
 
-/// A list is the gaps exactly where it rises and has the digests that are named and that no entry
+/// A list is the gaps exactly when it rises and has the digests that are named and that no entry
 /// bears.
 pub fn gaps_are_unique<T: Knot>()
     ensures { GapsAreUnique T.node }

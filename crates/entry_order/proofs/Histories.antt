@@ -1,0 +1,136 @@
+-- Histories with one event more: what is sent and held then, and whether they stay legal.
+use Rattle.std.proofs.Common.{◌≡◌, ℕ, zero, suc, ◌+◌, ◌≤◌, max, List, [], ◌∷◌, ◌++◌, length, refl, sym, ap, subst}
+use Rattle.std.proofs.Common.{◌∙◌, ◌⊎◌, inl, inr, append_assoc, arith}
+use Rattle.std.specs.Prelude.{slice_get, Some}
+use Rattle.std.specs.List.{Contains}
+use Rattle.std.proofs.lemmas.List.{append-nil}
+use Rattle.std.proofs.lemmas.List.Sums.{fold-append}
+use Rattle.std.proofs.lemmas.List.{map-append}
+use Rattle.entry_order.specs.declared.event.Event.{Event}
+use Rattle.entry_order.specs.declared.event.Event.TheVariants.{Sent, Got}
+use Rattle.entry_order.specs.Node.{Node}
+use Rattle.entry_order.specs.Naming.{IsNew}
+use Rattle.entry_order.specs.History.{entry_of, held, sent, greatest_stamp, MayFollow, IsLegal}
+use Rattle.entry_order.proofs.Lists.{Contains-at, Contains-later}
+
+-- ---- one more at the end
+
+-- where one more is put at the end, a place in the list is an earlier one or the last
+pub last_or_earlier : {X : Type 0} (xs : List X) (x : X) (before : List X) (y : X) (later : List X) →
+    xs ++ x ∷ [] ≡ before ++ y ∷ later → ((rest : List X) × (xs ≡ before ++ y ∷ rest)) ⊎ ((xs ≡ before) × (x ≡ y))
+last_or_earlier [] x [] y later e = inr (refl, cc)
+last_or_earlier [] x (b ∷ []) y later e = cc
+last_or_earlier [] x (b ∷ c ∷ before) y later e = cc
+last_or_earlier (a ∷ xs) x [] y later e = inl (xs, cc)
+last_or_earlier {X} (a ∷ xs) x (b ∷ before) y later e =
+    let head : a ≡ b = cc in
+    let tail : xs ++ x ∷ [] ≡ before ++ y ∷ later = cc in
+    let earlier : (rest : List X) × (xs ≡ before ++ y ∷ rest) →
+    (rest : List X) × (a ∷ xs ≡ b ∷ (before ++ y ∷ rest)) = λ r. (r.0, cc (r.1, head)) in
+    let last : (xs ≡ before) × (x ≡ y) → (a ∷ xs ≡ b ∷ before) × (x ≡ y) = λ r. (cc (r.0, head), r.1) in
+    elim (last_or_earlier xs x before y later tail) [ inl r ↦ inl (earlier r) | inr r ↦ inr (last r) ]
+
+-- of two members of a list one stands before the other, or they are one
+pub split_two : {X : Type 0} (p q : List X) (x y : X) (l m : List X) → p ++ x ∷ l ≡ q ++ y ∷ m →
+    (x ≡ y) ⊎ (Contains q x ⊎ Contains p y)
+split_two [] [] x y l m e = inl cc
+split_two [] (b ∷ q) x y l m e = let same : b ≡ x = cc in inr (inl (Contains-at b q x same))
+split_two (a ∷ p) [] x y l m e = let same : a ≡ y = cc in inr (inr (Contains-at a p y same))
+split_two (a ∷ p) (b ∷ q) x y l m e =
+    let tail : p ++ x ∷ l ≡ q ++ y ∷ m = cc in
+    elim (split_two p q x y l m tail) [
+      | inl s ↦ inl s
+      | inr (inl c) ↦ inr (inl (Contains-later b q x c))
+      | inr (inr c) ↦ inr (inr (Contains-later a p y c))
+    ]
+
+-- ---- what was sent
+
+module _ {T : Type 0} where
+  -- what was sent in two parts of a history
+  pub sent-append : (p q : List (Event T)) → sent (p ++ q) ≡ sent p ++ sent q
+  sent-append [] q = refl
+  sent-append (Sent e ∷ p) q = ap (λ (es : List T). e ∷ es) (sent-append p q)
+  sent-append (Got e ∷ p) q = sent-append p q
+
+  -- a sending is one entry more that was sent
+  pub sent_one_more : (p : List (Event T)) (e : T) → length (sent (p ++ Sent e ∷ [])) ≡ length (sent p) + 1
+  sent_one_more [] e = refl
+  sent_one_more (Sent g ∷ p) e = omega (arith, sent_one_more p e)
+  sent_one_more (Got g ∷ p) e = sent_one_more p e
+
+  -- a receipt is none
+  pub sent_as_many : (p : List (Event T)) (e : T) → length (sent (p ++ Got e ∷ [])) ≡ length (sent p)
+  sent_as_many [] e = refl
+  sent_as_many (Sent g ∷ p) e = omega (arith, sent_as_many p e)
+  sent_as_many (Got g ∷ p) e = sent_as_many p e
+
+  -- no more entries were sent than there are events
+  pub sent_few : (h : List (Event T)) → length (sent h) ≤ length h
+  sent_few [] = omega arith
+  sent_few (Sent e ∷ h) = omega (arith, sent_few h)
+  sent_few (Got e ∷ h) = omega (arith, sent_few h)
+
+  -- an entry among those sent stands in the history after as many others
+  pub nth_split : (h : List (Event T)) (i : ℕ) (x : T) → slice_get (sent h) i ≡ Some x →
+      (p : List (Event T)) × (l : List (Event T)) × (h ≡ p ++ Sent x ∷ l) × (length (sent p) ≡ i)
+  nth_split [] i x e = cc
+  nth_split (Sent g ∷ h) zero x e = let same : g ≡ x = cc in ([], h, ap (λ u. Sent u ∷ h) same, refl)
+  nth_split (Sent g ∷ h) (suc i) x e =
+      let r = nth_split h i x e in (Sent g ∷ r.0, r.1, ap (λ u. Sent g ∷ u) r.2, ap suc r.3)
+  nth_split (Got g ∷ h) i x e = let r = nth_split h i x e in (Got g ∷ r.0, r.1, ap (λ u. Got g ∷ u) r.2, r.3)
+
+-- ---- legal histories
+
+module _ {T : Type 0} (node : T → Node) where
+  -- an event that may follow makes a legal history longer
+  pub IsLegal-push : (owner : ℕ) (h : List (Event T)) (x : Event T) → IsLegal node owner h → MayFollow node owner h x →
+      IsLegal node owner (h ++ x ∷ [])
+  IsLegal-push owner h x legal may before y later e =
+      let last : (h ≡ before) × (x ≡ y) → MayFollow node owner before y =
+      λ r. subst (λ (u : Event T). MayFollow node owner before u) r.1
+      (subst (λ (p : List (Event T)). MayFollow node owner p x) r.0 may) in
+      elim (last_or_earlier h x before y later e) [ inl r ↦ legal before y r.0 r.1 | inr r ↦ last r ]
+
+  -- the empty history is legal
+  pub IsLegal-none : (owner : ℕ) → IsLegal node owner []
+  IsLegal-none owner [] x later e = cc
+  IsLegal-none owner (b ∷ before) x later e = cc
+
+  -- what may follow is new
+  pub new_from_may : (owner : ℕ) (p : List (Event T)) (x : Event T) → MayFollow node owner p x →
+      IsNew node (held p) (entry_of x)
+  new_from_may owner p (Sent e) may = may.0
+  new_from_may owner p (Got e) may = may.0
+
+  -- the greatest stamp with one event more
+  pub greatest_push : (p : List (Event T)) (x : Event T) →
+      greatest_stamp node (held (p ++ x ∷ [])) ≡ max (greatest_stamp node (held p)) (node (entry_of x)).stamp
+  greatest_push p x =
+      ap (greatest_stamp node) (map-append entry_of p (x ∷ []))
+      ∙ fold-append (λ top e. max top (node e).stamp) 0 (held p) (entry_of x ∷ [])
+
+  -- one event more leaves at most as many entries sent as the greatest stamp says
+  few_sent_push : (owner : ℕ) (p : List (Event T)) (x : Event T) → MayFollow node owner p x →
+      length (sent p) ≤ greatest_stamp node (held p) →
+      length (sent (p ++ x ∷ [])) ≤ greatest_stamp node (held (p ++ x ∷ []))
+  few_sent_push owner p (Sent e) may few =
+      omega (arith, may.1.stamp, sent_one_more p e, greatest_push p (Sent e), few)
+  few_sent_push owner p (Got e) may few = omega (arith, sent_as_many p e, greatest_push p (Got e), few)
+
+  -- so do all the events after a beginning
+  few_sent_from : (owner : ℕ) (p q : List (Event T)) → IsLegal node owner (p ++ q) →
+      length (sent p) ≤ greatest_stamp node (held p) →
+      length (sent (p ++ q)) ≤ greatest_stamp node (held (p ++ q))
+  few_sent_from owner p [] legal few =
+      subst (λ (h : List (Event T)). length (sent h) ≤ greatest_stamp node (held h)) (sym (append-nil p)) few
+  few_sent_from owner p (x ∷ q) legal few =
+      let same : (p ++ x ∷ []) ++ q ≡ p ++ x ∷ q = append_assoc p (x ∷ []) q in
+      let one = few_sent_push owner p x (legal p x q refl) few in
+      subst (λ (h : List (Event T)). length (sent h) ≤ greatest_stamp node (held h)) same
+      (few_sent_from owner (p ++ x ∷ []) q (subst (λ (h : List (Event T)). IsLegal node owner h) (sym same) legal) one)
+
+  -- in a legal history at most as many entries were sent as the greatest stamp says
+  pub few_sent : (owner : ℕ) (h : List (Event T)) → IsLegal node owner h →
+      length (sent h) ≤ greatest_stamp node (held h)
+  few_sent owner h legal = few_sent_from owner [] h legal (omega arith)
