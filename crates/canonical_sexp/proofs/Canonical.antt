@@ -1,0 +1,53 @@
+-- Where bytes stop being exactly one text.
+use Rattle.std.proofs.Common.{◌≡◌, ◌∙◌, ℕ, inl, inr, List, [], length, ap, sym, refl, arith, append-nil}
+use Rattle.canonical_sexp.specs.declared.read.Read.{Read}
+use Rattle.canonical_sexp.specs.declared.read.Read.TheVariants as read
+use Rattle.canonical_sexp.specs.Text.{text_of}
+use Rattle.canonical_sexp.specs.Reading.{Answers, IsCanonical, StopsAt}
+use Rattle.canonical_sexp.proofs.Exclusive.{whole_only, one_answer}
+
+-- one text is answered whole, up to its end
+pub canonical_is_whole : (bytes : List ℕ) (answer : Read) → Answers bytes answer → (canonical : IsCanonical bytes) →
+    answer ≡ read.Whole canonical.0 (length bytes)
+canonical_is_whole bytes answer is (tree, fits, text) =
+    whole_only bytes answer tree [] is fits (text ∙ sym (append-nil (text_of tree)))
+    ∙ ap (read.Whole tree) (sym (ap length text))
+
+-- how many bytes an answer takes that is `Whole`
+abbrev used_of : Read → ℕ
+used_of (read.Whole value used) = used
+used_of read.Cut = 0
+used_of (read.Bad at why) = 0
+
+pub stops_nowhere : (bytes : List ℕ) (at : ℕ) → IsCanonical bytes → StopsAt bytes at → ⊥
+stops_nowhere bytes at canonical (inl (why, is)) =
+    let same : read.Bad at why ≡ read.Whole canonical.0 (length bytes) =
+    canonical_is_whole bytes (read.Bad at why) is canonical in cc
+stops_nowhere bytes at canonical (inr (inl (tree, is, more))) =
+    let same : at ≡ length bytes = ap used_of (canonical_is_whole bytes (read.Whole tree at) is canonical) in
+    omega (arith, same)
+stops_nowhere bytes at canonical (inr (inr (is, end))) =
+    let same : read.Cut ≡ read.Whole canonical.0 (length bytes) =
+    canonical_is_whole bytes read.Cut is canonical in cc
+
+-- where an answer says that the bytes stop
+abbrev stop_of : List ℕ → Read → ℕ
+stop_of bytes (read.Whole value used) = used
+stop_of bytes read.Cut = length bytes
+stop_of bytes (read.Bad at why) = at
+
+stop_answer : (bytes : List ℕ) (at : ℕ) → StopsAt bytes at →
+    (answer : Read) × (Answers bytes answer × (stop_of bytes answer ≡ at))
+stop_answer bytes at (inl (why, is)) = (read.Bad at why, (is, refl))
+stop_answer bytes at (inr (inl (tree, is, more))) = (read.Whole tree at, (is, refl))
+stop_answer bytes at (inr (inr (is, end))) = (read.Cut, (is, sym end))
+
+pub one_stop : (bytes : List ℕ) (at other : ℕ) → StopsAt bytes at → StopsAt bytes other → at ≡ other
+one_stop bytes at other stops also =
+    let first = stop_answer bytes at stops in
+    let second = stop_answer bytes other also in
+    sym first.1.1 ∙ ap (stop_of bytes) (one_answer bytes first.0 second.0 first.1.0 second.1.0) ∙ second.1.1
+
+-- where they stop, with what it says of them
+pub stops : (bytes : List ℕ) (at : ℕ) → StopsAt bytes at → StopsAt bytes at × (IsCanonical bytes → ⊥)
+stops bytes at h = (h, λ canonical. stops_nowhere bytes at canonical h)

@@ -1,0 +1,193 @@
+-- Texts where they stand: their bytes tell their tree, and the bytes of a list those of its members.
+use Rattle.std.proofs.Common.{◌≡◌, ◌≢◌, ◌∙◌, ℕ, ◌-◌, ◌<◌, ◌≤◌, IsTrue, inl, inr, Some, slice_index, List, [], ◌∷◌}
+use Rattle.std.proofs.Common.{◌++◌, length, take, drop, get_or}
+use Rattle.std.proofs.Common.{refl, ap, sym, arith, append_assoc, append-nil, length-append}
+use Rattle.std.proofs.lemmas.Bool.Decides.{nat_tests}
+use Rattle.std.proofs.lemmas.List.{take-append-drop, take_at, take_rest}
+use Rattle.std.specs.Fmt.{decimal}
+use Rattle.canonical_sexp.specs.declared.sexp.Sexp.{Sexp}
+use Rattle.canonical_sexp.specs.declared.sexp.Sexp.TheVariants.{Atom, List as Branch}
+use Rattle.canonical_sexp.specs.Forest.{Forest, no_trees, atom_then, list_then}
+use Rattle.canonical_sexp.specs.Sexp.{in_front, members_of}
+use Rattle.canonical_sexp.specs.Text.{text_of, texts_of, atom_text, AreWithin, Fits, IsProperPrefixOfText}
+use Rattle.canonical_sexp.specs.declared.read.Why.{Why}
+use Rattle.canonical_sexp.specs.Causes.{is_digit, at_start, length_fault}
+use Rattle.canonical_sexp.specs.Reading.{IsFirstBad}
+use Rattle.canonical_sexp.specs.inside.Spelt.{IsSpelt, AreSpelt}
+use Rattle.canonical_sexp.proofs.Decimal.{behind_digits}
+use Rattle.canonical_sexp.proofs.Unique.{one_tree, no_atom, atom_starts}
+use Rattle.canonical_sexp.proofs.Atoms.{cut_in_length}
+use Rattle.canonical_sexp.proofs.Places.{atom_is_cut, is_bad_length}
+use Rattle.canonical_sexp.proofs.Exclusive.{cut_has_none, bad_has_none}
+
+pub same_text : (tree other : Sexp) → Fits tree → Fits other → text_of tree ≡ text_of other → tree ≡ other
+same_text tree other fits other_fits e =
+    (one_tree 8 tree other [] [] fits other_fits (append-nil (text_of tree) ∙ e ∙ sym (append-nil (text_of other)))).0
+
+pub same_members : (row other : Forest) → Fits (Branch row) → Fits (Branch other) → texts_of row ≡ texts_of other →
+    row ≡ other
+same_members row other fits other_fits e =
+    let same : Branch row ≡ Branch other =
+    same_text (Branch row) (Branch other) fits other_fits (ap (λ bs. 40 ∷ (bs ++ 41 ∷ [])) e) in
+    cc
+
+pub spelt : (bytes : List ℕ) (tree : Sexp) → Fits tree → bytes ≡ text_of tree → IsSpelt bytes
+spelt bytes tree fits e = (tree, (fits, e, λ other other_fits is. same_text other tree other_fits fits (sym is ∙ e)))
+
+pub row_spelt : (bytes : List ℕ) (row : Forest) → Fits (Branch row) → bytes ≡ texts_of row → AreSpelt bytes
+row_spelt bytes row fits e =
+    (row, (fits, e, λ other other_fits is. same_members other row other_fits fits (sym is ∙ e)))
+
+more_deep : (d e : ℕ) (row : Forest) → d ≤ e → AreWithin d row → AreWithin e row
+more_deep d e no_trees le h = tt
+more_deep d e (atom_then octets rest) le h = (h.0, more_deep d e rest le h.1)
+more_deep d e (list_then inner rest) le h = (
+  omega (arith, h.0),
+  h.1,
+  more_deep (d - 1) (e - 1) inner (omega arith) h.2,
+  more_deep d e rest le h.3,
+)
+
+-- a row with a member: its first, and the others
+pub record HasFirst (row : Forest) : Type 0 where
+  pub tree : Sexp
+  pub rest : Forest
+  pub is : row ≡ in_front tree rest
+  pub text : texts_of row ≡ text_of tree ++ texts_of rest
+  pub fits : Fits tree
+  pub rest_fits : Fits (Branch rest)
+
+pub has_first : (row : Forest) → Fits (Branch row) → 0 < length (texts_of row) → HasFirst row
+has_first no_trees fits some = absurd (omega arith)
+has_first (atom_then octets rest) fits some =
+    record {
+      tree = Atom octets;
+      rest = rest;
+      is = refl;
+      text = refl;
+      fits = fits.2.0;
+      rest_fits = (fits.0, omega (arith, fits.1), fits.2.1);
+    }
+has_first (list_then inner rest) fits some =
+    record {
+      tree = Branch inner;
+      rest = rest;
+      is = refl;
+      text = ap (λ bs. 40 ∷ bs) (sym (append_assoc (texts_of inner) (41 ∷ []) (texts_of rest)));
+      fits = (omega arith, fits.2.1, more_deep 6 7 inner (omega arith) fits.2.2);
+      rest_fits = (fits.0, omega (arith, fits.1), fits.2.3);
+    }
+
+pub text_some : (tree : Sexp) → 0 < length (text_of tree)
+text_some (Atom octets) = omega (arith, length-append (decimal (length octets)) (58 ∷ octets))
+text_some (Branch row) = omega arith
+
+-- the member that was found in front, and what is behind it
+pub taken : (bytes : List ℕ) (row : Forest) (used : ℕ) (tree : Sexp) → Fits (Branch row) → bytes ≡ texts_of row →
+    Fits tree → take used bytes ≡ text_of tree →
+    (rest : Forest) × ((row ≡ in_front tree rest) × Fits (Branch rest) × (drop used bytes ≡ texts_of rest))
+taken bytes row used tree fits e tree_fits found =
+    let whole : bytes ≡ text_of tree ++ drop used bytes =
+    sym (take-append-drop used bytes) ∙ ap (λ bs. bs ++ drop used bytes) found in
+    let some : 0 < length (texts_of row) =
+    omega (arith, ap length e, ap length whole, length-append (text_of tree) (drop used bytes), text_some tree) in
+    let first : HasFirst row = has_first row fits some in
+    let one : (tree ≡ first.tree) × (drop used bytes ≡ texts_of first.rest) =
+    one_tree 8 tree first.tree (drop used bytes) (texts_of first.rest) tree_fits first.fits
+    (sym whole ∙ e ∙ first.text) in
+    (first.rest, (first.is ∙ ap (λ t. in_front t first.rest) (sym one.0), first.rest_fits, one.1))
+
+-- where no text stands in front, no member is left
+pub none_left : (bytes : List ℕ) (row : Forest) → Fits (Branch row) → bytes ≡ texts_of row →
+    ((tree : Sexp) (rest : List ℕ) → Fits tree → bytes ≡ text_of tree ++ rest → ⊥) → row ≡ no_trees
+none_left bytes no_trees fits e none = refl
+none_left bytes (atom_then octets rest) fits e none =
+    absurd (none (Atom octets) (texts_of rest) fits.2.0 e)
+none_left bytes (list_then inner rest) fits e none =
+    let some : 0 < length (texts_of (list_then inner rest)) = omega arith in
+    let first : HasFirst (list_then inner rest) = has_first (list_then inner rest) fits some in
+    absurd (none first.tree (texts_of first.rest) first.fits (e ∙ first.text))
+
+pub none_if_cut : (bytes : List ℕ) (row : Forest) → Fits (Branch row) → bytes ≡ texts_of row →
+    IsProperPrefixOfText bytes → row ≡ no_trees
+none_if_cut bytes row fits e cut =
+    none_left bytes row fits e (λ tree rest tree_fits is. cut_has_none bytes tree rest tree_fits is cut)
+
+pub none_if_bad : (bytes : List ℕ) (row : Forest) (at : ℕ) → Fits (Branch row) → bytes ≡ texts_of row →
+    IsFirstBad bytes at → row ≡ no_trees
+none_if_bad bytes row at fits e bad =
+    none_left bytes row fits e (λ tree rest tree_fits is. bad_has_none bytes at tree rest tree_fits is bad)
+
+pub no_bytes_left : (row : Forest) → Fits (Branch row) → length (texts_of row) ≡ 0 → row ≡ no_trees
+no_bytes_left row fits none =
+    none_left (texts_of row) row fits refl (λ tree rest tree_fits is.
+    omega (arith, ap length is, length-append (text_of tree) rest, text_some tree))
+
+-- a text that begins with a parenthesis is a list's, and the bytes within are those of its members
+pub listed : (bytes : List ℕ) (tree : Sexp) → Fits tree → bytes ≡ text_of tree → get_or bytes 0 0 ≡ 40 →
+    (row : Forest) × ((tree ≡ Branch row) × (take (length bytes - 1 - 1) (drop 1 bytes) ≡ texts_of row))
+listed [] (Atom octets) fits e begins = absurd (omega arith)
+listed (c ∷ bytes) (Atom octets) fits e begins =
+    absurd (no_atom octets bytes [] c fits (omega arith) (e ∙ sym (append-nil (atom_text octets))))
+listed bytes (Branch row) fits e begins =
+    let inside : List ℕ = texts_of row ++ 41 ∷ [] in
+    let long : length (texts_of row) ≡ length bytes - 1 - 1 =
+    omega (arith, ap length e, length-append (texts_of row) (41 ∷ [])) in (
+      row,
+      (
+        refl,
+        ap (λ bs. take (length bytes - 1 - 1) (drop 1 bs)) e
+            ∙ take_at (texts_of row) (41 ∷ []) (length bytes - 1 - 1) long,
+      ),
+    )
+
+-- an atom's text begins with a digit
+pub begins_low : (bytes octets : List ℕ) → length octets ≤ 262144 → bytes ≡ atom_text octets → get_or bytes 0 0 ≡ 40 → ⊥
+begins_low [] octets small e begins = omega arith
+begins_low (c ∷ bytes) octets small e begins =
+    no_atom octets bytes [] c small (omega arith) (e ∙ sym (append-nil (atom_text octets)))
+
+digit_in : (c : ℕ) → 48 ≤ c → c < 58 → IsTrue (is_digit c)
+digit_in c low high = grind (arith, nat_tests)
+
+-- and what begins with no parenthesis is an atom's
+pub is_atom : (bytes : List ℕ) (tree : Sexp) → Fits tree → bytes ≡ text_of tree → get_or bytes 0 0 ≢ 40 →
+    (octets : List ℕ) × ((length octets ≤ 262144) × (bytes ≡ atom_text octets) × IsTrue (is_digit (get_or bytes 0 0)))
+is_atom [] (Atom octets) fits e other =
+    let none : 0 ≡ length (decimal (length octets) ++ 58 ∷ octets) = ap length e in
+    absurd (omega (arith, length-append (decimal (length octets)) (58 ∷ octets)))
+is_atom (c ∷ bytes) (Atom octets) fits e other =
+    let digit : (48 ≤ c) × (c < 58) = atom_starts octets bytes [] c fits (e ∙ sym (append-nil (atom_text octets))) in
+    (octets, (fits, e, digit_in c digit.0 digit.1))
+is_atom bytes (Branch row) fits e other = absurd (other (ap (λ bs. get_or bs 0 0) e))
+
+-- the octets stand behind the length and its colon
+pub behind_length : (bytes octets : List ℕ) (count used : ℕ) → length octets ≤ 262144 → bytes ≡ atom_text octets →
+    count ≤ 262144 → take used bytes ≡ decimal count ++ 58 ∷ [] → take (length bytes - used) (drop used bytes) ≡ octets
+behind_length bytes octets count used small e few front =
+    let whole : decimal count ++ 58 ∷ drop used bytes ≡ decimal (length octets) ++ 58 ∷ octets =
+    sym (append_assoc (decimal count) (58 ∷ []) (drop used bytes)) ∙ ap (λ bs. bs ++ drop used bytes) (sym front)
+    ∙ take-append-drop used bytes ∙ e in
+    take_rest bytes used
+    ∙ elim (behind_digits count (length octets) 58 (drop used bytes) octets (omega arith) (omega arith) whole) [
+      | inl h ↦ h.2
+      | inr h ↦ absurd (omega arith)
+    ]
+
+-- a length that is cut short or bad begins no atom's text
+pub not_cut : (bytes octets : List ℕ) (value : ℕ) → length octets ≤ 262144 → bytes ≡ atom_text octets →
+    value ≤ 262144 → bytes ≡ decimal value → ⊥
+not_cut bytes octets value small e few digits =
+    cut_has_none bytes (Atom octets) [] small (e ∙ sym (append-nil (atom_text octets)))
+    (atom_is_cut at_start bytes tt (omega arith) (cut_in_length bytes value few digits))
+
+pub not_bad : (bytes octets : List ℕ) (at value : ℕ) (why : Why) → length octets ≤ 262144 →
+    bytes ≡ atom_text octets → at < length bytes → value ≤ 262144 → take at bytes ≡ decimal value →
+    length_fault value (slice_index bytes at) ≡ Some why → ⊥
+not_bad bytes octets at value why small e within few digits fault =
+    bad_has_none bytes at (Atom octets) [] small (e ∙ sym (append-nil (atom_text octets)))
+    (is_bad_length at_start bytes at value why tt (omega arith) within few digits fault).0
+
+pub members-in_front : (tree : Sexp) (rest : Forest) → members_of (in_front tree rest) ≡ tree ∷ members_of rest
+members-in_front (Atom octets) rest = refl
+members-in_front (Branch row) rest = refl

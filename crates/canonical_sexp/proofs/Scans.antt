@@ -1,0 +1,200 @@
+-- The pass over open lists, which keeps the counts of their members.
+use Rattle.std.proofs.Common.{◌≡◌, ◌∙◌, ℕ, ◌+◌, ◌-◌, ◌<◌, ◌≤◌, None, List, [], ◌∷◌, ◌++◌, length, take, drop, map, set}
+use Rattle.std.proofs.Common.{get_or, refl, ap, sym, subst, arith, length-append}
+use Rattle.std.proofs.lemmas.List.{take_more, take_more_set, take-take, take_at, get_or_push, take_rest, length-set}
+use Rattle.canonical_sexp.specs.declared.sexp.Sexp.{Sexp}
+use Rattle.canonical_sexp.specs.declared.sexp.Sexp.TheVariants.{Atom, List as Branch}
+use Rattle.canonical_sexp.specs.declared.scanning.Extent.{Extent}
+use Rattle.canonical_sexp.specs.declared.read.Read.TheVariants as read
+use Rattle.canonical_sexp.specs.Reading.{Answers}
+use Rattle.canonical_sexp.specs.declared.scanning.Extent.TheVariants as scan
+use Rattle.canonical_sexp.proofs.Places.{atom_is_cut, is_bad_length}
+use Rattle.canonical_sexp.specs.inside.Scanning.{IsAtomScan, Scans}
+use Rattle.canonical_sexp.specs.Forest.{Forest, no_trees, count_of, joined}
+use Rattle.canonical_sexp.specs.Sexp.{in_front}
+use Rattle.canonical_sexp.specs.Text.{atom_text}
+use Rattle.canonical_sexp.specs.Causes.{token_fault, at_start}
+use Rattle.canonical_sexp.proofs.Rows.{count_of-joined, count_of-one}
+use Rattle.canonical_sexp.proofs.Opened.{AreOpenWithin-pop}
+use Rattle.canonical_sexp.proofs.Steps.{AreRead, step_open, step_close, step_atom}
+
+-- the bytes so far are those of some open lists, `depth` around the innermost, which has `members` members
+pub record AreScanned (bytes : List ℕ) (at : ℕ) (counts : List ℕ) (depth members : ℕ) : Type 0 where
+  pub outer : List Forest
+  pub current : Forest
+  pub so_far : AreRead bytes at outer current
+  pub depth_is : depth ≡ length outer
+  pub counts_are : take depth counts ≡ map count_of outer
+  pub members_is : members ≡ count_of current
+  pub size : length counts ≡ 8
+
+-- one list more that is open
+counts-push : (outer : List Forest) (f : Forest) →
+    map count_of (outer ++ f ∷ []) ≡ map count_of outer ++ count_of f ∷ []
+counts-push [] f = refl
+counts-push (g ∷ outer) f = ap (λ ns. count_of g ∷ ns) (counts-push outer f)
+
+length-counts : (outer : List Forest) → length (map count_of outer) ≡ length outer
+length-counts [] = refl
+length-counts (f ∷ outer) = omega (arith, length-counts outer)
+
+-- the innermost of the lists around
+last_of : (outer : List Forest) → 0 < length outer →
+    (around : List Forest) × (last : Forest) × (outer ≡ around ++ last ∷ [])
+last_of [] some = absurd (omega arith)
+last_of (f ∷ []) some = ([], f, refl)
+last_of (f ∷ (g ∷ outer)) some = let below = last_of (g ∷ outer) (omega arith) in
+    (f ∷ below.0, below.1, ap (λ fs. f ∷ fs) below.2)
+
+pub scan_open : (bytes : List ℕ) (at : ℕ) (counts : List ℕ) (depth members : ℕ) →
+    AreScanned bytes at counts depth members → at < length bytes → get_or bytes at 0 ≡ 40 →
+    token_fault (depth + 1) members 40 ≡ None → depth < 8 →
+    AreScanned bytes (at + 1) (set counts depth members) (depth + 1) 0
+scan_open bytes at counts depth members h within is fault deep =
+    record {
+      outer = h.outer ++ h.current ∷ [];
+      current = no_trees;
+      so_far = step_open bytes at h.outer h.current (depth + 1) members h.so_far within is (omega (arith, h.depth_is))
+          h.members_is fault;
+      depth_is = omega (arith, h.depth_is, length-append h.outer (h.current ∷ []));
+      counts_are = take_more_set counts depth members (omega (arith, h.size))
+          ∙ ap (λ ns. ns ++ members ∷ []) h.counts_are ∙ ap (λ n. map count_of h.outer ++ n ∷ []) h.members_is
+          ∙ sym (counts-push h.outer h.current);
+      members_is = refl;
+      size = length-set counts depth members ∙ h.size;
+    }
+
+-- the list around the innermost, and the lists around that
+pub record HasAround (bytes : List ℕ) (at : ℕ) (counts : List ℕ) (depth members : ℕ) : Type 0 where
+  pub outer : List Forest
+  pub around : Forest
+  pub current : Forest
+  pub so_far : AreRead bytes at (outer ++ around ∷ []) current
+  pub depth_is : depth - 1 ≡ length outer
+  pub counts_are : take (depth - 1) counts ≡ map count_of outer
+  pub count_is : get_or counts (depth - 1) 0 ≡ count_of around
+  pub room : count_of around < 16384
+
+pub has_around : (bytes : List ℕ) (at : ℕ) (counts : List ℕ) (depth members : ℕ) →
+    AreScanned bytes at counts depth members → 0 < depth → HasAround bytes at counts depth members
+has_around bytes at counts depth members h some =
+    let split = last_of h.outer (omega (arith, h.depth_is)) in
+    let outer : List Forest = split.0 in
+    let around : Forest = split.1 in
+    let P : List Forest → Type 0 = λ fs. AreRead bytes at fs h.current in
+    let so_far : AreRead bytes at (outer ++ around ∷ []) h.current = subst P split.2 h.so_far in
+    let depth_is : depth - 1 ≡ length outer =
+    omega (arith, h.depth_is, ap length split.2, length-append outer (around ∷ [])) in
+    let back : depth - 1 + 1 ≡ depth = omega arith in
+    let counts_are : take depth counts ≡ map count_of outer ++ count_of around ∷ [] =
+    h.counts_are ∙ ap (map count_of) split.2 ∙ counts-push outer around in
+    let long : length (map count_of outer) ≡ depth - 1 = length-counts outer ∙ sym depth_is in
+    let nested = AreOpenWithin-pop 8 outer around h.current so_far.nested in
+    let enough : depth - 1 < length counts = omega (arith, nested.2.0, depth_is, h.size) in
+    let fewer : take (depth - 1) counts ≡ map count_of outer =
+    sym (take-take (depth - 1) depth counts (omega arith)) ∙ ap (take (depth - 1)) counts_are
+    ∙ take_at (map count_of outer) (count_of around ∷ []) (depth - 1) long in
+    record {
+      outer = outer;
+      around = around;
+      current = h.current;
+      so_far = so_far;
+      depth_is = depth_is;
+      counts_are = fewer;
+      count_is = sym (get_or_push (take (depth - 1) counts) (get_or counts (depth - 1) 0) 0 (depth - 1)
+          (ap length fewer ∙ long))
+          ∙ ap (λ ns. get_or ns (depth - 1) 0) (sym (take_more counts (depth - 1) 0 enough)
+          ∙ ap (λ n. take n counts) back ∙ counts_are)
+          ∙ get_or_push (map count_of outer) (count_of around) 0 (depth - 1) long;
+      room = nested.1;
+    }
+
+pub scan_close : (bytes : List ℕ) (at : ℕ) (counts : List ℕ) (depth members : ℕ) →
+    AreScanned bytes at counts depth members → at < length bytes → get_or bytes at 0 ≡ 41 → 0 < depth →
+    AreScanned bytes (at + 1) counts (depth - 1) (get_or counts (depth - 1) 0 + 1)
+scan_close bytes at counts depth members h within is some =
+    let a : HasAround bytes at counts depth members = has_around bytes at counts depth members h some in
+    record {
+      outer = a.outer;
+      current = joined a.around (in_front (Branch a.current) no_trees);
+      so_far = step_close bytes at a.outer a.around a.current a.so_far within is;
+      depth_is = a.depth_is;
+      counts_are = a.counts_are;
+      members_is = omega (
+        arith,
+        a.count_is,
+        count_of-joined a.around (in_front (Branch a.current) no_trees),
+        count_of-one (Branch a.current),
+      );
+      size = h.size;
+    }
+
+pub scan_atom_step : (bytes : List ℕ) (at used : ℕ) (counts : List ℕ) (depth members : ℕ) (octets : List ℕ) →
+    AreScanned bytes at counts depth members → members < 16384 → length octets ≤ 262144 →
+    used ≤ length (drop at bytes) → take used (drop at bytes) ≡ atom_text octets →
+    AreScanned bytes (at + used) counts depth (members + 1)
+scan_atom_step bytes at used counts depth members octets h room small within e =
+    record {
+      outer = h.outer;
+      current = joined h.current (in_front (Atom octets) no_trees);
+      so_far = step_atom bytes at used h.outer h.current octets h.so_far (omega (arith, h.members_is)) small within e;
+      depth_is = h.depth_is;
+      counts_are = h.counts_are;
+      members_is = omega (
+        arith,
+        h.members_is,
+        count_of-joined h.current (in_front (Atom octets) no_trees),
+        count_of-one (Atom octets),
+      );
+      size = h.size;
+    }
+
+-- the outermost list ends
+whole : (bytes : List ℕ) (at : ℕ) (outer : List Forest) (current : Forest) → AreRead bytes at outer current →
+    at < length bytes → get_or bytes at 0 ≡ 41 → 0 ≡ length outer →
+    (tree : Sexp) × Answers bytes (read.Whole tree (at + 1))
+whole bytes at [] current h within is none = (
+  Branch current,
+  (
+    h.nested,
+    omega arith,
+    take_more bytes at 0 within ∙ ap (λ k. take at bytes ++ k ∷ []) is ∙ ap (λ bs. bs ++ 41 ∷ []) h.so_far,
+  ),
+)
+whole bytes at (f ∷ outer) current h within is none = absurd (omega arith)
+
+pub scan_whole : (bytes : List ℕ) (at : ℕ) (counts : List ℕ) (depth members : ℕ) →
+    AreScanned bytes at counts depth members → at < length bytes → get_or bytes at 0 ≡ 41 → depth ≡ 0 →
+    (tree : Sexp) × Answers bytes (read.Whole tree (at + 1))
+scan_whole bytes at counts depth members h within is none =
+    whole bytes at h.outer h.current h.so_far within is (omega (arith, h.depth_is))
+
+-- at the first parenthesis
+pub scan_begun : (bytes : List ℕ) → 0 < length bytes → get_or bytes 0 0 ≡ 40 →
+    AreScanned bytes 1 (0 ∷ 0 ∷ 0 ∷ 0 ∷ 0 ∷ 0 ∷ 0 ∷ 0 ∷ []) 0 0
+scan_begun [] some is = absurd (omega arith)
+scan_begun (c ∷ bytes) some is =
+    record {
+      outer = [];
+      current = no_trees;
+      so_far = record { within = omega arith; so_far = ap (λ k. k ∷ []) is; nested = (omega arith, omega arith, tt) };
+      depth_is = refl;
+      counts_are = refl;
+      members_is = refl;
+      size = refl;
+    }
+
+-- what `scan_atom` answers of the bytes from a place on
+pub scanned_from : (bytes : List ℕ) (at : ℕ) (r s : Extent) →
+    IsAtomScan (take (length bytes - at) (drop at bytes)) r → r ≡ s → IsAtomScan (drop at bytes) s
+scanned_from bytes at r s h e =
+    let P : List ℕ → Type 0 = λ bs. IsAtomScan bs s in
+    let Q : Extent → Type 0 = λ answer. IsAtomScan (take (length bytes - at) (drop at bytes)) answer in
+    subst P (take_rest bytes at) (subst Q e h)
+
+-- an atom alone
+pub atom_scan : (bytes : List ℕ) (answer : Extent) → IsAtomScan bytes answer → Scans bytes answer
+atom_scan bytes (scan.Whole used) h = (Atom h.0, (h.1, h.2, h.3))
+atom_scan bytes scan.Cut h = atom_is_cut at_start bytes tt (omega arith) h
+atom_scan bytes (scan.Bad at why) h =
+    is_bad_length at_start bytes at h.2 why tt (omega arith) h.0 h.3 h.4 h.5

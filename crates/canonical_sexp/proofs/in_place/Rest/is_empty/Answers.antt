@@ -1,0 +1,15 @@
+use Rattle.std.proofs.Common.{◌≡◌, ◌∙◌, ap, sym, length, arith}
+use Rattle.std.proofs.lemmas.Bool.Decides.{nat_tests}
+use Rattle.canonical_sexp.specs.Text.{texts_of}
+use Rattle.canonical_sexp.proofs.InPlace.{no_bytes_left}
+use Rattle.canonical_sexp.proofs.in_place.Rest.is_empty.Goals as goal
+
+pub returns : goal.returns
+returns c = (
+  λ empty.
+      let none : length c.bytes.result.now ≡ 0 = grind (arith, nat_tests) in
+      no_bytes_left c.args.self.now c.bytes.ensures.0 (sym (ap length c.bytes.ensures.1) ∙ none),
+  λ is.
+      let none : length c.bytes.result.now ≡ 0 = ap length (c.bytes.ensures.1 ∙ ap texts_of is) in
+      grind (arith, nat_tests),
+)

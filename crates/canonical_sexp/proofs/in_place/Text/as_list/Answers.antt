@@ -1,0 +1,21 @@
+use Rattle.std.proofs.Common.{◌∙◌, ap, sym, subst}
+use Rattle.canonical_sexp.specs.Text.{Fits}
+use Rattle.canonical_sexp.specs.declared.sexp.Sexp.{Sexp}
+use Rattle.canonical_sexp.specs.declared.sexp.Sexp.TheVariants.{List as Branch}
+use Rattle.canonical_sexp.proofs.InPlace.{listed, row_spelt, same_members}
+use Rattle.canonical_sexp.proofs.in_place.Text.as_list.Goals as goal
+
+pub new-requires : goal.new-requires
+new-requires c =
+    let list = listed c.bytes-bytes.result.now c.args.self.now c.bytes-bytes.ensures.0 c.bytes-bytes.ensures.1
+    c.if-bytes-ne40.false in
+    let P : Sexp → Type 0 = λ t. Fits t in
+    row_spelt _ list.0 (subst P list.1.0 c.bytes-bytes.ensures.0) list.1.1
+
+pub returns-clause-found : goal.returns-clause-found
+returns-clause-found c =
+    let list = listed c.bytes-bytes.result.now c.args.self.now c.bytes-bytes.ensures.0 c.bytes-bytes.ensures.1
+    c.if-bytes-ne40.false in
+    let P : Sexp → Type 0 = λ t. Fits t in
+    list.1.0 ∙ ap Branch (same_members list.0 c.new.result (subst P list.1.0 c.bytes-bytes.ensures.0) c.new.ensures.0
+    (sym list.1.1 ∙ c.new.ensures.1))

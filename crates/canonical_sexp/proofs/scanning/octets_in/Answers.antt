@@ -1,0 +1,28 @@
+use Rattle.std.proofs.Common.{◌∙◌, ap, sym, arith, length}
+use Rattle.canonical_sexp.specs.Text.{atom_text}
+use Rattle.canonical_sexp.proofs.InPlace.{begins_low, is_atom, behind_length, not_cut, not_bad}
+use Rattle.canonical_sexp.proofs.scanning.octets_in.Goals as goal
+
+pub returns-then-bytes-eq40-clause-none : goal.returns-then-bytes-eq40-clause-none
+returns-then-bytes-eq40-clause-none c = λ octets small e.
+    begins_low c.args.bytes.now octets small e c.if-bytes-eq40.true
+
+pub read_length-requires-clause-digit : goal.read_length-requires-clause-digit
+read_length-requires-clause-digit c =
+    (is_atom c.args.bytes.now c.requires.0 c.requires.1.0 c.requires.1.1 c.if-bytes-eq40.false).1.2
+
+pub returns-in-Whole-clause-found : goal.returns-in-Whole-clause-found
+returns-in-Whole-clause-found c =
+    let atom = is_atom c.args.bytes.now c.requires.0 c.requires.1.0 c.requires.1.1 c.if-bytes-eq40.false in
+    let same = behind_length c.args.bytes.now atom.0 c.in-Whole.octets c.in-Whole.used atom.1.0 atom.1.1
+    c.in-Whole.ensures.0 c.in-Whole.ensures.2 in
+    (omega (arith, ap length same, atom.1.0), atom.1.1 ∙ ap atom_text (sym same))
+
+pub returns-in-Cut-clause-none : goal.returns-in-Cut-clause-none
+returns-in-Cut-clause-none c = λ octets small e.
+    not_cut c.args.bytes.now octets c.in-Cut.ensures.0 small e c.in-Cut.ensures.1 c.in-Cut.ensures.2
+
+pub returns-in-Bad-clause-none : goal.returns-in-Bad-clause-none
+returns-in-Bad-clause-none c = λ octets small e.
+    not_bad c.args.bytes.now octets c.in-Bad.at c.in-Bad.ensures.2 c.in-Bad.why small e c.in-Bad.ensures.0
+    c.in-Bad.ensures.3 c.in-Bad.ensures.4 c.in-Bad.ensures.5

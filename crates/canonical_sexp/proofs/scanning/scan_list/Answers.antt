@@ -1,0 +1,79 @@
+use Rattle.std.proofs.Common.{◌≡◌, ◌∙◌, ◌+◌, ◌<◌, None, drop, arith, ap, sym}
+use Rattle.std.proofs.lemmas.Bool.Decides.{nat_tests}
+use Rattle.canonical_sexp.specs.Causes.{token_fault}
+use Rattle.canonical_sexp.specs.declared.scanning.Extent.TheVariants as scan
+use Rattle.canonical_sexp.specs.inside.Scanning.{IsAtomScan}
+use Rattle.canonical_sexp.proofs.Steps.{token_exit, cut_exit, length_exit, end_exit, atom_some, open_room}
+use Rattle.canonical_sexp.proofs.Scans.{scan_begun, scan_open, scan_close, scan_atom_step, scan_whole}
+use Rattle.canonical_sexp.proofs.Scans.{has_around, scanned_from}
+use Rattle.canonical_sexp.proofs.scanning.scan_list.Goals as goal
+
+pub loop-at-init : goal.loop-at-init
+loop-at-init c = scan_begun c.args.bytes.now c.requires.some c.requires.open
+
+pub returns-in-Some : goal.returns-in-Some
+returns-in-Some c =
+    token_exit c.args.bytes.now c.loop-at.at c.loop-at.invariant.outer c.loop-at.invariant.current (c.loop-at.outer + 1)
+    c.loop-at.members c.in-Some.why c.loop-at.invariant.so_far c.loop-at-test.true
+    (omega (arith, c.loop-at.invariant.depth_is)) c.loop-at.invariant.members_is c.in-Some.ensures
+
+pub loop-at-preserved-in-40 : goal.loop-at-preserved-in-40
+loop-at-preserved-in-40 c =
+    let fault : token_fault (c.loop-at.outer + 1) c.loop-at.members 40 ≡ None =
+    ap (token_fault (c.loop-at.outer + 1) c.loop-at.members) (sym c.in-40.is) ∙ sym c.in_default.ensures in
+    let room : (c.loop-at.members < 16384) × (c.loop-at.outer + 1 < 8) =
+    open_room (c.loop-at.outer + 1) c.loop-at.members fault in
+    scan_open c.args.bytes.now c.loop-at.at c.loop-at.counts c.loop-at.outer c.loop-at.members c.loop-at.invariant
+    c.loop-at-test.true c.in-40.is fault (omega (arith, room.1))
+
+pub returns-then-outer-eq0 : goal.returns-then-outer-eq0
+returns-then-outer-eq0 c =
+    scan_whole c.args.bytes.now c.loop-at.at c.loop-at.counts c.loop-at.outer c.loop-at.members c.loop-at.invariant
+    c.loop-at-test.true c.in-41.is c.if-outer-eq0.true
+
+pub overflow_add-members : goal.overflow_add-members
+overflow_add-members c =
+    let around = has_around c.args.bytes.now c.loop-at.at c.loop-at.counts c.loop-at.outer c.loop-at.members
+    c.loop-at.invariant (grind (arith, nat_tests)) in
+    omega (arith, around.count_is, around.room)
+
+pub loop-at-preserved-in-41 : goal.loop-at-preserved-in-41
+loop-at-preserved-in-41 c =
+    scan_close c.args.bytes.now c.loop-at.at c.loop-at.counts c.loop-at.outer c.loop-at.members c.loop-at.invariant
+    c.loop-at-test.true c.in-41.is (grind (arith, nat_tests))
+
+pub loop-at-smaller : goal.loop-at-smaller
+loop-at-smaller c =
+    let whole : IsAtomScan (drop c.loop-at.at c.args.bytes.now) (scan.Whole c.in-Whole.used) =
+    scanned_from c.args.bytes.now c.loop-at.at _ _ c.scan_atom.ensures c.in-Whole.is in
+    let some : 0 < c.in-Whole.used = atom_some whole.0 (drop c.loop-at.at c.args.bytes.now) c.in-Whole.used whole.3 in
+    omega arith
+
+pub loop-at-preserved : goal.loop-at-preserved
+loop-at-preserved c =
+    let whole : IsAtomScan (drop c.loop-at.at c.args.bytes.now) (scan.Whole c.in-Whole.used) =
+    scanned_from c.args.bytes.now c.loop-at.at _ _ c.scan_atom.ensures c.in-Whole.is in
+    let room : c.loop-at.members < 16384 = grind (arith, nat_tests) in
+    scan_atom_step c.args.bytes.now c.loop-at.at c.in-Whole.used c.loop-at.counts c.loop-at.outer c.loop-at.members
+    whole.0 c.loop-at.invariant room whole.1 whole.2 whole.3
+
+pub returns-in-Cut : goal.returns-in-Cut
+returns-in-Cut c =
+    let cut : IsAtomScan (drop c.loop-at.at c.args.bytes.now) scan.Cut =
+    scanned_from c.args.bytes.now c.loop-at.at _ _ c.scan_atom.ensures c.in-Cut.is in
+    let room : c.loop-at.members < 16384 = grind (arith, nat_tests) in
+    cut_exit c.args.bytes.now c.loop-at.at c.loop-at.invariant.outer c.loop-at.invariant.current
+    c.loop-at.invariant.so_far (omega (arith, room, c.loop-at.invariant.members_is)) cut
+
+pub returns-in-Bad : goal.returns-in-Bad
+returns-in-Bad c =
+    let bad : IsAtomScan (drop c.loop-at.at c.args.bytes.now) (scan.Bad c.in-Bad.place c.in-Bad.why) =
+    scanned_from c.args.bytes.now c.loop-at.at _ _ c.scan_atom.ensures c.in-Bad.is in
+    let room : c.loop-at.members < 16384 = grind (arith, nat_tests) in
+    length_exit c.args.bytes.now c.loop-at.at c.in-Bad.place bad.2 c.loop-at.invariant.outer
+    c.loop-at.invariant.current c.in-Bad.why c.loop-at.invariant.so_far
+    (omega (arith, room, c.loop-at.invariant.members_is)) bad.0 bad.3 bad.4 bad.5
+
+pub returns : goal.returns
+returns c = end_exit c.args.bytes.now c.loop-at.at c.loop-at.invariant.outer c.loop-at.invariant.current
+    c.loop-at.invariant.so_far c.loop-at-test.false

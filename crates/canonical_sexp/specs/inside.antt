@@ -1,0 +1,5 @@
+pub mod SexpFalls
+pub mod Tokens
+pub mod Scanning
+pub mod Spelt
+pub mod Writing
