@@ -13,8 +13,9 @@ PROGRAM is the built `world_orders`. OTHER is a folder with two Python modules:
     graph   Graph(entries), with the lists `strays`, `survivors` and `gaps` (digests, ascending) and the call
             precedes(place, place) of places among the survivors
 
-An entry has `maker`, `number`, `stamp`, `names`, `digest` and `text`. The first form prints how many worlds
-agreed, and shows the first that doesn't. The second prints the answer to the world on standard input.
+An entry has `maker`, `number`, `stamp`, `names`, `digest` and `text`. Each world is asked twice, for the answers by
+the definitions and for the order by rows of ancestors. The first form prints how many worlds agreed, and shows the
+first that doesn't. The second prints the answer to the world on standard input.
 """
 
 import argparse
@@ -62,7 +63,8 @@ class Other:
         if number < len(sent):
             self.worlds.hear_answer(at, world.histories[at], LOG, sent[number])
 
-    def answer(self, lines):
+    def play(self, lines):
+        """The world after its steps, what was sent, and what is given."""
         world = SimpleNamespace(histories=[], stopped=[])
         lost, forged = set(), []
         for line in lines:
@@ -84,7 +86,20 @@ class Other:
                 forged.append(entry_of(*numbers[:3], (digest_of(*pair) for pair in pairs)))
         sent = [e for history in world.histories for e in history.sent()]
         given = [e for e in sent if (e.maker, e.number) not in lost] + forged
-        return "".join(line + "\n" for line in self.orders(world, sent, given))
+        return world, sent, given
+
+    def answer(self, lines):
+        return "".join(line + "\n" for line in self.orders(*self.play(lines)))
+
+    def answer_by_rows(self, lines):
+        """The order of each two survivors, where it isn't false, in any order."""
+        _, _, given = self.play(lines)
+        graph = self.graphs.Graph(given)
+        words = {True: "precedes", None: "unknown"}
+        return sorted(f"{words[before]} {f.maker} {f.number} {e.maker} {e.number}"
+                      for x, e in enumerate(graph.survivors)
+                      for y, f in enumerate(graph.survivors)
+                      if (before := graph.before(y, x)) is not False)
 
     def orders(self, world, sent, given):
         for m, history in enumerate(world.histories):
@@ -137,6 +152,11 @@ def random_world(rng):
     return lines
 
 
+def ask(command, lines):
+    return subprocess.run(command, input="".join(line + "\n" for line in lines),
+                          capture_output=True, text=True, timeout=120)
+
+
 def main():
     parser = argparse.ArgumentParser(description=__doc__.splitlines()[0])
     parser.add_argument("paths", nargs="+", help="PROGRAM OTHER, or OTHER after --answer")
@@ -149,15 +169,18 @@ def main():
         sys.stdout.write(other.answer(sys.stdin.read().splitlines()))
         return 0
     agreed = 0
-    seen = {"frontier": 0, "held": 0, "stray": 0, "gap": 0, "precedes": 0}
+    seen = {"frontier": 0, "held": 0, "stray": 0, "gap": 0, "precedes": 0, "unknown": 0}
     for turn in range(args.count):
         lines = random_world(random.Random(f"{args.seed} {turn}"))
         wanted = other.answer(lines)
-        answered = subprocess.run([args.paths[0]], input="".join(line + "\n" for line in lines),
-                              capture_output=True, text=True, timeout=120)
-        if answered.returncode == 0 and answered.stdout == wanted:
+        by_rows = other.answer_by_rows(lines)
+        told = ask([args.paths[0]], lines)
+        told_by_rows = ask([args.paths[0], "rows"], lines)
+        if (told.returncode == told_by_rows.returncode == 0 and told.stdout == wanted
+                and sorted(told_by_rows.stdout.splitlines()) == by_rows):
             agreed += 1
-            for line in wanted.splitlines():
+            unknown = [line for line in by_rows if line.startswith("unknown")]
+            for line in wanted.splitlines() + unknown:
                 seen[line.split()[0]] += 1
         elif agreed == turn:
             print("\n".join(lines))
@@ -165,6 +188,10 @@ def main():
             print(answered.stdout)
             print("--- wanted")
             print(wanted)
+            print("--- by rows", told_by_rows.returncode)
+            print(told_by_rows.stdout)
+            print("--- wanted by rows")
+            print("\n".join(by_rows))
     print(f"{agreed} of {args.count} worlds agreed;",
           ", ".join(f"{count} {kind}" for kind, count in seen.items()))
     return 0 if agreed == args.count else 1

@@ -1,6 +1,7 @@
 //! Reads a small world as a list of steps, and prints its orders: of each machine the frontier,
 //! which entries were held before which, and of the entries that are given the strays, the gaps,
-//! and which precede which. Each answer is that of a call whose contract is the definition.
+//! and which precede which. Each answer is that of a call whose contract is the definition. With
+//! the word `rows` it prints the order of the survivors by rows of their ancestors instead.
 #![tactic(auto)]
 
 ghost use Rattle.std.specs.Prelude.{◌≡◌, ◌<◌, length};
@@ -9,17 +10,19 @@ ghost use Rattle.entry_order.specs.World.{start};
 ghost use Rattle.world_orders.specs.Numbered.{shown};
 
 mod entry;
+mod rows;
 mod script;
 
 use entry::{Entry, LOG};
 use entry_order::Knot;
+use rows::print_rows;
 use script::Script;
 use small_worlds::{
     Process, Sender, all_sent, gaps, held_before, held_frontier, is_stray, precedes, run,
     sent_count, start, survivors,
 };
 use std::alloc::{AllocError, Global};
-use std::io;
+use std::{env, io};
 
 fn print_frontiers(rt: &impl Print, alloc: Global, machines: &[Process<Entry>]) -> io::Result<()> {
     for (place, machine) in machines.iter().enumerate() {
@@ -114,17 +117,21 @@ fn given_of(
     Ok(given)
 }
 
-// Plays the steps and prints all orders.
+// Plays the steps and prints all orders, or those by rows.
 fn print_all(
     rt: &impl Print,
     alloc: Global,
     machines: &mut [Process<Entry>],
     script: &Script,
+    by_rows: bool,
 ) -> io::Result<()>
     requires { machines.old ≡ start (length machines.old) }
 {
     run(alloc, LOG, machines, &script.steps)?;
     let given = given_of(alloc, machines, script)?;
+    if by_rows {
+        return print_rows(rt, alloc, &given);
+    }
     print_frontiers(rt, alloc, machines)?;
     print_held_before(rt, alloc, machines)?;
     print_strays(rt, &given)?;
@@ -141,7 +148,8 @@ fn main(rt: HostRuntime) -> anyhow::Result<()> {
             return Ok(());
         }
     }
+    let by_rows = env::args(&rt)?.skip(1).any(|word| word.as_str() == "rows");
     let mut machines = start(alloc, script.machines)?;
-    print_all(&rt, alloc, &mut machines, &script)?;
+    print_all(&rt, alloc, &mut machines, &script, by_rows)?;
     Ok(())
 }

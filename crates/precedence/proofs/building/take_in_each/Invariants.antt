@@ -1,0 +1,13 @@
+use Rattle.std.proofs.Common.{◌≡◌, ℕ, ◌||◌, ◌==◌, length, take}
+use Rattle.std.specs.List.{list_any}
+use Rattle.precedence.specs.Bits.{has_bit, row_has}
+use Rattle.precedence.specs.inside.Words.{words_below}
+use Rattle.precedence.proofs.building.take_in_each.Given as goal
+
+-- the parents so far are taken in
+abbrev pub invariant-loop-parent : goal.invariant-loop-parent
+invariant-loop-parent l = record {
+  long : length l.words ≡ words_below (length l.rows);
+  taken : (y : ℕ) → has_bit l.words y ≡ (has_bit l.fn.words y
+      || list_any (λ parent. (parent == y) || row_has l.rows parent y) (take l.parent-index l.parents));
+}
