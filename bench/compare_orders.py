@@ -184,8 +184,8 @@ def main():
                 seen[line.split()[0]] += 1
         elif agreed == turn:
             print("\n".join(lines))
-            print("--- the program answers", answered.returncode)
-            print(answered.stdout)
+            print("--- the program answers", told.returncode)
+            print(told.stdout)
             print("--- wanted")
             print(wanted)
             print("--- by rows", told_by_rows.returncode)
