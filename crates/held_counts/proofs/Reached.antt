@@ -17,9 +17,10 @@ use Rattle.entry_order.specs.Receipt.{IsOrderly}
 use Rattle.entry_order.specs.Forms.{IsChain}
 use Rattle.entry_order.proofs.Lists.{Contains-none, Contains-head, Contains-later, Contains-at, Contains-cons_cases}
 use Rattle.entry_order.proofs.Lists.{Contains-map, Contains-map_cases}
-use Rattle.entry_order.proofs.Orders.{along, was_sent, held_was_sent, next_of, sent_from_after, Contains-sent_cases}
+use Rattle.entry_order.proofs.Orders.{along, was_sent, held_was_sent, held_lower, next_of, sent_from_after, Contains-sent_cases}
+use Rattle.entry_order.proofs.Histories.{nth_split}
 use Rattle.entry_order.proofs.Stamps.{stamp_below}
-use Rattle.entry_order.proofs.Forms.{to_chain, lower}
+use Rattle.entry_order.proofs.Forms.{to_chain}
 use Rattle.entry_order.proofs.Machines.{nth_of_sent, in_world}
 use Rattle.held_counts.specs.Counts.{raised, taken_in, spread_one, spread, spread_times, is_held_before}
 
@@ -96,14 +97,6 @@ some_at (x ∷ xs) zero l = (x, refl)
 some_at (x ∷ xs) (suc i) l = some_at xs i (omega arith)
 
 module _ {T : Type 0} where
-  nth_split : (h : List (Event T)) (i : ℕ) (x : T) → slice_get (sent h) i ≡ Some x →
-      (p : List (Event T)) × (l : List (Event T)) × (h ≡ p ++ Sent x ∷ l) × (length (sent p) ≡ i)
-  nth_split [] i x e = cc
-  nth_split (Sent g ∷ h) zero x e = let same : g ≡ x = cc in ([], h, ap (λ u. Sent u ∷ h) same, refl)
-  nth_split (Sent g ∷ h) (suc i) x e =
-      let r = nth_split h i x e in (Sent g ∷ r.0, r.1, ap (λ u. Sent g ∷ u) r.2, ap suc r.3)
-  nth_split (Got g ∷ h) i x e = let r = nth_split h i x e in (Got g ∷ r.0, r.1, ap (λ u. Got g ∷ u) r.2, r.3)
-
   -- what was held when an earlier entry was sent is held when a later one is
   past_grows : (p q : List (Event T)) (e f : T) (l m : List (Event T)) (x : Event T) →
       p ++ Sent e ∷ l ≡ q ++ Sent f ∷ m → length (sent p) ≤ length (sent q) → Contains p x → Contains q x
@@ -512,9 +505,9 @@ module _ {T : Type 0} (node : T → Node) (w : World T) (orderly : IsOrderly nod
 
   -- stamps rise along a chain
   chain_stamps : (f : T) (gs : List T) (e : T) → IsChain w f gs e → (node f).stamp + length gs < (node e).stamp
-  chain_stamps f [] e (past, s, c) = let l = lower node w orderly past e s f c in omega arith
+  chain_stamps f [] e (past, s, c) = let l = held_lower node w orderly past e s f c in omega arith
   chain_stamps f (g ∷ gs) e (h, rest) =
-      let l = lower node w orderly h.0 g h.1 f h.2 in let r = chain_stamps g gs e rest in omega arith
+      let l = held_lower node w orderly h.0 g h.1 f h.2 in let r = chain_stamps g gs e rest in omega arith
 
   -- the count says whether the entry was held before
   pub is_held_before_right : (a i b j : ℕ) (f e : T) → slice_get (sent (history w a)) i ≡ Some f →

@@ -1,5 +1,5 @@
 use Rattle.std.proofs.Common.{◌∙◌}
-use Rattle.held_counts.proofs.Clocks.{greatest_stamp_held}
+use Rattle.entry_order.proofs.Held.{greatest_stamp_held}
 use Rattle.held_counts.proofs.stamps.clock.Goals as goal
 
 pub returns : goal.returns

@@ -1,6 +1,6 @@
 use Rattle.std.proofs.Common.{◌∙◌}
 use Rattle.std.proofs.lemmas.Result.{IfOk-weaker}
-use Rattle.small_worlds.proofs.Fusions.{frontier_held}
+use Rattle.entry_order.proofs.Held.{frontier_held}
 use Rattle.small_worlds.proofs.history.held_frontier.Goals as goal
 
 pub returns : goal.returns

@@ -1,5 +1,5 @@
 use Rattle.std.proofs.Common.{◌∙◌}
-use Rattle.small_worlds.proofs.Fusions.{has_digest_held}
+use Rattle.entry_order.proofs.Held.{has_digest_held}
 use Rattle.small_worlds.proofs.history.holds.Goals as goal
 
 pub returns : goal.returns
