@@ -9,6 +9,7 @@ use Rattle.lms_ots.specs.Parameters.{parameters, signature_len}
 use Rattle.lms_ots.specs.Digits.{coef, cksm}
 use Rattle.lms_ots.specs.Ots.{candidate_of, chain, digit_of, element_in, key_from_elements, message_hash, public_key}
 use Rattle.lms_ots.specs.Ots.{randomizer, randomizer_in, secret_element, signature_of, step, u16str, u32str}
+use Rattle.lms_ots.specs.inside.Elements.{signed_element}
 use Rattle.lms_ots.proofs.DigitLemmas.{coef_le}
 use Rattle.lms_ots.proofs.Pieces.{length-pieces, piece_at, same_pieces}
 
@@ -50,7 +51,12 @@ length-secret : (id seed : List ℕ) (q i : ℕ) → length (secret_element id q
 unfolding secret_element
 length-secret id seed q i = length-sha256 _
 
-length-randomizer : (id seed : List ℕ) (q : ℕ) → length (randomizer id q seed) ≡ 32
+-- an element of a signature has 32 bytes
+pub length-signed : (id seed digits : List ℕ) (q w i : ℕ) → length (signed_element id q seed digits w i) ≡ 32
+length-signed id seed digits q w i = length-chain id _ q i 0 (coef digits i w) (length-secret id seed q i)
+
+-- so has a randomizer
+pub length-randomizer : (id seed : List ℕ) (q : ℕ) → length (randomizer id q seed) ≡ 32
 unfolding randomizer
 length-randomizer id seed q = length-sha256 _
 

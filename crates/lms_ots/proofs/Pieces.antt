@@ -1,5 +1,5 @@
 -- Lists that are made of pieces.
-use Rattle.std.proofs.Common.{◌≡◌, ℕ, zero, suc, ◌+◌, ◌*◌, ◌<◌, List, [], ◌∷◌, ◌++◌, length, take, drop, refl, ap}
+use Rattle.std.proofs.Common.{◌≡◌, ℕ, zero, suc, ◌+◌, ◌-◌, ◌*◌, ◌<◌, ◌≤◌, List, [], ◌∷◌, ◌++◌, length, take, drop, refl, ap}
 use Rattle.std.proofs.Common.{◌∙◌, arith, add-zero, length-append, length-drop}
 use Rattle.std.proofs.lemmas.List.{append_assoc, append-nil, drop_all, take_all, take_at, take_more_set, length-set}
 use Rattle.std.proofs.lemmas.List.{drop-drop, drop_at}
@@ -35,6 +35,21 @@ step_bytes xs t j lx lt =
     drop_all 32 (drop 23 (slice_set xs 22 j))
     (omega (arith, length-drop 23 (slice_set xs 22 j), length-set xs 22 j)) in
     rw (rest, front, append-nil, append_assoc) refl
+
+-- bytes whose rest was filled
+pub filled_from : (a : ℕ) (xs ys : List ℕ) → a ≤ length xs → put_mid a (length xs - a) xs ys ≡ take a xs ++ ys
+filled_from a xs ys h =
+    let rest : post_of a (length xs - a) xs ≡ [] =
+    drop_all (length xs - a) (drop a xs) (omega (arith, length-drop a xs)) in
+    rw (rest, append-nil) refl
+
+-- two pieces that begin bytes
+pub two_begin : (a b x y : List ℕ) (m n : ℕ) → length x ≡ m → m + length y ≡ n → take (0 + length x) a ≡ x
+    → take (m + length y) b ≡ take m a ++ y → take n b ≡ x ++ y
+two_begin a b x y m n lx ln first second =
+    let first_len : 0 + length x ≡ m = omega arith in
+    let front : take m a ≡ x = rw first_len at first in
+    rw (front, ln) at second
 
 -- two pieces that fill an array
 pub two_writes : (a b x y : List ℕ) → length x ≡ 32 → length y ≡ 2 → length b ≡ 34 → take (0 + length x) a ≡ x

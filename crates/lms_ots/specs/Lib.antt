@@ -2,3 +2,5 @@ pub mod Parameters
 pub mod Width
 pub mod Digits
 pub mod Ots
+pub mod Words
+pub mod inside

@@ -1,4 +1,4 @@
-// The parameter sets.
+//! The parameter sets.
 ghost use Rattle.std.specs.Prelude.{◌≡◌, ◌≢◌, ◌-◌, ◌*◌, ◌/◌, ◌^◌, ◌<◌, ◌≤◌, IfSome, IfNone};
 ghost use Rattle.lms_ots.specs.Width.{IsWidth};
 
@@ -36,6 +36,7 @@ impl Parameters {
 
 impl OtsKind {
     ghost use Rattle.lms_ots.specs.Parameters.{parameters, signature_len};
+    ghost use Rattle.lms_ots.specs.Words.{kind_word};
 
     pub(crate) fn parameters(self) -> Parameters
         ensures table { result ≡ parameters self }
@@ -71,6 +72,32 @@ impl OtsKind {
             2 => Some(OtsKind::W2),
             3 => Some(OtsKind::W4),
             4 => Some(OtsKind::W8),
+            _ => None,
+        }
+    }
+
+    /// The set's word in texts: `w` and the width of a digit in bits.
+    pub fn word(self) -> &'static [u8]
+        ensures { result.now ≡ kind_word self }
+    {
+        match self {
+            OtsKind::W1 => b"w1",
+            OtsKind::W2 => b"w2",
+            OtsKind::W4 => b"w4",
+            OtsKind::W8 => b"w8",
+        }
+    }
+
+    /// The set whose word it is.
+    pub fn of_word(word: &[u8]) -> Option<OtsKind>
+        ensures known { IfSome result (λ kind. word.now ≡ kind_word kind) }
+        ensures unknown { IfNone result ((kind : OtsKind) → word.now ≢ kind_word kind) }
+    {
+        match word {
+            b"w1" => Some(OtsKind::W1),
+            b"w2" => Some(OtsKind::W2),
+            b"w4" => Some(OtsKind::W4),
+            b"w8" => Some(OtsKind::W8),
             _ => None,
         }
     }

@@ -1,8 +1,12 @@
-// Keys, signatures and candidates.
-ghost use Rattle.std.specs.Prelude.{◌≡◌, ◌≢◌, ◌↔◌, ℕ, ◌∷◌, ◌++◌, length, take, vec_len, IfOk, OnOk, IsErrOf};
+//! Keys, signatures and candidates.
+ghost use Rattle.std.specs.Prelude.{◌≡◌, ◌≢◌, ◌↔◌, ◌*◌, ◌++◌, length, take, vec_len};
+ghost use Rattle.std.specs.Prelude.{IfOk, OnOk, IsErrOf};
+ghost use Rattle.std.specs.List.{flat_map, range_with_len};
 ghost use Rattle.lms_ots.specs.Parameters.{parameters, signature_len};
 ghost use Rattle.lms_ots.specs.Digits.{cksm};
-ghost use Rattle.lms_ots.specs.Ots.{candidate_of, message_hash, public_key, randomizer, signature_of, u16str, u32str};
+ghost use Rattle.lms_ots.specs.Ots.{candidate_of, message_hash, public_key, randomizer};
+ghost use Rattle.lms_ots.specs.Ots.{signature_of, u16str, u32str};
+ghost use Rattle.lms_ots.specs.inside.Elements.{signed_element};
 
 use crate::chain::{chain, secret_element};
 use crate::digits::{checksum, digit};
@@ -10,17 +14,16 @@ use crate::kind::OtsKind;
 use crate::octets::{hasher, u16_bytes, u32_bytes, write_at};
 use sha2::{Digest, Sha256};
 use std::alloc::{AllocError, Global};
-use thiserror::Error;
 
 /// Want of memory.
 pub type Memory = AllocError;
 
 /// Why a signature has no candidate.
-#[derive(Clone, Copy, Debug, PartialEq, Eq, Error)]
+#[derive(Clone, Copy)]
 pub enum OtsFault {
-    #[error("the signature hasn't the length of its kind")]
+    /// The signature hasn't the length of its kind.
     WrongLength,
-    #[error("the signature has another typecode")]
+    /// The signature has another typecode.
     WrongType,
 }
 
@@ -58,18 +61,55 @@ pub fn ots_sign(
         s.items ≡ signature_of kind id.now q seed.now message.now) }
     ensures len { IfOk result (λ s. vec_len s ≡ signature_len kind) }
 {
-    let parameters = kind.parameters();
+    let mut signature = vec![in alloc; 0; kind.signature_len()]?;
+    ots_sign_into(&mut signature, kind, id, q, seed, message);
+    Ok(signature)
+}
+
+/// Fills `signature` with the signature of `message` under the one-time key `q` of `id`, as
+/// `ots_sign` makes it. It takes no memory.
+pub fn ots_sign_into(
+    signature: &mut [u8],
+    kind: OtsKind,
+    id: &[u8; 16],
+    q: u32,
+    seed: &[u8; 32],
+    message: &[u8],
+)
+    requires { length signature.old ≡ signature_len kind }
+    ensures { signature.new ≡ signature_of kind id.now q seed.now message.now }
+{
     let c = randomizer(id, q, seed);
     let digits = digits_of(kind, id, q, &c, message);
-    let mut signature = Vec::with_capacity(alloc, kind.signature_len())?;
-    signature.extend_from_slice(&u32_bytes(parameters.typecode))?;
-    signature.extend_from_slice(&c)?;
+    write_at(signature, 0, &u32_bytes(kind.typecode()));
+    write_at(signature, 4, &c);
+    write_elements(&mut signature[36..], kind, id, q, seed, &digits);
+}
+
+// Fills `elements` with those of the signature of these digits.
+fn write_elements(
+    elements: &mut [u8],
+    kind: OtsKind,
+    id: &[u8; 16],
+    q: u32,
+    seed: &[u8; 32],
+    digits: &[u8; 34],
+)
+    requires { length elements.old ≡ 32 * (parameters kind).p }
+    ensures { elements.new
+        ≡ flat_map (signed_element id.now q seed.now digits.now (parameters kind).w)
+        (range_with_len 0 (parameters kind).p) }
+{
+    let parameters = kind.parameters();
     'signed_elements: for i in 0..parameters.p {
         let secret = secret_element(id, q, seed, i);
-        let place = digit(&digits, usize::from(i), parameters.w);
-        signature.extend_from_slice(&chain(id, q, i, 0, place, secret))?;
+        let place = digit(digits, usize::from(i), parameters.w);
+        write_at(
+            elements,
+            32 * usize::from(i),
+            &chain(id, q, i, 0, place, secret),
+        );
     }
-    Ok(signature)
 }
 
 /// The public key under which `signature` would be one of `message`: RFC 8554, 4.6. It takes no

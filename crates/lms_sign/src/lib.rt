@@ -9,11 +9,13 @@ mod nodes;
 mod public;
 mod secret;
 mod verifying;
+mod words;
 
 pub use calls::sign_each;
 pub use public::{KeyFault, LmsPublic};
 pub use secret::{LmsSecret, Memory, SignFault};
 pub use verifying::verify;
+pub use words::{height_of_word, height_word};
 
 #[cfg(test)]
 mod tests;

@@ -1,12 +1,13 @@
-// Nodes of trees.
-ghost use Rattle.std.specs.Prelude.{◌≡◌, ◌+◌, ◌*◌, ◌/◌, ◌^◌, ◌<◌, ◌≤◌, ◌++◌, [], IfOk, OnOk, length, slice_index_or};
+//! Nodes of trees.
+ghost use Rattle.std.specs.Prelude.{◌≡◌, ◌+◌, ◌*◌, ◌/◌, ◌^◌, ◌<◌, ◌≤◌, [], IfOk, length};
+ghost use Rattle.std.specs.Prelude.{slice_index_or};
 ghost use Rattle.std.specs.List.{flat_map, range_with_len};
 ghost use Rattle.lms_sign.specs.Height.{IsHeight};
 ghost use Rattle.lms_sign.specs.Tree.{interior, leaf, sibling};
 ghost use Rattle.lms_sign.specs.Signs.{parent};
 ghost use Rattle.lms_sign.specs.Nodes.{HoldsFrom, HoldsTree};
 
-use lms_ots::{OtsKind, hasher, ots_public};
+use lms_ots::{OtsKind, hasher, ots_public, write_at};
 use sha2::Digest;
 use std::alloc::{AllocError, Global};
 
@@ -70,26 +71,20 @@ fn fill_parents(kind: OtsKind, height: u32, id: &[u8; 16], seed: &[u8; 32], node
     }
 }
 
-// Appends the siblings of the nodes above leaf `q`.
-pub(crate) fn push_path(
-    signature: &mut Vec<u8>,
-    nodes: &[[u8; 32]],
-    height: u32,
-    q: u32,
-) -> Result<(), AllocError>
+// Fills `path` with the siblings of the nodes above leaf `q`.
+pub(crate) fn write_path(path: &mut [u8], nodes: &[[u8; 32]], height: u32, q: u32)
     requires height { IsHeight height }
     requires count { length nodes.now ≡ 2 * 2 ^ height }
     requires index { q < 2 ^ height }
-    ensures { OnOk result (signature.new.items ≡ signature.old.items
-        ++ flat_map (λ i. slice_index_or nodes.now (sibling height q i) [])
-        (range_with_len 0 height)) }
+    requires room { length path.old ≡ 32 * height }
+    ensures { path.new ≡ flat_map (λ i. slice_index_or nodes.now (sibling height q i) [])
+        (range_with_len 0 height) }
 {
     let mut node = (leaf_count(height) + q) as usize;
-    'levels: for _level in 0..height {
-        signature.extend_from_slice(&nodes[node ^ 1])?;
+    'levels: for level in 0..height as usize {
+        write_at(path, 32 * level, &nodes[node ^ 1]);
         node /= 2;
     }
-    Ok(())
 }
 
 #[tactic(auto, unfolding(crate::specs::Tree::leaf))]

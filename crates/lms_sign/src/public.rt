@@ -1,4 +1,4 @@
-// Public keys.
+//! Public keys.
 ghost use Rattle.std.specs.Prelude.{◌≡◌, ◌≢◌, ◌↔◌, ◌+◌, ◌≤◌, ◌++◌, ℕ, length, take, drop, IfOk, IfSome, IfNone, IsErrOf};
 ghost use Rattle.std.specs.Int.{w32, from_be_bytes};
 ghost use Rattle.lms_ots.specs.declared.kind.OtsKind.{OtsKind};
@@ -9,19 +9,18 @@ ghost use Rattle.lms_sign.specs.Signs.{HasTypes};
 
 use lms_ots::{OtsKind, u32_bytes, write_at};
 use std::marker::Model;
-use thiserror::Error;
 
 /// Why bytes are no public key.
-#[derive(Clone, Copy, Debug, PartialEq, Eq, Error)]
+#[derive(Clone, Copy)]
 pub enum KeyFault {
-    #[error("a public key has 56 bytes")]
+    /// The bytes aren't 56.
     Length,
-    #[error("the key's type is unknown")]
+    /// One of the key's two types is unknown.
     UnknownType,
 }
 
 /// A public key: 56 bytes (RFC 8554, 5.3).
-#[derive(Clone, Copy, Debug, PartialEq, Eq)]
+#[derive(Clone, Copy)]
 pub struct LmsPublic {
     bytes: [u8; 56],
 }

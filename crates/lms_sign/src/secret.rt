@@ -1,12 +1,12 @@
-// Secret keys.
-ghost use Rattle.std.specs.Prelude.{◌≡◌, ◌==◌, ◌↔◌, ◌+◌, ◌^◌, ◌<◌, ◌≤◌, IfOk, OnOk, OnErr, IsErrOf};
+//! Secret keys.
+ghost use Rattle.std.specs.Prelude.{◌≡◌, ◌==◌, ◌↔◌, ◌+◌, ◌^◌, ◌<◌, ◌≤◌, IfOk, OnOk, OnErr, IsErrOf, length};
 ghost use Rattle.lms_sign.specs.Height.{IsHeight};
 ghost use Rattle.lms_sign.specs.Secret.{public_of, signed_by};
-ghost use Rattle.lms_sign.specs.Signs.{Signs, index_in};
+ghost use Rattle.lms_sign.specs.Signs.{Signs, index_in, lms_signature_len};
 
-use crate::nodes::{leaf_count, nodes_of, push_path};
+use crate::nodes::{leaf_count, nodes_of, write_path};
 use crate::public::{LmsPublic, lms_typecode};
-use lms_ots::{OtsKind, ots_sign, u32_bytes};
+use lms_ots::{OtsKind, ots_sign_into, u32_bytes, write_at};
 use std::alloc::{AllocError, Global};
 use std::marker::Model;
 use thiserror::Error;
@@ -15,7 +15,7 @@ use thiserror::Error;
 pub type Memory = AllocError;
 
 /// Why a secret key doesn't sign.
-#[derive(Clone, Copy, Debug, PartialEq, Eq, Error)]
+#[derive(Clone, Copy, Debug, Error)]
 pub enum SignFault {
     #[error("each index of the key has signed")]
     Spent,
@@ -139,14 +139,36 @@ impl LmsSecret {
         if self.next == leaf_count(self.height) {
             return Err(SignFault::Spent);
         }
-        let one_time = ots_sign(alloc, self.kind, &self.id, self.next, &self.seed, message)?;
-        let len = 4 + one_time.len() + 4 + 32 * self.height as usize;
-        let mut signature = Vec::with_capacity(alloc, len)?;
-        signature.extend_from_slice(&u32_bytes(self.next))?;
-        signature.extend_from_slice(&one_time)?;
-        signature.extend_from_slice(&u32_bytes(lms_typecode(self.height)))?;
-        push_path(&mut signature, &self.nodes, self.height, self.next)?;
+        let len = 4 + self.kind.signature_len() + 4 + 32 * self.height as usize;
+        let mut signature = vec![in alloc; 0; len]?;
+        self.write_signature(&mut signature, message);
         Ok(signature)
+    }
+
+    // Fills `signature` with that of the message with the next index.
+    fn write_signature(&self, signature: &mut [u8], message: &[u8])
+        requires room { length signature.old
+            ≡ lms_signature_len self.now.kind self.now.height }
+        requires left { self.now.next < 2 ^ self.now.height }
+        ensures { signature.new ≡ signed_by self.now message.now }
+    {
+        let type_at = 4 + self.kind.signature_len();
+        write_at(signature, 0, &u32_bytes(self.next));
+        ots_sign_into(
+            &mut signature[4..type_at],
+            self.kind,
+            &self.id,
+            self.next,
+            &self.seed,
+            message,
+        );
+        write_at(signature, type_at, &u32_bytes(lms_typecode(self.height)));
+        write_path(
+            &mut signature[type_at + 4..],
+            &self.nodes,
+            self.height,
+            self.next,
+        );
     }
 
     /// Uses the next index up.

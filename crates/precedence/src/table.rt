@@ -46,9 +46,8 @@ impl Rows {
         for node in 0..count {
             let parents = arrows.parents(node);
             let is_whole = is_whole(&whole, arrows.ragged(node), parents);
-            let row = row_of(alloc, &rows, parents)?;
-            rows.push(row)?;
-            whole.push(is_whole)?;
+            rows.push_reserved(row_of(alloc, &rows, parents)?);
+            whole.push_reserved(is_whole);
         }
         Ok(Rows { rows, whole })
     }

@@ -14,6 +14,6 @@ returns c =
     ≡ u16str (cksm c.args.kind (message_hash c.args.id.now c.args.q c.args.c.now c.args.message.now)) =
     c.u16_bytes.ensures ∙ ap u16str (c.checksum.ensures ∙ ap (cksm c.args.kind) hash) in
     let bytes = two_writes c.write_at.new.bytes c.write_at-2.new.bytes c.finalize-hash.result c.u16_bytes.result
-    (ap length hash ∙ length-sha256 _) (ap length sum) (omega arith) c.write_at.ensures c.write_at-2.ensures in
+    (ap length hash ∙ length-sha256 _) (ap length sum) (omega arith) c.write_at.ensures.written c.write_at-2.ensures.written in
     bytes ∙ ap (λ (x : List ℕ). x ++ c.u16_bytes.result) hash
     ∙ ap (λ (y : List ℕ). message_hash c.args.id.now c.args.q c.args.c.now c.args.message.now ++ y) sum
