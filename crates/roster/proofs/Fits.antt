@@ -1,9 +1,6 @@
 -- A roster's text is within the limits of canonical texts.
-use Rattle.std.proofs.Common.{◌≡◌, ℕ, ◌+◌, ◌≤◌, ◌<◌, List, [], ◌∷◌, length, map, All, refl, arith}
-use Rattle.std.specs.Prelude.{codes}
-use Rattle.std.proofs.lemmas.List.{length-map}
+use Rattle.std.proofs.Common.{◌≡◌, ◌≤◌, List, [], ◌∷◌, length, map, All, refl, arith}
 use Rattle.std.proofs.lemmas.List.Elements.{All-head, All-tail}
-use Rattle.canonical_sexp.specs.declared.sexp.Sexp.{Sexp}
 use Rattle.canonical_sexp.specs.Forest.{count_of}
 use Rattle.canonical_sexp.specs.Sexp.{forest_of}
 use Rattle.canonical_sexp.specs.Text.{AreWithin, Fits}
@@ -18,12 +15,14 @@ word_is_short Supervisor = omega arith
 word_is_short Booth = omega arith
 
 -- the trees of machines with names and keys
-posts_within : (machines : List Post) → All (λ (post : Post). IsName post.name) machines → All HasKey machines → AreWithin 7 (forest_of (map post_tree machines))
+posts_within : (machines : List Post) → All (λ (post : Post). IsName post.name) machines → All HasKey machines →
+    AreWithin 7 (forest_of (map post_tree machines))
 posts_within [] named keyed = tt
 posts_within (post ∷ machines) named keyed =
     let name : length post.name ≤ 16 = (All-head (λ (post : Post). IsName post.name) post machines named).at_most in
     let key : length post.key ≡ 56 = All-head HasKey post machines keyed in
-    let rest = posts_within machines (All-tail (λ (post : Post). IsName post.name) post machines named) (All-tail HasKey post machines keyed) in
+    let rest = posts_within machines (All-tail (λ (post : Post). IsName post.name) post machines named)
+    (All-tail HasKey post machines keyed) in
     (omega arith, omega arith, (omega arith, (word_is_short post.role, (omega arith, tt))), rest)
 
 posts_counted : (machines : List Post) → count_of (forest_of (map post_tree machines)) ≡ length machines
@@ -32,5 +31,8 @@ posts_counted (post ∷ machines) = let rest = posts_counted machines in omega (
 
 pub roster_fits : (machines : List Post) → HaveText machines → Fits (roster_tree machines)
 roster_fits machines have =
-    let few : length machines ≤ 16 = have.roster.few in
-    (omega arith, omega (arith, posts_counted machines), (omega arith, (omega arith, posts_within machines have.roster.named have.keys)))
+    let few : length machines ≤ 16 = have.roster.few in (
+      omega arith,
+      omega (arith, posts_counted machines),
+      (omega arith, (omega arith, posts_within machines have.roster.named have.keys)),
+    )

@@ -1,32 +1,22 @@
 -- The trees of machines, one by one.
-use Rattle.std.proofs.Common.{◌≡◌, ℕ, zero, suc, ◌<◌, List, [], ◌∷◌, length, get_or, map, All, refl, ap, sym, ◌∙◌, arith}
-use Rattle.std.proofs.lemmas.List.Elements.{All-head, All-tail}
+use Rattle.std.proofs.Common.{◌≡◌, ℕ, List, [], ◌∷◌, map, refl, ap, sym, ◌∙◌}
 use Rattle.canonical_sexp.specs.declared.sexp.Sexp.{Sexp}
 use Rattle.roster.specs.declared.post.Post.{Post}
 use Rattle.roster.specs.declared.post.Role.{Role}
 use Rattle.roster.specs.declared.post.Role.TheVariants.{Supervisor, Booth}
-use Rattle.roster.specs.RosterText.{role_word, post_tree, headed, HasKey}
+use Rattle.roster.specs.RosterText.{role_word, post_tree, headed}
 use Rattle.canonical_sexp.specs.declared.sexp.Sexp.TheVariants.{Atom}
 use Rattle.canonical_sexp.specs.Sexp.{members_of, forest_of}
 use Rattle.canonical_sexp.proofs.Rows.{members_of-forest_of}
 use Rattle.std.specs.Prelude.{codes}
-
--- one of some trees that are machines
-pub post_at : (trees : List Sexp) (posts : List Post) (i : ℕ) (d : Sexp) → i < length trees → trees ≡ map post_tree posts → All HasKey posts
-    → (post : Post) × HasKey post × (get_or trees i d ≡ post_tree post)
-post_at [] posts i d within e all = absurd (omega arith)
-post_at (tree ∷ trees) [] i d within e all = absurd (let long : length (tree ∷ trees) ≡ 0 = ap length e in omega arith)
-post_at (tree ∷ trees) (post ∷ posts) zero d within e all = let same : tree ≡ post_tree post = cc in (post, All-head HasKey post posts all, same)
-post_at (tree ∷ trees) (post ∷ posts) (suc i) d within e all =
-    let rest : trees ≡ map post_tree posts = cc in
-    post_at trees posts i d (omega arith) rest (All-tail HasKey post posts all)
 
 -- a list has one row of members
 pub same_behind : (trees others : List Sexp) → headed trees ≡ headed others → trees ≡ others
 same_behind trees others same =
     let all : List Sexp → List Sexp = λ ts. Atom (codes "roster") ∷ Atom (codes "1") ∷ ts in
     let forest : forest_of (all trees) ≡ forest_of (all others) = cc in
-    let rows : all trees ≡ all others = sym (members_of-forest_of (all trees)) ∙ ap members_of forest ∙ members_of-forest_of (all others) in
+    let rows : all trees ≡ all others =
+    sym (members_of-forest_of (all trees)) ∙ ap members_of forest ∙ members_of-forest_of (all others) in
     cc
 
 -- a role has one word

@@ -1,4 +1,4 @@
 pub mod RosterText
 pub mod Machines
 pub mod Reading
-pub mod Raw
+pub mod inside

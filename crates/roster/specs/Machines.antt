@@ -9,10 +9,18 @@ use Rattle.roster.specs.RosterText.{HasKey}
 abbrev pub IsNameByte : ℕ → Type 0
 IsNameByte byte = ((97 ≤ byte) × (byte ≤ 122)) ⊎ ((48 ≤ byte) × (byte ≤ 57))
 
--- a name: 1 to 16 such characters
+-- the most characters of a name
+abbrev pub max_name : ℕ
+max_name = 16
+
+-- the most machines of a roster
+abbrev pub max_machines : ℕ
+max_machines = 16
+
+-- a name: at least one such character, and at most 16
 pub record IsName (name : List ℕ) : Type 0 where
   pub some : 0 < length name
-  pub at_most : length name ≤ 16
+  pub at_most : length name ≤ max_name
   pub bytes : All IsNameByte name
 
 abbrev pub is_supervisor : Role → Bool
@@ -21,7 +29,7 @@ is_supervisor Booth = false
 
 -- there are at most 16 machines
 abbrev pub AreFew : List Post → Type 0
-AreFew machines = length machines ≤ 16
+AreFew machines = length machines ≤ max_machines
 
 -- each has the form of a name
 abbrev pub AreNamed : List Post → Type 0

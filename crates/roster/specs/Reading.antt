@@ -1,27 +1,13 @@
 -- What reading a roster answers.
-use Rattle.std.specs.Prelude.{◌≡◌, ◌⊎◌, ℕ, ◌<◌, List, length, Result, Ok, Err}
-use Rattle.canonical_sexp.specs.declared.sexp.Sexp.{Sexp}
-use Rattle.canonical_sexp.specs.declared.read.Why.{Why}
-use Rattle.canonical_sexp.specs.declared.read.Read.TheVariants as read
-use Rattle.canonical_sexp.specs.Text.{text_of, Fits}
-use Rattle.canonical_sexp.specs.Reading.{Answers}
+use Rattle.std.specs.Prelude.{ℕ, List, Result, Ok, Err}
+use Rattle.canonical_sexp.specs.Reading.{IsCanonical, StopsAt}
 use Rattle.roster.specs.declared.post.Post.{Post}
 use Rattle.roster.specs.declared.rosters.Roster.{Roster}
 use Rattle.roster.specs.declared.faults.RosterFault.{RosterFault}
-use Rattle.roster.specs.declared.faults.RosterFault.TheVariants.{NotCanonical, WrongShape, TooManyMachines, BadName, SameName, NotOneSupervisor, Memory}
+use Rattle.roster.specs.declared.faults.RosterFault.TheVariants.{NotCanonical, WrongShape, TooManyMachines}
+use Rattle.roster.specs.declared.faults.RosterFault.TheVariants.{BadName, SameName, NotOneSupervisor, Memory}
 use Rattle.roster.specs.RosterText.{IsRosterText}
 use Rattle.roster.specs.Machines.{AreFew, AreNamed, AreDistinct, HaveOneSupervisor, AreRoster}
-
--- the text is one canonical text and nothing else
-abbrev pub IsCanonical : List ℕ → Type 0
-IsCanonical text = (tree : Sexp) × Fits tree × (text ≡ text_of tree)
-
--- where it stops being one: at the first byte that can't stand, behind a whole text, or where it ends too early
-abbrev pub StopsAt : List ℕ → ℕ → Type 0
-StopsAt text at =
-    ((why : Why) × Answers text (read.Bad at why))
-    ⊎ ((tree : Sexp) × Answers text (read.Whole tree at) × (at < length text))
-    ⊎ (Answers text read.Cut × (at ≡ length text))
 
 -- it is the text of some machines, whatever they are called and however many they are
 abbrev pub HasForm : List ℕ → Type 0
@@ -34,7 +20,8 @@ IsMachinesFault machines WrongShape = ⊥
 IsMachinesFault machines TooManyMachines = ¬ AreFew machines
 IsMachinesFault machines BadName = AreFew machines × (¬ AreNamed machines)
 IsMachinesFault machines SameName = AreFew machines × AreNamed machines × (¬ AreDistinct machines)
-IsMachinesFault machines NotOneSupervisor = AreFew machines × AreNamed machines × AreDistinct machines × (¬ HaveOneSupervisor machines)
+IsMachinesFault machines NotOneSupervisor =
+    AreFew machines × AreNamed machines × AreDistinct machines × (¬ HaveOneSupervisor machines)
 IsMachinesFault machines Memory = ⊥
 
 -- why the text isn't a roster's, the first cause that applies

@@ -10,8 +10,8 @@ mod rosters;
 mod writing;
 
 pub use faults::RosterFault;
-pub use laws::texts_have_one_roster;
-pub use post::{Name, Post, Role};
+pub use laws::{one_reading_is_right, texts_have_one_roster};
+pub use post::{Name, Post, Role, is_name};
 pub use rosters::{Memory, Posts, Roster, election};
 
 #[cfg(test)]

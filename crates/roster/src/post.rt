@@ -1,5 +1,7 @@
 //! A machine of the roster.
-ghost use Rattle.std.specs.Prelude.{◌≡◌, string_bytes, IfOk};
+ghost use Rattle.std.specs.Prelude.{◌≡◌, ◌↔◌, string_bytes, IfOk, IsTrue};
+ghost use Rattle.canonical_sexp.specs.Forms.{Finds};
+ghost use Rattle.roster.specs.Machines.{IsName};
 ghost use Rattle.roster.specs.RosterText.{role_word};
 
 use std::alloc::{AllocError, Global};
@@ -24,6 +26,31 @@ impl Role {
             Role::Booth => b"booth",
         }
     }
+
+    /// The role whose word it is.
+    pub fn of_word(word: &[u8]) -> Option<Role>
+        ensures { Finds (λ role. word.now ≡ role_word role) result }
+    {
+        if word == Role::Supervisor.word() {
+            Some(Role::Supervisor)
+        } else if word == Role::Booth.word() {
+            Some(Role::Booth)
+        } else {
+            None
+        }
+    }
+}
+
+/// The most characters of a name.
+const MAX_NAME: usize = 16;
+
+/// Whether the bytes are a machine's name: 1 to 16 characters from `a` to `z` and `0` to `9`.
+pub fn is_name(name: &[u8]) -> bool
+    ensures { IsTrue result ↔ IsName name.now }
+{
+    !name.is_empty()
+        && name.len() <= MAX_NAME
+        && name.iter().all(|&byte| (byte >= b'a' && byte <= b'z') || (byte >= b'0' && byte <= b'9'))
 }
 
 /// A machine's name. Contracts see the list of its bytes.

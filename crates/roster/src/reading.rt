@@ -1,24 +1,22 @@
-//! Reading the parts of a roster from a tree.
-ghost use Rattle.std.specs.Prelude.{◌≡◌, ◌≢◌, ℕ, List, map, length, All, Any, AllPairs, count_by, codes, IsTrue, ◌↔◌, IfOk, IfErr, IfSome, IfNone, MatchResult, MatchOption};
-ghost use Rattle.canonical_sexp.specs.Text.{text_of, Fits};
+//! Reading the parts of a roster where its text stands.
+ghost use Rattle.std.specs.Prelude.{◌≡◌, ◌≢◌, ◌≤◌, ◌↔◌, ℕ, List, map, length, All, Any, AllPairs};
+ghost use Rattle.std.specs.Prelude.{count_by, IsTrue, IfOk, IfSome, IfNone, MatchOption};
 ghost use Rattle.canonical_sexp.specs.Forms.{Finds};
+ghost use Rattle.canonical_sexp.specs.Sexp.{members_of};
 ghost use Rattle.canonical_sexp.specs.declared.sexp.Sexp.{Sexp};
 ghost use Rattle.canonical_sexp.specs.declared.sexp.Sexp.TheVariants.{Atom};
 ghost use Rattle.roster.specs.RosterText.{role_word, post_tree, headed, HasKey};
-ghost use Rattle.roster.specs.Machines.{IsName, AreRoster, is_supervisor};
-ghost use Rattle.roster.specs.Reading.{StopsAt, IsMachinesFault};
-ghost use Rattle.roster.specs.Raw.{post_of};
+ghost use Rattle.roster.specs.Machines.{IsName, AreRoster, is_supervisor, max_machines};
+ghost use Rattle.roster.specs.Reading.{IsMachinesFault};
+ghost use Rattle.roster.specs.inside.Raw.{post_of, IsRosterTree};
 ghost use Rattle.roster.specs.declared.post.Post.{Post};
 ghost use Rattle.roster.specs.declared.reading.Raw.{Raw};
 
 use crate::faults::RosterFault;
-use crate::post::{Name, Post, Role};
+use crate::post::{Name, Post, Role, is_name};
 use crate::rosters::Posts;
-use canonical_sexp::{Memory, Read, Sexp, read_one};
+use canonical_sexp::{Memory, Rest, Text};
 use std::alloc::Global;
-
-/// The most machines of a roster.
-const MAX_MACHINES: usize = 16;
 
 /// A machine as it is read, before its name is looked at.
 #[derive(Clone, Copy)]
@@ -28,42 +26,18 @@ pub(crate) struct Raw<'a> {
     key: [u8; 56],
 }
 
-/// The tree whose text the bytes are.
-pub(crate) fn whole_tree(alloc: Global, bytes: &[u8]) -> Result<Sexp, RosterFault>
-    ensures ok { IfOk result (λ tree. Fits tree × (bytes.now ≡ text_of tree)) }
-    ensures err { IfErr result (λ fault. fault ≢ RosterFault.Memory →
-        (at : ℕ) × (fault ≡ RosterFault.NotCanonical at) × StopsAt bytes.now at) }
+/// The role of which the text is the word.
+fn role_of(text: &Text<'_>) -> Option<Role>
+    ensures { Finds (λ role. text.now ≡ Atom (role_word role)) result }
 {
-    match read_one(alloc, bytes)? {
-        Read::Whole { value, used } => {
-            if used < bytes.len() {
-                return Err(RosterFault::NotCanonical(used));
-            }
-            Ok(value)
-        }
-        Read::Cut => Err(RosterFault::NotCanonical(bytes.len())),
-        Read::Bad { at, .. } => Err(RosterFault::NotCanonical(at)),
-    }
+    Role::of_word(text.as_atom()?)
 }
 
-/// The role of which the tree is the word.
-fn role_of(tree: &Sexp) -> Option<Role>
-    ensures { Finds (λ role. tree.now ≡ Atom (role_word role)) result }
+/// The key that the text is the atom of: 56 octets.
+fn key_of(text: &Text<'_>) -> Option<[u8; 56]>
+    ensures { Finds (λ key. (length key ≡ 56) × (text.now ≡ Atom key)) result }
 {
-    if tree.is_word(b"supervisor") {
-        Some(Role::Supervisor)
-    } else if tree.is_word(b"booth") {
-        Some(Role::Booth)
-    } else {
-        None
-    }
-}
-
-/// The key that the tree is the atom of: 56 octets.
-fn key_of(tree: &Sexp) -> Option<[u8; 56]>
-    ensures { Finds (λ key. (length key ≡ 56) × (tree.now ≡ Atom key)) result }
-{
-    let octets = tree.as_atom()?.as_slice();
+    let octets = text.as_atom()?;
     if octets.len() != 56 {
         return None;
     }
@@ -72,57 +46,66 @@ fn key_of(tree: &Sexp) -> Option<[u8; 56]>
     Some(key)
 }
 
-/// The machine that the tree is.
-fn raw_of(tree: &Sexp) -> Option<Raw<'_>>
-    ensures found { IfSome result (λ raw. HasKey (post_of raw) × (tree.now ≡ post_tree (post_of raw))) }
-    ensures none { IfNone result ((post : Post) → HasKey post → tree.now ≢ post_tree post) }
+/// The machine that the text is of.
+fn raw_of<'a>(text: &Text<'a>) -> Option<Raw<'a>>
+    ensures found { IfSome result (λ raw.
+        HasKey (post_of raw) × (text.now ≡ post_tree (post_of raw))) }
+    ensures none { IfNone result ((post : Post) → HasKey post → text.now ≢ post_tree post) }
 {
-    match tree.as_list()?.as_slice() {
-        [name, role, key] => Some(Raw {
-            name: name.as_atom()?.as_slice(),
-            role: role_of(role)?,
-            key: key_of(key)?,
-        }),
-        _ => None,
-    }
-}
-
-/// The machines that the trees are, one each.
-pub(crate) fn raws_of<'a>(alloc: Global, trees: &'a [Sexp]) -> Result<Option<Vec<Raw<'a>>>, Memory>
-    ensures found { IfOk result (λ found. IfSome found (λ raws.
-        All HasKey (map post_of raws.items) × (trees.now ≡ map post_tree (map post_of raws.items)))) }
-    ensures none { IfOk result (λ found. IfNone found
-        ((posts : List Post) → All HasKey posts → trees.now ≢ map post_tree posts)) }
-{
-    let mut raws = Vec::new(alloc);
-    for tree in trees {
-        let Some(raw) = raw_of(tree) else {
-            return Ok(None);
-        };
-        raws.push(raw)?;
-    }
-    Ok(Some(raws))
-}
-
-/// The members of the tree behind those with which each roster begins.
-pub(crate) fn trees_of(tree: &Sexp) -> Option<&[Sexp]>
-    ensures found { IfSome result (λ trees. tree.now ≡ headed trees.now) }
-    ensures none { IfNone result ((trees : List Sexp) → tree.now ≢ headed trees) }
-{
-    let trees = tree.as_list()?.as_slice();
-    if trees.len() < 2 || !trees[0].is_word(b"roster") || !trees[1].is_word(b"1") {
+    let mut members = text.as_list()?;
+    let name = members.take_next()?;
+    let role = members.take_next()?;
+    let key = members.take_next()?;
+    if !members.is_empty() {
         return None;
     }
-    Some(&trees[2..])
+    Some(Raw {
+        name: name.as_atom()?,
+        role: role_of(&role)?,
+        key: key_of(&key)?,
+    })
 }
 
-/// Whether the characters are a name.
-fn is_name(name: &[u8]) -> bool
-    ensures { IsTrue result ↔ IsName name.now }
+/// The members of the text behind those with which each roster begins.
+fn machines_in<'a>(text: &Text<'a>) -> Option<Rest<'a>>
+    ensures found { IfSome result (λ members. text.now ≡ headed (members_of members)) }
+    ensures none { IfNone result ((trees : List Sexp) → text.now ≢ headed trees) }
 {
-    !name.is_empty()
-        && name.len() <= 16
-        && name.iter().all(|&byte| (byte >= b'a' && byte <= b'z') || (byte >= b'0' && byte <= b'9'))
+    let mut members = text.as_list()?;
+    let word = members.take_next()?;
+    let version = members.take_next()?;
+    if !word.is_word(b"roster") || !version.is_word(b"1") {
+        return None;
+    }
+    Some(members)
+}
+
+/// How many machines there are, where the text has the form of a roster's. It takes no memory.
+pub(crate) fn count_machines(text: &Text<'_>) -> Option<usize>
+    ensures found { IfSome result (λ count.
+        (machines : List Post) × IsRosterTree text.now machines × (count ≡ length machines)) }
+    ensures none { IfNone result ((machines : List Post) → ¬ IsRosterTree text.now machines) }
+{
+    let members = machines_in(text)?;
+    let count = members.len();
+    for member in members {
+        let Some(_) = raw_of(&member) else {
+            return None;
+        };
+    }
+    Some(count)
+}
+
+/// The machines of a text that has the form of a roster's.
+pub(crate) fn raws_of<'a>(alloc: Global, text: &Text<'a>) -> Result<Vec<Raw<'a>>, Memory>
+    requires { (machines : List Post) × IsRosterTree text.now machines }
+    ensures { IfOk result (λ raws. IsRosterTree text.now (map post_of raws.items)) }
+{
+    let mut raws = Vec::new(alloc);
+    for member in machines_in(text).unwrap() {
+        raws.push(raw_of(&member).unwrap())?;
+    }
+    Ok(raws)
 }
 
 /// Whether each machine has the form of a name.
@@ -141,7 +124,8 @@ fn has_name(raws: &[Raw<'_>], name: &[u8]) -> bool
 
 /// Whether no two machines have one name.
 fn are_distinct(raws: &[Raw<'_>]) -> bool
-    ensures { IsTrue result ↔ AllPairs (λ (raw other : Raw). raw.name.now ≢ other.name.now) raws.now }
+    ensures { IsTrue result
+        ↔ AllPairs (λ (raw other : Raw). raw.name.now ≢ other.name.now) raws.now }
 {
     for i in 0..raws.len() {
         if has_name(&raws[..i], raws[i].name) {
@@ -160,13 +144,13 @@ fn count_supervisors(raws: &[Raw<'_>]) -> usize
         .count()
 }
 
-/// Why the machines make no roster, the first cause that applies.
+/// Why machines that aren't too many make no roster, the first cause that applies.
 pub(crate) fn fault_of(raws: &[Raw<'_>]) -> Option<RosterFault>
-    ensures { MatchOption result (AreRoster (map post_of raws.now)) (IsMachinesFault (map post_of raws.now)) }
+    requires { length raws.now ≤ max_machines }
+    ensures { MatchOption result (AreRoster (map post_of raws.now))
+        (IsMachinesFault (map post_of raws.now)) }
 {
-    if raws.len() > MAX_MACHINES {
-        Some(RosterFault::TooManyMachines)
-    } else if !are_named(raws) {
+    if !are_named(raws) {
         Some(RosterFault::BadName)
     } else if !are_distinct(raws) {
         Some(RosterFault::SameName)

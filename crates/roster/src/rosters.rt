@@ -6,15 +6,18 @@ ghost use Rattle.roster.specs.Reading.{Reads};
 
 use crate::faults::RosterFault;
 use crate::post::Post;
-use crate::reading::{fault_of, posts_of, raws_of, trees_of, whole_tree};
+use crate::reading::{count_machines, fault_of, posts_of, raws_of};
 use crate::writing::tree_of;
-use canonical_sexp::write;
+use canonical_sexp::{whole_text, write};
 use sha2::{Digest, Sha256};
 use std::alloc::{AllocError, Global};
 use std::marker::Model;
 
 /// Want of memory.
 pub type Memory = AllocError;
+
+/// The most machines of a roster.
+const MAX_MACHINES: usize = 16;
 
 /// The machines of a roster, in their order. Contracts see them as a list.
 #[derive(Debug, Drop)]
@@ -54,7 +57,8 @@ pub struct Roster {
 }
 
 impl Roster {
-    /// Reads a roster's text.
+    /// Reads a roster's text, where it stands. Memory is taken for the machines of a text that has
+    /// the form of a roster's, and at most 16 of them.
     ///
     /// # Errors
     ///
@@ -62,16 +66,17 @@ impl Roster {
     pub fn read(alloc: Global, bytes: &[u8]) -> Result<Roster, RosterFault>
         ensures { result ≢ Err RosterFault.Memory → Reads bytes.now result }
     {
-        let tree = match whole_tree(alloc, bytes) {
-            Ok(tree) => tree,
-            Err(fault) => return Err(fault),
+        let text = match whole_text(bytes) {
+            Ok(text) => text,
+            Err(at) => return Err(RosterFault::NotCanonical(at)),
         };
-        let Some(trees) = trees_of(&tree) else {
+        let Some(count) = count_machines(&text) else {
             return Err(RosterFault::WrongShape);
         };
-        let Some(raws) = raws_of(alloc, trees)? else {
-            return Err(RosterFault::WrongShape);
-        };
+        if count > MAX_MACHINES {
+            return Err(RosterFault::TooManyMachines);
+        }
+        let raws = raws_of(alloc, &text)?;
         if let Some(fault) = fault_of(raws.as_slice()) {
             return Err(fault);
         }

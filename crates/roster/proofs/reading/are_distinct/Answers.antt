@@ -11,5 +11,6 @@ returns-then-has_name c = (
 
 pub loop-i-preserved : goal.loop-i-preserved
 loop-i-preserved c =
-    let none = no_name_found c.args.raws.now c.loop-i.i _ c.loop-i-test.true (λ any. true≢false (sym (c.if-has_name.ensures.1 any))) in
+    let none = no_name_found c.args.raws.now c.loop-i.i _ c.loop-i-test.true
+    (λ any. true≢false (sym (c.if-has_name.ensures.1 any))) in
     one_more_distinct c.args.raws.now c.loop-i.i c.loop-i.invariant none

@@ -1,6 +1,6 @@
-use Rattle.std.proofs.Common.{◌≡◌, ◌≤◌, length, map, refl, arith, ◌∙◌, sym, true≢false}
+use Rattle.std.proofs.Common.{refl, arith, ◌∙◌, sym, true≢false}
 use Rattle.std.proofs.lemmas.List.{length-map}
-use Rattle.roster.specs.Raw.{post_of}
+use Rattle.roster.specs.inside.Raw.{post_of}
 use Rattle.roster.proofs.Raws.{named_posts, named_raws, distinct_posts, distinct_raws, supervisors}
 use Rattle.roster.proofs.reading.fault_of.Goals as goal
 

@@ -1,9 +1,28 @@
-use Rattle.std.proofs.Common.{◌∙◌}
-use Rattle.roster.proofs.Trees.{post_at}
+use Rattle.std.proofs.Common.{◌∙◌, ◌∷◌, [], List, map, ap, subst, sym}
+use Rattle.canonical_sexp.specs.declared.sexp.Sexp.{Sexp}
+use Rattle.canonical_sexp.specs.Sexp.{members_of}
+use Rattle.std.proofs.lemmas.List.{map-append}
+use Rattle.roster.specs.declared.post.Post.{Post}
+use Rattle.roster.specs.inside.Raw.{post_of}
+use Rattle.roster.proofs.Walk.{IsWalked, walked_on, next_machine, some_unless}
 use Rattle.roster.proofs.reading.raws_of.Goals as goal
 
--- a tree that is no machine
-pub returns-in_default-clause-none : goal.returns-in_default-clause-none
-returns-in_default-clause-none c = λ posts keys same.
-    let is = post_at c.args.trees.now posts c.loop-tree.tree-index c.tree-item.result c.loop-tree-test.true same keys in
-    c.in_default.ensures.none is.0 is.1 (c.tree-item.is ∙ is.2)
+-- the next member is a machine
+pub unwrap-requires : goal.unwrap-requires
+unwrap-requires c =
+    let so_far : List Post = map post_of c.loop-member.raws.items in
+    let at = subst (λ left. IsWalked c.args.text.now so_far left) c.in-Some.ensures.steps c.loop-member.invariant in
+    let machine = next_machine c.args.text.now c.in-Some.member so_far c.requires.0 _ at c.requires.1 in
+    some_unless c.raw_of.result _ c.raw_of.ensures.none (λ none. none machine.0 machine.1 machine.2)
+
+-- one machine more
+pub loop-member-preserved : goal.loop-member-preserved
+loop-member-preserved c =
+    let so_far : List Post = map post_of c.loop-member.raws.items in
+    let at = subst (λ left. IsWalked c.args.text.now so_far left) c.in-Some.ensures.steps c.loop-member.invariant in
+    let left : List Sexp = members_of c.next.new.self in
+    let found = rw c.unwrap.ensures at c.raw_of.ensures.found in
+    let on = walked_on c.args.text.now c.in-Some.member so_far left (post_of c.unwrap.result) at found.0 found.1 in
+    subst (λ posts. IsWalked c.args.text.now posts left)
+    (sym (map-append post_of c.loop-member.raws.items (c.unwrap.result ∷ []))
+    ∙ ap (map post_of) (sym c.in_ok-push.ensures.items)) on

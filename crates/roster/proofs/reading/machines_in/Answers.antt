@@ -1,0 +1,20 @@
+use Rattle.std.proofs.Common.{◌≡◌, ◌∙◌, ap, sym, refl}
+use Rattle.std.specs.Prelude.{codes}
+use Rattle.canonical_sexp.specs.declared.sexp.Sexp.TheVariants.{Atom, List as Branch}
+use Rattle.canonical_sexp.specs.Forest.{Forest}
+use Rattle.canonical_sexp.specs.Sexp.{in_front}
+use Rattle.canonical_sexp.proofs.Rows.{forest_of-members_of}
+use Rattle.roster.proofs.reading.machines_in.Goals as goal
+
+-- the word and the version stand in front of the members that are left
+pub returns-clause-found : goal.returns-clause-found
+returns-clause-found c =
+    let left : Forest = c.take_next-2.new.self in
+    let version : c.in_ok-version.version ≡ Atom (codes "1") =
+    c.if-not-is_word-2.ensures.0 refl in
+    let word : c.in_ok-word.word ≡ Atom (codes "roster") = c.if-not-is_word.ensures.0 refl in
+    c.in_ok-members.ensures.found ∙ ap Branch (c.in_ok-word.ensures.found
+    ∙ ap (in_front c.in_ok-word.word) c.in_ok-version.ensures.found
+    ∙ ap (λ t. in_front t (in_front c.in_ok-version.version left)) word
+    ∙ ap (λ t. in_front (Atom (codes "roster")) (in_front t left)) version
+    ∙ ap (λ f. in_front (Atom (codes "roster")) (in_front (Atom (codes "1")) f)) (sym (forest_of-members_of left)))
