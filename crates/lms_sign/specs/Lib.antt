@@ -4,3 +4,4 @@ pub mod Nodes
 pub mod Signs
 pub mod Secret
 pub mod Calls
+pub mod inside

@@ -46,7 +46,8 @@ impl Rows {
         for node in 0..count {
             let parents = arrows.parents(node);
             let is_whole = is_whole(&whole, arrows.ragged(node), parents);
-            rows.push_reserved(row_of(alloc, &rows, parents)?);
+            let row = row_of(alloc, &rows, parents)?;
+            rows.push_reserved(row);
             whole.push_reserved(is_whole);
         }
         Ok(Rows { rows, whole })
