@@ -8,6 +8,7 @@ use Rattle.std.specs.declared.cmp.Ordering.TheVariants.{Less}
 use Rattle.std.proofs.lemmas.Cmp.{nat_list_cmp_total}
 use Rattle.entry_order.specs.Ascending.{IsAscending}
 
+-- of two numbers one is at most the other, or else above it
 le_cases : (m n : ℕ) → (m ≤ n) ⊎ (n < m)
 le_cases m n = grind arith
 
@@ -15,6 +16,7 @@ le_cases m n = grind arith
 abbrev pub RisesTo : ℕ → List (List ℕ) → Type 0
 RisesTo count ds = (k : ℕ) → suc k < count → slice_cmp nat_cmp (get_or ds k []) (get_or ds (suc k) []) ≡ Less
 
+-- what is below the first of ascending digests is below each of them
 later_is_above : (d e : List ℕ) (ds : List (List ℕ)) → slice_cmp nat_cmp d e ≡ Less → IsAscending (e ∷ ds) →
     (c : List ℕ) → Contains (e ∷ ds) c → slice_cmp nat_cmp d c ≡ Less
 later_is_above d e ds first below c (zero, within, is) = let P : List ℕ →
@@ -22,6 +24,7 @@ later_is_above d e ds first below c (zero, within, is) = let P : List ℕ →
 later_is_above d e ds first below c (suc k, within, is) =
     nat_list_cmp_total.trans d e c first (below.0 c (k, omega arith, is))
 
+-- digests of which each is below the next ascend, and the other way round
 pub ascends : (ds : List (List ℕ)) → RisesTo (length ds) ds → IsAscending ds
 ascends [] rises = tt
 ascends (d ∷ []) rises = ((λ (c : List ℕ) (h : Contains [] c). absurd (omega (arith, h.1))), tt)

@@ -1,32 +1,23 @@
 -- Which fault a text has.
-use Rattle.std.proofs.Common.{◌≡◌, ◌∙◌, ℕ, ◌⊎◌, inl, inr, Result, Ok, Err, refl, List, [], ◌∷◌, length, sym, ap}
-use Rattle.std.proofs.Common.{subst, arith}
-use Rattle.std.proofs.lemmas.List.{take_all}
+use Rattle.std.proofs.Common.{◌≡◌, ◌∙◌, ℕ, Result, Ok, Err, refl, List, [], ◌∷◌, sym, ap}
+use Rattle.std.proofs.Common.{subst}
 use Rattle.std.specs.Prelude.{codes}
 use Rattle.canonical_sexp.specs.declared.sexp.Sexp.{Sexp}
 use Rattle.canonical_sexp.specs.declared.sexp.Sexp.TheVariants.{Atom}
-use Rattle.canonical_sexp.specs.declared.read.Read.{Read}
-use Rattle.canonical_sexp.specs.declared.read.Read.TheVariants as read
 use Rattle.canonical_sexp.specs.Text.{text_of, Fits}
-use Rattle.canonical_sexp.specs.Reading.{Answers}
 use Rattle.canonical_sexp.specs.Forms.{list_of}
 use Rattle.entry_order.specs.Ascending.{IsAscending}
 use Rattle.entry_format.specs.declared.entry.Entry.{Entry}
 use Rattle.entry_format.specs.EntryText.{IsEntry, body_tree, signed_tree, IsSignedText}
-use Rattle.entry_format.specs.Parts.{IsSigned}
-use Rattle.canonical_sexp.specs.declared.read.Why.{Why}
+use Rattle.entry_format.specs.inside.Parts.{IsSigned}
 use Rattle.entry_format.specs.declared.plain.Plain.{Plain}
 use Rattle.entry_format.specs.declared.plain.EntryFault.{EntryFault}
 use Rattle.entry_format.specs.declared.plain.EntryFault.TheVariants.{NotCanonical, WrongShape, NamesNotRising}
 use Rattle.entry_format.specs.declared.plain.EntryFault.TheVariants.{OtherElection, UnknownMaker, WrongIndex}
 use Rattle.entry_format.specs.declared.plain.EntryFault.TheVariants.{BadSignature, Memory}
-use Rattle.entry_format.specs.Reading.{IsCanonical, HasForm, HasRisingNames, IsFormFault, Reads}
+use Rattle.entry_format.specs.Reading.{HasForm, HasRisingNames, IsFormFault, Reads}
+use Rattle.canonical_sexp.specs.Reading.{IsCanonical}
 use Rattle.entry_format.proofs.OneEntry.{one_text, one_entry, one_signed}
-
--- a text that is canonical is read whole
-pub canonical_is_whole : (text : List ℕ) (tree : Sexp) → Fits tree → text ≡ text_of tree →
-    Answers text (read.Whole tree (length text))
-canonical_is_whole text tree fits e = (fits, omega arith, take_all (length text) text (omega arith) ∙ e)
 
 -- the tree of a text with the form of an entry
 pub tree_of_form : (text : List ℕ) (tree : Sexp) (entry : Entry) (signature : List ℕ) → Fits tree →
@@ -51,12 +42,6 @@ not_rising text entry signature form falls (other, another, also, rises) =
     let P : Entry → Type 0 = λ x. IsAscending x.names in
     falls (subst P (sym one.0) rises)
 
--- the first fault of a text that isn't read whole
-pub not_whole : (text : List ℕ) (answer : Read) → ((other : Read) → Answers text other → answer ≡ other) →
-    ((tree : Sexp) → answer ≡ read.Whole tree (length text) → ⊥) → IsCanonical text → ⊥
-not_whole text answer only other (tree, fits, e) = other tree
-    (only (read.Whole tree (length text)) (canonical_is_whole text tree fits e))
-
 -- the form of a text whose parts were found
 pub form_of : (text : List ℕ) (tree body : Sexp) (entry : Entry) (signature : List ℕ) → Fits tree →
     text ≡ text_of tree → IsSigned tree body signature → IsEntry entry →
@@ -66,11 +51,6 @@ form_of text tree body entry signature fits e signed lawful is =
     ∙ ap (λ b. list_of (Atom (codes "sealed") ∷ b ∷ Atom signature ∷ [])) is in
     let P : Sexp → Type 0 = λ t. Fits t in
     record { lawful = lawful; within = subst P same fits; spelt = e ∙ ap text_of same }
-
-pub cut_is_not_whole : (text : List ℕ) (answer : Read) → (answer ≡ read.Cut)
-    ⊎ ((at : ℕ) × (why : Why) × (answer ≡ read.Bad at why)) → (tree : Sexp) → answer ≡ read.Whole tree (length text) → ⊥
-cut_is_not_whole text answer (inl is) tree e = cc
-cut_is_not_whole text answer (inr (at, why, is)) tree e = cc
 
 -- a text with rising names has no fault
 pub no_fault : (text : List ℕ) (fault : EntryFault) → IsFormFault text fault → HasRisingNames text → ⊥
@@ -83,6 +63,7 @@ no_fault text WrongIndex h rising = h
 no_fault text BadSignature h rising = h
 no_fault text Memory h rising = h
 
+-- a text with the form of an entry is canonical
 is_canonical : (text : List ℕ) → HasForm text → IsCanonical text
 is_canonical text (entry, signature, form) = (signed_tree entry signature, form.within, form.spelt)
 
@@ -120,7 +101,8 @@ only_not_rising text BadSignature h form = absurd h
 only_not_rising text Memory h form = absurd h
 
 -- at most one fault applies
-pub one_fault : (text : List ℕ) (fault other : EntryFault) → IsFormFault text fault → IsFormFault text other → fault ≡ other
+pub one_fault : (text : List ℕ) (fault other : EntryFault) → IsFormFault text fault → IsFormFault text other →
+    fault ≡ other
 one_fault text fault NotCanonical h k = only_not_canonical text fault h k
 one_fault text fault WrongShape h k = only_wrong_shape text fault h k.0 k.1
 one_fault text fault NamesNotRising h k = only_not_rising text fault h k.0

@@ -1,6 +1,6 @@
 -- Signatures under keys, and the keys of machines.
-use Rattle.std.proofs.Common.{◌≡◌, ◌≢◌, ◌↔◌, ℕ, ◌+◌, ◌*◌, ◌<◌, ◌≤◌, ◌⊎◌, inl, inr, List, [], length, get_or, Result, Err, refl}
-use Rattle.std.proofs.Common.{subst, sym, arith}
+use Rattle.std.proofs.Common.{◌≡◌, ◌≢◌, ◌↔◌, ℕ, ◌+◌, ◌*◌, ◌<◌, ◌≤◌, ◌⊎◌, inl, inr, List, [], length, get_or}
+use Rattle.std.proofs.Common.{Result, Err, refl, subst, sym, arith}
 use Rattle.std.specs.Prelude.{IsErrOf}
 use Rattle.std.proofs.lemmas.List.{get_or-map}
 use Rattle.lms_ots.specs.declared.kind.OtsKind.{OtsKind}
@@ -38,6 +38,7 @@ pub key_is : (machines : List Post) (i : ℕ) (d : Post) → i < length machines
     (get_or machines i d).key ≡ key_at machines i
 key_is machines i d within = sym (get_or-map (λ (post : Post). post.key) machines i d [] within)
 
+-- the longest one-time signature, and the longest signature
 one_time_short : (kind : OtsKind) → signature_len kind ≤ 8516
 one_time_short W1 = omega arith
 one_time_short W2 = omega arith

@@ -1,5 +1,5 @@
 pub mod Ascending
-pub mod Trees
+pub mod Taken
 pub mod OneEntry
 pub mod Forms
 pub mod Keys

@@ -1,15 +1,13 @@
 -- The texts of entries are within the limits of canonical texts.
-use Rattle.std.proofs.Common.{◌≡◌, ℕ, ◌-◌, ◌^◌, ◌<◌, ◌≤◌, List, [], ◌∷◌, ◌++◌, length, map, All, refl, ap, sym, ◌∙◌}
-use Rattle.std.proofs.Common.{arith, append_assoc}
-use Rattle.std.specs.Prelude.{codes}
+use Rattle.std.proofs.Common.{◌≡◌, ℕ, ◌-◌, ◌^◌, ◌<◌, ◌≤◌, List, [], ◌∷◌, length, map, All, refl}
+use Rattle.std.proofs.Common.{arith}
 use Rattle.std.specs.Fmt.{decimal}
-use Rattle.std.proofs.lemmas.Fmt.{decimal_digit}
 use Rattle.std.proofs.lemmas.List.Elements.{All-head, All-tail}
 use Rattle.canonical_sexp.specs.declared.sexp.Sexp.{Sexp}
 use Rattle.canonical_sexp.specs.declared.sexp.Sexp.TheVariants.{Atom, List as Branch}
 use Rattle.canonical_sexp.specs.Forest.{Forest, no_trees, atom_then, list_then, count_of}
 use Rattle.canonical_sexp.specs.Sexp.{forest_of}
-use Rattle.canonical_sexp.specs.Text.{text_of, texts_of, atom_text, AreWithin, IsWithin, Fits}
+use Rattle.canonical_sexp.specs.Text.{AreWithin, IsWithin, Fits}
 use Rattle.canonical_sexp.proofs.Decimal.{length-decimal-le_20}
 use Rattle.canonical_sexp.proofs.Rows.{AreWithin-one, count_of-one}
 use Rattle.entry_format.specs.declared.deed.Deed.{Deed}
@@ -34,12 +32,14 @@ deeper d e (list_then inner rest) le h =
 pub body_fits : (entry : Entry) (signature : List ℕ) → Fits (signed_tree entry signature) → Fits (body_tree entry)
 body_fits entry signature h = (omega arith, h.2.1.1, deeper 6 7 (members_in (body_tree entry)) (omega arith) h.2.1.2)
 
+-- the atoms of numbers and of digests are short enough
 short : (n : ℕ) → n < 2 ^ 32 → length (decimal n) ≤ 262144
 short n small = omega (arith, length-decimal-le_20 n (omega arith))
 
 octets_short : (digest : List ℕ) → IsDigest digest → length digest ≤ 262144
 octets_short digest is = omega arith
 
+-- a deed and the names are within the limits
 deed_within : (deed : Deed) → IsDeed deed → IsWithin 6 (deed_tree deed)
 deed_within Opened h = (omega arith, omega arith, (omega arith, tt))
 deed_within (Authorise booth session) h =
@@ -58,6 +58,7 @@ names_within [] all = tt
 names_within (name ∷ names) all =
     (octets_short name (All-head IsDigest name names all), names_within names (All-tail IsDigest name names all))
 
+-- there is an atom for each name
 names_counted : (names : List (List ℕ)) → count_of (forest_of (map Atom names)) ≡ length names
 names_counted [] = refl
 names_counted (name ∷ names) = let rest = names_counted names in omega (arith, rest)
@@ -94,18 +95,3 @@ signed_fits entry signature h few small =
         ),
       ),
     )
-
-behind : (inner after more : List ℕ) → (inner ++ 41 ∷ after) ++ more ≡ (inner ++ 41 ∷ []) ++ (after ++ more)
-behind inner after more = append_assoc inner (41 ∷ after) more ∙ sym (append_assoc inner (41 ∷ []) (after ++ more))
-
--- where the body stands in the signed text
-pub body_stands : (entry : Entry) (signature : List ℕ) →
-    text_of (signed_tree entry signature)
-    ≡ codes "(6:sealed" ++ text_of (body_tree entry) ++ ((atom_text signature ++ []) ++ 41 ∷ [])
-body_stands entry signature =
-    let inner : List ℕ = texts_of (members_in (body_tree entry)) in
-    let after : List ℕ = atom_text signature ++ [] in
-    let word : atom_text (codes "sealed") ≡ codes "6:sealed" =
-    ap (λ (ds : List ℕ). ds ++ 58 ∷ codes "sealed") (decimal_digit 6 (omega arith)) in
-    ap (λ (front : List ℕ). 40 ∷ ((front ++ 40 ∷ (inner ++ 41 ∷ after)) ++ 41 ∷ [])) word
-    ∙ ap (λ (bs : List ℕ). codes "(6:sealed(" ++ bs) (behind inner after (41 ∷ []))

@@ -17,7 +17,7 @@ use Rattle.entry_format.specs.declared.deed.Deed.TheVariants.{Opened, Authorise,
 use Rattle.entry_format.specs.declared.deed.Deed.TheVariants.{Cast, Cancel}
 use Rattle.entry_format.specs.declared.entry.Entry.{Entry}
 use Rattle.entry_format.specs.EntryText.{IsDeed, IsEntry, deed_tree, body_tree, signed_tree, IsSignedText}
-use Rattle.entry_format.proofs.Trees.{atoms_of}
+use Rattle.entry_format.proofs.Taken.{atoms_of}
 
 -- one tree has one text, and a text one tree
 pub one_text : (text : List ℕ) (tree other : Sexp) → Fits tree → Fits other → text ≡ text_of tree →
@@ -26,10 +26,12 @@ one_text text tree other fits other_fits is also =
     (one_tree 8 tree other [] [] fits other_fits (append-nil (text_of tree) ∙ sym is ∙ also
     ∙ sym (append-nil (text_of other)))).0
 
+-- a number has one atom
 one_number : (m n : ℕ) → m < 2 ^ 32 → n < 2 ^ 32 → number_atom m ≡ number_atom n → m ≡ n
 one_number m n small other_small e = let same : decimal m ≡ decimal n = cc in
     decimal_same m n (omega arith) (omega arith) same
 
+-- the same atoms are of the same digests
 atoms_same : (digests others : List (List ℕ)) → map Atom digests ≡ map Atom others → digests ≡ others
 atoms_same [] [] e = refl
 atoms_same [] (o ∷ others) e = cc
@@ -51,6 +53,7 @@ abbrev octets_of : Sexp → List ℕ
 octets_of (Atom octets) = octets
 octets_of (Branch members) = []
 
+-- the octets of a list's member
 abbrev argument : ℕ → Sexp → List ℕ
 argument n (Atom octets) = []
 argument n (Branch members) = octets_of (get_or (members_of members) n (Atom []))
@@ -70,6 +73,7 @@ deed_from tree =
     else (if bytes_eq word (codes "cast") then Cast first second
     else Cancel first))))))
 
+-- a number and a deed come back from their trees
 number_back : (n : ℕ) → n < 2 ^ 32 → number_from 0 (decimal n) ≡ n
 number_back n small = number_from-decimal n (omega arith)
 
@@ -85,6 +89,7 @@ deed_back (Commit session ballot) h = ap (λ s. Commit s ballot) (number_back se
 deed_back (Cast session ballot) h = ap (λ s. Cast s ballot) (number_back session h.0)
 deed_back (Cancel session) h = ap Cancel (number_back session h)
 
+-- a deed has one tree
 one_deed : (deed other : Deed) → IsDeed deed → IsDeed other → deed_tree deed ≡ deed_tree other → deed ≡ other
 one_deed deed other h k e = sym (deed_back deed h) ∙ ap deed_from e ∙ deed_back other k
 
@@ -99,6 +104,7 @@ abbrev entry_with : List ℕ → ℕ → ℕ → ℕ → List (List ℕ) → Dee
 entry_with election maker number stamp names deed =
     record { election = election; maker = maker; number = number; stamp = stamp; names = names; deed = deed }
 
+-- entries with the same fields are the same
 same_fields : (a b : Entry) → a.election ≡ b.election → a.maker ≡ b.maker → a.number ≡ b.number → a.stamp ≡ b.stamp →
     a.names ≡ b.names → a.deed ≡ b.deed → a ≡ b
 same_fields a b e m n s names d =
@@ -109,6 +115,7 @@ same_fields a b e m n s names d =
     ∙ ap (λ x. entry_with b.election b.maker b.number b.stamp x a.deed) names
     ∙ ap (entry_with b.election b.maker b.number b.stamp b.names) d
 
+-- the members of a body, and of a signed entry
 abbrev body_members : Entry → List Sexp
 body_members entry =
     Atom (codes "entry") ∷ Atom (codes "1") ∷ Atom entry.election ∷ number_atom entry.maker ∷ number_atom entry.number
@@ -118,6 +125,7 @@ body_members entry =
 member : (i : ℕ) {trees others : List Sexp} → trees ≡ others → get_or trees i (Atom []) ≡ get_or others i (Atom [])
 member i e = ap (λ ts. get_or ts i (Atom [])) e
 
+-- an entry has one body
 one_body : (entry other : Entry) → IsEntry entry → IsEntry other → body_tree entry ≡ body_tree other → entry ≡ other
 one_body entry other h k e =
     let same : body_members entry ≡ body_members other = same_members (body_members entry) (body_members other) e in
@@ -145,6 +153,7 @@ one_signed body other signature another e =
     let signatures : Atom signature ≡ Atom another = member 2 same in
     (member 1 same, ap octets_of signatures)
 
+-- a text has one entry and one signature
 pub one_entry : (text : List ℕ) (entry other : Entry) (signature another : List ℕ) →
     IsSignedText text entry signature → IsSignedText text other another →
     (entry ≡ other) × (signature ≡ another)

@@ -17,6 +17,7 @@ use Rattle.entry_format.proofs.OneEntry.{one_entry}
 use Rattle.entry_format.proofs.Forms.{no_fault, one_fault}
 use Rattle.entry_format.proofs.Keys.{signs_same}
 
+-- nothing is below what is at most as great
 below : {m n : ℕ} → n ≤ m → m < n → ⊥
 below le lt = omega arith
 
@@ -45,7 +46,8 @@ module _ (machines : List Post) (election : List ℕ) (entry : Entry) (signature
   only_unknown_maker Memory h same unknown = absurd h
 
   only_wrong_index : (fault : EntryFault) → IsEntryFault machines election entry signature fault →
-      (entry.election ≡ election) → (entry.maker < length machines) → (HasIndex signature entry.number → ⊥) → fault ≡ WrongIndex
+      (entry.election ≡ election) → (entry.maker < length machines) → (HasIndex signature entry.number → ⊥) →
+      fault ≡ WrongIndex
   only_wrong_index NotCanonical h same known wrong = absurd h
   only_wrong_index WrongShape h same known wrong = absurd h
   only_wrong_index NamesNotRising h same known wrong = absurd h
@@ -56,7 +58,8 @@ module _ (machines : List Post) (election : List ℕ) (entry : Entry) (signature
   only_wrong_index Memory h same known wrong = absurd h
 
   only_bad_signature : (fault : EntryFault) → IsEntryFault machines election entry signature fault →
-      (entry.election ≡ election) → (entry.maker < length machines) → HasIndex signature entry.number → fault ≡ BadSignature
+      (entry.election ≡ election) → (entry.maker < length machines) → HasIndex signature entry.number →
+      fault ≡ BadSignature
   only_bad_signature NotCanonical h same known right = absurd h
   only_bad_signature WrongShape h same known right = absurd h
   only_bad_signature NamesNotRising h same known right = absurd h
@@ -124,6 +127,7 @@ no_fault_of_valid machines election text sealed fault h (inr (entry, signature, 
     not_valid machines election text sealed fault h
     (same_fault machines election entry sealed.entry signature sealed.signature fault same bad)
 
+-- at most one fault of a text applies
 one_fault_of_text : (machines : List Post) (election text : List ℕ) (fault other : EntryFault) →
     IsFault machines election text fault → IsFault machines election text other → fault ≡ other
 one_fault_of_text machines election text fault other (inl h) (inl k) = one_fault text fault other h k
@@ -141,6 +145,7 @@ abbrev sealed_with : Entry → List ℕ → List ℕ → List ℕ → List ℕ �
 sealed_with entry signature text digest key =
     record { entry = entry; signature = signature; text = text; digest = digest; key = key }
 
+-- sealed entries with the same parts are the same
 same_sealed : (a b : SealedEntry) → a.entry ≡ b.entry → a.signature ≡ b.signature → a.text ≡ b.text →
     a.digest ≡ b.digest → a.key ≡ b.key → a ≡ b
 same_sealed a b e s t d k =
@@ -150,6 +155,7 @@ same_sealed a b e s t d k =
     ∙ ap (λ x. sealed_with b.entry b.signature b.text x a.key) d
     ∙ ap (sealed_with b.entry b.signature b.text b.digest) k
 
+-- a text is that of one valid sealed entry
 one_sealed : (machines : List Post) (election text : List ℕ) (sealed other : SealedEntry) →
     IsValid machines election text sealed → IsValid machines election text other → sealed ≡ other
 one_sealed machines election text sealed other h k =
@@ -163,7 +169,8 @@ one_sealed machines election text sealed other h k =
 -- at most one answer is right
 pub one_unsealing : (machines : List Post) (election text : List ℕ) (answer other : Result SealedEntry EntryFault) →
     Unseals machines election text answer → Unseals machines election text other → answer ≡ other
-one_unsealing machines election text (Ok sealed) (Ok other) h k = ap Ok (one_sealed machines election text sealed other h k)
+one_unsealing machines election text (Ok sealed) (Ok other) h k =
+    ap Ok (one_sealed machines election text sealed other h k)
 one_unsealing machines election text (Ok sealed) (Err fault) h k =
     absurd (no_fault_of_valid machines election text sealed fault h k)
 one_unsealing machines election text (Err fault) (Ok sealed) h k =

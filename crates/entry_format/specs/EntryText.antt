@@ -9,16 +9,31 @@ use Rattle.entry_format.specs.declared.deed.Deed.TheVariants.{Opened, Authorise,
 use Rattle.entry_format.specs.declared.deed.Deed.TheVariants.{Cast, Cancel}
 use Rattle.entry_format.specs.declared.entry.Entry.{Entry}
 
--- a deed, one row each
+-- a deed's word
+abbrev pub deed_word : Deed → List ℕ
+deed_word Opened = codes "opened"
+deed_word (Authorise booth session) = codes "authorise"
+deed_word (Override session) = codes "override"
+deed_word Closed = codes "closed"
+deed_word (Activate session) = codes "activate"
+deed_word (Commit session ballot) = codes "commit"
+deed_word (Cast session ballot) = codes "cast"
+deed_word (Cancel session) = codes "cancel"
+
+-- what follows its word
+abbrev pub deed_rest : Deed → List Sexp
+deed_rest Opened = []
+deed_rest (Authorise booth session) = number_atom booth ∷ number_atom session ∷ []
+deed_rest (Override session) = number_atom session ∷ []
+deed_rest Closed = []
+deed_rest (Activate session) = number_atom session ∷ []
+deed_rest (Commit session ballot) = number_atom session ∷ Atom ballot ∷ []
+deed_rest (Cast session ballot) = number_atom session ∷ Atom ballot ∷ []
+deed_rest (Cancel session) = number_atom session ∷ []
+
+-- a deed
 abbrev pub deed_tree : Deed → Sexp
-deed_tree Opened = list_of (Atom (codes "opened") ∷ [])
-deed_tree (Authorise booth session) = list_of (Atom (codes "authorise") ∷ number_atom booth ∷ number_atom session ∷ [])
-deed_tree (Override session) = list_of (Atom (codes "override") ∷ number_atom session ∷ [])
-deed_tree Closed = list_of (Atom (codes "closed") ∷ [])
-deed_tree (Activate session) = list_of (Atom (codes "activate") ∷ number_atom session ∷ [])
-deed_tree (Commit session ballot) = list_of (Atom (codes "commit") ∷ number_atom session ∷ Atom ballot ∷ [])
-deed_tree (Cast session ballot) = list_of (Atom (codes "cast") ∷ number_atom session ∷ Atom ballot ∷ [])
-deed_tree (Cancel session) = list_of (Atom (codes "cancel") ∷ number_atom session ∷ [])
+deed_tree deed = list_of (Atom (deed_word deed) ∷ deed_rest deed)
 
 -- 32 octets
 abbrev pub IsDigest : List ℕ → Type 0

@@ -1,7 +1,8 @@
 pub mod EntryText
+pub mod Deeds
 pub mod Reading
-pub mod Parts
 pub mod Nodes
 pub mod SealedEntry
 pub mod Sealing
 pub mod Unsealing
+pub mod inside

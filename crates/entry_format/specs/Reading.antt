@@ -1,8 +1,7 @@
 -- What reading an entry's text answers.
-use Rattle.std.specs.Prelude.{◌≡◌, ℕ, List, Result, Ok, Err}
+use Rattle.std.specs.Prelude.{◌≡◌, ℕ, List, codes, Result, Ok, Err}
 use Rattle.sha2.specs.Sha256.{sha256}
-use Rattle.canonical_sexp.specs.declared.sexp.Sexp.{Sexp}
-use Rattle.canonical_sexp.specs.Text.{text_of, Fits}
+use Rattle.canonical_sexp.specs.Reading.{IsCanonical}
 use Rattle.entry_order.specs.Ascending.{IsAscending}
 use Rattle.entry_format.specs.declared.entry.Entry.{Entry}
 use Rattle.entry_format.specs.declared.plain.Plain.{Plain}
@@ -12,11 +11,7 @@ use Rattle.entry_format.specs.declared.plain.EntryFault.TheVariants.{OtherElecti
 use Rattle.entry_format.specs.declared.plain.EntryFault.TheVariants.{BadSignature, Memory}
 use Rattle.entry_format.specs.EntryText.{IsSignedText}
 
--- the text is one canonical text within the limits, and nothing else
-abbrev pub IsCanonical : List ℕ → Type 0
-IsCanonical text = (tree : Sexp) × Fits tree × (text ≡ text_of tree)
-
--- it is that of some entry with some signature, the order of names aside
+-- the text is that of some entry with some signature, the order of names aside
 abbrev pub HasForm : List ℕ → Type 0
 HasForm text = (entry : Entry) × (signature : List ℕ) × IsSignedText text entry signature
 
@@ -42,3 +37,14 @@ Reads text (Ok plain) =
     ((signature : List ℕ) × IsSignedText text plain.entry signature) × IsAscending plain.entry.names
     × (plain.digest ≡ sha256 text)
 Reads text (Err fault) = IsFormFault text fault
+
+-- the word of a fault
+abbrev pub fault_word : EntryFault → List ℕ
+fault_word NotCanonical = codes "NotCanonical"
+fault_word WrongShape = codes "WrongShape"
+fault_word NamesNotRising = codes "NamesNotRising"
+fault_word OtherElection = codes "OtherElection"
+fault_word UnknownMaker = codes "UnknownMaker"
+fault_word WrongIndex = codes "WrongIndex"
+fault_word BadSignature = codes "BadSignature"
+fault_word Memory = codes "Memory"

@@ -1,9 +1,10 @@
-//! Entries of the network's logs (Auditorium, EVT 2007): what a machine did, signed, naming by digest
-//! the entries that it had seen last. An entry has one text, and every other text is refused by the
-//! first cause that applies.
+//! Entries of the network's logs (Auditorium, EVT 2007): what a machine did, signed, naming by
+//! digest the entries that it had seen last. An entry has one text, and every other text is refused
+//! by the first cause that applies.
 #![tactic(auto)]
 
 mod deed;
+mod deed_reading;
 mod entry;
 mod form;
 mod laws;
@@ -11,16 +12,17 @@ mod plain;
 mod reading;
 mod sealed;
 mod sealing;
+mod taking;
 mod unsealing;
 mod writing;
 
 pub use deed::Deed;
 pub use entry::{Entry, Names};
 pub use laws::{one_reading_is_right, one_unsealing_is_right, texts_have_one_entry};
-pub use plain::{EntryFault, Plain, read_unsigned, read_unsigned_tree};
+pub use plain::{EntryFault, Plain, read_unsigned, read_unsigned_text, read_unsigned_tree};
 pub use sealed::{Memory, Sealed};
 pub use sealing::{SealFault, seal};
-pub use unsealing::{unseal, unseal_tree};
+pub use unsealing::{unseal, unseal_text};
 
 #[cfg(test)]
 mod sealed_tests;

@@ -1,11 +1,11 @@
 //! Entries whose signatures aren't looked at.
 ghost use Rattle.std.specs.Prelude.{◌≡◌, ◌≢◌, Err};
 ghost use Rattle.canonical_sexp.specs.Text.{text_of, Fits};
-ghost use Rattle.entry_format.specs.Reading.{Reads};
+ghost use Rattle.entry_format.specs.Reading.{Reads, fault_word};
 
 use crate::entry::Entry;
-use crate::form::{read_form, whole_tree};
-use canonical_sexp::Sexp;
+use crate::form::read_form;
+use canonical_sexp::{Sexp, Text, whole_text};
 use entry_order::Knot;
 use sha2::{Digest, Sha256};
 use std::alloc::{AllocError, Global};
@@ -38,6 +38,24 @@ pub enum EntryFault {
     BadSignature,
     #[error("out of memory")]
     Memory,
+}
+
+impl EntryFault {
+    /// The fault's word in lines.
+    pub fn word(self) -> &'static str
+        ensures { result.now ≡ fault_word self }
+    {
+        match self {
+            EntryFault::NotCanonical => "NotCanonical",
+            EntryFault::WrongShape => "WrongShape",
+            EntryFault::NamesNotRising => "NamesNotRising",
+            EntryFault::OtherElection => "OtherElection",
+            EntryFault::UnknownMaker => "UnknownMaker",
+            EntryFault::WrongIndex => "WrongIndex",
+            EntryFault::BadSignature => "BadSignature",
+            EntryFault::Memory => "Memory",
+        }
+    }
 }
 
 impl From<AllocError> for EntryFault {
@@ -85,27 +103,39 @@ impl Knot for Plain {
 pub fn read_unsigned(alloc: Global, text: &[u8]) -> Result<Plain, EntryFault>
     ensures { result ≢ Err EntryFault.Memory → Reads text.now result }
 {
-    match whole_tree(alloc, text) {
-        Ok(tree) => read_unsigned_tree(alloc, &tree, text),
-        Err(fault) => Err(fault),
+    match whole_text(text) {
+        Ok(tree) => read_unsigned_text(alloc, &tree),
+        Err(_at) => Err(EntryFault::NotCanonical),
     }
 }
 
-/// The same of a text whose tree was read already, as that of a record in a log.
+/// The same of a text that stands in another, as that of a record in a log.
 ///
 /// # Errors
 ///
 /// `WrongShape`, then `NamesNotRising`, or `Memory`.
-pub fn read_unsigned_tree(alloc: Global, tree: &Sexp, text: &[u8]) -> Result<Plain, EntryFault>
-    requires fits { Fits tree.now }
-    requires text { text.now ≡ text_of tree.now }
-    ensures { result ≢ Err EntryFault.Memory → Reads text.now result }
+pub fn read_unsigned_text(alloc: Global, text: &Text<'_>) -> Result<Plain, EntryFault>
+    ensures { result ≢ Err EntryFault.Memory → Reads (text_of text.now) result }
 {
-    match read_form(alloc, tree) {
+    let bytes = text.bytes();
+    match read_form(alloc, text) {
         Ok(form) => Ok(Plain {
             entry: form.entry,
-            digest: Sha256::digest(text),
+            digest: Sha256::digest(bytes),
         }),
         Err(fault) => Err(fault),
     }
+}
+
+/// The same of a text whose tree was read already: its bytes are read where they stand.
+///
+/// # Errors
+///
+/// `WrongShape`, then `NamesNotRising`, or `Memory`.
+pub fn read_unsigned_tree(alloc: Global, _tree: &Sexp, text: &[u8]) -> Result<Plain, EntryFault>
+    requires fits { Fits _tree.now }
+    requires text { text.now ≡ text_of _tree.now }
+    ensures { result ≢ Err EntryFault.Memory → Reads text.now result }
+{
+    read_unsigned(alloc, text)
 }

@@ -1,81 +1,72 @@
-//! Reading the parts of an entry from a tree.
-ghost use Rattle.std.specs.Prelude.{◌≡◌, ◌^◌, ◌<◌, ◌↔◌, List, ℕ, map, All, IfOk, IfSome, IfNone, IsTrue};
-ghost use Rattle.canonical_sexp.specs.Sexp.{forest_of};
-ghost use Rattle.canonical_sexp.specs.Forms.{Finds};
+//! Reading the parts of an entry where its text stands. What is of the wrong shape is found without
+//! memory; of what is read only the names are copied to the heap.
+ghost use Rattle.std.specs.Prelude.{◌≡◌, ◌≢◌, ◌↔◌, List, ℕ, map, All, IfOk, IfSome, IfNone, IsTrue};
+ghost use Rattle.canonical_sexp.specs.Forest.{Forest};
+ghost use Rattle.canonical_sexp.specs.Forms.{Finds, list_of};
+ghost use Rattle.canonical_sexp.specs.Sexp.{in_front};
 ghost use Rattle.canonical_sexp.specs.declared.sexp.Sexp.{Sexp};
 ghost use Rattle.canonical_sexp.specs.declared.sexp.Sexp.TheVariants.{Atom};
 ghost use Rattle.entry_order.specs.Ascending.{IsAscending};
-ghost use Rattle.entry_format.specs.EntryText.{IsDigest, IsDeed, IsEntry, deed_tree, body_tree};
+ghost use Rattle.entry_format.specs.EntryText.{IsDigest, IsEntry, body_tree};
 ghost use Rattle.entry_format.specs.declared.entry.Entry.{Entry};
-ghost use Rattle.entry_format.specs.Parts.{IsBody, IsSigned};
+ghost use Rattle.entry_format.specs.inside.Parts.{AreNames, IsHead, beginning_then, head_then, IsBody, IsSigned};
+ghost use Rattle.entry_format.specs.declared.reading.Head.{Head};
 ghost use Rattle.std.specs.Cmp.Lexicographic.{slice_cmp};
 ghost use Rattle.std.specs.Ordering.{nat_cmp};
 ghost use Rattle.std.specs.declared.cmp.Ordering.TheVariants.{Less};
 
 use crate::deed::Deed;
+use crate::deed_reading::last_deed;
 use crate::entry::{Entry, Names};
-use canonical_sexp::{Members, Memory, Octets, Sexp};
+use crate::taking::{digest_from, last_atom, take_digest, take_number, take_word};
+use canonical_sexp::{Memory, Rest, Text};
 use std::alloc::Global;
 use std::cmp::Ordering;
 
-/// The digest that the tree is the atom of: 32 octets.
-fn digest_of(tree: &Sexp) -> Option<[u8; 32]>
+/// The digest that the tree is the atom of.
+fn digest_of(tree: &Text<'_>) -> Option<[u8; 32]>
     ensures { Finds (λ digest. IsDigest digest × (tree.now ≡ Atom digest)) result }
 {
-    let octets = tree.as_atom()?.as_slice();
-    if octets.len() != 32 {
-        return None;
-    }
-    let mut digest = [0; 32];
-    digest.copy_from_slice(octets);
-    Some(digest)
+    digest_from(tree.as_atom()?)
 }
 
-/// The deed that the tree is.
-fn deed_of(tree: &Sexp) -> Option<Deed>
-    ensures { Finds (λ deed. IsDeed deed × (tree.now ≡ deed_tree deed)) result }
+/// Whether the tree is a list of digests.
+fn are_names(tree: &Text<'_>) -> bool
+    ensures { IsTrue result ↔ AreNames tree.now }
 {
-    match tree.as_list()?.as_slice() {
-        [word] if word.is_word(b"opened") => Some(Deed::Opened),
-        [word, booth, session] if word.is_word(b"authorise") => Some(Deed::Authorise {
-            booth: booth.as_number()?,
-            session: session.as_number()?,
-        }),
-        [word, session] if word.is_word(b"override") => Some(Deed::Override {
-            session: session.as_number()?,
-        }),
-        [word] if word.is_word(b"closed") => Some(Deed::Closed),
-        [word, session] if word.is_word(b"activate") => Some(Deed::Activate {
-            session: session.as_number()?,
-        }),
-        [word, session, ballot] if word.is_word(b"commit") => Some(Deed::Commit {
-            session: session.as_number()?,
-            ballot: digest_of(ballot)?,
-        }),
-        [word, session, ballot] if word.is_word(b"cast") => Some(Deed::Cast {
-            session: session.as_number()?,
-            ballot: digest_of(ballot)?,
-        }),
-        [word, session] if word.is_word(b"cancel") => Some(Deed::Cancel {
-            session: session.as_number()?,
-        }),
-        _ => None,
-    }
-}
-
-/// The digests that the members are, one each.
-fn names_of(alloc: Global, members: &Members) -> Result<Option<Names>, Memory>
-    ensures { IfOk result (λ found. Finds
-        (λ names. All IsDigest names × (members.now ≡ forest_of (map Atom names))) found) }
-{
-    let mut digests = Vec::new(alloc);
-    for member in members.as_slice() {
-        let Some(digest) = digest_of(member) else {
-            return Ok(None);
+    let Some(mut members) = tree.as_list() else {
+        return false;
+    };
+    while let Some(member) = members.take_next() {
+        let Some(_digest) = digest_of(&member) else {
+            return false;
         };
-        digests.push(digest)?;
     }
-    Ok(Some(Names::new(digests)))
+    true
+}
+
+/// Takes the next member, if it is a list of digests.
+fn take_names<'a>(members: &mut Rest<'a>) -> Option<Text<'a>>
+    ensures found { IfSome result (λ names. AreNames names
+        × (members.old ≡ in_front names members.new)) }
+    ensures none { IfNone result ((digests : List (List ℕ)) (rest : Forest) →
+        All IsDigest digests → members.old ≢ in_front (list_of (map Atom digests)) rest) }
+{
+    let names = members.take_next()?;
+    if are_names(&names) { Some(names) } else { None }
+}
+
+/// The digests of a list of digests.
+fn names_of(alloc: Global, tree: &Text<'_>) -> Result<Names, Memory>
+    requires { AreNames tree.now }
+    ensures { IfOk result (λ names. All IsDigest names × (tree.now ≡ list_of (map Atom names))) }
+{
+    let mut members = tree.as_list().unwrap();
+    let mut digests = Vec::with_capacity(alloc, members.len())?;
+    while let Some(member) = members.take_next() {
+        digests.push(digest_of(&member).unwrap())?;
+    }
+    Ok(Names::new(digests))
 }
 
 /// Whether a digest is below another in the order of bytes.
@@ -86,7 +77,7 @@ fn is_below(digest: &[u8; 32], other: &[u8; 32]) -> bool
 }
 
 /// Whether each digest is below the next in the order of bytes.
-pub fn is_rising(digests: &[[u8; 32]]) -> bool
+pub(crate) fn is_rising(digests: &[[u8; 32]]) -> bool
     ensures { IsTrue result ↔ IsAscending digests.now }
 {
     for i in 1..digests.len() {
@@ -97,69 +88,100 @@ pub fn is_rising(digests: &[[u8; 32]]) -> bool
     true
 }
 
-/// The fields of a body that need no memory.
-#[derive(Drop)]
-struct Fields<'a> {
+/// The fields of a body before its names.
+#[derive(Clone, Copy)]
+struct Head {
     election: [u8; 32],
     maker: u32,
     number: u32,
     stamp: u32,
-    names: &'a Members,
+}
+
+/// Takes the members of a body up to its election.
+fn take_beginning(members: &mut Rest<'_>) -> Option<[u8; 32]>
+    ensures found { IfSome result (λ election. IsDigest election
+        × (members.old ≡ beginning_then election members.new)) }
+    ensures none { IfNone result ((election : List ℕ) (rest : Forest) → IsDigest election →
+        members.old ≢ beginning_then election rest) }
+{
+    take_word(members, b"entry")?;
+    take_word(members, b"1")?;
+    take_digest(members)
+}
+
+/// Takes the members of a body before its names.
+fn take_head(members: &mut Rest<'_>) -> Option<Head>
+    ensures found { IfSome result (λ head. IsHead head
+        × (members.old ≡ head_then head members.new)) }
+    ensures none { IfNone result ((head : Head) (rest : Forest) → IsHead head →
+        members.old ≢ head_then head rest) }
+{
+    Some(Head {
+        election: take_beginning(members)?,
+        maker: take_number(members)?,
+        number: take_number(members)?,
+        stamp: take_number(members)?,
+    })
+}
+
+/// The fields of a body, the names as the text of their list.
+#[derive(Drop)]
+struct Fields<'a> {
+    head: Head,
+    names: Text<'a>,
     deed: Deed,
 }
 
+/// The fields of the body that the tree is.
+fn fields_of<'a>(tree: &Text<'a>) -> Option<Fields<'a>>
+    ensures found { IfSome result (λ fields. IsBody tree.now fields) }
+    ensures none { IfNone result ((entry : Entry) → IsEntry entry →
+        tree.now ≡ body_tree entry → ⊥) }
+{
+    let mut members = tree.as_list()?;
+    let Some(head) = take_head(&mut members) else {
+        return None;
+    };
+    let names = take_names(&mut members)?;
+    let deed = last_deed(&mut members)?;
+    Some(Fields { head, names, deed })
+}
+
 /// The entry whose body the tree is.
-pub fn entry_of(alloc: Global, tree: &Sexp) -> Result<Option<Entry>, Memory>
+pub(crate) fn entry_of(alloc: Global, tree: &Text<'_>) -> Result<Option<Entry>, Memory>
     ensures { IfOk result (λ found. Finds
         (λ entry. IsEntry entry × (tree.now ≡ body_tree entry)) found) }
 {
     let Some(fields) = fields_of(tree) else {
         return Ok(None);
     };
-    let Some(names) = names_of(alloc, fields.names)? else {
-        return Ok(None);
-    };
+    let names = names_of(alloc, &fields.names)?;
     Ok(Some(Entry {
-        election: fields.election,
-        maker: fields.maker,
-        number: fields.number,
-        stamp: fields.stamp,
+        election: fields.head.election,
+        maker: fields.head.maker,
+        number: fields.head.number,
+        stamp: fields.head.stamp,
         names,
         deed: fields.deed,
     }))
 }
 
 /// The body and the signature of a signed entry.
-pub fn signed_parts(tree: &Sexp) -> Option<(&Sexp, &Octets)>
-    ensures found { IfSome result (λ parts. IsSigned tree.now parts.0.now parts.1.now) }
+#[derive(Drop)]
+pub(crate) struct Signed<'a> {
+    pub(crate) body: Text<'a>,
+    pub(crate) signature: &'a [u8],
+}
+
+/// The parts of a signed entry.
+pub(crate) fn signed_parts<'a>(tree: &Text<'a>) -> Option<Signed<'a>>
+    ensures found { IfSome result (λ parts. IsSigned tree.now parts.body parts.signature.now) }
     ensures none { IfNone result ((body : Sexp) (signature : List ℕ) →
         IsSigned tree.now body signature → ⊥) }
 {
-    match tree.as_list()?.as_slice() {
-        [word, body, signature] if word.is_word(b"sealed") => Some((body, signature.as_atom()?)),
-        _ => None,
-    }
-}
-
-/// The fields of the body that the tree is.
-fn fields_of(tree: &Sexp) -> Option<Fields<'_>>
-    ensures found { IfSome result (λ fields. IsBody tree.now fields) }
-    ensures none { IfNone result ((entry : Entry) → IsEntry entry →
-        tree.now ≡ body_tree entry → ⊥) }
-{
-    let [word, version, election, maker, number, stamp, names, deed] = tree.as_list()?.as_slice()
-    else {
-        return None;
-    };
-    if !word.is_word(b"entry") || !version.is_word(b"1") {
-        return None;
-    }
-    Some(Fields {
-        election: digest_of(election)?,
-        maker: maker.as_number()?,
-        number: number.as_number()?,
-        stamp: stamp.as_number()?,
-        names: names.as_list()?,
-        deed: deed_of(deed)?,
-    })
+    let mut members = tree.as_list()?;
+    take_word(&mut members, b"sealed")?;
+    let body = members.take_next()?;
+    let signature = last_atom(&mut members)?;
+    Some(Signed { body, signature })
 }

@@ -11,8 +11,8 @@ use std::marker::Model;
 /// Want of memory.
 pub type Memory = AllocError;
 
-/// An entry with its signature, its signed text, the text's digest and its maker's key, which belong
-/// together: each value was signed with a secret key, or its signature was verified.
+/// An entry with its signature, its signed text, the text's digest and its maker's key, which
+/// belong together: each value was signed with a secret key, or its signature was verified.
 #[derive(Debug, Drop)]
 pub struct Sealed {
     entry: Entry,
@@ -59,6 +59,22 @@ impl Sealed {
             digest,
             key,
         }
+    }
+
+    /// The sealed entry of these parts, which are copied.
+    pub(crate) fn from_slices(
+        alloc: Global,
+        entry: Entry,
+        signature: &[u8],
+        text: &[u8],
+        key: [u8; 56],
+    ) -> Result<Sealed, Memory>
+        requires { IsSealed (sealed_from entry signature.now text.now key) }
+        ensures { IfOk result (λ sealed. sealed ≡ sealed_from entry signature.now text.now key) }
+    {
+        let signature = Vec::from_slice(alloc, signature)?;
+        let text = Vec::from_slice(alloc, text)?;
+        Ok(Sealed::new(entry, signature, text, key))
     }
 
     /// What the maker says.

@@ -1,18 +1,13 @@
 //! Sealed entries: the first fault of a text, and entries that another program seals likewise.
 use super::*;
 use crate::reading::is_rising;
+use crate::tests::text_in;
 use hex::encode;
 use lms_ots::OtsKind;
 use lms_sign::{LmsSecret, sign_each};
 use roster::{Roster, election};
 use std::alloc::Global;
 use std::test::Fail;
-
-const RISING: &str = "32:aaaaaaaaaaaaaaaaaaaaaaaaaaaaaaaa32:bbbbbbbbbbbbbbbbbbbbbbbbbbbbbbbb";
-
-const FALLING: &str = "32:bbbbbbbbbbbbbbbbbbbbbbbbbbbbbbbb32:aaaaaaaaaaaaaaaaaaaaaaaaaaaaaaaa";
-
-const OPENED: &str = "(6:opened)";
 
 const SUPERVISOR_ID: [u8; 16] = [0, 1, 2, 3, 4, 5, 6, 7, 8, 9, 10, 11, 12, 13, 14, 15];
 
@@ -30,13 +25,6 @@ fn roster_text(alloc: Global, supervisor: &[u8], booth: &[u8]) -> Result<Vec<u8>
     text.extend_from_slice(booth)?;
     text.extend_from_slice(b"))")?;
     Ok(text)
-}
-
-/// The text of a body with these parts, each as a text. The election is 32 times `e`, the number is 7
-/// and the stamp 9.
-fn body_text(alloc: Global, maker: &str, names: &str, deed: &str) -> Result<String, Fail> {
-    let election = "32:eeeeeeeeeeeeeeeeeeeeeeeeeeeeeeee";
-    Ok(format!(in alloc; "(5:entry1:1{election}{maker}1:71:9({names}){deed})")?)
 }
 
 /// The text of the body with the signature.
@@ -90,27 +78,51 @@ fn sealed_by(
     Some(seal(alloc, &roster, secret, entry))
 }
 
-/// The first fault of the text of this body with this signature, or, where that is empty, with one by
-/// the key's first index.
+/// The fault of the row's entry: its election, maker, names, deed and signature. The election is 32
+/// times a letter. A signature is its octets as digits; where there are none, it is one with the
+/// key's first index.
 fn fault_of(
     alloc: Global,
     roster: &Roster,
     secret: &LmsSecret,
-    election: u8,
-    body: &str,
-    signature: &[u8],
+    row: &str,
 ) -> Result<Option<EntryFault>, Fail> {
-    let text = if signature.is_empty() {
-        let signature = secret.signature(alloc, body.as_bytes())?;
-        signed_text(alloc, body.as_bytes(), &signature)?
-    } else {
-        signed_text(alloc, body.as_bytes(), signature)?
+    let parts: Vec<&str> = row.split('|').collect(alloc)?;
+    let [election, maker, names, deed, digits] = parts.as_slice() else {
+        return Ok(None);
     };
-    Ok(unseal(alloc, roster, &[election; 32], &text).err())
+    let body = format!(in alloc; "(5:entry1:1E{maker}1:71:9({names}){deed})")?;
+    let body = text_in(alloc, body.as_str())?;
+    let mut signature = Vec::new(alloc);
+    for digit in digits.as_bytes() {
+        signature.push(digit.saturating_sub(b'0'))?;
+    }
+    if signature.is_empty() {
+        signature = secret.signature(alloc, &body)?;
+    }
+    let text = signed_text(alloc, &body, &signature)?;
+    let election = [if *election == "E" { b'e' } else { b'o' }; 32];
+    Ok(unseal(alloc, roster, &election, &text).err())
 }
 
+/// Entries with their first faults. The key of the second machine has an unknown type.
+const FAULTS: &str = "E|1:0||(06:opened)|0007 = NotCanonical
+E|1:0||(4:vote)|0007 = WrongShape
+E|1:0|BA|(6:opened)|0007 = NamesNotRising
+O|1:0|AB|(6:opened)|0007 = OtherElection
+E|1:2|AB|(6:opened)|0007 = UnknownMaker
+E|1:0|AB|(6:opened)| = WrongIndex
+E|1:0|AB|(6:opened)|007 = WrongIndex
+E|1:0|AB|(6:opened)|0007 = BadSignature
+E|1:1|AB|(6:opened)|0007 = BadSignature
+E|1:0|BA|(4:vote)|0007 = WrongShape
+O|1:0|BA|(6:opened)|0007 = NamesNotRising
+O|1:2|AB|(6:opened)|0007 = OtherElection
+E|1:2|AB|(6:opened)|0008 = UnknownMaker
+E|1:0|AB|(6:opened)|0008 = WrongIndex";
+
 #[test]
-fn the_first_fault_of_a_sealed_text_is_told(rt: HostRuntime) -> Result<(), Fail> {
+fn sealed_texts_are_refused_by_their_first_fault(rt: HostRuntime) -> Result<(), Fail> {
     let alloc = rt.alloc();
     let secret = LmsSecret::make(alloc, OtsKind::W4, 5, SUPERVISOR_ID, SEED)?;
     let key = secret.public();
@@ -119,113 +131,41 @@ fn the_first_fault_of_a_sealed_text_is_told(rt: HostRuntime) -> Result<(), Fail>
         assert!(rt; false, "the roster is read");
         return Ok(());
     };
-    let seventh = b"\0\0\0\x07".as_slice();
-    let eighth = b"\0\0\0\x08".as_slice();
-    let short = b"\0\0\x07".as_slice();
-    let good = b"".as_slice();
-    let vote = "(4:vote)";
-    for (election, maker, names, deed, signature, want) in [
-        (
-            b'e',
-            "1:0",
-            "",
-            "(06:opened)",
-            seventh,
-            EntryFault::NotCanonical,
-        ),
-        (b'e', "1:0", "", vote, seventh, EntryFault::WrongShape),
-        (
-            b'e',
-            "1:0",
-            FALLING,
-            OPENED,
-            seventh,
-            EntryFault::NamesNotRising,
-        ),
-        (
-            b'o',
-            "1:0",
-            RISING,
-            OPENED,
-            seventh,
-            EntryFault::OtherElection,
-        ),
-        (
-            b'e',
-            "1:2",
-            RISING,
-            OPENED,
-            seventh,
-            EntryFault::UnknownMaker,
-        ),
-        (b'e', "1:0", RISING, OPENED, good, EntryFault::WrongIndex),
-        (b'e', "1:0", RISING, OPENED, short, EntryFault::WrongIndex),
-        (
-            b'e',
-            "1:0",
-            RISING,
-            OPENED,
-            seventh,
-            EntryFault::BadSignature,
-        ),
-        // The second machine's key has an unknown type.
-        (
-            b'e',
-            "1:1",
-            RISING,
-            OPENED,
-            seventh,
-            EntryFault::BadSignature,
-        ),
-        // Two faults each, of which the earlier is told.
-        (b'e', "1:0", FALLING, vote, seventh, EntryFault::WrongShape),
-        (
-            b'o',
-            "1:0",
-            FALLING,
-            OPENED,
-            seventh,
-            EntryFault::NamesNotRising,
-        ),
-        (
-            b'o',
-            "1:2",
-            RISING,
-            OPENED,
-            seventh,
-            EntryFault::OtherElection,
-        ),
-        (
-            b'e',
-            "1:2",
-            RISING,
-            OPENED,
-            eighth,
-            EntryFault::UnknownMaker,
-        ),
-        (b'e', "1:0", RISING, OPENED, eighth, EntryFault::WrongIndex),
-    ] {
-        let body = body_text(alloc, maker, names, deed)?;
-        let fault = fault_of(alloc, &roster, &secret, election, body.as_str(), signature)?;
-        assert_eq!(rt; fault, Some(want), "{maker} {names} {deed}");
+    for row in FAULTS.lines() {
+        if let Some((entry, want)) = row.split_once(" = ") {
+            match fault_of(alloc, &roster, &secret, entry)? {
+                Some(fault) => assert_eq!(rt; fault.word(), want, "{entry}"),
+                None => assert!(rt; false, "{entry} is unsealed"),
+            }
+        }
     }
     Ok(())
 }
 
-/// Whether unsealing the text gives the sealed entry.
-fn unseals(alloc: Global, roster_text: &[u8], sealed: &Sealed) -> bool {
+/// Whether unsealing the text of an equal sealed entry gives it.
+fn unseals(alloc: Global, roster_text: &[u8], sealed: &Sealed) -> Result<bool, Fail> {
     let Ok(roster) = Roster::read(alloc, roster_text) else {
-        return false;
+        return Ok(false);
     };
-    match unseal(alloc, &roster, &election(roster_text), sealed.text()) {
-        Ok(read) => {
-            read.text() == sealed.text()
-                && *read.digest() == *sealed.digest()
-                && *read.key() == *sealed.key()
-                && read.entry().deed == sealed.entry().deed
-                && read.entry().names.as_slice() == sealed.entry().names.as_slice()
+    let copy = sealed.copy(alloc)?;
+    match unseal(alloc, &roster, &election(roster_text), copy.text()) {
+        Ok(read) => Ok(read.text() == sealed.text()),
+        Err(_) => Ok(false),
+    }
+}
+
+/// The length of what is sealed and its digest in hexadecimal, if it is unsealed again.
+fn sealed_as(
+    alloc: Global,
+    roster_text: &[u8],
+    sealed: Option<Result<Sealed, SealFault>>,
+) -> Result<String, Fail> {
+    match sealed {
+        Some(Ok(sealed)) if unseals(alloc, roster_text, &sealed)? => {
+            let digest = encode(alloc, sealed.digest())?;
+            Ok(format!(in alloc; "{} {}", sealed.text().len(), digest.as_str())?)
         }
-        Err(_) => false,
+        _ => Ok(String::from_str(alloc, "not sealed")?),
     }
 }
 
@@ -236,42 +176,16 @@ fn sealed_entries_are_those_of_another_program(rt: HostRuntime) -> Result<(), Fa
     let mut booth = LmsSecret::make(alloc, OtsKind::W4, 5, BOOTH_ID, SEED)?;
     booth.advance();
     let text = roster_text(alloc, supervisor.public().bytes(), booth.public().bytes())?;
-    let first = sealed_by(
-        alloc,
-        &text,
-        &supervisor,
-        0,
-        1,
-        Vec::new(alloc),
-        Deed::Opened,
-    );
+    let none = Vec::new(alloc);
+    let opened = sealed_by(alloc, &text, &supervisor, 0, 1, none, Deed::Opened);
     let names = Vec::from_slice(alloc, &[[b'a'; 32], [b'b'; 32]])?;
-    let commit = Deed::Commit {
-        session: 3,
-        ballot: [b'v'; 32],
-    };
-    let second = sealed_by(alloc, &text, &booth, 1, 9, names, commit);
-    for (sealed, length, digest) in [
-        (
-            first,
-            2431,
-            "1cbdb043d04e3cffd395f54d57d919e1965a8b6b7e796360f6cdb1c56e4a7ddb",
-        ),
-        (
-            second,
-            2539,
-            "731585973cf6de0352076ded2778464aa9f643bf9d4b9b8d5924deceb3f1e425",
-        ),
-    ] {
-        let Some(Ok(sealed)) = sealed else {
-            assert!(rt; false, "no entry of {length} bytes");
-            return Ok(());
-        };
-        assert_eq!(rt; sealed.text().len(), length);
-        assert_eq!(rt; encode(alloc, sealed.digest())?.as_str(), digest);
-        let copy = sealed.copy(alloc)?;
-        assert!(rt; unseals(alloc, &text, &copy), "of {length} bytes");
-    }
+    let ballot = [b'v'; 32];
+    let commit = Deed::Commit { session: 3, ballot };
+    let committed = sealed_by(alloc, &text, &booth, 1, 9, names, commit);
+    let digest = "2431 1cbdb043d04e3cffd395f54d57d919e1965a8b6b7e796360f6cdb1c56e4a7ddb";
+    assert_eq!(rt; sealed_as(alloc, &text, opened)?.as_str(), digest);
+    let digest = "2539 731585973cf6de0352076ded2778464aa9f643bf9d4b9b8d5924deceb3f1e425";
+    assert_eq!(rt; sealed_as(alloc, &text, committed)?.as_str(), digest);
     Ok(())
 }
 

@@ -1,23 +1,20 @@
 //! From a text to the sealed entry that it is of.
-ghost use Rattle.std.specs.Prelude.{◌≡◌, ◌≢◌, ◌++◌, ◌↔◌, ℕ, List, codes, Err, IfOk, IfErr, IsTrue};
-ghost use Rattle.canonical_sexp.specs.Text.{text_of, Fits};
+ghost use Rattle.std.specs.Prelude.{◌≡◌, ◌≢◌, ◌↔◌, Err, IfOk, IfErr, IsTrue};
+ghost use Rattle.canonical_sexp.specs.Text.{text_of};
 ghost use Rattle.lms_sign.specs.Signs.{Signs};
 ghost use Rattle.entry_format.specs.EntryText.{body_tree};
 ghost use Rattle.entry_format.specs.Sealing.{HasIndex};
 ghost use Rattle.entry_format.specs.Unsealing.{IsEntryFault, Unseals};
-ghost use Rattle.entry_format.specs.Parts.{IsUnder};
+ghost use Rattle.entry_format.specs.inside.Parts.{IsUnder};
 
 use crate::entry::Entry;
-use crate::form::{read_form, whole_tree};
+use crate::form::read_form;
 use crate::plain::EntryFault;
 use crate::sealed::Sealed;
-use canonical_sexp::{Sexp, length_of};
+use canonical_sexp::{Text, whole_text};
 use lms_sign::{LmsPublic, verify};
 use roster::{Post, Roster};
 use std::alloc::Global;
-
-/// The bytes of a signed text before its body, `(6:sealed`.
-const BODY_AT: usize = 9;
 
 /// Whether the signature's first four bytes are the number.
 fn has_index(signature: &[u8], number: u32) -> bool
@@ -70,16 +67,6 @@ fn valid_key(
     Ok(key)
 }
 
-/// The text of the body, which stands in the signed text.
-fn message_in<'a>(text: &'a [u8], body: &Sexp) -> &'a [u8]
-    requires fits { Fits body.now }
-    requires stands { (rest : List ℕ) × (text.now ≡ codes "(6:sealed" ++ text_of body.now ++ rest) }
-    ensures { result.now ≡ text_of body.now }
-{
-    let end = BODY_AT + length_of(body) as usize;
-    &text[BODY_AT..end]
-}
-
 /// Reads an entry's signed text, and verifies its signature under its maker's key in the roster.
 ///
 /// # Errors
@@ -94,42 +81,40 @@ pub fn unseal(
     ensures { result ≢ Err EntryFault.Memory →
         Unseals roster.now.machines election.now text.now result }
 {
-    match whole_tree(alloc, text) {
-        Ok(tree) => unseal_tree(alloc, roster, election, &tree, text),
-        Err(fault) => Err(fault),
+    match whole_text(text) {
+        Ok(tree) => unseal_text(alloc, roster, election, &tree),
+        Err(_at) => Err(EntryFault::NotCanonical),
     }
 }
 
-/// The same of a text whose tree was read already, as that of a record in a log.
+/// The same of a text that stands in another, as that of a record in a log.
 ///
 /// # Errors
 ///
 /// The first cause that applies behind `NotCanonical`.
-pub fn unseal_tree(
+pub fn unseal_text(
     alloc: Global,
     roster: &Roster,
     election: &[u8; 32],
-    tree: &Sexp,
-    text: &[u8],
+    text: &Text<'_>,
 ) -> Result<Sealed, EntryFault>
-    requires fits { Fits tree.now }
-    requires text { text.now ≡ text_of tree.now }
     ensures { result ≢ Err EntryFault.Memory →
-        Unseals roster.now.machines election.now text.now result }
+        Unseals roster.now.machines election.now (text_of text.now) result }
 {
-    let form = match read_form(alloc, tree) {
+    let bytes = text.bytes();
+    let form = match read_form(alloc, text) {
         Ok(form) => form,
         Err(fault) => return Err(fault),
     };
-    let message = message_in(text, form.body);
-    let signature = form.signature.as_slice();
     let machines = roster.machines.as_slice();
-    match valid_key(machines, election, &form.entry, message, signature) {
-        Ok(key) => {
-            let signature = Vec::from_slice(alloc, signature)?;
-            let text = Vec::from_slice(alloc, text)?;
-            Ok(Sealed::new(form.entry, signature, text, key))
-        }
+    match valid_key(
+        machines,
+        election,
+        &form.entry,
+        form.body.bytes(),
+        form.signature,
+    ) {
+        Ok(key) => Ok(Sealed::from_slices(alloc, form.entry, form.signature, bytes, key)?),
         Err(fault) => Err(fault),
     }
 }

@@ -1,42 +1,72 @@
 //! The trees of entries.
-ghost use Rattle.std.specs.Prelude.{◌≡◌, ◌∷◌, [], ◌^◌, ◌<◌, List, map, All, IfOk};
+ghost use Rattle.std.specs.Prelude.{◌≡◌, ◌∷◌, [], ◌^◌, ◌<◌, List, codes, map, All, IfOk, OnOk};
 ghost use Rattle.canonical_sexp.specs.declared.sexp.Sexp.TheVariants.{Atom};
+ghost use Rattle.canonical_sexp.specs.Forest.{no_trees, joined};
 ghost use Rattle.canonical_sexp.specs.Forms.{list_of, number_atom};
+ghost use Rattle.canonical_sexp.specs.Sexp.{in_front, forest_of};
 ghost use Rattle.entry_format.specs.EntryText.{IsDigest, IsDeed, IsEntry, deed_tree, body_tree};
-ghost use Rattle.entry_format.specs.Parts.{IsSigned};
+ghost use Rattle.entry_format.specs.inside.Parts.{IsSigned};
 
 use crate::deed::Deed;
 use crate::entry::Entry;
 use canonical_sexp::{Members, Memory, Sexp, atom, number_atom};
 use std::alloc::Global;
 
-/// A list of one tree.
-fn one(alloc: Global, first: Sexp) -> Result<Sexp, Memory>
-    ensures { IfOk result (λ tree. tree ≡ list_of (first ∷ [])) }
+/// Adds the atom of some octets at the end.
+fn push_atom(alloc: Global, members: &mut Members, octets: &[u8]) -> Result<(), Memory>
+    ensures { OnOk result (members.new ≡ joined members.old (in_front (Atom octets.now) no_trees)) }
+{
+    members.push(atom(alloc, octets)?)
+}
+
+/// Adds the atom of a number at the end.
+fn push_number(alloc: Global, members: &mut Members, number: u32) -> Result<(), Memory>
+    ensures { OnOk result
+        (members.new ≡ joined members.old (in_front (number_atom number) no_trees)) }
+{
+    members.push(number_atom(alloc, number)?)
+}
+
+/// A list of a word.
+fn of_word(alloc: Global, word: &[u8]) -> Result<Sexp, Memory>
+    ensures { IfOk result (λ tree. tree ≡ list_of (Atom word.now ∷ [])) }
 {
     let mut members = Members::new(alloc);
-    members.push(first)?;
+    push_atom(alloc, &mut members, word)?;
     Ok(Sexp::List(members))
 }
 
-/// A list of two trees.
-fn two(alloc: Global, first: Sexp, second: Sexp) -> Result<Sexp, Memory>
-    ensures { IfOk result (λ tree. tree ≡ list_of (first ∷ second ∷ [])) }
+/// A list of a word and a number.
+fn of_number(alloc: Global, word: &[u8], number: u32) -> Result<Sexp, Memory>
+    ensures { IfOk result (λ tree. tree ≡ list_of (Atom word.now ∷ number_atom number ∷ [])) }
 {
     let mut members = Members::new(alloc);
-    members.push(first)?;
-    members.push(second)?;
+    push_atom(alloc, &mut members, word)?;
+    push_number(alloc, &mut members, number)?;
     Ok(Sexp::List(members))
 }
 
-/// A list of three trees.
-fn three(alloc: Global, first: Sexp, second: Sexp, third: Sexp) -> Result<Sexp, Memory>
-    ensures { IfOk result (λ tree. tree ≡ list_of (first ∷ second ∷ third ∷ [])) }
+/// A list of a word and two numbers.
+fn of_numbers(alloc: Global, word: &[u8], first: u32, second: u32) -> Result<Sexp, Memory>
+    ensures { IfOk result (λ tree. tree ≡ list_of
+        (Atom word.now ∷ number_atom first ∷ number_atom second ∷ [])) }
 {
     let mut members = Members::new(alloc);
-    members.push(first)?;
-    members.push(second)?;
-    members.push(third)?;
+    push_atom(alloc, &mut members, word)?;
+    push_number(alloc, &mut members, first)?;
+    push_number(alloc, &mut members, second)?;
+    Ok(Sexp::List(members))
+}
+
+/// A list of a word, a session and a ballot.
+fn of_ballot(alloc: Global, word: &[u8], session: u32, ballot: &[u8]) -> Result<Sexp, Memory>
+    ensures { IfOk result (λ tree. tree ≡ list_of
+        (Atom word.now ∷ number_atom session ∷ Atom ballot.now ∷ [])) }
+{
+    let mut members = Members::new(alloc);
+    push_atom(alloc, &mut members, word)?;
+    push_number(alloc, &mut members, session)?;
+    push_atom(alloc, &mut members, ballot)?;
     Ok(Sexp::List(members))
 }
 
@@ -45,42 +75,16 @@ fn tree_of_deed(alloc: Global, deed: Deed) -> Result<Sexp, Memory>
     ensures tree { IfOk result (λ tree. tree ≡ deed_tree deed) }
     ensures lawful { IfOk result (λ _. IsDeed deed) }
 {
+    let word = deed.word();
     match deed {
-        Deed::Opened => one(alloc, atom(alloc, b"opened")?),
-        Deed::Authorise { booth, session } => three(
-            alloc,
-            atom(alloc, b"authorise")?,
-            number_atom(alloc, booth)?,
-            number_atom(alloc, session)?,
-        ),
-        Deed::Override { session } => two(
-            alloc,
-            atom(alloc, b"override")?,
-            number_atom(alloc, session)?,
-        ),
-        Deed::Closed => one(alloc, atom(alloc, b"closed")?),
-        Deed::Activate { session } => two(
-            alloc,
-            atom(alloc, b"activate")?,
-            number_atom(alloc, session)?,
-        ),
-        Deed::Commit { session, ballot } => three(
-            alloc,
-            atom(alloc, b"commit")?,
-            number_atom(alloc, session)?,
-            atom(alloc, &ballot)?,
-        ),
-        Deed::Cast { session, ballot } => three(
-            alloc,
-            atom(alloc, b"cast")?,
-            number_atom(alloc, session)?,
-            atom(alloc, &ballot)?,
-        ),
-        Deed::Cancel { session } => two(
-            alloc,
-            atom(alloc, b"cancel")?,
-            number_atom(alloc, session)?,
-        ),
+        Deed::Opened => of_word(alloc, word),
+        Deed::Authorise { booth, session } => of_numbers(alloc, word, booth, session),
+        Deed::Override { session } => of_number(alloc, word, session),
+        Deed::Closed => of_word(alloc, word),
+        Deed::Activate { session } => of_number(alloc, word, session),
+        Deed::Commit { session, ballot } => of_ballot(alloc, word, session, &ballot),
+        Deed::Cast { session, ballot } => of_ballot(alloc, word, session, &ballot),
+        Deed::Cancel { session } => of_number(alloc, word, session),
     }
 }
 
@@ -96,22 +100,60 @@ fn tree_of_names(alloc: Global, names: &[[u8; 32]]) -> Result<Sexp, Memory>
     Ok(Sexp::List(members))
 }
 
+/// Adds the list of some digests at the end.
+fn push_names(alloc: Global, members: &mut Members, names: &[[u8; 32]]) -> Result<(), Memory>
+    ensures tree { OnOk result
+        (members.new ≡ joined members.old (in_front (list_of (map Atom names.now)) no_trees)) }
+    ensures digests { OnOk result (All IsDigest names.now) }
+{
+    members.push(tree_of_names(alloc, names)?)
+}
+
+/// Adds the tree of a deed at the end.
+fn push_deed(alloc: Global, members: &mut Members, deed: Deed) -> Result<(), Memory>
+    ensures tree { OnOk result
+        (members.new ≡ joined members.old (in_front (deed_tree deed) no_trees)) }
+    ensures lawful { OnOk result (IsDeed deed) }
+{
+    members.push(tree_of_deed(alloc, deed)?)
+}
+
+/// The members of a body up to its election.
+fn begun_with(alloc: Global, election: &[u8; 32]) -> Result<Members, Memory>
+    ensures row { IfOk result (λ members. members ≡ forest_of (Atom (codes "entry")
+        ∷ Atom (codes "1") ∷ Atom election.now ∷ [])) }
+    ensures lawful { IfOk result (λ _. IsDigest election.now) }
+{
+    let mut members = Members::new(alloc);
+    push_atom(alloc, &mut members, b"entry")?;
+    push_atom(alloc, &mut members, b"1")?;
+    push_atom(alloc, &mut members, election)?;
+    Ok(members)
+}
+
+/// The members of a body before its names.
+fn head_of(alloc: Global, entry: &Entry) -> Result<Members, Memory>
+    ensures row { IfOk result (λ members. members ≡ forest_of (Atom (codes "entry")
+        ∷ Atom (codes "1") ∷ Atom entry.now.election ∷ number_atom entry.now.maker
+        ∷ number_atom entry.now.number ∷ number_atom entry.now.stamp ∷ [])) }
+    ensures lawful { IfOk result (λ _. IsDigest entry.now.election × (entry.now.maker < 2 ^ 32)
+        × (entry.now.number < 2 ^ 32) × (entry.now.stamp < 2 ^ 32)) }
+{
+    let mut members = begun_with(alloc, &entry.election)?;
+    push_number(alloc, &mut members, entry.maker)?;
+    push_number(alloc, &mut members, entry.number)?;
+    push_number(alloc, &mut members, entry.stamp)?;
+    Ok(members)
+}
+
 /// The tree of an entry's body.
 pub(crate) fn tree_of(alloc: Global, entry: &Entry) -> Result<Sexp, Memory>
     ensures tree { IfOk result (λ tree. tree ≡ body_tree entry.now) }
     ensures lawful { IfOk result (λ _. IsEntry entry.now) }
 {
-    let names = tree_of_names(alloc, entry.names.as_slice())?;
-    let deed = tree_of_deed(alloc, entry.deed)?;
-    let mut members = Members::new(alloc);
-    members.push(atom(alloc, b"entry")?)?;
-    members.push(atom(alloc, b"1")?)?;
-    members.push(atom(alloc, &entry.election)?)?;
-    members.push(number_atom(alloc, entry.maker)?)?;
-    members.push(number_atom(alloc, entry.number)?)?;
-    members.push(number_atom(alloc, entry.stamp)?)?;
-    members.push(names)?;
-    members.push(deed)?;
+    let mut members = head_of(alloc, entry)?;
+    push_names(alloc, &mut members, entry.names.as_slice())?;
+    push_deed(alloc, &mut members, entry.deed)?;
     Ok(Sexp::List(members))
 }
 
@@ -119,10 +161,9 @@ pub(crate) fn tree_of(alloc: Global, entry: &Entry) -> Result<Sexp, Memory>
 pub(crate) fn signed_tree_of(alloc: Global, body: Sexp, signature: &[u8]) -> Result<Sexp, Memory>
     ensures { IfOk result (λ tree. IsSigned tree body signature.now) }
 {
-    three(
-        alloc,
-        atom(alloc, b"sealed")?,
-        body,
-        atom(alloc, signature)?,
-    )
+    let mut members = Members::new(alloc);
+    push_atom(alloc, &mut members, b"sealed")?;
+    members.push(body)?;
+    push_atom(alloc, &mut members, signature)?;
+    Ok(Sexp::List(members))
 }

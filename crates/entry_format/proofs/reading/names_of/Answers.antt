@@ -1,17 +1,33 @@
-use Rattle.std.proofs.Common.{◌≡◌, ◌∙◌, ap, List, ℕ, map}
-use Rattle.std.specs.Prelude.{All}
-use Rattle.canonical_sexp.specs.declared.sexp.Sexp.{Sexp}
-use Rattle.canonical_sexp.specs.Sexp.{forest_of, members_of}
-use Rattle.canonical_sexp.specs.declared.sexp.Sexp.TheVariants.{Atom}
-use Rattle.entry_format.specs.EntryText.{IsDigest}
-use Rattle.entry_format.proofs.Trees.{digest_at, atoms_of}
+use Rattle.std.proofs.Common.{◌≡◌, ◌∙◌, ap, sym, map, rules}
+use Rattle.canonical_sexp.specs.declared.sexp.Sexp.TheVariants.{Atom, List as Branch}
+use Rattle.canonical_sexp.specs.Forest.{joined}
+use Rattle.canonical_sexp.specs.Forms.{list_of}
+use Rattle.canonical_sexp.specs.Sexp.{forest_of}
+use Rattle.entry_format.proofs.Taken.{next_is_digest, digest_taken, all_taken, digest_found, digest_is}
 use Rattle.entry_format.proofs.reading.names_of.Goals as goal
 
-pub returns-in_default : goal.returns-in_default
-returns-in_default c = λ (digests : List (List ℕ)) (h : All IsDigest digests
-    × (c.args.members.now ≡ forest_of (map Atom digests))).
-    let trees : List Sexp = c.as_slice-member-items.result.now in
-    let same : trees ≡ map Atom digests = c.as_slice-member-items.ensures.members ∙ ap members_of h.1
-    ∙ atoms_of digests in
-    let is = digest_at trees digests c.loop-member.member-index c.member-item.result c.loop-member-test.true same h.0 in
-    c.in_default.ensures is.0 (is.1, c.member-item.is ∙ is.2)
+-- the member is a digest
+pub unwrap-requires : goal.unwrap-requires
+unwrap-requires c =
+    let are = c.requires in
+    digest_found c.digest_of.result c.in-Some.member c.digest_of.ensures
+    (next_is_digest c.loop-member.digests.items are.0 c.args.tree.now c.in-Some.member c.loop-member.members
+    c.take_next.new.self c.loop-member.invariant.members c.in-Some.ensures.found are.1.0 are.1.1)
+
+pub loop-member-preserved : goal.loop-member-preserved
+loop-member-preserved c =
+    record {
+      digests = search rules;
+      members = digest_taken c.loop-member.digests.items c.unwrap.result c.args.tree.now c.in-Some.member
+          c.loop-member.members c.take_next.new.self c.loop-member.invariant.members c.in-Some.ensures.found
+          (digest_is c.digest_of.result c.unwrap.result c.in-Some.member c.digest_of.ensures c.unwrap.ensures)
+          ∙ ap (λ ds. Branch (joined (forest_of (map Atom ds)) c.take_next.new.self)) (sym c.in_ok-push.ensures.items);
+    }
+
+pub returns : goal.returns
+returns c =
+    let done : c.args.tree.now ≡ list_of (map Atom c.loop-member.digests.items) =
+    all_taken c.loop-member.digests.items c.args.tree.now c.loop-member.members c.loop-member.invariant.members
+    c.in_default.ensures.none.0 in
+    let same : c.new.result ≡ c.loop-member.digests.items = c.new.ensures in
+    (search rules, done ∙ ap (λ ds. list_of (map Atom ds)) (sym same))

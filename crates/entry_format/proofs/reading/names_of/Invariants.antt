@@ -1,11 +1,16 @@
-use Rattle.std.proofs.Common.{◌≡◌, map, take, All}
-use Rattle.canonical_sexp.specs.declared.sexp.Sexp.TheVariants.{Atom}
+use Rattle.std.proofs.Common.{◌≡◌, map, All}
+use Rattle.canonical_sexp.specs.declared.sexp.Sexp.TheVariants.{Atom, List as Branch}
+use Rattle.canonical_sexp.specs.Forest.{count_of, joined}
+use Rattle.canonical_sexp.specs.Sexp.{forest_of}
 use Rattle.entry_format.specs.EntryText.{IsDigest}
 use Rattle.entry_format.proofs.reading.names_of.Given as goal
 
--- the digests of the members so far
+-- the digests of the members so far, and the members that are left
 abbrev pub invariant-loop-member : goal.invariant-loop-member
 invariant-loop-member l = record {
   digests : All IsDigest l.digests.items;
-  members : map Atom l.digests.items ≡ take l.member-index l.member-items;
+  members : l.tree ≡ Branch (joined (forest_of (map Atom l.digests.items)) l.members);
 }
+
+abbrev pub decreases-loop-member : goal.decreases-loop-member
+decreases-loop-member l = count_of l.members

@@ -6,6 +6,6 @@ use Rattle.entry_format.proofs.unsealing.is_signed.Goals as goal
 pub returns-in-Err : goal.returns-in-Err
 returns-in-Err c = (
   (λ never. absurd (true≢false (sym never))),
-  λ signs. absurd (no_key c.args.key.now c.args.message.now c.args.signature.now c.in-Err.field-0 c.in-Err.ensures.length
-      c.in-Err.ensures.unknown signs),
+  λ signs. absurd (no_key c.args.key.now c.args.message.now c.args.signature.now c.in-Err.field-0
+      c.in-Err.ensures.length c.in-Err.ensures.unknown signs),
 )
