@@ -41,13 +41,37 @@ pub(crate) fn read_part<R: Files + AllocGlobal>(
 ) -> io::Result<Taken>
     ensures { IfOk result (IsTaken None name.now at into.old into.new) }
 {
-    let mut reading = match open.take() {
-        Some(reading) if reading.at == at && at > 0 && reading.name.as_str() == name => reading,
-        _ => match opened_at(rt, name, at)? {
-            Some(reading) => reading,
-            None => return Ok(Taken::Absent),
-        },
-    };
+    match reading_at(rt, open.take(), name, at)? {
+        Some(reading) => read_on(open, reading, into),
+        None => Ok(Taken::Absent),
+    }
+}
+
+/// The reading that is open if it is at this byte of the file, and else a new one.
+fn reading_at<R: Files + AllocGlobal>(
+    rt: &R,
+    open: Option<Reading<R::File>>,
+    name: &str,
+    at: u64,
+) -> io::Result<Option<Reading<R::File>>> {
+    match open {
+        Some(reading) if at > 0 && is_at(&reading, name, at) => Ok(Some(reading)),
+        _ => opened_at(rt, name, at),
+    }
+}
+
+fn is_at<F>(reading: &Reading<F>, name: &str, at: u64) -> bool {
+    reading.at == at && reading.name.as_str() == name
+}
+
+/// Reads the next bytes, and keeps the file open.
+fn read_on<F: Read + Drop>(
+    open: &mut Option<Reading<F>>,
+    mut reading: Reading<F>,
+    into: &mut [u8],
+) -> io::Result<Taken>
+    ensures { IfOk result (IsTaken None [] 0 into.old into.new) }
+{
     let count = read_some(&mut reading.file, into)?;
     reading.at = reading.at.saturating_add(count as u64);
     *open = Some(reading);
@@ -146,16 +170,34 @@ pub(crate) fn append_part<R: Files + AllocGlobal>(
     requires { 0 < length piece.now }
     ensures { IfOk result (IsCountOf piece.now) }
 {
-    let mut writing = match open.take() {
-        Some(writing) if writing.name.as_str() == name => writing,
-        _ => Writing {
-            name: String::from_str(rt.alloc(), name)?,
-            file: File::options().append(true).open(rt, name)?,
-        },
-    };
-    let count = write_some(&mut writing.file, piece)?;
-    writing.file.sync_data()?;
+    let mut writing = writing_to(rt, open.take(), name)?;
+    let count = write_flushed(&mut writing.file, piece)?;
     *open = Some(writing);
+    Ok(count)
+}
+
+/// The writing that is open if it is that of the file, and else a new one at the file's end.
+fn writing_to<R: Files + AllocGlobal>(
+    rt: &R,
+    open: Option<Writing<R::File>>,
+    name: &str,
+) -> io::Result<Writing<R::File>> {
+    match open {
+        Some(writing) if writing.name.as_str() == name => Ok(writing),
+        _ => Ok(Writing {
+            file: File::options().append(true).open(rt, name)?,
+            name: String::from_str(rt.alloc(), name)?,
+        }),
+    }
+}
+
+/// Writes a prefix, and flushes it to the disk.
+fn write_flushed<W: Write + OpenFile>(to: &mut W, piece: &[u8]) -> io::Result<usize>
+    requires { 0 < length piece.now }
+    ensures { IfOk result (IsCountOf piece.now) }
+{
+    let count = write_some(to, piece)?;
+    to.sync_data()?;
     Ok(count)
 }
 

@@ -1,3 +1,5 @@
+ghost use Rattle.std.specs.Prelude.{◌<◌, length};
+
 use super::*;
 use std::alloc::Global;
 use std::fs;
@@ -41,18 +43,28 @@ const READS: &[(&str, usize, u64, Option<FileFault>)] = &[
     ("b", LIMIT, 2, Some(FileFault::Absent)),
 ];
 
+/// Whether the file of 70,000 bytes is read so, where the read with this number fails.
+fn is_read_so(
+    alloc: Global,
+    name: &str,
+    limit: usize,
+    failing: u64,
+    want: Option<FileFault>,
+) -> Result<bool, Fail> {
+    let bytes = distinct_bytes(alloc, 70_000)?;
+    let failing = vec![in alloc; failing]?;
+    let mut store = store_of(alloc, bytes.as_slice(), failing, Vec::new(alloc))?;
+    Ok(match read_file(alloc, &mut store, name, limit) {
+        Ok(read) => want.is_none() && read.as_slice() == bytes.as_slice(),
+        Err(fault) => Some(fault) == want,
+    })
+}
+
 #[test]
 fn read_file_answers_what_the_store_said(rt: HostRuntime) -> Result<(), Fail> {
-    let alloc = rt.alloc();
-    let bytes = distinct_bytes(alloc, 70_000)?;
     for &(name, limit, failing, want) in READS {
-        let failing = vec![in alloc; failing]?;
-        let mut store = store_of(alloc, bytes.as_slice(), failing, Vec::new(alloc))?;
-        match (read_file(alloc, &mut store, name, limit), want) {
-            (Ok(read), None) => assert!(rt; read.as_slice() == bytes.as_slice(), "{name} {limit}"),
-            (Ok(_), Some(_)) => assert!(rt; false, "{name} {limit} is read"),
-            (Err(fault), want) => assert!(rt; Some(fault) == want, "{name} {limit}"),
-        }
+        let is_so = is_read_so(rt.alloc(), name, limit, failing, want)?;
+        assert!(rt; is_so, "{name} within {limit}, read {failing} failing");
     }
     Ok(())
 }
@@ -66,14 +78,20 @@ const WRITES: &[(u64, &str)] = &[
     (5, "abcdefghij"),
 ];
 
+/// Whether so much of ten letters goes out, where the write with this number fails.
+fn is_written_so(alloc: Global, failing: u64, want: &str) -> Result<bool, Fail> {
+    let mut sink = MemorySink::make(alloc, 3, vec![in alloc; failing]?);
+    let written = write_all(&mut sink, "abcdefghij".as_bytes());
+    Ok(written.is_ok() == (failing == 5) && sink.bytes() == want.as_bytes())
+}
+
 #[test]
 fn a_failing_write_leaves_a_prefix(rt: HostRuntime) -> Result<(), Fail> {
-    let alloc = rt.alloc();
     for &(failing, want) in WRITES {
-        let mut sink = MemorySink::make(alloc, 3, vec![in alloc; failing]?);
-        let written = write_all(&mut sink, "abcdefghij".as_bytes());
-        assert!(rt; written.is_ok() == (failing == 5), "write {failing}");
-        assert!(rt; sink.bytes() == want.as_bytes(), "write {failing}");
+        assert!(rt;
+            is_written_so(rt.alloc(), failing, want)?,
+            "write {failing}"
+        );
     }
     Ok(())
 }
@@ -81,15 +99,18 @@ fn a_failing_write_leaves_a_prefix(rt: HostRuntime) -> Result<(), Fail> {
 /// The number of the call that fails, and the file then. A file is a create and one append.
 const PUTS: &[(u64, &str)] = &[(1, "old"), (2, ""), (3, "new")];
 
+/// Whether the file is so after it was put, where the call with this number failed.
+fn is_put_so(alloc: Global, failing: u64, want: &str) -> Result<bool, Fail> {
+    let failing_calls = vec![in alloc; failing]?;
+    let mut store = store_of(alloc, "old".as_bytes(), Vec::new(alloc), failing_calls)?;
+    let put = put_file(&mut store, "a", "new".as_bytes());
+    Ok(put.is_ok() == (failing == 3) && store.file("a") == Some(want.as_bytes()))
+}
+
 #[test]
 fn a_failing_put_leaves_the_file_or_a_prefix(rt: HostRuntime) -> Result<(), Fail> {
-    let alloc = rt.alloc();
     for &(failing, want) in PUTS {
-        let failing_calls = vec![in alloc; failing]?;
-        let mut store = store_of(alloc, "old".as_bytes(), Vec::new(alloc), failing_calls)?;
-        let put = put_file(&mut store, "a", "new".as_bytes());
-        assert!(rt; put.is_ok() == (failing == 3), "call {failing}");
-        assert!(rt; store.file("a") == Some(want.as_bytes()), "call {failing}");
+        assert!(rt; is_put_so(rt.alloc(), failing, want)?, "call {failing}");
     }
     Ok(())
 }
@@ -121,75 +142,97 @@ fn is_moved(rt: &HostRuntime, name: &str, len: usize) -> Result<bool, Fail> {
     )
 }
 
+/// Whether a read there finds these bytes.
+fn is_found<R: Files + AllocGlobal>(store: &mut FolderStore<'_, R>, at: u64, want: &[u8]) -> bool {
+    let mut into = [0; 8];
+    let taken = store.read_at("outside-test", at, &mut into);
+    matches!(taken, Ok(Taken::Bytes(count)) if count == want.len()) && into.starts_with(want)
+}
+
 #[test]
 fn folder_store_moves_the_bytes_of_files(rt: HostRuntime) -> Result<(), Fail> {
     assert!(rt; is_moved(&rt, "outside-test", 70_000)?);
-    assert!(rt;
-        is_moved(&rt, "outside-test", 29)?,
-        "a shorter file over a longer one"
-    );
+    // A shorter file over a longer one.
+    assert!(rt; is_moved(&rt, "outside-test", 29)?);
     let mut store = FolderStore::make(&rt);
-    let mut into = [0; 8];
     for &(at, want) in PARTS {
-        let taken = store.read_at("outside-test", at, &mut into);
-        assert!(rt;
-            matches!(taken, Ok(Taken::Bytes(count)) if count == want.len()),
-            "{at}"
-        );
-        assert!(rt; into.starts_with(want), "{at}");
+        assert!(rt; is_found(&mut store, at, want), "{at}");
     }
-    assert!(rt; fs::remove_file(&rt, "outside-test").is_ok());
+    fs::remove_file(&rt, "outside-test")?;
     Ok(())
 }
 
-/// The line that the store keeps of its last failure.
-fn failure_of<R: Files>(alloc: Global, store: &FolderStore<'_, R>) -> Result<String, Fail> {
+/// The line that the store keeps of the last read that failed.
+fn failure_of(rt: &HostRuntime, name: &str) -> Result<String, Fail> {
+    let mut store = FolderStore::make(rt);
+    let _ = store.read_at(name, 0, &mut [0; 8]);
     match store.failure() {
-        Some(failure) => Ok(format!(in alloc; "{failure}")?),
-        None => Ok(String::new(alloc)),
+        Some(failure) => Ok(format!(in rt.alloc(); "{failure}")?),
+        None => Ok(String::new(rt.alloc())),
     }
 }
 
 #[test]
 fn folder_store_refuses_by_name(rt: HostRuntime) -> Result<(), Fail> {
-    let alloc = rt.alloc();
     let mut store = FolderStore::make(&rt);
-    let absent = read_file(alloc, &mut store, "outside-none", LIMIT);
-    assert!(rt; matches!(absent, Err(FileFault::Absent)));
-    assert!(rt; failure_of(alloc, &store)?.is_empty());
-    // A folder is there, and can't be read or made a file.
-    let folder = read_file(alloc, &mut store, ".", LIMIT);
-    assert!(rt; matches!(folder, Err(FileFault::ReadFault)));
-    let failure = failure_of(alloc, &store)?;
-    assert!(rt; failure.as_str() == "reading . failed: Is a directory (os error 21)");
-    assert!(rt; put_file(&mut store, ".", "text".as_bytes()).is_err());
-    assert!(rt; fs::metadata(&rt, ".auditorium-0").is_err());
+    let taken = store.read_at("outside-none", 0, &mut [0; 8]);
+    assert!(rt; matches!(taken, Ok(Taken::Absent)));
+    let line = failure_of(&rt, ".")?;
+    assert!(rt; line.as_str() == "reading . failed: Is a directory (os error 21)");
     Ok(())
 }
 
 #[test]
+fn a_folder_is_not_replaced(rt: HostRuntime) {
+    assert!(rt; !is_put(&rt, ".", "text"));
+    // What was made beside it is gone.
+    assert!(rt; fs::metadata(&rt, ".auditorium-0").is_err());
+}
+
+/// Whether the text is put as the file.
+fn is_put(rt: &HostRuntime, name: &str, text: &str) -> bool {
+    put_file(&mut FolderStore::make(rt), name, text.as_bytes()).is_ok()
+}
+
+/// Whether the file has this text.
+fn has_text(rt: &HostRuntime, name: &str, text: &str) -> Result<bool, Fail> {
+    Ok(fs::read(rt, name)?.as_slice() == text.as_bytes())
+}
+
+#[test]
 fn a_link_is_replaced_and_not_followed(rt: HostRuntime) -> Result<(), Fail> {
-    let mut store = FolderStore::make(&rt);
-    assert!(rt; put_file(&mut store, "outside-target", "target".as_bytes()).is_ok());
+    assert!(rt; is_put(&rt, "outside-target", "target"));
     symlink(&rt, "outside-target", "outside-link")?;
-    assert!(rt; put_file(&mut store, "outside-link", "link".as_bytes()).is_ok());
-    assert!(rt; fs::read(&rt, "outside-target")?.as_slice() == "target".as_bytes());
-    assert!(rt; fs::read(&rt, "outside-link")?.as_slice() == "link".as_bytes());
-    // Two that write one name never write into one file.
-    let mut other = FolderStore::make(&rt);
-    assert!(rt; store.create("outside-link").is_ok());
-    assert!(rt; other.create("outside-link").is_ok());
-    assert!(rt; store.append("outside-link", "first".as_bytes()).is_ok());
-    assert!(rt; other.append("outside-link", "second".as_bytes()).is_ok());
-    assert!(rt; fs::read(&rt, "outside-link")?.as_slice() == "second".as_bytes());
-    assert!(rt; fs::remove_file(&rt, "outside-link").is_ok());
-    assert!(rt; fs::remove_file(&rt, "outside-target").is_ok());
+    assert!(rt; is_put(&rt, "outside-link", "link"));
+    assert!(rt; has_text(&rt, "outside-target", "target")?);
+    assert!(rt; has_text(&rt, "outside-link", "link")?);
+    fs::remove_file(&rt, "outside-link")?;
+    fs::remove_file(&rt, "outside-target")?;
+    Ok(())
+}
+
+fn is_appended<R: Files + AllocGlobal>(store: &mut FolderStore<'_, R>, text: &str) -> bool
+    requires { 0 < length text.now }
+{
+    store.append("outside-both", text.as_bytes()).is_ok()
+}
+
+#[test]
+fn two_that_write_one_name_never_write_into_one_file(rt: HostRuntime) -> Result<(), Fail> {
+    let mut first = FolderStore::make(&rt);
+    let mut second = FolderStore::make(&rt);
+    assert!(rt; first.create("outside-both").is_ok());
+    assert!(rt; second.create("outside-both").is_ok());
+    assert!(rt; is_appended(&mut first, "first"));
+    assert!(rt; is_appended(&mut second, "second"));
+    assert!(rt; has_text(&rt, "outside-both", "second")?);
+    fs::remove_file(&rt, "outside-both")?;
     Ok(())
 }
 
 #[test]
 fn output_sink_writes_to_standard_output(rt: HostRuntime) {
     let mut sink = OutputSink::make(&rt);
-    assert!(rt; write_all(&mut sink, "the standard output\n".as_bytes()).is_ok());
-    assert!(rt; sink.failure().is_none());
+    let written = write_all(&mut sink, "the standard output\n".as_bytes()).is_ok();
+    assert!(rt; written && sink.failure().is_none());
 }
