@@ -1,53 +1,84 @@
 -- What the type of a log keeps, when it is made and when an event is appended.
-use Rattle.std.proofs.Common.{◌≡◌, ℕ, ◌+◌, ◌<◌, ◌≤◌, List, [], ◌∷◌, ◌++◌, take, length, refl, sym, ap, subst, ◌∙◌}
-use Rattle.std.proofs.Common.{arith, length-append}
-use Rattle.std.proofs.lemmas.List.Elements.{All-nil}
+use Rattle.std.proofs.Common.{◌≡◌, ℕ, ◌+◌, ◌<◌, ◌≤◌, max, List, [], ◌∷◌, ◌++◌, take, length, refl, sym, ap, subst, ◌∙◌}
+use Rattle.std.proofs.Common.{arith, length-append, false}
 use Rattle.entry_order.specs.declared.event.Event.{Event}
 use Rattle.entry_order.specs.Node.{Node}
-use Rattle.entry_order.specs.History.{entry_of, MayFollow}
-use Rattle.log_frontier.specs.Places.{Places, IsFrontierAt}
-use Rattle.entangled_log.specs.Logs.{IsKept}
-use Rattle.entangled_log.proofs.Legal.{IsLegal-push, IsLegal-none}
+use Rattle.entry_order.specs.History.{entry_of, MayFollow, IsLegal}
+use Rattle.entry_order.proofs.Histories.{IsLegal-push, IsLegal-none, greatest_push, new_from_may}
+use Rattle.entry_order.proofs.Lists.{Contains-map}
+use Rattle.log_frontier.specs.Places.{Places, StandsFor, HasNoDigestTwice}
+use Rattle.log_frontier.proofs.Tables.{StandsFor-none}
+use Rattle.entangled_log.specs.inside.Kept.{IsKept, own_after}
+use Rattle.entangled_log.proofs.Own.{AreOwn-push}
 
 module _ {T : Type 0} (node : T → Node) (owner capacity : ℕ) where
   -- a new log
-  pub IsKept-none : (events : List (Event T)) (places : Places) (room : ℕ) → events ≡ [] → places.list ≡ [] →
-      capacity ≤ room → capacity ≤ places.spare → IsKept node owner capacity events places room
-  IsKept-none events places room none empty reserved spare =
-      subst (λ (h : List (Event T)). IsKept node owner capacity h places room) (sym none) (
+  pub IsKept-none : (events : List (Event T)) (frontier : Places) (own : List ℕ) (room own_room : ℕ) → events ≡ [] →
+      own ≡ [] → frontier.list ≡ [] →
+      (frontier.noted ≡ []) × (frontier.wanted ≡ record { list = []; scans = false }) →
+      capacity ≤ room → capacity ≤ own_room → capacity ≤ frontier.spare →
+      IsKept node owner capacity events frontier own 0 room own_room
+  IsKept-none events frontier own room own_room none no_own empty tables reserved own_reserved spare =
+      subst (λ (h : List (Event T)). IsKept node owner capacity h frontier own 0 room own_room) (sym none)
+      (subst (λ (ps : List ℕ). IsKept node owner capacity [] frontier ps 0 room own_room) (sym no_own) (
       record {
         legal = IsLegal-none node owner;
         within = omega arith;
-        front = subst (λ (ps : List ℕ). IsFrontierAt (λ x. node (entry_of x)) [] ps) (sym empty)
-            (record { inside = All-nil (λ p. p < 0); digests = refl });
+        stands = StandsFor-none (λ x. node (entry_of x)) frontier empty tables;
+        own_places = refl;
+        greatest = refl;
         reserved = reserved;
         spare = omega (arith, spare);
-      })
+        own_reserved = own_reserved;
+      }))
 
   -- a log with one event more
-  pub IsKept-push : (events : List (Event T)) (x : Event T) (before after : Places) (room : ℕ) →
-      IsKept node owner capacity events before room → MayFollow node owner events x → length events < capacity →
-      IsFrontierAt (λ x. node (entry_of x)) (events ++ x ∷ []) after.list → before.spare ≤ after.spare + 1 →
-      IsKept node owner capacity (events ++ x ∷ []) after room
-  IsKept-push events x before after room kept may some front spare =
+  pub IsKept-push : (events : List (Event T)) (x : Event T) (before after : Places) (own : List ℕ)
+      (top room own_room : ℕ) → IsKept node owner capacity events before own top room own_room →
+      MayFollow node owner events x → length events < capacity →
+      StandsFor (λ x. node (entry_of x)) (events ++ x ∷ []) after → before.spare ≤ after.spare + 1 →
+      IsKept node owner capacity (events ++ x ∷ []) after (own_after x (length events) own)
+      (max top (node (entry_of x)).stamp) room own_room
+  IsKept-push events x before after own top room own_room kept may some stands spare =
       let longer : length (events ++ x ∷ []) ≡ length events + 1 = length-append events (x ∷ []) in
       record {
         legal = IsLegal-push node owner events x kept.legal may;
         within = omega (arith, longer, some);
-        front = front;
+        stands = stands;
+        own_places = AreOwn-push events x own kept.own_places;
+        greatest = ap (λ n. max n (node (entry_of x)).stamp) kept.greatest ∙ sym (greatest_push node events x);
         reserved = kept.reserved;
         spare = omega (arith, longer, spare, kept.spare);
+        own_reserved = kept.own_reserved;
       }
+
+  -- the same of equal fields
+  pub IsKept-at : (events events' : List (Event T)) (frontier : Places) (own own' : List ℕ)
+      (top top' room room' own_room own_room' : ℕ) → events ≡ events' → own ≡ own' → top ≡ top' → room ≡ room' →
+      own_room ≡ own_room' → IsKept node owner capacity events frontier own top room own_room →
+      IsKept node owner capacity events' frontier own' top' room' own_room'
+  IsKept-at events events' frontier own own' top top' room room' own_room own_room' e o t r s kept =
+      subst (λ n. IsKept node owner capacity events' frontier own' top' room' n) s
+      (subst (λ n. IsKept node owner capacity events' frontier own' top' n own_room) r
+      (subst (λ n. IsKept node owner capacity events' frontier own' n room own_room) t
+      (subst (λ (ps : List ℕ). IsKept node owner capacity events' frontier ps top room own_room) o
+      (subst (λ (h : List (Event T)). IsKept node owner capacity h frontier own top room own_room) e kept))))
+
+-- no digest stands twice in a legal history
+pub no_digest_twice : {T : Type 0} (node : T → Node) (owner : ℕ) (h : List (Event T)) → IsLegal node owner h →
+    HasNoDigestTwice (λ x. node (entry_of x)) h
+no_digest_twice node owner h legal before x later e y c =
+    new_from_may node owner before x (legal before x later e) (entry_of y) (Contains-map (λ z. entry_of z) before y c)
 
 -- all but the last
 take_all : {A : Type 0} (xs : List A) (x : A) → take (length xs) (xs ++ x ∷ []) ≡ xs
 take_all [] x = refl
 take_all (y ∷ xs) x = ap (λ ys. y ∷ ys) (take_all xs x)
 
--- what stands before the last event has the frontier that it had
-pub front_before : {X : Type 0} (node : X → Node) (events : List X) (x : X) (n : ℕ) (longer : List X)
-    (places : List ℕ) → IsFrontierAt node events places → n ≡ length events → longer ≡ events ++ x ∷ [] →
-    IsFrontierAt node (take n longer) places
-front_before {X} node events x n longer places front is same =
-    subst (λ (h : List X). IsFrontierAt node h places)
-    (sym (ap (λ m. take m longer) is ∙ ap (take (length events)) same ∙ take_all events x)) front
+-- for what stands before the last event the frontier stands as it did
+pub stands_before : {X : Type 0} (node : X → Node) (events : List X) (x : X) (n : ℕ) (longer : List X)
+    (places : Places) → StandsFor node events places → n ≡ length events → longer ≡ events ++ x ∷ [] →
+    StandsFor node (take n longer) places
+stands_before {X} node events x n longer places stands is same =
+    subst (λ (h : List X). StandsFor node h places)
+    (sym (ap (λ m. take m longer) is ∙ ap (take (length events)) same ∙ take_all events x)) stands

@@ -1,51 +1,49 @@
-//! What is asked of the events of a log, by search.
+//! What is read from the events of a log, by places that it keeps.
 
-ghost use Rattle.std.specs.Prelude.{◌≡◌, ◌+◌, ◌<◌, ◌↔◌, length, map, IfOk, IfSome, IsNone, IsTrue};
+ghost use Rattle.std.specs.Prelude.{◌≡◌, ◌+◌, ◌<◌, length, map, option_map, IfNone, IfOk, IfSome};
+ghost use Rattle.std.specs.Prelude.{Some, None, slice_get, vec_len, vec_capacity};
 ghost use Rattle.std.specs.List.{All};
 ghost use Rattle.entry_order.specs.Frontier.{frontier};
-ghost use Rattle.entry_order.specs.History.{entry_of, greatest_stamp, held, sent};
-ghost use Rattle.entry_order.specs.Naming.{IsBorneIn};
+ghost use Rattle.entry_order.specs.History.{entry_of, held, sent};
 ghost use Rattle.log_frontier.specs.Places.{IsFrontierAt, digest_at};
-ghost use Rattle.entangled_log.specs.Nexts.{HasGreatestStamp};
-ghost use Rattle.entangled_log.specs.Whole.{NamesOnlyHeld, lacks, lacks_some};
+ghost use Rattle.entangled_log.specs.inside.Kept.{AreOwn, own_after};
 
-use entry_order::{Event, Knot, has_digest};
+use entry_order::{Event, Knot};
 use std::alloc::{AllocError, Global};
 
-/// Whether an entry with the digest is held.
-pub fn holds<T: Knot>(events: &[Event<T>], digest: &[u8; 32]) -> bool
-    ensures { IsTrue result ↔ IsBorneIn T.node (held events.now) digest.now }
+/// Puts the place of the event to the owner's, if it was sent. There is room.
+pub fn note_own<T>(own: &mut Vec<usize>, event: &Event<T>, place: usize)
+    requires { vec_len own.old < vec_capacity own.old }
+    ensures own { own.new.items ≡ own_after event.now place own.old.items }
+    ensures capacity { vec_capacity own.new ≡ vec_capacity own.old }
 {
-    has_digest(events, digest)
-}
-
-/// Whether every digest that a held entry names is that of a held entry.
-pub fn is_whole<T: Knot>(events: &[Event<T>]) -> bool
-    ensures { IsTrue result ↔ NamesOnlyHeld T.node (held events.now) }
-{
-    !lacks_some(events)
-}
-
-/// How many entries were sent.
-pub fn sent_count<T>(events: &[Event<T>]) -> usize
-    ensures { result ≡ length (sent events.now) }
-{
-    let mut count = 0;
-    for event in events {
-        if let Event::Sent(_) = event {
-            count += 1;
-        }
+    match event {
+        Event::Sent(_) => own.push_reserved(place),
+        Event::Got(_) => {}
     }
-    count
 }
 
-/// One more than the greatest stamp that is held, if 32 bits hold it.
-pub fn next_stamp<T: Knot>(events: &[Event<T>]) -> Option<u32>
-    ensures stamp { IfSome result (λ stamp.
-        stamp ≡ 1 + greatest_stamp T.node (held events.now)) }
-    ensures none { IsNone result ↔ HasGreatestStamp T.node (held events.now) }
+/// The entry with this number among those that were sent, whose places are `own`.
+pub fn sent_at<'a, T>(events: &'a [Event<T>], own: &[usize], number: usize) -> Option<&'a T>
+    requires { AreOwn events.now own.now }
+    ensures found { IfSome result (λ entry. slice_get (sent events.now) number ≡ Some entry.now) }
+    ensures none { IfNone result (slice_get (sent events.now) number ≡ None) }
 {
-    greatest_stamp(events).checked_add(1)
+    match own.get(number) {
+        Some(place) => Some(entry_at(events, *place)),
+        None => None,
+    }
+}
+
+// The entry at the place.
+fn entry_at<T>(events: &[Event<T>], place: usize) -> &T
+    requires { place < length events.now }
+    ensures { option_map (λ x. entry_of x) (slice_get events.now place) ≡ Some result.now }
+{
+    match &events[place] {
+        Event::Sent(entry) => entry,
+        Event::Got(entry) => entry,
+    }
 }
 
 /// The digests of the frontier, whose places these are.
@@ -58,27 +56,6 @@ pub fn frontier_at<T: Knot>(
     ensures { IfOk result (λ names. names.items ≡ frontier T.node (held events.now)) }
 {
     digests_at(alloc, events, places)
-}
-
-// The greatest stamp, or 0 where there is no entry.
-fn greatest_stamp<T: Knot>(entries: &[T]) -> u32
-    ensures { result ≡ greatest_stamp T.node entries.now }
-{
-    entries.iter().fold(0, |top: u32, e| top.max(e.stamp()))
-}
-
-// Whether one of the entries names a digest that none of them bears.
-fn lacks_some<T: Knot>(entries: &[T]) -> bool
-    ensures { result ≡ lacks_some T.node entries.now }
-{
-    entries.iter().any(|e| lacks(entries, e.names()))
-}
-
-// Whether none of the entries bears one of the digests.
-fn lacks<T: Knot>(entries: &[T], digests: &[[u8; 32]]) -> bool
-    ensures { result ≡ lacks T.node entries.now digests.now }
-{
-    digests.iter().any(|d| !has_digest(entries, d))
 }
 
 // The digests of the entries at these places.

@@ -1,8 +1,9 @@
 //! The log of a machine.
 
-ghost use Rattle.std.specs.Prelude.{◌≡◌, ◌↔◌, ◌<◌, ◌≤◌, [], length, Err, IfOk, IsTrue};
+ghost use Rattle.std.specs.Prelude.{◌≡◌, ◌↔◌, ◌<◌, ◌≤◌, ◌+◌, [], length, slice_get};
+ghost use Rattle.std.specs.Prelude.{Some, None, Err, IfNone, IfOk, IfSome, IsNone, IsTrue};
 ghost use Rattle.entry_order.specs.declared.event.Event.TheVariants.{Sent};
-ghost use Rattle.entry_order.specs.History.{IsLegal, IsNext, MayFollow, held};
+ghost use Rattle.entry_order.specs.History.{IsLegal, IsNext, MayFollow, greatest_stamp, held, sent};
 ghost use Rattle.entry_order.specs.Naming.{IsBorneIn, IsNew};
 ghost use Rattle.entangled_log.specs.declared.next.NextFault.{NextFault};
 ghost use Rattle.entangled_log.specs.Hearing.{IsAnswer, log_after};
@@ -11,7 +12,7 @@ ghost use Rattle.entangled_log.specs.Nexts.{HasGreatestStamp, IsNextOf};
 ghost use Rattle.entangled_log.specs.Whole.{NamesOnlyHeld};
 
 use crate::heard::Heard;
-use crate::history::{frontier_at, holds, is_whole, next_stamp, sent_count};
+use crate::history::{frontier_at, note_own, sent_at};
 use crate::next::{Next, NextFault};
 use entry_order::{Event, Knot};
 use log_frontier::Frontier;
@@ -29,11 +30,16 @@ pub struct Log<T: Knot> {
     capacity: usize,
     events: Vec<Event<T>>,
     frontier: Frontier,
+    /// The places, counted from 0, of the events that the owner sent.
+    own: Vec<usize>,
+    /// The greatest stamp that is held, or 0.
+    top: u32,
 }
 
 impl<T: Knot> Model for Log<T> {
     ghost use Rattle.std.specs.Prelude.{vec_capacity};
-    ghost use Rattle.entangled_log.specs.Logs.{History, IsKept};
+    ghost use Rattle.entangled_log.specs.Logs.{History};
+    ghost use Rattle.entangled_log.specs.inside.Kept.{IsKept};
 
     ghost Value = { History T };
 
@@ -44,7 +50,8 @@ impl<T: Knot> Model for Log<T> {
     } };
 
     ghost invariant = { λ l.
-        IsKept T.node l.owner l.capacity l.events.items l.frontier (vec_capacity l.events) };
+        IsKept T.node l.owner l.capacity l.events.items l.frontier l.own.items l.top
+        (vec_capacity l.events) (vec_capacity l.own) };
 }
 
 impl<T: Knot> Log<T> {
@@ -54,38 +61,50 @@ impl<T: Knot> Log<T> {
             log ≡ record { owner = owner; capacity = capacity; events = [] }) }
     {
         let frontier = Frontier::make(alloc, capacity)?;
+        let own = Vec::with_capacity(alloc, capacity)?;
         let events = Vec::with_capacity(alloc, capacity)?;
         Ok(Log {
             owner,
             capacity,
             events,
             frontier,
+            own,
+            top: 0,
         })
     }
 
     /// What the owner puts into the entry that it sends next: how many it has sent, Lamport's
-    /// logical clock (1978), and the frontier. Want of memory is told last.
+    /// logical clock (1978), and the frontier. Out of memory is reported last.
     pub fn next(&self, alloc: Global) -> Result<Next, NextFault>
         ensures ok { IfOk result (λ next. IsNextOf T.node self.now.events next) }
         ensures spent { (result ≡ Err NextFault.StampSpent)
             ↔ HasGreatestStamp T.node (held self.now.events) }
     {
-        let Some(stamp) = next_stamp(&self.events) else {
+        let Some(stamp) = self.next_stamp() else {
             return Err(NextFault::StampSpent);
         };
         Ok(Next {
-            number: sent_count(&self.events) as u32,
+            number: self.own.len() as u32,
             stamp,
             names: frontier_at(alloc, &self.events, self.frontier.list())?,
         })
     }
 
-    /// Whether an entry is held with the greatest stamp there is, so that `next` tells a spent stamp.
-    /// It takes no memory.
+    /// Whether an entry is held with the greatest stamp there is, so that `next` reports a spent
+    /// stamp. It takes no memory.
     pub fn is_stamp_spent(&self) -> bool
         ensures { IsTrue result ↔ HasGreatestStamp T.node (held self.now.events) }
     {
-        next_stamp(&self.events).is_none()
+        self.next_stamp().is_none()
+    }
+
+    // One more than the greatest stamp that is held, if 32 bits hold it.
+    fn next_stamp(&self) -> Option<u32>
+        ensures stamp { IfSome result (λ stamp.
+            stamp ≡ 1 + greatest_stamp T.node (held self.now.events)) }
+        ensures none { IsNone result ↔ HasGreatestStamp T.node (held self.now.events) }
+    {
+        self.top.checked_add(1)
     }
 
     /// Appends an entry of the owner, which is as `next` says. It takes no memory.
@@ -107,7 +126,7 @@ impl<T: Knot> Log<T> {
         if s.maker() == self.owner {
             return Heard::Own(s);
         }
-        if holds(&self.events, s.digest()) {
+        if self.holds(s.digest()) {
             return Heard::Already(s);
         }
         if self.events.len() >= self.capacity {
@@ -124,6 +143,8 @@ impl<T: Knot> Log<T> {
         ensures { self.new ≡ with_event event self.old }
     {
         let place = self.events.len();
+        self.top = self.top.max(event.stamp());
+        note_own(&mut self.own, &event, place);
         self.events.push_reserved(event);
         self.frontier.note(&self.events, place);
     }
@@ -132,14 +153,23 @@ impl<T: Knot> Log<T> {
     pub fn is_whole(&self) -> bool
         ensures { IsTrue result ↔ NamesOnlyHeld T.node (held self.now.events) }
     {
-        is_whole(&self.events)
+        !self.frontier.wants(&self.events)
     }
 
     /// Whether an entry with the digest is held.
     pub fn holds(&self, digest: &[u8; 32]) -> bool
         ensures { IsTrue result ↔ IsBorneIn T.node (held self.now.events) digest.now }
     {
-        holds(&self.events, digest)
+        self.frontier.bears(&self.events, digest)
+    }
+
+    /// The entry with this number among those that the owner sent, if it sent so many.
+    pub fn sent_at(&self, number: usize) -> Option<&T>
+        ensures found { IfSome result (λ entry.
+            slice_get (sent self.now.events) number ≡ Some entry.now) }
+        ensures none { IfNone result (slice_get (sent self.now.events) number ≡ None) }
+    {
+        sent_at(&self.events, &self.own, number)
     }
 
     /// What was sent and heard, in order.

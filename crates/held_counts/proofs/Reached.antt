@@ -17,7 +17,8 @@ use Rattle.entry_order.specs.Receipt.{IsOrderly}
 use Rattle.entry_order.specs.Forms.{IsChain}
 use Rattle.entry_order.proofs.Lists.{Contains-none, Contains-head, Contains-later, Contains-at, Contains-cons_cases}
 use Rattle.entry_order.proofs.Lists.{Contains-map, Contains-map_cases}
-use Rattle.entry_order.proofs.Orders.{along, was_sent, held_was_sent, held_lower, next_of, sent_from_after, Contains-sent_cases}
+use Rattle.entry_order.proofs.Orders.{along, was_sent, held_was_sent, held_lower, next_of}
+use Rattle.entry_order.proofs.Orders.{sent_from_after, Contains-sent_cases}
 use Rattle.entry_order.proofs.Histories.{nth_split}
 use Rattle.entry_order.proofs.Stamps.{stamp_below}
 use Rattle.entry_order.proofs.Forms.{to_chain}

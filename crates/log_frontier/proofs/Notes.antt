@@ -12,6 +12,7 @@ use Rattle.std.proofs.lemmas.Cmp.{nat_list_cmp_total}
 use Rattle.std.proofs.lemmas.Map.Lookups.{exact_bytes}
 use Rattle.std.proofs.lemmas.List.Elements.{All-head, All-tail, All-cons, All-append}
 use Rattle.std.proofs.lemmas.List.Elements.{All-take, All-drop, All-filter, All-weaker}
+use Rattle.std.proofs.lemmas.Option.{slice_get_read}
 use Rattle.entry_order.specs.Node.{Node}
 use Rattle.entry_order.specs.Naming.{names_digest, is_named, IsNew}
 use Rattle.entry_order.specs.Ascending.{inserted, insert_digest}
@@ -19,7 +20,7 @@ use Rattle.entry_order.specs.Frontier.{frontier}
 use Rattle.entry_order.proofs.Lists.{Contains-head, Contains-later, Contains-filter_cases, Contains-map_cases}
 use Rattle.entry_order.proofs.Frontiers.{frontier_cases, frontier_push}
 use Rattle.log_frontier.specs.Places.{digest_of, digest_at, IsFrontierAt, HasNoDigestTwice}
-use Rattle.log_frontier.specs.Noting.{is_left, count_below}
+use Rattle.log_frontier.specs.inside.Noting.{is_left, count_below}
 
 -- how many digests from the front on are below d
 abbrev low : List ℕ → List (List ℕ) → ℕ
@@ -90,6 +91,11 @@ left_at : {T : Type 0} (node : T → Node) (e : T) (es : List T) (p : ℕ) → p
 left_at node e [] p l = absurd (omega arith)
 left_at node e (f ∷ es) zero l = refl
 left_at node e (f ∷ es) (suc p) l = left_at node e es p (omega arith)
+
+-- the digest at a place that was read
+pub digest_at_read : {T : Type 0} (node : T → Node) (es : List T) (p : ℕ) (e : T) → p < length es →
+    e ≡ get_or es p e → digest_at node es p ≡ (node e).digest
+digest_at_read node es p e l is = ap (digest_of node) (slice_get_read es (length es) p e refl l is)
 
 module _ {T : Type 0} (node : T → Node) (es : List T) (e : T) where
   -- the digest at a place when e is held too
@@ -183,7 +189,7 @@ module _ {T : Type 0} (node : T → Node) (es : List T) (e : T) where
             ∙ sym (insert_by_count (node e).digest kept apart)
             ∙ sym (frontier_push node es e ∙ ap (λ b. cond b kept (insert_digest (node e).digest kept)) free)
 
-last_split : {A : Type 0} (xs : List A) (n : ℕ) (x : A) → length xs ≡ suc n → x ≡ get_or xs n x →
+pub last_split : {A : Type 0} (xs : List A) (n : ℕ) (x : A) → length xs ≡ suc n → x ≡ get_or xs n x →
     xs ≡ take n xs ++ x ∷ []
 last_split [] n x l e = absurd (omega arith)
 last_split (y ∷ []) zero x l e = ap (λ u. u ∷ []) (sym e)

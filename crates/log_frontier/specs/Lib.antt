@@ -1,2 +1,3 @@
+pub mod Digests
 pub mod Places
-pub mod Noting
+pub mod inside

@@ -1,9 +1,12 @@
 //! The frontier as places.
 
-ghost use Rattle.std.specs.Prelude.{◌≡◌, ◌≤◌, ◌+◌, [], length, take, IfOk};
-ghost use Rattle.log_frontier.specs.Places.{HasNoDigestTwice, IsFrontierAt};
+ghost use Rattle.std.specs.Prelude.{◌≡◌, ◌↔◌, ◌≤◌, ◌+◌, [], length, take, IfOk, IsTrue, false};
+ghost use Rattle.entry_order.specs.Naming.{has_digest};
+ghost use Rattle.log_frontier.specs.Places.{HasNoDigestTwice, NamesUnborne, StandsFor};
 
-use crate::noting::note_last;
+use crate::digests::Digests;
+use crate::noting::{is_last_named, note_last, note_tables, wants_by_scan};
+use crate::wanted::Wanted;
 use entry_order::Knot;
 use std::alloc::{AllocError, Global};
 use std::marker::Model;
@@ -12,22 +15,26 @@ use std::marker::Model;
 pub type Memory = AllocError;
 
 /// The places, counted from 0, of the entries that no held entry names, in ascending order of
-/// their digests; and for how many more there is room. Auditorium (EVT 2007): what a machine names
-/// in the next entry that it sends.
-#[derive(Debug, Drop)]
+/// their digests. Auditorium (EVT 2007): what a machine names in the next entry that it sends.
+/// Tables answer which digests are held, and whether one is named that isn't.
+#[derive(Drop)]
 pub struct Frontier {
     places: Vec<usize>,
+    noted: Digests,
+    wanted: Wanted,
 }
 
 impl Model for Frontier {
-    ghost use Rattle.std.specs.Prelude.{◌-◌, vec_len, vec_capacity};
+    ghost use Rattle.std.specs.Prelude.{◌-◌, min, vec_len, vec_capacity};
     ghost use Rattle.log_frontier.specs.Places.{Places};
 
     ghost Value = { Places };
 
     ghost view = { λ f. record {
       list = f.places.items;
-      spare = vec_capacity f.places - vec_len f.places;
+      spare = min (vec_capacity f.places - vec_len f.places) f.noted.spare;
+      noted = f.noted.list;
+      wanted = f.wanted;
     } };
 }
 
@@ -35,24 +42,51 @@ impl Frontier {
     /// The frontier of no entry, with room for `count` places.
     pub fn make(alloc: Global, count: usize) -> Result<Frontier, Memory>
         ensures empty { IfOk result (λ frontier. frontier.list ≡ []) }
+        ensures tables { IfOk result (λ frontier.
+            (frontier.noted ≡ []) × (frontier.wanted ≡ record { list = []; scans = false })) }
         ensures room { IfOk result (λ frontier. count ≤ frontier.spare) }
     {
         Ok(Frontier {
             places: Vec::with_capacity(alloc, count)?,
+            noted: Digests::make(alloc, count)?,
+            wanted: Wanted::make(alloc, count)?,
         })
     }
 
     /// Takes in the last of the entries that are held, which stands at `place`. It takes no memory,
-    /// and time as the names of all that is held.
+    /// and time as the entry's names and the frontier.
     pub fn note<T: Knot>(&mut self, held: &[T], place: usize)
         requires last { place + 1 ≡ length held.now }
-        requires front { IsFrontierAt T.node (take place held.now) self.old.list }
+        requires stands { StandsFor T.node (take place held.now) self.old }
         requires distinct { HasNoDigestTwice T.node held.now }
         requires room { 1 ≤ self.old.spare }
-        ensures front { IsFrontierAt T.node held.now self.new.list }
+        ensures stands { StandsFor T.node held.now self.new }
         ensures room { self.old.spare ≤ self.new.spare + 1 }
     {
-        note_last(&mut self.places, held, place);
+        let named = is_last_named(&self.wanted, held, place);
+        note_last(&mut self.places, held, place, named);
+        note_tables(&mut self.noted, &mut self.wanted, held, place);
+    }
+
+    /// Whether one of the entries bears the digest.
+    pub fn bears<T: Knot>(&self, held: &[T], digest: &[u8; 32]) -> bool
+        requires { StandsFor T.node held.now self.now }
+        ensures { result ≡ has_digest T.node held.now digest.now }
+    {
+        self.noted.has(digest)
+    }
+
+    /// Whether one of the entries names a digest that none of them bears. Where there was no room
+    /// for all such digests it looks at all names.
+    pub fn wants<T: Knot>(&self, held: &[T]) -> bool
+        requires { StandsFor T.node held.now self.now }
+        ensures { IsTrue result ↔ NamesUnborne T.node held.now }
+    {
+        if self.wanted.scans() {
+            wants_by_scan(held)
+        } else {
+            !self.wanted.is_empty()
+        }
     }
 
     /// The places, in ascending order of the digests there.

@@ -13,7 +13,7 @@ use Rattle.entry_order.specs.Receipt.{IsOrderly}
 use Rattle.entry_order.proofs.Lists.{Contains-none, Contains-head, Contains-later, Contains-cons_cases}
 use Rattle.entry_order.proofs.Lists.{Contains-map_cases}
 use Rattle.entry_order.proofs.Orders.{sent_in_from, sent_in_cases}
-use Rattle.entangled_log.proofs.Legal.{IsLegal-push}
+use Rattle.entry_order.proofs.Histories.{IsLegal-push, sent-append, sent_few}
 
 module _ {T : Type 0} where
   -- ---- a machine that has stopped
@@ -81,11 +81,6 @@ module _ {T : Type 0} where
       let r = sent_in_cases (with_machine at (append x) w) e c in
       elim (Contains-grown_cases w at r.0 x (Sent e) a is r.1) [ inl h ↦ inl (sent_in_from w r.0 e h) | inr s ↦ inr s ]
 
-  sent-append : (p q : List (Event T)) → sent (p ++ q) ≡ sent p ++ sent q
-  sent-append [] q = refl
-  sent-append (Sent e ∷ p) q = ap (λ (es : List T). e ∷ es) (sent-append p q)
-  sent-append (Got e ∷ p) q = sent-append p q
-
   -- one entry more where it was sent, and no more where it was got
   pub sent_in-count : (w : World T) (at : ℕ) (x : Event T) (a : Machine T) → slice_get w at ≡ Some a →
       length (sent_in (with_machine at (append x) w)) ≡ length (sent_in w) + length (sent (x ∷ []))
@@ -101,11 +96,6 @@ module _ {T : Type 0} where
       let all = length-append (sent b.history) (sent_in (with_machine at (append x) w)) in
       let old = length-append (sent b.history) (sent_in w) in
       omega (arith, more, all, old)
-
-  sent_few : (h : List (Event T)) → length (sent h) ≤ length h
-  sent_few [] = omega arith
-  sent_few (Sent e ∷ h) = let rest = sent_few h in omega (arith, rest)
-  sent_few (Got e ∷ h) = let rest = sent_few h in omega (arith, rest)
 
   -- no more entries were sent than all logs have room for
   pub sent_in_few : (w : World T) → ((m : ℕ) (a : Machine T) → slice_get w m ≡ Some a → length a.history ≤ 4096) →

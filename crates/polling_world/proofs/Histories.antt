@@ -18,24 +18,10 @@ use Rattle.entry_order.specs.Frontier.{frontier}
 use Rattle.entry_order.specs.History.{entry_of, held, sent}
 use Rattle.entry_order.specs.Naming.{is_named}
 use Rattle.entry_order.proofs.Ascending.{ascending_ascending}
+use Rattle.entry_order.proofs.Histories.{last_or_earlier}
 use Rattle.polling_world.specs.Configs.{Config}
 use Rattle.polling_world.specs.Rules.{entries_in}
 use Rattle.polling_world.specs.Sending.{AreMade, MaySend}
-
--- where one more is put at the end, a place in the list is an earlier one or the last
-last_or_earlier : {X : Type 0} (xs : List X) (x : X) (before : List X) (y : X) (later : List X) →
-    xs ++ x ∷ [] ≡ before ++ y ∷ later → ((rest : List X) × (xs ≡ before ++ y ∷ rest)) ⊎ ((xs ≡ before) × (x ≡ y))
-last_or_earlier [] x [] y later e = inr (refl, cc)
-last_or_earlier [] x (b ∷ []) y later e = cc
-last_or_earlier [] x (b ∷ c ∷ before) y later e = cc
-last_or_earlier (a ∷ xs) x [] y later e = inl (xs, cc)
-last_or_earlier {X} (a ∷ xs) x (b ∷ before) y later e =
-    let head : a ≡ b = cc in
-    let tail : xs ++ x ∷ [] ≡ before ++ y ∷ later = cc in
-    let earlier : (rest : List X) × (xs ≡ before ++ y ∷ rest) →
-    (rest : List X) × (a ∷ xs ≡ b ∷ (before ++ y ∷ rest)) = λ r. (r.0, cc (r.1, head)) in
-    let last : (xs ≡ before) × (x ≡ y) → (a ∷ xs ≡ b ∷ before) × (x ≡ y) = λ r. (cc (r.0, head), r.1) in
-    elim (last_or_earlier xs x before y later tail) [ inl r ↦ inl (earlier r) | inr r ↦ inr (last r) ]
 
 -- one event more is made where, if it was sent, it could be sent
 pub AreMade-push : (config : Config) (h : List (Event SealedEntry)) (x : Event SealedEntry) → AreMade config h →
@@ -50,16 +36,7 @@ pub AreMade-none : (config : Config) → AreMade config []
 AreMade-none config [] e later is = cc
 AreMade-none config (b ∷ before) e later is = cc
 
-pub sent_one_more : {T : Type 0} (h : List (Event T)) (e : T) → length (sent (h ++ Sent e ∷ [])) ≡ length (sent h) + 1
-sent_one_more [] e = refl
-sent_one_more (Sent g ∷ h) e = omega (arith, sent_one_more h e)
-sent_one_more (Got g ∷ h) e = sent_one_more h e
-
-pub sent_as_many : {T : Type 0} (h : List (Event T)) (e : T) → length (sent (h ++ Got e ∷ [])) ≡ length (sent h)
-sent_as_many [] e = refl
-sent_as_many (Sent g ∷ h) e = omega (arith, sent_as_many h e)
-sent_as_many (Got g ∷ h) e = sent_as_many h e
-
+-- one entry more is held
 pub entries_push : (h : List (Event SealedEntry)) (x : Event SealedEntry) →
     entries_in (h ++ x ∷ []) ≡ entries_in h ++ (entry_of x).entry ∷ []
 entries_push h x =

@@ -18,7 +18,7 @@ use Rattle.entangled_log.specs.declared.heard.Heard.{Heard}
 use Rattle.entangled_log.specs.declared.heard.Heard.TheVariants.{Taken, Own, Already, Full}
 use Rattle.entangled_log.specs.Hearing.{IsAnswer, log_after}
 use Rattle.entangled_log.specs.Logs.{History}
-use Rattle.entangled_log.proofs.Legal.{IsLegal-push, IsLegal-none}
+use Rattle.entry_order.proofs.Histories.{IsLegal-push, IsLegal-none, sent_one_more, sent_as_many}
 use Rattle.election_script.specs.declared.script.Cast0.{Cast0}
 use Rattle.election_script.specs.declared.script.Script.{Script}
 use Rattle.election_script.specs.Lawful.{IsLawful, IsCast, IsDeedAmong, IsDeedOf}
@@ -31,7 +31,7 @@ use Rattle.polling_world.specs.Making.{election_of}
 use Rattle.polling_world.specs.Rules.{entries_in}
 use Rattle.polling_world.specs.Sending.{MaySend}
 use Rattle.polling_world.specs.Waiting.{IsGoing}
-use Rattle.polling_world.proofs.Histories.{AreMade-none, AreMade-push, sent_one_more, sent_as_many}
+use Rattle.polling_world.proofs.Histories.{AreMade-none, AreMade-push}
 use Rattle.polling_world.proofs.MadeEntries.{may_follow}
 use Rattle.polling_world.proofs.Rosters.{key_in_roster, roster_has_text}
 

@@ -14,8 +14,7 @@ use Rattle.entry_order.specs.Naming.{IsNew, has_digest}
 use Rattle.entry_order.specs.History.{held, sent}
 use Rattle.entry_order.proofs.Naming.{has_digest_from}
 use Rattle.entry_order.proofs.Plays.{IsNew-from_test}
-use Rattle.entangled_log.specs.Whole.{lacks_some}
-use Rattle.entangled_log.proofs.Lacking.{names_only_held, lacks_none}
+use Rattle.entangled_log.proofs.Whole.{whole_or_not}
 use Rattle.roster.specs.declared.post.Role.{Role}
 use Rattle.roster.specs.declared.post.Role.TheVariants.{Supervisor, Booth}
 use Rattle.deed_history.proofs.Deciding.{one_first}
@@ -52,20 +51,14 @@ booth_by owner entries IsWhole deed (Ok done) is = inl is
 booth_by owner entries IsWhole deed (Err why) is = inr
     (λ may. let same = one_first (booth.causes_of owner entries IsWhole deed) (Ok tt) (Err why) may is in cc)
 
-whole_is : (h : List (Event SealedEntry)) → Decides (not (lacks_some node_of_sealed (held h))) (IsWhole h)
-whole_is h = (
-  λ yes. names_only_held node_of_sealed (held h) (not-true (lacks_some node_of_sealed (held h)) yes),
-  λ whole. ap not (lacks_none node_of_sealed (held h) whole),
-)
-
 role_either : (role : Role) (owner : ℕ) (h : List (Event SealedEntry)) (deed : Deed)
     → Either (RoleRefuses role owner h deed (Ok tt))
 role_either Supervisor owner h deed =
     let first = supervisor_answer.answered owner (entries_in h) deed in
     supervisor_by owner (entries_in h) deed first.0 first.1
 role_either Booth owner h deed =
-    let first = booth_answer.answered owner (entries_in h) (IsWhole h) (not (lacks_some node_of_sealed (held h))) deed
-    (whole_is h) in
+    let whole = whole_or_not node_of_sealed (held h) in
+    let first = booth_answer.answered owner (entries_in h) (IsWhole h) whole.0 deed whole.1 in
     booth_by owner (entries_in h) (IsWhole h) deed first.0 first.1
 
 new_either : (h : List (Event SealedEntry)) (e : SealedEntry) → Either (IsNew node_of_sealed (held h) e)

@@ -65,9 +65,11 @@ one_why m deed why.Stopped why.Spent x y = absurd (clash (has_stopped m) x y.0)
 one_why m deed why.Stopped why.Ready x y = absurd (clash (has_stopped m) x y.going)
 one_why m deed (why.SupervisorNot v) why.Stopped x y = absurd (clash (has_stopped m) y x.0)
 one_why m deed (why.SupervisorNot v) (why.SupervisorNot w) x y =
-    let same = one_rule m.config.role m.config.number m.events deed (Err (cause.Supervisor v)) (Err (cause.Supervisor w)) x.1 y.1 in cc
+    let same =
+    one_rule m.config.role m.config.number m.events deed (Err (cause.Supervisor v)) (Err (cause.Supervisor w)) x.1 y.1 in cc
 one_why m deed (why.SupervisorNot v) (why.BoothNot w) x y =
-    let same = one_rule m.config.role m.config.number m.events deed (Err (cause.Supervisor v)) (Err (cause.Booth w)) x.1 y.1 in cc
+    let same =
+    one_rule m.config.role m.config.number m.events deed (Err (cause.Supervisor v)) (Err (cause.Booth w)) x.1 y.1 in cc
 one_why m deed (why.SupervisorNot v) why.Full x y =
     let same = one_rule m.config.role m.config.number m.events deed (Err (cause.Supervisor v)) (Ok tt) x.1 y.1 in cc
 one_why m deed (why.SupervisorNot v) why.StampSpent x y =
@@ -75,12 +77,15 @@ one_why m deed (why.SupervisorNot v) why.StampSpent x y =
 one_why m deed (why.SupervisorNot v) why.Spent x y =
     let same = one_rule m.config.role m.config.number m.events deed (Err (cause.Supervisor v)) (Ok tt) x.1 y.1 in cc
 one_why m deed (why.SupervisorNot v) why.Ready x y =
-    let same = one_rule m.config.role m.config.number m.events deed (Err (cause.Supervisor v)) (Ok tt) x.1 y.allowed in cc
+    let same =
+    one_rule m.config.role m.config.number m.events deed (Err (cause.Supervisor v)) (Ok tt) x.1 y.allowed in cc
 one_why m deed (why.BoothNot v) why.Stopped x y = absurd (clash (has_stopped m) y x.0)
 one_why m deed (why.BoothNot v) (why.SupervisorNot w) x y =
-    let same = one_rule m.config.role m.config.number m.events deed (Err (cause.Booth v)) (Err (cause.Supervisor w)) x.1 y.1 in cc
+    let same =
+    one_rule m.config.role m.config.number m.events deed (Err (cause.Booth v)) (Err (cause.Supervisor w)) x.1 y.1 in cc
 one_why m deed (why.BoothNot v) (why.BoothNot w) x y =
-    let same = one_rule m.config.role m.config.number m.events deed (Err (cause.Booth v)) (Err (cause.Booth w)) x.1 y.1 in cc
+    let same =
+    one_rule m.config.role m.config.number m.events deed (Err (cause.Booth v)) (Err (cause.Booth w)) x.1 y.1 in cc
 one_why m deed (why.BoothNot v) why.Full x y =
     let same = one_rule m.config.role m.config.number m.events deed (Err (cause.Booth v)) (Ok tt) x.1 y.1 in cc
 one_why m deed (why.BoothNot v) why.StampSpent x y =
@@ -118,7 +123,8 @@ one_why m deed why.Spent why.Spent x y = refl
 one_why m deed why.Spent why.Ready x y = absurd (let spent = x.4 in let unspent = y.unspent in omega arith)
 one_why m deed why.Ready why.Stopped x y = absurd (clash (has_stopped m) y x.going)
 one_why m deed why.Ready (why.SupervisorNot w) x y =
-    let same = one_rule m.config.role m.config.number m.events deed (Ok tt) (Err (cause.Supervisor w)) x.allowed y.1 in cc
+    let same =
+    one_rule m.config.role m.config.number m.events deed (Ok tt) (Err (cause.Supervisor w)) x.allowed y.1 in cc
 one_why m deed why.Ready (why.BoothNot w) x y =
     let same = one_rule m.config.role m.config.number m.events deed (Ok tt) (Err (cause.Booth w)) x.allowed y.1 in cc
 one_why m deed why.Ready why.Full x y = absurd (let full = y.2 in let room = x.room in omega arith)

@@ -1,6 +1,7 @@
 -- The machines of a script play it in one way.
 use mathlib.Core.Path.{fun_ext}
-use Rattle.std.proofs.Common.{◌≡◌, ◌∙◌, ℕ, ◌<◌, Bool, false, ◌||◌, List, [], length, get_or, Option, Some, None, sym, subst, ap, arith}
+use Rattle.std.proofs.Common.{◌≡◌, ◌∙◌, ℕ, ◌<◌, Bool, false, ◌||◌, List, [], length, get_or, Option}
+use Rattle.std.proofs.Common.{Some, None, sym, subst, ap, arith}
 use Rattle.std.specs.Prelude.{slice_get}
 use Rattle.std.proofs.Math.Bool.{or-false}
 use Rattle.std.proofs.lemmas.List.{same_lists, get_or-map, length-map}
@@ -26,7 +27,8 @@ same_config script a b number x y =
     x.2 ∙ ap (λ n. config_of script n x.0) number ∙ ap (λ (c : Cast0). config_of script b.number c) cast ∙ sym y.2
 
 -- a machine is told by what it is made of and what is seen of it
-same_machine : (m n : MachineState) → m.config ≡ n.config → m.stop ≡ None → n.stop ≡ None → machine_of m ≡ machine_of n → m ≡ n
+same_machine : (m n : MachineState) → m.config ≡ n.config → m.stop ≡ None → n.stop ≡ None →
+    machine_of m ≡ machine_of n → m ≡ n
 same_machine m n config stop stop' same =
     let events : m.events ≡ n.events = ap (λ (a : Machine SealedEntry). a.history) same in
     let marked : m.marked ≡ n.marked =
@@ -37,7 +39,8 @@ same_machine m n config stop stop' same =
     ∙ ap (λ (s : Option ℕ). record { config = n.config; stop = s; marked = m.marked; events = m.events })
     (stop ∙ sym stop')
     ∙ ap (λ (b : Bool). record { config = n.config; stop = n.stop; marked = b; events = m.events }) marked
-    ∙ ap (λ (es : List (Event SealedEntry)). record { config = n.config; stop = n.stop; marked = n.marked; events = es })
+    ∙ ap (λ (es : List (Event SealedEntry)).
+    record { config = n.config; stop = n.stop; marked = n.marked; events = es })
     events
 
 -- so are machines

@@ -13,7 +13,7 @@ use Rattle.entry_order.specs.History.{IsLegal}
 use Rattle.entry_order.specs.World.{history}
 use Rattle.entry_order.proofs.Lists.{Contains-none}
 use Rattle.entry_order.proofs.Orders.{sent_in_cases}
-use Rattle.entangled_log.proofs.Legal.{IsLegal-none}
+use Rattle.entry_order.proofs.Histories.{IsLegal-none}
 use Rattle.election_script.specs.declared.script.Script.{Script}
 use Rattle.election_script.specs.Lawful.{IsLawful}
 use Rattle.lms_sign.specs.Secret.{Secret}

@@ -29,8 +29,8 @@ use std::marker::Model;
 /// Want of memory.
 pub type Memory = AllocError;
 
-/// A machine with what it is to do, its key, its log and the rules of its role. It can't be printed,
-/// so that its key isn't printed by accident.
+/// A machine with what it is to do, its key, its log and the rules of its role. It can't be
+/// printed, so that its key isn't printed by accident.
 #[derive(Drop)]
 pub struct Machine {
     name: Name,
@@ -65,9 +65,9 @@ impl Model for Machine {
 }
 
 impl Machine {
-    /// The script's machine at the place `at`, with the script's roster and the machine's unused key.
-    /// It stops once its log has `stop_at` events, where there is such a number. All memory that
-    /// hearing needs is taken here.
+    /// The script's machine at the place `at`, with the script's roster and the machine's unused
+    /// key. It stops once its log has `stop_at` events, where there is such a number. All memory
+    /// that hearing needs is taken here.
     pub fn make(
         alloc: Global,
         script: &Script,

@@ -63,8 +63,8 @@ impl Rules {
         }
     }
 
-    /// Whether the machine whose log this is may do the deed now, which is one of its role. Only for a
-    /// Cast the log is searched for what it lacks. It takes no memory.
+    /// Whether the machine whose log this is may do the deed now, which is one of its role. Only
+    /// for a Cast the log is asked whether it is whole. It takes no memory.
     pub fn may(&self, deed: &Deed, log: &Log<Sealed>) -> Result<(), RuleNot>
         requires { IsDeedFor self.now deed.now }
         ensures { (role : Role) (owner : ℕ) →

@@ -1,14 +1,11 @@
 //! What a step does to the machines.
-ghost use Rattle.std.specs.Prelude.{◌≡◌, ◌<◌, IfOk, IfSome, IfNone, OnErr, Some, None, slice_get};
-ghost use Rattle.std.specs.Prelude.{vec_len};
-ghost use Rattle.entry_order.specs.History.{sent};
+ghost use Rattle.std.specs.Prelude.{◌≡◌, ◌<◌, IfOk, OnErr, vec_len};
 ghost use Rattle.polling_world.specs.Steps.{ActsAt, HearsAt, IsGiven, IsStepOf, StepsBy, StopsAt};
 
 use crate::acted::Acted;
 use crate::heard::MachineHeard;
 use crate::machine::{Machine, Memory};
 use crate::stepped::Stepped;
-use entangled_log::Event;
 use entry_format::Sealed;
 use entry_order::Step;
 use std::alloc::Global;
@@ -64,7 +61,7 @@ fn hear_at(
     if at == from {
         return Ok(Stepped::Nothing);
     }
-    let Some(entry) = sent_at(machines[from].log().events(), number) else {
+    let Some(entry) = machines[from].log().sent_at(number) else {
         return Ok(Stepped::Nothing);
     };
     let entry = entry.copy(alloc)?;
@@ -80,23 +77,6 @@ fn give(machines: &mut Vec<Machine>, at: usize, entry: Sealed) -> Stepped
         MachineHeard::Taken => Stepped::Did,
         _ => Stepped::Nothing,
     }
-}
-
-/// The entry with this number among those that were sent.
-fn sent_at(events: &[Event<Sealed>], number: usize) -> Option<&Sealed>
-    ensures found { IfSome result (λ entry. slice_get (sent events.now) number ≡ Some entry.now) }
-    ensures none { IfNone result (slice_get (sent events.now) number ≡ None) }
-{
-    let mut left = number;
-    for event in events {
-        if let Event::Sent(entry) = event {
-            if left == 0 {
-                return Some(entry);
-            }
-            left -= 1;
-        }
-    }
-    None
 }
 
 /// The machine at this place stops, unless it has.

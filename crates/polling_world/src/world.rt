@@ -48,8 +48,8 @@ impl Recorder for Machine {
     }
 }
 
-/// All machines of a polling place, each in its place in the roster (Auditorium, EVT 2007). Each log
-/// is a legal history, and what a machine heard was sent.
+/// All machines of a polling place, each in its place in the roster (Auditorium, EVT 2007). Each
+/// log is a legal history, and what a machine heard was sent.
 #[derive(Drop)]
 pub struct World {
     pub roster: Roster,

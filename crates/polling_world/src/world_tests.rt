@@ -23,7 +23,8 @@ const SESSIONS: &str = "machine sv supervisor\nmachine b1 booth\nmachine b2 boot
 
 /// Whether the world has sent the entry.
 fn has_sent(world: &World, entry: (u32, u32)) -> bool
-    ensures { IsTrue result ↔ (entry.1 < length (sent (history (world_of world.now.machines) entry.0))) }
+    ensures { IsTrue result
+        ↔ (entry.1 < length (sent (history (world_of world.now.machines) entry.0))) }
 {
     let at = entry.0 as usize;
     if at >= world.machines.len() {
@@ -66,67 +67,50 @@ fn worked_world(alloc: Global) -> Result<World, Fail> {
     Ok(play(alloc, &script)?)
 }
 
+/// Two entries, each by its machine and number, and whether the first was held before the second.
+const HELD: &[((u32, u32), (u32, u32), bool)] = &[
+    ((0, 0), (2, 0), true),
+    ((1, 0), (2, 0), true),
+    ((2, 0), (1, 0), false),
+    ((2, 0), (2, 0), false),
+];
+
 #[test]
 fn what_was_held_before_is_told(rt: HostRuntime) -> Result<(), Fail> {
     let alloc = rt.alloc();
     let world = worked_world(alloc)?;
-    for (f, e, held) in [
-        ((0, 0), (2, 0), true),
-        ((1, 0), (2, 0), true),
-        ((2, 0), (1, 0), false),
-        ((2, 0), (2, 0), false),
-    ] {
+    for &(f, e, held) in HELD {
         assert_eq!(rt; answer(alloc, &world, f, e)?, Some(held), "{f:?} and {e:?}");
     }
     Ok(())
 }
 
+/// At a machine, the entry of another with this number is heard.
+const fn hear(at: u32, from: u32, number: u32) -> Step {
+    Step::Hear { at, from, number }
+}
+
+/// Steps, and what becomes of each.
+const STEPS: &[(Step, Stepped)] = &[
+    // No action is left.
+    (Step::Act(0), Stepped::Nothing),
+    // It holds that entry.
+    (hear(2, 1, 1), Stepped::Nothing),
+    // No such entry was sent.
+    (hear(1, 2, 1), Stepped::Nothing),
+    // It is its own.
+    (hear(1, 1, 0), Stepped::Nothing),
+    (Step::Stop(2), Stepped::Did),
+    (Step::Stop(2), Stepped::Nothing),
+    // The machine has stopped.
+    (hear(2, 1, 0), Stepped::Nothing),
+];
+
 #[test]
 fn steps_that_change_nothing_are_told(rt: HostRuntime) -> Result<(), Fail> {
     let alloc = rt.alloc();
     let mut world = worked_world(alloc)?;
-    for (step, stepped) in [
-        // No action is left.
-        (Step::Act(0), Stepped::Nothing),
-        // It holds that entry.
-        (
-            Step::Hear {
-                at: 2,
-                from: 1,
-                number: 1,
-            },
-            Stepped::Nothing,
-        ),
-        // No such entry was sent.
-        (
-            Step::Hear {
-                at: 1,
-                from: 2,
-                number: 1,
-            },
-            Stepped::Nothing,
-        ),
-        // It is its own.
-        (
-            Step::Hear {
-                at: 1,
-                from: 1,
-                number: 0,
-            },
-            Stepped::Nothing,
-        ),
-        (Step::Stop(2), Stepped::Did),
-        (Step::Stop(2), Stepped::Nothing),
-        // The machine has stopped.
-        (
-            Step::Hear {
-                at: 2,
-                from: 1,
-                number: 0,
-            },
-            Stepped::Nothing,
-        ),
-    ] {
+    for &(step, stepped) in STEPS {
         assert_eq!(rt; taken(alloc, &mut world, &step)?, Some(stepped), "{step:?}");
     }
     Ok(())

@@ -8,7 +8,8 @@ loop-step-init c = record {
   stays = stays_first c.args.script.now c.in_ok-world.world.machines c.in_ok-world.ensures.machines;
   roster = c.in_ok-world.ensures.roster;
   same = c.as_slice-steps.ensures;
-  leads = leads_first c.args.script.now c.in_ok-world.world.machines c.as_slice-steps.result.now c.as_slice-steps.ensures;
+  leads =
+      leads_first c.args.script.now c.in_ok-world.world.machines c.as_slice-steps.result.now c.as_slice-steps.ensures;
 }
 
 pub step-requires : goal.step-requires

@@ -1,11 +1,21 @@
-use Rattle.std.proofs.Common.{◌∙◌, ap, List, subst}
-use Rattle.std.specs.Prelude.{◌↔◌, IsTrue}
+use Rattle.std.proofs.Common.{List, ◌∙◌, ap, sym, subst}
+use Rattle.std.specs.Prelude.{◌↔◌, not, IsTrue}
 use Rattle.entry_order.specs.declared.event.Event.{Event}
-use Rattle.entry_order.specs.History.{held}
+use Rattle.entry_order.specs.History.{entry_of, held}
+use Rattle.log_frontier.specs.Places.{StandsFor}
 use Rattle.entangled_log.specs.Whole.{NamesOnlyHeld}
+use Rattle.entangled_log.proofs.Whole.{whole_entries}
 use Rattle.entangled_log.proofs.log.Log.is_whole.Goals as goal
+
+-- the frontier stands for the events as they are lent
+pub wants-requires : goal.wants-requires
+wants-requires g c =
+    subst (λ (h : List (Event g.row.T.Denot)). StandsFor (λ x. g.T.Knot.node (entry_of x)) h c.self.inside.frontier)
+    (sym c.deref.ensures.value) c.self.invariant.stands
 
 pub returns : goal.returns
 returns g c =
-    subst (λ (h : List (Event g.row.T.Denot)). IsTrue c.is_whole.result ↔ NamesOnlyHeld g.T.Knot.node (held h))
-    (c.deref.ensures.value ∙ ap (λ log. log.events) c.self.view_is) c.is_whole.ensures
+    let node = g.T.Knot.node in
+    subst (λ (h : List (Event g.row.T.Denot)). IsTrue (not c.wants.result) ↔ NamesOnlyHeld node (held h))
+    (c.deref.ensures.value ∙ ap (λ log. log.events) c.self.view_is)
+    (whole_entries node c.deref.result.now c.wants.result c.wants.ensures)

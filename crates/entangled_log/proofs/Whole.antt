@@ -1,0 +1,65 @@
+-- What the frontier answers of the events is so of the entries held.
+use Rattle.std.proofs.Common.{◌≡◌, ℕ, Bool, true, false, List, sym, ap, ◌∙◌, refl, subst}
+use Rattle.std.specs.Prelude.{◌↔◌, not, IsTrue}
+use Rattle.std.specs.List.{Contains}
+use Rattle.std.proofs.lemmas.Bool.{not-true, not_from_false, true≢false, false_from_ne_true}
+use Rattle.entry_order.specs.declared.event.Event.{Event}
+use Rattle.entry_order.specs.Node.{Node}
+use Rattle.entry_order.specs.History.{entry_of, held}
+use Rattle.entry_order.specs.Naming.{IsBorneIn, has_digest}
+use Rattle.entry_order.proofs.Held.{has_digest_held}
+use Rattle.entry_order.proofs.Lists.{Contains-map, Contains-map_cases}
+use Rattle.entry_order.proofs.Naming.{has_digest_of, has_digest_from}
+use Rattle.log_frontier.specs.Places.{NamesUnborne}
+use Rattle.log_frontier.proofs.Tables.{lacks_decides}
+use Rattle.log_frontier.specs.inside.Noting.{lacks_some}
+use Rattle.entangled_log.specs.Whole.{NamesOnlyHeld}
+
+module _ {T : Type 0} (node : T → Node) where
+  -- a test that finds a name that none bears decides, turned round, whether only what is held is named
+  names_only_held : (es : List T) (b : Bool) → (IsTrue b ↔ NamesUnborne node es) →
+      IsTrue (not b) ↔ NamesOnlyHeld node es
+  names_only_held es b finds = (
+    λ t e d c n. by t e d c n (has_digest node es d) refl,
+    λ whole. not_from_false b (false_from_ne_true b
+        (λ t. let w = finds.0 t in w.2 (whole w.1.0 w.0 w.1.1 w.1.2))),
+  )
+    where
+      by : IsTrue (not b) → (e : T) (d : List ℕ) → Contains es e → Contains (node e).names d → (held : Bool) →
+          has_digest node es d ≡ held → IsBorneIn node es d
+      by t e d c n true is = has_digest_from node es d is
+      by t e d c n false is =
+          let found = finds.1 (d, (e, c, n), λ borne. true≢false (sym (has_digest_of node es d borne) ∙ is)) in
+          absurd (true≢false (sym found ∙ not-true b t))
+
+  -- whether only what is held is named
+  pub whole_or_not : (es : List T) → (b : Bool) × (IsTrue b ↔ NamesOnlyHeld node es)
+  whole_or_not es = (not (lacks_some node es), names_only_held es (lacks_some node es) (lacks_decides node es))
+
+module _ {T : Type 0} (node : T → Node) (h : List (Event T)) where
+  -- a digest that an event bears its entry bears, and the other way round
+  borne_held : (d : List ℕ) → IsBorneIn (λ x. node (entry_of x)) h d ↔ IsBorneIn node (held h) d
+  borne_held d = (
+    λ (x, c, is). (entry_of x, Contains-map entry_of h x c, is),
+    λ (e, c, is).
+        let r = Contains-map_cases entry_of h e c in (r.0, r.1, ap (λ (u : T). (node u).digest) r.2 ∙ is),
+  )
+
+  -- what the table of digests answers of the events
+  pub holds_entries : (d : List ℕ) (b : Bool) → b ≡ has_digest (λ x. node (entry_of x)) h d →
+      IsTrue b ↔ IsBorneIn node (held h) d
+  holds_entries d b is =
+      let same = is ∙ has_digest_held node h d in
+      (λ t. has_digest_from node (held h) d (sym same ∙ t), λ borne. same ∙ has_digest_of node (held h) d borne)
+
+  -- what the table of names answers of the events
+  pub whole_entries : (b : Bool) → (IsTrue b ↔ NamesUnborne (λ x. node (entry_of x)) h) →
+      IsTrue (not b) ↔ NamesOnlyHeld node (held h)
+  whole_entries b finds =
+      let events = names_only_held (λ x. node (entry_of x)) h b finds in (
+        λ t e d c n.
+            let r = Contains-map_cases entry_of h e c in
+            (borne_held d).0 (events.0 t r.0 d r.1
+            (subst (λ (u : T). Contains (node u).names d) (sym r.2) n)),
+        λ whole. events.1 (λ x d c n. (borne_held d).1 (whole (entry_of x) d (Contains-map entry_of h x c) n)),
+      )

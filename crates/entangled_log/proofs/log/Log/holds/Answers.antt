@@ -1,0 +1,22 @@
+use Rattle.std.proofs.Common.{List, ◌∙◌, ap, sym, subst}
+use Rattle.std.specs.Prelude.{◌↔◌, IsTrue}
+use Rattle.entry_order.specs.declared.event.Event.{Event}
+use Rattle.entry_order.specs.History.{entry_of, held}
+use Rattle.entry_order.specs.Naming.{IsBorneIn}
+use Rattle.log_frontier.specs.Places.{StandsFor}
+use Rattle.entangled_log.proofs.Whole.{holds_entries}
+use Rattle.entangled_log.proofs.log.Log.holds.Goals as goal
+
+-- the frontier stands for the events as they are lent
+pub bears-requires : goal.bears-requires
+bears-requires g c =
+    subst (λ (h : List (Event g.row.T.Denot)). StandsFor (λ x. g.T.Knot.node (entry_of x)) h c.self.inside.frontier)
+    (sym c.deref.ensures.value) c.self.invariant.stands
+
+pub returns : goal.returns
+returns g c =
+    let node = g.T.Knot.node in
+    let digest = c.args.digest.now in
+    subst (λ (h : List (Event g.row.T.Denot)). IsTrue c.bears.result ↔ IsBorneIn node (held h) digest)
+    (c.deref.ensures.value ∙ ap (λ log. log.events) c.self.view_is)
+    (holds_entries node c.deref.result.now digest c.bears.result c.bears.ensures)

@@ -1,0 +1,110 @@
+-- What the tables say of the entries that were noted.
+use Rattle.std.proofs.Common.{◌≡◌, ℕ, ◌+◌, ◌<◌, Bool, true, false, List, [], ◌∷◌, ◌++◌, length, get_or, take, refl, sym}
+use Rattle.std.proofs.Common.{ap, subst, ◌∙◌, not, arith}
+use Rattle.std.specs.Prelude.{◌&&◌, ◌||◌, ◌↔◌, IsTrue}
+use Rattle.std.specs.Str.{bytes_eq}
+use Rattle.std.proofs.lemmas.Bool.{true≢false, false_from_ne_true, and_parts, and_from, not_from_false, not_from_true}
+use Rattle.std.proofs.lemmas.Bool.{or_left, not-true}
+use Rattle.std.proofs.lemmas.List.Elements.{All-nil}
+use Rattle.std.proofs.lemmas.List.Folds.{list_any-append}
+use Rattle.std.proofs.lemmas.Slice.Eq.{bytes_eq-Decides}
+use Rattle.entry_order.specs.Node.{Node}
+use Rattle.entry_order.specs.Naming.{names_digest, is_named, has_digest, IsNew}
+use Rattle.entry_order.proofs.Lists.{list_any_some, list_any_of}
+use Rattle.entry_order.proofs.Naming.{names_digest_of, names_digest_from, is_named_of, is_named_from}
+use Rattle.entry_order.proofs.Naming.{has_digest_of, has_digest_from}
+use Rattle.log_frontier.specs.Digests.{has, Wanted}
+use Rattle.log_frontier.specs.inside.Noting.{lacks, lacks_some}
+use Rattle.log_frontier.specs.Places.{Places, AreWanted, IsFrontierAt, StandsFor, NamesUnborne, HasNoDigestTwice}
+use Rattle.log_frontier.proofs.Notes.{last_split}
+
+module _ {T : Type 0} (node : T → Node) where
+  -- a digest of the table is named by an entry and borne by none
+  lacks_if_wanted : (es : List T) (d : List ℕ) → (is_named node es d && not (has_digest node es d)) ≡ true →
+      lacks_some node es ≡ true
+  lacks_if_wanted es d t =
+      let parts = and_parts (is_named node es d) (not (has_digest node es d)) t in
+      let by = list_any_some (λ e. names_digest node e d) es parts.0 in
+      list_any_of (λ e. lacks node es (node e).names) es by.0 by.1
+      (list_any_of (λ d. not (has_digest node es d)) (node by.0).names d (names_digest_from node by.0 d by.2) parts.1)
+
+  -- and where one is so, the table isn't empty
+  wanted_if_lacks : (es : List T) → lacks_some node es ≡ true →
+      (d : List ℕ) × ((is_named node es d && not (has_digest node es d)) ≡ true)
+  wanted_if_lacks es t =
+      let by = list_any_some (λ e. lacks node es (node e).names) es t in
+      let what = list_any_some (λ d. not (has_digest node es d)) (node by.0).names by.2 in (
+        what.0,
+        and_from (is_named node es what.0) (not (has_digest node es what.0))
+            (list_any_of (λ e. names_digest node e what.0) es by.0 by.1 (names_digest_of node by.0 what.0 what.1))
+            what.2,
+      )
+
+  -- the scan finds exactly what there is
+  pub lacks_decides : (es : List T) → (lacks_some node es ≡ true) ↔ NamesUnborne node es
+  lacks_decides es = (
+    λ t. let w = wanted_if_lacks es t in
+        let parts = and_parts (is_named node es w.0) (not (has_digest node es w.0)) w.1 in (
+          w.0,
+          is_named_from node es w.0 parts.0,
+          λ borne. true≢false
+              (sym (has_digest_of node es w.0 borne) ∙ not-true (has_digest node es w.0) parts.1),
+        ),
+    λ (d, named, lost). lacks_if_wanted es d
+        (and_from (is_named node es d) (not (has_digest node es d)) (is_named_of node es d named)
+        (not_from_false (has_digest node es d)
+        (false_from_ne_true (has_digest node es d) (λ t. lost (has_digest_from node es d t))))),
+  )
+
+  -- the table of what is looked for isn't empty exactly where the scan would find something
+  pub lacks_by_table : (es : List T) (wanted : List (List ℕ)) →
+      ((d : List ℕ) → has wanted d ≡ (is_named node es d && not (has_digest node es d))) →
+      (empty : Bool) → (IsTrue empty ↔ (wanted ≡ [])) → not empty ≡ lacks_some node es
+  lacks_by_table es [] are empty is =
+      not_from_true empty (is.1 refl)
+      ∙ sym (false_from_ne_true (lacks_some node es)
+      (λ t. let d = wanted_if_lacks es t in true≢false (sym (are d.0 ∙ d.1))))
+  lacks_by_table es (w ∷ ws) are empty is =
+      not_from_false empty (false_from_ne_true empty (λ t. (let none = is.0 t in cc)))
+      ∙ sym (lacks_if_wanted es w (sym (are w) ∙ or_left (bytes_eq w w) (has ws w) ((bytes_eq-Decides w w).1 refl)))
+
+  -- a frontier that was made has noted no entry
+  pub StandsFor-none : (places : Places) → places.list ≡ [] →
+      (places.noted ≡ []) × (places.wanted ≡ record { list = []; scans = false }) → StandsFor node [] places
+  StandsFor-none places empty tables = record {
+    front = subst (λ (ps : List ℕ). IsFrontierAt node [] ps) (sym empty)
+        (record { inside = All-nil (λ p. p < 0); digests = refl });
+    noted = λ d. ap (λ (ds : List (List ℕ)). has ds d) tables.0;
+    wanted = λ _ d. ap (λ (w : Wanted). has w.list d) tables.1;
+  }
+
+  module _ (held : List T) (place : ℕ) (e : T) (last : place + 1 ≡ length held) (is : e ≡ get_or held place e) where
+    -- it stands after those before it
+    split : held ≡ take place held ++ e ∷ []
+    split = last_split held place e (omega arith) is
+
+    -- the last entry is named by one before it where it was wanted
+    pub named_by_table : (wanted : Wanted) → AreWanted node (take place held) wanted → wanted.scans ≡ false →
+        HasNoDigestTwice node held →
+        (has wanted.list (node e).digest || names_digest node e (node e).digest) ≡ is_named node held (node e).digest
+    named_by_table wanted are scans distinct =
+        let es = take place held in
+        let d = (node e).digest in
+        let new : IsNew node es e = distinct es e [] split in
+        let free : has_digest node es d ≡ false =
+        false_from_ne_true (has_digest node es d)
+        (λ t. let f = list_any_some (λ g. bytes_eq (node g).digest d) es t in
+        new f.0 f.1 ((bytes_eq-Decides (node f.0).digest d).0 f.2)) in
+        ap (λ b. b || names_digest node e d)
+        (are scans d ∙ ap (λ b. is_named node es d && not b) free ∙ and_true (is_named node es d))
+        ∙ ap (λ b. is_named node es d || b) (or_false (names_digest node e d))
+        ∙ sym (list_any-append (λ g. names_digest node g d) es (e ∷ []))
+        ∙ sym (ap (λ (l : List T). is_named node l d) split)
+      where
+        and_true : (b : Bool) → (b && true) ≡ b
+        and_true true = refl
+        and_true false = refl
+
+        or_false : (b : Bool) → b ≡ (b || false)
+        or_false true = refl
+        or_false false = refl
