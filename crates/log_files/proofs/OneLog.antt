@@ -102,10 +102,22 @@ one_end offset bytes (Malformed at why) (Malformed place cause) h k =
 -- the members of the list that a record holds
 held_by : (tree : Sexp) (members others : Forest) → IsRecordOf (Branch members) tree → IsRecordOf (Branch others) tree →
     members ≡ others
-held_by tree members others (inl h) (inl k) = let same : list_of (Atom (codes "sent") ∷ Branch members ∷ []) ≡ list_of (Atom (codes "sent") ∷ Branch others ∷ []) = sym h ∙ k in cc
-held_by tree members others (inl h) (inr k) = let same : list_of (Atom (codes "sent") ∷ Branch members ∷ []) ≡ list_of (Atom (codes "got") ∷ Branch others ∷ []) = sym h ∙ k in cc
-held_by tree members others (inr h) (inl k) = let same : list_of (Atom (codes "got") ∷ Branch members ∷ []) ≡ list_of (Atom (codes "sent") ∷ Branch others ∷ []) = sym h ∙ k in cc
-held_by tree members others (inr h) (inr k) = let same : list_of (Atom (codes "got") ∷ Branch members ∷ []) ≡ list_of (Atom (codes "got") ∷ Branch others ∷ []) = sym h ∙ k in cc
+held_by tree members others (inl h) (inl k) =
+    let same : list_of (Atom (codes "sent") ∷ Branch members ∷ [])
+    ≡ list_of (Atom (codes "sent") ∷ Branch others ∷ []) = sym h ∙ k in
+    cc
+held_by tree members others (inl h) (inr k) =
+    let same : list_of (Atom (codes "sent") ∷ Branch members ∷ [])
+    ≡ list_of (Atom (codes "got") ∷ Branch others ∷ []) = sym h ∙ k in
+    cc
+held_by tree members others (inr h) (inl k) =
+    let same : list_of (Atom (codes "got") ∷ Branch members ∷ [])
+    ≡ list_of (Atom (codes "sent") ∷ Branch others ∷ []) = sym h ∙ k in
+    cc
+held_by tree members others (inr h) (inr k) =
+    let same : list_of (Atom (codes "got") ∷ Branch members ∷ [])
+    ≡ list_of (Atom (codes "got") ∷ Branch others ∷ []) = sym h ∙ k in
+    cc
 
 -- a record gives one reading
 one_given : (tree : Sexp) (reading other : Result Plain EntryFault) → Gives tree reading → Gives tree other →
@@ -160,4 +172,5 @@ one_said bytes log other h k =
     (header_fits k.owner k.number) (sym h.header ∙ k.header) in
     let P : Sexp → Type 0 = λ t. SaysFrom (length (text_of t)) h.behind log in
     let Q : List ℕ → Type 0 = λ bs. SaysFrom (length (text_of (header_tree k.owner))) bs log in
-    one_said_from (length (text_of (header_tree k.owner))) k.behind log other (subst Q one.1 (subst P one.0 h.rest)) k.rest
+    one_said_from (length (text_of (header_tree k.owner))) k.behind log other (subst Q one.1 (subst P one.0 h.rest))
+    k.rest

@@ -9,7 +9,6 @@ use Rattle.std.proofs.lemmas.List.Elements.{All-push, All-nil}
 use Rattle.canonical_sexp.specs.declared.sexp.Sexp.{Sexp}
 use Rattle.canonical_sexp.specs.declared.sexp.Sexp.TheVariants.{Atom, List as Branch}
 use Rattle.std.specs.Fmt.{decimal}
-use Rattle.canonical_sexp.specs.declared.read.Read.{Read}
 use Rattle.canonical_sexp.specs.declared.read.Read.TheVariants as read
 use Rattle.canonical_sexp.specs.Reading.{Answers}
 use Rattle.canonical_sexp.specs.Text.{text_of, Fits}
@@ -17,7 +16,7 @@ use Rattle.entry_format.specs.declared.plain.Plain.{Plain}
 use Rattle.entry_format.specs.declared.plain.EntryFault.{EntryFault}
 use Rattle.log_files.specs.declared.plain_log.PlainLog.{PlainLog}
 use Rattle.log_files.specs.LogText.{IsEnd, Gives, EachGives, kept_of, refused_of, SaysFrom}
-use Rattle.log_files.specs.Parts.{Adds}
+use Rattle.log_files.specs.inside.Parts.{Adds}
 
 some_text : (tree : Sexp) → 0 < length (text_of tree)
 some_text (Atom octets) = omega (arith, length-append (decimal (length octets)) (58 ∷ octets))
@@ -193,13 +192,12 @@ read_all start bytes at place log h ends =
     }
 
 -- the reader's answer for the bytes from a place on, and what it adds
-pub adds_whole : (start : ℕ) (bytes : List ℕ) (at place used : ℕ) (old new : PlainLog) (tree : Sexp) (answer : Read) →
+pub adds_whole : (start : ℕ) (bytes : List ℕ) (at place used : ℕ) (old new : PlainLog) (tree : Sexp) →
     AreReadTo start bytes at place old.kept.items old.refused.items →
-    Answers (take (length bytes - at) (drop at bytes)) answer → answer ≡ read.Whole tree used →
+    Answers (take (length bytes - at) (drop at bytes)) (read.Whole tree used) →
     Adds tree place old new → AreReadTo start bytes (at + used) (place + 1) new.kept.items new.refused.items
-adds_whole start bytes at place used old new tree answer h right is adds =
+adds_whole start bytes at place used old new tree h right adds =
     let P : List ℕ → Type 0 = λ bs. Answers bs (read.Whole tree used) in
-    let Q : Read → Type 0 = λ r. Answers (take (length bytes - at) (drop at bytes)) r in
-    let whole : P (drop at bytes) = subst P (take_rest bytes at) (subst Q is right) in
+    let whole : P (drop at bytes) = subst P (take_rest bytes at) right in
     adds_more start bytes at place used old new tree h whole.0 whole.1 whole.2
     (text_some tree (drop at bytes) used whole.2) adds

@@ -1,5 +1,4 @@
 pub mod LogText
 pub mod LogFile
-pub mod FileFaults
-pub mod Parts
 pub mod Written
+pub mod inside

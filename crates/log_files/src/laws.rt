@@ -1,5 +1,5 @@
-//! Laws about what bytes say, which hold of the definitions alone. Each is the contract of a function
-//! that does nothing.
+//! Laws about what bytes say, which hold of the definitions alone. Each is the contract of a
+//! function that does nothing.
 ghost use Rattle.std.specs.Prelude.{◌≡◌, ℕ, List};
 ghost use Rattle.log_files.specs.LogText.{HasHeader, Says};
 ghost use Rattle.log_files.specs.declared.plain_log.PlainLog.{PlainLog};

@@ -2,7 +2,7 @@
 ghost use Rattle.std.specs.Prelude.{◌≡◌, ◌+◌, IfOk, IfErr, IsErrOf};
 ghost use Rattle.hall_outside.specs.Counts.{HasCause, ComesExactly};
 ghost use Rattle.hall_outside.specs.Files.{OnFile};
-ghost use Rattle.log_files.specs.LogFile.{IsLogOf, IsRefused};
+ghost use Rattle.log_files.specs.LogFile.{max_bytes, IsLogOf, IsRefused};
 
 use crate::records::plain_log_of;
 use canonical_sexp::Why;
@@ -27,7 +27,8 @@ pub enum End {
 pub struct PlainLog {
     /// The entries, in the order of the file.
     pub kept: Vec<Plain>,
-    /// The records that are no entries: the place of each, counted from 0 behind the header, and why.
+    /// The records that are no entries: the place of each, counted from 0 behind the header, and
+    /// why.
     pub refused: Vec<(u32, EntryFault)>,
     /// How the file ends.
     pub end: End,
@@ -61,7 +62,7 @@ impl From<AllocError> for LogFault {
 
 impl From<FileFault> for LogFault {
     ghost use Rattle.std.specs.Prelude.{◌≡◌};
-    ghost use Rattle.log_files.specs.FileFaults.{log_fault_of};
+    ghost use Rattle.log_files.specs.inside.FileFaults.{log_fault_of};
 
     ghost from_gives = { λ fault e. e ≡ log_fault_of fault };
 
@@ -97,7 +98,7 @@ pub fn read_plain_log<S: Store>(
     // Absent and TooLong come exactly where the store said so in this call, ReadFault only so.
     ensures absent { ComesExactly (S.answered store.old).absences (S.answered store.new).absences
         (IsErrOf result LogFault.Absent) }
-    ensures too_long { ComesExactly ((S.answered store.old).bytes + 67108864)
+    ensures too_long { ComesExactly ((S.answered store.old).bytes + max_bytes)
         (S.answered store.new).bytes (IsErrOf result LogFault.TooLong) }
     ensures read_fault { HasCause (S.read_faults store.old) (S.read_faults store.new)
         (IsErrOf result LogFault.ReadFault) }

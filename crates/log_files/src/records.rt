@@ -1,92 +1,84 @@
-//! Reading the header and the records of a log from bytes.
-ghost use Rattle.std.specs.Prelude.{◌≡◌, ◌≢◌, ◌≤◌, ◌↔◌, length, drop, Err, IsTrue};
+//! Reading the header and the records of a log where their texts stand.
+ghost use Rattle.std.specs.Prelude.{◌≡◌, ◌≢◌, ◌≤◌, length, drop, Err};
 ghost use Rattle.std.specs.Prelude.{IfOk, IfSome, IfNone, OnOk, MatchOption};
-ghost use Rattle.canonical_sexp.specs.Text.{text_of, Fits};
-ghost use Rattle.entry_format.specs.declared.plain.EntryFault.{EntryFault};
 ghost use Rattle.canonical_sexp.specs.Forest.{Forest};
+ghost use Rattle.canonical_sexp.specs.Forms.{Finds, IsU32};
 ghost use Rattle.canonical_sexp.specs.declared.sexp.Sexp.TheVariants.{List as Branch};
-ghost use Rattle.log_files.specs.LogText.{HasHeader, IsRecordOf, Gives, SaysFrom, Says};
-ghost use Rattle.log_files.specs.Parts.{IsHeader, IsEntryIn, Adds};
+ghost use Rattle.entry_format.specs.declared.plain.EntryFault.{EntryFault};
+ghost use Rattle.log_files.specs.LogFile.{max_bytes};
+ghost use Rattle.log_files.specs.LogText.{header_tree, HasHeader, IsRecordOf, Gives};
+ghost use Rattle.log_files.specs.LogText.{SaysFrom, Says};
+ghost use Rattle.log_files.specs.inside.Parts.{IsEntryIn, Adds};
 
 use crate::plain_log::{End, PlainLog};
-use canonical_sexp::{Memory, Read, Sexp, read_one};
-use entry_format::{EntryFault, Plain, read_unsigned_tree};
+use canonical_sexp::{Front, Memory, Text, front_of};
+use entry_format::{EntryFault, Plain, read_unsigned};
 use std::alloc::{AllocError, Global};
 
-/// Reads the entry of a record, whose text this is.
-fn entry_of(alloc: Global, tree: &Sexp, text: &[u8]) -> Result<Plain, EntryFault>
-    requires fits { Fits tree.now }
-    requires text { text.now ≡ text_of tree.now }
-    ensures { result ≢ Err EntryFault.Memory → Gives tree.now result }
+/// Reads the entry of a record. The entry's own text is read by its format.
+fn entry_of(alloc: Global, text: &Text<'_>) -> Result<Plain, EntryFault>
+    ensures { result ≢ Err EntryFault.Memory → Gives text.now result }
 {
-    match entry_in(tree) {
-        Some((entry, before)) => read_unsigned_tree(alloc, entry, &text[before..text.len() - 1]),
+    match entry_in(text) {
+        Some(entry) => read_unsigned(alloc, entry.bytes()),
         None => Err(EntryFault::WrongShape),
     }
 }
 
-/// The signed entry in a record, and how many bytes of the record's text stand before it.
-fn entry_in(tree: &Sexp) -> Option<(&Sexp, usize)>
-    ensures found { IfSome result (λ found. IsEntryIn tree.now found.0.now found.1) }
+/// The signed entry in a record.
+fn entry_in<'a>(text: &Text<'a>) -> Option<Text<'a>>
+    ensures found { IfSome result (λ entry. IsEntryIn text.now entry) }
     ensures none { IfNone result ((members : Forest) →
-        IsRecordOf (Branch members) tree.now → ⊥) }
+        IsRecordOf (Branch members) text.now → ⊥) }
 {
-    match tree.as_list()?.as_slice() {
-        [word, entry] if word.is_word(b"sent") => {
-            entry.as_list()?;
-            Some((entry, b"(4:sent".len()))
-        }
-        [word, entry] if word.is_word(b"got") => {
-            entry.as_list()?;
-            Some((entry, b"(3:got".len()))
-        }
-        _ => None,
+    let mut members = text.as_list()?;
+    let word = members.take_next()?;
+    let entry = members.take_next()?;
+    if !members.is_empty() {
+        return None;
+    }
+    entry.as_list()?;
+    if word.is_word(b"sent") || word.is_word(b"got") {
+        Some(entry)
+    } else {
+        None
     }
 }
 
-/// Whether the tree is the header of a log.
-fn is_header(tree: &Sexp) -> bool
-    ensures { IsTrue result ↔ IsHeader tree.now }
+/// The owner of the log of which the text is the header.
+fn owner_of(text: &Text<'_>) -> Option<u32>
+    ensures { Finds (λ owner. IsU32 owner × (text.now ≡ header_tree owner)) result }
 {
-    let Some(members) = tree.as_list() else {
-        return false;
-    };
-    match members.as_slice() {
-        [word, version, owner] => {
-            word.is_word(b"log") && version.is_word(b"1") && owner.as_number().is_some()
-        }
-        _ => false,
+    let mut members = text.as_list()?;
+    let word = members.take_next()?;
+    let version = members.take_next()?;
+    let owner = members.take_next()?;
+    if !members.is_empty() || !word.is_word(b"log") || !version.is_word(b"1") {
+        return None;
     }
+    owner.as_number()
 }
 
 /// What the bytes of a log say, or `None` where they don't begin with a header.
 pub fn plain_log_of(alloc: Global, bytes: &[u8]) -> Result<Option<PlainLog>, Memory>
-    requires { length bytes.now ≤ 67108864 }
+    requires { length bytes.now ≤ max_bytes }
     ensures { IfOk result (λ found.
         MatchOption found (HasHeader bytes.now → ⊥) (λ log. Says bytes.now log)) }
 {
-    let Read::Whole { value, used } = read_one(alloc, bytes)? else {
+    let Front::Whole { text, used } = front_of(bytes) else {
         return Ok(None);
     };
-    if !is_header(&value) {
+    let Some(_) = owner_of(&text) else {
         return Ok(None);
-    }
+    };
     Ok(Some(records_from(alloc, bytes, used)?))
 }
 
 /// Adds what a record gives to the log's entries or to its refused records.
-fn add_record(
-    alloc: Global,
-    log: &mut PlainLog,
-    place: u32,
-    tree: &Sexp,
-    text: &[u8],
-) -> Result<(), Memory>
-    requires fits { Fits tree.now }
-    requires text { text.now ≡ text_of tree.now }
-    ensures { OnOk result (Adds tree.now place log.old log.new) }
+fn add_record(alloc: Global, log: &mut PlainLog, place: u32, text: &Text<'_>) -> Result<(), Memory>
+    ensures { OnOk result (Adds text.now place log.old log.new) }
 {
-    match entry_of(alloc, tree, text) {
+    match entry_of(alloc, text) {
         Ok(plain) => log.kept.push(plain)?,
         Err(fault) => match fault {
             EntryFault::Memory => return Err(AllocError),
@@ -99,7 +91,7 @@ fn add_record(
 /// Reads the records from the place `start` on.
 fn records_from(alloc: Global, bytes: &[u8], start: usize) -> Result<PlainLog, Memory>
     requires within { start ≤ length bytes.now }
-    requires short { length bytes.now ≤ 67108864 }
+    requires short { length bytes.now ≤ max_bytes }
     ensures { IfOk result (λ log. SaysFrom start (drop start bytes.now) log) }
 {
     let mut log = PlainLog {
@@ -110,17 +102,17 @@ fn records_from(alloc: Global, bytes: &[u8], start: usize) -> Result<PlainLog, M
     let mut at = start;
     let mut place = 0;
     while at < bytes.len() {
-        match read_one(alloc, &bytes[at..])? {
-            Read::Whole { value, used } => {
-                add_record(alloc, &mut log, place, &value, &bytes[at..at + used])?;
+        match front_of(&bytes[at..]) {
+            Front::Whole { text, used } => {
+                add_record(alloc, &mut log, place, &text)?;
                 at += used;
                 place += 1;
             }
-            Read::Cut => {
+            Front::Cut => {
                 log.end = End::Torn(at as u64);
                 return Ok(log);
             }
-            Read::Bad { at: bad, why } => {
+            Front::Bad { at: bad, why } => {
                 log.end = End::Malformed((at + bad) as u64, why);
                 return Ok(log);
             }

@@ -13,14 +13,8 @@ loop-at-init c =
     subst P (sym c.new.ensures.items) (subst Q (sym c.new-2.ensures.items)
     (read_none c.args.start c.args.bytes.now c.requires.within))
 
-pub loop-at-preserved-in_ok-add_record-in-Whole : goal.loop-at-preserved-in_ok-add_record-in-Whole
-loop-at-preserved-in_ok-add_record-in-Whole c =
-    adds_whole c.args.start c.args.bytes.now c.loop-at.at c.loop-at.place c.in-Whole.used c.loop-at.log
-    c.add_record.new.log c.in-Whole.value c.in_ok-value.field-0
-    c.loop-at.invariant c.in_ok-value.ensures.right c.in-Whole.is c.in_ok-add_record-in-Whole.ensures
-
 pub loop-at-preserved : goal.loop-at-preserved
 loop-at-preserved c =
     adds_whole c.args.start c.args.bytes.now c.loop-at.at c.loop-at.place c.in-Whole.used c.loop-at.log
-    c.add_record.new.log c.in-Whole.value c.in_ok-value.field-0
-    c.loop-at.invariant c.in_ok-value.ensures.right c.in-Whole.is c.in_ok-add_record-in-Whole.ensures
+    c.add_record.new.log c.in-Whole.text c.loop-at.invariant c.in-Whole.ensures.right
+    c.in_ok-add_record-in-Whole.ensures

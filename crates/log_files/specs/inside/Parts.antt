@@ -1,10 +1,9 @@
 -- What the reader's own parts answer.
-use Rattle.std.specs.Prelude.{◌≡◌, ℕ, ◌^◌, ◌<◌, ◌⊎◌, [], ◌∷◌, ◌++◌, codes, Ok, Err}
+use Rattle.std.specs.Prelude.{◌≡◌, ℕ, ◌<◌, ◌^◌, ◌⊎◌, [], ◌∷◌, ◌++◌, Ok, Err}
 use Rattle.canonical_sexp.specs.declared.sexp.Sexp.{Sexp}
-use Rattle.canonical_sexp.specs.declared.sexp.Sexp.TheVariants.{Atom, List as Branch}
+use Rattle.canonical_sexp.specs.declared.sexp.Sexp.TheVariants.{List as Branch}
 use Rattle.canonical_sexp.specs.Forest.{Forest}
-use Rattle.canonical_sexp.specs.Forms.{list_of}
-use Rattle.log_files.specs.LogText.{header_tree, Gives}
+use Rattle.log_files.specs.LogText.{header_tree, IsRecordOf, Gives}
 use Rattle.entry_format.specs.declared.plain.Plain.{Plain}
 use Rattle.entry_format.specs.declared.plain.EntryFault.{EntryFault}
 use Rattle.log_files.specs.declared.plain_log.PlainLog.{PlainLog}
@@ -13,12 +12,9 @@ use Rattle.log_files.specs.declared.plain_log.PlainLog.{PlainLog}
 abbrev pub IsHeader : Sexp → Type 0
 IsHeader tree = (owner : ℕ) × (owner < 2 ^ 32) × (tree ≡ header_tree owner)
 
--- the tree is a record of this entry, a list, before which so many bytes of the text stand
-abbrev pub IsEntryIn : Sexp → Sexp → ℕ → Type 0
-IsEntryIn tree entry before =
-    ((members : Forest) × (entry ≡ Branch members))
-    × (((before ≡ 7) × (tree ≡ list_of (Atom (codes "sent") ∷ entry ∷ [])))
-    ⊎ ((before ≡ 6) × (tree ≡ list_of (Atom (codes "got") ∷ entry ∷ []))))
+-- the tree is a record of this entry, a list
+abbrev pub IsEntryIn : Sexp → Sexp → Type 0
+IsEntryIn tree entry = ((members : Forest) × (entry ≡ Branch members)) × IsRecordOf entry tree
 
 -- the log has the entry that the tree gives at its end, or the fault with the place
 abbrev pub Adds : Sexp → ℕ → PlainLog → PlainLog → Type 0
