@@ -19,6 +19,7 @@ used_of (read.Whole value used) = used
 used_of read.Cut = 0
 used_of (read.Bad at why) = 0
 
+-- one text stops nowhere
 pub stops_nowhere : (bytes : List ℕ) (at : ℕ) → IsCanonical bytes → StopsAt bytes at → ⊥
 stops_nowhere bytes at canonical (inl (why, is)) =
     let same : read.Bad at why ≡ read.Whole canonical.0 (length bytes) =
@@ -36,12 +37,14 @@ stop_of bytes (read.Whole value used) = used
 stop_of bytes read.Cut = length bytes
 stop_of bytes (read.Bad at why) = at
 
+-- where bytes stop, some answer is right that says so
 stop_answer : (bytes : List ℕ) (at : ℕ) → StopsAt bytes at →
     (answer : Read) × (Answers bytes answer × (stop_of bytes answer ≡ at))
 stop_answer bytes at (inl (why, is)) = (read.Bad at why, (is, refl))
 stop_answer bytes at (inr (inl (tree, is, more))) = (read.Whole tree at, (is, refl))
 stop_answer bytes at (inr (inr (is, end))) = (read.Cut, (is, sym end))
 
+-- so they stop at one place
 pub one_stop : (bytes : List ℕ) (at other : ℕ) → StopsAt bytes at → StopsAt bytes other → at ≡ other
 one_stop bytes at other stops also =
     let first = stop_answer bytes at stops in

@@ -9,20 +9,24 @@ use Rattle.canonical_sexp.specs.Sexp.{in_front}
 abbrev pub weight : Sexp → ℕ
 weight tree = size_of (in_front tree no_trees)
 
+-- the parts of a row are no larger than it
 size_of-joined-le : (done row : Forest) → size_of row ≤ size_of (joined done row)
 size_of-joined-le no_trees row = omega arith
 size_of-joined-le (atom_then octets rest) row = omega (arith, size_of-joined-le rest row)
 size_of-joined-le (list_then inner rest) row = omega (arith, size_of-joined-le rest row)
 
+-- no row has size 0
 size_some : (row : Forest) → 0 < size_of row
 size_some no_trees = omega arith
 size_some (atom_then octets rest) = omega arith
 size_some (list_then inner rest) = omega arith
 
+-- nor is its first member
 weight_in_front : (tree : Sexp) (rest : Forest) → weight tree ≤ size_of (in_front tree rest)
 weight_in_front (Atom octets) rest = omega (arith, size_some rest)
 weight_in_front (Branch inner) rest = omega (arith, size_some rest)
 
+-- a member weighs less than its list
 pub member_lighter : (done : Forest) (tree : Sexp) (rest : Forest) →
     weight tree < weight (Branch (joined done (in_front tree rest)))
 member_lighter done tree rest =

@@ -20,10 +20,12 @@ use Rattle.canonical_sexp.proofs.Atoms.{cut_in_length}
 use Rattle.canonical_sexp.proofs.Places.{atom_is_cut, is_bad_length}
 use Rattle.canonical_sexp.proofs.Exclusive.{cut_has_none, bad_has_none}
 
+-- bytes are the text of one tree
 pub same_text : (tree other : Sexp) → Fits tree → Fits other → text_of tree ≡ text_of other → tree ≡ other
 same_text tree other fits other_fits e =
     (one_tree 8 tree other [] [] fits other_fits (append-nil (text_of tree) ∙ e ∙ sym (append-nil (text_of other)))).0
 
+-- and the texts of one row
 pub same_members : (row other : Forest) → Fits (Branch row) → Fits (Branch other) → texts_of row ≡ texts_of other →
     row ≡ other
 same_members row other fits other_fits e =
@@ -31,13 +33,16 @@ same_members row other fits other_fits e =
     same_text (Branch row) (Branch other) fits other_fits (ap (λ bs. 40 ∷ (bs ++ 41 ∷ [])) e) in
     cc
 
+-- so they determine it
 pub spelt : (bytes : List ℕ) (tree : Sexp) → Fits tree → bytes ≡ text_of tree → IsSpelt bytes
 spelt bytes tree fits e = (tree, (fits, e, λ other other_fits is. same_text other tree other_fits fits (sym is ∙ e)))
 
+-- a row likewise
 pub row_spelt : (bytes : List ℕ) (row : Forest) → Fits (Branch row) → bytes ≡ texts_of row → AreSpelt bytes
 row_spelt bytes row fits e =
     (row, (fits, e, λ other other_fits is. same_members other row other_fits fits (sym is ∙ e)))
 
+-- what is within the limits at a depth is so at a greater one
 more_deep : (d e : ℕ) (row : Forest) → d ≤ e → AreWithin d row → AreWithin e row
 more_deep d e no_trees le h = tt
 more_deep d e (atom_then octets rest) le h = (h.0, more_deep d e rest le h.1)
@@ -57,6 +62,7 @@ pub record HasFirst (row : Forest) : Type 0 where
   pub fits : Fits tree
   pub rest_fits : Fits (Branch rest)
 
+-- a row with a text has a first member
 pub has_first : (row : Forest) → Fits (Branch row) → 0 < length (texts_of row) → HasFirst row
 has_first no_trees fits some = absurd (omega arith)
 has_first (atom_then octets rest) fits some =
@@ -78,6 +84,7 @@ has_first (list_then inner rest) fits some =
       rest_fits = (fits.0, omega (arith, fits.1), fits.2.3);
     }
 
+-- a text isn't empty
 pub text_some : (tree : Sexp) → 0 < length (text_of tree)
 text_some (Atom octets) = omega (arith, length-append (decimal (length octets)) (58 ∷ octets))
 text_some (Branch row) = omega arith
@@ -108,6 +115,7 @@ none_left bytes (list_then inner rest) fits e none =
     let first : HasFirst (list_then inner rest) = has_first (list_then inner rest) fits some in
     absurd (none first.tree (texts_of first.rest) first.fits (e ∙ first.text))
 
+-- the two answers that find no text in front of the members
 pub none_if_cut : (bytes : List ℕ) (row : Forest) → Fits (Branch row) → bytes ≡ texts_of row →
     IsProperPrefixOfText bytes → row ≡ no_trees
 none_if_cut bytes row fits e cut =
@@ -118,6 +126,7 @@ pub none_if_bad : (bytes : List ℕ) (row : Forest) (at : ℕ) → Fits (Branch 
 none_if_bad bytes row at fits e bad =
     none_left bytes row fits e (λ tree rest tree_fits is. bad_has_none bytes at tree rest tree_fits is bad)
 
+-- a row without bytes has no member
 pub no_bytes_left : (row : Forest) → Fits (Branch row) → length (texts_of row) ≡ 0 → row ≡ no_trees
 no_bytes_left row fits none =
     none_left (texts_of row) row fits refl (λ tree rest tree_fits is.
@@ -147,6 +156,7 @@ begins_low [] octets small e begins = omega arith
 begins_low (c ∷ bytes) octets small e begins =
     no_atom octets bytes [] c small (omega arith) (e ∙ sym (append-nil (atom_text octets)))
 
+-- what lies between the digits is one
 digit_in : (c : ℕ) → 48 ≤ c → c < 58 → IsTrue (is_digit c)
 digit_in c low high = grind (arith, nat_tests)
 
@@ -188,6 +198,7 @@ not_bad bytes octets at value why small e within few digits fault =
     bad_has_none bytes at (Atom octets) [] small (e ∙ sym (append-nil (atom_text octets)))
     (is_bad_length at_start bytes at value why tt (omega arith) within few digits fault).0
 
+-- a row's members are its first and the others
 pub members-in_front : (tree : Sexp) (rest : Forest) → members_of (in_front tree rest) ≡ tree ∷ members_of rest
 members-in_front (Atom octets) rest = refl
 members-in_front (Branch row) rest = refl

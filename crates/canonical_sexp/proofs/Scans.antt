@@ -34,6 +34,7 @@ counts-push : (outer : List Forest) (f : Forest) →
 counts-push [] f = refl
 counts-push (g ∷ outer) f = ap (λ ns. count_of g ∷ ns) (counts-push outer f)
 
+-- a count for each list that is open
 length-counts : (outer : List Forest) → length (map count_of outer) ≡ length outer
 length-counts [] = refl
 length-counts (f ∷ outer) = omega (arith, length-counts outer)
@@ -46,6 +47,7 @@ last_of (f ∷ []) some = ([], f, refl)
 last_of (f ∷ (g ∷ outer)) some = let below = last_of (g ∷ outer) (omega arith) in
     (f ∷ below.0, below.1, ap (λ fs. f ∷ fs) below.2)
 
+-- a list begins: the count of the one around it is kept
 pub scan_open : (bytes : List ℕ) (at : ℕ) (counts : List ℕ) (depth members : ℕ) →
     AreScanned bytes at counts depth members → at < length bytes → get_or bytes at 0 ≡ 40 →
     token_fault (depth + 1) members 40 ≡ None → depth < 8 →
@@ -75,6 +77,7 @@ pub record HasAround (bytes : List ℕ) (at : ℕ) (counts : List ℕ) (depth me
   pub count_is : get_or counts (depth - 1) 0 ≡ count_of around
   pub room : count_of around < 16384
 
+-- the count that was kept last is that of the list around the innermost
 pub has_around : (bytes : List ℕ) (at : ℕ) (counts : List ℕ) (depth members : ℕ) →
     AreScanned bytes at counts depth members → 0 < depth → HasAround bytes at counts depth members
 has_around bytes at counts depth members h some =
@@ -109,6 +112,7 @@ has_around bytes at counts depth members h some =
       room = nested.1;
     }
 
+-- the innermost list ends, one member more of the one around it
 pub scan_close : (bytes : List ℕ) (at : ℕ) (counts : List ℕ) (depth members : ℕ) →
     AreScanned bytes at counts depth members → at < length bytes → get_or bytes at 0 ≡ 41 → 0 < depth →
     AreScanned bytes (at + 1) counts (depth - 1) (get_or counts (depth - 1) 0 + 1)
@@ -129,6 +133,7 @@ scan_close bytes at counts depth members h within is some =
       size = h.size;
     }
 
+-- an atom is one member more
 pub scan_atom_step : (bytes : List ℕ) (at used : ℕ) (counts : List ℕ) (depth members : ℕ) (octets : List ℕ) →
     AreScanned bytes at counts depth members → members < 16384 → length octets ≤ 262144 →
     used ≤ length (drop at bytes) → take used (drop at bytes) ≡ atom_text octets →
@@ -163,6 +168,7 @@ whole bytes at [] current h within is none = (
 )
 whole bytes at (f ∷ outer) current h within is none = absurd (omega arith)
 
+-- so do the bytes of the text
 pub scan_whole : (bytes : List ℕ) (at : ℕ) (counts : List ℕ) (depth members : ℕ) →
     AreScanned bytes at counts depth members → at < length bytes → get_or bytes at 0 ≡ 41 → depth ≡ 0 →
     (tree : Sexp) × Answers bytes (read.Whole tree (at + 1))
