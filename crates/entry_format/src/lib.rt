@@ -19,7 +19,7 @@ mod writing;
 pub use deed::Deed;
 pub use entry::{Entry, Names};
 pub use laws::{one_reading_is_right, one_unsealing_is_right, texts_have_one_entry};
-pub use plain::{EntryFault, Plain, read_unsigned, read_unsigned_text, read_unsigned_tree};
+pub use plain::{EntryFault, Plain, read_unsigned, read_unsigned_text};
 pub use sealed::{Memory, Sealed};
 pub use sealing::{SealFault, seal};
 pub use unsealing::{unseal, unseal_text};

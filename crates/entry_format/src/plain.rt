@@ -1,11 +1,11 @@
 //! Entries whose signatures aren't looked at.
 ghost use Rattle.std.specs.Prelude.{◌≡◌, ◌≢◌, Err};
-ghost use Rattle.canonical_sexp.specs.Text.{text_of, Fits};
+ghost use Rattle.canonical_sexp.specs.Text.{text_of};
 ghost use Rattle.entry_format.specs.Reading.{Reads, fault_word};
 
 use crate::entry::Entry;
 use crate::form::read_form;
-use canonical_sexp::{Sexp, Text, whole_text};
+use canonical_sexp::{Text, whole_text};
 use entry_order::Knot;
 use sha2::{Digest, Sha256};
 use std::alloc::{AllocError, Global};
@@ -125,17 +125,4 @@ pub fn read_unsigned_text(alloc: Global, text: &Text<'_>) -> Result<Plain, Entry
         }),
         Err(fault) => Err(fault),
     }
-}
-
-/// The same of a text whose tree was read already: its bytes are read where they stand.
-///
-/// # Errors
-///
-/// `WrongShape`, then `NamesNotRising`, or `Memory`.
-pub fn read_unsigned_tree(alloc: Global, _tree: &Sexp, text: &[u8]) -> Result<Plain, EntryFault>
-    requires fits { Fits _tree.now }
-    requires text { text.now ≡ text_of _tree.now }
-    ensures { result ≢ Err EntryFault.Memory → Reads text.now result }
-{
-    read_unsigned(alloc, text)
 }

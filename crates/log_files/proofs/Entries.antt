@@ -19,11 +19,11 @@ pub text-record : (word : List ℕ) (members : Forest) → text_of (list_of (Ato
 text-record word members = ap (λ bs. 40 ∷ bs) (append_assoc (atom_text word) (text_of (Branch members)) (41 ∷ []))
 
 -- what the entry is read as, the record gives
-pub entry_gives : (tree entry : Sexp) (text : List ℕ) (reading : Result Plain EntryFault) → IsEntryIn tree entry →
-    text ≡ text_of entry → Reads text reading → Gives tree reading
-entry_gives tree entry text reading ((members, is), inl e) spelt reads =
+pub entry_gives : (tree entry : Sexp) (reading : Result Plain EntryFault) → IsEntryIn tree entry →
+    Reads (text_of entry) reading → Gives tree reading
+entry_gives tree entry reading ((members, is), inl e) reads =
     let P : List ℕ → Type 0 = λ bs. Reads bs reading in
-    inl (members, inl (e ∙ ap (λ t. list_of (Atom (codes "sent") ∷ t ∷ [])) is), subst P (spelt ∙ ap text_of is) reads)
-entry_gives tree entry text reading ((members, is), inr e) spelt reads =
+    inl (members, inl (e ∙ ap (λ t. list_of (Atom (codes "sent") ∷ t ∷ [])) is), subst P (ap text_of is) reads)
+entry_gives tree entry reading ((members, is), inr e) reads =
     let P : List ℕ → Type 0 = λ bs. Reads bs reading in
-    inl (members, inr (e ∙ ap (λ t. list_of (Atom (codes "got") ∷ t ∷ [])) is), subst P (spelt ∙ ap text_of is) reads)
+    inl (members, inr (e ∙ ap (λ t. list_of (Atom (codes "got") ∷ t ∷ [])) is), subst P (ap text_of is) reads)

@@ -12,7 +12,7 @@ ghost use Rattle.log_files.specs.inside.Parts.{IsEntryIn, Adds};
 
 use crate::plain_log::{End, PlainLog};
 use canonical_sexp::{Front, Memory, Text, front_of};
-use entry_format::{EntryFault, Plain, read_unsigned};
+use entry_format::{EntryFault, Plain, read_unsigned_text};
 use std::alloc::{AllocError, Global};
 
 /// Reads the entry of a record. The entry's own text is read by its format.
@@ -20,7 +20,7 @@ fn entry_of(alloc: Global, text: &Text<'_>) -> Result<Plain, EntryFault>
     ensures { result ≢ Err EntryFault.Memory → Gives text.now result }
 {
     match entry_in(text) {
-        Some(entry) => read_unsigned(alloc, entry.bytes()),
+        Some(entry) => read_unsigned_text(alloc, &entry),
         None => Err(EntryFault::WrongShape),
     }
 }
