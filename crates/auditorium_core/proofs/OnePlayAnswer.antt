@@ -12,7 +12,7 @@ use Rattle.polling_world.specs.Machines.{MachineState}
 use Rattle.polling_world.specs.Playing.{IsPlayed}
 use Rattle.polling_world.specs.Waiting.{IsLeft}
 use Rattle.auditorium_core.specs.Lines.{Answer, refused_answer}
-use Rattle.auditorium_core.specs.Causes.{script_name}
+use Rattle.election_script.specs.CauseWords.{script_why_word}
 use Rattle.auditorium_core.specs.Play.{undone_line, SayUndone, play_answer, IsPlayOf, IsPlayAnswer}
 
 -- a text is read in one way, a script is played in one way, and what is left is told in one way
@@ -55,8 +55,8 @@ same_play one name prefix (Some bytes) a b (inr (inl (short, (n, why, is, e)))) 
     let same : Err (At n why) ≡ Err (At k other) = one.reading bytes (Err (At n why)) (Err (At k other)) is also in
     let number : n ≡ k = cc in
     let cause : why ≡ other = cc in
-    e ∙ ap (λ (m : ℕ). refused_answer name m (script_name why)) number
-    ∙ ap (λ (w : ScriptWhy). refused_answer name k (script_name w)) cause ∙ sym f
+    e ∙ ap (λ (m : ℕ). refused_answer name m (script_why_word why)) number
+    ∙ ap (λ (w : ScriptWhy). refused_answer name k (script_why_word w)) cause ∙ sym f
 same_play one name prefix (Some bytes) a b (inr (inl (short, (n, why, is, e)))) (inr (inr (short', (script, also, q)))) =
     let same : Err (At n why) ≡ Ok script = one.reading bytes (Err (At n why)) (Ok script) is also in
     cc

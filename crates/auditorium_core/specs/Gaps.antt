@@ -15,18 +15,19 @@ use Rattle.log_files.specs.LogFile.{IsLogOf, IsRefused}
 use Rattle.auditorium_core.specs.declared.status.Status.{Status}
 use Rattle.auditorium_core.specs.declared.status.Status.TheVariants.{Done, Findings}
 use Rattle.auditorium_core.specs.Lines.{Answer, line, refused_line, absent_answer, refused_answer}
-use Rattle.auditorium_core.specs.Causes.{fault_name, why_name}
+use Rattle.canonical_sexp.specs.Causes.{why_word}
+use Rattle.entry_format.specs.Reading.{fault_word}
 
 -- a line for each record that was refused, with its place
 abbrev pub refused_lines : List ℕ → List (ℕ × EntryFault) → List ℕ
-refused_lines name refused = flat_map (λ refusal. line (refused_line name refusal.0 (fault_name refusal.1))) refused
+refused_lines name refused = flat_map (λ refusal. line (refused_line name refusal.0 (fault_word refusal.1))) refused
 
 -- a line for an end that isn't clean, with its offset in the file
 abbrev pub end_line : List ℕ → End → List ℕ
 end_line name Clean = []
 end_line name (Torn at) = line (codes "torn " ++ name ++ codes " " ++ decimal at)
 end_line name (Malformed at why) =
-    line (codes "malformed " ++ name ++ codes " " ++ decimal at ++ codes " " ++ why_name why)
+    line (codes "malformed " ++ name ++ codes " " ++ decimal at ++ codes " " ++ why_word why)
 
 -- a line for each gap
 abbrev pub gap_lines : List (List ℕ) → List ℕ

@@ -1,7 +1,6 @@
 pub mod ExitStatus
 pub mod Words
 pub mod Lines
-pub mod Causes
 pub mod Gaps
 pub mod Play
 pub mod Answer

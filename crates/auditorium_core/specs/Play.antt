@@ -24,7 +24,8 @@ use Rattle.polling_world.specs.Waiting.{IsLeft}
 use Rattle.auditorium_core.specs.declared.status.Status.{Status}
 use Rattle.auditorium_core.specs.declared.status.Status.TheVariants.{Done, Undone, Refused}
 use Rattle.auditorium_core.specs.Lines.{Answer, line, absent_answer, refused_answer}
-use Rattle.auditorium_core.specs.Causes.{script_name, left_name}
+use Rattle.election_script.specs.CauseWords.{script_why_word}
+use Rattle.polling_world.specs.CauseWords.{left_why_word}
 
 -- the most bytes of a script's file
 abbrev pub max_script : ℕ
@@ -55,7 +56,7 @@ machine_lines machines = flat_map machine_line machines
 abbrev pub undone_line : List ℕ → Option Left → List ℕ
 undone_line name None = []
 undone_line name (Some left) =
-    line (codes "undone " ++ name ++ codes " " ++ decimal left.place ++ codes " " ++ left_name left.why)
+    line (codes "undone " ++ name ++ codes " " ++ decimal left.place ++ codes " " ++ left_why_word left.why)
 
 -- the lines say for each machine what is left
 abbrev pub SayUndone : List MachineState → List ℕ → Type 0
@@ -105,5 +106,5 @@ IsPlayAnswer name prefix None answer = answer ≡ absent_answer name
 IsPlayAnswer name prefix (Some bytes) answer =
     ((max_script < length bytes) × (answer ≡ refused_answer name 0 (codes "TooLong")))
     ⊎ ((length bytes ≤ max_script) × ((number : ℕ) × (why : ScriptWhy) × Reads bytes (Err (At number why))
-    × (answer ≡ refused_answer name number (script_name why))))
+    × (answer ≡ refused_answer name number (script_why_word why))))
     ⊎ ((length bytes ≤ max_script) × ((script : Script) × Reads bytes (Ok script) × IsPlayOf prefix script answer))

@@ -6,7 +6,6 @@ ghost use Rattle.auditorium_core.specs.Answer.{IsOfAnswers};
 ghost use Rattle.auditorium_core.specs.Gaps.{refused_lines, end_line, gap_lines, log_lines, IsGapsAnswer};
 
 use crate::answer::{Answer, Fault};
-use crate::causes::{name_of_fault, name_of_why};
 use crate::status::Status;
 use entry_format::EntryFault;
 use hall_outside::Store;
@@ -59,7 +58,7 @@ fn add_refused(
         ≡ string_bytes lines.old ++ refused_lines name.now refused.now) }
 {
     for (place, fault) in refused {
-        let cause = name_of_fault(*fault);
+        let cause = fault.word();
         write!(lines, "refused {name} {place} {cause}\n")?;
     }
     Ok(())
@@ -74,7 +73,7 @@ fn add_end(lines: &mut String, name: &str, end: End) -> Result<(), AllocError>
         End::Clean => Ok(()),
         End::Torn(at) => write!(lines, "torn {name} {at}\n"),
         End::Malformed(at, why) => {
-            let cause = name_of_why(why);
+            let cause = why.word();
             write!(lines, "malformed {name} {at} {cause}\n")
         }
     }

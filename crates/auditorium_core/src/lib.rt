@@ -5,7 +5,6 @@
 #![tactic(auto)]
 
 mod answer;
-mod causes;
 mod gaps;
 mod laws;
 mod play;

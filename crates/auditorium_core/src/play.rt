@@ -9,7 +9,6 @@ ghost use Rattle.auditorium_core.specs.Play.{roster_file, log_file, machine_line
 ghost use Rattle.auditorium_core.specs.Play.{IsPlayOf, IsPlayAnswer, IsOfPlay};
 
 use crate::answer::{Answer, Fault, OutputFile};
-use crate::causes::{name_of_left, name_of_script_why};
 use crate::status::Status;
 use election_script::{Script, ScriptFault, read};
 use hall_outside::{FileFault, Store, read_file};
@@ -78,7 +77,7 @@ fn add_left(lines: &mut String, name: &str, left: Option<Left>) -> Result<(), Al
         None => Ok(()),
         Some(left) => {
             let place = left.place;
-            let cause = name_of_left(left.why);
+            let cause = left.why.word();
             write!(lines, "undone {name} {place} {cause}\n")
         }
     }
@@ -130,7 +129,7 @@ fn answer_for(alloc: Global, name: &str, prefix: &str, bytes: &[u8]) -> Result<A
     match read(alloc, bytes) {
         Ok(script) => Ok(played(alloc, prefix, &script)?),
         Err(ScriptFault::At { line, why }) => {
-            let cause = name_of_script_why(why);
+            let cause = why.word();
             Ok(Answer::refused(alloc, name, line as u64, cause)?)
         }
         Err(ScriptFault::Memory) => Err(Fault::Memory),

@@ -2,3 +2,4 @@ pub mod Notes
 pub mod Causes
 pub mod Table
 pub mod State
+pub mod CauseWords

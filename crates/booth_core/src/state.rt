@@ -4,6 +4,7 @@ ghost use Rattle.entry_format.specs.declared.entry.Entry.{Entry};
 ghost use Rattle.deed_history.specs.Deeds.{IsBoothDeed};
 ghost use Rattle.booth_core.specs.State.{StandsFor};
 ghost use Rattle.booth_core.specs.Table.{Refuses};
+ghost use Rattle.booth_core.specs.CauseWords.{booth_not_word};
 
 use crate::commitment::{Commitment, has_commitment, has_committed};
 use deed_history::{first_of, push_reserved};
@@ -36,6 +37,25 @@ pub enum BoothNot {
     Ended,
     #[error("the log lacks an entry that one of its entries names")]
     LogNotWhole,
+}
+
+impl BoothNot {
+    /// The cause's word in lines of output.
+    pub fn word(self) -> &'static str
+        ensures { result.now ≡ booth_not_word self }
+    {
+        match self {
+            BoothNot::NotAuthorised => "NotAuthorised",
+            BoothNot::Overridden => "Overridden",
+            BoothNot::Closed => "Closed",
+            BoothNot::NotActive => "NotActive",
+            BoothNot::AlreadyActive => "AlreadyActive",
+            BoothNot::NotCommitted => "NotCommitted",
+            BoothNot::AlreadyCommitted => "AlreadyCommitted",
+            BoothNot::Ended => "Ended",
+            BoothNot::LogNotWhole => "LogNotWhole",
+        }
+    }
 }
 
 /// What a booth's rules ask of the entries that it holds.

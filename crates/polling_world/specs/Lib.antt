@@ -12,3 +12,4 @@ pub mod Viewing
 pub mod Worlds
 pub mod Steps
 pub mod Playing
+pub mod CauseWords

@@ -1,4 +1,7 @@
 //! What a machine hasn't done of its actions.
+ghost use Rattle.std.specs.Prelude.{◌≡◌};
+ghost use Rattle.polling_world.specs.CauseWords.{left_why_word};
+
 use booth_core::BoothNot;
 use supervisor_core::SupervisorNot;
 
@@ -28,4 +31,21 @@ pub enum LeftWhy {
     Spent,
     /// Nothing stands against it.
     Ready,
+}
+
+impl LeftWhy {
+    /// The cause's word in lines of output.
+    pub fn word(self) -> &'static str
+        ensures { result.now ≡ left_why_word self }
+    {
+        match self {
+            LeftWhy::Stopped => "Stopped",
+            LeftWhy::SupervisorNot(why) => why.word(),
+            LeftWhy::BoothNot(why) => why.word(),
+            LeftWhy::Full => "Full",
+            LeftWhy::StampSpent => "StampSpent",
+            LeftWhy::Spent => "Spent",
+            LeftWhy::Ready => "Ready",
+        }
+    }
 }

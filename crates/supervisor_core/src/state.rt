@@ -4,6 +4,7 @@ ghost use Rattle.entry_format.specs.declared.entry.Entry.{Entry};
 ghost use Rattle.deed_history.specs.Deeds.{IsSupervisorDeed};
 ghost use Rattle.supervisor_core.specs.State.{StandsFor};
 ghost use Rattle.supervisor_core.specs.Table.{Refuses};
+ghost use Rattle.supervisor_core.specs.CauseWords.{supervisor_not_word};
 
 use crate::running::{Running, end_session, is_any_left, is_busy};
 use deed_history::{first_of, push_reserved};
@@ -34,6 +35,24 @@ pub enum SupervisorNot {
     SessionEnded,
     #[error("a session hasn't ended")]
     SessionsLeft,
+}
+
+impl SupervisorNot {
+    /// The cause's word in lines of output.
+    pub fn word(self) -> &'static str
+        ensures { result.now ≡ supervisor_not_word self }
+    {
+        match self {
+            SupervisorNot::NotOpened => "NotOpened",
+            SupervisorNot::AlreadyOpened => "AlreadyOpened",
+            SupervisorNot::Closed => "Closed",
+            SupervisorNot::SessionUsed => "SessionUsed",
+            SupervisorNot::BoothBusy => "BoothBusy",
+            SupervisorNot::NoSession => "NoSession",
+            SupervisorNot::SessionEnded => "SessionEnded",
+            SupervisorNot::SessionsLeft => "SessionsLeft",
+        }
+    }
 }
 
 /// What the supervisor's rules ask of the entries that it holds.
