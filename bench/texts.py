@@ -1,22 +1,38 @@
 #!/usr/bin/env python3
-"""Times the reader of canonical texts.
+"""Times and weighs the readers of canonical texts.
 
 Run from the repository's top, after `rt run` in crates/text_speed has built the program:
 
     python3 bench/texts.py
 
-It makes two texts, reads each many times, and prints what one reading takes, from the difference of
-two counts. The first text, of 40,000,000 bytes, is also copied. Where libgcrypt can be loaded, its
-builder of such trees takes the second text too.
+It makes three texts and prints what a reading of each takes: as a tree (`read`), in place (`pass`),
+in place with a walk of two levels (`walk`), and what a copy of its bytes takes. Each figure is the
+median of nine differences of the CPU time of two counts, taken by turns. Where libgcrypt can be
+loaded, its builder of such trees and its `gcry_sexp_canon_len` take the second text too. Then it
+prints the peak memory of a fresh process that reads the file of a text that is hostile to readers,
+and reads the text.
 """
 import ctypes
+import os
 import pathlib
+import statistics
 import subprocess
 import sys
 import tempfile
 import time
 
 PROGRAM = pathlib.Path("crates/text_speed/out/text_speed")
+ROUNDS = 9
+# A small process that starts the program: one that is forked counts what its parent held.
+WEIGH = """
+import os, sys
+child = os.fork()
+if child == 0:
+    os.dup2(os.open(os.devnull, os.O_WRONLY), 1)
+    os.execv(sys.argv[1], sys.argv[1:])
+_, status, used = os.wait4(child, 0)
+print(status, used.ru_maxrss * 1024)
+"""
 
 
 def atom(octets):
@@ -39,60 +55,115 @@ def many_lists():
     return text
 
 
+def entry():
+    """An entry's signed text with three names, 2,408 bytes."""
+    names = b"(" + b"".join(atom(bytes([n]) * 32) for n in range(3)) + b")"
+    deed = b"(" + atom(b"commit") + atom(b"7") + atom(b"b" * 32) + b")"
+    fields = [b"entry", b"1", b"e" * 32, b"3", b"17", b"40"]
+    body = b"(" + b"".join(atom(field) for field in fields) + names + deed + b")"
+    text = b"(" + atom(b"sealed") + body + atom(b"s" * 2_180) + b")"
+    assert len(text) == 2_408, len(text)
+    return text
+
+
 def run(what, count, path):
-    start = time.perf_counter()
-    output = subprocess.run([PROGRAM, what, str(count), path], check=True, capture_output=True).stdout
-    return time.perf_counter() - start, int(output)
+    """The CPU seconds of a run, which other programs on the machine change little."""
+    command = [PROGRAM, what, str(count), path]
+    with subprocess.Popen(command, stdout=subprocess.DEVNULL) as program:
+        _, status, used = os.wait4(program.pid, 0)
+        program.returncode = os.waitstatus_to_exitcode(status)
+    assert program.returncode == 0, command
+    return used.ru_utime + used.ru_stime
 
 
-def once(what, few, many, path, size):
-    """What one of the repeats takes, in milliseconds: the least of five differences."""
-    best = None
-    for _ in range(5):
-        short, used = run(what, few, path)
-        long, _ = run(what, many, path)
-        assert used == size, (used, size)
-        each = (long - short) / (many - few) * 1000
-        best = each if best is None else min(best, each)
-    return best
-
-
-def libgcrypt(text):
-    """What libgcrypt's builder takes, in milliseconds, or None where the library isn't there."""
+def library():
+    """libgcrypt, or None where it isn't there."""
     try:
-        library = ctypes.CDLL("libgcrypt.so.20")
+        found = ctypes.CDLL("libgcrypt.so.20")
     except OSError:
         return None
-    library.gcry_check_version.restype = ctypes.c_char_p
-    library.gcry_check_version(None)
+    found.gcry_check_version.restype = ctypes.c_char_p
+    found.gcry_check_version(None)
+    found.gcry_sexp_canon_len.restype = ctypes.c_size_t
+    return found
+
+
+def built(other, text):
+    """Seconds that libgcrypt's builder takes."""
     tree = ctypes.c_void_p()
-    best = None
-    for _ in range(20):
-        start = time.perf_counter()
-        error = library.gcry_sexp_new(ctypes.byref(tree), text, ctypes.c_size_t(len(text)), 0)
-        each = (time.perf_counter() - start) * 1000
-        if error:
-            return None
-        library.gcry_sexp_release(tree)
-        best = each if best is None else min(best, each)
-    return best
+    start = time.process_time()
+    error = other.gcry_sexp_new(ctypes.byref(tree), text, ctypes.c_size_t(len(text)), 0)
+    seconds = time.process_time() - start
+    assert error == 0, error
+    other.gcry_sexp_release(tree)
+    return seconds
+
+
+def measured(other, text):
+    """Seconds that libgcrypt takes to find the length of a text."""
+    start = time.process_time()
+    length = other.gcry_sexp_canon_len(text, ctypes.c_size_t(len(text)), None, None)
+    seconds = time.process_time() - start
+    assert length == len(text), length
+    return seconds
+
+
+def timed(name, text, counts, other, folder):
+    """Prints the median seconds of each reading of a text. `counts`: few and many of each kind."""
+    path = pathlib.Path(folder, "text")
+    path.write_bytes(text)
+    figures = {what: [] for what in counts}
+    for _ in range(ROUNDS):
+        for what, (few, many) in counts.items():
+            seconds = run(what, many, path) - run(what, few, path)
+            figures[what].append(seconds / (many - few))
+        if other is not None:
+            figures.setdefault("gcry_sexp_new", []).append(built(other, text))
+            figures.setdefault("gcry_sexp_canon_len", []).append(measured(other, text))
+    print(f"{name}, {len(text):,} bytes:")
+    for what, seconds in figures.items():
+        print(f"  {what}: {statistics.median(seconds) * 1e6:,.2f} microseconds")
+
+
+def hostile_texts():
+    """Texts of few bytes a token."""
+    short = b"(" + b"(1:a)" * 16_383 + b")"
+    yield "lists of 16,383 lists of one atom", b"(" + short * 204 + b")"
+    yield "256 lists of 16,384 lists of nothing", b"(" + (b"(" + b"()" * 16_384 + b")") * 256 + b")"
+    yield "115 lists of 16,384 empty atoms", b"(" + (b"(" + b"0:" * 16_384 + b")") * 115 + b")"
+    yield "819 lists of 16,383 lists of one atom", b"(" + short * 819 + b")"
+    yield "parentheses alone", b"(" * 9
+    yield "an announced length", b"(262144:"
+
+
+def weighed(what, path):
+    """The peak memory in bytes of a process that reads the file and does this once."""
+    command = [sys.executable, "-S", "-c", WEIGH, PROGRAM, what, "1", path]
+    output = subprocess.run(command, check=True, capture_output=True).stdout
+    status, most = (int(word) for word in output.split())
+    assert status == 0, status
+    return most
 
 
 def main():
     if not PROGRAM.exists():
         sys.exit(f"{PROGRAM} isn't there: run `rt run` in crates/text_speed first")
+    other = library()
+    if other is None:
+        print("libgcrypt isn't there")
     with tempfile.TemporaryDirectory() as folder:
-        long = pathlib.Path(folder, "long")
-        long.write_bytes(long_text())
-        lists = pathlib.Path(folder, "lists")
-        lists.write_bytes(many_lists())
-        read = once("read", 2, 12, long, 40_000_000)
-        copy = once("copy", 2, 12, long, 40_000_000)
-        print(f"16,000 atoms, 40,000,000 bytes: read {read:.1f} ms, copied {copy:.1f} ms, {read / copy:.2f} times")
-        small = once("read", 10, 110, lists, 218_268)
-        print(f"16,384 lists of two atoms, 218,268 bytes: read {small:.2f} ms")
-        other = libgcrypt(lists.read_bytes())
-        print("libgcrypt: not there" if other is None else f"libgcrypt's gcry_sexp_new: {other:.2f} ms")
+        tens = {"read": (2, 12), "pass": (2, 52), "walk": (2, 52), "copy": (2, 12)}
+        timed("16,000 atoms", long_text(), tens, None, folder)
+        hundreds = {"read": (10, 110), "pass": (10, 1_010), "walk": (10, 510)}
+        timed("16,384 lists of two atoms", many_lists(), hundreds, other, folder)
+        entries = {what: (10_000, 400_000) for what in ("read", "pass", "walk", "copy")}
+        timed("an entry", entry(), entries, None, folder)
+        path = pathlib.Path(folder, "hostile")
+        for name, text in hostile_texts():
+            path.write_bytes(text)
+            most = {what: weighed(what, path) for what in ("pass", "walk", "copy")}
+            figures = ", ".join(f"{what} {peak / 1e6:.1f} MB" for what, peak in most.items())
+            print(f"{name}, {len(text) / 1e6:.1f} MB: {figures}")
 
 
 if __name__ == "__main__":
