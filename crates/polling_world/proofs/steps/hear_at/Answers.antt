@@ -13,7 +13,7 @@ pub returns-clause-ok : goal.returns-clause-ok
 returns-clause-ok c =
     let events = history_at c.args.machines.now.items c.args.from c.index.result.now (omega arith)
     ∙ ap (λ (m : MachineState). m.events) (sym c.index.ensures)
-    ∙ sym (ap (λ (h : History SealedEntry). h.events) c.log.ensures.log) ∙ sym c.events.ensures.events in
+    ∙ sym (ap (λ (h : History SealedEntry). h.events) c.log.ensures.log) in
     inr (
       c.if-at-from.false,
       (
