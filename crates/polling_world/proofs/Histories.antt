@@ -1,6 +1,6 @@
 -- Histories with one event more.
-use Rattle.std.proofs.Common.{◌≡◌, ℕ, ◌+◌, ◌≤◌, List, [], ◌∷◌, ◌++◌, length, map, refl, ap, subst, ◌∙◌}
-use Rattle.std.proofs.Common.{◌⊎◌, inl, inr, arith}
+use Rattle.std.proofs.Common.{◌≡◌, ℕ, ◌+◌, ◌≤◌, List, [], ◌∷◌, ◌++◌, length, map, ap, subst, ◌∙◌}
+use Rattle.std.proofs.Common.{inl, inr, arith}
 use Rattle.std.specs.List.{filter}
 use Rattle.std.specs.Prelude.{not}
 use Rattle.std.specs.Cmp.Lexicographic.{slice_cmp}
@@ -12,10 +12,10 @@ use Rattle.std.proofs.lemmas.List.Sums.{length-filter, count_by-le-length}
 use Rattle.entry_format.specs.Nodes.{node_of_sealed}
 use Rattle.entry_format.specs.SealedEntry.{SealedEntry}
 use Rattle.entry_order.specs.declared.event.Event.{Event}
-use Rattle.entry_order.specs.declared.event.Event.TheVariants.{Sent, Got}
+use Rattle.entry_order.specs.declared.event.Event.TheVariants.{Sent}
 use Rattle.entry_order.specs.Ascending.{ascending, insert_digest, inserted, IsAscending}
 use Rattle.entry_order.specs.Frontier.{frontier}
-use Rattle.entry_order.specs.History.{entry_of, held, sent}
+use Rattle.entry_order.specs.History.{entry_of, held}
 use Rattle.entry_order.specs.Naming.{is_named}
 use Rattle.entry_order.proofs.Ascending.{ascending_ascending}
 use Rattle.entry_order.proofs.Histories.{last_or_earlier}
