@@ -85,25 +85,48 @@ fn what_was_held_before_is_told(rt: HostRuntime) -> Result<(), Fail> {
     Ok(())
 }
 
-/// At a machine, the entry of another with this number is heard.
-const fn hear(at: u32, from: u32, number: u32) -> Step {
-    Step::Hear { at, from, number }
-}
-
 /// Steps, and what becomes of each.
 const STEPS: &[(Step, Stepped)] = &[
     // No action is left.
     (Step::Act(0), Stepped::Nothing),
     // It holds that entry.
-    (hear(2, 1, 1), Stepped::Nothing),
+    (
+        Step::Hear {
+            at: 2,
+            from: 1,
+            number: 1,
+        },
+        Stepped::Nothing,
+    ),
     // No such entry was sent.
-    (hear(1, 2, 1), Stepped::Nothing),
+    (
+        Step::Hear {
+            at: 1,
+            from: 2,
+            number: 1,
+        },
+        Stepped::Nothing,
+    ),
     // It is its own.
-    (hear(1, 1, 0), Stepped::Nothing),
+    (
+        Step::Hear {
+            at: 1,
+            from: 1,
+            number: 0,
+        },
+        Stepped::Nothing,
+    ),
     (Step::Stop(2), Stepped::Did),
     (Step::Stop(2), Stepped::Nothing),
     // The machine has stopped.
-    (hear(2, 1, 0), Stepped::Nothing),
+    (
+        Step::Hear {
+            at: 2,
+            from: 1,
+            number: 0,
+        },
+        Stepped::Nothing,
+    ),
 ];
 
 #[test]
