@@ -4,8 +4,9 @@
 Run from anywhere: python3 bench/architecture.py
 
 The picture has a row for each layer: a crate lies one above the highest crate that it uses. Crates of the
-document's second table, the programs for measuring and comparing, are grey. What the tables say of a crate's
-libraries, and crates.txt doesn't or the other way round, is printed; the exit status is 1 if there is any.
+document's second table, the programs for measuring and comparing, are grey. Printed is what the tables say of
+a crate's libraries and crates.txt doesn't, or the other way round, each crate that only one of the two has, and
+each that crates.txt has before a crate that it uses; the exit status is 1 if there is any such line.
 """
 import pathlib
 import re
@@ -44,7 +45,11 @@ def tables():
 
 
 def disagreements(libraries, rows):
+    order = list(libraries)
     for crate in libraries:
+        for name in libraries[crate]:
+            if name in libraries and order.index(name) > order.index(crate):
+                yield f"crates.txt has {crate} before {name}"
         if crate not in rows:
             yield f"no row of {crate}"
             continue
@@ -59,15 +64,19 @@ def disagreements(libraries, rows):
 
 def direct(libraries):
     """Of each crate the crates that it uses and that no other one of these uses in turn."""
+    own = {crate: [name for name in libraries[crate] if name in libraries] for crate in libraries}
     below = {}
-    for crate in libraries:
-        own = [name for name in libraries[crate] if name in libraries]
-        below[crate] = set(own).union(*(below[name] for name in own))
-    return {
-        crate: [n for n in libraries[crate]
-                if n in libraries and not any(n in below[m] for m in libraries[crate] if m in libraries)]
-        for crate in libraries
-    }
+    for crate in lowest_first(own):
+        below[crate] = set(own[crate]).union(*(below[name] for name in own[crate]))
+    return {crate: [n for n in own[crate] if not any(n in below[m] for m in own[crate])] for crate in libraries}
+
+
+def lowest_first(used):
+    """The crates, each after those that it uses, and otherwise as they come."""
+    found = []
+    while len(found) < len(used):
+        found.append(next(crate for crate in used if crate not in found and set(used[crate]) <= set(found)))
+    return found
 
 
 def layered(libraries, arrows):
@@ -76,7 +85,7 @@ def layered(libraries, arrows):
     A member between the ends is a pair of the two crates: it keeps a place free of boxes for the arrow.
     """
     level = {}
-    for crate in libraries:
+    for crate in lowest_first(arrows):
         level[crate] = 1 + max((level[name] for name in arrows[crate]), default=-1)
     layers = [[c for c in libraries if level[c] == k] for k in range(max(level.values()) + 1)]
     chains = []

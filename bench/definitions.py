@@ -6,13 +6,16 @@ usage: python3 bench/definitions.py [--list]
 A public clause is a `requires` or `ensures` of a function that its crate exports, or of a trait's function,
 and so are the members that a trait or a type gives to contracts (`ghost NAME`, `Value`). What a type keeps of
 its own fields (`view`, `invariant`) isn't public. A clause reaches the definitions that it names and those
-that they name in turn, in the `specs/` of all crates. A constructor or a field counts as its type.
+that they name in turn, in the `specs/` of all crates. A constructor or a field counts as its type. What is
+behind a type is reached too: how contracts tell its values apart (`coded`), and which error `?` makes of
+another (`from_gives`). Of all that is reached, only this may lie in `specs/inside/`.
 
 In docs/DEFINITIONS.md the first column of a table names definitions of the crate whose name heads the
-section, first all that the contract of `auditorium_still` reaches, then the others. Printed is what the
-document lacks, lists without need, gives to another file or has too late, and what is reached although it
-lies in `specs/inside/`; the exit status is 1 if there is any such line. With --list each reached definition
-is printed with its comment, those that `auditorium_still` reaches marked by `*`.
+section, first all that the contract of `auditorium_still` reaches, then the others, and in a part of their
+own those of `specs/inside/`. Printed is what the document lacks, lists without need, gives to another file,
+has too late or in another part, and what a clause reaches although it lies in `specs/inside/`; the exit
+status is 1 if there is any such line. With --list each reached definition is printed with its comment,
+those that `auditorium_still` reaches marked by `*`.
 """
 import pathlib
 import re
@@ -23,6 +26,8 @@ ROOT = pathlib.Path(__file__).resolve().parent.parent
 DOCUMENT = ROOT / "docs" / "DEFINITIONS.md"
 TOP = ("auditorium_core", "auditorium_still")
 FIRST = "## What the headline needs"
+BEHIND = "## What is behind types"
+INSIDE = "specs/inside/"
 WORD = re.compile(r"[A-Za-z_][\w'?]*(?:\.[A-Za-z_][\w'?]*)?")
 IMPORT = re.compile(r"^\s*(?:pub |ghost )?use Rattle\.(\w+)\.specs\.([\w.]+?)(?:\.\{(.*?)\}| as (\w+));?$", re.S | re.M)
 DEFINITION = re.compile(r"^\s*(?:(?:abbrev|unfoldable|record|data|pub) )+([A-Za-z_][\w'?]*)")
@@ -41,22 +46,30 @@ class Module:
         self.bodies = defaultdict(list)
         self.comments = {}
         self.owners = {}
-        current, comment, kind = None, [], ""
+        current, comment, kind, indent = None, [], "", 0
         for line in IMPORT.sub("", text).splitlines():
             if line.strip().startswith("--"):
                 comment.append(line.strip()[2:].strip())
                 continue
             head = DEFINITION.match(line)
             if head and line.split()[0] != "pub" or head and re.match(r"\s*pub (record|data) ", line):
-                current = head.group(1)
+                current, indent = head.group(1), len(line) - len(line.lstrip())
                 kind = "type" if re.search(r"\b(record|data)\b", line[: head.start(1)]) else "function"
                 self.comments[current] = " ".join(comment)
             elif current and kind == "type" and (inner := CONSTRUCTOR.match(line)):
                 for name in inner.group(1).split():
                     self.owners.setdefault(name, current)
+            elif current and ends(line, indent, current):
+                current = None
             if current and line.strip():
                 self.bodies[current].append(line)
             comment = []
+
+
+def ends(line, indent, name):
+    """Whether a line is of something else than the definition of this name and indentation, as of a lemma."""
+    own = len(line) - len(line.lstrip())
+    return bool(line.strip()) and own <= indent and line.split()[0] != name
 
 
 def imports_of(text):
@@ -168,7 +181,8 @@ def clauses_of(text, start):
 
 
 def public_texts(crate, path):
-    """The texts of the public clauses and ghost members of a source file, each with its function's name."""
+    """The texts of the public clauses and ghost members of a source file, each with its function's or its own
+    name."""
     text, names = path.read_text(), exported(crate)
     owner, public = None, False
     for line in re.finditer(r"^.*$", text, re.M):
@@ -189,7 +203,7 @@ def public_texts(crate, path):
 
 
 def starts(known):
-    """The definitions that each public clause names, by crate and function."""
+    """The definitions that each public clause or member names, by crate and the name of function or member."""
     found = defaultdict(set)
     for crate in crates():
         for path in sorted((ROOT / "crates" / crate / "src").rglob("*.rt")):
@@ -201,8 +215,8 @@ def starts(known):
 
 def listed():
     """The definitions that the document's tables name, by crate, each with the files that its row names; and
-    those of the first part, by crate and name."""
-    found, first, crate, table, part = defaultdict(dict), set(), None, False, None
+    those of each part, by crate and name."""
+    found, parts, crate, table, part = defaultdict(dict), defaultdict(set), None, False, None
     for line in DOCUMENT.read_text().splitlines():
         part = line if line.startswith("## ") else part
         if line.startswith("#"):
@@ -216,20 +230,23 @@ def listed():
             names, files = (re.findall(r"`([^`]+)`", cell) for cell in line.split("|")[1:3])
             for name in names:
                 found[crate].setdefault(name, set()).update(files)
-                if part == FIRST:
-                    first.add((crate, name))
-    return found, first
+                parts[part].add((crate, name))
+    return found, parts
 
 
-def disagreements(known, reached, top):
-    """What the document lacks, lists without need, places wrongly or has too late; and what is reached inside."""
-    shown, first = listed()
+def disagreements(known, reached, by_clauses, top):
+    """What the document lacks, lists without need, places wrongly or has in another part; and what clauses reach
+    inside."""
+    shown, parts = listed()
     wanted = defaultdict(lambda: defaultdict(set))
     for crate, module, name in reached:
         file = known[crate, module].path.relative_to(ROOT / "crates" / crate).as_posix()
         wanted[crate][name].add(file)
-        if file.startswith("specs/inside/"):
+        inside = file.startswith(INSIDE)
+        if inside and (crate, module, name) in by_clauses:
             yield f"a public clause reaches {crate} {name}, in {file}"
+        if name in shown[crate] and inside != ((crate, name) in parts[BEHIND]):
+            yield f"has in another part {crate} {name}"
     for crate in crates():
         for name in sorted(wanted[crate].keys() | shown[crate].keys()):
             if name not in shown[crate]:
@@ -238,7 +255,7 @@ def disagreements(known, reached, top):
                 yield f"lists without need {crate} {name}"
             elif not wanted[crate][name] <= shown[crate][name]:
                 yield f"places wrongly {crate} {name}: {', '.join(sorted(wanted[crate][name]))}"
-    late = {(crate, name) for crate, _, name in top} - first
+    late = {(crate, name) for crate, _, name in top} - parts[FIRST]
     yield from (f"has too late {crate} {name}" for crate, name in sorted(late) if name in shown[crate])
     yield from (f"names no crate: {crate}" for crate in sorted(set(shown) - set(crates())))
 
@@ -247,13 +264,15 @@ def main():
     known = modules()
     named = starts(known)
     reached = reached_from(known, sorted(set().union(*named.values())))
+    clauses = [names for (_, place), names in named.items() if place not in ("coded", "from_gives")]
+    by_clauses = set(reached_from(known, sorted(set().union(*clauses))))
     top = set(reached_from(known, sorted(named[TOP])))
     if "--list" in sys.argv[1:]:
         for crate, module, name in reached:
             mark = "*" if (crate, module, name) in top else " "
             print(f"{mark} {crate} {module} {name}: {known[crate, module].comments[name]}")
         return 0
-    lines = list(disagreements(known, reached, top))
+    lines = list(disagreements(known, reached, by_clauses, top))
     print("\n".join(lines) or f"{len(reached)} definitions are reached, and all are listed")
     return 1 if lines else 0
 

@@ -4,7 +4,8 @@
 In docs/PROMISES.md each crate of crates.txt must have one row. In its third column `NAME`, clause `CLAUSE`,
 in `PATH` means that PATH is a file of the crate and that NAME and CLAUSE are words of it, NAME of a function
 or of a definition. In crates/NAME/README.md the names in the column "Kept by" must be words of the crate's
-sources. Each fault is printed; the exit status is 1 if there is one.
+sources, or of those of a crate that the cell names too. Each fault is printed; the exit status is 1 if there
+is one.
 """
 import pathlib
 import re
@@ -38,6 +39,12 @@ def words_of(path):
     return set(re.findall(r"\w+", path.read_text()))
 
 
+def source_words(crate):
+    """The words of a crate's sources and definitions."""
+    folder = ROOT / "crates" / crate
+    return set().union(*(words_of(path) for kind in ("src/**/*.rt", "specs/**/*.antt") for path in folder.glob(kind)))
+
+
 def row_faults(crate, cell):
     """What the third cell of a crate's row names in vain."""
     pending = []
@@ -64,12 +71,11 @@ def readme_faults(crate):
     if not path.is_file():
         yield f"{crate}: no README.md"
         return
-    known = set()
-    for kind in ("src/**/*.rt", "specs/**/*.antt"):
-        for source in (ROOT / "crates" / crate).glob(kind):
-            known |= words_of(source)
+    own = source_words(crate)
     for cells in rows(path.read_text(), "Kept by"):
-        for name in NAME.findall(cells[1]):
+        names = NAME.findall(cells[1])
+        known = own.union(*(source_words(name) for name in names if name in crates()))
+        for name in names:
             if "/" not in name and name not in crates():
                 parts = re.findall(r"\w+", name)
                 yield from (f"{crate}/README.md: no {part}" for part in parts if part != "for" and part not in known)
