@@ -47,22 +47,29 @@ fn entry_of(alloc: Global, words: &str) -> Entry {
     }
 }
 
-/// The state of the history that has these entries, separated by commas, in their order.
-fn state_of(alloc: Global, history: &str) -> Result<SupervisorState, AllocError> {
+/// The state of the history that has these entries, in their order.
+fn state_of(alloc: Global, history: &[&str]) -> Result<SupervisorState, AllocError> {
     let mut state = SupervisorState::make(alloc, OWNER, history.len())?;
-    if !history.is_empty() {
-        for words in history.split(',') {
-            state.note(&entry_of(alloc, words));
-        }
+    for words in history {
+        state.note(&entry_of(alloc, words));
     }
     Ok(state)
+}
+
+/// The entries of a history, which are separated by commas.
+fn entries_in<'a>(alloc: Global, history: &'a str) -> Result<Vec<&'a str>, AllocError> {
+    if history.is_empty() {
+        return Ok(Vec::new(alloc));
+    }
+    history.split(',').collect(alloc)
 }
 
 /// The answer for the deed after the history, in words.
 fn answer(rt: &HostRuntime, history: &str, deed: &Deed) -> Result<String, Fail>
     requires { IsSupervisorDeed deed.now }
 {
-    let state = state_of(rt.alloc(), history)?;
+    let history = entries_in(rt.alloc(), history)?;
+    let state = state_of(rt.alloc(), history.as_slice())?;
     Ok(match state.may(deed) {
         Ok(()) => String::from_str(rt.alloc(), "Ok")?,
         Err(cause) => format!(in rt.alloc(); "{cause:?}")?,

@@ -2,5 +2,5 @@ use Rattle.std.proofs.Common.{◌≤◌, ◌+◌, length}
 use Rattle.supervisor_core.proofs.tests.state_of.Given as goal
 
 -- there is room for the rest
-abbrev pub invariant-loop-letter : goal.invariant-loop-letter
-invariant-loop-letter l = length l.letters ≤ l.state.spare + l.letter-index
+abbrev pub invariant-loop-words : goal.invariant-loop-words
+invariant-loop-words l = length l.history ≤ l.state.spare + l.words-index
