@@ -5,7 +5,7 @@
 mod spans;
 mod words;
 
-pub use spans::{Memory, Span, lines, tokens};
+pub use spans::{Memory, Span, lines, token_end, tokens};
 pub use words::{decimal, digest_hex};
 
 #[cfg(test)]

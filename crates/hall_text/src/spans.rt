@@ -36,8 +36,9 @@ fn word_end(text: &[u8], at: usize) -> usize
     end
 }
 
-/// Where the token that begins at `at` ends, or `at` where none begins there.
-fn token_end(text: &[u8], at: usize) -> usize
+/// Where the token that begins at `at` ends, or `at` where none begins there. No word goes on across
+/// `at`.
+pub fn token_end(text: &[u8], at: usize) -> usize
     requires within { at < length text.now }
     requires between { IsBetween text.now at }
     ensures token { at < result → IsToken text.now (record { start = at; end = result }) }

@@ -1,0 +1,9 @@
+pub mod Kinds
+pub mod Scopes
+pub mod Trees
+pub mod Forms
+pub mod Lawful
+pub mod Spelling
+pub mod Wants
+pub mod Reading
+pub mod inside

@@ -1,0 +1,97 @@
+-- The tokens of rules, by recursion on their trees, and texts of them.
+use Rattle.std.specs.Prelude.{◌≡◌, ◌⊎◌, ℕ, ◌-◌, ◌<◌, ◌≤◌, IsTrue, List, [], ◌∷◌, ◌++◌, length, map, take, drop, codes}
+use Rattle.std.specs.Prelude.{slice_index}
+use Rattle.std.specs.Fmt.{decimal}
+use Rattle.roster.specs.RosterText.{role_word}
+use Rattle.hall_text.specs.declared.spans.Span.{Span}
+use Rattle.hall_text.specs.Spans.{IsWordByte, IsParenthesis, IsToken, AreAll}
+use Rattle.rule_language.specs.declared.term.Term.{Term}
+use Rattle.rule_language.specs.declared.term.Term.TheVariants.{Of, Number}
+use Rattle.rule_language.specs.declared.form.Form.{Form}
+use Rattle.rule_language.specs.declared.form.Form.TheVariants as form
+use Rattle.rule_language.specs.Kinds.{kind_word, field_word}
+use Rattle.rule_language.specs.Trees.{Trees, no_trees, tree_then, RuleTree}
+use Rattle.rule_language.specs.Lawful.{are_rules}
+
+-- a token: the bytes of a word, or of a parenthesis
+abbrev pub Token : Type 0
+Token = List ℕ
+
+abbrev pub left : Token
+left = codes "("
+
+abbrev pub right : Token
+right = codes ")"
+
+-- a variable, by its letter
+abbrev pub variable : ℕ → Token
+variable v = v ∷ []
+
+-- a term: a variable, a dot and a field, or a decimal
+abbrev pub term_word : Term → Token
+term_word (Of v field) = v ∷ 46 ∷ field_word field
+term_word (Number n) = decimal n
+
+-- the words of a form in front of the formulas in it
+abbrev pub form_words : Form → List Token
+form_words form.True = codes "true" ∷ []
+form_words (form.ForEvery v kind) = codes "every" ∷ variable v ∷ kind_word kind ∷ []
+form_words (form.ForSome v kind) = codes "some" ∷ variable v ∷ kind_word kind ∷ []
+form_words (form.EveryBefore v kind u) =
+    codes "every" ∷ variable v ∷ kind_word kind ∷ codes "before" ∷ variable u ∷ []
+form_words (form.SomeBefore v kind u) = codes "some" ∷ variable v ∷ kind_word kind ∷ codes "before" ∷ variable u ∷ []
+form_words form.And = codes "and" ∷ []
+form_words form.Or = codes "or" ∷ []
+form_words form.Not = codes "not" ∷ []
+form_words form.Implies = codes "implies" ∷ []
+form_words (form.Same v u) = codes "same" ∷ variable v ∷ variable u ∷ []
+form_words (form.Before v u) = codes "before" ∷ variable v ∷ variable u ∷ []
+form_words (form.Next v u) = codes "next" ∷ variable v ∷ variable u ∷ []
+form_words (form.Is v role) = codes "is" ∷ variable v ∷ role_word role ∷ []
+form_words (form.OfKind v kind) = codes "kind" ∷ variable v ∷ kind_word kind ∷ []
+form_words (form.Equal t u) = codes "=" ∷ term_word t ∷ term_word u ∷ []
+form_words (form.Less t u) = codes "<" ∷ term_word t ∷ term_word u ∷ []
+
+-- a form with the tokens of the formulas in it, and what stands behind; all but `true` stands in parentheses
+abbrev pub spelt : Form → List Token → List Token → List Token
+spelt form.True inside behind = codes "true" ∷ behind
+spelt form inside behind = left ∷ (form_words form ++ (inside ++ right ∷ behind))
+
+-- the tokens of formulas in a row, and what stands behind
+abbrev pub tokens_then : Trees → List Token → List Token
+tokens_then no_trees behind = behind
+tokens_then (tree_then form parts rest) behind = spelt form (tokens_then parts []) (tokens_then rest behind)
+
+-- the tokens of a rule
+abbrev pub rule_tokens : RuleTree → List Token
+rule_tokens rule = left ∷ codes "rule" ∷ rule.name ∷ tokens_then rule.body (right ∷ [])
+
+-- the tokens of rules
+abbrev pub rules_tokens : List RuleTree → List Token
+rules_tokens [] = []
+rules_tokens (rule ∷ rules) = rule_tokens rule ++ rules_tokens rules
+
+-- space, tab, newline and carriage return separate tokens
+abbrev pub IsSeparator : ℕ → Type 0
+IsSeparator byte = (byte ≡ 32) ⊎ ((byte ≡ 9) ⊎ ((byte ≡ 10) ⊎ (byte ≡ 13)))
+
+-- a byte of a token, or one that separates tokens
+abbrev pub IsGoodByte : ℕ → Type 0
+IsGoodByte byte = IsWordByte byte ⊎ (IsParenthesis byte ⊎ IsSeparator byte)
+
+-- the bytes of a span
+abbrev pub piece : List ℕ → Span → Token
+piece text span = take (span.end - span.start) (drop span.start text)
+
+-- these are the tokens that begin before the place, and no byte before it is bad
+pub record StandBefore (text : List ℕ) (at : ℕ) (tokens : List Token) : Type 0 where
+  pub inside : at ≤ length text
+  pub good : (i : ℕ) → i < at → IsGoodByte (slice_index text i)
+  pub spans : List Span
+  pub all : AreAll (λ span. IsToken text span × (span.start < at)) spans
+  pub spelt : tokens ≡ map (piece text) spans
+
+-- the text is one of these rules
+pub record IsTextOf (text : List ℕ) (rules : List RuleTree) : Type 0 where
+  pub lawful : IsTrue (are_rules rules)
+  pub tokens : StandBefore text (length text) (rules_tokens rules)

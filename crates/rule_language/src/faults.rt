@@ -1,0 +1,67 @@
+//! Why a text isn't one of rules.
+ghost use Rattle.std.specs.Prelude.{◌≡◌};
+ghost use Rattle.rule_language.specs.Kinds.{why_word};
+
+use std::alloc::AllocError;
+use thiserror::Error;
+
+/// Why a token can't stand where it does, numbered in this order from 1.
+#[derive(Clone, Copy, Debug, PartialEq, Eq, Error)]
+pub enum RuleWhy {
+    #[error("a byte is no token and separates none")]
+    Token,
+    #[error("something else has to stand there")]
+    Shape,
+    #[error("a word names no kind of entries")]
+    UnknownKind,
+    #[error("a rule has this name already, or the variable is bound already")]
+    SameName,
+    #[error("the variable is free")]
+    Unbound,
+    #[error("the kind hasn't this field, or the terms can't be compared")]
+    WrongField,
+    #[error("over 32 parentheses are open, or over 4 quantifiers")]
+    TooDeep,
+}
+
+impl RuleWhy {
+    /// The cause's word in reports: as the variant is spelt.
+    pub fn word(self) -> &'static [u8]
+        ensures { result.now ≡ why_word self }
+    {
+        match self {
+            RuleWhy::Token => b"Token",
+            RuleWhy::Shape => b"Shape",
+            RuleWhy::UnknownKind => b"UnknownKind",
+            RuleWhy::SameName => b"SameName",
+            RuleWhy::Unbound => b"Unbound",
+            RuleWhy::WrongField => b"WrongField",
+            RuleWhy::TooDeep => b"TooDeep",
+        }
+    }
+}
+
+/// Why a text isn't one of rules: its first fault, by place and then by the order of causes.
+#[derive(Clone, Copy, Debug, PartialEq, Eq, Error)]
+pub enum RuleFault {
+    #[error("byte {at}: {why}")]
+    At {
+        /// The first byte of the first token that can't stand, counted from 0, or the length of a text
+        /// that ends too early.
+        at: usize,
+        why: RuleWhy,
+    },
+    #[error("out of memory")]
+    Memory,
+}
+
+impl From<AllocError> for RuleFault {
+    ghost use Rattle.std.specs.Prelude.{◌≡◌};
+    ghost use Rattle.rule_language.specs.declared.faults.RuleFault.TheVariants.{Memory};
+
+    ghost from_gives = { λ _ e. e ≡ Memory };
+
+    fn from(_refused: AllocError) -> RuleFault {
+        RuleFault::Memory
+    }
+}

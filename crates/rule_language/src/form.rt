@@ -1,0 +1,104 @@
+//! The forms of formulas, apart from their parts, and the words that they begin with.
+ghost use Rattle.std.specs.Prelude.{◌≡◌};
+ghost use Rattle.rule_language.specs.Kinds.{head_word, head_named};
+
+use crate::kind::Kind;
+use crate::term::Term;
+use roster::Role;
+
+/// A formula without the formulas in it.
+#[derive(Clone, Copy, Debug, PartialEq, Eq)]
+pub enum Form {
+    True,
+    ForEvery { v: u8, kind: Kind },
+    ForSome { v: u8, kind: Kind },
+    EveryBefore { v: u8, kind: Kind, u: u8 },
+    SomeBefore { v: u8, kind: Kind, u: u8 },
+    And,
+    Or,
+    Not,
+    Implies,
+    Same(u8, u8),
+    Before(u8, u8),
+    Next(u8, u8),
+    Is(u8, Role),
+    OfKind(u8, Kind),
+    Equal(Term, Term),
+    Less(Term, Term),
+}
+
+/// What a formula in parentheses begins with.
+#[derive(Clone, Copy)]
+pub(crate) enum Head {
+    ForEvery,
+    ForSome,
+    And,
+    Or,
+    Not,
+    Implies,
+    Same,
+    Before,
+    Next,
+    Is,
+    OfKind,
+    Equal,
+    Less,
+}
+
+impl Head {
+    /// The word.
+    pub(crate) fn word(self) -> &'static [u8]
+        ensures { result.now ≡ head_word self }
+    {
+        match self {
+            Head::ForEvery => b"every",
+            Head::ForSome => b"some",
+            Head::And => b"and",
+            Head::Or => b"or",
+            Head::Not => b"not",
+            Head::Implies => b"implies",
+            Head::Same => b"same",
+            Head::Before => b"before",
+            Head::Next => b"next",
+            Head::Is => b"is",
+            Head::OfKind => b"kind",
+            Head::Equal => b"=",
+            Head::Less => b"<",
+        }
+    }
+
+    /// What the word begins.
+    pub(crate) fn of_word(word: &[u8]) -> Option<Head>
+        ensures { result ≡ head_named word.now }
+    {
+        if word == b"every".as_slice() {
+            Some(Head::ForEvery)
+        } else if word == b"some".as_slice() {
+            Some(Head::ForSome)
+        } else if word == b"and".as_slice() {
+            Some(Head::And)
+        } else if word == b"or".as_slice() {
+            Some(Head::Or)
+        } else if word == b"not".as_slice() {
+            Some(Head::Not)
+        } else if word == b"implies".as_slice() {
+            Some(Head::Implies)
+        } else if word == b"same".as_slice() {
+            Some(Head::Same)
+        } else if word == b"before".as_slice() {
+            Some(Head::Before)
+        } else if word == b"next".as_slice() {
+            Some(Head::Next)
+        } else if word == b"is".as_slice() {
+            Some(Head::Is)
+        } else if word == b"kind".as_slice() {
+            Some(Head::OfKind)
+        } else if word == b"=".as_slice() {
+            Some(Head::Equal)
+        } else if word == b"<".as_slice() {
+            Some(Head::Less)
+        } else {
+            None
+        }
+    }
+}

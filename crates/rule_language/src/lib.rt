@@ -1,0 +1,21 @@
+//! Rules over the order of entries, in the manner of Querifier (Sandler, Derr, Crosby and Wallach,
+//! SADFE 2008): formulas with quantifiers over entries, read from a text that an official can write
+//! and refused by place and cause, and the standard rules.
+#![tactic(auto)]
+
+mod faults;
+mod form;
+mod formula;
+mod kind;
+mod row;
+mod scope;
+mod term;
+mod tokens;
+mod words;
+
+pub use faults::{RuleFault, RuleWhy};
+pub use form::Form;
+pub use formula::{Formula, Rule};
+pub use kind::{Field, Kind};
+pub use row::Row;
+pub use term::Term;
