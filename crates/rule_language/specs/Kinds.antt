@@ -134,6 +134,12 @@ heads =
 abbrev pub head_named : List ℕ → Option Head
 head_named word = named head_word heads word
 
+-- whether it is the word of a quantifier
+abbrev pub is_quantifier : Head → Bool
+is_quantifier head.ForEvery = true
+is_quantifier head.ForSome = true
+is_quantifier head = false
+
 -- a cause as it is spelt in reports
 abbrev pub why_word : RuleWhy → List ℕ
 why_word why.Token = codes "Token"

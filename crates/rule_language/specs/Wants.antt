@@ -17,7 +17,7 @@ use Rattle.rule_language.specs.declared.faults.RuleWhy.{RuleWhy}
 use Rattle.rule_language.specs.declared.faults.RuleWhy.TheVariants.{Shape, UnknownKind, SameName, Unbound, WrongField}
 use Rattle.rule_language.specs.declared.faults.RuleWhy.TheVariants.{TooDeep}
 use Rattle.rule_language.specs.Kinds.{kind_named, field_named, role_named, head_named, has_field, sort_of_field}
-use Rattle.rule_language.specs.Kinds.{is_ordered, is_same_sort}
+use Rattle.rule_language.specs.Kinds.{is_ordered, is_same_sort, is_quantifier}
 use Rattle.rule_language.specs.Scopes.{Scope, kind_in, is_letter}
 use Rattle.rule_language.specs.Lawful.{is_name, is_among}
 use Rattle.rule_language.specs.Spelling.{Token, left, right}
@@ -120,31 +120,36 @@ abbrev pub may_begin : Bool → Sort → Bool
 may_begin true sort = is_ordered sort
 may_begin false sort = true
 
--- what follows the word that a formula in parentheses begins with
-abbrev pub behind_head : Scope → ℕ → Head → List Want → Met
-behind_head scope depth begins.ForEvery rest =
-    if nat_le 4 (length scope) then Err TooDeep else Ok (new_variable scope depth ∷ rest)
-behind_head scope depth begins.ForSome rest =
-    if nat_le 4 (length scope) then Err TooDeep else Ok (new_variable scope depth ∷ rest)
-behind_head scope depth begins.And rest = Ok (formula scope depth ∷ more 63 scope depth ∷ rest)
-behind_head scope depth begins.Or rest = Ok (formula scope depth ∷ more 63 scope depth ∷ rest)
-behind_head scope depth begins.Not rest = Ok (formula scope depth ∷ close ∷ rest)
-behind_head scope depth begins.Implies rest = Ok (formula scope depth ∷ formula scope depth ∷ close ∷ rest)
-behind_head scope depth begins.Same rest = Ok (a_variable scope ∷ a_variable scope ∷ close ∷ rest)
-behind_head scope depth begins.Before rest = Ok (a_variable scope ∷ a_variable scope ∷ close ∷ rest)
-behind_head scope depth begins.Next rest = Ok (a_variable scope ∷ a_variable scope ∷ close ∷ rest)
-behind_head scope depth begins.Is rest = Ok (a_variable scope ∷ a_role ∷ close ∷ rest)
-behind_head scope depth begins.OfKind rest = Ok (a_variable scope ∷ a_kind ∷ close ∷ rest)
-behind_head scope depth begins.Equal rest = Ok (first_term false scope ∷ close ∷ rest)
-behind_head scope depth begins.Less rest = Ok (first_term true scope ∷ close ∷ rest)
+-- what a formula in parentheses begins with: at most 4 quantifiers nest
+abbrev pub nested : Scope → Option Head → Result Head RuleWhy
+nested scope None = Err Shape
+nested scope (Some word) = if is_quantifier word && nat_le 4 (length scope) then Err TooDeep else Ok word
 
-abbrev pub behind_word : Scope → ℕ → Option Head → List Want → Met
-behind_word scope depth None rest = Err Shape
-behind_word scope depth (Some word) rest = behind_head scope depth word rest
+abbrev pub head_for : Scope → Token → Result Head RuleWhy
+head_for scope word = nested scope (head_named word)
 
--- a token that has to stand there
+-- what follows it
+abbrev pub behind_head : Scope → ℕ → List Want → Head → List Want
+behind_head scope depth rest begins.ForEvery = new_variable scope depth ∷ rest
+behind_head scope depth rest begins.ForSome = new_variable scope depth ∷ rest
+behind_head scope depth rest begins.And = formula scope depth ∷ more 63 scope depth ∷ rest
+behind_head scope depth rest begins.Or = formula scope depth ∷ more 63 scope depth ∷ rest
+behind_head scope depth rest begins.Not = formula scope depth ∷ close ∷ rest
+behind_head scope depth rest begins.Implies = formula scope depth ∷ formula scope depth ∷ close ∷ rest
+behind_head scope depth rest begins.Same = a_variable scope ∷ a_variable scope ∷ close ∷ rest
+behind_head scope depth rest begins.Before = a_variable scope ∷ a_variable scope ∷ close ∷ rest
+behind_head scope depth rest begins.Next = a_variable scope ∷ a_variable scope ∷ close ∷ rest
+behind_head scope depth rest begins.Is = a_variable scope ∷ a_role ∷ close ∷ rest
+behind_head scope depth rest begins.OfKind = a_variable scope ∷ a_kind ∷ close ∷ rest
+behind_head scope depth rest begins.Equal = first_term false scope ∷ close ∷ rest
+behind_head scope depth rest begins.Less = first_term true scope ∷ close ∷ rest
+
+-- the token that has to stand there
+abbrev pub only : Token → Token → Result (Unit {0}) RuleWhy
+only wanted token = if bytes_eq token wanted then Ok tt else Err Shape
+
 abbrev pub meets_only : Token → List Want → Token → Met
-meets_only wanted wants token = if bytes_eq token wanted then Ok wants else Err Shape
+meets_only wanted wants token = then_want (only wanted token) (λ it. wants)
 
 -- a formula
 abbrev pub meets_formula : Scope → ℕ → List Want → Token → Met
@@ -166,7 +171,7 @@ meets_want (rule_word names) rest token = meets_only (codes "rule") (rule_name n
 meets_want (rule_name names) rest token =
     then_want (name_in names token) (λ name. formula [] 1 ∷ close ∷ rules (names ++ name ∷ []) ∷ rest)
 meets_want (formula scope depth) rest token = meets_formula scope depth rest token
-meets_want (head scope depth) rest token = behind_word scope depth (head_named token) rest
+meets_want (head scope depth) rest token = then_want (head_for scope token) (behind_head scope depth rest)
 meets_want (new_variable scope depth) rest token =
     then_want (new_in scope (letter_in token)) (λ v. kind_of v scope depth ∷ rest)
 meets_want (kind_of v scope depth) rest token =

@@ -1,6 +1,6 @@
 //! The forms of formulas, apart from their parts, and the words that they begin with.
 ghost use Rattle.std.specs.Prelude.{◌≡◌};
-ghost use Rattle.rule_language.specs.Kinds.{head_word, head_named};
+ghost use Rattle.rule_language.specs.Kinds.{head_word, head_named, is_quantifier};
 
 use crate::kind::Kind;
 use crate::term::Term;
@@ -65,6 +65,13 @@ impl Head {
             Head::Equal => b"=",
             Head::Less => b"<",
         }
+    }
+
+    /// Whether it is a quantifier's.
+    pub(crate) fn is_quantifier(self) -> bool
+        ensures { result ≡ is_quantifier self }
+    {
+        matches!(self, Head::ForEvery | Head::ForSome)
     }
 
     /// What the word begins.

@@ -7,6 +7,7 @@ mod faults;
 mod form;
 mod formula;
 mod kind;
+mod reading;
 mod row;
 mod scope;
 mod term;

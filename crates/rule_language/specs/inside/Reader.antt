@@ -1,22 +1,36 @@
 -- What the parts of the reader answer.
-use Rattle.std.specs.Prelude.{◌≡◌, ℕ, ◌<◌, ◌≤◌, ◌==◌, nat_le, if◌then◌else◌, IsTrue, List, [], ◌∷◌, ◌++◌, length, Result, Ok, Err, slice_index}
+use Rattle.std.specs.Prelude.{◌≡◌, ℕ, ◌<◌, ◌≤◌, ◌==◌, nat_le, Bool, true, false, Some, if◌then◌else◌, IsTrue, List, [], ◌∷◌, ◌++◌, length, map, string_bytes, Result, Ok, Err, slice_index}
 use Rattle.hall_text.specs.declared.spans.Span.{Span}
 use Rattle.hall_text.specs.Spans.{IsToken}
 use Rattle.rule_language.specs.declared.scope.Scope.{Scope as CodeScope, Empty, With'}
-use Rattle.rule_language.specs.declared.kind.Kind.{Kind}
+use Rattle.rule_language.specs.declared.kind.Sort.{Sort}
 use Rattle.rule_language.specs.declared.faults.RuleWhy.{RuleWhy}
 use Rattle.rule_language.specs.declared.faults.RuleWhy.TheVariants.{Token as BadByte, Shape}
 use Rattle.rule_language.specs.declared.faults.RuleFault.{RuleFault}
 use Rattle.rule_language.specs.declared.faults.RuleFault.TheVariants.{At, Memory}
 use Rattle.rule_language.specs.Scopes.{Scope}
-use Rattle.rule_language.specs.Spelling.{Token, IsGoodByte, piece, StandBefore}
-use Rattle.rule_language.specs.Wants.{Want, behind, begin}
-use Rattle.rule_language.specs.Reading.{IsFirstFault}
+use Rattle.rule_language.specs.declared.formula.Formula.{Formula}
+use Rattle.rule_language.specs.declared.formula.Rule.{Rule}
+use Rattle.rule_language.specs.Trees.{count_of}
+use Rattle.rule_language.specs.Forms.{tree_of}
+use Rattle.rule_language.specs.Lawful.{are_formulas, sort_of}
+use Rattle.rule_language.specs.Spelling.{Token, IsGoodByte, piece, StandBefore, tokens_then, left}
+use Rattle.rule_language.specs.Wants.{Want, behind, meets, then_want, is_end, Typed}
+use Rattle.rule_language.specs.Reading.{IsCause}
 
 -- the bindings of a scope
 abbrev pub bindings : CodeScope → Scope
 bindings Empty = []
 bindings (With' v kind p outer) = (v, kind) ∷ bindings outer
+
+-- the names of rules
+abbrev pub rule_names : List Rule → List Token
+rule_names rules = map (λ rule. string_bytes rule.name) rules
+
+-- whether there is a cause
+abbrev pub checked : {A : Type 0} → Result A RuleWhy → Result (Unit {0}) RuleWhy
+checked (Ok a) = Ok tt
+checked (Err cause) = Err cause
 
 -- what stands behind the tokens so far: a token, a bad byte or the text's end
 pub record IsNext (text : List ℕ) (token : Span) : Type 0 where
@@ -39,14 +53,43 @@ abbrev pub told : List ℕ → Span → RuleWhy → RuleWhy
 told text token cause =
     if token.start == length text then Shape else (if nat_le token.end token.start then BadByte else cause)
 
--- the text has its first fault at the place, if these wants are left where it is looked at
-abbrev pub Fails : List ℕ → ℕ → List Want → ℕ → RuleWhy → Type 0
-Fails text from wants at why =
-    (before : List Token) → StandBefore text from before → behind (Ok begin) before ≡ Ok wants → IsFirstFault text at why
+-- where these wants are left, the tokens from the place on can stand up to the fault
+pub record Fails (text : List ℕ) (from : ℕ) (wants : List Want) (at : ℕ) (why : RuleWhy) : Type 0 where
+  pub tokens : List Token
+  pub left : List Want
+  pub spell : Spell text from at tokens
+  pub there : tokens ≡ [] → at ≡ from
+  pub met : behind (Ok wants) tokens ≡ Ok left
+  pub cause : IsCause text at left why
 
 -- the same whatever other wants are left
 abbrev pub FailsAt : List ℕ → ℕ → (List Want → List Want) → ℕ → RuleWhy → Type 0
 FailsAt text from wants at why = (rest : List Want) → Fails text from (wants rest) at why
+
+-- the wants look at the next token alone, by this test
+pub record Asks {A : Type 0} (found : Token → Result A RuleWhy) (wants : List Want → List Want) : Type 0 where
+  pub after : List Want → A → List Want
+  pub met : (rest : List Want) (token : Token) → meets (wants rest) token ≡ then_want (found token) (after rest)
+  pub going : (rest : List Want) → is_end (wants rest) ≡ false
+
+-- the fault of a token that is looked at alone
+pub record IsRefused {A : Type 0} (text : List ℕ) (token : Span) (found : Result A RuleWhy) (at : ℕ) (why : RuleWhy) : Type 0 where
+  pub reason : RuleWhy
+  pub against : found ≡ Err reason
+  pub place : at ≡ token.start
+  pub is_told : why ≡ told text token reason
+
+-- the term has the sort, for which the test holds
+abbrev pub IsTyped : Scope → (Sort → Bool) → Typed → Type 0
+IsTyped scope test typed = (sort_of scope typed.0 ≡ Some typed.1) × (test typed.1 ≡ true)
+
+-- the formula was read behind its left parenthesis and its first word
+pub record IsInside (text : List ℕ) (old new : Span) (scope : Scope) (depth : ℕ) (word : Token) (formula : Formula) : Type 0 where
+  pub tokens : List Token
+  pub taken : Takes text old new tokens
+  pub spelt : tokens_then (tree_of formula) [] ≡ left ∷ word ∷ tokens
+  pub lawful : are_formulas scope depth (tree_of formula) ≡ true
+  pub one : count_of (tree_of formula) ≡ 1
 
 -- a fact of a fault's place and cause
 abbrev pub IfFault : {A : Type 0} → Result A RuleFault → (ℕ → RuleWhy → Type 0) → Type 0

@@ -1,0 +1,372 @@
+-- The tokens of formulas and rules meet what is wanted.
+use Rattle.std.proofs.Common.{◌≡◌, ◌≢◌, ◌⊎◌, inl, inr, ◌∙◌, ℕ, ◌+◌, ◌-◌, ◌*◌, ◌^◌, ◌<◌, ◌≤◌, zero, suc, Bool, true, false, ◌&&◌, List, [], ◌∷◌, ◌++◌, length, Option, Some, None, Result, Ok, Err, refl, ap, sym, subst, arith, rules, append_assoc}
+use Rattle.std.specs.Prelude.{if◌then◌else◌, nat_lt, nat_le, not, ◌==◌, ◌||◌, is_some, codes}
+use Rattle.std.specs.Str.{bytes_eq}
+use Rattle.std.specs.Fmt.{decimal}
+use Rattle.std.proofs.lemmas.Slice.Eq.{bytes_eq-Decides}
+use Rattle.std.proofs.lemmas.Bool.{ltb-true, lt-ltb, le-ltb, leb-true, leb-false, eqb-true}
+use Rattle.roster.specs.declared.post.Role.{Role}
+use Rattle.roster.specs.declared.post.Role.TheVariants as role
+use Rattle.roster.specs.RosterText.{role_word}
+use Rattle.rule_language.specs.declared.kind.Kind.{Kind}
+use Rattle.rule_language.specs.declared.kind.Kind.TheVariants as kind
+use Rattle.rule_language.specs.declared.kind.Field.{Field}
+use Rattle.rule_language.specs.declared.kind.Field.TheVariants as field
+use Rattle.rule_language.specs.declared.kind.Sort.{Sort}
+use Rattle.rule_language.specs.declared.kind.Sort.TheVariants as sort
+use Rattle.rule_language.specs.declared.term.Term.{Term}
+use Rattle.rule_language.specs.declared.term.Term.TheVariants.{Of, Number}
+use Rattle.rule_language.specs.declared.form.Head.{Head}
+use Rattle.rule_language.specs.declared.form.Head.TheVariants as begins
+use Rattle.rule_language.specs.declared.form.Form.{Form}
+use Rattle.rule_language.specs.declared.form.Form.TheVariants as form
+use Rattle.rule_language.specs.declared.faults.RuleWhy.{RuleWhy}
+use Rattle.rule_language.specs.declared.faults.RuleWhy.TheVariants.{Shape, UnknownKind, SameName, Unbound, WrongField, TooDeep}
+use Rattle.rule_language.specs.Kinds.{named, kind_word, kind_named, field_word, field_named, role_named, head_word, head_named, has_field, sort_of_field, is_quantifier, is_ordered, is_same_sort}
+use Rattle.rule_language.specs.Scopes.{Scope, kind_in, is_letter}
+use Rattle.rule_language.specs.Trees.{Trees, no_trees, tree_then, count_of, RuleTree}
+use Rattle.rule_language.specs.Lawful.{is_bound, can_bind, sort_of, field_sort, are_of_one_sort, has_order, is_closed, has_arity, is_shallow, scope_in, are_formulas, is_name, is_among, is_rule, follow, are_rules}
+use Rattle.rule_language.specs.Spelling.{Token, left, right, variable, term_word, form_words, spelt, tokens_then, rule_tokens, rules_tokens}
+use Rattle.rule_language.specs.Wants.{Want, Met, Typed, rules as more_rules, rule_word, rule_name, formula, head, new_variable, kind_of, before_or_body, more, a_variable, a_role, a_kind, first_term, second_term, close}
+use Rattle.rule_language.specs.Wants.{or_cause, then_want, letter_in, new_in, bound_in, kind_for, value_from, number_in, of_field, of_variable, dotted_in, number_or, term_in, whose_sort, may_begin, nested, head_for, behind_head, only, meets_only, meets_formula, name_in, meets_want, meets, behind, begin, is_end}
+use Rattle.rule_language.proofs.Numbers.{number-found}
+use Rattle.canonical_sexp.proofs.Decimal.{AreDigits, decimal_digits}
+use Rattle.rule_language.proofs.Found.{both_true, number_spelt}
+
+-- each word names what it is the word of
+pub kind_named_word : (k : Kind) → kind_for (kind_word k) ≡ Ok k
+kind_named_word kind.Any = refl
+kind_named_word kind.Opened = refl
+kind_named_word kind.Authorise = refl
+kind_named_word kind.Override = refl
+kind_named_word kind.Forced = refl
+kind_named_word kind.Closed = refl
+kind_named_word kind.Activate = refl
+kind_named_word kind.Commit = refl
+kind_named_word kind.Cast = refl
+kind_named_word kind.Cancel = refl
+kind_named_word kind.Challenge = refl
+
+field_named_word : (f : Field) → field_named (field_word f) ≡ Some f
+field_named_word field.Maker = refl
+field_named_word field.Booth = refl
+field_named_word field.Number = refl
+field_named_word field.Session = refl
+field_named_word field.Ballot = refl
+
+role_named_word : (r : Role) → or_cause Shape (role_named (role_word r)) ≡ Ok r
+role_named_word role.Supervisor = refl
+role_named_word role.Booth = refl
+
+pub head_named_word : (h : Head) → head_named (head_word h) ≡ Some h
+head_named_word begins.ForEvery = refl
+head_named_word begins.ForSome = refl
+head_named_word begins.And = refl
+head_named_word begins.Or = refl
+head_named_word begins.Not = refl
+head_named_word begins.Implies = refl
+head_named_word begins.Same = refl
+head_named_word begins.Before = refl
+head_named_word begins.Next = refl
+head_named_word begins.Is = refl
+head_named_word begins.OfKind = refl
+head_named_word begins.Equal = refl
+head_named_word begins.Less = refl
+
+not_true : (b : Bool) → not b ≡ true → b ≡ false
+not_true true e = absurd (cc)
+not_true false e = refl
+
+-- the wants behind a token that is good there
+pub variable_passes : (scope : Scope) (v : ℕ) (rest : List Want) → is_bound scope v ≡ true
+    → meets (a_variable scope ∷ rest) (variable v) ≡ Ok rest
+variable_passes scope v rest bound =
+    let b = both_true (is_letter v) (is_some (kind_in scope v)) bound in
+    rw b.0 (rw b.1 refl)
+
+pub new_passes : (scope : Scope) (depth v : ℕ) (rest : List Want) → can_bind scope v ≡ true
+    → meets (new_variable scope depth ∷ rest) (variable v) ≡ Ok (kind_of v scope depth ∷ rest)
+new_passes scope depth v rest can =
+    let b = both_true (is_letter v) (not (is_some (kind_in scope v)) && nat_lt (length scope) 4) can in
+    let d = both_true (not (is_some (kind_in scope v))) (nat_lt (length scope) 4) b.1 in
+    rw b.0 (rw (not_true (is_some (kind_in scope v)) d.0) refl)
+
+pub kind_of_passes : (scope : Scope) (depth v : ℕ) (k : Kind) (rest : List Want)
+    → meets (kind_of v scope depth ∷ rest) (kind_word k) ≡ Ok (before_or_body v k scope depth ∷ rest)
+kind_of_passes scope depth v k rest = rw (kind_named_word k) refl
+
+pub kind_passes : (k : Kind) (rest : List Want) → meets (a_kind ∷ rest) (kind_word k) ≡ Ok rest
+kind_passes k rest = rw (kind_named_word k) refl
+
+pub role_passes : (r : Role) (rest : List Want) → meets (a_role ∷ rest) (role_word r) ≡ Ok rest
+role_passes r rest = rw (role_named_word r) refl
+
+abbrev typed_of : Typed → Result Typed RuleWhy
+typed_of typed = Ok typed
+
+-- a term that has a sort is found
+field_is : (v : ℕ) (o : Option Kind) (f : Field) (s : Sort) → field_sort o f ≡ Some s → of_variable v o (field_word f) ≡ Ok (Of v f, s)
+field_is v None f s e = absurd (cc)
+field_is v (Some k) f s e = rw (field_named_word f) (has (has_field k f) e)
+  where
+    has : (b : Bool) → (if b then Some (sort_of_field f) else None) ≡ Some s
+        → (if b then Ok (Of v f, sort_of_field f) else Err WrongField) ≡ typed_of (Of v f, s)
+    has true e = let same : sort_of_field f ≡ s = cc in rw same refl
+    has false e = absurd (cc)
+
+-- no number begins with a letter
+no_number : (v : ℕ) (word : Token) → is_letter v ≡ true → number_in (v ∷ word) ≡ None
+no_number v word letter = cases (number_in (v ∷ word)) refl
+  where
+    digits : (n : ℕ) → n < 2 ^ 32 → v ∷ word ≡ decimal n → AreDigits (v ∷ word)
+    digits n small is = subst AreDigits (sym is) (decimal_digits n (omega arith))
+    cases : (o : Option ℕ) → number_in (v ∷ word) ≡ o → o ≡ None
+    cases None is = refl
+    cases (Some n) is =
+        let b = both_true (nat_le 97 v) (nat_le v 122) letter in
+        let low : 97 ≤ v = leb-true 97 v b.0 in
+        let spelt = number_spelt (v ∷ word) n is in
+        let d = digits n spelt.1 spelt.0 in
+        absurd (omega (arith, d.0, d.1))
+
+pub term_is : (scope : Scope) (t : Term) (s : Sort) → sort_of scope t ≡ Some s → term_in scope (term_word t) ≡ Ok (t, s)
+term_is scope (Number n) s e = number (nat_lt n (2 ^ 32)) refl e
+  where
+    number : (b : Bool) → nat_lt n (2 ^ 32) ≡ b → (if b then Some sort.Count else None) ≡ Some s
+        → term_in scope (decimal n) ≡ Ok (Number n, s)
+    number true is e =
+        let same : sort.Count ≡ s = cc in
+        rw (number-found (decimal n) n (ltb-true n (2 ^ 32) is) refl) (rw same refl)
+    number false is e = absurd (cc)
+term_is scope (Of v f) s e = letter (is_letter v) refl e
+  where
+    letter : (b : Bool) → is_letter v ≡ b → (if b then field_sort (kind_in scope v) f else None) ≡ Some s
+        → term_in scope (v ∷ 46 ∷ field_word f) ≡ Ok (Of v f, s)
+    letter true is e = rw (no_number v (46 ∷ field_word f) is) (rw is (field_is v (kind_in scope v) f s e))
+    letter false is e = absurd (cc)
+
+-- a formula may begin
+pub open_passes : (scope : Scope) (depth : ℕ) (rest : List Want) → nat_lt depth 32 ≡ true
+    → meets (formula scope depth ∷ rest) left ≡ Ok (head scope (depth + 1) ∷ rest)
+open_passes scope depth rest shallow =
+    let lt : depth < 32 = ltb-true depth 32 shallow in
+    rw (le-ltb 31 depth (omega arith)) refl
+
+pub head_passes : (scope : Scope) (depth : ℕ) (h : Head) (rest : List Want) → nested scope (Some h) ≡ Ok h
+    → meets (head scope depth ∷ rest) (head_word h) ≡ Ok (behind_head scope depth rest h)
+head_passes scope depth h rest good = rw (head_named_word h) (rw good refl)
+
+-- one token more
+pub step : (wants next : List Want) (token : Token) (tokens : List Token) → meets wants token ≡ Ok next
+    → behind (Ok wants) (token ∷ tokens) ≡ behind (Ok next) tokens
+step wants next token tokens e = ap (λ met. behind met tokens) e
+
+-- what a form is spelt as: `true`, or in parentheses
+abbrev pub IsEnclosed : Form → Type 0
+IsEnclosed f = (inside after : List Token) → spelt f inside after ≡ left ∷ (form_words f ++ (inside ++ right ∷ after))
+
+pub spelt_cases : (f : Form) → (f ≡ form.True) ⊎ (IsEnclosed f × ((depth : ℕ) → is_shallow depth f ≡ nat_lt depth 32))
+spelt_cases form.True = inl refl
+spelt_cases (form.ForEvery v k) = inr (λ x y. refl, λ d. refl)
+spelt_cases (form.ForSome v k) = inr (λ x y. refl, λ d. refl)
+spelt_cases (form.EveryBefore v k u) = inr (λ x y. refl, λ d. refl)
+spelt_cases (form.SomeBefore v k u) = inr (λ x y. refl, λ d. refl)
+spelt_cases form.And = inr (λ x y. refl, λ d. refl)
+spelt_cases form.Or = inr (λ x y. refl, λ d. refl)
+spelt_cases form.Not = inr (λ x y. refl, λ d. refl)
+spelt_cases form.Implies = inr (λ x y. refl, λ d. refl)
+spelt_cases (form.Same v u) = inr (λ x y. refl, λ d. refl)
+spelt_cases (form.Before v u) = inr (λ x y. refl, λ d. refl)
+spelt_cases (form.Next v u) = inr (λ x y. refl, λ d. refl)
+spelt_cases (form.Is v r) = inr (λ x y. refl, λ d. refl)
+spelt_cases (form.OfKind v k) = inr (λ x y. refl, λ d. refl)
+spelt_cases (form.Equal t u) = inr (λ x y. refl, λ d. refl)
+spelt_cases (form.Less t u) = inr (λ x y. refl, λ d. refl)
+
+spelt_append : (f : Form) (inside a b : List Token) → spelt f inside (a ++ b) ≡ spelt f inside a ++ b
+spelt_append f inside a b =
+    elim (spelt_cases f) [
+      | inl is ↦ rw is refl
+      | inr other ↦
+          other.0 inside (a ++ b)
+          ∙ ap (λ ts. left ∷ (form_words f ++ ts)) (sym (append_assoc inside (right ∷ a) b))
+          ∙ ap (λ ts. left ∷ ts) (sym (append_assoc (form_words f) (inside ++ right ∷ a) b))
+          ∙ sym (ap (λ ts. ts ++ b) (other.0 inside a))
+    ]
+
+pub tokens_append : (trees : Trees) (a b : List Token) → tokens_then trees (a ++ b) ≡ tokens_then trees a ++ b
+tokens_append no_trees a b = refl
+tokens_append (tree_then f parts rest) a b =
+    ap (λ ts. spelt f (tokens_then parts []) ts) (tokens_append rest a b)
+    ∙ spelt_append f (tokens_then parts []) (tokens_then rest a) b
+
+-- the formulas of a row are wanted one after another
+abbrev pub wants_for : Trees → Scope → ℕ → List Want → List Want
+wants_for no_trees scope depth rest = rest
+wants_for (tree_then f parts trees) scope depth rest = formula scope depth ∷ wants_for trees scope depth rest
+
+pub one_wanted : (trees : Trees) (scope : Scope) (depth : ℕ) (rest : List Want) → count_of trees ≡ 1
+    → wants_for trees scope depth rest ≡ formula scope depth ∷ rest
+one_wanted no_trees scope depth rest e = absurd (omega arith)
+one_wanted (tree_then f parts no_trees) scope depth rest e = refl
+one_wanted (tree_then f parts (tree_then g inner trees)) scope depth rest e = absurd (omega arith)
+
+pub two_wanted : (trees : Trees) (scope : Scope) (depth : ℕ) (rest : List Want) → count_of trees ≡ 2
+    → wants_for trees scope depth rest ≡ formula scope depth ∷ formula scope depth ∷ rest
+two_wanted no_trees scope depth rest e = absurd (omega arith)
+two_wanted (tree_then f parts trees) scope depth rest e =
+    ap (λ wants. formula scope depth ∷ wants) (one_wanted trees scope depth rest (omega arith))
+
+-- a formula may stand where another token might
+pub body_wanted : (f : Form) (inside after : List Token) (v : ℕ) (k : Kind) (scope : Scope) (depth : ℕ) (rest : List Want)
+    → behind (Ok (before_or_body v k scope depth ∷ rest)) (spelt f inside after)
+    ≡ behind (Ok (formula ((v, k) ∷ scope) depth ∷ close ∷ rest)) (spelt f inside after)
+body_wanted f inside after v k scope depth rest =
+    elim (spelt_cases f) [
+      | inl is ↦ rw is refl
+      | inr other ↦ rw (other.0 inside after) refl
+    ]
+
+pub more_wanted : (f : Form) (inside after : List Token) (n : ℕ) (scope : Scope) (depth : ℕ) (rest : List Want) → (n == 0) ≡ false
+    → behind (Ok (more n scope depth ∷ rest)) (spelt f inside after)
+    ≡ behind (Ok (formula scope depth ∷ more (n - 1) scope depth ∷ rest)) (spelt f inside after)
+more_wanted f inside after n scope depth rest some =
+    elim (spelt_cases f) [
+      | inl is ↦ rw is (ap (λ met. behind met after) (otherwise (n == 0) (Ok (more (n - 1) scope depth ∷ rest)) some))
+      | inr other ↦
+          rw (other.0 inside after)
+          (ap (λ met. behind met (form_words f ++ (inside ++ right ∷ after)))
+          (otherwise (n == 0) (meets_formula scope depth (more (n - 1) scope depth ∷ rest) left) some))
+    ]
+  where
+    otherwise : (b : Bool) (met : Met) → b ≡ false → (if b then Err Shape else met) ≡ met
+    otherwise true met e = absurd (cc)
+    otherwise false met e = refl
+
+-- what is shown of a row: each of its formulas passes where it is wanted
+abbrev pub RowPasses : Trees → Type 0
+RowPasses trees =
+    (scope : Scope) (depth : ℕ) (rest : List Want) (after : List Token) → are_formulas scope depth trees ≡ true
+    → behind (Ok (wants_for trees scope depth rest)) (tokens_then trees after) ≡ behind (Ok rest) after
+
+-- and so do they as further formulas of an `and` or an `or`
+abbrev pub MembersPass : Trees → Type 0
+MembersPass trees =
+    (n : ℕ) (scope : Scope) (depth : ℕ) (rest : List Want) (after : List Token) → count_of trees ≤ n
+    → are_formulas scope depth trees ≡ true
+    → behind (Ok (more n scope depth ∷ rest)) (tokens_then trees (right ∷ after)) ≡ behind (Ok rest) after
+
+-- the parenthesis and the first word
+pub begin_passes : (scope : Scope) (depth : ℕ) (h : Head) (rest : List Want) (tokens : List Token) → nat_lt depth 32 ≡ true
+    → nested scope (Some h) ≡ Ok h
+    → behind (Ok (formula scope depth ∷ rest)) (left ∷ head_word h ∷ tokens)
+    ≡ behind (Ok (behind_head scope (depth + 1) rest h)) tokens
+begin_passes scope depth h rest tokens shallow good =
+    step (formula scope depth ∷ rest) (head scope (depth + 1) ∷ rest) left (head_word h ∷ tokens) (open_passes scope depth rest shallow)
+    ∙ step (head scope (depth + 1) ∷ rest) (behind_head scope (depth + 1) rest h) (head_word h) tokens
+    (head_passes scope (depth + 1) h rest good)
+
+-- a quantifier may begin where a variable may be bound
+pub quantifier_begins : (scope : Scope) (v : ℕ) (h : Head) → can_bind scope v ≡ true → nested scope (Some h) ≡ Ok h
+quantifier_begins scope v h can =
+    let b = both_true (is_letter v) (not (is_some (kind_in scope v)) && nat_lt (length scope) 4) can in
+    let d = both_true (not (is_some (kind_in scope v))) (nat_lt (length scope) 4) b.1 in
+    let lt : length scope < 4 = ltb-true (length scope) 4 d.1 in
+    let few : nat_le 4 (length scope) ≡ false = le-ltb 3 (length scope) (omega arith) in
+    test (is_quantifier h) (nat_le 4 (length scope)) few
+  where
+    test : (a b : Bool) → b ≡ false → (if a && b then Err TooDeep else Ok h) ≡ Ok h
+    test a true e = absurd (cc)
+    test true false e = refl
+    test false false e = refl
+
+-- one formula, and the parenthesis behind it
+pub one_passes : (parts : Trees) (scope : Scope) (depth : ℕ) (rest : List Want) (after : List Token) → RowPasses parts
+    → count_of parts ≡ 1 → are_formulas scope depth parts ≡ true
+    → behind (Ok (formula scope depth ∷ close ∷ rest)) (tokens_then parts (right ∷ after)) ≡ behind (Ok rest) after
+one_passes parts scope depth rest after row one good =
+    ap (λ wants. behind (Ok wants) (tokens_then parts (right ∷ after))) (sym (one_wanted parts scope depth (close ∷ rest) one))
+    ∙ row scope depth (close ∷ rest) (right ∷ after) good
+
+pub two_pass : (parts : Trees) (scope : Scope) (depth : ℕ) (rest : List Want) (after : List Token) → RowPasses parts
+    → count_of parts ≡ 2 → are_formulas scope depth parts ≡ true
+    → behind (Ok (formula scope depth ∷ formula scope depth ∷ close ∷ rest)) (tokens_then parts (right ∷ after)) ≡ behind (Ok rest) after
+two_pass parts scope depth rest after row two good =
+    ap (λ wants. behind (Ok wants) (tokens_then parts (right ∷ after))) (sym (two_wanted parts scope depth (close ∷ rest) two))
+    ∙ row scope depth (close ∷ rest) (right ∷ after) good
+
+pub body_row : (parts : Trees) (after : List Token) (v : ℕ) (k : Kind) (scope : Scope) (depth : ℕ) (rest : List Want) → count_of parts ≡ 1
+    → behind (Ok (before_or_body v k scope depth ∷ rest)) (tokens_then parts after)
+    ≡ behind (Ok (formula ((v, k) ∷ scope) depth ∷ close ∷ rest)) (tokens_then parts after)
+body_row no_trees after v k scope depth rest e = absurd (omega arith)
+body_row (tree_then f parts trees) after v k scope depth rest e =
+    body_wanted f (tokens_then parts []) (tokens_then trees after) v k scope depth rest
+
+-- the variable and the kind of a quantifier
+pub quantified : (scope : Scope) (depth v : ℕ) (k : Kind) (rest : List Want) (tokens : List Token) → can_bind scope v ≡ true
+    → behind (Ok (new_variable scope depth ∷ rest)) (variable v ∷ kind_word k ∷ tokens)
+    ≡ behind (Ok (before_or_body v k scope depth ∷ rest)) tokens
+quantified scope depth v k rest tokens can =
+    step (new_variable scope depth ∷ rest) (kind_of v scope depth ∷ rest) (variable v) (kind_word k ∷ tokens)
+    (new_passes scope depth v rest can)
+    ∙ step (kind_of v scope depth ∷ rest) (before_or_body v k scope depth ∷ rest) (kind_word k) tokens
+    (kind_of_passes scope depth v k rest)
+
+-- two variables
+pub pair_passes : (scope : Scope) (v u : ℕ) (rest : List Want) (after : List Token) → (is_bound scope v && is_bound scope u) ≡ true
+    → behind (Ok (a_variable scope ∷ a_variable scope ∷ close ∷ rest)) (variable v ∷ variable u ∷ right ∷ after) ≡ behind (Ok rest) after
+pair_passes scope v u rest after bound =
+    let b = both_true (is_bound scope v) (is_bound scope u) bound in
+    step (a_variable scope ∷ a_variable scope ∷ close ∷ rest) (a_variable scope ∷ close ∷ rest) (variable v) (variable u ∷ right ∷ after)
+    (variable_passes scope v (a_variable scope ∷ close ∷ rest) b.0)
+    ∙ step (a_variable scope ∷ close ∷ rest) (close ∷ rest) (variable u) (right ∷ after)
+    (variable_passes scope u (close ∷ rest) b.1)
+
+-- two terms
+pub first_passes : (scope : Scope) (ordered : Bool) (t : Term) (s : Sort) (rest : List Want) → sort_of scope t ≡ Some s
+    → may_begin ordered s ≡ true → meets (first_term ordered scope ∷ rest) (term_word t) ≡ Ok (second_term s scope ∷ rest)
+first_passes scope ordered t s rest sorted may =
+    ap (λ r. then_want (whose_sort (may_begin ordered) r) (λ term. second_term term.1 scope ∷ rest)) (term_is scope t s sorted)
+    ∙ ap (λ r. then_want r (λ term. second_term term.1 scope ∷ rest)) (test (may_begin ordered s) may)
+  where
+    test : (b : Bool) → b ≡ true → (if b then typed_of (t, s) else Err WrongField) ≡ typed_of (t, s)
+    test true e = refl
+    test false e = absurd (cc)
+
+pub second_passes : (scope : Scope) (wanted : Sort) (u : Term) (s : Sort) (rest : List Want) → sort_of scope u ≡ Some s
+    → is_same_sort wanted s ≡ true → meets (second_term wanted scope ∷ rest) (term_word u) ≡ Ok rest
+second_passes scope wanted u s rest sorted same =
+    ap (λ r. then_want (whose_sort (is_same_sort wanted) r) (λ term. rest)) (term_is scope u s sorted)
+    ∙ ap (λ r. then_want r (λ term. rest)) (test (is_same_sort wanted s) same)
+  where
+    test : (b : Bool) → b ≡ true → (if b then typed_of (u, s) else Err WrongField) ≡ typed_of (u, s)
+    test true e = refl
+    test false e = absurd (cc)
+
+pub terms_pass : (scope : Scope) (ordered : Bool) (t u : Term) (rest : List Want) (after : List Token)
+    → are_of_one_sort (sort_of scope t) (sort_of scope u) ≡ true → ((s : Sort) → sort_of scope t ≡ Some s → may_begin ordered s ≡ true)
+    → behind (Ok (first_term ordered scope ∷ close ∷ rest)) (term_word t ∷ term_word u ∷ right ∷ after) ≡ behind (Ok rest) after
+terms_pass scope ordered t u rest after same may = sorts (sort_of scope t) (sort_of scope u) refl refl same
+  where
+    sorts : (a b : Option Sort) → sort_of scope t ≡ a → sort_of scope u ≡ b → are_of_one_sort a b ≡ true
+        → behind (Ok (first_term ordered scope ∷ close ∷ rest)) (term_word t ∷ term_word u ∷ right ∷ after) ≡ behind (Ok rest) after
+    sorts None b ta ub one = absurd (cc)
+    sorts (Some s) None ta ub one = absurd (cc)
+    sorts (Some s) (Some o) ta ub one =
+        step (first_term ordered scope ∷ close ∷ rest) (second_term s scope ∷ close ∷ rest) (term_word t) (term_word u ∷ right ∷ after)
+        (first_passes scope ordered t s (close ∷ rest) ta (may s ta))
+        ∙ step (second_term s scope ∷ close ∷ rest) (close ∷ rest) (term_word u) (right ∷ after)
+        (second_passes scope s u o (close ∷ rest) ub one)
+
+pub order_begins : (scope : Scope) (t : Term) → has_order (sort_of scope t) ≡ true → (s : Sort) → sort_of scope t ≡ Some s → is_ordered s ≡ true
+order_begins scope t has s is = rw is at has
+
+-- the formulas of an `and` or an `or`
+pub several_pass : (parts : Trees) (scope : Scope) (depth : ℕ) (rest : List Want) (after : List Token) → MembersPass parts
+    → (nat_lt 0 (count_of parts) && nat_le (count_of parts) 64) ≡ true → are_formulas scope depth parts ≡ true
+    → behind (Ok (formula scope depth ∷ more 63 scope depth ∷ rest)) (tokens_then parts (right ∷ after)) ≡ behind (Ok rest) after
+several_pass no_trees scope depth rest after members arity good = absurd (cc)
+several_pass (tree_then f parts trees) scope depth rest after members arity good =
+    let b = both_true (nat_lt 0 (count_of trees + 1)) (nat_le (count_of trees + 1) 64) arity in
+    sym (more_wanted f (tokens_then parts []) (tokens_then trees (right ∷ after)) 64 scope depth rest refl)
+    ∙ members 64 scope depth rest after (leb-true (count_of trees + 1) 64 b.1) good
