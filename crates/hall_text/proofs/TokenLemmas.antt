@@ -19,7 +19,7 @@ module _ (text : List ℕ) where
   some_bytes s token = ⊎_elim (λ (w : IsWord text s). (w.some, w.inside)) (λ (a : IsAlone text s). (omega (arith, a.one), a.inside)) token
 
   -- two tokens that begin at one place are one
-  same_end : (s : Span) (start end : ℕ) → IsToken text s → s.start ≡ start → IsToken text (record { start = start; end = end }) → record { start = start; end = end } ≡ s
+  pub same_end : (s : Span) (start end : ℕ) → IsToken text s → s.start ≡ start → IsToken text (record { start = start; end = end }) → record { start = start; end = end } ≡ s
   same_end s start end token begins other =
       let new : Span = record { start = start; end = end } in
       let ends : end ≡ s.end =

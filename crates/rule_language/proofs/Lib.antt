@@ -4,3 +4,7 @@ pub mod Refusals
 pub mod Found
 pub mod Passing
 pub mod Passes
+pub mod Steps
+pub mod Read
+pub mod Views
+pub mod Binders

@@ -1,6 +1,6 @@
 -- What is refused at a place, and how a fault behind some tokens is one before them.
 use Rattle.std.proofs.Common.{◌≡◌, ◌≢◌, ◌⊎◌, inl, inr, ◌∙◌, ℕ, ◌<◌, ◌≤◌, Bool, true, false, cond, List, [], ◌∷◌, ◌++◌, length, get_or, Result, Ok, Err, refl, sym, ap, subst, arith, append_assoc, append-nil}
-use Rattle.std.specs.Prelude.{if◌then◌else◌, nat_le, ◌==◌, IfOk}
+use Rattle.std.specs.Prelude.{if◌then◌else◌, nat_le, ◌==◌, IfOk, IsErrAnd}
 use Rattle.std.proofs.lemmas.Bool.{leb-true, leb-false, eqb-true, eqb-false}
 use Rattle.hall_text.specs.declared.spans.Span.{Span}
 use Rattle.hall_text.specs.Spans.{IsToken}
@@ -106,15 +106,105 @@ behind_more wants left (token ∷ tokens) second e =
         let other : Met = Err reason in
         let no : other ≡ Ok left = sym (stuck reason tokens) ∙ (rw is at e) in absurd (cc)
 
--- a fault behind tokens that can stand
-pub fails_behind : (text : List ℕ) (a b : ℕ) (wants left : List Want) (first : Token) (tokens : List Token) (at : ℕ) (why : RuleWhy)
-    → Spell text a b (first ∷ tokens) → behind (Ok wants) (first ∷ tokens) ≡ Ok left → Fails text b left at why
-    → Fails text a wants at why
-fails_behind text a b wants left first tokens at why to met fails = record {
-  tokens = (first ∷ tokens) ++ fails.tokens;
-  left = fails.left;
-  spell = spell_more text a b at (first ∷ tokens) fails.tokens to fails.spell;
-  there = λ none. absurd (cc);
-  met = behind_more wants left (first ∷ tokens) fails.tokens met ∙ fails.met;
-  cause = fails.cause;
+-- tokens were passed that meet the wants, and others are left
+pub record Passed (text : List ℕ) (from to : ℕ) (tokens : List Token) (wants next : List Want → List Want) : Type 0 where
+  pub spell : Spell text from to tokens
+  pub some : tokens ≢ []
+  pub met : (rest : List Want) → behind (Ok (wants rest)) tokens ≡ Ok (next rest)
+
+append_none : (xs ys : List Token) → xs ++ ys ≡ [] → xs ≡ []
+append_none [] ys e = refl
+append_none (x ∷ xs) ys e = absurd (cc)
+
+-- a fault behind tokens that were passed
+pub fails_behind : (text : List ℕ) (a b : ℕ) (tokens : List Token) (wants next : List Want → List Want) (at : ℕ) (why : RuleWhy)
+    → Passed text a b tokens wants next → FailsAt text b next at why → FailsAt text a wants at why
+fails_behind text a b tokens wants next at why passed fails rest =
+    let f = fails rest in
+    record {
+      tokens = tokens ++ f.tokens;
+      left = f.left;
+      spell = spell_more text a b at tokens f.tokens passed.spell f.spell;
+      there = λ none. absurd (passed.some (append_none tokens f.tokens none));
+      met = behind_more (wants rest) (next rest) tokens f.tokens (passed.met rest) ∙ f.met;
+      cause = f.cause;
+    }
+
+-- tokens one behind another
+pub passed_more : (text : List ℕ) (a b c : ℕ) (first second : List Token) (wants between next : List Want → List Want)
+    → Passed text a b first wants between → Passed text b c second between next → Passed text a c (first ++ second) wants next
+passed_more text a b c first second wants between next one two = record {
+  spell = spell_more text a b c first second one.spell two.spell;
+  some = λ none. one.some (append_none first second none);
+  met = λ rest. behind_more (wants rest) (between rest) first second (one.met rest) ∙ two.met rest;
 }
+
+-- one token was passed
+pub one_passed : (text : List ℕ) (old new : Span) (token : Token) (wants next : List Want → List Want) → Takes text old new (token ∷ [])
+    → ((rest : List Want) → meets (wants rest) token ≡ Ok (next rest)) → Passed text old.start new.start (token ∷ []) wants next
+one_passed text old new token wants next takes met = record {
+  spell = takes.0;
+  some = λ none. absurd (cc);
+  met = met;
+}
+
+abbrev failed : {A : Type 0} → Result A RuleFault → Result A RuleFault
+failed r = r
+
+err_same : {A : Type 0} (x y : RuleFault) → failed {A = A} (Err x) ≡ Err y → x ≡ y
+err_same x y h = cc
+
+at_same : (at place : ℕ) (why cause : RuleWhy) → At at why ≡ At place cause → at ≡ place
+at_same at place why cause e = cc
+
+why_same : (at place : ℕ) (why cause : RuleWhy) → At at why ≡ At place cause → why ≡ cause
+why_same at place why cause e = cc
+
+-- the exit of a call that failed behind tokens that were passed
+pub exit_behind : {A B : Type 0} (inner : Result A RuleFault) (fault : RuleFault) (outer : Result B RuleFault) (text : List ℕ) (a b : ℕ)
+    (tokens : List Token) (wants base further : List Want → List Want) → inner ≡ Err fault → IsErrAnd outer (λ e. e ≡ fault)
+    → Passed text a b tokens wants (λ rest. base (further rest)) → IfFault inner (FailsAt text b base) → IfFault outer (FailsAt text a wants)
+exit_behind (Ok x) fault outer text a b tokens wants base further is same passed fact = absurd (cc)
+exit_behind (Err f) fault (Ok y) text a b tokens wants base further is same passed fact = absurd same
+exit_behind (Err (At at why)) fault (Err (At place cause)) text a b tokens wants base further is same passed fact =
+    let one : At at why ≡ At place cause = err_same (At at why) fault is ∙ sym same in
+    let here : FailsAt text a wants at why =
+    fails_behind text a b tokens wants (λ rest. base (further rest)) at why passed (λ rest. fact (further rest)) in
+    rw (← at_same at place why cause one) (rw (← why_same at place why cause one) here)
+exit_behind (Err Memory) fault (Err (At place cause)) text a b tokens wants base further is same passed fact =
+    let one : Memory ≡ At place cause = err_same Memory fault is ∙ sym same in absurd (cc)
+exit_behind (Err f) fault (Err Memory) text a b tokens wants base further is same passed fact = tt
+
+-- the same of the first call
+pub exit_first : {A B : Type 0} (inner : Result A RuleFault) (fault : RuleFault) (outer : Result B RuleFault) (text : List ℕ) (a : ℕ)
+    (base further : List Want → List Want) → inner ≡ Err fault → IsErrAnd outer (λ e. e ≡ fault)
+    → IfFault inner (FailsAt text a base) → IfFault outer (FailsAt text a (λ rest. base (further rest)))
+exit_first (Ok x) fault outer text a base further is same fact = absurd (cc)
+exit_first (Err f) fault (Ok y) text a base further is same fact = absurd same
+exit_first (Err (At at why)) fault (Err (At place cause)) text a base further is same fact =
+    let one : At at why ≡ At place cause = err_same (At at why) fault is ∙ sym same in
+    let here : FailsAt text a (λ rest. base (further rest)) at why = λ rest. fact (further rest) in
+    rw (← at_same at place why cause one) (rw (← why_same at place why cause one) here)
+exit_first (Err Memory) fault (Err (At place cause)) text a base further is same fact =
+    let one : Memory ≡ At place cause = err_same Memory fault is ∙ sym same in absurd (cc)
+exit_first (Err f) fault (Err Memory) text a base further is same fact = tt
+
+-- a fault of other wants that are met by the same tokens, and by the next one alike
+pub transfer : (text : List ℕ) (token : Span) (wants other : List Want → List Want) (at : ℕ) (why : RuleWhy) → IsNext text token
+    → ((rest : List Want) → meets (other rest) (piece text token) ≡ meets (wants rest) (piece text token))
+    → ((rest : List Want) (t : Token) (next : List Want) → meets (other rest) t ≡ Ok next → meets (wants rest) t ≡ Ok next)
+    → ((rest : List Want) → is_end (wants rest) ≡ false)
+    → FailsAt text token.start other at why → FailsAt text token.start wants at why
+transfer text token wants other at why next here agree going fails rest = by (fails rest).tokens refl
+  where
+    f : Fails text token.start (other rest) at why
+    f = fails rest
+    ok_wants : (x y : List Want) → Ok {E = RuleWhy} x ≡ Ok y → x ≡ y
+    ok_wants x y e = cc
+    caused : (place : ℕ) (left : List Want) → place ≡ token.start → left ≡ other rest → IsCause text place left why → IsCause text token.start (wants rest) why
+    caused place left is same (inl bad) = inl ?
+    caused place left is same (inr (inl stands)) = inr (inl ?)
+    caused place left is same (inr (inr ended)) = inr (inr ?)
+    by : (ts : List Token) → f.tokens ≡ ts → Fails text token.start (wants rest) at why
+    by [] is = ?
+    by (t ∷ ts) is = ?

@@ -3,9 +3,12 @@
 //! and refused by place and cause, and the standard rules.
 #![tactic(auto)]
 
+mod atoms;
+mod binder;
 mod faults;
 mod form;
 mod formula;
+mod formulas;
 mod kind;
 mod reading;
 mod row;

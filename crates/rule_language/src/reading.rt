@@ -70,7 +70,7 @@ pub(crate) fn read_only(text: &[u8], token: &mut Span, wanted: &[u8]) -> Result<
 }
 
 /// Takes the word of a formula's head.
-fn read_head(text: &[u8], token: &mut Span, scope: &Scope<'_>) -> Result<Head, RuleFault>
+pub(crate) fn read_head(text: &[u8], token: &mut Span, scope: &Scope<'_>) -> Result<Head, RuleFault>
     requires { IsNext text.now token.old }
     ensures ok { IfOk result (λ begun. Takes text.now token.old token.new (head_word begun ∷ [])
         × (nested (bindings scope.now) (Some begun) ≡ Ok begun)) }
@@ -82,7 +82,7 @@ fn read_head(text: &[u8], token: &mut Span, scope: &Scope<'_>) -> Result<Head, R
 }
 
 /// Takes the variable that a quantifier binds.
-fn read_new_variable(text: &[u8], token: &mut Span, scope: &Scope<'_>) -> Result<u8, RuleFault>
+pub(crate) fn read_new_variable(text: &[u8], token: &mut Span, scope: &Scope<'_>) -> Result<u8, RuleFault>
     requires { IsNext text.now token.old }
     ensures ok { IfOk result (λ v. Takes text.now token.old token.new (variable v ∷ [])
         × (new_in (bindings scope.now) (letter_in (variable v)) ≡ Ok v)) }
@@ -94,7 +94,7 @@ fn read_new_variable(text: &[u8], token: &mut Span, scope: &Scope<'_>) -> Result
 }
 
 /// Takes a variable that is bound.
-fn read_variable(text: &[u8], token: &mut Span, scope: &Scope<'_>) -> Result<u8, RuleFault>
+pub(crate) fn read_variable(text: &[u8], token: &mut Span, scope: &Scope<'_>) -> Result<u8, RuleFault>
     requires { IsNext text.now token.old }
     ensures ok { IfOk result (λ v. Takes text.now token.old token.new (variable v ∷ [])
         × (is_bound (bindings scope.now) v ≡ true)) }
@@ -106,7 +106,7 @@ fn read_variable(text: &[u8], token: &mut Span, scope: &Scope<'_>) -> Result<u8,
 }
 
 /// Takes a kind.
-fn read_kind(text: &[u8], token: &mut Span) -> Result<Kind, RuleFault>
+pub(crate) fn read_kind(text: &[u8], token: &mut Span) -> Result<Kind, RuleFault>
     requires { IsNext text.now token.old }
     ensures ok { IfOk result (λ kind. Takes text.now token.old token.new (kind_word kind ∷ []) × Unit {0}) }
     ensures err { (wants : List Want → List Want) → Asks kind_for wants →
@@ -117,7 +117,7 @@ fn read_kind(text: &[u8], token: &mut Span) -> Result<Kind, RuleFault>
 }
 
 /// Takes a role.
-fn read_role(text: &[u8], token: &mut Span) -> Result<Role, RuleFault>
+pub(crate) fn read_role(text: &[u8], token: &mut Span) -> Result<Role, RuleFault>
     requires { IsNext text.now token.old }
     ensures ok { IfOk result (λ role. Takes text.now token.old token.new (role_word role ∷ []) × Unit {0}) }
     ensures err { IfFault result (FailsAt text.now token.old.start (λ rest. a_role ∷ rest)) }
@@ -127,7 +127,7 @@ fn read_role(text: &[u8], token: &mut Span) -> Result<Role, RuleFault>
 }
 
 /// Takes a first term, which has to have an order where one is asked for.
-fn read_first(
+pub(crate) fn read_first(
     text: &[u8],
     token: &mut Span,
     scope: &Scope<'_>,
@@ -144,7 +144,7 @@ fn read_first(
 }
 
 /// Takes a second term, which has to have the sort of the first.
-fn read_second(
+pub(crate) fn read_second(
     text: &[u8],
     token: &mut Span,
     scope: &Scope<'_>,

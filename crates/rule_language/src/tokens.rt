@@ -43,6 +43,14 @@ pub(crate) fn word_of<'a>(text: &'a [u8], token: Span) -> &'a [u8]
     &text[token.start..token.end]
 }
 
+/// Whether the token is the wanted word.
+pub(crate) fn is_word(text: &[u8], token: Span, wanted: &[u8]) -> bool
+    requires { IsNext text.now token }
+    ensures { IsTrue result ↔ (piece text.now token ≡ wanted.now) }
+{
+    word_of(text, token) == wanted
+}
+
 /// Takes the token, if there is one, and looks for the next.
 pub(crate) fn advance(text: &[u8], token: &mut Span)
     requires { IsNext text.now token.old }

@@ -1,9 +1,10 @@
 -- What the parts of the reader answer.
-use Rattle.std.specs.Prelude.{◌≡◌, ℕ, ◌<◌, ◌≤◌, ◌==◌, nat_le, Bool, true, false, Some, if◌then◌else◌, IsTrue, List, [], ◌∷◌, ◌++◌, length, map, string_bytes, Result, Ok, Err, slice_index}
+use Rattle.std.specs.Prelude.{◌≡◌, ℕ, ◌<◌, ◌≤◌, ◌==◌, nat_le, nat_lt, ◌&&◌, Bool, true, false, Some, if◌then◌else◌, IsTrue, List, [], ◌∷◌, ◌++◌, length, map, string_bytes, Result, Ok, Err, slice_index}
 use Rattle.hall_text.specs.declared.spans.Span.{Span}
 use Rattle.hall_text.specs.Spans.{IsToken}
 use Rattle.rule_language.specs.declared.scope.Scope.{Scope as CodeScope, Empty, With'}
 use Rattle.rule_language.specs.declared.kind.Sort.{Sort}
+use Rattle.rule_language.specs.declared.term.Term.{Term}
 use Rattle.rule_language.specs.declared.faults.RuleWhy.{RuleWhy}
 use Rattle.rule_language.specs.declared.faults.RuleWhy.TheVariants.{Token as BadByte, Shape}
 use Rattle.rule_language.specs.declared.faults.RuleFault.{RuleFault}
@@ -12,9 +13,9 @@ use Rattle.rule_language.specs.Scopes.{Scope}
 use Rattle.rule_language.specs.declared.formula.Formula.{Formula}
 use Rattle.rule_language.specs.declared.formula.Rule.{Rule}
 use Rattle.rule_language.specs.Trees.{count_of}
-use Rattle.rule_language.specs.Forms.{tree_of}
-use Rattle.rule_language.specs.Lawful.{are_formulas, sort_of}
-use Rattle.rule_language.specs.Spelling.{Token, IsGoodByte, piece, StandBefore, tokens_then, left}
+use Rattle.rule_language.specs.Forms.{tree_of, trees_of}
+use Rattle.rule_language.specs.Lawful.{are_formulas, sort_of, is_bound, are_of_one_sort, has_order}
+use Rattle.rule_language.specs.Spelling.{Token, IsGoodByte, piece, StandBefore, tokens_then, right, variable, term_word}
 use Rattle.rule_language.specs.Wants.{Want, behind, meets, then_want, is_end, Typed}
 use Rattle.rule_language.specs.Reading.{IsCause}
 
@@ -83,13 +84,36 @@ pub record IsRefused {A : Type 0} (text : List ℕ) (token : Span) (found : Resu
 abbrev pub IsTyped : Scope → (Sort → Bool) → Typed → Type 0
 IsTyped scope test typed = (sort_of scope typed.0 ≡ Some typed.1) × (test typed.1 ≡ true)
 
--- the formula was read behind its left parenthesis and its first word
-pub record IsInside (text : List ℕ) (old new : Span) (scope : Scope) (depth : ℕ) (word : Token) (formula : Formula) : Type 0 where
+-- a formula was read behind the tokens in front
+pub record IsRead (text : List ℕ) (old new : Span) (scope : Scope) (depth : ℕ) (front : List Token) (body : Formula) : Type 0 where
   pub tokens : List Token
   pub taken : Takes text old new tokens
-  pub spelt : tokens_then (tree_of formula) [] ≡ left ∷ word ∷ tokens
-  pub lawful : are_formulas scope depth (tree_of formula) ≡ true
-  pub one : count_of (tree_of formula) ≡ 1
+  pub spelt : tokens_then (tree_of body) [] ≡ front ++ tokens
+  pub lawful : are_formulas scope depth (tree_of body) ≡ true
+  pub one : count_of (tree_of body) ≡ 1
+
+-- a formula was read, and the parenthesis behind it
+pub record IsBody (text : List ℕ) (old new : Span) (scope : Scope) (depth : ℕ) (body : Formula) : Type 0 where
+  pub taken : Takes text old new (tokens_then (tree_of body) (right ∷ []))
+  pub lawful : are_formulas scope depth (tree_of body) ≡ true
+  pub one : count_of (tree_of body) ≡ 1
+
+-- 1 to 64 formulas were read, and the parenthesis behind them
+pub record IsSeveral (text : List ℕ) (old new : Span) (scope : Scope) (depth : ℕ) (parts : List Formula) : Type 0 where
+  pub taken : Takes text old new (tokens_then (trees_of parts) (right ∷ []))
+  pub lawful : are_formulas scope depth (trees_of parts) ≡ true
+  pub count : (nat_lt 0 (count_of (trees_of parts)) && nat_le (count_of (trees_of parts)) 64) ≡ true
+
+-- two bound variables and the parenthesis were read
+pub record IsPair (text : List ℕ) (old new : Span) (scope : Scope) (pair : ℕ × ℕ) : Type 0 where
+  pub taken : Takes text old new (variable pair.0 ∷ variable pair.1 ∷ right ∷ [])
+  pub bound : (is_bound scope pair.0 && is_bound scope pair.1) ≡ true
+
+-- two terms of one sort and the parenthesis were read
+pub record AreTerms (text : List ℕ) (old new : Span) (scope : Scope) (ordered : Bool) (pair : Term × Term) : Type 0 where
+  pub taken : Takes text old new (term_word pair.0 ∷ term_word pair.1 ∷ right ∷ [])
+  pub same : are_of_one_sort (sort_of scope pair.0) (sort_of scope pair.1) ≡ true
+  pub order : ordered ≡ true → has_order (sort_of scope pair.0) ≡ true
 
 -- a fact of a fault's place and cause
 abbrev pub IfFault : {A : Type 0} → Result A RuleFault → (ℕ → RuleWhy → Type 0) → Type 0

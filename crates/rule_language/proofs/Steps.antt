@@ -1,0 +1,69 @@
+-- Single tokens that were read and meet what is wanted.
+use Rattle.std.proofs.Common.{◌≡◌, ℕ, Bool, true, List, [], ◌∷◌, Some, Ok, refl, ap}
+use Rattle.hall_text.specs.declared.spans.Span.{Span}
+use Rattle.roster.specs.declared.post.Role.{Role}
+use Rattle.roster.specs.RosterText.{role_word}
+use Rattle.rule_language.specs.declared.kind.Kind.{Kind}
+use Rattle.rule_language.specs.declared.kind.Sort.{Sort}
+use Rattle.rule_language.specs.declared.term.Term.{Term}
+use Rattle.rule_language.specs.Kinds.{kind_word, is_same_sort}
+use Rattle.rule_language.specs.Scopes.{Scope}
+use Rattle.rule_language.specs.Lawful.{is_bound, sort_of}
+use Rattle.rule_language.specs.Spelling.{Token, left, right, variable, term_word}
+use Rattle.rule_language.specs.Wants.{Want, close, a_variable, a_role, a_kind, first_term, second_term, new_variable, kind_of, before_or_body, may_begin, only, kind_for, new_in, letter_in, then_want}
+use Rattle.rule_language.specs.inside.Reader.{Takes, Asks}
+use Rattle.rule_language.proofs.Refusals.{Passed, one_passed}
+use Rattle.rule_language.proofs.Passing.{variable_passes, role_passes, kind_passes, kind_of_passes, first_passes, second_passes}
+
+module _ (text : List ℕ) (old new : Span) (further : List Want → List Want) where
+  pub variable_step : (scope : Scope) (v : ℕ) → Takes text old new (variable v ∷ []) → is_bound scope v ≡ true
+      → Passed text old.start new.start (variable v ∷ []) (λ rest. a_variable scope ∷ further rest) further
+  variable_step scope v takes bound =
+      one_passed text old new (variable v) (λ rest. a_variable scope ∷ further rest) further takes
+      (λ rest. variable_passes scope v (further rest) bound)
+
+  pub kind_step : (k : Kind) → Takes text old new (kind_word k ∷ [])
+      → Passed text old.start new.start (kind_word k ∷ []) (λ rest. a_kind ∷ further rest) further
+  kind_step k takes =
+      one_passed text old new (kind_word k) (λ rest. a_kind ∷ further rest) further takes (λ rest. kind_passes k (further rest))
+
+  pub kind_of_step : (v : ℕ) (scope : Scope) (depth : ℕ) (k : Kind) → Takes text old new (kind_word k ∷ [])
+      → Passed text old.start new.start (kind_word k ∷ []) (λ rest. kind_of v scope depth ∷ further rest) (λ rest. before_or_body v k scope depth ∷ further rest)
+  kind_of_step v scope depth k takes =
+      one_passed text old new (kind_word k) (λ rest. kind_of v scope depth ∷ further rest) (λ rest. before_or_body v k scope depth ∷ further rest) takes
+      (λ rest. kind_of_passes scope depth v k (further rest))
+
+  pub role_step : (r : Role) → Takes text old new (role_word r ∷ [])
+      → Passed text old.start new.start (role_word r ∷ []) (λ rest. a_role ∷ further rest) further
+  role_step r takes =
+      one_passed text old new (role_word r) (λ rest. a_role ∷ further rest) further takes (λ rest. role_passes r (further rest))
+
+  pub first_step : (ordered : Bool) (scope : Scope) (t : Term) (s : Sort) → Takes text old new (term_word t ∷ [])
+      → sort_of scope t ≡ Some s → may_begin ordered s ≡ true
+      → Passed text old.start new.start (term_word t ∷ []) (λ rest. first_term ordered scope ∷ further rest) (λ rest. second_term s scope ∷ further rest)
+  first_step ordered scope t s takes sorted may =
+      one_passed text old new (term_word t) (λ rest. first_term ordered scope ∷ further rest) (λ rest. second_term s scope ∷ further rest) takes
+      (λ rest. first_passes scope ordered t s (further rest) sorted may)
+
+  pub second_step : (wanted : Sort) (scope : Scope) (t : Term) (s : Sort) → Takes text old new (term_word t ∷ [])
+      → sort_of scope t ≡ Some s → is_same_sort wanted s ≡ true
+      → Passed text old.start new.start (term_word t ∷ []) (λ rest. second_term wanted scope ∷ further rest) further
+  second_step wanted scope t s takes sorted same =
+      one_passed text old new (term_word t) (λ rest. second_term wanted scope ∷ further rest) further takes
+      (λ rest. second_passes scope wanted t s (further rest) sorted same)
+
+  pub new_step : (scope : Scope) (depth v : ℕ) → Takes text old new (variable v ∷ []) → new_in scope (letter_in (variable v)) ≡ Ok v
+      → Passed text old.start new.start (variable v ∷ []) (λ rest. new_variable scope depth ∷ further rest) (λ rest. kind_of v scope depth ∷ further rest)
+  new_step scope depth v takes fresh =
+      one_passed text old new (variable v) (λ rest. new_variable scope depth ∷ further rest) (λ rest. kind_of v scope depth ∷ further rest) takes
+      (λ rest. ap (λ r. then_want r (λ w. kind_of w scope depth ∷ further rest)) fresh)
+
+-- the closing parenthesis alone is looked at
+pub close_asks : Asks (only right) (λ rest. close ∷ rest)
+close_asks = record { after = λ rest it. rest; met = λ rest token. refl; going = λ rest. refl }
+
+pub kind_asks : Asks kind_for (λ rest. a_kind ∷ rest)
+kind_asks = record { after = λ rest k. rest; met = λ rest token. refl; going = λ rest. refl }
+
+pub kind_of_asks : (v : ℕ) (scope : Scope) (depth : ℕ) → Asks kind_for (λ rest. kind_of v scope depth ∷ rest)
+kind_of_asks v scope depth = record { after = λ rest k. before_or_body v k scope depth ∷ rest; met = λ rest token. refl; going = λ rest. refl }

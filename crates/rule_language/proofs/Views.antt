@@ -1,0 +1,57 @@
+-- The trees of formulas, level by level.
+use Rattle.std.proofs.Common.{◌≡◌, ℕ, rules, Vec, Global, Box}
+use Rattle.roster.specs.declared.post.Role.{Role}
+use Rattle.rule_language.specs.declared.kind.Kind.{Kind}
+use Rattle.rule_language.specs.declared.term.Term.{Term}
+use Rattle.rule_language.specs.declared.formula.Formula.{Formula, True, And, Or, Not, Implies, ForEvery, ForSome, EveryBefore, SomeBefore, Same, Before, Next, Is, OfKind, Equal, Less, the_lemmas}
+use Rattle.rule_language.specs.declared.form.Form.TheVariants as form
+use Rattle.rule_language.specs.Trees.{Trees, no_trees, tree_then}
+use Rattle.rule_language.specs.Forms.{tree_of, trees_of, in_front}
+
+pub view-True : tree_of True ≡ tree_then form.True no_trees no_trees
+view-True = search (rules, the_lemmas)
+
+pub view-And : (v : Vec Formula Global) → tree_of (And v) ≡ tree_then form.And (trees_of v.items) no_trees
+view-And v = search (rules, the_lemmas)
+
+pub view-Or : (v : Vec Formula Global) → tree_of (Or v) ≡ tree_then form.Or (trees_of v.items) no_trees
+view-Or v = search (rules, the_lemmas)
+
+pub view-Not : (b : Box Formula Global) → tree_of (Not b) ≡ tree_then form.Not (tree_of b.value) no_trees
+view-Not b = search (rules, the_lemmas)
+
+pub view-Implies : (a b : Box Formula Global) → tree_of (Implies a b) ≡ tree_then form.Implies (in_front a.value (tree_of b.value)) no_trees
+view-Implies a b = search (rules, the_lemmas)
+
+pub view-ForEvery : (v : ℕ) (k : Kind) (b : Box Formula Global) → tree_of (ForEvery v k b) ≡ tree_then (form.ForEvery v k) (tree_of b.value) no_trees
+view-ForEvery v k b = search (rules, the_lemmas)
+
+pub view-ForSome : (v : ℕ) (k : Kind) (b : Box Formula Global) → tree_of (ForSome v k b) ≡ tree_then (form.ForSome v k) (tree_of b.value) no_trees
+view-ForSome v k b = search (rules, the_lemmas)
+
+pub view-EveryBefore : (v : ℕ) (k : Kind) (u : ℕ) (b : Box Formula Global) → tree_of (EveryBefore v k u b) ≡ tree_then (form.EveryBefore v k u) (tree_of b.value) no_trees
+view-EveryBefore v k u b = search (rules, the_lemmas)
+
+pub view-SomeBefore : (v : ℕ) (k : Kind) (u : ℕ) (b : Box Formula Global) → tree_of (SomeBefore v k u b) ≡ tree_then (form.SomeBefore v k u) (tree_of b.value) no_trees
+view-SomeBefore v k u b = search (rules, the_lemmas)
+
+pub view-Same : (v u : ℕ) → tree_of (Same v u) ≡ tree_then (form.Same v u) no_trees no_trees
+view-Same v u = search (rules, the_lemmas)
+
+pub view-Before : (v u : ℕ) → tree_of (Before v u) ≡ tree_then (form.Before v u) no_trees no_trees
+view-Before v u = search (rules, the_lemmas)
+
+pub view-Next : (v u : ℕ) → tree_of (Next v u) ≡ tree_then (form.Next v u) no_trees no_trees
+view-Next v u = search (rules, the_lemmas)
+
+pub view-Is : (v : ℕ) (r : Role) → tree_of (Is v r) ≡ tree_then (form.Is v r) no_trees no_trees
+view-Is v r = search (rules, the_lemmas)
+
+pub view-OfKind : (v : ℕ) (k : Kind) → tree_of (OfKind v k) ≡ tree_then (form.OfKind v k) no_trees no_trees
+view-OfKind v k = search (rules, the_lemmas)
+
+pub view-Equal : (t u : Term) → tree_of (Equal t u) ≡ tree_then (form.Equal t u) no_trees no_trees
+view-Equal t u = search (rules, the_lemmas)
+
+pub view-Less : (t u : Term) → tree_of (Less t u) ≡ tree_then (form.Less t u) no_trees no_trees
+view-Less t u = search (rules, the_lemmas)

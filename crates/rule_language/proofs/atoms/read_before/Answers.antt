@@ -1,0 +1,18 @@
+use Rattle.std.proofs.Common.{◌∷◌, [], refl}
+use Rattle.std.proofs.lemmas.Bool.{lt-ltb}
+use Rattle.rule_language.specs.declared.formula.Formula.{Before}
+use Rattle.rule_language.specs.declared.form.Form.TheVariants as form
+use Rattle.rule_language.specs.declared.form.Head.TheVariants as head
+use Rattle.rule_language.specs.Spelling.{variable}
+use Rattle.rule_language.specs.inside.Reader.{bindings}
+use Rattle.rule_language.proofs.Read.{atom_read}
+use Rattle.rule_language.proofs.Views.{view-Before}
+use Rattle.rule_language.proofs.atoms.read_before.Goals as goal
+
+pub returns-clause-ok : goal.returns-clause-ok
+returns-clause-ok c = λ depth shallow.
+    let v = c.in_ok-v.v in
+    let u = c.in_ok-v.u in
+    let pair = c.in_ok-v.ensures.ok in
+    atom_read c.args.text.now c.args.token.now c.read_pair.new.token (bindings c.args.scope.now) depth (Before v u) (form.Before v u) head.Before
+    (variable v ∷ variable u ∷ []) (view-Before v u) refl (λ x y. refl) (lt-ltb depth 32 shallow) pair.bound refl pair.taken

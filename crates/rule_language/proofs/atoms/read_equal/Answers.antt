@@ -1,0 +1,18 @@
+use Rattle.std.proofs.Common.{◌∷◌, [], refl}
+use Rattle.std.proofs.lemmas.Bool.{lt-ltb}
+use Rattle.rule_language.specs.declared.formula.Formula.{Equal}
+use Rattle.rule_language.specs.declared.form.Form.TheVariants as form
+use Rattle.rule_language.specs.declared.form.Head.TheVariants as head
+use Rattle.rule_language.specs.Spelling.{term_word}
+use Rattle.rule_language.specs.inside.Reader.{bindings}
+use Rattle.rule_language.proofs.Read.{atom_read}
+use Rattle.rule_language.proofs.Views.{view-Equal}
+use Rattle.rule_language.proofs.atoms.read_equal.Goals as goal
+
+pub returns-clause-ok : goal.returns-clause-ok
+returns-clause-ok c = λ depth shallow.
+    let t = c.in_ok-first.first in
+    let u = c.in_ok-first.second in
+    let terms = c.in_ok-first.ensures.ok in
+    atom_read c.args.text.now c.args.token.now c.read_terms.new.token (bindings c.args.scope.now) depth (Equal t u) (form.Equal t u) head.Equal
+    (term_word t ∷ term_word u ∷ []) (view-Equal t u) refl (λ x y. refl) (lt-ltb depth 32 shallow) terms.same refl terms.taken
