@@ -15,7 +15,7 @@ module _ (text : List ℕ) where
   abbrev pub IsTokenBefore : ℕ → Span → Type 0
   IsTokenBefore at s = IsToken text s × (s.start < at)
 
-  some_bytes : (s : Span) → IsToken text s → (s.start < s.end) × (s.end ≤ length text)
+  pub some_bytes : (s : Span) → IsToken text s → (s.start < s.end) × (s.end ≤ length text)
   some_bytes s token = ⊎_elim (λ (w : IsWord text s). (w.some, w.inside)) (λ (a : IsAlone text s). (omega (arith, a.one), a.inside)) token
 
   -- two tokens that begin at one place are one

@@ -6,20 +6,21 @@ use Rattle.std.proofs.lemmas.Bool.{lt-ltb, leb-false}
 use Rattle.hall_text.specs.declared.spans.Span.{Span}
 use Rattle.rule_language.specs.declared.kind.Kind.{Kind}
 use Rattle.rule_language.specs.declared.faults.RuleWhy.{RuleWhy}
-use Rattle.rule_language.specs.declared.faults.RuleWhy.TheVariants.{SameName, Unbound, Shape}
+use Rattle.rule_language.specs.declared.faults.RuleWhy.TheVariants.{SameName, Unbound, Shape, TooDeep}
 use Rattle.rule_language.specs.declared.binder.Binder.{Binder}
 use Rattle.rule_language.specs.Kinds.{kind_word}
 use Rattle.rule_language.specs.Scopes.{Scope, kind_in, is_letter}
 use Rattle.rule_language.specs.Lawful.{is_bound, can_bind}
 use Rattle.rule_language.specs.Spelling.{Token, variable, piece}
-use Rattle.rule_language.specs.Wants.{Want, formula, close, new_variable, kind_of, before_or_body, a_variable, meets, meets_formula, new_in, letter_in, nested}
-use Rattle.rule_language.specs.inside.Reader.{IsNext, Takes}
+use Rattle.rule_language.specs.Wants.{Want, formula, close, new_variable, kind_of, before_or_body, a_variable, meets, meets_formula, new_in, letter_in, nested, then_want, Met}
+use Rattle.rule_language.specs.inside.Reader.{IsNext, Takes, FailsAt}
 use Rattle.rule_language.specs.inside.Quantifiers.{IsRange, IsBinder, IsBound, range_words, quantifier_head}
-use Rattle.rule_language.proofs.Refusals.{Passed, passed_more, one_passed, spell_more}
+use Rattle.rule_language.proofs.Refusals.{Passed, passed_more, one_passed, spell_more, transfer, fails_behind}
 use Rattle.rule_language.proofs.Steps.{variable_step, new_step, kind_of_step}
+use Rattle.rule_language.proofs.Passing.{step, kind_of_passes, variable_passes}
 use Rattle.rule_language.proofs.Found.{if_second, bytes_same}
 
-abbrev made : ℕ → Kind → Option ℕ → Binder
+abbrev pub made : ℕ → Kind → Option ℕ → Binder
 made v k u = record { v = v; kind = k; u = u }
 
 pub binder_read : (text : List ℕ) (a b d e : Span) (scope : Scope) (v : ℕ) (k : Kind) (u : Option ℕ) → Takes text a b (variable v ∷ [])
@@ -42,6 +43,81 @@ binder_read text a b d e scope v k (Some u) one fresh two range = record {
 }
 
 -- the variable may be bound where a quantifier may begin
+new_parts : (scope : Scope) (v : ℕ) (b : Bool) → new_in scope (if b then Some v else None) ≡ Ok v
+    → (b ≡ true) × (is_some (kind_in scope v) ≡ false)
+new_parts scope v true e = (refl, (if_second (is_some (kind_in scope v)) (Ok v) SameName v e).0)
+new_parts scope v false e = absurd (cc)
+
+few_bound : (scope : Scope) (every : Bool) → nested scope (Some (quantifier_head every)) ≡ Ok (quantifier_head every)
+    → nat_le 4 (length scope) ≡ false
+few_bound scope true e = (if_second (nat_le 4 (length scope)) (Ok (quantifier_head true)) TooDeep (quantifier_head true) e).0
+few_bound scope false e = (if_second (nat_le 4 (length scope)) (Ok (quantifier_head false)) TooDeep (quantifier_head false) e).0
+
 pub may_bind : (scope : Scope) (v : ℕ) (every : Bool) → new_in scope (letter_in (variable v)) ≡ Ok v
     → nested scope (Some (quantifier_head every)) ≡ Ok (quantifier_head every) → can_bind scope v ≡ true
-may_bind scope v every fresh few = ?
+may_bind scope v every fresh few =
+    let parts = new_parts scope v (is_letter v) fresh in
+    let lt : length scope < 4 = leb-false 4 (length scope) (few_bound scope every few) in
+    rw parts.0 (rw parts.1 (rw (lt-ltb (length scope) 4 lt) refl))
+
+abbrev shape_met : Met
+shape_met = Err Shape
+
+-- where no `before` is next, a fault of the body is one there
+pub body_fails : (text : List ℕ) (token : Span) (v : ℕ) (k : Kind) (scope : Scope) (depth : ℕ) (at : ℕ) (why : RuleWhy) → IsNext text token
+    → piece text token ≢ codes "before" → FailsAt text token.start (λ rest. formula ((v, k) ∷ scope) depth ∷ close ∷ rest) at why
+    → FailsAt text token.start (λ rest. before_or_body v k scope depth ∷ rest) at why
+body_fails text token v k scope depth at why next other fails rest =
+    transfer text token (before_or_body v k scope depth ∷ rest) (formula ((v, k) ∷ scope) depth ∷ close ∷ rest) at why next
+    (here (bytes_eq (piece text token) (codes "before")) refl) (λ t next met. agree t next (bytes_eq t (codes "before")) refl met) refl (fails rest)
+  where
+    here : (b : Bool) → bytes_eq (piece text token) (codes "before") ≡ b
+        → meets_formula ((v, k) ∷ scope) depth (close ∷ rest) (piece text token)
+        ≡ (if b then Ok (a_variable scope ∷ formula ((v, k) ∷ scope) depth ∷ close ∷ rest) else meets_formula ((v, k) ∷ scope) depth (close ∷ rest) (piece text token))
+    here true is = absurd (other (bytes_same (piece text token) (codes "before") is))
+    here false is = refl
+    agree : (t : Token) (next : List Want) (b : Bool) → bytes_eq t (codes "before") ≡ b
+        → meets_formula ((v, k) ∷ scope) depth (close ∷ rest) t ≡ Ok next
+        → (if b then Ok (a_variable scope ∷ formula ((v, k) ∷ scope) depth ∷ close ∷ rest) else meets_formula ((v, k) ∷ scope) depth (close ∷ rest) t) ≡ Ok next
+    agree t next true is met =
+        let same : t ≡ codes "before" = bytes_same t (codes "before") is in
+        let shut : shape_met ≡ Ok next = rw same at met in
+        absurd (cc)
+    agree t next false is met = met
+
+-- what is wanted behind what was bound
+abbrev pub behind_binder : ℕ → Kind → Scope → ℕ → Option ℕ → List Want → List Want
+behind_binder v k scope depth None rest = before_or_body v k scope depth ∷ rest
+behind_binder v k scope depth (Some u) rest = formula ((v, k) ∷ scope) depth ∷ close ∷ rest
+
+pub binder_passed : (text : List ℕ) (a e : Span) (scope : Scope) (depth : ℕ) (v : ℕ) (k : Kind) (u : Option ℕ) → IsBinder text a e scope (made v k u)
+    → Passed text a.start e.start (variable v ∷ kind_word k ∷ range_words u) (λ rest. new_variable scope depth ∷ rest) (behind_binder v k scope depth u)
+binder_passed text a e scope depth v k None binder = record {
+  spell = binder.taken.0;
+  some = λ none. absurd (cc);
+  met = λ rest.
+      step (new_variable scope depth ∷ rest) (kind_of v scope depth ∷ rest) (variable v) (kind_word k ∷ [])
+      (ap (λ r. then_want r (λ w. kind_of w scope depth ∷ rest)) binder.fresh)
+      ∙ step (kind_of v scope depth ∷ rest) (before_or_body v k scope depth ∷ rest) (kind_word k) [] (kind_of_passes scope depth v k rest);
+}
+binder_passed text a e scope depth v k (Some u) binder = record {
+  spell = binder.taken.0;
+  some = λ none. absurd (cc);
+  met = λ rest.
+      step (new_variable scope depth ∷ rest) (kind_of v scope depth ∷ rest) (variable v) (kind_word k ∷ codes "before" ∷ variable u ∷ [])
+      (ap (λ r. then_want r (λ w. kind_of w scope depth ∷ rest)) binder.fresh)
+      ∙ step (kind_of v scope depth ∷ rest) (before_or_body v k scope depth ∷ rest) (kind_word k) (codes "before" ∷ variable u ∷ []) (kind_of_passes scope depth v k rest)
+      ∙ step (a_variable scope ∷ formula ((v, k) ∷ scope) depth ∷ close ∷ rest) (formula ((v, k) ∷ scope) depth ∷ close ∷ rest) (variable u) []
+      (variable_passes scope u (formula ((v, k) ∷ scope) depth ∷ close ∷ rest) binder.range);
+}
+
+-- a fault of the body behind what was bound
+pub quantified_fails : (text : List ℕ) (a e : Span) (scope : Scope) (depth : ℕ) (v : ℕ) (k : Kind) (u : Option ℕ) (at : ℕ) (why : RuleWhy)
+    → IsBinder text a e scope (made v k u) → FailsAt text e.start (λ rest. formula ((v, k) ∷ scope) depth ∷ close ∷ rest) at why
+    → FailsAt text a.start (λ rest. new_variable scope depth ∷ rest) at why
+quantified_fails text a e scope depth v k None at why binder fails =
+    fails_behind text a.start e.start (variable v ∷ kind_word k ∷ []) (λ rest. new_variable scope depth ∷ rest) (behind_binder v k scope depth None) at why
+    (binder_passed text a e scope depth v k None binder) (body_fails text e v k scope depth at why binder.taken.1 binder.range fails)
+quantified_fails text a e scope depth v k (Some u) at why binder fails =
+    fails_behind text a.start e.start (variable v ∷ kind_word k ∷ codes "before" ∷ variable u ∷ []) (λ rest. new_variable scope depth ∷ rest) (behind_binder v k scope depth (Some u)) at why
+    (binder_passed text a e scope depth v k (Some u) binder) fails

@@ -8,3 +8,6 @@ pub mod Steps
 pub mod Read
 pub mod Views
 pub mod Binders
+pub mod Parts
+pub mod Bodies
+pub mod Several

@@ -1,9 +1,11 @@
 -- What is refused at a place, and how a fault behind some tokens is one before them.
-use Rattle.std.proofs.Common.{◌≡◌, ◌≢◌, ◌⊎◌, inl, inr, ◌∙◌, ℕ, ◌<◌, ◌≤◌, Bool, true, false, cond, List, [], ◌∷◌, ◌++◌, length, get_or, Result, Ok, Err, refl, sym, ap, subst, arith, append_assoc, append-nil}
+use Rattle.std.proofs.Common.{◌≡◌, ◌≢◌, ◌⊎◌, inl, inr, ◌∙◌, ℕ, ◌<◌, ◌≤◌, Bool, true, false, cond, List, [], ◌∷◌, ◌++◌, length, get_or, Result, Ok, Err, refl, sym, ap, subst, ⊎_elim, arith, append_assoc, append-nil}
 use Rattle.std.specs.Prelude.{if◌then◌else◌, nat_le, ◌==◌, IfOk, IsErrAnd}
-use Rattle.std.proofs.lemmas.Bool.{leb-true, leb-false, eqb-true, eqb-false}
+use Rattle.std.proofs.lemmas.Bool.{cases_lt, leb-true, leb-false, eqb-true, eqb-false}
 use Rattle.hall_text.specs.declared.spans.Span.{Span}
 use Rattle.hall_text.specs.Spans.{IsToken}
+use Rattle.hall_text.proofs.TokenLemmas.{same_end, some_bytes}
+use Rattle.rule_language.proofs.Stands.{token_good}
 use Rattle.rule_language.specs.declared.faults.RuleWhy.{RuleWhy}
 use Rattle.rule_language.specs.declared.faults.RuleWhy.TheVariants.{Token as BadByte, Shape}
 use Rattle.rule_language.specs.declared.faults.RuleFault.{RuleFault}
@@ -89,15 +91,19 @@ pub spell_more : (text : List ℕ) (a b c : ℕ) (first second : List Token) →
 spell_more text a b c first second to on before stand =
     subst (StandBefore text c) (append_assoc before first second) (on (before ++ first) (to before stand))
 
+abbrev met_of : List Want → Met
+met_of wants = Ok wants
+
+stuck : (reason : RuleWhy) (ts : List Token) → behind (Err reason) ts ≡ Err reason
+stuck reason [] = refl
+stuck reason (t ∷ ts) = refl
+
 pub behind_more : (wants left : List Want) (first second : List Token) → behind (Ok wants) first ≡ Ok left
     → behind (Ok wants) (first ++ second) ≡ behind (Ok left) second
 behind_more wants left [] second e = ap (λ w. behind w second) e
 behind_more wants left (token ∷ tokens) second e =
     step (meets wants token) refl (λ more later. behind_more more left tokens second later)
   where
-    stuck : (reason : RuleWhy) (ts : List Token) → behind (Err reason) ts ≡ Err reason
-    stuck reason [] = refl
-    stuck reason (t ∷ ts) = refl
     step : (met : Result (List Want) RuleWhy) → meets wants token ≡ met
         → ((more : List Want) → behind (Ok more) tokens ≡ Ok left → behind (Ok more) (tokens ++ second) ≡ behind (Ok left) second)
         → behind (meets wants token) (tokens ++ second) ≡ behind (Ok left) second
@@ -189,22 +195,80 @@ exit_first (Err Memory) fault (Err (At place cause)) text a base further is same
     let one : Memory ≡ At place cause = err_same Memory fault is ∙ sym same in absurd (cc)
 exit_first (Err f) fault (Err Memory) text a base further is same fact = tt
 
--- a fault of other wants that are met by the same tokens, and by the next one alike
-pub transfer : (text : List ℕ) (token : Span) (wants other : List Want → List Want) (at : ℕ) (why : RuleWhy) → IsNext text token
-    → ((rest : List Want) → meets (other rest) (piece text token) ≡ meets (wants rest) (piece text token))
-    → ((rest : List Want) (t : Token) (next : List Want) → meets (other rest) t ≡ Ok next → meets (wants rest) t ≡ Ok next)
-    → ((rest : List Want) → is_end (wants rest) ≡ false)
-    → FailsAt text token.start other at why → FailsAt text token.start wants at why
-transfer text token wants other at why next here agree going fails rest = by (fails rest).tokens refl
+-- the token that begins at the place is the next one
+next_is : (text : List ℕ) (token : Span) (end : ℕ) → IsNext text token → IsToken text (record { start = token.start; end = end })
+    → record { start = token.start; end = end } ≡ token
+next_is text token end next is =
+    ⊎_elim
+    (λ (some : token.start < token.end). same_end text token token.start end (next.some some) refl is)
+    (λ (none : token.end ≤ token.start).
+    let bytes = some_bytes text (record { start = token.start; end = end }) is in
+    let some : token.start < end = bytes.0 in
+    let inside : end ≤ length text = bytes.1 in
+    absurd (next.none none (omega arith) (token_good text (record { start = token.start; end = end }) is token.start (omega arith) some)))
+    (cases_lt token.start token.end)
+
+-- a cause against other wants that the next token meets alike
+same_cause : (text : List ℕ) (token : Span) (wants other : List Want) (why : RuleWhy) → IsNext text token
+    → meets other (piece text token) ≡ meets wants (piece text token) → is_end wants ≡ false
+    → IsCause text token.start other why → IsCause text token.start wants why
+same_cause text token wants other why next here going (inl bad) = inl bad
+same_cause text token wants other why next here going (inr (inl stands)) =
+    let one : piece text (record { start = token.start; end = stands.0 }) ≡ piece text token =
+    ap (piece text) (next_is text token stands.0 next stands.1) in
+    inr (inl (stands.0, stands.1, ap (meets wants) one ∙ sym here ∙ sym (ap (meets other) one) ∙ stands.2))
+same_cause text token wants other why next here going (inr (inr ended)) = inr (inr (ended.0, going, ended.2))
+
+ok_wants : (x y : List Want) → met_of x ≡ met_of y → x ≡ y
+ok_wants x y e = cc
+
+-- the first token that was met shows what is left
+first_met : (wants : List Want) (t : Token) (ts : List Token) (left : List Want) → behind (Ok wants) (t ∷ ts) ≡ Ok left
+    → (next : List Want) × (meets wants t ≡ Ok next) × (behind (Ok next) ts ≡ Ok left)
+first_met wants t ts left e = cases (meets wants t) refl
   where
-    f : Fails text token.start (other rest) at why
-    f = fails rest
-    ok_wants : (x y : List Want) → Ok {E = RuleWhy} x ≡ Ok y → x ≡ y
-    ok_wants x y e = cc
-    caused : (place : ℕ) (left : List Want) → place ≡ token.start → left ≡ other rest → IsCause text place left why → IsCause text token.start (wants rest) why
-    caused place left is same (inl bad) = inl ?
-    caused place left is same (inr (inl stands)) = inr (inl ?)
-    caused place left is same (inr (inr ended)) = inr (inr ?)
-    by : (ts : List Token) → f.tokens ≡ ts → Fails text token.start (wants rest) at why
-    by [] is = ?
-    by (t ∷ ts) is = ?
+    cases : (met : Met) → meets wants t ≡ met → (next : List Want) × (meets wants t ≡ Ok next) × (behind (Ok next) ts ≡ Ok left)
+    cases (Ok next) is = (next, is, rw is at e)
+    cases (Err reason) is =
+        let other : Met = Err reason in
+        let no : other ≡ Ok left = sym (stuck reason ts) ∙ (rw is at e) in absurd (cc)
+
+-- a fault of other wants that are met by the same tokens, and by the next one alike
+pub transfer : (text : List ℕ) (token : Span) (wants other : List Want) (at : ℕ) (why : RuleWhy) → IsNext text token
+    → meets other (piece text token) ≡ meets wants (piece text token)
+    → ((t : Token) (next : List Want) → meets other t ≡ Ok next → meets wants t ≡ Ok next)
+    → is_end wants ≡ false → Fails text token.start other at why → Fails text token.start wants at why
+transfer text token wants other at why next here agree going f = by f.tokens f.spell f.there f.met
+  where
+    by : (ts : List Token) → Spell text token.start at ts → (ts ≡ [] → at ≡ token.start) → behind (Ok other) ts ≡ Ok f.left
+        → Fails text token.start wants at why
+    by [] spell there met =
+        let place : at ≡ token.start = there refl in
+        let left : other ≡ f.left = ok_wants other f.left met in
+        let cause : IsCause text token.start other why = rw place at (rw (← left) at f.cause) in
+        rw place (fails_there text token wants why (same_cause text token wants other why next here going cause))
+    by (t ∷ ts) spell there met =
+        let first = first_met other t ts f.left met in
+        record {
+          tokens = t ∷ ts;
+          left = f.left;
+          spell = spell;
+          there = there;
+          met = ap (λ m. behind m ts) (agree t first.0 first.1) ∙ first.2;
+          cause = f.cause;
+        }
+
+-- the exit of a call whose faults are those of other wants
+pub exit_by : {A B : Type 0} (inner : Result A RuleFault) (fault : RuleFault) (outer : Result B RuleFault) (text : List ℕ) (a b : ℕ)
+    (wants base : List Want → List Want) → inner ≡ Err fault → IsErrAnd outer (λ e. e ≡ fault)
+    → ((at : ℕ) (why : RuleWhy) → FailsAt text b base at why → FailsAt text a wants at why)
+    → IfFault inner (FailsAt text b base) → IfFault outer (FailsAt text a wants)
+exit_by (Ok x) fault outer text a b wants base is same follows fact = absurd (cc)
+exit_by (Err f) fault (Ok y) text a b wants base is same follows fact = absurd same
+exit_by (Err (At at why)) fault (Err (At place cause)) text a b wants base is same follows fact =
+    let one : At at why ≡ At place cause = err_same (At at why) fault is ∙ sym same in
+    let here : FailsAt text a wants at why = follows at why fact in
+    rw (← at_same at place why cause one) (rw (← why_same at place why cause one) here)
+exit_by (Err Memory) fault (Err (At place cause)) text a b wants base is same follows fact =
+    let one : Memory ≡ At place cause = err_same Memory fault is ∙ sym same in absurd (cc)
+exit_by (Err f) fault (Err Memory) text a b wants base is same follows fact = tt

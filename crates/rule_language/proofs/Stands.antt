@@ -42,7 +42,7 @@ pub between_separator : (text : List ℕ) (at : ℕ) → IsSeparator (get_or tex
 between_separator text at separator = between_none text at (none_begins (get_or text at 0) separator)
 
 -- the bytes of a token are good
-token_good : (text : List ℕ) (token : Span) → IsToken text token → (i : ℕ) → token.start ≤ i → i < token.end
+pub token_good : (text : List ℕ) (token : Span) → IsToken text token → (i : ℕ) → token.start ≤ i → i < token.end
     → IsGoodByte (get_or text i 0)
 token_good text token is i from to =
     ⊎_elim (λ (word : IsWord text token). inl (word.bytes i from to))

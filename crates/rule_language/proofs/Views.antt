@@ -1,12 +1,14 @@
 -- The trees of formulas, level by level.
-use Rattle.std.proofs.Common.{◌≡◌, ℕ, rules, Vec, Global, Box}
+use Rattle.std.proofs.Common.{◌≡◌, ◌∙◌, ap, refl, ℕ, rules, Vec, Global, Box}
 use Rattle.roster.specs.declared.post.Role.{Role}
 use Rattle.rule_language.specs.declared.kind.Kind.{Kind}
 use Rattle.rule_language.specs.declared.term.Term.{Term}
-use Rattle.rule_language.specs.declared.formula.Formula.{Formula, True, And, Or, Not, Implies, ForEvery, ForSome, EveryBefore, SomeBefore, Same, Before, Next, Is, OfKind, Equal, Less, the_lemmas}
+use Rattle.rule_language.specs.declared.formula.Formula.{Formula, True, And, Or, Not, Implies, ForEvery, ForSome, EveryBefore, SomeBefore, Same, Before, Next, Is, OfKind, Equal, Less, the_lemmas, fold_out-Formula, out-Formula, map-Formula}
+use Rattle.rule_language.specs.declared.formula.Formula.TheOpen.{Formula-F}
+use Rattle.rule_language.specs.declared.form.Form.{Form}
 use Rattle.rule_language.specs.declared.form.Form.TheVariants as form
 use Rattle.rule_language.specs.Trees.{Trees, no_trees, tree_then}
-use Rattle.rule_language.specs.Forms.{tree_of, trees_of, in_front}
+use Rattle.rule_language.specs.Forms.{tree_of, trees_of, in_front, all_in_front, tree_step}
 
 pub view-True : tree_of True ≡ tree_then form.True no_trees no_trees
 view-True = search (rules, the_lemmas)
@@ -55,3 +57,30 @@ view-Equal t u = search (rules, the_lemmas)
 
 pub view-Less : (t u : Term) → tree_of (Less t u) ≡ tree_then (form.Less t u) no_trees no_trees
 view-Less t u = search (rules, the_lemmas)
+
+-- a formula is one form with parts, put in front of others
+abbrev pub IsInFront : (Trees → Trees) → Form → Trees → Type 0
+IsInFront put form parts = (rest : Trees) → put rest ≡ tree_then form parts rest
+
+shape_step : (x : Formula-F (Trees → Trees)) → (form : Form) × (parts : Trees) × IsInFront (tree_step x) form parts
+shape_step Formula-F.True = (form.True, no_trees, λ rest. refl)
+shape_step (Formula-F.ForEvery v kind body) = (form.ForEvery v kind, body.value no_trees, λ rest. refl)
+shape_step (Formula-F.ForSome v kind body) = (form.ForSome v kind, body.value no_trees, λ rest. refl)
+shape_step (Formula-F.EveryBefore v kind u body) = (form.EveryBefore v kind u, body.value no_trees, λ rest. refl)
+shape_step (Formula-F.SomeBefore v kind u body) = (form.SomeBefore v kind u, body.value no_trees, λ rest. refl)
+shape_step (Formula-F.And parts) = (form.And, all_in_front parts.items, λ rest. refl)
+shape_step (Formula-F.Or parts) = (form.Or, all_in_front parts.items, λ rest. refl)
+shape_step (Formula-F.Not body) = (form.Not, body.value no_trees, λ rest. refl)
+shape_step (Formula-F.Implies f g) = (form.Implies, f.value (g.value no_trees), λ rest. refl)
+shape_step (Formula-F.Same v u) = (form.Same v u, no_trees, λ rest. refl)
+shape_step (Formula-F.Before v u) = (form.Before v u, no_trees, λ rest. refl)
+shape_step (Formula-F.Next v u) = (form.Next v u, no_trees, λ rest. refl)
+shape_step (Formula-F.Is v role) = (form.Is v role, no_trees, λ rest. refl)
+shape_step (Formula-F.OfKind v kind) = (form.OfKind v kind, no_trees, λ rest. refl)
+shape_step (Formula-F.Equal t s) = (form.Equal t s, no_trees, λ rest. refl)
+shape_step (Formula-F.Less t s) = (form.Less t s, no_trees, λ rest. refl)
+
+pub shape : (f : Formula) → (form : Form) × (parts : Trees) × IsInFront (in_front f) form parts
+shape f =
+    let s = shape_step (map-Formula Formula (Trees → Trees) in_front (out-Formula f)) in
+    (s.0, s.1, λ rest. ap (λ (put : Trees → Trees). put rest) (fold_out-Formula (Trees → Trees) tree_step f) ∙ s.2 rest)

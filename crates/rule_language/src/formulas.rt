@@ -240,7 +240,7 @@ fn read_parts(
     let mut parts = Vec::new(alloc);
     let part = read_formula(alloc, text, token, scope, depth)?;
     parts.push(part)?;
-    while !is_word(text, *token, b")") {
+    'parts: while !is_word(text, *token, b")") {
         if parts.len() >= MAX_PARTS {
             return Err(refused(text, *token, RuleWhy::Shape));
         }
