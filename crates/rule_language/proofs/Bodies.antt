@@ -26,7 +26,7 @@ use Rattle.rule_language.specs.declared.formula.Formula.{Implies}
 use Rattle.rule_language.specs.declared.form.Form.TheVariants as form
 use Rattle.rule_language.specs.declared.form.Head.TheVariants as begins
 use Rattle.rule_language.specs.inside.Quantifiers.{quantifier_head}
-use Rattle.rule_language.proofs.Read.{form_read}
+use Rattle.rule_language.proofs.FormsRead.{form_read}
 use Rattle.rule_language.proofs.Views.{shape, view-Implies}
 
 -- a token is another word

@@ -5,9 +5,12 @@ pub mod Found
 pub mod Passing
 pub mod Passes
 pub mod Steps
-pub mod Read
+pub mod FormsRead
 pub mod Views
 pub mod Binders
 pub mod Parts
 pub mod Bodies
 pub mod Several
+pub mod RulesPass
+pub mod Names
+pub mod RuleRead

@@ -27,7 +27,7 @@ use Rattle.rule_language.specs.Scopes.{Scope, kind_in, is_letter}
 use Rattle.rule_language.specs.Trees.{Trees, no_trees, tree_then, count_of, RuleTree}
 use Rattle.rule_language.specs.Lawful.{is_bound, can_bind, sort_of, field_sort, are_of_one_sort, has_order, is_closed, has_arity, is_shallow, scope_in, are_formulas, is_name, is_among, is_rule, follow, are_rules}
 use Rattle.rule_language.specs.Spelling.{Token, left, right, variable, term_word, form_words, spelt, tokens_then, rule_tokens, rules_tokens}
-use Rattle.rule_language.specs.Wants.{Want, Met, Typed, rules as more_rules, rule_word, rule_name, formula, head, new_variable, kind_of, before_or_body, more, a_variable, a_role, a_kind, first_term, second_term, close}
+use Rattle.rule_language.specs.Wants.{Want, Met, Typed, more_rules, rule_word, rule_name, formula, head, new_variable, kind_of, before_or_body, more, a_variable, a_role, a_kind, first_term, second_term, close}
 use Rattle.rule_language.specs.Wants.{or_cause, then_want, letter_in, new_in, bound_in, kind_for, value_from, number_in, of_field, of_variable, dotted_in, number_or, term_in, whose_sort, may_begin, nested, head_for, behind_head, only, meets_only, meets_formula, name_in, meets_want, meets, behind, begin, is_end}
 use Rattle.rule_language.proofs.Numbers.{number-found}
 use Rattle.canonical_sexp.proofs.Decimal.{AreDigits, decimal_digits}
@@ -73,7 +73,7 @@ head_named_word begins.OfKind = refl
 head_named_word begins.Equal = refl
 head_named_word begins.Less = refl
 
-not_true : (b : Bool) → not b ≡ true → b ≡ false
+pub not_true : (b : Bool) → not b ≡ true → b ≡ false
 not_true true e = absurd (cc)
 not_true false e = refl
 

@@ -154,16 +154,16 @@ one_passed text old new token wants next takes met = record {
   met = met;
 }
 
-abbrev failed : {A : Type 0} → Result A RuleFault → Result A RuleFault
+abbrev pub failed : {A : Type 0} → Result A RuleFault → Result A RuleFault
 failed r = r
 
-err_same : {A : Type 0} (x y : RuleFault) → failed {A = A} (Err x) ≡ Err y → x ≡ y
+pub err_same : {A : Type 0} (x y : RuleFault) → failed {A = A} (Err x) ≡ Err y → x ≡ y
 err_same x y h = cc
 
-at_same : (at place : ℕ) (why cause : RuleWhy) → At at why ≡ At place cause → at ≡ place
+pub at_same : (at place : ℕ) (why cause : RuleWhy) → At at why ≡ At place cause → at ≡ place
 at_same at place why cause e = cc
 
-why_same : (at place : ℕ) (why cause : RuleWhy) → At at why ≡ At place cause → why ≡ cause
+pub why_same : (at place : ℕ) (why cause : RuleWhy) → At at why ≡ At place cause → why ≡ cause
 why_same at place why cause e = cc
 
 -- the exit of a call that failed behind tokens that were passed

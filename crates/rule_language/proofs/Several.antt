@@ -22,7 +22,7 @@ use Rattle.rule_language.proofs.Passing.{tokens_append}
 use Rattle.rule_language.proofs.Parts.{tokens-push, good-push, count-trees}
 use Rattle.rule_language.proofs.Bodies.{parts_passed, more_fails, one_too_many}
 use Rattle.rule_language.proofs.Binders.{made, may_bind}
-use Rattle.rule_language.proofs.Read.{form_read}
+use Rattle.rule_language.proofs.FormsRead.{form_read}
 
 -- a further formula was read
 pub parts_more : (text : List ℕ) (a b e : Span) (scope : Scope) (depth : ℕ) (ps : List Formula) (p : Formula) → Takes text a b (tokens_then (trees_of ps) [])

@@ -24,7 +24,7 @@ use Rattle.rule_language.specs.Spelling.{Token, left, right}
 
 -- what may stand at a place. Beside a formula stands how many parentheses are open around it
 pub data Want : Type 0 where
-  rules : (names : List Token) → Want
+  more_rules : (names : List Token) → Want
   rule_word : (names : List Token) → Want
   rule_name : (names : List Token) → Want
   formula : (scope : Scope) (depth : ℕ) → Want
@@ -151,6 +151,10 @@ only wanted token = if bytes_eq token wanted then Ok tt else Err Shape
 abbrev pub meets_only : Token → List Want → Token → Met
 meets_only wanted wants token = then_want (only wanted token) (λ it. wants)
 
+-- the parenthesis of a rule, of which there are at most 256
+abbrev pub opening : ℕ → Token → Result (Unit {0}) RuleWhy
+opening count token = if nat_lt count 256 then only left token else Err Shape
+
 -- a formula
 abbrev pub meets_formula : Scope → ℕ → List Want → Token → Met
 meets_formula scope depth rest token =
@@ -165,11 +169,10 @@ name_in names token = if is_name token then (if is_among token names then Err Sa
 
 -- a token at the place of the first want
 abbrev pub meets_want : Want → List Want → Token → Met
-meets_want (rules names) rest token =
-    if nat_lt (length names) 256 then meets_only left (rule_word names ∷ rest) token else Err Shape
+meets_want (more_rules names) rest token = then_want (opening (length names) token) (λ it. rule_word names ∷ rest)
 meets_want (rule_word names) rest token = meets_only (codes "rule") (rule_name names ∷ rest) token
 meets_want (rule_name names) rest token =
-    then_want (name_in names token) (λ name. formula [] 1 ∷ close ∷ rules (names ++ name ∷ []) ∷ rest)
+    then_want (name_in names token) (λ name. formula [] 1 ∷ close ∷ more_rules (names ++ name ∷ []) ∷ rest)
 meets_want (formula scope depth) rest token = meets_formula scope depth rest token
 meets_want (head scope depth) rest token = then_want (head_for scope token) (behind_head scope depth rest)
 meets_want (new_variable scope depth) rest token =
@@ -204,9 +207,9 @@ behind (Ok wants) (token ∷ tokens) = behind (meets wants token) tokens
 
 -- at a text's beginning no rule was read yet
 abbrev pub begin : List Want
-begin = rules [] ∷ []
+begin = more_rules [] ∷ []
 
 -- a text may end behind a rule
 abbrev pub is_end : List Want → Bool
-is_end (rules (name ∷ names) ∷ []) = true
+is_end (more_rules (name ∷ names) ∷ []) = true
 is_end wants = false

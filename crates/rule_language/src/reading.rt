@@ -47,7 +47,7 @@ pub(crate) fn take<T: Copy>(
 }
 
 /// Whether the word is the wanted one.
-fn only(word: &[u8], wanted: &[u8]) -> Result<(), RuleWhy>
+pub(crate) fn only(word: &[u8], wanted: &[u8]) -> Result<(), RuleWhy>
     ensures { result ≡ only wanted.now word.now }
 {
     if word == wanted {

@@ -9,7 +9,7 @@ use Rattle.rule_language.specs.Spelling.{variable, term_word, left, right}
 use Rattle.rule_language.specs.inside.Reader.{bindings}
 use Rattle.rule_language.proofs.Refusals.{exit_first, exit_behind, passed_more, spell_more}
 use Rattle.rule_language.proofs.Steps.{variable_step, kind_step, kind_of_step, role_step, first_step, second_step, close_asks, kind_asks, kind_of_asks}
-use Rattle.rule_language.proofs.Read.{atom_read}
+use Rattle.rule_language.proofs.FormsRead.{atom_read}
 use Rattle.rule_language.specs.declared.form.Form.TheVariants as form
 use Rattle.rule_language.specs.declared.form.Head.TheVariants as head
 use Rattle.rule_language.proofs.atoms.read_is.Goals as goal

@@ -5,7 +5,7 @@ use Rattle.rule_language.specs.declared.form.Form.TheVariants as form
 use Rattle.rule_language.specs.declared.form.Head.TheVariants as head
 use Rattle.rule_language.specs.Spelling.{variable}
 use Rattle.rule_language.specs.inside.Reader.{bindings}
-use Rattle.rule_language.proofs.Read.{atom_read}
+use Rattle.rule_language.proofs.FormsRead.{atom_read}
 use Rattle.rule_language.proofs.Views.{view-Same}
 use Rattle.rule_language.proofs.atoms.read_same.Goals as goal
 

@@ -15,7 +15,7 @@ use Rattle.rule_language.proofs.Bodies.{other_word, no_formula, too_deep, formul
 use Rattle.rule_language.specs.declared.formula.Formula.{And, Or, Not}
 use Rattle.rule_language.specs.declared.form.Form.TheVariants as form
 use Rattle.rule_language.proofs.Views.{view-And, view-Or, view-Not}
-use Rattle.rule_language.proofs.Read.{form_read}
+use Rattle.rule_language.proofs.FormsRead.{form_read}
 use Rattle.rule_language.proofs.Parts.{good-push, count-trees}
 use Rattle.rule_language.proofs.Several.{parts_more, parts_closed, parts_full, parts_fail, quantified_read}
 use Rattle.rule_language.proofs.Binders.{quantified_fails}

@@ -1,0 +1,142 @@
+-- A rule that is read, token by token.
+use Rattle.std.proofs.Common.{◌≡◌, ◌≢◌, ◌∙◌, ℕ, ◌+◌, ◌<◌, ◌≤◌, Bool, true, false, ◌&&◌, List, [], ◌∷◌, ◌++◌, length, map, Ok, Err, Result, refl, ap, sym, subst, arith, Vec, Global}
+use Rattle.std.specs.Prelude.{if◌then◌else◌, nat_lt, not, ◌==◌, codes, string_bytes, IsErrAnd}
+use Rattle.std.specs.Str.{bytes_eq}
+use Rattle.hall_text.specs.declared.spans.Span.{Span}
+use Rattle.rule_language.specs.declared.faults.RuleWhy.{RuleWhy}
+use Rattle.rule_language.specs.declared.faults.RuleWhy.TheVariants.{Shape, SameName}
+use Rattle.rule_language.specs.declared.formula.Formula.{Formula}
+use Rattle.rule_language.specs.declared.formula.Rule.{Rule}
+use Rattle.rule_language.specs.Trees.{RuleTree, count_of}
+use Rattle.rule_language.specs.Forms.{tree_of, rule_tree}
+use Rattle.rule_language.specs.Lawful.{are_formulas, is_name, is_among, is_rule, follow}
+use Rattle.rule_language.specs.Spelling.{Token, left, right, piece, tokens_then, rule_tokens, rules_tokens, StandBefore}
+use Rattle.rule_language.specs.Wants.{Want, more_rules, rule_word, rule_name, formula, close, meets, behind, begin, opening, only, name_in, then_want}
+use Rattle.rule_language.specs.Reading.{IsFirstFault, Reads, answered}
+use Rattle.rule_language.specs.inside.Reader.{Takes, Asks, Fails, FailsAt, IfFault, IsRead, rule_names}
+use Rattle.rule_language.proofs.Refusals.{Passed, one_passed, passed_more, spell_more, behind_more, err_same, at_same, why_same}
+use Rattle.rule_language.proofs.Found.{if_first, if_second, bytes_same}
+use Rattle.rule_language.proofs.Bodies.{formula_passed}
+use Rattle.rule_language.proofs.Passing.{tokens_append}
+use Rattle.rule_language.proofs.RulesPass.{opening_is, rules_pass, rule_good, follow_push, tokens_push}
+use Rattle.rule_language.proofs.Names.{names_are}
+use Rattle.std.proofs.lemmas.List.{length-map}
+use Rattle.std.proofs.lemmas.Bool.{ltb-true}
+use Rattle.rule_language.specs.declared.faults.RuleFault.{RuleFault}
+use Rattle.rule_language.specs.declared.faults.RuleFault.TheVariants.{At, Memory}
+
+pub opening_found : (count : ℕ) (word : Token) (it : Unit {0}) → opening count word ≡ Ok it → (word ≡ left) × (left ≢ []) × (nat_lt count 256 ≡ true)
+opening_found count word it e =
+    let b = if_first (nat_lt count 256) (only left word) Shape it e in
+    let w = if_first (bytes_eq word left) (Ok tt) Shape it b.1 in
+    (bytes_same word left w.0, (λ none. absurd (cc)), b.0)
+
+-- the words that stand there alone
+pub rule_word_asks : (names : List Token) → Asks (only (codes "rule")) (λ rest. rule_word names ∷ rest)
+rule_word_asks names = record { after = λ rest it. rule_name names ∷ rest; met = λ rest token. refl; going = λ rest. refl }
+
+module _ (text : List ℕ) (names : List Token) where
+  pub opened : (a b : Span) → Takes text a b (left ∷ []) → nat_lt (length names) 256 ≡ true
+      → Passed text a.start b.start (left ∷ []) (λ rest. more_rules names ∷ []) (λ rest. rule_word names ∷ [])
+  opened a b takes few =
+      one_passed text a b left (λ rest. more_rules names ∷ []) (λ rest. rule_word names ∷ []) takes
+      (λ rest. ap (λ r. then_want r (λ it. rule_word names ∷ [])) (opening_is (length names) few))
+
+  pub worded : (a b d : Span) → Takes text a b (left ∷ []) → nat_lt (length names) 256 ≡ true → Takes text b d (codes "rule" ∷ [])
+      → Passed text a.start d.start (left ∷ codes "rule" ∷ []) (λ rest. more_rules names ∷ []) (λ rest. rule_name names ∷ [])
+  worded a b d takes few word =
+      passed_more text a.start b.start d.start (left ∷ []) (codes "rule" ∷ []) (λ rest. more_rules names ∷ []) (λ rest. rule_word names ∷ []) (λ rest. rule_name names ∷ [])
+      (opened a b takes few)
+      (one_passed text b d (codes "rule") (λ rest. rule_word names ∷ []) (λ rest. rule_name names ∷ []) word (λ rest. refl))
+
+  pub called : (a b d e : Span) (name : Token) → Takes text a b (left ∷ []) → nat_lt (length names) 256 ≡ true → Takes text b d (codes "rule" ∷ [])
+      → Takes text d e (name ∷ []) → name_in names name ≡ Ok name
+      → Passed text a.start e.start (left ∷ codes "rule" ∷ name ∷ []) (λ rest. more_rules names ∷ []) (λ rest. formula [] 1 ∷ close ∷ more_rules (names ++ name ∷ []) ∷ [])
+  called a b d e name takes few word named found =
+      passed_more text a.start d.start e.start (left ∷ codes "rule" ∷ []) (name ∷ []) (λ rest. more_rules names ∷ []) (λ rest. rule_name names ∷ [])
+      (λ rest. formula [] 1 ∷ close ∷ more_rules (names ++ name ∷ []) ∷ [])
+      (worded a b d takes few word)
+      (one_passed text d e name (λ rest. rule_name names ∷ []) (λ rest. formula [] 1 ∷ close ∷ more_rules (names ++ name ∷ []) ∷ []) named
+      (λ rest. ap (λ r. then_want r (λ n. formula [] 1 ∷ close ∷ more_rules (names ++ n ∷ []) ∷ [])) found))
+
+  pub said : (a e f : Span) (name : Token) (body : Formula)
+      → Passed text a.start e.start (left ∷ codes "rule" ∷ name ∷ []) (λ rest. more_rules names ∷ []) (λ rest. formula [] 1 ∷ close ∷ more_rules (names ++ name ∷ []) ∷ [])
+      → IsRead text e f [] 1 [] body
+      → Passed text a.start f.start ((left ∷ codes "rule" ∷ name ∷ []) ++ tokens_then (tree_of body) []) (λ rest. more_rules names ∷ []) (λ rest. close ∷ more_rules (names ++ name ∷ []) ∷ [])
+  said a e f name body before read =
+      passed_more text a.start e.start f.start (left ∷ codes "rule" ∷ name ∷ []) (tokens_then (tree_of body) []) (λ rest. more_rules names ∷ [])
+      (λ rest. formula [] 1 ∷ close ∷ more_rules (names ++ name ∷ []) ∷ []) (λ rest. close ∷ more_rules (names ++ name ∷ []) ∷ [])
+      before (formula_passed text e f [] 1 body (λ rest. close ∷ more_rules (names ++ name ∷ []) ∷ []) read)
+
+  -- the whole rule
+  pub rule_read : (a f g : Span) (rule : Rule)
+      → Passed text a.start f.start ((left ∷ codes "rule" ∷ string_bytes rule.name ∷ []) ++ tokens_then (tree_of rule.body) []) (λ rest. more_rules names ∷ []) (λ rest. close ∷ more_rules (names ++ string_bytes rule.name ∷ []) ∷ [])
+      → Takes text f g (right ∷ []) → Takes text a g (rule_tokens (rule_tree rule))
+  rule_read a f g rule before closed =
+      let ts = tokens_then (tree_of rule.body) [] in
+      let whole : tokens_then (tree_of rule.body) (right ∷ []) ≡ ts ++ right ∷ [] = tokens_append (tree_of rule.body) [] (right ∷ []) in
+      (
+        rw whole (spell_more text a.start f.start g.start ((left ∷ codes "rule" ∷ string_bytes rule.name ∷ []) ++ ts) (right ∷ []) before.spell closed.0),
+        closed.1,
+      )
+
+abbrev name_ok : Token → Result Token RuleWhy
+name_ok name = Ok name
+
+-- the rule is good behind the others
+named_parts : (names : List Token) (name : Token) (a b : Bool) → is_name name ≡ a → is_among name names ≡ b
+    → (if a then (if b then Err SameName else Ok name) else Err Shape) ≡ name_ok name → (is_name name ≡ true) × (is_among name names ≡ false)
+named_parts names name true true ia ib e = absurd (cc)
+named_parts names name true false ia ib e = (ia, ib)
+named_parts names name false b ia ib e = absurd (cc)
+
+pub rule_is : (names : List Token) (name : Token) (body : Formula) → nat_lt (length names) 256 ≡ true → name_in names name ≡ Ok name
+    → are_formulas [] 1 (tree_of body) ≡ true → count_of (tree_of body) ≡ 1
+    → is_rule names (record { name = name; body = tree_of body }) ≡ true
+rule_is names name body few found good one =
+    let n = named_parts names name (is_name name) (is_among name names) refl refl found in
+    rw few (rw n.0 (rw n.1 (rw one (rw good refl))))
+
+-- a fault behind tokens that met what is wanted is the first of the text
+pub first_fault : (text : List ℕ) (from : ℕ) (before : List Token) (wants : List Want) (at : ℕ) (why : RuleWhy) → StandBefore text from before
+    → behind (Ok begin) before ≡ Ok wants → Fails text from wants at why → IsFirstFault text at why
+first_fault text from before wants at why stand met fails =
+    (fails.left, (before ++ fails.tokens, fails.spell before stand, behind_more begin wants before fails.tokens met ∙ fails.met), fails.cause)
+
+map_more : (rs : List Rule) (r : Rule) → map rule_tree (rs ++ r ∷ []) ≡ map rule_tree rs ++ rule_tree r ∷ []
+map_more [] r = refl
+map_more (q ∷ rs) r = ap (λ ts. rule_tree q ∷ ts) (map_more rs r)
+
+-- a rule more stands before
+pub stand_more : (text : List ℕ) (a b : Span) (rs : List Rule) (r : Rule) → StandBefore text a.start (rules_tokens (map rule_tree rs))
+    → Takes text a b (rule_tokens (rule_tree r)) → StandBefore text b.start (rules_tokens (map rule_tree (rs ++ r ∷ [])))
+stand_more text a b rs r stand takes =
+    rw (map_more rs r) (rw (tokens_push (map rule_tree rs) (rule_tree r)) (takes.0 (rules_tokens (map rule_tree rs)) stand))
+
+pub good_more_rules : (rs : List Rule) (r : Rule) → follow [] (map rule_tree rs) ≡ true → is_rule (rule_names rs) (rule_tree r) ≡ true
+    → follow [] (map rule_tree (rs ++ r ∷ [])) ≡ true
+good_more_rules rs r good one = rw (map_more rs r) (follow_push [] (map rule_tree rs) (rule_tree r) good (rw (names_are rs) at one))
+
+-- there are fewer rules than may be
+pub few_rules : (rs : List Rule) (r : Rule) → is_rule (rule_names rs) (rule_tree r) ≡ true → length rs < 256
+few_rules rs r good =
+    let few : length (rule_names rs) < 256 = ltb-true (length (rule_names rs)) 256 (rule_good (rule_names rs) (rule_tree r) good).few in
+    let same : length (rule_names rs) ≡ length rs = length-map rs (λ (rule : Rule). string_bytes rule.name) in
+    omega arith
+
+-- the fault of a rule behind others
+pub reads_fault : (text : List ℕ) (from : ℕ) (rs : List Rule) (inner : Result Rule RuleFault) (fault : RuleFault) (outer : Result (Vec Rule Global) RuleFault)
+    → StandBefore text from (rules_tokens (map rule_tree rs)) → follow [] (map rule_tree rs) ≡ true → inner ≡ Err fault
+    → IsErrAnd outer (λ e. e ≡ fault) → IfFault inner (FailsAt text from (λ rest. more_rules (rule_names rs) ∷ []))
+    → outer ≢ Err Memory → Reads text (answered outer)
+reads_fault text from rs (Ok r) fault outer stand good is same fact other = absurd (cc)
+reads_fault text from rs (Err f) fault (Ok v) stand good is same fact other = absurd same
+reads_fault text from rs (Err (At at why)) fault (Err (At place cause)) stand good is same fact other =
+    let one : At at why ≡ At place cause = err_same (At at why) fault is ∙ sym same in
+    let met : behind (Ok begin) (rules_tokens (map rule_tree rs)) ≡ Ok (more_rules (rule_names rs) ∷ []) =
+    rules_pass [] (map rule_tree rs) good ∙ ap (λ ns. Ok (more_rules ns ∷ [])) (sym (names_are rs)) in
+    let here : IsFirstFault text at why = first_fault text from (rules_tokens (map rule_tree rs)) (more_rules (rule_names rs) ∷ []) at why stand met (fact []) in
+    rw (← at_same at place why cause one) (rw (← why_same at place why cause one) here)
+reads_fault text from rs (Err Memory) fault (Err (At place cause)) stand good is same fact other =
+    let one : Memory ≡ At place cause = err_same Memory fault is ∙ sym same in absurd (cc)
+reads_fault text from rs (Err f) fault (Err Memory) stand good is same fact other = absurd (other refl)
