@@ -14,3 +14,4 @@ pub mod Several
 pub mod RulesPass
 pub mod Names
 pub mod RuleRead
+pub mod WrittenForms

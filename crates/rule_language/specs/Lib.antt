@@ -6,4 +6,5 @@ pub mod Lawful
 pub mod Spelling
 pub mod Wants
 pub mod Reading
+pub mod Written
 pub mod inside

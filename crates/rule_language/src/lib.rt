@@ -17,6 +17,7 @@ mod scope;
 mod term;
 mod tokens;
 mod words;
+mod writing;
 
 pub use faults::{RuleFault, RuleWhy};
 pub use form::Form;
@@ -25,3 +26,4 @@ pub use kind::{Field, Kind};
 pub use row::Row;
 pub use rules::read;
 pub use term::Term;
+pub use writing::{Memory, write};

@@ -1,0 +1,47 @@
+-- What is written of a formula.
+use Rattle.std.proofs.Common.{◌≡◌, ◌≢◌, ◌∙◌, ℕ, List, [], ◌∷◌, ◌++◌, refl, ap, sym, append_assoc, append-nil}
+use Rattle.rule_language.specs.declared.formula.Formula.{Formula}
+use Rattle.rule_language.specs.declared.form.Form.{Form}
+use Rattle.rule_language.specs.declared.form.Form.TheVariants as form
+use Rattle.rule_language.specs.Trees.{Trees, no_trees, tree_then}
+use Rattle.rule_language.specs.Forms.{in_front, tree_of, trees_of}
+use Rattle.rule_language.specs.Spelling.{form_words}
+use Rattle.rule_language.specs.Written.{joined, form_text, row_text}
+use Rattle.rule_language.proofs.Views.{shape}
+
+-- all but `true` stands in parentheses
+pub enclosed_text : (f : Form) (inside : List ℕ) → f ≢ form.True → form_text f inside ≡ 40 ∷ (joined (form_words f) ++ (inside ++ 41 ∷ []))
+enclosed_text form.True inside other = absurd (other refl)
+enclosed_text (form.ForEvery v k) inside other = refl
+enclosed_text (form.ForSome v k) inside other = refl
+enclosed_text (form.EveryBefore v k u) inside other = refl
+enclosed_text (form.SomeBefore v k u) inside other = refl
+enclosed_text form.And inside other = refl
+enclosed_text form.Or inside other = refl
+enclosed_text form.Not inside other = refl
+enclosed_text form.Implies inside other = refl
+enclosed_text (form.Same v u) inside other = refl
+enclosed_text (form.Before v u) inside other = refl
+enclosed_text (form.Next v u) inside other = refl
+enclosed_text (form.Is v r) inside other = refl
+enclosed_text (form.OfKind v k) inside other = refl
+enclosed_text (form.Equal t u) inside other = refl
+enclosed_text (form.Less t u) inside other = refl
+
+-- a formula in parentheses, piece by piece
+pub written_form : (tree : Trees) (f : Form) (parts : Trees) (old : List ℕ) → tree ≡ tree_then f parts no_trees → f ≢ form.True
+    → ((old ++ 32 ∷ 40 ∷ []) ++ joined (form_words f)) ++ row_text parts ++ 41 ∷ [] ≡ old ++ row_text tree
+written_form tree f parts old is other =
+    append_assoc ((old ++ 32 ∷ 40 ∷ []) ++ joined (form_words f)) (row_text parts) (41 ∷ [])
+    ∙ append_assoc (old ++ 32 ∷ 40 ∷ []) (joined (form_words f)) (row_text parts ++ 41 ∷ [])
+    ∙ append_assoc old (32 ∷ 40 ∷ []) (joined (form_words f) ++ (row_text parts ++ 41 ∷ []))
+    ∙ ap (λ xs. old ++ 32 ∷ xs) (sym (enclosed_text f (row_text parts) other) ∙ sym (append-nil (form_text f (row_text parts))))
+    ∙ ap (λ t. old ++ row_text t) (sym is)
+
+-- a row is written formula by formula
+pub row_front : (p : Formula) (rest : Trees) → row_text (in_front p rest) ≡ row_text (tree_of p) ++ row_text rest
+row_front p rest =
+    let s = shape p in
+    ap row_text (s.2 rest)
+    ∙ ap (λ xs. 32 ∷ (xs ++ row_text rest)) (sym (append-nil (form_text s.0 (row_text s.1))))
+    ∙ sym (ap (λ t. row_text t ++ row_text rest) (s.2 no_trees))
