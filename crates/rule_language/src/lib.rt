@@ -27,3 +27,6 @@ pub use row::Row;
 pub use rules::read;
 pub use term::Term;
 pub use writing::{Memory, write};
+
+#[cfg(test)]
+mod reading_tests;

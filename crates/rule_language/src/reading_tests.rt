@@ -1,0 +1,152 @@
+//! What is read of texts of rules. The expected answers are those of an independent program for the
+//! same texts.
+use crate::{RuleFault, RuleWhy, read, write};
+use hall_text::{decimal, lines};
+use std::alloc::Global;
+use std::test::Fail;
+
+/// The place of the first fault, its cause, and the text, in which `~` stands for a newline. Where
+/// there is none the place is the text's length, and the cause `ok`.
+const ROWS: &str = "\
+0 Shape 
+2 Shape ~~
+0 Shape )
+0 Shape rule
+1 Shape (
+1 Shape (rul O1 true)
+1 Shape ((rule O1 true)
+6 Shape (rule o.1 true)
+6 Shape (rule abcdefghijklmnopq true)
+28 ok (rule abcdefghijklmnop true)
+6 Shape (rule ( true)
+10 Shape (rule O1 ((
+9 Shape (rule O1 maybe)
+13 Shape (rule O1 true
+14 Shape (rule O1 true))
+14 ok (rule O1 true)
+21 SameName (rule O1 true)~(rule O1 true)
+29 ok (rule O1 true)~(rule O2 true)
+15 Shape (rule O1 true) x
+16 Shape (rule O1 true)~(rul
+5 Shape (rule
+6 Shape (rule 
+7 Shape (rule O
+9 Shape (rule O1 tru
+10 Shape (rule O1 (eve
+29 ok (rule a (every x entry true))
+15 Shape (rule a (every X entry true))
+15 Shape (rule a (every xy entry true))
+15 Shape (rule a (every ( entry true))
+17 UnknownKind (rule a (every x every true))
+17 Shape (rule a (every x ( true))
+29 SameName (rule a (every x entry (some x opened true)))
+56 ok (rule a (and (every x entry true) (some x opened true)))
+30 Unbound (rule a (every x entry before x true))
+54 ok (rule a (every x entry (some y opened before x true)))
+45 Unbound (rule a (every x entry (some y opened before y true)))
+45 Unbound (rule a (every x entry (some y opened before z true)))
+45 Shape (rule a (every x entry (some y opened before Z true)))
+29 Shape (rule a (every x entry before
+36 ok (rule a (every x entry (and true)) )
+37 ok (rule a (every x entry (before x x)))
+33 Unbound (rule a (every x entry (before x y)))
+40 Unbound (rule a (and (every x entry true) (same x x)))
+31 Shape (rule a (every x entry (same x X)))
+34 Shape (rule a (every x entry (next x x) true))
+37 ok (rule a (every x entry (is x booth)))
+29 Shape (rule a (every x entry (is x clerk)))
+43 ok (rule a (every x entry (is x supervisor) ))
+38 ok (rule a (every x entry (kind x cast)))
+31 UnknownKind (rule a (every x entry (kind x vote)))
+31 Shape (rule a (every x entry (kind x ))))
+29 Unbound (rule a (every x entry (kind y vote)))
+47 ok (rule a (every x cast (= x.session x.session)))
+26 WrongField (rule a (every x entry (= x.session x.session)))
+35 WrongField (rule a (every x cast (= x.session x.number)))
+33 WrongField (rule a (every x cast (= x.maker x.booth)))
+48 ok (rule a (every x authorise (= x.maker x.booth)))
+25 WrongField (rule a (every x cast (< x.maker x.maker)))
+25 WrongField (rule a (every x cast (< x.ballot x.ballot)))
+47 ok (rule a (every x cast (< x.session x.session)))
+47 ok (rule a (every x cast (< x.number 4294967295)))
+34 Shape (rule a (every x cast (< x.number 4294967296)))
+27 Shape (rule a (every x cast (= 0 00)))
+25 WrongField (rule a (every x cast (= x. 0)))
+25 WrongField (rule a (every x cast (= x.a.b 0)))
+25 Unbound (rule a (every x cast (= y.a.b 0)))
+25 Shape (rule a (every x cast (= x,number 0)))
+25 Shape (rule a (every x cast (= X.number 0)))
+25 Shape (rule a (every x cast (= ( 0)))
+33 Shape (rule a (every x cast (= x.number)))
+36 Shape (rule a (every x cast (= x.number 0 0)))
+50 ok (rule a (every x challenge (= x.ballot x.ballot)))
+49 ok (rule a (every x forced (= x.session x.session)))
+27 WrongField (rule a (every x opened (= x.session 1)))
+27 WrongField (rule a (every x cancel (= x.ballot x.ballot)))
+77 ok (rule a (every a entry (every b entry (every c entry (every d entry true)))))
+69 TooDeep (rule a (every a entry (every b entry (every c entry (every d entry (every e entry true))))))
+69 TooDeep (rule a (every a entry (every b entry (every c entry (every d entry (some 9
+12 Shape (rule a (and))
+11 Shape (rule a (or))
+12 Shape (rule a (not))
+18 Shape (rule a (not true true))
+21 Shape (rule a (implies true))
+27 Shape (rule a (implies true true true))
+9 Shape (rule a (xor true))
+9 Shape (rule a ())
+44 ok (rule a (implies true (not (or true true))))
+0 Token \x01
+5 Token (rule\x01
+8 Token (rule O1\x7f true)
+13 Token (rule O1 true\u{80}
+10 Token (rule O1 (\x02
+21 SameName (rule O1 true) (rule O1 (
+17 UnknownKind (rule a (every x nokind (
+30 SameName (rule a (every x entry (every x nokind true)))
+26 Unbound (rule a (every x entry (= y.nofield 0)))
+26 WrongField (rule a (every x entry (< x.maker x.nofield)))
+";
+
+/// The place and the word of the answer.
+fn answer_of(alloc: Global, text: &[u8]) -> Result<(usize, &'static [u8]), Fail> {
+    match read(alloc, text) {
+        Ok(_) => Ok((text.len(), b"ok")),
+        Err(RuleFault::At { at, why }) => Ok((at, why.word())),
+        Err(fault) => Err(fault.into()),
+    }
+}
+
+/// The row with its newlines.
+fn text_of(alloc: Global, row: &[u8]) -> Result<Vec<u8>, Fail> {
+    let mut text = Vec::new(alloc);
+    for byte in row {
+        text.push(if *byte == b'~' { b'\n' } else { *byte })?;
+    }
+    Ok(text)
+}
+
+/// The first word of a row, and what stands behind it and the space.
+fn split(row: &[u8]) -> (&[u8], &[u8]) {
+    for (at, byte) in row.iter().enumerate() {
+        if *byte == b' ' {
+            return (&row[..at], &row[at + 1..]);
+        }
+    }
+    (row, b"")
+}
+
+#[test]
+fn the_first_fault_is_told_with_its_place_and_cause(rt: HostRuntime) -> Result<(), Fail> {
+    let alloc = rt.alloc();
+    let rows = ROWS.as_bytes();
+    for line in lines(alloc, rows)?.as_slice() {
+        let row = rows.get(line.start..line.end).ok_or("line")?;
+        let (place, rest) = split(row);
+        let (cause, text) = split(rest);
+        let text = text_of(alloc, text)?;
+        let (at, word) = answer_of(alloc, text.as_slice())?;
+        assert_eq!(rt; decimal(place), Some(at as u32), "place of {row:?}");
+        assert_eq!(rt; word, cause, "cause of {row:?}");
+    }
+    Ok(())
+}
