@@ -15,3 +15,5 @@ pub mod RulesPass
 pub mod Names
 pub mod RuleRead
 pub mod WrittenForms
+pub mod Spells
+pub mod WrittenTexts

@@ -16,7 +16,7 @@ use Rattle.rule_language.proofs.Found.{both_true, if_first, if_second}
 use Rattle.rule_language.proofs.RulesPass.{names_of}
 
 -- one of two tests
-either_true : (a b : Bool) (P : Type 0) → (a ≡ true → P) → (b ≡ true → P) → (a || b) ≡ true → P
+pub either_true : (a b : Bool) (P : Type 0) → (a ≡ true → P) → (b ≡ true → P) → (a || b) ≡ true → P
 either_true true b P f g e = f refl
 either_true false b P f g e = g e
 
