@@ -17,3 +17,6 @@ pub mod RuleRead
 pub mod WrittenForms
 pub mod Spells
 pub mod WrittenTexts
+pub mod Decoding
+pub mod OneList
+pub mod OneFault

@@ -47,7 +47,7 @@ kind_named_word kind.Cast = refl
 kind_named_word kind.Cancel = refl
 kind_named_word kind.Challenge = refl
 
-field_named_word : (f : Field) → field_named (field_word f) ≡ Some f
+pub field_named_word : (f : Field) → field_named (field_word f) ≡ Some f
 field_named_word field.Maker = refl
 field_named_word field.Booth = refl
 field_named_word field.Number = refl
@@ -115,7 +115,7 @@ field_is v (Some k) f s e = rw (field_named_word f) (has (has_field k f) e)
     has false e = absurd (cc)
 
 -- no number begins with a letter
-no_number : (v : ℕ) (word : Token) → is_letter v ≡ true → number_in (v ∷ word) ≡ None
+pub no_number : (v : ℕ) (word : Token) → is_letter v ≡ true → number_in (v ∷ word) ≡ None
 no_number v word letter = cases (number_in (v ∷ word)) refl
   where
     digits : (n : ℕ) → n < 2 ^ 32 → v ∷ word ≡ decimal n → AreDigits (v ∷ word)

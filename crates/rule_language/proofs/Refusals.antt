@@ -91,10 +91,10 @@ pub spell_more : (text : List ℕ) (a b c : ℕ) (first second : List Token) →
 spell_more text a b c first second to on before stand =
     subst (StandBefore text c) (append_assoc before first second) (on (before ++ first) (to before stand))
 
-abbrev met_of : List Want → Met
+abbrev pub met_of : List Want → Met
 met_of wants = Ok wants
 
-stuck : (reason : RuleWhy) (ts : List Token) → behind (Err reason) ts ≡ Err reason
+pub stuck : (reason : RuleWhy) (ts : List Token) → behind (Err reason) ts ≡ Err reason
 stuck reason [] = refl
 stuck reason (t ∷ ts) = refl
 
@@ -219,11 +219,11 @@ same_cause text token wants other why next here going (inr (inl stands)) =
     inr (inl (stands.0, stands.1, ap (meets wants) one ∙ sym here ∙ sym (ap (meets other) one) ∙ stands.2))
 same_cause text token wants other why next here going (inr (inr ended)) = inr (inr (ended.0, going, ended.2))
 
-ok_wants : (x y : List Want) → met_of x ≡ met_of y → x ≡ y
+pub ok_wants : (x y : List Want) → met_of x ≡ met_of y → x ≡ y
 ok_wants x y e = cc
 
 -- the first token that was met shows what is left
-first_met : (wants : List Want) (t : Token) (ts : List Token) (left : List Want) → behind (Ok wants) (t ∷ ts) ≡ Ok left
+pub first_met : (wants : List Want) (t : Token) (ts : List Token) (left : List Want) → behind (Ok wants) (t ∷ ts) ≡ Ok left
     → (next : List Want) × (meets wants t ≡ Ok next) × (behind (Ok next) ts ≡ Ok left)
 first_met wants t ts left e = cases (meets wants t) refl
   where

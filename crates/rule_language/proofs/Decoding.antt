@@ -1,0 +1,163 @@
+-- Tokens are those of one list of rules.
+use Rattle.std.proofs.Common.{◌≡◌, ◌≢◌, ◌⊎◌, inl, inr, ◌∙◌, ℕ, ◌+◌, ◌^◌, ◌<◌, zero, suc, Bool, true, false, ◌&&◌, List, [], ◌∷◌, ◌++◌, length, Option, Some, None, Result, Ok, Err, refl, ap, sym, subst, ⊎_elim, arith, append_assoc}
+use Rattle.std.specs.Prelude.{nat_lt, not, ◌==◌, if◌then◌else◌, codes, is_some}
+use Rattle.std.specs.Str.{bytes_eq}
+use Rattle.std.specs.Fmt.{decimal}
+use Rattle.std.proofs.lemmas.Bool.{ltb-true, eqb-true}
+use Rattle.roster.specs.declared.post.Role.{Role}
+use Rattle.roster.specs.declared.post.Role.TheVariants as role
+use Rattle.roster.specs.RosterText.{role_word}
+use Rattle.rule_language.specs.declared.kind.Kind.{Kind}
+use Rattle.rule_language.specs.declared.kind.Kind.TheVariants as kind
+use Rattle.rule_language.specs.declared.kind.Field.{Field}
+use Rattle.rule_language.specs.declared.kind.Field.TheVariants as field
+use Rattle.rule_language.specs.declared.kind.Sort.{Sort}
+use Rattle.rule_language.specs.declared.term.Term.{Term}
+use Rattle.rule_language.specs.declared.term.Term.TheVariants.{Of, Number}
+use Rattle.rule_language.specs.declared.form.Form.{Form}
+use Rattle.rule_language.specs.declared.form.Form.TheVariants as form
+use Rattle.rule_language.specs.declared.form.Head.{Head}
+use Rattle.rule_language.specs.declared.form.Head.TheVariants as begins
+use Rattle.rule_language.specs.Kinds.{kind_word, kind_named, field_word, field_named, role_named, head_named}
+use Rattle.rule_language.specs.Scopes.{Scope, kind_in, is_letter}
+use Rattle.rule_language.specs.Trees.{Trees, no_trees, tree_then, count_of, RuleTree}
+use Rattle.rule_language.specs.Lawful.{is_bound, sort_of, are_of_one_sort, has_order, is_closed, has_arity, is_shallow, scope_in, are_formulas, is_rule, follow, are_rules}
+use Rattle.rule_language.specs.Spelling.{Token, left, right, variable, term_word, form_words, spelt, tokens_then, rule_tokens, rules_tokens}
+use Rattle.rule_language.specs.Wants.{number_in, term_in, Typed}
+use Rattle.rule_language.proofs.Found.{both_true, bytes_same}
+use Rattle.rule_language.proofs.Bodies.{bytes_differ}
+use Rattle.rule_language.proofs.Passing.{spelt_cases, tokens_append, field_named_word, no_number}
+use Rattle.rule_language.proofs.Passes.{may_stand}
+use Rattle.rule_language.proofs.Numbers.{number-found}
+use Rattle.rule_language.proofs.RulesPass.{rule_good}
+
+-- the first byte of a word
+abbrev pub first_of : Token → ℕ
+first_of [] = 0
+first_of (byte ∷ bytes) = byte
+
+-- the kind, the role and the term that a word is, or some other where it is none
+abbrev pub kind_or : Option Kind → Kind
+kind_or None = kind.Any
+kind_or (Some k) = k
+
+abbrev pub role_or : Option Role → Role
+role_or None = role.Booth
+role_or (Some r) = r
+
+abbrev pub field_or : Option Field → Field
+field_or None = field.Maker
+field_or (Some f) = f
+
+abbrev pub number_or_field : Option ℕ → Token → Term
+number_or_field (Some n) word = Number n
+number_or_field None [] = Number 0
+number_or_field None (v ∷ []) = Number 0
+number_or_field None (v ∷ dot ∷ name) = Of v (field_or (field_named name))
+
+abbrev pub term_of : Token → Term
+term_of word = number_or_field (number_in word) word
+
+-- the form that words are, and what stands behind them
+abbrev pub Decoded : Type 0
+Decoded = Form × List Token
+
+abbrev pub decoded_as : Form → List Token → Decoded
+decoded_as f ts = (f, ts)
+
+abbrev pub ranged : Bool → ℕ → Kind → Bool → List Token → List Token → Decoded
+ranged true v k false ts after = (form.ForEvery v k, ts)
+ranged false v k false ts after = (form.ForSome v k, ts)
+ranged every v k true ts [] = (form.True, [])
+ranged true v k true ts (u ∷ after) = (form.EveryBefore v k (first_of u), after)
+ranged false v k true ts (u ∷ after) = (form.SomeBefore v k (first_of u), after)
+
+abbrev pub quantified_of : Bool → List Token → Decoded
+quantified_of every (v ∷ k ∷ t ∷ ts) = ranged every (first_of v) (kind_or (kind_named k)) (bytes_eq t (codes "before")) (t ∷ ts) ts
+quantified_of every ts = (form.True, [])
+
+abbrev pub two_of : (Token → Token → Form) → List Token → Decoded
+two_of make (v ∷ u ∷ ts) = (make v u, ts)
+two_of make ts = (form.True, [])
+
+abbrev pub decoded_by : Option Head → List Token → Decoded
+decoded_by None ts = (form.True, ts)
+decoded_by (Some begins.ForEvery) ts = quantified_of true ts
+decoded_by (Some begins.ForSome) ts = quantified_of false ts
+decoded_by (Some begins.And) ts = (form.And, ts)
+decoded_by (Some begins.Or) ts = (form.Or, ts)
+decoded_by (Some begins.Not) ts = (form.Not, ts)
+decoded_by (Some begins.Implies) ts = (form.Implies, ts)
+decoded_by (Some begins.Same) ts = two_of (λ v u. form.Same (first_of v) (first_of u)) ts
+decoded_by (Some begins.Before) ts = two_of (λ v u. form.Before (first_of v) (first_of u)) ts
+decoded_by (Some begins.Next) ts = two_of (λ v u. form.Next (first_of v) (first_of u)) ts
+decoded_by (Some begins.Is) ts = two_of (λ v r. form.Is (first_of v) (role_or (role_named r))) ts
+decoded_by (Some begins.OfKind) ts = two_of (λ v k. form.OfKind (first_of v) (kind_or (kind_named k))) ts
+decoded_by (Some begins.Equal) ts = two_of (λ t u. form.Equal (term_of t) (term_of u)) ts
+decoded_by (Some begins.Less) ts = two_of (λ t u. form.Less (term_of t) (term_of u)) ts
+
+abbrev pub decoded : List Token → Decoded
+decoded [] = (form.True, [])
+decoded (w ∷ ts) = decoded_by (head_named w) ts
+
+kind_back : (k : Kind) → kind_or (kind_named (kind_word k)) ≡ k
+kind_back kind.Any = refl
+kind_back kind.Opened = refl
+kind_back kind.Authorise = refl
+kind_back kind.Override = refl
+kind_back kind.Forced = refl
+kind_back kind.Closed = refl
+kind_back kind.Activate = refl
+kind_back kind.Commit = refl
+kind_back kind.Cast = refl
+kind_back kind.Cancel = refl
+kind_back kind.Challenge = refl
+
+role_back : (r : Role) → role_or (role_named (role_word r)) ≡ r
+role_back role.Supervisor = refl
+role_back role.Booth = refl
+
+-- a term that has a sort is that which its word is
+term_back : (scope : Scope) (t : Term) → is_some (sort_of scope t) ≡ true → term_of (term_word t) ≡ t
+term_back scope (Number n) some = number (nat_lt n (2 ^ 32)) refl
+  where
+    number : (b : Bool) → nat_lt n (2 ^ 32) ≡ b → term_of (decimal n) ≡ Number n
+    number true small = rw (number-found (decimal n) n (ltb-true n (2 ^ 32) small) refl) refl
+    number false large = let shut : false ≡ true = rw large at some in absurd (cc)
+term_back scope (Of v f) some = letter (is_letter v) refl
+  where
+    letter : (b : Bool) → is_letter v ≡ b → term_of (v ∷ 46 ∷ field_word f) ≡ Of v f
+    letter true l = rw (no_number v (46 ∷ field_word f) l) (rw (field_named_word f) refl)
+    letter false l = let shut : false ≡ true = rw l at some in absurd (cc)
+
+sorts_some : (a b : Option Sort) → are_of_one_sort a b ≡ true → (is_some a ≡ true) × (is_some b ≡ true)
+sorts_some None b e = absurd (cc)
+sorts_some (Some s) None e = absurd (cc)
+sorts_some (Some s) (Some o) e = (refl, refl)
+
+terms_back : (scope : Scope) (t u : Term) (make : Term → Term → Form) (after : List Token) → are_of_one_sort (sort_of scope t) (sort_of scope u) ≡ true
+    → (make (term_of (term_word t)) (term_of (term_word u)), after) ≡ decoded_as (make t u) after
+terms_back scope t u make after same =
+    let s = sorts_some (sort_of scope t) (sort_of scope u) same in
+    rw (term_back scope t s.0) (rw (term_back scope u s.1) refl)
+
+-- the words of a form are decoded as it
+pub form_back : (scope : Scope) (f : Form) (t : Token) (ts : List Token) → is_closed scope f ≡ true → f ≢ form.True → bytes_eq t (codes "before") ≡ false
+    → decoded (form_words f ++ t ∷ ts) ≡ decoded_as f (t ∷ ts)
+form_back scope form.True t ts good other first = absurd (other refl)
+form_back scope (form.ForEvery v k) t ts good other first = rw first (rw (kind_back k) refl)
+form_back scope (form.ForSome v k) t ts good other first = rw first (rw (kind_back k) refl)
+form_back scope (form.EveryBefore v k u) t ts good other first = rw (kind_back k) refl
+form_back scope (form.SomeBefore v k u) t ts good other first = rw (kind_back k) refl
+form_back scope form.And t ts good other first = refl
+form_back scope form.Or t ts good other first = refl
+form_back scope form.Not t ts good other first = refl
+form_back scope form.Implies t ts good other first = refl
+form_back scope (form.Same v u) t ts good other first = refl
+form_back scope (form.Before v u) t ts good other first = refl
+form_back scope (form.Next v u) t ts good other first = refl
+form_back scope (form.Is v r) t ts good other first = rw (role_back r) refl
+form_back scope (form.OfKind v k) t ts good other first = rw (kind_back k) refl
+form_back scope (form.Equal t1 t2) t ts good other first = terms_back scope t1 t2 (λ x y. form.Equal x y) (t ∷ ts) good
+form_back scope (form.Less t1 t2) t ts good other first =
+    terms_back scope t1 t2 (λ x y. form.Less x y) (t ∷ ts) (both_true (has_order (sort_of scope t1)) (are_of_one_sort (sort_of scope t1) (sort_of scope t2)) good).1
