@@ -20,3 +20,5 @@ pub mod WrittenTexts
 pub mod Decoding
 pub mod OneList
 pub mod OneFault
+pub mod OneReading
+pub mod StandardText

@@ -7,4 +7,5 @@ pub mod Spelling
 pub mod Wants
 pub mod Reading
 pub mod Written
+pub mod Standard
 pub mod inside

@@ -10,10 +10,12 @@ mod form;
 mod formula;
 mod formulas;
 mod kind;
+mod laws;
 mod reading;
 mod row;
 mod rules;
 mod scope;
+mod standard_text;
 mod term;
 mod tokens;
 mod words;
@@ -24,7 +26,12 @@ pub use form::Form;
 pub use formula::{Formula, Rule};
 pub use kind::{Field, Kind};
 pub use row::Row;
+pub use laws::{
+    one_reading_is_right, texts_have_one_list_of_rules, texts_of_rules_have_no_fault,
+    written_rules_are_read_back,
+};
 pub use rules::read;
+pub use standard_text::{STANDARD, standard, the_standard_text_is_written};
 pub use term::Term;
 pub use writing::{Memory, write};
 

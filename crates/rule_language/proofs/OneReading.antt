@@ -1,0 +1,41 @@
+-- A text is read in one way.
+use Rattle.std.proofs.Common.{◌≡◌, ◌∙◌, ℕ, List, length, Result, Ok, Err, true, ◌&&◌, refl, ap, sym}
+use Rattle.std.specs.Prelude.{nat_lt, []}
+use Rattle.rule_language.specs.declared.faults.RuleWhy.{RuleWhy}
+use Rattle.rule_language.specs.declared.faults.RuleFault.{RuleFault}
+use Rattle.rule_language.specs.declared.faults.RuleFault.TheVariants.{At, Memory}
+use Rattle.rule_language.specs.Trees.{RuleTree}
+use Rattle.rule_language.specs.Lawful.{follow}
+use Rattle.rule_language.specs.Spelling.{IsTextOf, rules_tokens}
+use Rattle.rule_language.specs.Reading.{Reads}
+use Rattle.rule_language.proofs.Found.{both_true}
+use Rattle.rule_language.proofs.RulesPass.{no_fault}
+use Rattle.rule_language.proofs.OneList.{rules_same}
+use Rattle.rule_language.proofs.OneFault.{one_before, one_fault, fault_or_none}
+
+pub one_text : (text : List ℕ) (rs qs : List RuleTree) → IsTextOf text rs → IsTextOf text qs → rs ≡ qs
+one_text text rs qs a b =
+    rules_same [] rs qs (both_true (nat_lt 0 (length rs)) (follow [] rs) a.lawful).1 (both_true (nat_lt 0 (length qs)) (follow [] qs) b.lawful).1
+    (one_before text (length text) (rules_tokens rs) (rules_tokens qs) a.tokens b.tokens)
+
+abbrev Answer : Type 0
+Answer = Result (List RuleTree) RuleFault
+
+abbrev faulty : ℕ → RuleWhy → Answer
+faulty at why = Err (At at why)
+
+abbrev good : List RuleTree → Answer
+good rs = Ok rs
+
+faulty_same : (at place : ℕ) (why cause : RuleWhy) → at ≡ place → why ≡ cause → faulty at why ≡ faulty place cause
+faulty_same at place why cause a b = cc
+
+pub one_reading : (text : List ℕ) (answer other : Answer) → Reads text answer → Reads text other → answer ≡ other
+one_reading text (Ok rs) (Ok qs) a b = ap good (one_text text rs qs a b)
+one_reading text (Ok rs) (Err (At at why)) a b = absurd (fault_or_none text at why b (no_fault text rs a))
+one_reading text (Err (At at why)) (Ok qs) a b = absurd (fault_or_none text at why a (no_fault text qs b))
+one_reading text (Err (At at why)) (Err (At place cause)) a b =
+    let same = one_fault text at place why cause a b in faulty_same at place why cause same.0 same.1
+one_reading text (Err Memory) other a b = absurd a
+one_reading text (Ok rs) (Err Memory) a b = absurd b
+one_reading text (Err (At at why)) (Err Memory) a b = absurd b

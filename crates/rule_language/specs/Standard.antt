@@ -1,0 +1,161 @@
+-- The standard rules, which hold of every honest election.
+use Rattle.std.specs.Prelude.{ℕ, List, [], ◌∷◌, codes}
+use Rattle.roster.specs.declared.post.Role.{Role}
+use Rattle.roster.specs.declared.post.Role.TheVariants.{Supervisor, Booth}
+use Rattle.rule_language.specs.declared.kind.Kind.{Kind}
+use Rattle.rule_language.specs.declared.kind.Kind.TheVariants as kind
+use Rattle.rule_language.specs.declared.term.Term.{Term}
+use Rattle.rule_language.specs.declared.term.Term.TheVariants.{Of, Number}
+use Rattle.rule_language.specs.declared.kind.Field.TheVariants as field
+use Rattle.rule_language.specs.declared.form.Form.{Form}
+use Rattle.rule_language.specs.declared.form.Form.TheVariants as form
+use Rattle.rule_language.specs.Trees.{Trees, no_trees, tree_then, RuleTree}
+
+-- a formula, put in front of others
+abbrev pub Inner : Type 0
+Inner = Trees → Trees
+
+-- the variables
+abbrev x : ℕ
+x = 120
+
+abbrev y : ℕ
+y = 121
+
+abbrev z : ℕ
+z = 122
+
+-- a form with no formula, one, or more in it
+
+abbrev atom : Form → Inner
+atom form rest = tree_then form no_trees rest
+
+abbrev one : Form → Inner → Inner
+one form f rest = tree_then form (f no_trees) rest
+
+abbrev two : Form → Inner → Inner → Inner
+two form f g rest = tree_then form (f (g no_trees)) rest
+
+abbrev three : Form → Inner → Inner → Inner → Inner
+three form f g h rest = tree_then form (f (g (h no_trees))) rest
+
+abbrev five : Form → Inner → Inner → Inner → Inner → Inner → Inner
+five form f g h k l rest = tree_then form (f (g (h (k (l no_trees))))) rest
+
+-- what the rules say of two entries
+abbrev same_session : ℕ → ℕ → Inner
+same_session v u = atom (form.Equal (Of v field.Session) (Of u field.Session))
+
+abbrev same_maker : ℕ → ℕ → Inner
+same_maker v u = atom (form.Equal (Of v field.Maker) (Of u field.Maker))
+
+abbrev same_ballot : ℕ → ℕ → Inner
+same_ballot v u = atom (form.Equal (Of v field.Ballot) (Of u field.Ballot))
+
+abbrev same_number : ℕ → ℕ → Inner
+same_number v u = atom (form.Equal (Of v field.Number) (Of u field.Number))
+
+abbrev booth_is_maker : ℕ → ℕ → Inner
+booth_is_maker v u = atom (form.Equal (Of v field.Booth) (Of u field.Maker))
+
+abbrev is_same : Inner
+is_same = atom (form.Same x y)
+
+abbrev of_kind : Kind → Inner
+of_kind kind = atom (form.OfKind x kind)
+
+-- quantifiers
+abbrev every_x : Kind → Inner → Trees
+every_x kind f = one (form.ForEvery x kind) f no_trees
+
+abbrev every_y : Kind → Inner → Inner
+every_y kind f = one (form.ForEvery y kind) f
+
+abbrev every_z : Kind → Inner → Inner
+every_z kind f = one (form.ForEvery z kind) f
+
+abbrev some_y_before : Kind → Inner → Inner
+some_y_before kind f = one (form.SomeBefore y kind x) f
+
+abbrev some_z_before : Kind → Inner → Inner
+some_z_before kind f = one (form.SomeBefore z kind x) f
+
+abbrev some_z_before_y : Kind → Inner → Inner
+some_z_before_y kind f = one (form.SomeBefore z kind y) f
+
+abbrev never : Inner → Inner
+never f = one form.Not f
+
+abbrev pub o1 : Trees
+o1 = every_x kind.Opened (every_y kind.Opened is_same)
+abbrev pub o2 : Trees
+o2 = every_x kind.Authorise (some_y_before kind.Opened (atom form.True))
+abbrev pub a1 : Trees
+a1 = every_x kind.Activate (some_y_before kind.Authorise (two form.And (same_session y x) (booth_is_maker y x)))
+abbrev pub a2 : Trees
+a2 = every_x kind.Authorise (every_y kind.Authorise (two form.Implies (same_session x y) is_same))
+abbrev pub c1 : Trees
+c1 = every_x kind.Commit (some_y_before kind.Activate (two form.And (same_maker y x) (same_session y x)))
+abbrev pub c2 : Trees
+c2 = every_x kind.Cast (some_y_before kind.Commit
+    (three form.And (same_maker y x) (same_session y x) (same_ballot y x)))
+abbrev pub c3 : Trees
+c3 = every_x kind.Cast (every_y kind.Cast (two form.Implies (same_session x y) is_same))
+abbrev pub c4 : Trees
+c4 = every_x kind.Cast (two form.And (every_y kind.Cancel (never (same_session x y)))
+    (every_z kind.Challenge (never (same_session x z))))
+abbrev pub c5 : Trees
+c5 = every_x kind.Cancel (some_y_before kind.Authorise (two form.And (same_session y x) (booth_is_maker y x)))
+abbrev pub v1 : Trees
+v1 = every_x kind.Override (some_y_before kind.Authorise (same_session y x))
+abbrev pub v2 : Trees
+v2 = every_x kind.Cast (never (some_y_before kind.Override (same_session y x)))
+abbrev pub p1 : Trees
+p1 = every_x kind.Closed (every_y kind.Closed is_same)
+abbrev pub p2 : Trees
+p2 = every_x kind.Authorise (never (some_y_before kind.Closed (atom form.True)))
+abbrev pub p3 : Trees
+p3 = every_x kind.Authorise (every_y kind.Closed (two form.Implies (atom (form.Before x y))
+    (three form.Or (some_z_before_y kind.Cast (same_session z x)) (some_z_before_y kind.Cancel (same_session z x))
+    (some_z_before_y kind.Challenge (same_session z x)))))
+abbrev pub p4 : Trees
+p4 = every_x kind.Cast (never (some_y_before kind.Closed (atom form.True)))
+abbrev pub m1 : Trees
+m1 = every_x kind.Any (two form.Or
+    (two form.And (atom (form.Is x Supervisor)) (five form.Or (of_kind kind.Opened) (of_kind kind.Authorise)
+    (of_kind kind.Override) (of_kind kind.Forced) (of_kind kind.Closed)))
+    (two form.And (atom (form.Is x Booth)) (five form.Or (of_kind kind.Activate) (of_kind kind.Commit)
+    (of_kind kind.Cast) (of_kind kind.Cancel) (of_kind kind.Challenge))))
+abbrev pub k1 : Trees
+k1 = every_x kind.Any (every_y kind.Any (two form.Implies
+    (two form.And (same_maker x y) (same_number x y)) is_same))
+abbrev pub k2 : Trees
+k2 = every_x kind.Any (two form.Or (atom (form.Equal (Of x field.Number) (Number 0)))
+    (some_y_before kind.Any (atom (form.Next y x))))
+abbrev pub c6 : Trees
+c6 = every_x kind.Challenge (some_y_before kind.Commit
+    (three form.And (same_maker y x) (same_session y x) (same_ballot y x)))
+abbrev pub c7 : Trees
+c7 = every_x kind.Challenge (two form.And (every_y kind.Challenge (two form.Implies (same_session x y) is_same))
+    (every_z kind.Cancel (never (same_session x z))))
+abbrev pub v3 : Trees
+v3 = every_x kind.Challenge (two form.And (never (some_y_before kind.Override (same_session y x)))
+    (never (some_z_before kind.Forced (same_session z x))))
+abbrev pub v4 : Trees
+v4 = every_x kind.Forced (two form.And (some_y_before kind.Authorise (same_session y x))
+    (some_z_before kind.Commit (same_session z x)))
+
+abbrev named : List ℕ → Trees → RuleTree
+named name body = record { name = name; body = body }
+
+-- one opening, before every authorising (O); a booth acts on its own authorised session alone (A), and commits, casts,
+-- challenges or cancels it in order (C); overrides concern authorised sessions and precede no cast that they forbid (V);
+-- one closing, after which nothing is authorised or cast (P); each role its deeds (M); no fork, and a chain (K)
+abbrev pub standard_rules : List RuleTree
+standard_rules =
+    named (codes "O1") o1 ∷ named (codes "O2") o2 ∷ named (codes "A1") a1 ∷ named (codes "A2") a2
+    ∷ named (codes "C1") c1 ∷ named (codes "C2") c2 ∷ named (codes "C3") c3 ∷ named (codes "C4") c4
+    ∷ named (codes "C5") c5 ∷ named (codes "V1") v1 ∷ named (codes "V2") v2 ∷ named (codes "P1") p1
+    ∷ named (codes "P2") p2 ∷ named (codes "P3") p3 ∷ named (codes "P4") p4 ∷ named (codes "M1") m1
+    ∷ named (codes "K1") k1 ∷ named (codes "K2") k2 ∷ named (codes "C6") c6 ∷ named (codes "C7") c7
+    ∷ named (codes "V3") v3 ∷ named (codes "V4") v4 ∷ []
