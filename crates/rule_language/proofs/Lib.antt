@@ -22,3 +22,7 @@ pub mod OneList
 pub mod OneFault
 pub mod OneReading
 pub mod StandardText
+pub mod Fills
+pub mod Completing
+pub mod CompletingHeads
+pub mod OfRules

@@ -13,6 +13,11 @@ pub fn texts_of_rules_have_no_fault()
     ensures { (text : List ℕ) (rules : List RuleTree) → IsTextOf text rules → HasNoFault text }
 {}
 
+/// A text without a fault is one of rules.
+pub fn texts_without_a_fault_are_of_rules()
+    ensures { (text : List ℕ) → HasNoFault text → (rules : List RuleTree) × IsTextOf text rules }
+{}
+
 /// A text is one of at most one list of rules.
 pub fn texts_have_one_list_of_rules()
     ensures { (text : List ℕ) (rules other : List RuleTree) →

@@ -1,0 +1,177 @@
+-- Tokens that pass fill the wants: one token behind another.
+use Rattle.std.proofs.Common.{◌≡◌, ◌≢◌, ◌⊎◌, inl, inr, ◌∙◌, ℕ, ◌+◌, ◌-◌, ◌<◌, ◌≤◌, zero, suc, Bool, true, false, ◌&&◌, List, [], ◌∷◌, ◌++◌, length, Option, Some, None, Result, Ok, Err, refl, ap, sym, subst, ⊎_elim, arith, append_assoc}
+use Rattle.std.specs.Prelude.{nat_lt, nat_le, not, ◌==◌, if◌then◌else◌, codes, is_some}
+use Rattle.std.specs.Str.{bytes_eq}
+use Rattle.std.proofs.lemmas.Bool.{ltb-true, lt-ltb, leb-true, leb-false, eq-eqb, ne_eqb, eqb-false}
+use Rattle.rule_language.specs.declared.kind.Kind.{Kind}
+use Rattle.rule_language.specs.declared.kind.Sort.{Sort}
+use Rattle.rule_language.specs.declared.term.Term.{Term}
+use Rattle.rule_language.specs.declared.form.Form.{Form}
+use Rattle.rule_language.specs.declared.form.Form.TheVariants as form
+use Rattle.rule_language.specs.declared.form.Head.{Head}
+use Rattle.rule_language.specs.declared.form.Head.TheVariants as begins
+use Rattle.rule_language.specs.declared.faults.RuleWhy.{RuleWhy}
+use Rattle.rule_language.specs.declared.faults.RuleWhy.TheVariants.{Shape, TooDeep}
+use Rattle.rule_language.specs.Kinds.{kind_word, head_word, is_same_sort, is_ordered}
+use Rattle.rule_language.specs.Scopes.{Scope}
+use Rattle.rule_language.specs.Trees.{Trees, no_trees, tree_then, count_of, RuleTree}
+use Rattle.rule_language.specs.Lawful.{is_bound, can_bind, sort_of, are_of_one_sort, has_order, is_closed, has_arity, is_shallow, scope_in, are_formulas, is_rule, follow}
+use Rattle.rule_language.specs.Spelling.{Token, left, right, variable, term_word, form_words, spelt, tokens_then, rule_tokens, rules_tokens}
+use Rattle.rule_language.specs.Wants.{Want, Met, more_rules, rule_word, rule_name, formula, head, new_variable, kind_of, before_or_body, more, a_variable, a_role, a_kind, first_term, second_term, close}
+use Rattle.rule_language.specs.Wants.{meets, meets_formula, then_want, behind, behind_head, nested, head_for, may_begin, only, opening, name_in, is_end, begin}
+use Rattle.rule_language.specs.inside.Quantifiers.{form_of, quantifier_head, range_words}
+use Rattle.rule_language.proofs.Found.{both_true, if_first, if_second, bytes_same, head_found, new_found, kind_found, variable_found, role_found, term_found}
+use Rattle.rule_language.proofs.Passing.{spelt_cases, tokens_append}
+use Rattle.rule_language.proofs.Binders.{may_bind}
+use Rattle.rule_language.proofs.Fills.{FillsFormula, FillsHead, FillsBody, FillsKind, FillsBinder, FillsMore, FillsVariable, FillsSecond, FillsFirst, FillsName, FillsRules, IsRange, Completes}
+
+abbrev as_met : List Want → Met
+as_met wants = Ok wants
+
+-- what was found before wants were put
+pub then_found : {A : Type 0} (r : Result A RuleWhy) (wants : A → List Want) (next : List Want) → then_want r wants ≡ Ok next
+    → (a : A) × (r ≡ Ok a) × (wants a ≡ next)
+then_found (Err cause) wants next e = absurd (cc)
+then_found (Ok a) wants next e = (a, refl, met_same (wants a) next e)
+  where
+    met_same : (x y : List Want) → as_met x ≡ as_met y → x ≡ y
+    met_same x y h = cc
+
+-- the next wants are filled
+pub moved : (next wants : List Want) (ts : List Token) → wants ≡ next → Completes next ts → Completes wants ts
+moved next wants ts e fills = subst (λ (ws : List Want). Completes ws ts) (sym e) fills
+
+-- one formula in front of others
+abbrev pub in_row : Trees → Trees → Trees
+in_row no_trees rest = rest
+in_row (tree_then f parts trees) rest = tree_then f parts (in_row trees rest)
+
+pub row-tokens : (a b : Trees) (rest : List Token) → tokens_then (in_row a b) rest ≡ tokens_then a (tokens_then b rest)
+row-tokens no_trees b rest = refl
+row-tokens (tree_then f parts trees) b rest = ap (λ ts. spelt f (tokens_then parts []) ts) (row-tokens trees b rest)
+
+pub row-count : (a b : Trees) → count_of (in_row a b) ≡ count_of a + count_of b
+row-count no_trees b = omega arith
+row-count (tree_then f parts trees) b = let e : count_of (in_row trees b) ≡ count_of trees + count_of b = row-count trees b in omega arith
+
+pub row-good : (scope : Scope) (depth : ℕ) (a b : Trees) → are_formulas scope depth a ≡ true → are_formulas scope depth b ≡ true
+    → are_formulas scope depth (in_row a b) ≡ true
+row-good scope depth no_trees b ga gb = gb
+row-good scope depth (tree_then f parts trees) b ga gb =
+    let n = both_true (is_shallow depth f && (is_closed scope f && has_arity f (count_of parts))) (are_formulas (scope_in f scope) (depth + 1) parts && are_formulas scope depth trees) ga in
+    let m = both_true (are_formulas (scope_in f scope) (depth + 1) parts) (are_formulas scope depth trees) n.1 in
+    rw n.0 (rw m.0 (row-good scope depth trees b m.1 gb))
+
+-- `true`, or a form in parentheses
+true_fills : (scope : Scope) (depth : ℕ) (rest : List Token) → FillsFormula scope depth (codes "true" ∷ rest) rest
+true_fills scope depth rest = record { tree = tree_then form.True no_trees no_trees; one = refl; good = refl; is = refl }
+
+head_fills : (scope : Scope) (depth : ℕ) (ts rest : List Token) → nat_lt depth 32 ≡ true → FillsHead scope (depth + 1) ts rest
+    → FillsFormula scope depth (left ∷ ts) rest
+head_fills scope depth ts rest shallow fills = by (spelt_cases fills.f)
+  where
+    by : ((fills.f ≡ form.True) ⊎ (((inner after : List Token) → spelt fills.f inner after ≡ left ∷ (form_words fills.f ++ (inner ++ right ∷ after)))
+        × ((d : ℕ) → is_shallow d fills.f ≡ nat_lt d 32))) → FillsFormula scope depth (left ∷ ts) rest
+    by (inl is) = absurd (fills.other is)
+    by (inr enclosed) = record {
+      tree = tree_then fills.f fills.parts no_trees;
+      one = refl;
+      good = rw (enclosed.1 depth ∙ shallow) (rw fills.closed (rw fills.arity (rw fills.good refl)));
+      is = ap (λ xs. left ∷ xs) (fills.is ∙ ap (λ xs. form_words fills.f ++ xs) (tokens_append fills.parts [] (right ∷ rest)))
+          ∙ sym (enclosed.0 (tokens_then fills.parts []) rest);
+    }
+
+-- a token at the place of a formula
+pub formula_back : (scope : Scope) (depth : ℕ) (wants next : List Want) (t : Token) (ts : List Token) → meets_formula scope depth wants t ≡ Ok next
+    → Completes next ts → Completes (formula scope depth ∷ wants) (t ∷ ts)
+formula_back scope depth wants next t ts met fills = by (bytes_eq t (codes "true")) (bytes_eq t left) (nat_le 32 depth) refl refl refl met
+  where
+    met_same : (x y : List Want) → as_met x ≡ as_met y → x ≡ y
+    met_same x y h = cc
+    by : (a b d : Bool) → bytes_eq t (codes "true") ≡ a → bytes_eq t left ≡ b → nat_le 32 depth ≡ d
+        → (if a then Ok wants else (if b then (if d then Err TooDeep else Ok (head scope (depth + 1) ∷ wants)) else Err Shape)) ≡ Ok next
+        → Completes (formula scope depth ∷ wants) (t ∷ ts)
+    by true b d ia ib id e =
+        let same : t ≡ codes "true" = bytes_same t (codes "true") ia in
+        let rest = moved next wants ts (met_same wants next e) fills in
+        (ts, subst (λ (w : Token). FillsFormula scope depth (w ∷ ts) ts) (sym same) (true_fills scope depth ts), rest)
+    by false true true ia ib id e = absurd (cc)
+    by false true false ia ib id e =
+        let same : t ≡ left = bytes_same t left ib in
+        let lt : depth < 32 = leb-false 32 depth id in
+        let inside = moved next (head scope (depth + 1) ∷ wants) ts (met_same (head scope (depth + 1) ∷ wants) next e) fills in
+        (inside.0, subst (λ (w : Token). FillsFormula scope depth (w ∷ ts) inside.0) (sym same) (head_fills scope depth ts inside.0 (lt-ltb depth 32 lt) inside.1), inside.2)
+    by false false d ia ib id e = absurd (cc)
+
+-- a parenthesis behind one formula
+pub one_closed : (scope : Scope) (depth : ℕ) (wants : List Want) (ts : List Token) → Completes (formula scope depth ∷ close ∷ wants) ts
+    → (tree : Trees) × (rest : List Token) × (count_of tree ≡ 1) × (are_formulas scope depth tree ≡ true) × (ts ≡ tokens_then tree (right ∷ rest)) × Completes wants rest
+one_closed scope depth wants ts fills =
+    let f = fills.1 in
+    let behind_it = fills.2 in
+    (f.tree, behind_it.0, f.one, f.good, f.is ∙ ap (tokens_then f.tree) behind_it.1, behind_it.2)
+
+-- what stands behind the kind of a quantifier
+pub body_back : (v : ℕ) (k : Kind) (scope : Scope) (depth : ℕ) (wants next : List Want) (t : Token) (ts : List Token)
+    → meets (before_or_body v k scope depth ∷ wants) t ≡ Ok next → Completes next ts → Completes (before_or_body v k scope depth ∷ wants) (t ∷ ts)
+body_back v k scope depth wants next t ts met fills = by (bytes_eq t (codes "before")) refl met
+  where
+    met_same : (x y : List Want) → as_met x ≡ as_met y → x ≡ y
+    met_same x y h = cc
+    by : (a : Bool) → bytes_eq t (codes "before") ≡ a
+        → (if a then Ok (a_variable scope ∷ formula ((v, k) ∷ scope) depth ∷ close ∷ wants) else meets_formula ((v, k) ∷ scope) depth (close ∷ wants) t) ≡ Ok next
+        → Completes (before_or_body v k scope depth ∷ wants) (t ∷ ts)
+    by true ia e =
+        let same : t ≡ codes "before" = bytes_same t (codes "before") ia in
+        let inside = moved next (a_variable scope ∷ formula ((v, k) ∷ scope) depth ∷ close ∷ wants) ts
+        (met_same (a_variable scope ∷ formula ((v, k) ∷ scope) depth ∷ close ∷ wants) next e) fills in
+        let u = inside.1 in
+        let body = one_closed ((v, k) ∷ scope) depth wants inside.0 inside.2 in
+        (body.1, record {
+          u = Some u.v;
+          parts = body.0;
+          range = u.bound;
+          one = body.2;
+          good = body.3;
+          is = ap (λ (w : Token). w ∷ ts) same ∙ ap (λ xs. codes "before" ∷ xs) (u.is ∙ ap (λ xs. variable u.v ∷ xs) body.4);
+        }, body.5)
+    by false ia e =
+        let body = one_closed ((v, k) ∷ scope) depth wants (t ∷ ts) (formula_back ((v, k) ∷ scope) depth (close ∷ wants) next t ts e fills) in
+        (body.1, record { u = None; parts = body.0; range = tt; one = body.2; good = body.3; is = body.4 }, body.5)
+
+-- a further formula, or the parenthesis
+pub more_back : (n : ℕ) (scope : Scope) (depth : ℕ) (wants next : List Want) (t : Token) (ts : List Token)
+    → meets (more n scope depth ∷ wants) t ≡ Ok next → Completes next ts → Completes (more n scope depth ∷ wants) (t ∷ ts)
+more_back n scope depth wants next t ts met fills = by (bytes_eq t right) (n == 0) refl refl met
+  where
+    met_same : (x y : List Want) → as_met x ≡ as_met y → x ≡ y
+    met_same x y h = cc
+    by : (a z : Bool) → bytes_eq t right ≡ a → (n == 0) ≡ z
+        → (if a then Ok wants else (if z then Err Shape else meets_formula scope depth (more (n - 1) scope depth ∷ wants) t)) ≡ Ok next
+        → Completes (more n scope depth ∷ wants) (t ∷ ts)
+    by true z ia iz e =
+        let same : t ≡ right = bytes_same t right ia in
+        (ts, record { parts = no_trees; few = omega arith; good = refl; is = ap (λ (w : Token). w ∷ ts) same }, moved next wants ts (met_same wants next e) fills)
+    by false true ia iz e = absurd (cc)
+    by false false ia iz e =
+        let inside = formula_back scope depth (more (n - 1) scope depth ∷ wants) next t ts e fills in
+        let f = inside.1 in
+        let others = inside.2 in
+        let m = others.1 in
+        let some : n ≢ 0 = eqb-false n 0 iz in
+        let count : count_of (in_row f.tree m.parts) ≡ count_of f.tree + count_of m.parts = row-count f.tree m.parts in
+        let one : count_of f.tree ≡ 1 = f.one in
+        let few : count_of m.parts ≤ n - 1 = m.few in
+        (others.0, record {
+          parts = in_row f.tree m.parts;
+          few = omega arith;
+          good = row-good scope depth f.tree m.parts f.good m.good;
+          is = f.is ∙ ap (tokens_then f.tree) m.is ∙ sym (row-tokens f.tree m.parts (right ∷ others.0));
+        }, others.2)
+
+pub le_true : (k n : ℕ) → k ≤ n → nat_le k n ≡ true
+le_true k n le = cases (nat_le k n) refl
+  where
+    cases : (b : Bool) → nat_le k n ≡ b → b ≡ true
+    cases true is = refl
+    cases false is = let lt : n < k = leb-false k n is in absurd (omega arith)

@@ -1,0 +1,130 @@
+-- What fills the wants of a list: the grammar at each place of the table.
+use Rattle.std.proofs.Common.{◌≡◌, ◌≢◌, ◌⊎◌, inl, inr, ◌∙◌, ℕ, ◌+◌, ◌-◌, ◌<◌, ◌≤◌, zero, suc, Bool, true, false, ◌&&◌, List, [], ◌∷◌, ◌++◌, length, Option, Some, None, Result, Ok, Err, refl, ap, sym, subst, ⊎_elim, arith, append_assoc}
+use Rattle.std.specs.Prelude.{nat_lt, nat_le, not, ◌==◌, if◌then◌else◌, codes, is_some}
+use Rattle.std.specs.Str.{bytes_eq}
+use Rattle.roster.specs.declared.post.Role.{Role}
+use Rattle.roster.specs.RosterText.{role_word}
+use Rattle.rule_language.specs.declared.kind.Kind.{Kind}
+use Rattle.rule_language.specs.declared.kind.Sort.{Sort}
+use Rattle.rule_language.specs.declared.term.Term.{Term}
+use Rattle.rule_language.specs.declared.form.Form.{Form}
+use Rattle.rule_language.specs.declared.form.Form.TheVariants as form
+use Rattle.rule_language.specs.Kinds.{kind_word, is_same_sort}
+use Rattle.rule_language.specs.Scopes.{Scope, kind_in, is_letter}
+use Rattle.rule_language.specs.Trees.{Trees, no_trees, tree_then, count_of, RuleTree}
+use Rattle.rule_language.specs.Lawful.{is_bound, sort_of, are_of_one_sort, is_closed, has_arity, is_shallow, scope_in, are_formulas, is_name, is_among, follow}
+use Rattle.rule_language.specs.Spelling.{Token, left, right, variable, term_word, form_words, spelt, tokens_then, rules_tokens}
+use Rattle.rule_language.specs.Wants.{Want, more_rules, rule_word, rule_name, formula, head, new_variable, kind_of, before_or_body, more, a_variable, a_role, a_kind, first_term, second_term, close, may_begin, new_in, letter_in}
+use Rattle.rule_language.specs.inside.Quantifiers.{range_words}
+
+-- a formula
+pub record FillsFormula (scope : Scope) (depth : ℕ) (ts rest : List Token) : Type 0 where
+  pub tree : Trees
+  pub one : count_of tree ≡ 1
+  pub good : are_formulas scope depth tree ≡ true
+  pub is : ts ≡ tokens_then tree rest
+
+-- a formula behind its left parenthesis
+pub record FillsHead (scope : Scope) (depth : ℕ) (ts rest : List Token) : Type 0 where
+  pub f : Form
+  pub parts : Trees
+  pub other : f ≢ form.True
+  pub closed : is_closed scope f ≡ true
+  pub arity : has_arity f (count_of parts) ≡ true
+  pub good : are_formulas (scope_in f scope) depth parts ≡ true
+  pub is : ts ≡ form_words f ++ tokens_then parts (right ∷ rest)
+
+abbrev pub IsRange : Scope → Option ℕ → Type 0
+IsRange scope None = Unit {0}
+IsRange scope (Some u) = is_bound scope u ≡ true
+
+-- what stands behind the kind of a quantifier
+pub record FillsBody (v : ℕ) (kind : Kind) (scope : Scope) (depth : ℕ) (ts rest : List Token) : Type 0 where
+  pub u : Option ℕ
+  pub parts : Trees
+  pub range : IsRange scope u
+  pub one : count_of parts ≡ 1
+  pub good : are_formulas ((v, kind) ∷ scope) depth parts ≡ true
+  pub is : ts ≡ range_words u ++ tokens_then parts (right ∷ rest)
+
+pub record FillsKind (v : ℕ) (scope : Scope) (depth : ℕ) (ts rest : List Token) : Type 0 where
+  pub kind : Kind
+  pub behind_it : List Token
+  pub body : FillsBody v kind scope depth behind_it rest
+  pub is : ts ≡ kind_word kind ∷ behind_it
+
+pub record FillsBinder (scope : Scope) (depth : ℕ) (ts rest : List Token) : Type 0 where
+  pub v : ℕ
+  pub behind_it : List Token
+  pub fresh : new_in scope (letter_in (variable v)) ≡ Ok v
+  pub rest_of : FillsKind v scope depth behind_it rest
+  pub is : ts ≡ variable v ∷ behind_it
+
+pub record FillsMore (n : ℕ) (scope : Scope) (depth : ℕ) (ts rest : List Token) : Type 0 where
+  pub parts : Trees
+  pub few : count_of parts ≤ n
+  pub good : are_formulas scope depth parts ≡ true
+  pub is : ts ≡ tokens_then parts (right ∷ rest)
+
+pub record FillsVariable (scope : Scope) (ts rest : List Token) : Type 0 where
+  pub v : ℕ
+  pub bound : is_bound scope v ≡ true
+  pub is : ts ≡ variable v ∷ rest
+
+pub record FillsSecond (wanted : Sort) (scope : Scope) (ts rest : List Token) : Type 0 where
+  pub t : Term
+  pub sort : Sort
+  pub sorted : sort_of scope t ≡ Some sort
+  pub same : is_same_sort wanted sort ≡ true
+  pub is : ts ≡ term_word t ∷ rest
+
+pub record FillsFirst (ordered : Bool) (scope : Scope) (ts rest : List Token) : Type 0 where
+  pub t : Term
+  pub sort : Sort
+  pub behind_it : List Token
+  pub sorted : sort_of scope t ≡ Some sort
+  pub may : may_begin ordered sort ≡ true
+  pub second : FillsSecond sort scope behind_it rest
+  pub is : ts ≡ term_word t ∷ behind_it
+
+-- the name of a rule and what stands behind it
+pub record FillsName (names : List Token) (ts rest : List Token) : Type 0 where
+  pub rule : RuleTree
+  pub others : List RuleTree
+  pub name : is_name rule.name ≡ true
+  pub fresh : is_among rule.name names ≡ false
+  pub one : count_of rule.body ≡ 1
+  pub good : are_formulas [] 1 rule.body ≡ true
+  pub follows : follow (names ++ rule.name ∷ []) others ≡ true
+  pub is : ts ≡ rule.name ∷ tokens_then rule.body (right ∷ (rules_tokens others ++ rest))
+
+pub record FillsRules (names : List Token) (ts rest : List Token) : Type 0 where
+  pub all : List RuleTree
+  pub follows : follow names all ≡ true
+  pub is : ts ≡ rules_tokens all ++ rest
+
+abbrev pub FillsWord : List Token → List Token → List Token → Type 0
+FillsWord names ts rest = (behind_it : List Token) × (ts ≡ codes "rule" ∷ behind_it) × FillsName names behind_it rest
+
+-- these tokens are what the want asks for, and the rest
+abbrev pub Fills : Want → List Token → List Token → Type 0
+Fills (more_rules names) ts rest = FillsRules names ts rest
+Fills (rule_word names) ts rest = FillsWord names ts rest
+Fills (rule_name names) ts rest = FillsName names ts rest
+Fills (formula scope depth) ts rest = FillsFormula scope depth ts rest
+Fills (head scope depth) ts rest = FillsHead scope depth ts rest
+Fills (new_variable scope depth) ts rest = FillsBinder scope depth ts rest
+Fills (kind_of v scope depth) ts rest = FillsKind v scope depth ts rest
+Fills (before_or_body v kind scope depth) ts rest = FillsBody v kind scope depth ts rest
+Fills (more n scope depth) ts rest = FillsMore n scope depth ts rest
+Fills (a_variable scope) ts rest = FillsVariable scope ts rest
+Fills a_role ts rest = (r : Role) × (ts ≡ role_word r ∷ rest)
+Fills a_kind ts rest = (k : Kind) × (ts ≡ kind_word k ∷ rest)
+Fills (first_term ordered scope) ts rest = FillsFirst ordered scope ts rest
+Fills (second_term sort scope) ts rest = FillsSecond sort scope ts rest
+Fills close ts rest = ts ≡ right ∷ rest
+
+-- the tokens fill all wants
+abbrev pub Completes : List Want → List Token → Type 0
+Completes [] ts = ts ≡ []
+Completes (want ∷ wants) ts = (rest : List Token) × Fills want ts rest × Completes wants rest
