@@ -23,14 +23,14 @@ pub struct Rows {
 }
 
 impl Model for Rows {
-    ghost use Rattle.std.specs.Prelude.{◌≡◌, vec_len};
+    ghost use Rattle.std.specs.Prelude.{◌≡◌, ◌≤◌, vec_len};
     ghost use Rattle.precedence.specs.Known.{Known};
 
     ghost Value = { Known };
 
     ghost view = { λ r. record { rows = r.rows.items; whole = r.whole.items } };
 
-    ghost invariant = { λ r. vec_len r.whole ≡ vec_len r.rows };
+    ghost invariant = { λ r. (vec_len r.whole ≡ vec_len r.rows) × (vec_len r.rows ≤ 16384) };
 }
 
 impl Rows {
@@ -55,7 +55,8 @@ impl Rows {
 
     /// How many nodes there are.
     pub fn count(&self) -> usize
-        ensures { result ≡ known_count self.now }
+        ensures count { result ≡ known_count self.now }
+        ensures few { result ≤ 16384 }
     {
         self.rows.len()
     }
