@@ -1,0 +1,425 @@
+-- What is known of a rule holds in every completion.
+use mathlib.Core.Path.{fun_ext}
+use Rattle.std.proofs.Common.{◌≡◌, ◌≢◌, ℕ, zero, suc, ◌+◌, ◌<◌, ◌≤◌, Bool, true, false, cond, List, [], ◌∷◌, ◌++◌, map, length}
+use Rattle.std.proofs.Common.{Option, Some, None, ◌⊎◌, inl, inr, refl, sym, ap, ◌∙◌, subst, arith, append-nil}
+use Rattle.std.specs.Prelude.{slice_get, option_map, IsTrue, ◌==◌}
+use Rattle.std.specs.List.{Contains, filter, range_with_len}
+use Rattle.std.proofs.lemmas.Bool.{eqb-true, eq-eqb, eqb-false, false≢true}
+use Rattle.std.proofs.lemmas.List.FromFn.{length-range_with_len, get_or-range_with_len}
+use Rattle.std.proofs.lemmas.Option.{slice_get_within, slice_get-map}
+use Rattle.std.proofs.lemmas.List.Elements.{Contains-append_left, Contains-append_right, Contains-append_cases}
+use Rattle.entry_order.specs.declared.three.Three.{Three}
+use Rattle.entry_order.specs.declared.three.Three.TheVariants.{False, Unknown, True}
+use Rattle.entry_order.specs.Node.{Node}
+use Rattle.entry_order.specs.Precedes.{Precedes}
+use Rattle.entry_order.specs.Completion.{Completion}
+use Rattle.entry_order.specs.Ancestors.{reaches, is_whole, before}
+use Rattle.entry_order.specs.Settled.{IsGraphOf}
+use Rattle.entry_order.proofs.Lists.{Contains-none, Contains-head, Contains-later, Contains-at, Contains-cons_cases}
+use Rattle.entry_order.proofs.Lists.{Contains-map, Contains-map_cases, Contains-filter, Contains-filter_cases}
+use Rattle.entry_order.proofs.Settled.{order_is_settled, at_place, place_of, whole_from_test}
+use Rattle.entry_order.proofs.Settled.{precedes_from_reaches, reaches_from_precedes}
+use Rattle.entry_order.proofs.Completions.{before_in_completion, before_among_survivors}
+use Rattle.rule_language.specs.declared.row.Row.{Row}
+use Rattle.rule_language.specs.declared.kind.Kind.{Kind}
+use Rattle.rule_language.specs.declared.form.Form.{Form}
+use Rattle.rule_language.specs.declared.form.Form.TheVariants as form
+use Rattle.rule_language.specs.Trees.{Trees, no_trees, tree_then}
+use Rattle.rule_engine.specs.Tests.{is_kind, has_kind, passes}
+use Rattle.rule_engine.specs.Kleene.{opposite, both, either, least, greatest, as_three, is_true}
+use Rattle.rule_engine.specs.Meaning.{bind, unbound, first_sentence, second_sentence, EachHolds, SomeHolds}
+use Rattle.rule_engine.specs.Meaning.{IsOfKind, AreSame, ComesBefore, AreOrdered, Says, meanings, Holds}
+use Rattle.rule_engine.specs.Values.{first_value, second_value, places, ancestors, rest_of, values_before, row_at}
+use Rattle.rule_engine.specs.Values.{same_place, order_of, value, values, three}
+use Rattle.rule_engine.specs.Sound.{HasNoDouble, RulesAreSettled}
+use Rattle.rule_engine.proofs.Kleenes.{both_true, both_false, either_true, either_false, opposite_true, opposite_false, least_true}
+use Rattle.rule_engine.proofs.Kleenes.{least_false, greatest_true, greatest_false, as_three_true, as_three_false}
+
+-- a known value is right of the sentence
+pub record Agrees (x : Three) (P : Type 0) : Type 0 where
+  pub yes : x ≡ True → P
+  pub no : x ≡ False → ¬ P
+
+abbrev AllAgree : List Three → List (Type 0) → Type 0
+AllAgree [] [] = Unit {0}
+AllAgree (x ∷ xs) (P ∷ Ps) = Agrees x P × AllAgree xs Ps
+AllAgree xs Ps = ⊥
+
+first_agrees : (xs : List Three) (Ps : List (Type 0)) → AllAgree xs Ps → Agrees (first_value xs) (first_sentence Ps)
+first_agrees [] [] a = record { yes = λ e. tt; no = λ e. cc }
+first_agrees (x ∷ xs) (P ∷ Ps) a = a.0
+first_agrees [] (P ∷ Ps) a = absurd a
+first_agrees (x ∷ xs) [] a = absurd a
+
+second_agrees : (xs : List Three) (Ps : List (Type 0)) → AllAgree xs Ps →
+    Agrees (second_value xs) (second_sentence Ps)
+second_agrees [] [] a = record { yes = λ e. tt; no = λ e. cc }
+second_agrees (x ∷ xs) (P ∷ Ps) a = first_agrees xs Ps a.1
+second_agrees [] (P ∷ Ps) a = absurd a
+second_agrees (x ∷ xs) [] a = absurd a
+
+-- the least of values is right of all the sentences, and the greatest of some
+least_agrees : (xs : List Three) (Ps : List (Type 0)) → AllAgree xs Ps → Agrees (least xs) (EachHolds Ps)
+least_agrees [] [] a = record { yes = λ e. tt; no = λ e. cc }
+least_agrees (x ∷ xs) (P ∷ Ps) a =
+    let rest = least_agrees xs Ps a.1 in
+    record {
+      yes = λ e. let b = both_true x (least xs) e in (a.0.yes b.0, rest.yes b.1);
+      no = λ e h. elim (both_false x (least xs) e) [ inl f ↦ a.0.no f h.0 | inr f ↦ rest.no f h.1 ];
+    }
+least_agrees [] (P ∷ Ps) a = absurd a
+least_agrees (x ∷ xs) [] a = absurd a
+
+greatest_agrees : (xs : List Three) (Ps : List (Type 0)) → AllAgree xs Ps → Agrees (greatest xs) (SomeHolds Ps)
+greatest_agrees [] [] a = record { yes = λ e. cc; no = λ e h. h }
+greatest_agrees (x ∷ xs) (P ∷ Ps) a =
+    let rest = greatest_agrees xs Ps a.1 in
+    record {
+      yes = λ e. elim (either_true x (greatest xs) e) [ inl t ↦ inl (a.0.yes t) | inr t ↦ inr (rest.yes t) ];
+      no = λ e h. let b = either_false x (greatest xs) e in
+          elim h [ inl p ↦ a.0.no b.0 p | inr q ↦ rest.no b.1 q ];
+    }
+greatest_agrees [] (P ∷ Ps) a = absurd a
+greatest_agrees (x ∷ xs) [] a = absurd a
+
+opposite_agrees : (x : Three) (P : Type 0) → Agrees x P → Agrees (opposite x) (¬ P)
+opposite_agrees x P a =
+    record { yes = λ e. a.no (opposite_true x e); no = λ e n. n (a.yes (opposite_false x e)) }
+
+implies_agrees : (x y : Three) (P Q : Type 0) → Agrees x P → Agrees y Q →
+    Agrees (either (opposite x) y) (P → Q)
+implies_agrees x y P Q a b = record {
+  yes = λ e p. elim (either_true (opposite x) y e) [
+    | inl t ↦ absurd (a.no (opposite_true x t) p)
+    | inr t ↦ b.yes t
+  ];
+  no = λ e f. let r = either_false (opposite x) y e in b.no r.1 (f (a.yes (opposite_false x r.0)));
+}
+
+test_agrees : (b : Bool) → Agrees (as_three b) (IsTrue b)
+test_agrees true = record { yes = λ e. refl; no = λ e. cc }
+test_agrees false = record { yes = λ e. cc; no = λ e h. cc }
+
+-- what a place stands for
+abbrev StandFor : {T : Type 0} → List T → Option ℕ → Option T → Type 0
+StandFor S None None = Unit {0}
+StandFor S (Some i) (Some e) = slice_get S i ≡ Some e
+StandFor S i e = ⊥
+
+in_range : (n i : ℕ) → i < n → Contains (range_with_len 0 n) i
+in_range n i l =
+    (i, omega (arith, length-range_with_len 0 n), omega (arith, get_or-range_with_len 0 n i i l))
+
+pub unknown_of : (b : Bool) (x : Three) → Contains (cond b [] (Unknown ∷ [])) x → x ≡ Unknown
+unknown_of true x c = absurd (Contains-none x c)
+unknown_of false x c =
+    elim (Contains-cons_cases Unknown [] x c) [ inl s ↦ sym s | inr n ↦ absurd (Contains-none x n) ]
+
+no_unknown : (b : Bool) → ((x : Three) → Contains (cond b [] (Unknown ∷ [])) x → x ≡ Unknown → ⊥) → b ≡ true
+no_unknown true none = refl
+no_unknown false none = absurd (none Unknown (Contains-head Unknown []) refl)
+
+-- what is known to come before is reached
+is_true_before : (r w : Bool) → is_true (cond r True (cond w False Unknown)) ≡ r
+is_true_before true w = refl
+is_true_before false true = refl
+is_true_before false false = refl
+
+unknown≢true : Unknown ≡ True → ⊥
+unknown≢true e = cc
+
+unknown≢false : Unknown ≡ False → ⊥
+unknown≢false e = cc
+
+-- quantifiers: each place stands for an entry that is meant, and where b is true each such entry has a place
+module _ {T : Type 0} (f : ℕ → Three) (xs : List ℕ) (b : Bool) (IsMeant P : T → Type 0)
+    (meant : (i : ℕ) → Contains xs i → (e : T) × IsMeant e × Agrees (f i) (P e))
+    (all : b ≡ true → (e : T) → IsMeant e → (i : ℕ) × Contains xs i × Agrees (f i) (P e)) where
+  abbrev us : List Three
+  us = cond b [] (Unknown ∷ [])
+
+  abbrev known : List Three
+  known = map f xs ++ us
+
+  every_agrees : Agrees (least known) ((e : T) → IsMeant e → P e)
+  every_agrees = record {
+    yes = λ t e m.
+        let each = least_true known t in
+        let whole = no_unknown b (λ x c u. unknown≢true (sym u ∙ each x (Contains-append_right (map f xs) us x c))) in
+        let i = all whole e m in
+        i.2.yes (each (f i.0) (Contains-append_left (map f xs) us (f i.0) (Contains-map f xs i.0 i.1)));
+    no = λ t h.
+        elim (Contains-append_cases (map f xs) us False (least_false known t)) [
+          | inl c ↦
+              let i = Contains-map_cases f xs False c in
+              let e = meant i.0 i.1 in
+              e.2.no i.2 (h e.0 e.1)
+          | inr c ↦ unknown≢false (sym (unknown_of b False c))
+        ];
+  }
+
+  some_agrees : Agrees (greatest known) ((e : T) × IsMeant e × P e)
+  some_agrees = record {
+    yes = λ t.
+        elim (Contains-append_cases (map f xs) us True (greatest_true known t)) [
+          | inl c ↦
+              let i = Contains-map_cases f xs True c in
+              let e = meant i.0 i.1 in
+              (e.0, e.1, e.2.yes i.2)
+          | inr c ↦ absurd (unknown≢true (sym (unknown_of b True c)))
+        ];
+    no = λ t h.
+        let each = greatest_false known t in
+        let whole = no_unknown b (λ x c u. unknown≢false (sym u ∙ each x (Contains-append_right (map f xs) us x c))) in
+        let i = all whole h.0 h.1 in
+        i.2.no (each (f i.0) (Contains-append_left (map f xs) us (f i.0) (Contains-map f xs i.0 i.1))) h.2;
+  }
+
+module _ {T : Type 0} (node : T → Node) (row : T → Row) (machines : ℕ) (S G : List T) (parents : ℕ → List ℕ)
+    (ragged : ℕ → Bool) (single : HasNoDouble S) (graph : IsGraphOf node S parents ragged)
+    (completion : Completion node machines S G) where
+  abbrev rows : List Row
+  rows = map row S
+
+  abbrev comes_before : ℕ → ℕ → Three
+  comes_before y x = before parents ragged y x
+
+  abbrev whole_at_place : ℕ → Bool
+  whole_at_place x = is_whole parents ragged x x
+
+  -- the places stand for the entries, variable by variable
+  abbrev StandForAll : (ℕ → Option ℕ) → (ℕ → Option T) → Type 0
+  StandForAll σ ρ = (v : ℕ) → StandFor S (σ v) (ρ v)
+
+  row_of : (i : ℕ) (e : T) → slice_get S i ≡ Some e → slice_get rows i ≡ Some (row e)
+  row_of i e is = slice_get-map row S i ∙ ap (option_map row) is
+
+  one_more : (v i : ℕ) (e : T) (σ : ℕ → Option ℕ) (ρ : ℕ → Option T) → slice_get S i ≡ Some e → StandForAll σ ρ →
+      StandForAll (bind v i σ) (bind v e ρ)
+  one_more v i e σ ρ is stand u = by (u == v)
+    where
+      by : (b : Bool) → StandFor S (cond b (Some i) (σ u)) (cond b (Some e) (ρ u))
+      by true = is
+      by false = stand u
+
+  same_row : (i : Option ℕ) (e : Option T) → StandFor S i e → row_at rows i ≡ option_map row e
+  same_row None None s = refl
+  same_row (Some i) (Some e) s = row_of i e s
+  same_row None (Some e) s = absurd s
+  same_row (Some i) None s = absurd s
+
+  passes_agrees : (form : Form) (σ : ℕ → Option ℕ) (ρ : ℕ → Option T) → StandForAll σ ρ →
+      Agrees (as_three (passes (λ w. row_at rows (σ w)) form))
+      (IsTrue (passes (λ w. option_map row (ρ w)) form))
+  passes_agrees form σ ρ stand =
+      subst (λ (r : ℕ → Option Row). Agrees (as_three (passes r form)) (IsTrue (passes (λ w. option_map row (ρ w)) form)))
+      (sym (fun_ext (λ (w : ℕ). same_row (σ w) (ρ w) (stand w))))
+      (test_agrees (passes (λ w. option_map row (ρ w)) form))
+
+  -- a place of the kind stands for a survivor of the kind
+  place_meant : (kind : Kind) (i : ℕ) → Contains (places rows comes_before whole_at_place kind) i →
+      (e : T) × (slice_get S i ≡ Some e) × IsOfKind node row S G kind e
+  place_meant kind i c =
+      by (slice_get S i) refl
+      (Contains-filter_cases (λ j. has_kind kind (slice_get rows j)) (range_with_len 0 (length rows)) i c).1
+    where
+      by : (o : Option T) → slice_get S i ≡ o → has_kind kind (slice_get rows i) ≡ true →
+          (e : T) × (slice_get S i ≡ Some e) × IsOfKind node row S G kind e
+      by None is k =
+          let none : slice_get rows i ≡ None = slice_get-map row S i ∙ ap (option_map row) is in
+          absurd (false≢true (ap (has_kind kind) (sym none) ∙ k))
+      by (Some e) is k = (e, is, ap (has_kind kind) (sym (row_of i e is)) ∙ k)
+
+  place_of_kind : (kind : Kind) (e : T) → Contains S e → IsOfKind node row S G kind e →
+      (i : ℕ) × (slice_get S i ≡ Some e) × Contains (places rows comes_before whole_at_place kind) i
+  place_of_kind kind e c k =
+      let at = place_of S e c in (
+        at.0,
+        at.1,
+        Contains-filter (λ j. has_kind kind (slice_get rows j)) (range_with_len 0 (length rows)) at.0
+            (in_range (length rows) at.0 (slice_get_within rows at.0 (row e) (row_of at.0 e at.1)))
+            (ap (has_kind kind) (row_of at.0 e at.1) ∙ k),
+      )
+
+  -- the two ways in which the parts of a formula are read
+  abbrev PartsAgree : ((ℕ → Option ℕ) → List Three) → ((ℕ → Option T) → List (Type 0)) → Type 0
+  PartsAgree ts Ps = (σ : ℕ → Option ℕ) (ρ : ℕ → Option T) → StandForAll σ ρ → AllAgree (ts σ) (Ps ρ)
+
+  same_agrees : (i : Option ℕ) (e : Option T) (j : Option ℕ) (f : Option T) → StandFor S i e → StandFor S j f →
+      Agrees (same_place i j) (AreSame node row S G e f)
+  same_agrees (Some i) (Some e) (Some j) (Some f) se sf = record {
+    yes = λ t. let at : i ≡ j = eqb-true i j (as_three_true (i == j) t) in
+        let there : slice_get S j ≡ Some e = subst (λ (k : ℕ). slice_get S k ≡ Some e) at se in
+        cc;
+    no = λ t same. let at : i ≡ j = single i j e se (sf ∙ ap Some (sym same)) in
+        false≢true (sym (as_three_false (i == j) t) ∙ eq-eqb i j at);
+  }
+  same_agrees None None j f se sf = record { yes = λ t. cc; no = λ t h. h }
+  same_agrees (Some i) (Some e) None None se sf = record { yes = λ t. cc; no = λ t h. h }
+  same_agrees None (Some e) j f se sf = absurd se
+  same_agrees (Some i) None j f se sf = absurd se
+  same_agrees (Some i) (Some e) None (Some f) se sf = absurd sf
+  same_agrees (Some i) (Some e) (Some j) None se sf = absurd sf
+
+  order_agrees : (i : Option ℕ) (e : Option T) (j : Option ℕ) (f : Option T) → StandFor S i e → StandFor S j f →
+      Agrees (order_of comes_before i j) (AreOrdered node row S G e f)
+  order_agrees (Some i) (Some e) (Some j) (Some f) se sf =
+      let o = order_is_settled node machines S parents ragged graph i j e f se sf in
+      record { yes = λ t. o.0 t G completion; no = λ t. o.1 t G completion }
+  order_agrees None None j f se sf = record { yes = λ t. cc; no = λ t h. h }
+  order_agrees (Some i) (Some e) None None se sf = record { yes = λ t. cc; no = λ t h. h }
+  order_agrees None (Some e) j f se sf = absurd se
+  order_agrees (Some i) None j f se sf = absurd se
+  order_agrees (Some i) (Some e) None (Some f) se sf = absurd sf
+  order_agrees (Some i) (Some e) (Some j) None se sf = absurd sf
+
+  module _ (v : ℕ) (kind : Kind) (σ : ℕ → Option ℕ) (ρ : ℕ → Option T) (stand : StandForAll σ ρ)
+      (ts : (ℕ → Option ℕ) → List Three) (Ps : (ℕ → Option T) → List (Type 0)) (parts : PartsAgree ts Ps) where
+    abbrev value_at : ℕ → Three
+    value_at i = first_value (ts (bind v i σ))
+
+    abbrev SaysAt : T → Type 0
+    SaysAt e = first_sentence (Ps (bind v e ρ))
+
+    body : (i : ℕ) (e : T) → slice_get S i ≡ Some e → Agrees (value_at i) (SaysAt e)
+    body i e is =
+        first_agrees (ts (bind v i σ)) (Ps (bind v e ρ))
+        (parts (bind v i σ) (bind v e ρ) (one_more v i e σ ρ is stand))
+
+    -- over survivors
+    abbrev Survives : T → Type 0
+    Survives e = Contains S e × IsOfKind node row S G kind e
+
+    survivors_meant : (i : ℕ) → Contains (places rows comes_before whole_at_place kind) i →
+        (e : T) × Survives e × Agrees (value_at i) (SaysAt e)
+    survivors_meant i c =
+        let m = place_meant kind i c in (m.0, (at_place S i m.0 m.1, m.2), body i m.0 m.1)
+
+    survivors_all : true ≡ true → (e : T) → Survives e →
+        (i : ℕ) × Contains (places rows comes_before whole_at_place kind) i × Agrees (value_at i) (SaysAt e)
+    survivors_all _ e m = let p = place_of_kind kind e m.0 m.1 in (p.0, p.2, body p.0 e p.1)
+
+    for_every : Agrees (least (map value_at (places rows comes_before whole_at_place kind)))
+        ((x : T) → Contains S x → IsOfKind node row S G kind x → SaysAt x)
+    for_every =
+        let a = every_agrees value_at (places rows comes_before whole_at_place kind) true Survives SaysAt survivors_meant
+        survivors_all in
+        let same = append-nil (map value_at (places rows comes_before whole_at_place kind)) in
+        record {
+          yes = λ t x c k. a.yes (ap least same ∙ t) x (c, k);
+          no = λ t h. a.no (ap least same ∙ t) (λ x m. h x m.0 m.1);
+        }
+
+    for_some : Agrees (greatest (map value_at (places rows comes_before whole_at_place kind)))
+        ((x : T) × Contains S x × IsOfKind node row S G kind x × SaysAt x)
+    for_some =
+        let a = some_agrees value_at (places rows comes_before whole_at_place kind) true Survives SaysAt survivors_meant
+        survivors_all in
+        let same = append-nil (map value_at (places rows comes_before whole_at_place kind)) in
+        record {
+          yes = λ t. let r = a.yes (ap greatest same ∙ t) in (r.0, r.1.0, r.1.1, r.2);
+          no = λ t h. a.no (ap greatest same ∙ t) (h.0, (h.1, h.2), h.3);
+        }
+
+    -- over what comes before one of them
+    module _ (u : ℕ) (last : T) (at : slice_get S u ≡ Some last) where
+      abbrev IsEarlier : T → Type 0
+      IsEarlier e = IsOfKind node row S G kind e × Precedes node G e last
+
+      earlier_meant : (i : ℕ) → Contains (ancestors rows comes_before whole_at_place kind u) i →
+          (e : T) × IsEarlier e × Agrees (value_at i) (SaysAt e)
+      earlier_meant i c =
+          let kept = Contains-filter_cases (λ j. is_true (comes_before j u)) (places rows comes_before whole_at_place kind) i c in
+          let m = place_meant kind i kept.0 in
+          let path = precedes_from_reaches node machines S parents ragged graph i u m.0 last m.1 at
+          (sym (is_true_before (reaches parents u i u) (is_whole parents ragged u u)) ∙ kept.1) in
+          (m.0, (m.2, before_in_completion node S machines G completion m.0 last path), body i m.0 m.1)
+
+      earlier_all : is_whole parents ragged u u ≡ true → (e : T) → IsEarlier e →
+          (i : ℕ) × Contains (ancestors rows comes_before whole_at_place kind u) i × Agrees (value_at i) (SaysAt e)
+      earlier_all whole e m =
+          let path = before_among_survivors node S machines G completion e last (at_place S u last at)
+          (whole_from_test node machines S parents ragged graph u u last last at at whole) m.1 in
+          let p = place_of_kind kind e path.0 m.0 in
+          let near = is_true_before (reaches parents u p.0 u) (is_whole parents ragged u u)
+          ∙ reaches_from_precedes node machines S parents ragged graph p.0 u e last p.1 at path in (
+            p.0,
+            Contains-filter (λ j. is_true (comes_before j u)) (places rows comes_before whole_at_place kind) p.0 p.2 near,
+            body p.0 e p.1,
+          )
+
+      every_earlier : Agrees
+          (least (map value_at (ancestors rows comes_before whole_at_place kind u) ++ rest_of rows comes_before whole_at_place u))
+          ((x : T) → IsOfKind node row S G kind x → Precedes node G x last → SaysAt x)
+      every_earlier =
+          let a = every_agrees value_at (ancestors rows comes_before whole_at_place kind u) (is_whole parents ragged u u)
+          IsEarlier SaysAt earlier_meant earlier_all in
+          record { yes = λ t x k p. a.yes t x (k, p); no = λ t h. a.no t (λ x m. h x m.0 m.1) }
+
+      some_earlier : Agrees
+          (greatest (map value_at (ancestors rows comes_before whole_at_place kind u) ++ rest_of rows comes_before whole_at_place u))
+          ((x : T) × IsOfKind node row S G kind x × Precedes node G x last × SaysAt x)
+      some_earlier =
+          let a = some_agrees value_at (ancestors rows comes_before whole_at_place kind u) (is_whole parents ragged u u)
+          IsEarlier SaysAt earlier_meant earlier_all in
+          record {
+            yes = λ t. let r = a.yes t in (r.0, r.1.0, r.1.1, r.2);
+            no = λ t h. a.no t (h.0, (h.1, h.2), h.3);
+          }
+
+    every_before : (i : Option ℕ) (e : Option T) → StandFor S i e →
+        Agrees (least (values_before rows comes_before whole_at_place kind i value_at))
+        ((x : T) → IsOfKind node row S G kind x → ComesBefore node row S G x e → SaysAt x)
+    every_before (Some u) (Some last) at = every_earlier u last at
+    every_before None None at = record { yes = λ t x k h. absurd h; no = λ t. cc }
+    every_before None (Some last) at = absurd at
+    every_before (Some u) None at = absurd at
+
+    some_before : (i : Option ℕ) (e : Option T) → StandFor S i e →
+        Agrees (greatest (values_before rows comes_before whole_at_place kind i value_at))
+        ((x : T) × IsOfKind node row S G kind x × ComesBefore node row S G x e × SaysAt x)
+    some_before (Some u) (Some last) at = some_earlier u last at
+    some_before None None at = record { yes = λ t. cc; no = λ t h. h.2 }
+    some_before None (Some last) at = absurd at
+    some_before (Some u) None at = absurd at
+
+  -- one form, where its parts agree
+  form_agrees : (form : Form) (ts : (ℕ → Option ℕ) → List Three) (Ps : (ℕ → Option T) → List (Type 0)) →
+      PartsAgree ts Ps → (σ : ℕ → Option ℕ) (ρ : ℕ → Option T) → StandForAll σ ρ →
+      Agrees (value rows comes_before whole_at_place form σ ts) (Says node row S G form ρ Ps)
+  form_agrees form.True ts Ps parts σ ρ stand = record { yes = λ t. tt; no = λ t. cc }
+  form_agrees (form.ForEvery v kind) ts Ps parts σ ρ stand = for_every v kind σ ρ stand ts Ps parts
+  form_agrees (form.ForSome v kind) ts Ps parts σ ρ stand = for_some v kind σ ρ stand ts Ps parts
+  form_agrees (form.EveryBefore v kind u) ts Ps parts σ ρ stand =
+      every_before v kind σ ρ stand ts Ps parts (σ u) (ρ u) (stand u)
+  form_agrees (form.SomeBefore v kind u) ts Ps parts σ ρ stand =
+      some_before v kind σ ρ stand ts Ps parts (σ u) (ρ u) (stand u)
+  form_agrees form.And ts Ps parts σ ρ stand = least_agrees (ts σ) (Ps ρ) (parts σ ρ stand)
+  form_agrees form.Or ts Ps parts σ ρ stand = greatest_agrees (ts σ) (Ps ρ) (parts σ ρ stand)
+  form_agrees form.Not ts Ps parts σ ρ stand =
+      opposite_agrees (first_value (ts σ)) (first_sentence (Ps ρ)) (first_agrees (ts σ) (Ps ρ) (parts σ ρ stand))
+  form_agrees form.Implies ts Ps parts σ ρ stand =
+      implies_agrees (first_value (ts σ)) (second_value (ts σ)) (first_sentence (Ps ρ)) (second_sentence (Ps ρ))
+      (first_agrees (ts σ) (Ps ρ) (parts σ ρ stand)) (second_agrees (ts σ) (Ps ρ) (parts σ ρ stand))
+  form_agrees (form.Same v u) ts Ps parts σ ρ stand = same_agrees (σ v) (ρ v) (σ u) (ρ u) (stand v) (stand u)
+  form_agrees (form.Before v u) ts Ps parts σ ρ stand = order_agrees (σ v) (ρ v) (σ u) (ρ u) (stand v) (stand u)
+  form_agrees (form.Next v u) ts Ps parts σ ρ stand = passes_agrees (form.Next v u) σ ρ stand
+  form_agrees (form.Is v role) ts Ps parts σ ρ stand = passes_agrees (form.Is v role) σ ρ stand
+  form_agrees (form.OfKind v kind) ts Ps parts σ ρ stand = passes_agrees (form.OfKind v kind) σ ρ stand
+  form_agrees (form.Equal t s) ts Ps parts σ ρ stand = passes_agrees (form.Equal t s) σ ρ stand
+  form_agrees (form.Less t s) ts Ps parts σ ρ stand = passes_agrees (form.Less t s) σ ρ stand
+
+  -- so all formulas in a row agree
+  all_agree : (trees : Trees) → PartsAgree (values rows comes_before whole_at_place trees) (meanings node row S G trees)
+  all_agree no_trees σ ρ stand = tt
+  all_agree (tree_then form parts rest) σ ρ stand = (
+    form_agrees form (values rows comes_before whole_at_place parts) (meanings node row S G parts) (all_agree parts) σ ρ stand,
+    all_agree rest σ ρ stand,
+  )
+
+-- the law
+pub rules_are_settled : {T : Type 0} (node : T → Node) (row : T → Row) → RulesAreSettled node row
+rules_are_settled node row machines S G parents ragged single graph completion rule =
+    let a = first_agrees (values (map row S) (before parents ragged) (λ x. is_whole parents ragged x x) rule unbound) (meanings node row S G rule unbound)
+    (all_agree node row machines S G parents ragged single graph completion rule unbound unbound (λ v. tt)) in
+    (a.yes, a.no)

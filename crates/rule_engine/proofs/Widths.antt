@@ -1,0 +1,79 @@
+-- How wide rules are, step by step.
+use Rattle.std.proofs.Common.{◌≡◌, ◌∙◌, ap, sym, refl, ℕ, ◌+◌, ◌<◌, ◌≤◌, Bool, true, false, ◌||◌, List, [], ◌∷◌, length, drop, get_or}
+use Rattle.std.proofs.Common.{Box, Global, Vec, rules, arith, map}
+use Rattle.std.proofs.Math.Bool.{or-false}
+use Rattle.std.proofs.lemmas.List.{drop_more, drop_all}
+use Rattle.rule_language.specs.declared.row.Row.{Row}
+use Rattle.rule_language.specs.declared.kind.Kind.{Kind}
+use Rattle.rule_language.specs.declared.formula.Formula.{Formula, ForEvery, ForSome, EveryBefore, SomeBefore, Implies, the_lemmas}
+use Rattle.rule_language.specs.declared.form.Form.TheVariants as form
+use Rattle.rule_language.specs.Trees.{Trees, no_trees, tree_then}
+use Rattle.rule_language.specs.Forms.{in_front, tree_of, trees_of}
+use Rattle.rule_language.proofs.Views.{shape}
+use Rattle.rule_engine.specs.Verdicts.{is_too_wide, widens, widens_by, kind_of}
+
+module _ (rows : List Row) (width : ℕ) where
+  abbrev wide : Trees → Bool
+  wide trees = is_too_wide rows trees width
+
+  pub wide-in_front : (f : Formula) (rest : Trees) → wide (in_front f rest) ≡ (wide (tree_of f) || wide rest)
+  wide-in_front f rest =
+      let s = shape f in
+      let inside = widens_by rows (kind_of s.0) (is_too_wide rows s.1) width in
+      ap wide (s.2 rest)
+      ∙ ap (λ (b : Bool). b || wide rest) (sym (ap wide (s.2 no_trees) ∙ or-false inside))
+
+  pub wide-Implies : (f g : Box Formula Global) →
+      wide (tree_of (Implies f g)) ≡ (wide (tree_of f.value) || wide (tree_of g.value))
+  wide-Implies f g =
+      let view : tree_of (Implies f g) ≡ tree_then form.Implies (in_front f.value (in_front g.value no_trees)) no_trees =
+      search (rules, the_lemmas) in
+      ap wide view ∙ or-false (wide (in_front f.value (in_front g.value no_trees)))
+      ∙ wide-in_front f.value (in_front g.value no_trees)
+
+  -- one formula more
+  pub wide_more : (fs : List Formula) (i : ℕ) (f : Formula) → i < length fs → f ≡ get_or fs i f →
+      wide (trees_of (drop i fs)) ≡ (wide (tree_of f) || wide (trees_of (drop (i + 1) fs)))
+  wide_more fs i f within is =
+      ap (λ (gs : List Formula). wide (trees_of gs))
+      (drop_more fs i f within ∙ ap (λ (g : Formula). g ∷ drop (i + 1) fs) (sym is))
+      ∙ wide-in_front f (trees_of (drop (i + 1) fs))
+
+  pub wide_none : (fs : List Formula) (i : ℕ) → length fs ≤ i → wide (trees_of (drop i fs)) ≡ false
+  wide_none fs i over = ap (λ (gs : List Formula). wide (trees_of gs)) (drop_all i fs over)
+
+  pub wide-ForEvery : (v : ℕ) (kind : Kind) (body : Box Formula Global) →
+      wide (tree_of (ForEvery v kind body)) ≡ widens rows kind (tree_of body.value) width
+  wide-ForEvery v kind body =
+      let view : tree_of (ForEvery v kind body) ≡ tree_then (form.ForEvery v kind) (in_front body.value no_trees) no_trees =
+      search (rules, the_lemmas) in
+      ap wide view ∙ or-false (widens rows kind (tree_of body.value) width)
+
+  pub wide-ForSome : (v : ℕ) (kind : Kind) (body : Box Formula Global) →
+      wide (tree_of (ForSome v kind body)) ≡ widens rows kind (tree_of body.value) width
+  wide-ForSome v kind body =
+      let view : tree_of (ForSome v kind body) ≡ tree_then (form.ForSome v kind) (in_front body.value no_trees) no_trees =
+      search (rules, the_lemmas) in
+      ap wide view ∙ or-false (widens rows kind (tree_of body.value) width)
+
+  pub wide-EveryBefore : (v : ℕ) (kind : Kind) (u : ℕ) (body : Box Formula Global) →
+      wide (tree_of (EveryBefore v kind u body)) ≡ widens rows kind (tree_of body.value) width
+  wide-EveryBefore v kind u body =
+      let view : tree_of (EveryBefore v kind u body) ≡ tree_then (form.EveryBefore v kind u) (in_front body.value no_trees) no_trees =
+      search (rules, the_lemmas) in
+      ap wide view ∙ or-false (widens rows kind (tree_of body.value) width)
+
+  pub wide-SomeBefore : (v : ℕ) (kind : Kind) (u : ℕ) (body : Box Formula Global) →
+      wide (tree_of (SomeBefore v kind u body)) ≡ widens rows kind (tree_of body.value) width
+  wide-SomeBefore v kind u body =
+      let view : tree_of (SomeBefore v kind u body) ≡ tree_then (form.SomeBefore v kind u) (in_front body.value no_trees) no_trees =
+      search (rules, the_lemmas) in
+      ap wide view ∙ or-false (widens rows kind (tree_of body.value) width)
+
+pub or_first : (a x y : Bool) → a ≡ x → a ≡ true → a ≡ (x || y)
+or_first a true y is t = is
+or_first a false y is t = cc
+
+pub or_second : (a b x y : Bool) → a ≡ x → b ≡ y → a ≡ false → b ≡ (x || y)
+or_second a b true y is is' t = cc
+or_second a b false y is is' t = is'

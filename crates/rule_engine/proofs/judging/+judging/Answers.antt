@@ -1,0 +1,191 @@
+use Rattle.std.proofs.Common.{◌≡◌, ◌∙◌, ◌<◌, ap, sym, subst, true, false, ℕ, Option, Some, None, IfSome, length, rules}
+use Rattle.rule_language.specs.declared.row.Row.{Row}
+use Rattle.rule_engine.specs.Tests.{value_of as term_value}
+use Rattle.rule_engine.specs.Kleene.{both, either, opposite, as_three}
+use Rattle.rule_engine.specs.Tests.{is_next, has_role, has_kind, are_equal, is_less}
+use Rattle.rule_engine.specs.Values.{row_at}
+use Rattle.rule_engine.specs.inside.Judging.{signed, value_of, over, over_rows, over_before}
+use Rattle.rule_engine.specs.inside.Scopes.{env_of}
+use Rattle.rule_engine.proofs.Judges.{value-And, value-Or, value-ForEvery, value-ForSome, value-EveryBefore}
+use Rattle.rule_engine.proofs.Judges.{value-SomeBefore, value-Before, value-Next, value-Is, value-OfKind, value-Equal, value-Less}
+use Rattle.rule_engine.proofs.Judges.{over_step, least_more}
+use Rattle.rule_engine.proofs.judging.+judging.Goals as goal
+use Rattle.precedence.specs.Known.{known_before, known_whole}
+use Rattle.rule_engine.proofs.judging.+judging.Goals.{over_rows-then-is_meant+else-is_false, over_rows-else-is_meant}
+
+pub value-returns-in-And : goal.value-returns-in-And
+value-returns-in-And t c =
+    let rows = c.args.rows.now in
+    let P = known_before c.args.order.now in
+    let R = known_whole c.args.order.now in
+    let env = env_of c.args.scope.now in
+    c.over.ensures ∙ ap (λ fs. over rows P R false fs env) c.as_slice.ensures.value
+    ∙ sym (ap (λ f. value_of rows P R f env) c.in-And.is ∙ value-And rows P R env c.in-And.parts)
+
+pub value-returns-in-Or : goal.value-returns-in-Or
+value-returns-in-Or t c =
+    let rows = c.args.rows.now in
+    let P = known_before c.args.order.now in
+    let R = known_whole c.args.order.now in
+    let env = env_of c.args.scope.now in
+    c.opposite-in-Or.ensures ∙ ap opposite (c.over-in-Or.ensures ∙ ap (λ fs. over rows P R true fs env)
+    c.as_slice-in-Or.ensures.value)
+    ∙ sym (ap (λ f. value_of rows P R f env) c.in-Or.is ∙ value-Or rows P R env c.in-Or.parts)
+
+pub value-returns-in-ForEvery : goal.value-returns-in-ForEvery
+value-returns-in-ForEvery t c =
+    let rows = c.args.rows.now in
+    let P = known_before c.args.order.now in
+    let R = known_whole c.args.order.now in
+    let env = env_of c.args.scope.now in
+    let a = c.in-ForEvery in
+    c.over_rows.ensures ∙ ap (λ f. over_rows rows P R false f a.v a.kind None env) c.deref.ensures
+    ∙ sym (ap (λ f. value_of rows P R f env) c.in-ForEvery.is ∙ value-ForEvery rows P R env a.v a.kind a.body)
+
+pub value-returns-in-ForSome : goal.value-returns-in-ForSome
+value-returns-in-ForSome t c =
+    let rows = c.args.rows.now in
+    let P = known_before c.args.order.now in
+    let R = known_whole c.args.order.now in
+    let env = env_of c.args.scope.now in
+    let a = c.in-ForSome in
+    c.opposite.ensures ∙ ap opposite (c.over_rows-in-ForSome.ensures
+    ∙ ap (λ f. over_rows rows P R true f a.v a.kind None env) c.deref-in-ForSome.ensures)
+    ∙ sym (ap (λ f. value_of rows P R f env) c.in-ForSome.is ∙ value-ForSome rows P R env a.v a.kind a.body)
+
+pub value-returns-in-EveryBefore : goal.value-returns-in-EveryBefore
+value-returns-in-EveryBefore t c =
+    let rows = c.args.rows.now in
+    let P = known_before c.args.order.now in
+    let R = known_whole c.args.order.now in
+    let env = env_of c.args.scope.now in
+    let a = c.in-EveryBefore in
+    c.over_before.ensures ∙ ap (λ f. over_before rows P R false f a.v a.kind env (env a.u)) c.deref-in-EveryBefore.ensures
+    ∙ sym (ap (λ f. value_of rows P R f env) a.is ∙ value-EveryBefore rows P R env a.v a.kind a.u a.body)
+
+pub value-returns-in-SomeBefore : goal.value-returns-in-SomeBefore
+value-returns-in-SomeBefore t c =
+    let rows = c.args.rows.now in
+    let P = known_before c.args.order.now in
+    let R = known_whole c.args.order.now in
+    let env = env_of c.args.scope.now in
+    let a = c.in-SomeBefore in
+    c.opposite-in-SomeBefore.ensures ∙ ap opposite (c.over_before-in-SomeBefore.ensures
+    ∙ ap (λ f. over_before rows P R true f a.v a.kind env (env a.u)) c.deref-in-SomeBefore.ensures)
+    ∙ sym (ap (λ f. value_of rows P R f env) a.is ∙ value-SomeBefore rows P R env a.v a.kind a.u a.body)
+
+pub value-returns-in-Next : goal.value-returns-in-Next
+value-returns-in-Next t c =
+    let rows = c.args.rows.now in
+    let P = known_before c.args.order.now in
+    let R = known_whole c.args.order.now in
+    let env = env_of c.args.scope.now in
+    c.as_three.ensures ∙ ap as_three (c.is_next.ensures
+    ∙ ap (λ x. is_next x c.row_at-in-Next.result)
+    (c.row_at.ensures ∙ ap (row_at rows) c.place_of-in-Next.ensures.is)
+    ∙ ap (is_next (row_at rows (env c.in-Next.v))) (c.row_at-in-Next.ensures ∙ ap (row_at rows) c.place_of-in-Next-2.ensures.is))
+    ∙ sym (ap (λ f. value_of rows P R f env) c.in-Next.is ∙ value-Next rows P R env c.in-Next.v c.in-Next.u)
+
+pub value-returns-in-Is : goal.value-returns-in-Is
+value-returns-in-Is t c =
+    let rows = c.args.rows.now in
+    let P = known_before c.args.order.now in
+    let R = known_whole c.args.order.now in
+    let env = env_of c.args.scope.now in
+    c.as_three-in-Is.ensures ∙ ap as_three (c.has_role.ensures
+    ∙ ap (has_role c.in-Is.role) (c.row_at-in-Is.ensures ∙ ap (row_at rows) c.place_of-in-Is.ensures.is))
+    ∙ sym (ap (λ f. value_of rows P R f env) c.in-Is.is ∙ value-Is rows P R env c.in-Is.v c.in-Is.role)
+
+pub value-returns-in-OfKind : goal.value-returns-in-OfKind
+value-returns-in-OfKind t c =
+    let rows = c.args.rows.now in
+    let P = known_before c.args.order.now in
+    let R = known_whole c.args.order.now in
+    let env = env_of c.args.scope.now in
+    c.as_three-in-OfKind.ensures ∙ ap as_three (c.has_kind.ensures
+    ∙ ap (has_kind c.in-OfKind.kind)
+    (c.row_at-in-OfKind.ensures ∙ ap (row_at rows) c.place_of-in-OfKind.ensures.is))
+    ∙ sym (ap (λ f. value_of rows P R f env) c.in-OfKind.is ∙ value-OfKind rows P R env c.in-OfKind.v c.in-OfKind.kind)
+
+pub value-returns-in-Equal : goal.value-returns-in-Equal
+value-returns-in-Equal t c =
+    let rows = c.args.rows.now in
+    let P = known_before c.args.order.now in
+    let R = known_whole c.args.order.now in
+    let env = env_of c.args.scope.now in
+    let at : ℕ → Option Row = λ v. row_at rows (env v) in
+    c.as_three-in-Equal.ensures ∙ ap as_three (c.are_equal.ensures
+    ∙ ap (λ x. are_equal x c.term_value-in-Equal.result) (c.term_value.ensures)
+    ∙ ap (are_equal (term_value at c.in-Equal.t)) (c.term_value-in-Equal.ensures))
+    ∙ sym (ap (λ f. value_of rows P R f env) c.in-Equal.is ∙ value-Equal rows P R env c.in-Equal.t c.in-Equal.s)
+
+pub value-returns-in-Less : goal.value-returns-in-Less
+value-returns-in-Less t c =
+    let rows = c.args.rows.now in
+    let P = known_before c.args.order.now in
+    let R = known_whole c.args.order.now in
+    let env = env_of c.args.scope.now in
+    let at : ℕ → Option Row = λ v. row_at rows (env v) in
+    c.as_three-in-Less.ensures ∙ ap as_three (c.is_less.ensures
+    ∙ ap (λ x. is_less x c.term_value-in-Less-2.result) (c.term_value-in-Less.ensures)
+    ∙ ap (is_less (term_value at c.in-Less.t)) (c.term_value-in-Less-2.ensures))
+    ∙ sym (ap (λ f. value_of rows P R f env) c.in-Less.is ∙ value-Less rows P R env c.in-Less.t c.in-Less.s)
+
+pub over_rows-loop-i-preserved : goal.over_rows-loop-i-preserved
+over_rows-loop-i-preserved t c =
+    let rows = c.args.rows.now in
+    let P = known_before c.args.order.now in
+    let R = known_whole c.args.order.now in
+    let env = env_of c.args.scope.now in
+    let body = c.args.body.now in
+    elim c.if-is_meant.branch [
+      | over_rows-then-is_meant+else-is_false w ↦
+          over_step rows P R env c.args.some body c.args.v c.args.kind c.args.within c.loop-i.i c.loop-i.least
+          c.if-is_meant.least _ true c.loop-i-test.true (sym c.is_meant.ensures ∙ w.if-is_meant.true)
+          (w.least-is ∙ w.both-least.ensures
+          ∙ ap (both c.loop-i.least) (w.signed.ensures ∙ ap (signed c.args.some) w.value.ensures))
+          c.loop-i.invariant
+      | over_rows-else-is_meant w ↦
+          over_step rows P R env c.args.some body c.args.v c.args.kind c.args.within c.loop-i.i c.loop-i.least
+          c.if-is_meant.least _ false c.loop-i-test.true (sym c.is_meant.ensures ∙ w.if-is_meant.false) w.least-is
+          c.loop-i.invariant
+    ]
+
+pub value-returns-in-Before : goal.value-returns-in-Before
+value-returns-in-Before t c =
+    let rows = c.args.rows.now in
+    let P = known_before c.args.order.now in
+    let R = known_whole c.args.order.now in
+    let env = env_of c.args.scope.now in
+    c.order_of.ensures
+    ∙ sym (ap (λ f. value_of rows P R f env) c.in-Before.is ∙ value-Before rows P R env c.in-Before.v c.in-Before.u)
+
+pub over_before-over_rows-requires : goal.over_before-over_rows-requires
+over_before-over_rows-requires t c = (
+  search rules,
+  (
+    c.requires.same,
+    (
+      c.requires.within,
+      subst (λ (o : Option ℕ). IfSome o (λ (p : ℕ). p < length c.args.rows.now)) c.in-Some.is
+          (c.place_of.ensures.within (length c.args.rows.now) c.requires.within),
+    ),
+  ),
+)
+
+pub over_before-unless_ragged-requires : goal.over_before-unless_ragged-requires
+over_before-unless_ragged-requires t c =
+    subst (λ (n : ℕ). c.in-Some.place < n) c.requires.same
+    (subst (λ (o : Option ℕ). IfSome o (λ (p : ℕ). p < length c.args.rows.now)) c.in-Some.is
+    (c.place_of.ensures.within (length c.args.rows.now) c.requires.within))
+
+pub over_before-returns-in-Some : goal.over_before-returns-in-Some
+over_before-returns-in-Some t c =
+    let rows = c.args.rows.now in
+    let P = known_before c.args.order.now in
+    let R = known_whole c.args.order.now in
+    let env = env_of c.args.scope.now in
+    let p = c.in-Some.place in
+    c.both.ensures ∙ ap (λ x. both x c.unless_ragged.result) c.over_rows.ensures
+    ∙ ap (both (over_rows rows P R c.args.some c.args.body.now c.args.v c.args.kind (Some p) env)) c.unless_ragged.ensures
+    ∙ ap (over_before rows P R c.args.some c.args.body.now c.args.v c.args.kind env) (sym c.in-Some.is ∙ c.place_of.ensures.is)

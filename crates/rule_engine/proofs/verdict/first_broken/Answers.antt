@@ -1,0 +1,34 @@
+use Rattle.std.proofs.Common.{◌≡◌, ◌∙◌, ◌<◌, ap, sym, subst, ℕ, length}
+use Rattle.std.specs.Prelude.{slice_get}
+use Rattle.entry_order.specs.declared.three.Three.{Three}
+use Rattle.rule_engine.specs.Meaning.{bind}
+use Rattle.rule_engine.specs.Tests.{has_kind}
+use Rattle.rule_engine.specs.inside.Judging.{value_of}
+use Rattle.rule_engine.specs.inside.Scopes.{env_of}
+use Rattle.rule_engine.specs.Kleene.{is_false}
+use Rattle.rule_engine.proofs.Broken.{first_more, neither, not_first, at_row}
+use Rattle.rule_engine.proofs.verdict.first_broken.Goals as goal
+use Rattle.precedence.specs.Known.{known_before, known_whole}
+use Rattle.rule_engine.proofs.verdict.first_broken.Goals.{else-has_kind-via-then-has_kind+else-is_false, else-has_kind-via-else-has_kind}
+
+pub loop-i-preserved : goal.loop-i-preserved
+loop-i-preserved c =
+    let rows = c.args.rows.now in
+    let P = known_before c.args.order.now in
+    let R = known_whole c.args.order.now in
+    let env = env_of c.args.scope.now in
+    let i = c.loop-i.i in
+    let value : ℕ → Three = λ j. value_of rows P R c.args.body.now (bind c.args.v j env) in
+    let inside : i < length rows =
+    subst (λ (n : ℕ). i < n) (c.count-i-end.ensures.count ∙ sym c.requires.same) c.loop-i-test.true in
+    elim c.else-has_kind.branch [
+      | else-has_kind-via-then-has_kind+else-is_false w ↦
+          first_more rows P R env c.args.kind value i _ inside
+          (neither (has_kind c.args.kind (slice_get rows i)) (is_false (value i))
+          (sym (w.is_false.ensures ∙ ap is_false w.value.ensures) ∙ w.if-is_false.false)) c.loop-i.invariant
+      | else-has_kind-via-else-has_kind w ↦
+          first_more rows P R env c.args.kind value i _ inside
+          (not_first (has_kind c.args.kind (slice_get rows i)) (is_false (value i))
+          (at_row rows c.args.kind i _ inside ∙ sym c.has_kind.ensures ∙ w.if-has_kind.false))
+          c.loop-i.invariant
+    ]

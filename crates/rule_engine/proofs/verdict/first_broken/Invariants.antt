@@ -1,0 +1,15 @@
+use Rattle.std.proofs.Common.{◌≡◌, ℕ, ◌+◌, ◌-◌, length}
+use Rattle.rule_engine.specs.Meaning.{bind}
+use Rattle.rule_engine.specs.inside.Judging.{value_of}
+use Rattle.rule_engine.specs.inside.Scopes.{env_of}
+use Rattle.rule_engine.specs.Verdicts.{first_false}
+use Rattle.precedence.specs.Known.{known_before, known_whole}
+use Rattle.rule_engine.proofs.verdict.first_broken.Given as goal
+
+abbrev pub invariant-loop-i : goal.invariant-loop-i
+invariant-loop-i l =
+    let P = known_before l.order in
+    let R = known_whole l.order in
+    let value = λ (i : ℕ). value_of l.rows P R l.body (bind l.v i (env_of l.scope)) in
+    first_false l.rows P R l.kind value 0 (length l.rows)
+    ≡ first_false l.rows P R l.kind value l.i (length l.rows - l.i)

@@ -1,0 +1,89 @@
+-- What is answered of a rule.
+use Rattle.std.specs.Prelude.{◌≡◌, ℕ, ◌*◌, Bool, true, false, ◌&&◌, ◌||◌, nat_lt, List, [], ◌∷◌, length, count_by, find}
+use Rattle.std.specs.Prelude.{Option, Some, None, slice_get, Result, Ok, Err}
+use Rattle.std.specs.List.{range_with_len}
+use Rattle.entry_order.specs.declared.three.Three.{Three}
+use Rattle.entry_order.specs.declared.three.Three.TheVariants as known
+use Rattle.entry_order.specs.Ancestors.{before, is_whole}
+use Rattle.precedence.specs.Graph.{Graph}
+use Rattle.rule_language.specs.declared.row.Row.{Row}
+use Rattle.rule_language.specs.declared.kind.Kind.{Kind}
+use Rattle.rule_language.specs.declared.form.Form.{Form}
+use Rattle.rule_language.specs.declared.form.Form.TheVariants.{ForEvery, ForSome, EveryBefore, SomeBefore}
+use Rattle.rule_language.specs.Trees.{Trees, no_trees, tree_then}
+use Rattle.rule_engine.specs.Kleene.{is_false}
+use Rattle.rule_engine.specs.Tests.{has_kind}
+use Rattle.rule_engine.specs.Meaning.{bind, unbound}
+use Rattle.rule_engine.specs.Values.{values, first_value, three}
+use Rattle.rule_engine.specs.declared.verdict.Verdict.{Verdict}
+use Rattle.rule_engine.specs.declared.verdict.Verdict.TheVariants.{Kept, Broken, Unsettled}
+use Rattle.rule_engine.specs.declared.verdict.JudgeFault.{JudgeFault}
+use Rattle.rule_engine.specs.declared.verdict.JudgeFault.TheVariants.{TooWide, Memory}
+
+module _ (rows : List Row) (order : ℕ → ℕ → Three) (wholes : ℕ → Bool) where
+  -- the first row of the kind at which the value is false, of n rows from i on
+  abbrev pub first_false : Kind → (ℕ → Three) → ℕ → ℕ → Option ℕ
+  first_false kind value i n = find (λ j. has_kind kind (slice_get rows j) && is_false (value j)) (range_with_len i n)
+
+  -- that row, and what is put behind it
+  abbrev pub and_then : Option ℕ → (ℕ → List ℕ) → List ℕ
+  and_then None deeper = []
+  and_then (Some i) deeper = i ∷ deeper i
+
+  -- what a quantifier over every survivor adds, and no other form
+  abbrev pub broken_by : Form → (ℕ → Option ℕ) → ((ℕ → Option ℕ) → Three) → ((ℕ → Option ℕ) → List ℕ) → List ℕ
+  broken_by (ForEvery v kind) env value deeper =
+      and_then (first_false kind (λ i. value (bind v i env)) 0 (length rows)) (λ i. deeper (bind v i env))
+  broken_by form env value deeper = []
+
+  -- the first values of the leading `every` over survivors under which the rest is false
+  abbrev pub broken : Trees → (ℕ → Option ℕ) → List ℕ
+  broken no_trees env = []
+  broken (tree_then form parts rest) env =
+      broken_by form env (λ e. first_value (values rows order wholes parts e)) (broken parts)
+
+  -- the verdict that the rule's value is
+  abbrev pub IsVerdict : Trees → Verdict → Type 0
+  IsVerdict rule Kept = three rows order wholes rule ≡ known.True
+  IsVerdict rule (Broken places) = (three rows order wholes rule ≡ known.False) × (places.items ≡ broken rule unbound)
+  IsVerdict rule Unsettled = three rows order wholes rule ≡ known.Unknown
+
+-- how many rows are of the kind
+abbrev pub count_of : List Row → Kind → ℕ
+count_of rows kind = count_by (λ row. has_kind kind (Some row)) rows
+
+-- the kind that a quantifier goes over
+abbrev pub kind_of : Form → Option Kind
+kind_of (ForEvery v kind) = Some kind
+kind_of (ForSome v kind) = Some kind
+kind_of (EveryBefore v kind u) = Some kind
+kind_of (SomeBefore v kind u) = Some kind
+kind_of form = None
+
+-- the width, or the width with one quantifier more, is too great, or that of what stands inside
+abbrev pub widens_by : List Row → Option Kind → (ℕ → Bool) → ℕ → Bool
+widens_by rows None inside width = inside width
+widens_by rows (Some kind) inside width =
+    nat_lt 268435456 (width * count_of rows kind) || inside (width * count_of rows kind)
+
+-- whether some quantifier is too wide, where the formulas stand in quantifiers of this width
+abbrev pub is_too_wide : List Row → Trees → ℕ → Bool
+is_too_wide rows no_trees width = false
+is_too_wide rows (tree_then form parts rest) width =
+    widens_by rows (kind_of form) (is_too_wide rows parts) width || is_too_wide rows rest width
+
+-- the same of a quantifier over the kind with this body
+abbrev pub widens : List Row → Kind → Trees → ℕ → Bool
+widens rows kind body width = widens_by rows (Some kind) (is_too_wide rows body) width
+
+-- a rule that isn't too wide has its verdict, and one that is too wide is refused as such
+abbrev pub IsAnswer : List Row → (ℕ → ℕ → Three) → (ℕ → Bool) → Trees → Result Verdict JudgeFault → Type 0
+IsAnswer rows order wholes rule (Ok verdict) =
+    (is_too_wide rows rule 1 ≡ false) × IsVerdict rows order wholes rule verdict
+IsAnswer rows order wholes rule (Err TooWide) = is_too_wide rows rule 1 ≡ true
+IsAnswer rows order wholes rule (Err Memory) = Unit {0}
+
+-- the answer on a rule by the survivors' rows and graph
+abbrev pub IsJudged : List Row → Graph → Trees → Result Verdict JudgeFault → Type 0
+IsJudged rows graph =
+    IsAnswer rows (before graph.parents graph.ragged) (λ x. is_whole graph.parents graph.ragged x x)

@@ -1,0 +1,142 @@
+//! What is answered of a rule.
+ghost use Rattle.std.specs.Prelude.{◌≡◌, ◌++◌, ◌<◌, [], ℕ, length, OnOk, IfSome};
+ghost use Rattle.precedence.specs.Graph.{Graph};
+ghost use Rattle.precedence.specs.Known.{IsKnownOf, known_before, known_count, known_whole};
+ghost use Rattle.rule_engine.specs.Meaning.{bind};
+ghost use Rattle.rule_engine.specs.Verdicts.{IsAnswer, IsJudged, broken, first_false};
+ghost use Rattle.rule_engine.specs.inside.Judging.{value_of};
+ghost use Rattle.rule_engine.specs.inside.Scopes.{IsWithin, env_of};
+ghost use Rattle.rule_language.specs.Forms.{tree_of};
+
+use crate::atoms::has_kind;
+use crate::judging::value;
+use crate::kleene::is_false;
+use crate::scope::Scope;
+use crate::width::is_too_wide;
+use entry_order::Three;
+use precedence::Rows;
+use rule_language::{Formula, Kind, Row, Rule};
+use std::alloc::{AllocError, Global};
+use thiserror::Error;
+
+/// What is answered of a rule.
+#[derive(Debug, Drop)]
+pub enum Verdict {
+    /// It holds, whatever was lost.
+    Kept,
+    /// It doesn't hold, whatever turns up: by the places of the first survivors for which the leading
+    /// `every` fails, one for each of the quantifiers over survivors that the rule begins with.
+    Broken(Vec<u32>),
+    /// Neither is known.
+    Unsettled,
+}
+
+/// Why a rule isn't judged.
+#[derive(Clone, Copy, Debug, PartialEq, Eq, Error)]
+pub enum JudgeFault {
+    #[error("quantifiers go over more than 268,435,456 entries together")]
+    TooWide,
+    #[error("out of memory")]
+    Memory,
+}
+
+impl From<AllocError> for JudgeFault {
+    ghost use Rattle.std.specs.Prelude.{◌≡◌};
+    ghost use Rattle.rule_engine.specs.declared.verdict.JudgeFault.TheVariants.{Memory};
+
+    ghost from_gives = { λ _ e. e ≡ Memory };
+
+    fn from(_refused: AllocError) -> JudgeFault {
+        JudgeFault::Memory
+    }
+}
+
+/// Judges a rule by the survivors' rows and their order.
+pub fn judge(alloc: Global, rule: &Rule, rows: &[Row], order: &Rows) -> Result<Verdict, JudgeFault>
+    requires { length rows.now ≡ known_count order.now }
+    ensures { (graph : Graph) → IsKnownOf graph order.now →
+        IsJudged rows.now graph (tree_of rule.now.body) result }
+{
+    answer(alloc, &rule.body, rows, order)
+}
+
+/// The answer on a rule that says this.
+fn answer(alloc: Global, body: &Formula, rows: &[Row], order: &Rows) -> Result<Verdict, JudgeFault>
+    requires { length rows.now ≡ known_count order.now }
+    ensures { IsAnswer rows.now (known_before order.now) (known_whole order.now) (tree_of body.now) result }
+{
+    if is_too_wide(body, 1, rows) {
+        return Err(JudgeFault::TooWide);
+    }
+    match value(body, &Scope::Empty, rows, order) {
+        Three::True => Ok(Verdict::Kept),
+        Three::Unknown => Ok(Verdict::Unsettled),
+        Three::False => {
+            let mut places = Vec::new(alloc);
+            push_broken(body, &Scope::Empty, rows, order, &mut places)?;
+            Ok(Verdict::Broken(places))
+        }
+    }
+}
+
+/// Appends the places of the first rows for which the leading quantifiers over all rows fail.
+fn push_broken(
+    formula: &Formula,
+    scope: &Scope<'_>,
+    rows: &[Row],
+    order: &Rows,
+    places: &mut Vec<u32>,
+) -> Result<(), AllocError>
+    requires same { length rows.now ≡ known_count order.now }
+    requires within { IsWithin (length rows.now) scope.now }
+    ensures { OnOk result (places.new.items ≡ places.old.items
+        ++ broken rows.now (known_before order.now) (known_whole order.now) (tree_of formula.now)
+        (env_of scope.now)) }
+{
+    match formula {
+        Formula::ForEvery { v, kind, body } => {
+            match first_broken(body, *v, *kind, scope, rows, order) {
+                None => Ok(()),
+                Some(place) => {
+                    places.push(place)?;
+                    let inner = Scope::With {
+                        v: *v,
+                        place: place as usize,
+                        outer: &*scope,
+                    };
+                    push_broken(body, &inner, rows, order, places)
+                }
+            }
+        }
+        _ => Ok(()),
+    }
+}
+
+/// The first row of the kind at which the value is false.
+fn first_broken(
+    body: &Formula,
+    v: u8,
+    kind: Kind,
+    scope: &Scope<'_>,
+    rows: &[Row],
+    order: &Rows,
+) -> Option<u32>
+    requires same { length rows.now ≡ known_count order.now }
+    requires within { IsWithin (length rows.now) scope.now }
+    ensures first { result ≡ first_false rows.now (known_before order.now) (known_whole order.now) kind
+        (λ i. value_of rows.now (known_before order.now) (known_whole order.now) body.now
+        (bind v i (env_of scope.now))) 0 (length rows.now) }
+    ensures within { IfSome result (λ place. place < length rows.now) }
+{
+    for i in 0..order.count() {
+        let inner = Scope::With {
+            v,
+            place: i,
+            outer: &*scope,
+        };
+        if has_kind(kind, Some(rows[i])) && is_false(value(body, &inner, rows, order)) {
+            return Some(i as u32);
+        }
+    }
+    None
+}
