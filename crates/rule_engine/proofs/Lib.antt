@@ -6,3 +6,4 @@ pub mod Judges
 pub mod Broken
 pub mod Widths
 pub mod Graphs
+pub mod Wants

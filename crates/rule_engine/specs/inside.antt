@@ -1,3 +1,4 @@
 -- Definitions that no public clause needs.
 pub mod Scopes
 pub mod Judging
+pub mod Wanted

@@ -16,6 +16,7 @@ ghost use Rattle.rule_engine.specs.inside.Scopes.{IsWithin, env_of};
 use crate::atoms::{Value, are_equal, field_of, has_kind, has_role, is_less, is_next, same_place};
 use crate::kleene::{as_three, both, either, is_false, opposite, signed};
 use crate::scope::Scope;
+use crate::wanted::{has_wanted, wanted_for};
 use entry_order::Three;
 use precedence::Rows;
 use rule_language::{Formula, Kind, Row, Term};
@@ -99,9 +100,10 @@ fn over_rows(
     ensures { result
         ≡ over_rows rows.now (known_before order.now) (known_whole order.now) some body.now v kind within (env_of scope.now) }
 {
+    let wanted = wanted_for(body, !some, v, scope, rows);
     let mut least = Three::True;
     for i in 0..rows.len() {
-        if is_meant(kind, within, i, rows, order) {
+        if has_wanted(wanted, rows[i]) && is_meant(kind, within, i, rows, order) {
             let inner = Scope::With {
                 v,
                 place: i,
@@ -197,7 +199,7 @@ fn row_at(rows: &[Row], place: Option<usize>) -> Option<Row>
 }
 
 /// What the term stands for.
-fn term_value(term: Term, scope: &Scope<'_>, rows: &[Row]) -> Option<Value>
+pub(crate) fn term_value(term: Term, scope: &Scope<'_>, rows: &[Row]) -> Option<Value>
     ensures { result ≡ term_value (λ w. row_at rows.now (env_of scope.now w)) term }
 {
     match term {

@@ -8,6 +8,7 @@ mod kleene;
 mod laws;
 mod scope;
 mod verdict;
+mod wanted;
 mod width;
 
 pub use laws::rules_are_settled;

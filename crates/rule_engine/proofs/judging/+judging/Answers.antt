@@ -11,7 +11,17 @@ use Rattle.rule_engine.proofs.Judges.{value-SomeBefore, value-Before, value-Next
 use Rattle.rule_engine.proofs.Judges.{over_step, least_more}
 use Rattle.rule_engine.proofs.judging.+judging.Goals as goal
 use Rattle.precedence.specs.Known.{known_before, known_whole}
-use Rattle.rule_engine.proofs.judging.+judging.Goals.{over_rows-then-is_meant+else-is_false, over_rows-else-is_meant}
+use Rattle.rule_engine.proofs.judging.+judging.Goals.{over_rows-then-has_wanted+then-is_meant+else-is_false}
+use Rattle.rule_engine.proofs.judging.+judging.Goals.{over_rows-else-has_wanted}
+use Rattle.rule_engine.proofs.judging.+judging.Goals.{over_rows-else-has_wanted-via-then-has_wanted+else-is_meant}
+use Rattle.rule_engine.proofs.judging.+judging.Goals.{over_rows-else-has_wanted-via-else-has_wanted}
+use Rattle.std.proofs.Common.{◌+◌, ◌-◌}
+use Rattle.std.proofs.lemmas.Option.{slice_get-get_or}
+use Rattle.entry_order.specs.declared.three.Three.{Three}
+use Rattle.rule_engine.specs.Meaning.{bind}
+use Rattle.rule_engine.specs.inside.Judging.{over_from}
+use Rattle.rule_engine.proofs.Judges.{over_pass}
+use Rattle.rule_engine.proofs.Wants.{signed_true, false_is}
 
 pub value-returns-in-And : goal.value-returns-in-And
 value-returns-in-And t c =
@@ -138,18 +148,46 @@ over_rows-loop-i-preserved t c =
     let R = known_whole c.args.order.now in
     let env = env_of c.args.scope.now in
     let body = c.args.body.now in
-    elim c.if-is_meant.branch [
-      | over_rows-then-is_meant+else-is_false w ↦
-          over_step rows P R env c.args.some body c.args.v c.args.kind c.args.within c.loop-i.i c.loop-i.least
-          c.if-is_meant.least _ true c.loop-i-test.true (sym c.is_meant.ensures ∙ w.if-is_meant.true)
+    let i = c.loop-i.i in
+    elim c.if-has_wanted.branch [
+      | over_rows-then-has_wanted+then-is_meant+else-is_false w ↦
+          over_step rows P R env c.args.some body c.args.v c.args.kind c.args.within i c.loop-i.least
+          c.if-has_wanted.least _ true c.loop-i-test.true (sym w.is_meant.ensures ∙ w.if-is_meant.true)
           (w.least-is ∙ w.both-least.ensures
           ∙ ap (both c.loop-i.least) (w.signed.ensures ∙ ap (signed c.args.some) w.value.ensures))
           c.loop-i.invariant
-      | over_rows-else-is_meant w ↦
-          over_step rows P R env c.args.some body c.args.v c.args.kind c.args.within c.loop-i.i c.loop-i.least
-          c.if-is_meant.least _ false c.loop-i-test.true (sym c.is_meant.ensures ∙ w.if-is_meant.false) w.least-is
-          c.loop-i.invariant
+      | over_rows-else-has_wanted w ↦
+          elim w.else-has_wanted.branch [
+            | over_rows-else-has_wanted-via-then-has_wanted+else-is_meant u ↦
+                over_step rows P R env c.args.some body c.args.v c.args.kind c.args.within i c.loop-i.least
+                c.if-has_wanted.least _ false c.loop-i-test.true (sym u.is_meant.ensures ∙ u.if-is_meant.false)
+                w.least-is c.loop-i.invariant
+            | over_rows-else-has_wanted-via-else-has_wanted u ↦
+                over_pass rows P R env c.args.some body c.args.v c.args.kind c.args.within i c.loop-i.least
+                c.if-has_wanted.least _ c.loop-i-test.true w.least-is
+                (signed_true c.args.some (value_of rows P R body (bind c.args.v i env))
+                (c.wanted_for-wanted.ensures P R i _ (slice_get-get_or rows i _ c.loop-i-test.true)
+                (sym c.has_wanted.ensures ∙ u.if-has_wanted.false)))
+                c.loop-i.invariant
+          ]
     ]
+
+pub over_rows-returns-then-is_false : goal.over_rows-returns-then-is_false
+over_rows-returns-then-is_false t c =
+    let rows = c.args.rows.now in
+    let P = known_before c.args.order.now in
+    let R = known_whole c.args.order.now in
+    let env = env_of c.args.scope.now in
+    let body = c.args.body.now in
+    let i = c.loop-i.i in
+    let rest = over_from rows P R c.args.some body c.args.v c.args.kind c.args.within env (i + 1) (length rows - (i + 1)) in
+    sym (over_step rows P R env c.args.some body c.args.v c.args.kind c.args.within i c.loop-i.least
+    c.both-least.result _ true c.loop-i-test.true (sym c.is_meant.ensures ∙ c.if-is_meant.true)
+    (c.both-least.ensures
+    ∙ ap (both c.loop-i.least) (c.signed.ensures ∙ ap (signed c.args.some) c.value.ensures))
+    c.loop-i.invariant
+    ∙ ap (λ (x : Three). both x rest)
+    (false_is c.both-least.result (sym c.is_false.ensures ∙ c.if-is_false.true)))
 
 pub value-returns-in-Before : goal.value-returns-in-Before
 value-returns-in-Before t c =
