@@ -62,6 +62,10 @@ pub neither : (a b : Bool) → b ≡ false → (a && b) ≡ false
 neither true b is = is
 neither false b is = refl
 
+pub each_true : (a b : Bool) → a ≡ true → b ≡ true → (a && b) ≡ true
+each_true true b is also = also
+each_true false b is also = cc
+
 pub not_first : (a b : Bool) → a ≡ false → (a && b) ≡ false
 not_first true b is = cc
 not_first false b is = refl

@@ -155,19 +155,6 @@ module _ (rows : List Row) (order : ℕ → ℕ → Three) (wholes : ℕ → Boo
       ∙ ap (λ (x : Three). both x (over_from rows order wholes some body v kind within env (i + 1)
       (length rows - (i + 1)))) (sym now)
 
-  -- a row that leaves the least value as it is may be passed over
-  pub over_pass : (some : Bool) (body : Formula) (v : ℕ) (kind : Kind) (within : Option ℕ) (i : ℕ)
-      (acc new total : Three) → i < length rows → new ≡ acc → signed some (value_at v body i) ≡ True →
-      total ≡ both acc (over_from rows order wholes some body v kind within env i (length rows - i)) →
-      total ≡ both new (over_from rows order wholes some body v kind within env (i + 1) (length rows - (i + 1)))
-  over_pass some body v kind within i acc new total inside now neutral so_far =
-      over_step some body v kind within i acc new total (has_kind kind (slice_get rows i) && is_in order within i)
-      inside refl (now ∙ by (has_kind kind (slice_get rows i) && is_in order within i)) so_far
-    where
-      by : (b : Bool) → acc ≡ cond b (both acc (signed some (value_at v body i))) acc
-      by true = sym (ap (both acc) neutral ∙ both_true acc)
-      by false = refl
-
   pub value-And : (v : Vec Formula Global) →
       value_of rows order wholes (And v) env ≡ over rows order wholes false v.items env
   value-And v = ap seen (view-And v) ∙ ap least (values-trees_of rows order wholes env v.items)

@@ -7,3 +7,4 @@ pub mod Broken
 pub mod Widths
 pub mod Graphs
 pub mod Wants
+pub mod Indexed

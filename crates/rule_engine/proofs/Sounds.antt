@@ -106,7 +106,7 @@ StandFor S None None = Unit {0}
 StandFor S (Some i) (Some e) = slice_get S i ≡ Some e
 StandFor S i e = ⊥
 
-in_range : (n i : ℕ) → i < n → Contains (range_with_len 0 n) i
+pub in_range : (n i : ℕ) → i < n → Contains (range_with_len 0 n) i
 in_range n i l =
     (i, omega (arith, length-range_with_len 0 n), omega (arith, get_or-range_with_len 0 n i i l))
 

@@ -2,3 +2,4 @@
 pub mod Scopes
 pub mod Judging
 pub mod Wanted
+pub mod Index

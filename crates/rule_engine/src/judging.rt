@@ -8,46 +8,57 @@ ghost use Rattle.rule_engine.specs.inside.Judging.{
   over,
   over_rows,
   over_before,
+  over_places,
+  if_meant,
   is_in,
   unless_ragged,
 };
+ghost use Rattle.rule_engine.specs.inside.Index.{AreIndexesOf};
 ghost use Rattle.rule_engine.specs.inside.Scopes.{IsWithin, env_of};
 
 use crate::atoms::{Value, are_equal, field_of, has_kind, has_role, is_less, is_next, same_place};
+use crate::index::Indexes;
 use crate::kleene::{as_three, both, either, is_false, opposite, signed};
 use crate::scope::Scope;
-use crate::wanted::{has_wanted, wanted_for};
+use crate::wanted::wanted_for;
 use entry_order::Three;
 use precedence::Rows;
 use rule_language::{Formula, Kind, Row, Term};
 
 /// The value of the formula where the variables of the scope are bound.
 #[cycle(judging)]
-pub(crate) fn value(formula: &Formula, scope: &Scope<'_>, rows: &[Row], order: &Rows) -> Three
+pub(crate) fn value(
+    formula: &Formula,
+    scope: &Scope<'_>,
+    rows: &[Row],
+    order: &Rows,
+    indexes: &Indexes,
+) -> Three
     requires same { length rows.now ≡ known_count order.now }
     requires within { IsWithin (length rows.now) scope.now }
+    requires indexed { AreIndexesOf rows.now indexes.now }
     ensures { result ≡ value_of rows.now (known_before order.now) (known_whole order.now) formula.now (env_of scope.now) }
 {
     match formula {
         Formula::True => Three::True,
         Formula::ForEvery { v, kind, body } => {
-            over_rows(false, body, *v, *kind, None, scope, rows, order)
+            over_rows(false, body, *v, *kind, None, scope, rows, order, indexes)
         }
         Formula::ForSome { v, kind, body } => {
-            opposite(over_rows(true, body, *v, *kind, None, scope, rows, order))
+            opposite(over_rows(true, body, *v, *kind, None, scope, rows, order, indexes))
         }
         Formula::EveryBefore { v, kind, u, body } => {
-            over_before(false, body, *v, *kind, *u, scope, rows, order)
+            over_before(false, body, *v, *kind, *u, scope, rows, order, indexes)
         }
         Formula::SomeBefore { v, kind, u, body } => {
-            opposite(over_before(true, body, *v, *kind, *u, scope, rows, order))
+            opposite(over_before(true, body, *v, *kind, *u, scope, rows, order, indexes))
         }
-        Formula::And(parts) => over(false, parts.as_slice(), scope, rows, order),
-        Formula::Or(parts) => opposite(over(true, parts.as_slice(), scope, rows, order)),
-        Formula::Not(body) => opposite(value(body, scope, rows, order)),
+        Formula::And(parts) => over(false, parts.as_slice(), scope, rows, order, indexes),
+        Formula::Or(parts) => opposite(over(true, parts.as_slice(), scope, rows, order, indexes)),
+        Formula::Not(body) => opposite(value(body, scope, rows, order, indexes)),
         Formula::Implies(first, second) => either(
-            opposite(value(first, scope, rows, order)),
-            value(second, scope, rows, order),
+            opposite(value(first, scope, rows, order, indexes)),
+            value(second, scope, rows, order, indexes),
         ),
         Formula::Same(v, u) => same_place(scope.place_of(*v), scope.place_of(*u)),
         Formula::Before(v, u) => order_of(*v, *u, scope, order),
@@ -70,14 +81,25 @@ pub(crate) fn value(formula: &Formula, scope: &Scope<'_>, rows: &[Row], order: &
 
 /// The least value of formulas, or of their opposites.
 #[cycle(judging)]
-fn over(some: bool, parts: &[Formula], scope: &Scope<'_>, rows: &[Row], order: &Rows) -> Three
+fn over(
+    some: bool,
+    parts: &[Formula],
+    scope: &Scope<'_>,
+    rows: &[Row],
+    order: &Rows,
+    indexes: &Indexes,
+) -> Three
     requires same { length rows.now ≡ known_count order.now }
     requires within { IsWithin (length rows.now) scope.now }
+    requires indexed { AreIndexesOf rows.now indexes.now }
     ensures { result ≡ over rows.now (known_before order.now) (known_whole order.now) some parts.now (env_of scope.now) }
 {
     let mut least = Three::True;
     for part in parts {
-        least = both(least, signed(some, value(part, scope, rows, order)));
+        least = both(
+            least,
+            signed(some, value(part, scope, rows, order, indexes)),
+        );
     }
     least
 }
@@ -93,23 +115,131 @@ fn over_rows(
     scope: &Scope<'_>,
     rows: &[Row],
     order: &Rows,
+    indexes: &Indexes,
 ) -> Three
     requires same { length rows.now ≡ known_count order.now }
     requires within { IsWithin (length rows.now) scope.now }
+    requires indexed { AreIndexesOf rows.now indexes.now }
     requires node { IfSome within (λ u. u < length rows.now) }
     ensures { result
         ≡ over_rows rows.now (known_before order.now) (known_whole order.now) some body.now v kind within (env_of scope.now) }
 {
-    let wanted = wanted_for(body, !some, v, scope, rows);
+    match indexes.places(wanted_for(body, !some, v, scope, rows)) {
+        Some(places) => over_places(
+            places, some, body, v, kind, within, scope, rows, order, indexes,
+        ),
+        None => over_each(some, body, v, kind, within, scope, rows, order, indexes),
+    }
+}
+
+/// The same over the rows at these places.
+#[cycle(judging)]
+fn over_places(
+    places: &[u32],
+    some: bool,
+    body: &Formula,
+    v: u8,
+    kind: Kind,
+    within: Option<usize>,
+    scope: &Scope<'_>,
+    rows: &[Row],
+    order: &Rows,
+    indexes: &Indexes,
+) -> Three
+    requires same { length rows.now ≡ known_count order.now }
+    requires within { IsWithin (length rows.now) scope.now }
+    requires indexed { AreIndexesOf rows.now indexes.now }
+    requires node { IfSome within (λ u. u < length rows.now) }
+    ensures { result ≡ over_places rows.now (known_before order.now) (known_whole order.now) some
+        body.now v kind within (env_of scope.now) places.now }
+{
+    let mut least = Three::True;
+    for place in places {
+        let value = value_at(
+            *place as usize,
+            some,
+            body,
+            v,
+            kind,
+            within,
+            scope,
+            rows,
+            order,
+            indexes,
+        );
+        least = both(least, value);
+        if is_false(least) {
+            return Three::False;
+        }
+    }
+    least
+}
+
+/// The value at a row that is meant, or its opposite, and true at any other.
+#[cycle(judging)]
+fn value_at(
+    i: usize,
+    some: bool,
+    body: &Formula,
+    v: u8,
+    kind: Kind,
+    within: Option<usize>,
+    scope: &Scope<'_>,
+    rows: &[Row],
+    order: &Rows,
+    indexes: &Indexes,
+) -> Three
+    requires same { length rows.now ≡ known_count order.now }
+    requires within { IsWithin (length rows.now) scope.now }
+    requires indexed { AreIndexesOf rows.now indexes.now }
+    requires node { IfSome within (λ u. u < length rows.now) }
+    ensures { result ≡ if_meant rows.now (known_before order.now) (known_whole order.now) some
+        body.now v kind within (env_of scope.now) i }
+{
+    if i < rows.len() && is_meant(kind, within, i, rows, order) {
+        let inner = Scope::With {
+            v,
+            place: i,
+            outer: &*scope,
+        };
+        signed(some, value(body, &inner, rows, order, indexes))
+    } else {
+        Three::True
+    }
+}
+
+/// The same, row by row, over the rows of the kind, or over those of them that come before one.
+#[cycle(judging)]
+fn over_each(
+    some: bool,
+    body: &Formula,
+    v: u8,
+    kind: Kind,
+    within: Option<usize>,
+    scope: &Scope<'_>,
+    rows: &[Row],
+    order: &Rows,
+    indexes: &Indexes,
+) -> Three
+    requires same { length rows.now ≡ known_count order.now }
+    requires within { IsWithin (length rows.now) scope.now }
+    requires indexed { AreIndexesOf rows.now indexes.now }
+    requires node { IfSome within (λ u. u < length rows.now) }
+    ensures { result
+        ≡ over_rows rows.now (known_before order.now) (known_whole order.now) some body.now v kind within (env_of scope.now) }
+{
     let mut least = Three::True;
     for i in 0..rows.len() {
-        if has_wanted(wanted, rows[i]) && is_meant(kind, within, i, rows, order) {
+        if is_meant(kind, within, i, rows, order) {
             let inner = Scope::With {
                 v,
                 place: i,
                 outer: &*scope,
             };
-            least = both(least, signed(some, value(body, &inner, rows, order)));
+            least = both(
+                least,
+                signed(some, value(body, &inner, rows, order, indexes)),
+            );
             if is_false(least) {
                 return Three::False;
             }
@@ -129,16 +259,28 @@ fn over_before(
     scope: &Scope<'_>,
     rows: &[Row],
     order: &Rows,
+    indexes: &Indexes,
 ) -> Three
     requires same { length rows.now ≡ known_count order.now }
     requires within { IsWithin (length rows.now) scope.now }
+    requires indexed { AreIndexesOf rows.now indexes.now }
     ensures { result ≡ over_before rows.now (known_before order.now) (known_whole order.now) some
         body.now v kind (env_of scope.now) (env_of scope.now u) }
 {
     match scope.place_of(u) {
         None => Three::True,
         Some(place) => both(
-            over_rows(some, body, v, kind, Some(place), scope, rows, order),
+            over_rows(
+                some,
+                body,
+                v,
+                kind,
+                Some(place),
+                scope,
+                rows,
+                order,
+                indexes,
+            ),
             unless_ragged(order, place),
         ),
     }

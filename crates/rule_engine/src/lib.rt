@@ -3,6 +3,7 @@
 #![tactic(auto)]
 
 mod atoms;
+mod index;
 mod judging;
 mod kleene;
 mod laws;

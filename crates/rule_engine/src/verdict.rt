@@ -4,11 +4,13 @@ ghost use Rattle.precedence.specs.Graph.{Graph};
 ghost use Rattle.precedence.specs.Known.{IsKnownOf, known_before, known_count, known_whole};
 ghost use Rattle.rule_engine.specs.Meaning.{bind};
 ghost use Rattle.rule_engine.specs.Verdicts.{IsAnswer, IsJudged, broken, first_false};
+ghost use Rattle.rule_engine.specs.inside.Index.{AreIndexesOf};
 ghost use Rattle.rule_engine.specs.inside.Judging.{value_of};
 ghost use Rattle.rule_engine.specs.inside.Scopes.{IsWithin, env_of};
 ghost use Rattle.rule_language.specs.Forms.{tree_of};
 
 use crate::atoms::has_kind;
+use crate::index::Indexes;
 use crate::judging::value;
 use crate::kleene::is_false;
 use crate::scope::Scope;
@@ -68,12 +70,13 @@ fn answer(alloc: Global, body: &Formula, rows: &[Row], order: &Rows) -> Result<V
     if is_too_wide(body, 1, rows) {
         return Err(JudgeFault::TooWide);
     }
-    match value(body, &Scope::Empty, rows, order) {
+    let indexes = Indexes::make(alloc, rows, order)?;
+    match value(body, &Scope::Empty, rows, order, &indexes) {
         Three::True => Ok(Verdict::Kept),
         Three::Unknown => Ok(Verdict::Unsettled),
         Three::False => {
             let mut places = Vec::new(alloc);
-            push_broken(body, &Scope::Empty, rows, order, &mut places)?;
+            push_broken(body, &Scope::Empty, rows, order, &indexes, &mut places)?;
             Ok(Verdict::Broken(places))
         }
     }
@@ -85,17 +88,19 @@ fn push_broken(
     scope: &Scope<'_>,
     rows: &[Row],
     order: &Rows,
+    indexes: &Indexes,
     places: &mut Vec<u32>,
 ) -> Result<(), AllocError>
     requires same { length rows.now ≡ known_count order.now }
     requires within { IsWithin (length rows.now) scope.now }
+    requires indexed { AreIndexesOf rows.now indexes.now }
     ensures { OnOk result (places.new.items ≡ places.old.items
         ++ broken rows.now (known_before order.now) (known_whole order.now) (tree_of formula.now)
         (env_of scope.now)) }
 {
     match formula {
         Formula::ForEvery { v, kind, body } => {
-            match first_broken(body, *v, *kind, scope, rows, order) {
+            match first_broken(body, *v, *kind, scope, rows, order, indexes) {
                 None => Ok(()),
                 Some(place) => {
                     places.push(place)?;
@@ -104,7 +109,7 @@ fn push_broken(
                         place: place as usize,
                         outer: &*scope,
                     };
-                    push_broken(body, &inner, rows, order, places)
+                    push_broken(body, &inner, rows, order, indexes, places)
                 }
             }
         }
@@ -120,9 +125,11 @@ fn first_broken(
     scope: &Scope<'_>,
     rows: &[Row],
     order: &Rows,
+    indexes: &Indexes,
 ) -> Option<u32>
     requires same { length rows.now ≡ known_count order.now }
     requires within { IsWithin (length rows.now) scope.now }
+    requires indexed { AreIndexesOf rows.now indexes.now }
     ensures first { result ≡ first_false rows.now (known_before order.now) (known_whole order.now) kind
         (λ i. value_of rows.now (known_before order.now) (known_whole order.now) body.now
         (bind v i (env_of scope.now))) 0 (length rows.now) }
@@ -134,7 +141,7 @@ fn first_broken(
             place: i,
             outer: &*scope,
         };
-        if has_kind(kind, Some(rows[i])) && is_false(value(body, &inner, rows, order)) {
+        if has_kind(kind, Some(rows[i])) && is_false(value(body, &inner, rows, order, indexes)) {
             return Some(i as u32);
         }
     }

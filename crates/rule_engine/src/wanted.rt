@@ -9,14 +9,13 @@ ghost use Rattle.rule_engine.specs.Tests.{are_equal as are_equal_terms};
 ghost use Rattle.rule_engine.specs.inside.Judging.{value_of, over};
 ghost use Rattle.rule_engine.specs.inside.Scopes.{env_of};
 ghost use Rattle.rule_engine.specs.inside.Wanted.{
-  has_wanted,
   IsEquality,
   IsFixed,
   SettledWithout,
   term_with,
 };
 
-use crate::atoms::{Value, are_equal, field_of};
+use crate::atoms::Value;
 use crate::judging::term_value;
 use crate::scope::Scope;
 use rule_language::{Field, Formula, Row, Term};
@@ -24,21 +23,8 @@ use rule_language::{Field, Formula, Row, Term};
 /// A number that a row has to have.
 #[derive(Clone, Copy)]
 pub(crate) struct Wanted {
-    field: Field,
-    number: u32,
-}
-
-/// Whether the row has what is wanted, if anything is.
-pub(crate) fn has_wanted(wanted: Option<Wanted>, row: Row) -> bool
-    ensures { result ≡ has_wanted wanted row }
-{
-    match wanted {
-        None => true,
-        Some(wanted) => are_equal(
-            Some(field_of(wanted.field, row)),
-            Some(Value::Number(wanted.number)),
-        ),
-    }
+    pub(crate) field: Field,
+    pub(crate) number: u32,
 }
 
 /// What the row of the variable has to have, or else the formula is true, or false, as asked.
@@ -120,13 +106,13 @@ fn equality(t: Term, s: Term, v: u8, scope: &Scope<'_>, rows: &[Row]) -> Option<
     }
 }
 
-/// The same, where the first term is a field of the row and the second is fixed.
+/// The same, where the first term is a field of the row that is indexed and the second is fixed.
 fn one_way(t: Term, s: Term, v: u8, scope: &Scope<'_>, rows: &[Row]) -> Option<Wanted>
     ensures { IfSome result (IsEquality rows.now (env_of scope.now) v t s) }
 {
     match t {
         Term::Of { v: bound, field } => {
-            if bound == v {
+            if bound == v && matches!(field, Field::Session | Field::Number) {
                 of_field(field, fixed(s, v, scope, rows))
             } else {
                 None

@@ -49,3 +49,13 @@ module _ (rows : List Row) (order : ℕ → ℕ → Three) (wholes : ℕ → Boo
   abbrev pub over_before : Bool → Formula → ℕ → Kind → (ℕ → Option ℕ) → Option ℕ → Three
   over_before some body v kind env None = True
   over_before some body v kind env (Some u) = both (over_rows some body v kind (Some u) env) (unless_ragged wholes u)
+
+  -- the value at a row that is meant, or its opposite, and true at any other
+  abbrev pub if_meant : Bool → Formula → ℕ → Kind → Option ℕ → (ℕ → Option ℕ) → ℕ → Three
+  if_meant some body v kind within env j =
+      if has_kind kind (slice_get rows j) && is_in order within j
+      then signed some (value_of body (bind v j env)) else True
+
+  -- the least of these at some places
+  abbrev pub over_places : Bool → Formula → ℕ → Kind → Option ℕ → (ℕ → Option ℕ) → List ℕ → Three
+  over_places some body v kind within env places = least (map (if_meant some body v kind within env) places)

@@ -10,18 +10,16 @@ use Rattle.rule_engine.proofs.Judges.{value-And, value-Or, value-ForEvery, value
 use Rattle.rule_engine.proofs.Judges.{value-SomeBefore, value-Before, value-Next, value-Is, value-OfKind, value-Equal, value-Less}
 use Rattle.rule_engine.proofs.Judges.{over_step, least_more}
 use Rattle.rule_engine.proofs.judging.+judging.Goals as goal
+use Rattle.rule_engine.proofs.judging.+judging.Goals.{over_each-then-is_meant+else-is_false, over_each-else-is_meant}
 use Rattle.precedence.specs.Known.{known_before, known_whole}
-use Rattle.rule_engine.proofs.judging.+judging.Goals.{over_rows-then-has_wanted+then-is_meant+else-is_false}
-use Rattle.rule_engine.proofs.judging.+judging.Goals.{over_rows-else-has_wanted}
-use Rattle.rule_engine.proofs.judging.+judging.Goals.{over_rows-else-has_wanted-via-then-has_wanted+else-is_meant}
-use Rattle.rule_engine.proofs.judging.+judging.Goals.{over_rows-else-has_wanted-via-else-has_wanted}
 use Rattle.std.proofs.Common.{◌+◌, ◌-◌}
 use Rattle.std.proofs.lemmas.Option.{slice_get-get_or}
 use Rattle.entry_order.specs.declared.three.Three.{Three}
 use Rattle.rule_engine.specs.Meaning.{bind}
 use Rattle.rule_engine.specs.inside.Judging.{over_from}
-use Rattle.rule_engine.proofs.Judges.{over_pass}
-use Rattle.rule_engine.proofs.Wants.{signed_true, false_is}
+use Rattle.rule_engine.specs.inside.Index.{HasWanting}
+use Rattle.rule_engine.proofs.Indexed.{over_rows_by_places}
+use Rattle.rule_engine.proofs.Wants.{false_is}
 
 pub value-returns-in-And : goal.value-returns-in-And
 value-returns-in-And t c =
@@ -141,39 +139,28 @@ value-returns-in-Less t c =
     ∙ ap (is_less (term_value at c.in-Less.t)) (c.term_value-in-Less-2.ensures))
     ∙ sym (ap (λ f. value_of rows P R f env) c.in-Less.is ∙ value-Less rows P R env c.in-Less.t c.in-Less.s)
 
-pub over_rows-loop-i-preserved : goal.over_rows-loop-i-preserved
-over_rows-loop-i-preserved t c =
+pub over_each-loop-i-preserved : goal.over_each-loop-i-preserved
+over_each-loop-i-preserved t c =
     let rows = c.args.rows.now in
     let P = known_before c.args.order.now in
     let R = known_whole c.args.order.now in
     let env = env_of c.args.scope.now in
     let body = c.args.body.now in
-    let i = c.loop-i.i in
-    elim c.if-has_wanted.branch [
-      | over_rows-then-has_wanted+then-is_meant+else-is_false w ↦
-          over_step rows P R env c.args.some body c.args.v c.args.kind c.args.within i c.loop-i.least
-          c.if-has_wanted.least _ true c.loop-i-test.true (sym w.is_meant.ensures ∙ w.if-is_meant.true)
+    elim c.if-is_meant.branch [
+      | over_each-then-is_meant+else-is_false w ↦
+          over_step rows P R env c.args.some body c.args.v c.args.kind c.args.within c.loop-i.i c.loop-i.least
+          c.if-is_meant.least _ true c.loop-i-test.true (sym c.is_meant.ensures ∙ w.if-is_meant.true)
           (w.least-is ∙ w.both-least.ensures
           ∙ ap (both c.loop-i.least) (w.signed.ensures ∙ ap (signed c.args.some) w.value.ensures))
           c.loop-i.invariant
-      | over_rows-else-has_wanted w ↦
-          elim w.else-has_wanted.branch [
-            | over_rows-else-has_wanted-via-then-has_wanted+else-is_meant u ↦
-                over_step rows P R env c.args.some body c.args.v c.args.kind c.args.within i c.loop-i.least
-                c.if-has_wanted.least _ false c.loop-i-test.true (sym u.is_meant.ensures ∙ u.if-is_meant.false)
-                w.least-is c.loop-i.invariant
-            | over_rows-else-has_wanted-via-else-has_wanted u ↦
-                over_pass rows P R env c.args.some body c.args.v c.args.kind c.args.within i c.loop-i.least
-                c.if-has_wanted.least _ c.loop-i-test.true w.least-is
-                (signed_true c.args.some (value_of rows P R body (bind c.args.v i env))
-                (c.wanted_for-wanted.ensures P R i _ (slice_get-get_or rows i _ c.loop-i-test.true)
-                (sym c.has_wanted.ensures ∙ u.if-has_wanted.false)))
-                c.loop-i.invariant
-          ]
+      | over_each-else-is_meant w ↦
+          over_step rows P R env c.args.some body c.args.v c.args.kind c.args.within c.loop-i.i c.loop-i.least
+          c.if-is_meant.least _ false c.loop-i-test.true (sym c.is_meant.ensures ∙ w.if-is_meant.false) w.least-is
+          c.loop-i.invariant
     ]
 
-pub over_rows-returns-then-is_false : goal.over_rows-returns-then-is_false
-over_rows-returns-then-is_false t c =
+pub over_each-returns-then-is_false : goal.over_each-returns-then-is_false
+over_each-returns-then-is_false t c =
     let rows = c.args.rows.now in
     let P = known_before c.args.order.now in
     let R = known_whole c.args.order.now in
@@ -198,6 +185,18 @@ value-returns-in-Before t c =
     c.order_of.ensures
     ∙ sym (ap (λ f. value_of rows P R f env) c.in-Before.is ∙ value-Before rows P R env c.in-Before.v c.in-Before.u)
 
+pub over_rows-returns-in-Some : goal.over_rows-returns-in-Some
+over_rows-returns-in-Some t c =
+    let rows = c.args.rows.now in
+    let P = known_before c.args.order.now in
+    let R = known_whole c.args.order.now in
+    let env = env_of c.args.scope.now in
+    c.over_places.ensures
+    ∙ sym (over_rows_by_places rows P R c.args.some c.args.body.now c.args.v c.args.kind c.args.within env
+    c.wanted_for.result c.in-Some.places.now (c.wanted_for.ensures P R)
+    (subst (λ o. IfSome o (λ p. HasWanting rows c.wanted_for.result p.now)) c.in-Some.is
+    (c.places.ensures rows c.requires.indexed)))
+
 pub over_before-over_rows-requires : goal.over_before-over_rows-requires
 over_before-over_rows-requires t c = (
   search rules,
@@ -205,8 +204,11 @@ over_before-over_rows-requires t c = (
     c.requires.same,
     (
       c.requires.within,
-      subst (λ (o : Option ℕ). IfSome o (λ (p : ℕ). p < length c.args.rows.now)) c.in-Some.is
-          (c.place_of.ensures.within (length c.args.rows.now) c.requires.within),
+      (
+        c.requires.indexed,
+        subst (λ (o : Option ℕ). IfSome o (λ (p : ℕ). p < length c.args.rows.now)) c.in-Some.is
+            (c.place_of.ensures.within (length c.args.rows.now) c.requires.within),
+      ),
     ),
   ),
 )

@@ -1,4 +1,4 @@
-use Rattle.std.proofs.Common.{◌≡◌, ◌∙◌, ◌<◌, ap, sym, subst, ℕ, length}
+use Rattle.std.proofs.Common.{◌≡◌, ◌∙◌, ◌<◌, ap, sym, subst, ℕ, ◌-◌, ◌&&◌, length, arith}
 use Rattle.std.specs.Prelude.{slice_get}
 use Rattle.entry_order.specs.declared.three.Three.{Three}
 use Rattle.rule_engine.specs.Meaning.{bind}
@@ -6,7 +6,7 @@ use Rattle.rule_engine.specs.Tests.{has_kind}
 use Rattle.rule_engine.specs.inside.Judging.{value_of}
 use Rattle.rule_engine.specs.inside.Scopes.{env_of}
 use Rattle.rule_engine.specs.Kleene.{is_false}
-use Rattle.rule_engine.proofs.Broken.{first_more, neither, not_first, at_row}
+use Rattle.rule_engine.proofs.Broken.{find_here, each_true, first_more, neither, not_first, at_row}
 use Rattle.rule_engine.proofs.verdict.first_broken.Goals as goal
 use Rattle.precedence.specs.Known.{known_before, known_whole}
 use Rattle.rule_engine.proofs.verdict.first_broken.Goals.{else-has_kind-via-then-has_kind+else-is_false, else-has_kind-via-else-has_kind}
@@ -32,3 +32,19 @@ loop-i-preserved c =
           (at_row rows c.args.kind i _ inside ∙ sym c.has_kind.ensures ∙ w.if-has_kind.false))
           c.loop-i.invariant
     ]
+
+pub returns-then-is_false-clause-first : goal.returns-then-is_false-clause-first
+returns-then-is_false-clause-first c =
+    let rows = c.args.rows.now in
+    let P = known_before c.args.order.now in
+    let R = known_whole c.args.order.now in
+    let env = env_of c.args.scope.now in
+    let i = c.loop-i.i in
+    let value : ℕ → Three = λ j. value_of rows P R c.args.body.now (bind c.args.v j env) in
+    let inside : i < length rows =
+    subst (λ (n : ℕ). i < n) (c.count-i-end.ensures.count ∙ sym c.requires.same) c.loop-i-test.true in
+    sym (c.loop-i.invariant
+    ∙ find_here (λ j. has_kind c.args.kind (slice_get rows j) && is_false (value j)) i (length rows - i) (omega (arith, inside))
+    (each_true (has_kind c.args.kind (slice_get rows i)) (is_false (value i))
+    (at_row rows c.args.kind i _ inside ∙ sym c.has_kind.ensures ∙ c.if-has_kind.true)
+    (sym (c.is_false.ensures ∙ ap is_false c.value.ensures) ∙ c.if-is_false.true)))
