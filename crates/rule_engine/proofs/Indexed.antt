@@ -1,10 +1,10 @@
 -- Places that stand in buckets, and values over some places in place of all.
-use Rattle.std.proofs.Common.{◌≡◌, ◌≢◌, ◌∙◌, ap, sym, refl, subst, ℕ, ◌+◌, ◌<◌, ◌≤◌, ◌%◌, Bool, true, false, not, cond, Option, Some, None}
+use Rattle.std.proofs.Common.{◌≡◌, ◌∙◌, ap, sym, refl, subst, ℕ, ◌+◌, ◌<◌, ◌%◌, Bool, true, false, not, cond, Option, Some, None}
 use Rattle.std.proofs.Common.{List, [], ◌∷◌, ◌++◌, map, length, get_or, arith, ◌⊎◌, inl, inr}
-use Rattle.std.specs.Prelude.{slice_get, slice_set, slice_index_or, ◌==◌, ◌&&◌}
+use Rattle.std.specs.Prelude.{slice_get, slice_set, slice_index_or, ◌&&◌}
 use Rattle.std.specs.List.{Contains, filter, range_with_len}
 use Rattle.std.proofs.lemmas.Option.{slice_get_within, slice_get-get_or}
-use Rattle.std.proofs.lemmas.Bool.{cases_eq, cases_lt, eqb-true, eq-eqb, false≢true}
+use Rattle.std.proofs.lemmas.Bool.{cases_eq}
 use Rattle.std.proofs.lemmas.List.{get_or-set_same, get_or-set_other, length-set}
 use Rattle.std.proofs.lemmas.List.Elements.{Contains-append_left, Contains-append_right}
 use Rattle.entry_order.specs.declared.three.Three.{Three}
@@ -24,7 +24,7 @@ use Rattle.rule_engine.specs.inside.Index.{number_in, bucket_of, HoldsFirst, Has
 use Rattle.rule_engine.specs.inside.Wanted.{has_wanted, SettledWithout}
 use Rattle.rule_engine.proofs.Sounds.{in_range}
 use Rattle.rule_engine.proofs.Wants.{signed_true}
-use Rattle.rule_engine.proofs.Judges.{both_true, both_assoc}
+use Rattle.rule_engine.proofs.Judges.{both_assoc}
 
 mod_below : (n d : ℕ) → 0 < d → n % d < d
 mod_below n d some = omega arith

@@ -1,10 +1,9 @@
 -- The values that the code comes to, step by step.
-use Rattle.std.proofs.Common.{◌≡◌, ◌∙◌, ap, sym, refl, subst, ℕ, zero, suc, ◌+◌, ◌-◌, ◌<◌, ◌≤◌, Bool, true, false, cond, Option, Some, None, ◌++◌, ◌&&◌}
+use Rattle.std.proofs.Common.{◌≡◌, ◌∙◌, ap, sym, refl, ℕ, zero, suc, ◌+◌, ◌-◌, ◌<◌, ◌≤◌, Bool, true, false, cond, Option, Some, None, ◌++◌, ◌&&◌}
 use Rattle.std.proofs.Common.{List, [], ◌∷◌, map, drop, get_or, length, Vec, Global, Box, rules, arith}
 use Rattle.std.specs.Prelude.{slice_get}
 use Rattle.std.specs.List.{filter, range_with_len}
 use Rattle.std.proofs.lemmas.List.{drop_more, drop_all}
-use Rattle.std.proofs.lemmas.Option.{slice_get-get_or}
 use Rattle.entry_order.specs.declared.three.Three.{Three}
 use Rattle.entry_order.specs.declared.three.Three.TheVariants.{False, Unknown, True}
 use Rattle.rule_language.specs.declared.row.Row.{Row}
@@ -15,14 +14,14 @@ use Rattle.roster.specs.declared.post.Role.{Role}
 use mathlib.Core.Path.{fun_ext}
 use Rattle.rule_language.specs.declared.form.Form.TheVariants as form
 use Rattle.rule_language.specs.Trees.{Trees, no_trees, tree_then}
-use Rattle.rule_language.specs.Forms.{in_front, tree_of, trees_of}
+use Rattle.rule_language.specs.Forms.{in_front, tree_of}
 use Rattle.rule_engine.specs.Kleene.{both, either, opposite, least, greatest, as_three, is_true}
-use Rattle.rule_engine.specs.Tests.{has_kind, passes, is_next, has_role, are_equal, is_less}
+use Rattle.rule_engine.specs.Tests.{has_kind, is_next, has_role, are_equal, is_less}
 use Rattle.rule_engine.specs.Tests.{value_of as term_value}
 use Rattle.rule_engine.specs.Meaning.{bind}
-use Rattle.rule_engine.specs.Values.{values, first_value, value, places, ancestors, rest_of, values_before, row_at, order_of}
+use Rattle.rule_engine.specs.Values.{values, first_value, places, ancestors, rest_of, values_before, row_at, order_of}
 use Rattle.rule_language.proofs.Views.{view-And, view-Or}
-use Rattle.rule_engine.proofs.Rows.{values-in_front, values-trees_of}
+use Rattle.rule_engine.proofs.Rows.{values-trees_of}
 use Rattle.rule_engine.specs.inside.Judging.{signed, value_of, over, over_from, over_rows, over_before, is_in, unless_ragged}
 
 pub both_true : (x : Three) → both x True ≡ x

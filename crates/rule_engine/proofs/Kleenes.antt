@@ -1,9 +1,9 @@
 -- The least and the greatest of three values.
-use Rattle.std.proofs.Common.{◌≡◌, Bool, true, false, List, [], ◌∷◌, ◌⊎◌, inl, inr, refl, sym, ◌∙◌, subst}
+use Rattle.std.proofs.Common.{◌≡◌, Bool, true, false, List, [], ◌∷◌, ◌⊎◌, inl, inr, refl, sym, ◌∙◌}
 use Rattle.std.specs.List.{Contains}
 use Rattle.entry_order.specs.declared.three.Three.{Three}
 use Rattle.entry_order.specs.declared.three.Three.TheVariants.{False, Unknown, True}
-use Rattle.entry_order.proofs.Lists.{Contains-none, Contains-head, Contains-later, Contains-at, Contains-cons_cases}
+use Rattle.entry_order.proofs.Lists.{Contains-none, Contains-later, Contains-at, Contains-cons_cases}
 use Rattle.rule_engine.specs.Kleene.{opposite, both, either, least, greatest, as_three}
 
 pub both_true : (x y : Three) → both x y ≡ True → (x ≡ True) × (y ≡ True)

@@ -3,7 +3,7 @@ use Rattle.std.proofs.Common.{◌≡◌, ◌∙◌, ap, sym, refl, ℕ, Bool, Op
 use Rattle.entry_order.specs.declared.three.Three.{Three}
 use Rattle.rule_language.specs.declared.row.Row.{Row}
 use Rattle.rule_language.specs.declared.formula.Formula.{Formula}
-use Rattle.rule_language.specs.Trees.{Trees, no_trees, tree_then}
+use Rattle.rule_language.specs.Trees.{Trees, no_trees}
 use Rattle.rule_language.specs.Forms.{in_front, tree_of, trees_of}
 use Rattle.rule_engine.specs.Values.{values, first_value}
 use Rattle.rule_language.proofs.Views.{shape}

@@ -1,10 +1,10 @@
 -- What is known of a rule holds in every completion.
 use mathlib.Core.Path.{fun_ext}
-use Rattle.std.proofs.Common.{◌≡◌, ◌≢◌, ℕ, zero, suc, ◌+◌, ◌<◌, ◌≤◌, Bool, true, false, cond, List, [], ◌∷◌, ◌++◌, map, length}
-use Rattle.std.proofs.Common.{Option, Some, None, ◌⊎◌, inl, inr, refl, sym, ap, ◌∙◌, subst, arith, append-nil}
+use Rattle.std.proofs.Common.{◌≡◌, ℕ, ◌<◌, Bool, true, false, cond, List, [], ◌∷◌, ◌++◌, map, length}
+use Rattle.std.proofs.Common.{Option, Some, None, inl, inr, refl, sym, ap, ◌∙◌, subst, arith, append-nil}
 use Rattle.std.specs.Prelude.{slice_get, option_map, IsTrue, ◌==◌}
-use Rattle.std.specs.List.{Contains, filter, range_with_len}
-use Rattle.std.proofs.lemmas.Bool.{eqb-true, eq-eqb, eqb-false, false≢true}
+use Rattle.std.specs.List.{Contains, range_with_len}
+use Rattle.std.proofs.lemmas.Bool.{eqb-true, eq-eqb, false≢true}
 use Rattle.std.proofs.lemmas.List.FromFn.{length-range_with_len, get_or-range_with_len}
 use Rattle.std.proofs.lemmas.Option.{slice_get_within, slice_get-map}
 use Rattle.std.proofs.lemmas.List.Elements.{Contains-append_left, Contains-append_right, Contains-append_cases}
@@ -15,7 +15,7 @@ use Rattle.entry_order.specs.Precedes.{Precedes}
 use Rattle.entry_order.specs.Completion.{Completion}
 use Rattle.entry_order.specs.Ancestors.{reaches, is_whole, before}
 use Rattle.entry_order.specs.Settled.{IsGraphOf}
-use Rattle.entry_order.proofs.Lists.{Contains-none, Contains-head, Contains-later, Contains-at, Contains-cons_cases}
+use Rattle.entry_order.proofs.Lists.{Contains-none, Contains-head, Contains-cons_cases}
 use Rattle.entry_order.proofs.Lists.{Contains-map, Contains-map_cases, Contains-filter, Contains-filter_cases}
 use Rattle.entry_order.proofs.Settled.{order_is_settled, at_place, place_of, whole_from_test}
 use Rattle.entry_order.proofs.Settled.{precedes_from_reaches, reaches_from_precedes}
@@ -25,12 +25,12 @@ use Rattle.rule_language.specs.declared.kind.Kind.{Kind}
 use Rattle.rule_language.specs.declared.form.Form.{Form}
 use Rattle.rule_language.specs.declared.form.Form.TheVariants as form
 use Rattle.rule_language.specs.Trees.{Trees, no_trees, tree_then}
-use Rattle.rule_engine.specs.Tests.{is_kind, has_kind, passes}
-use Rattle.rule_engine.specs.Kleene.{opposite, both, either, least, greatest, as_three, is_true}
+use Rattle.rule_engine.specs.Tests.{has_kind, passes}
+use Rattle.rule_engine.specs.Kleene.{opposite, either, least, greatest, as_three, is_true}
 use Rattle.rule_engine.specs.Meaning.{bind, unbound, first_sentence, second_sentence, EachHolds, SomeHolds}
-use Rattle.rule_engine.specs.Meaning.{IsOfKind, AreSame, ComesBefore, AreOrdered, Says, meanings, Holds}
+use Rattle.rule_engine.specs.Meaning.{IsOfKind, AreSame, ComesBefore, AreOrdered, Says, meanings}
 use Rattle.rule_engine.specs.Values.{first_value, second_value, places, ancestors, rest_of, values_before, row_at}
-use Rattle.rule_engine.specs.Values.{same_place, order_of, value, values, three}
+use Rattle.rule_engine.specs.Values.{same_place, order_of, value, values}
 use Rattle.rule_engine.specs.Sound.{HasNoDouble, RulesAreSettled}
 use Rattle.rule_engine.proofs.Kleenes.{both_true, both_false, either_true, either_false, opposite_true, opposite_false, least_true}
 use Rattle.rule_engine.proofs.Kleenes.{least_false, greatest_true, greatest_false, as_three_true, as_three_false}

@@ -1,6 +1,6 @@
 -- Where each survivor is whole, nothing is unknown.
 use Rattle.std.proofs.Common.{◌≡◌, ◌≢◌, ℕ, Bool, true, false, cond, List, [], ◌∷◌, ◌++◌, map, Option, Some, None, length}
-use Rattle.std.proofs.Common.{inl, inr, refl, sym, ap, ◌∙◌, subst}
+use Rattle.std.proofs.Common.{refl, sym, ap, ◌∙◌, subst}
 use Rattle.std.specs.Prelude.{slice_get}
 use Rattle.std.specs.List.{Contains}
 use Rattle.entry_order.specs.declared.three.Three.{Three}
@@ -20,7 +20,7 @@ use Rattle.rule_engine.specs.Tests.{has_kind}
 use Rattle.rule_engine.specs.Kleene.{opposite, both, either, least, greatest, as_three, is_true}
 use Rattle.rule_engine.specs.Meaning.{bind, unbound}
 use Rattle.rule_engine.specs.Values.{first_value, second_value, places, ancestors, rest_of}
-use Rattle.rule_engine.specs.Values.{values_before, same_place, order_of, value, values, three}
+use Rattle.rule_engine.specs.Values.{values_before, same_place, order_of, value, values}
 use Rattle.rule_engine.specs.Sound.{UnknownOnlyByGaps}
 use Rattle.std.proofs.lemmas.Option.{slice_get-map}
 use Rattle.std.specs.Prelude.{option_map, ◌==◌}

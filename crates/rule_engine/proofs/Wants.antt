@@ -1,11 +1,10 @@
 -- What a formula is at rows that lack what is wanted.
-use Rattle.std.proofs.Common.{◌≡◌, ◌∙◌, ap, sym, refl, subst, ℕ, zero, suc, ◌+◌, ◌-◌, ◌<◌, Bool, true, false, not, Option, Some, None}
+use Rattle.std.proofs.Common.{◌≡◌, ◌∙◌, ap, sym, refl, ℕ, zero, suc, ◌<◌, Bool, true, false, not, Option}
 use Rattle.std.proofs.Common.{List, [], ◌∷◌, map, length, get_or, Vec, Box, Global, arith}
 use Rattle.entry_order.specs.declared.three.Three.{Three}
 use Rattle.entry_order.specs.declared.three.Three.TheVariants.{False, Unknown, True}
 use Rattle.rule_language.specs.declared.row.Row.{Row}
-use Rattle.rule_language.specs.declared.term.Term.{Term}
-use Rattle.rule_language.specs.declared.formula.Formula.{Formula, And, Or, Implies, Equal}
+use Rattle.rule_language.specs.declared.formula.Formula.{Formula, And, Or, Implies}
 use Rattle.rule_language.specs.Forms.{tree_of}
 use Rattle.rule_language.proofs.Views.{view-Implies}
 use Rattle.rule_engine.specs.Kleene.{both, either, opposite, least, as_three, is_false}

@@ -1,6 +1,6 @@
 -- How wide rules are, step by step.
-use Rattle.std.proofs.Common.{◌≡◌, ◌∙◌, ap, sym, refl, ℕ, ◌+◌, ◌<◌, ◌≤◌, Bool, true, false, ◌||◌, List, [], ◌∷◌, length, drop, get_or}
-use Rattle.std.proofs.Common.{Box, Global, Vec, rules, arith, map}
+use Rattle.std.proofs.Common.{◌≡◌, ◌∙◌, ap, sym, ℕ, ◌+◌, ◌<◌, ◌≤◌, Bool, true, false, ◌||◌, List, ◌∷◌, length, drop, get_or}
+use Rattle.std.proofs.Common.{Box, Global, rules}
 use Rattle.std.proofs.Math.Bool.{or-false}
 use Rattle.std.proofs.lemmas.List.{drop_more, drop_all}
 use Rattle.rule_language.specs.declared.row.Row.{Row}

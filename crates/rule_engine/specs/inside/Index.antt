@@ -1,5 +1,5 @@
 -- Rows found by a number that they have.
-use Rattle.std.specs.Prelude.{◌≡◌, ℕ, ◌%◌, ◌<◌, Bool, true, List, [], length, Option, Some, slice_get, slice_index_or}
+use Rattle.std.specs.Prelude.{◌≡◌, ℕ, ◌%◌, ◌<◌, true, List, [], length, Option, Some, slice_get, slice_index_or}
 use Rattle.std.specs.List.{Contains}
 use Rattle.rule_language.specs.declared.row.Row.{Row}
 use Rattle.rule_language.specs.declared.kind.Field.{Field}

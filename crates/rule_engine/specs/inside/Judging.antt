@@ -1,14 +1,14 @@
 -- What is judged of a formula.
-use Rattle.std.specs.Prelude.{ℕ, Bool, true, false, ◌&&◌, List, [], ◌∷◌, map, length, Option, Some, None, slice_get}
+use Rattle.std.specs.Prelude.{ℕ, Bool, true, false, ◌&&◌, List, map, length, Option, Some, None, slice_get}
 use Rattle.std.specs.Prelude.{if◌then◌else◌}
 use Rattle.std.specs.List.{filter, range_with_len}
 use Rattle.entry_order.specs.declared.three.Three.{Three}
-use Rattle.entry_order.specs.declared.three.Three.TheVariants.{False, Unknown, True}
+use Rattle.entry_order.specs.declared.three.Three.TheVariants.{Unknown, True}
 use Rattle.rule_language.specs.declared.row.Row.{Row}
 use Rattle.rule_language.specs.declared.kind.Kind.{Kind}
 use Rattle.rule_language.specs.declared.formula.Formula.{Formula}
 use Rattle.rule_language.specs.Forms.{tree_of}
-use Rattle.rule_engine.specs.Kleene.{opposite, both, least, greatest, is_true}
+use Rattle.rule_engine.specs.Kleene.{opposite, both, least, is_true}
 use Rattle.rule_engine.specs.Tests.{has_kind}
 use Rattle.rule_engine.specs.Meaning.{bind}
 use Rattle.rule_engine.specs.Values.{values, first_value}

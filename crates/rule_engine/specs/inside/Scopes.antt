@@ -1,5 +1,5 @@
 -- The variables that are bound.
-use Rattle.std.specs.Prelude.{ℕ, ◌<◌, Option, Some, None}
+use Rattle.std.specs.Prelude.{ℕ, ◌<◌, Option}
 use Rattle.rule_engine.specs.declared.scope.Scope.{Scope, Empty, With'}
 use Rattle.rule_engine.specs.Meaning.{bind, unbound}
 

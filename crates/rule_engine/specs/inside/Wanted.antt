@@ -1,18 +1,14 @@
 -- What a row has to have for a formula not to be settled.
 use Rattle.std.specs.Prelude.{◌≡◌, ℕ, Bool, true, false, List, Option, Some, None, slice_get}
 use Rattle.entry_order.specs.declared.three.Three.{Three}
-use Rattle.entry_order.specs.declared.three.Three.TheVariants.{False}
 use Rattle.rule_language.specs.declared.row.Row.{Row}
 use Rattle.rule_language.specs.declared.term.Term.{Term}
-use Rattle.rule_language.specs.declared.formula.Formula.{Formula}
 use Rattle.rule_engine.specs.declared.atoms.Value.{Value}
 use Rattle.rule_engine.specs.declared.atoms.Value.TheVariants.{Number}
 use Rattle.rule_engine.specs.declared.wanted.Wanted.{Wanted}
-use Rattle.rule_engine.specs.Kleene.{as_three}
 use Rattle.rule_engine.specs.Tests.{field_of, are_equal, value_of as term_value}
 use Rattle.rule_engine.specs.Meaning.{bind}
 use Rattle.rule_engine.specs.Values.{row_at}
-use Rattle.rule_engine.specs.inside.Judging.{value_of, over}
 
 -- whether a row has what is wanted, if anything is
 abbrev pub has_wanted : Option Wanted → Row → Bool

@@ -1,21 +1,19 @@
-use Rattle.std.proofs.Common.{◌≡◌, ◌∙◌, ◌<◌, ap, sym, subst, true, false, ℕ, Option, Some, None, IfSome, length, rules}
+use Rattle.std.proofs.Common.{◌∙◌, ◌<◌, ap, sym, subst, true, false, ℕ, Option, Some, None, IfSome, length, rules}
 use Rattle.rule_language.specs.declared.row.Row.{Row}
 use Rattle.rule_engine.specs.Tests.{value_of as term_value}
-use Rattle.rule_engine.specs.Kleene.{both, either, opposite, as_three}
+use Rattle.rule_engine.specs.Kleene.{both, opposite, as_three}
 use Rattle.rule_engine.specs.Tests.{is_next, has_role, has_kind, are_equal, is_less}
 use Rattle.rule_engine.specs.Values.{row_at}
 use Rattle.rule_engine.specs.inside.Judging.{signed, value_of, over, over_rows, over_before}
 use Rattle.rule_engine.specs.inside.Scopes.{env_of}
 use Rattle.rule_engine.proofs.Judges.{value-And, value-Or, value-ForEvery, value-ForSome, value-EveryBefore}
 use Rattle.rule_engine.proofs.Judges.{value-SomeBefore, value-Before, value-Next, value-Is, value-OfKind, value-Equal, value-Less}
-use Rattle.rule_engine.proofs.Judges.{over_step, least_more}
+use Rattle.rule_engine.proofs.Judges.{over_step}
 use Rattle.rule_engine.proofs.judging.+judging.Goals as goal
 use Rattle.rule_engine.proofs.judging.+judging.Goals.{over_each-then-is_meant+else-is_false, over_each-else-is_meant}
 use Rattle.precedence.specs.Known.{known_before, known_whole}
 use Rattle.std.proofs.Common.{◌+◌, ◌-◌}
-use Rattle.std.proofs.lemmas.Option.{slice_get-get_or}
 use Rattle.entry_order.specs.declared.three.Three.{Three}
-use Rattle.rule_engine.specs.Meaning.{bind}
 use Rattle.rule_engine.specs.inside.Judging.{over_from}
 use Rattle.rule_engine.specs.inside.Index.{HasWanting}
 use Rattle.rule_engine.proofs.Indexed.{over_rows_by_places}

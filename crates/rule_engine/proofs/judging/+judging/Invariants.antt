@@ -1,4 +1,4 @@
-use Rattle.std.proofs.Common.{◌≡◌, ℕ, ◌+◌, ◌-◌, ◌<◌, ◌≤◌, length, drop}
+use Rattle.std.proofs.Common.{◌≡◌, ◌-◌, length, drop}
 use Rattle.rule_engine.specs.Kleene.{both}
 use Rattle.rule_engine.specs.inside.Judging.{over, over_rows, over_from, over_places}
 use Rattle.rule_engine.specs.inside.Scopes.{env_of}

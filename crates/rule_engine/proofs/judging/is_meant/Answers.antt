@@ -1,4 +1,4 @@
-use Rattle.std.proofs.Common.{◌≡◌, ◌∙◌, ap, sym, Bool, ◌&&◌}
+use Rattle.std.proofs.Common.{◌∙◌, ap, sym, Bool, ◌&&◌}
 use Rattle.precedence.specs.Known.{known_before}
 use Rattle.rule_engine.specs.inside.Judging.{is_in}
 use Rattle.rule_engine.proofs.Broken.{at_row}

@@ -1,4 +1,4 @@
-use Rattle.std.proofs.Common.{◌≡◌, ◌∙◌, ap, sym, Some, None, ℕ, Option}
+use Rattle.std.proofs.Common.{◌∙◌, ap, sym, Some, ℕ, Option}
 use Rattle.rule_language.specs.declared.row.Row.{Row}
 use Rattle.std.specs.Prelude.{option_map}
 use Rattle.rule_engine.specs.Tests.{value_of, field_of}

@@ -1,9 +1,9 @@
-use Rattle.std.proofs.Common.{◌≡◌, ◌∙◌, ap, sym, ℕ, List, [], ◌∷◌, ◌++◌, length, Option, Some, None, append-nil, append_assoc}
+use Rattle.std.proofs.Common.{◌≡◌, ◌∙◌, ap, sym, [], ◌∷◌, ◌++◌, length, Some, None, append-nil, append_assoc}
 use Rattle.rule_language.specs.Forms.{tree_of}
 use Rattle.rule_engine.specs.Meaning.{bind}
 use Rattle.rule_engine.specs.inside.Judging.{value_of}
 use Rattle.rule_engine.specs.inside.Scopes.{env_of}
-use Rattle.rule_engine.specs.Verdicts.{broken, first_false, and_then}
+use Rattle.rule_engine.specs.Verdicts.{broken, first_false}
 use Rattle.rule_engine.proofs.Broken.{broken-ForEvery, on_ok}
 use Rattle.precedence.specs.Known.{known_before, known_whole}
 use Rattle.rule_engine.proofs.verdict.+push_broken.Goals as goal

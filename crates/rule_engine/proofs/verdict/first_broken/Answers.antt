@@ -1,4 +1,4 @@
-use Rattle.std.proofs.Common.{◌≡◌, ◌∙◌, ◌<◌, ap, sym, subst, ℕ, ◌-◌, ◌&&◌, length, arith}
+use Rattle.std.proofs.Common.{◌∙◌, ◌<◌, ap, sym, subst, ℕ, ◌-◌, ◌&&◌, length, arith}
 use Rattle.std.specs.Prelude.{slice_get}
 use Rattle.entry_order.specs.declared.three.Three.{Three}
 use Rattle.rule_engine.specs.Meaning.{bind}

@@ -1,4 +1,4 @@
-use Rattle.std.proofs.Common.{◌≡◌, ℕ, ◌+◌, ◌-◌, length}
+use Rattle.std.proofs.Common.{◌≡◌, ℕ, ◌-◌, length}
 use Rattle.rule_engine.specs.Meaning.{bind}
 use Rattle.rule_engine.specs.inside.Judging.{value_of}
 use Rattle.rule_engine.specs.inside.Scopes.{env_of}

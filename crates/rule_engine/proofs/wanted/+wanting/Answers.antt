@@ -1,6 +1,5 @@
-use Rattle.std.proofs.Common.{◌≡◌, ◌∙◌, ap, sym, subst, ℕ, Bool, true, false, List, Option}
+use Rattle.std.proofs.Common.{◌∙◌, ap, sym, true, false, List}
 use Rattle.entry_order.specs.declared.three.Three.{Three}
-use Rattle.entry_order.specs.declared.three.Three.TheVariants.{False, True}
 use Rattle.rule_language.specs.declared.formula.Formula.{Formula}
 use Rattle.rule_engine.specs.Kleene.{as_three}
 use Rattle.rule_engine.specs.Meaning.{bind}

@@ -1,7 +1,5 @@
-use Rattle.std.proofs.Common.{◌≡◌, ◌∙◌, ◌<◌, ◌%◌, ap, sym, subst, ℕ, List, length, arith}
-use Rattle.std.proofs.lemmas.Option.{slice_get-get_or, slice_get_within}
-use Rattle.std.proofs.lemmas.List.{length-set}
-use Rattle.rule_engine.specs.inside.Index.{number_in}
+use Rattle.std.proofs.Common.{◌∙◌, ◌<◌, sym, subst, ℕ, length, arith}
+use Rattle.std.proofs.lemmas.Option.{slice_get_within}
 use Rattle.rule_engine.proofs.Indexed.{holds_at}
 use Rattle.rule_engine.proofs.index.Index.make.Goals as goal
 
