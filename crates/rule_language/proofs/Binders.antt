@@ -76,6 +76,7 @@ body_fails text token v k scope depth at why next other fails rest =
         ≡ (if b then Ok (a_variable scope ∷ formula ((v, k) ∷ scope) depth ∷ close ∷ rest) else meets_formula ((v, k) ∷ scope) depth (close ∷ rest) (piece text token))
     here true is = absurd (other (bytes_same (piece text token) (codes "before") is))
     here false is = refl
+
     agree : (t : Token) (next : List Want) (b : Bool) → bytes_eq t (codes "before") ≡ b
         → meets_formula ((v, k) ∷ scope) depth (close ∷ rest) t ≡ Ok next
         → (if b then Ok (a_variable scope ∷ formula ((v, k) ∷ scope) depth ∷ close ∷ rest) else meets_formula ((v, k) ∷ scope) depth (close ∷ rest) t) ≡ Ok next

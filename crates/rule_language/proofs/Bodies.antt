@@ -58,6 +58,7 @@ too_deep scope depth rest word is deep = rw is (deeper (nat_le 32 depth) (le_tru
   where
     le_true : (d : ℕ) → 32 ≤ d → nat_le 32 d ≡ true
     le_true d le = lt-ltb 31 d (omega arith)
+
     deeper : (b : Bool) → b ≡ true → (if b then Err TooDeep else Ok (head scope (depth + 1) ∷ rest)) ≡ deep_met
     deeper true e = refl
     deeper false e = absurd (cc)
@@ -153,12 +154,14 @@ more_fails text token n scope depth at why next other some fails rest =
   where
     left_some : (n == 0) ≡ false
     left_some = ne_eqb n 0 (λ e. absurd (omega arith))
+
     here : (b z : Bool) → bytes_eq (piece text token) right ≡ b → z ≡ false
         → meets_formula scope depth (more (n - 1) scope depth ∷ rest) (piece text token)
         ≡ (if b then Ok rest else (if z then Err Shape else meets_formula scope depth (more (n - 1) scope depth ∷ rest) (piece text token)))
     here true z is zero = absurd (other (bytes_same (piece text token) right is))
     here false true is zero = absurd (cc)
     here false false is zero = refl
+
     agree : (t : Token) (next : List Want) (b z : Bool) → bytes_eq t right ≡ b → z ≡ false
         → meets_formula scope depth (more (n - 1) scope depth ∷ rest) t ≡ Ok next
         → (if b then Ok rest else (if z then Err Shape else meets_formula scope depth (more (n - 1) scope depth ∷ rest) t)) ≡ Ok next
@@ -196,8 +199,7 @@ implied text a b e scope depth p first second boxed read body shallow =
     ∙ tokens_append (tree_of p) [] (tokens_then (tree_of second.value) (right ∷ [])) in
     let two : count_of parts ≡ 2 = count-front first.value (tree_of second.value) ∙ ap (λ n. n + 1) body.one in
     form_read text a e scope depth (Implies first second) form.Implies parts begins.Implies [] (view-Implies first second) refl (λ x y. refl)
-    (lt-ltb depth 32 shallow) refl (rw two refl) (good-front scope (depth + 1) first.value (tree_of second.value) good body.lawful)
-    (
+    (lt-ltb depth 32 shallow) refl (rw two refl) (good-front scope (depth + 1) first.value (tree_of second.value) good body.lawful) (
       rw front (rw read.spelt (spell_more text a.start b.start e.start read.tokens (tokens_then (tree_of second.value) (right ∷ [])) read.taken.0 body.taken.0)),
       body.taken.1,
     )

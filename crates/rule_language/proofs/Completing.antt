@@ -88,6 +88,7 @@ formula_back scope depth wants next t ts met fills = by (bytes_eq t (codes "true
   where
     met_same : (x y : List Want) → as_met x ≡ as_met y → x ≡ y
     met_same x y h = cc
+
     by : (a b d : Bool) → bytes_eq t (codes "true") ≡ a → bytes_eq t left ≡ b → nat_le 32 depth ≡ d
         → (if a then Ok wants else (if b then (if d then Err TooDeep else Ok (head scope (depth + 1) ∷ wants)) else Err Shape)) ≡ Ok next
         → Completes (formula scope depth ∷ wants) (t ∷ ts)
@@ -118,6 +119,7 @@ body_back v k scope depth wants next t ts met fills = by (bytes_eq t (codes "bef
   where
     met_same : (x y : List Want) → as_met x ≡ as_met y → x ≡ y
     met_same x y h = cc
+
     by : (a : Bool) → bytes_eq t (codes "before") ≡ a
         → (if a then Ok (a_variable scope ∷ formula ((v, k) ∷ scope) depth ∷ close ∷ wants) else meets_formula ((v, k) ∷ scope) depth (close ∷ wants) t) ≡ Ok next
         → Completes (before_or_body v k scope depth ∷ wants) (t ∷ ts)
@@ -126,15 +128,18 @@ body_back v k scope depth wants next t ts met fills = by (bytes_eq t (codes "bef
         let inside = moved next (a_variable scope ∷ formula ((v, k) ∷ scope) depth ∷ close ∷ wants) ts
         (met_same (a_variable scope ∷ formula ((v, k) ∷ scope) depth ∷ close ∷ wants) next e) fills in
         let u = inside.1 in
-        let body = one_closed ((v, k) ∷ scope) depth wants inside.0 inside.2 in
-        (body.1, record {
-          u = Some u.v;
-          parts = body.0;
-          range = u.bound;
-          one = body.2;
-          good = body.3;
-          is = ap (λ (w : Token). w ∷ ts) same ∙ ap (λ xs. codes "before" ∷ xs) (u.is ∙ ap (λ xs. variable u.v ∷ xs) body.4);
-        }, body.5)
+        let body = one_closed ((v, k) ∷ scope) depth wants inside.0 inside.2 in (
+          body.1,
+          record {
+            u = Some u.v;
+            parts = body.0;
+            range = u.bound;
+            one = body.2;
+            good = body.3;
+            is = ap (λ (w : Token). w ∷ ts) same ∙ ap (λ xs. codes "before" ∷ xs) (u.is ∙ ap (λ xs. variable u.v ∷ xs) body.4);
+          },
+          body.5,
+        )
     by false ia e =
         let body = one_closed ((v, k) ∷ scope) depth wants (t ∷ ts) (formula_back ((v, k) ∷ scope) depth (close ∷ wants) next t ts e fills) in
         (body.1, record { u = None; parts = body.0; range = tt; one = body.2; good = body.3; is = body.4 }, body.5)
@@ -146,6 +151,7 @@ more_back n scope depth wants next t ts met fills = by (bytes_eq t right) (n == 
   where
     met_same : (x y : List Want) → as_met x ≡ as_met y → x ≡ y
     met_same x y h = cc
+
     by : (a z : Bool) → bytes_eq t right ≡ a → (n == 0) ≡ z
         → (if a then Ok wants else (if z then Err Shape else meets_formula scope depth (more (n - 1) scope depth ∷ wants) t)) ≡ Ok next
         → Completes (more n scope depth ∷ wants) (t ∷ ts)
@@ -161,13 +167,16 @@ more_back n scope depth wants next t ts met fills = by (bytes_eq t right) (n == 
         let some : n ≢ 0 = eqb-false n 0 iz in
         let count : count_of (in_row f.tree m.parts) ≡ count_of f.tree + count_of m.parts = row-count f.tree m.parts in
         let one : count_of f.tree ≡ 1 = f.one in
-        let few : count_of m.parts ≤ n - 1 = m.few in
-        (others.0, record {
-          parts = in_row f.tree m.parts;
-          few = omega arith;
-          good = row-good scope depth f.tree m.parts f.good m.good;
-          is = f.is ∙ ap (tokens_then f.tree) m.is ∙ sym (row-tokens f.tree m.parts (right ∷ others.0));
-        }, others.2)
+        let few : count_of m.parts ≤ n - 1 = m.few in (
+          others.0,
+          record {
+            parts = in_row f.tree m.parts;
+            few = omega arith;
+            good = row-good scope depth f.tree m.parts f.good m.good;
+            is = f.is ∙ ap (tokens_then f.tree) m.is ∙ sym (row-tokens f.tree m.parts (right ∷ others.0));
+          },
+          others.2,
+        )
 
 pub le_true : (k n : ℕ) → k ≤ n → nat_le k n ≡ true
 le_true k n le = cases (nat_le k n) refl

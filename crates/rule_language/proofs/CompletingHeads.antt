@@ -30,19 +30,39 @@ range_closed : (scope : Scope) (every : Bool) (v : ℕ) (k : Kind) (u : Option �
     → ts ≡ variable v ∷ kind_word k ∷ (range_words u ++ tokens_then parts (right ∷ rest))
     → FillsHead scope depth (head_word (quantifier_head every) ∷ ts) rest
 range_closed scope true v k None parts depth rest ts can range one good is = record {
-  f = form.ForEvery v k; parts = parts; other = λ e. absurd (cc); closed = can; arity = rw one refl; good = good;
+  f = form.ForEvery v k;
+  parts = parts;
+  other = λ e. absurd (cc);
+  closed = can;
+  arity = rw one refl;
+  good = good;
   is = ap (λ xs. codes "every" ∷ xs) is;
 }
 range_closed scope false v k None parts depth rest ts can range one good is = record {
-  f = form.ForSome v k; parts = parts; other = λ e. absurd (cc); closed = can; arity = rw one refl; good = good;
+  f = form.ForSome v k;
+  parts = parts;
+  other = λ e. absurd (cc);
+  closed = can;
+  arity = rw one refl;
+  good = good;
   is = ap (λ xs. codes "some" ∷ xs) is;
 }
 range_closed scope true v k (Some u) parts depth rest ts can range one good is = record {
-  f = form.EveryBefore v k u; parts = parts; other = λ e. absurd (cc); closed = rw can range; arity = rw one refl; good = good;
+  f = form.EveryBefore v k u;
+  parts = parts;
+  other = λ e. absurd (cc);
+  closed = rw can range;
+  arity = rw one refl;
+  good = good;
   is = ap (λ xs. codes "every" ∷ xs) is;
 }
 range_closed scope false v k (Some u) parts depth rest ts can range one good is = record {
-  f = form.SomeBefore v k u; parts = parts; other = λ e. absurd (cc); closed = rw can range; arity = rw one refl; good = good;
+  f = form.SomeBefore v k u;
+  parts = parts;
+  other = λ e. absurd (cc);
+  closed = rw can range;
+  arity = rw one refl;
+  good = good;
   is = ap (λ xs. codes "some" ∷ xs) is;
 }
 
@@ -51,8 +71,7 @@ quantifier_back : (scope : Scope) (depth : ℕ) (wants : List Want) (every : Boo
 quantifier_back scope depth wants every ts few fills =
     let b = fills.1 in
     let k = b.rest_of in
-    let body = k.body in
-    (
+    let body = k.body in (
       fills.0,
       range_closed scope every b.v k.kind body.u body.parts depth fills.0 ts (may_bind scope b.v every b.fresh few) body.range body.one body.good
           (b.is ∙ ap (λ xs. variable b.v ∷ xs) (k.is ∙ ap (λ xs. kind_word k.kind ∷ xs) body.is)),
@@ -68,9 +87,9 @@ several_fills scope depth wants ts fills =
     let m = fills.2.1 in
     let count : count_of (in_row f.tree m.parts) ≡ count_of f.tree + count_of m.parts = row-count f.tree m.parts in
     let one : count_of f.tree ≡ 1 = f.one in
-    let few : count_of m.parts ≤ 63 = m.few in
-    (
-      in_row f.tree m.parts, fills.2.0,
+    let few : count_of m.parts ≤ 63 = m.few in (
+      in_row f.tree m.parts,
+      fills.2.0,
       within (count_of (in_row f.tree m.parts)) (omega arith) (omega arith),
       row-good scope depth f.tree m.parts f.good m.good,
       f.is ∙ ap (tokens_then f.tree) m.is ∙ sym (row-tokens f.tree m.parts (right ∷ fills.2.0)),
@@ -95,7 +114,10 @@ pair_fills scope wants ts fills =
     let b = fills.2.1 in
     let d = fills.2.2 in
     record {
-      v = a.v; u = b.v; rest = d.0; bound = rw a.bound (rw b.bound refl);
+      v = a.v;
+      u = b.v;
+      rest = d.0;
+      bound = rw a.bound (rw b.bound refl);
       is = a.is ∙ ap (λ xs. variable a.v ∷ xs) (b.is ∙ ap (λ xs. variable b.v ∷ xs) d.1);
       fills = d.2;
     }
@@ -117,7 +139,13 @@ terms_fill scope ordered wants ts fills =
     let b = a.second in
     let d = fills.2 in
     record {
-      t = a.t; u = b.t; rest = d.0; same = rw a.sorted (rw b.sorted b.same); sort = a.sort; sorted = a.sorted; may = a.may;
+      t = a.t;
+      u = b.t;
+      rest = d.0;
+      same = rw a.sorted (rw b.sorted b.same);
+      sort = a.sort;
+      sorted = a.sorted;
+      may = a.may;
       is = a.is ∙ ap (λ xs. term_word a.t ∷ xs) (b.is ∙ ap (λ xs. term_word b.t ∷ xs) d.1);
       fills = d.2;
     }
@@ -142,12 +170,19 @@ head_back scope depth wants begins.Not ts few fills =
 head_back scope depth wants begins.Implies ts few fills =
     let a = fills.1 in
     let s = one_closed scope depth wants fills.0 fills.2 in
-    let count : count_of (in_row a.tree s.0) ≡ 2 = row-count a.tree s.0 ∙ ap (λ n. n + count_of s.0) a.one ∙ ap (λ n. 1 + n) s.2 in
-    (s.1, record {
-      f = form.Implies; parts = in_row a.tree s.0; other = λ e. absurd (cc); closed = refl; arity = rw count refl;
-      good = row-good scope depth a.tree s.0 a.good s.3;
-      is = ap (λ xs. codes "implies" ∷ xs) (a.is ∙ ap (tokens_then a.tree) s.4 ∙ sym (row-tokens a.tree s.0 (right ∷ s.1)));
-    }, s.5)
+    let count : count_of (in_row a.tree s.0) ≡ 2 = row-count a.tree s.0 ∙ ap (λ n. n + count_of s.0) a.one ∙ ap (λ n. 1 + n) s.2 in (
+      s.1,
+      record {
+        f = form.Implies;
+        parts = in_row a.tree s.0;
+        other = λ e. absurd (cc);
+        closed = refl;
+        arity = rw count refl;
+        good = row-good scope depth a.tree s.0 a.good s.3;
+        is = ap (λ xs. codes "implies" ∷ xs) (a.is ∙ ap (tokens_then a.tree) s.4 ∙ sym (row-tokens a.tree s.0 (right ∷ s.1)));
+      },
+      s.5,
+    )
 head_back scope depth wants begins.Same ts few fills =
     let p = pair_fills scope wants ts fills in
     (p.rest, record { f = form.Same p.v p.u; parts = no_trees; other = λ e. absurd (cc); closed = p.bound; arity = refl; good = refl; is = ap (λ xs. codes "same" ∷ xs) p.is }, p.fills)
@@ -160,26 +195,49 @@ head_back scope depth wants begins.Next ts few fills =
 head_back scope depth wants begins.Is ts few fills =
     let a = fills.1 in
     let r = fills.2.1 in
-    let d = fills.2.2 in
-    (d.0, record {
-      f = form.Is a.v r.0; parts = no_trees; other = λ e. absurd (cc); closed = a.bound; arity = refl; good = refl;
-      is = ap (λ xs. codes "is" ∷ xs) (a.is ∙ ap (λ xs. variable a.v ∷ xs) (r.1 ∙ ap (λ xs. role_word r.0 ∷ xs) d.1));
-    }, d.2)
+    let d = fills.2.2 in (
+      d.0,
+      record {
+        f = form.Is a.v r.0;
+        parts = no_trees;
+        other = λ e. absurd (cc);
+        closed = a.bound;
+        arity = refl;
+        good = refl;
+        is = ap (λ xs. codes "is" ∷ xs) (a.is ∙ ap (λ xs. variable a.v ∷ xs) (r.1 ∙ ap (λ xs. role_word r.0 ∷ xs) d.1));
+      },
+      d.2,
+    )
 head_back scope depth wants begins.OfKind ts few fills =
     let a = fills.1 in
     let k = fills.2.1 in
-    let d = fills.2.2 in
-    (d.0, record {
-      f = form.OfKind a.v k.0; parts = no_trees; other = λ e. absurd (cc); closed = a.bound; arity = refl; good = refl;
-      is = ap (λ xs. codes "kind" ∷ xs) (a.is ∙ ap (λ xs. variable a.v ∷ xs) (k.1 ∙ ap (λ xs. kind_word k.0 ∷ xs) d.1));
-    }, d.2)
+    let d = fills.2.2 in (
+      d.0,
+      record {
+        f = form.OfKind a.v k.0;
+        parts = no_trees;
+        other = λ e. absurd (cc);
+        closed = a.bound;
+        arity = refl;
+        good = refl;
+        is = ap (λ xs. codes "kind" ∷ xs) (a.is ∙ ap (λ xs. variable a.v ∷ xs) (k.1 ∙ ap (λ xs. kind_word k.0 ∷ xs) d.1));
+      },
+      d.2,
+    )
 head_back scope depth wants begins.Equal ts few fills =
     let t = terms_fill scope false wants ts fills in
     (t.rest, record { f = form.Equal t.t t.u; parts = no_trees; other = λ e. absurd (cc); closed = t.same; arity = refl; good = refl; is = ap (λ xs. codes "=" ∷ xs) t.is }, t.fills)
 head_back scope depth wants begins.Less ts few fills =
-    let t = terms_fill scope true wants ts fills in
-    (t.rest, record {
-      f = form.Less t.t t.u; parts = no_trees; other = λ e. absurd (cc);
-      closed = less_closed (sort_of scope t.t) (sort_of scope t.u) t.sort t.sorted t.may t.same;
-      arity = refl; good = refl; is = ap (λ xs. codes "<" ∷ xs) t.is;
-    }, t.fills)
+    let t = terms_fill scope true wants ts fills in (
+      t.rest,
+      record {
+        f = form.Less t.t t.u;
+        parts = no_trees;
+        other = λ e. absurd (cc);
+        closed = less_closed (sort_of scope t.t) (sort_of scope t.u) t.sort t.sorted t.may t.same;
+        arity = refl;
+        good = refl;
+        is = ap (λ xs. codes "<" ∷ xs) t.is;
+      },
+      t.fills,
+    )

@@ -78,17 +78,20 @@ want_back (rule_name names) wants next t ts met fills =
     let inside = moved next (formula [] 1 ∷ close ∷ more_rules (names ++ a.0 ∷ []) ∷ wants) ts a.2 fills in
     let body = one_closed [] 1 (more_rules (names ++ a.0 ∷ []) ∷ wants) ts inside in
     let others = body.5 in
-    let r = others.1 in
-    (others.0, record {
-      rule = record { name = a.0; body = body.0 };
-      others = r.all;
-      name = n.1;
-      fresh = n.2;
-      one = body.2;
-      good = body.3;
-      follows = r.follows;
-      is = ap (λ (x : Token). x ∷ ts) n.0 ∙ ap (λ xs. a.0 ∷ xs) (body.4 ∙ ap (λ xs. tokens_then body.0 (right ∷ xs)) r.is);
-    }, others.2)
+    let r = others.1 in (
+      others.0,
+      record {
+        rule = record { name = a.0; body = body.0 };
+        others = r.all;
+        name = n.1;
+        fresh = n.2;
+        one = body.2;
+        good = body.3;
+        follows = r.follows;
+        is = ap (λ (x : Token). x ∷ ts) n.0 ∙ ap (λ xs. a.0 ∷ xs) (body.4 ∙ ap (λ xs. tokens_then body.0 (right ∷ xs)) r.is);
+      },
+      others.2,
+    )
 want_back (formula scope depth) wants next t ts met fills = formula_back scope depth wants next t ts met fills
 want_back (head scope depth) wants next t ts met fills =
     let a = then_found (head_for scope t) (behind_head scope depth wants) next met in
@@ -122,10 +125,19 @@ want_back a_kind wants next t ts met fills =
 want_back (first_term ordered scope) wants next t ts met fills =
     let a = then_found (whose_sort (may_begin ordered) (term_in scope t)) (λ (term : Typed). second_term term.1 scope ∷ wants) next met in
     let f = term_found scope (may_begin ordered) t a.0 a.1 in
-    let inside = moved next (second_term a.0.1 scope ∷ wants) ts a.2 fills in
-    (inside.0, record {
-      t = a.0.0; sort = a.0.1; behind_it = ts; sorted = f.2.0; may = f.2.1; second = inside.1; is = ap (λ (x : Token). x ∷ ts) f.0;
-    }, inside.2)
+    let inside = moved next (second_term a.0.1 scope ∷ wants) ts a.2 fills in (
+      inside.0,
+      record {
+        t = a.0.0;
+        sort = a.0.1;
+        behind_it = ts;
+        sorted = f.2.0;
+        may = f.2.1;
+        second = inside.1;
+        is = ap (λ (x : Token). x ∷ ts) f.0;
+      },
+      inside.2,
+    )
 want_back (second_term sort scope) wants next t ts met fills =
     let a = then_found (whose_sort (is_same_sort sort) (term_in scope t)) (λ (term : Typed). wants) next met in
     let f = term_found scope (is_same_sort sort) t a.0 a.1 in
@@ -169,11 +181,13 @@ some_rules text none =
     let tokens = none.1.0 in
     let fills = completes tokens begin none.0 none.1.2 none.2 in
     let r = fills.1 in
-    let is : tokens ≡ rules_tokens r.all = r.is ∙ ap (λ xs. rules_tokens r.all ++ xs) fills.2 ∙ append-nil (rules_tokens r.all) in
-    (r.all, record {
-      lawful = rw (some r.all is) r.follows;
-      tokens = subst (StandBefore text (length text)) is none.1.1;
-    })
+    let is : tokens ≡ rules_tokens r.all = r.is ∙ ap (λ xs. rules_tokens r.all ++ xs) fills.2 ∙ append-nil (rules_tokens r.all) in (
+      r.all,
+      record {
+        lawful = rw (some r.all is) r.follows;
+        tokens = subst (StandBefore text (length text)) is none.1.1;
+      },
+    )
   where
     some : (rs : List RuleTree) → none.1.0 ≡ rules_tokens rs → nat_lt 0 (length rs) ≡ true
     some [] is =

@@ -165,6 +165,7 @@ fault_or_none text at why fault none =
     same_wants e =
         let ts = one_before text (length text) fault.1.0 none.1.0 (subst (λ n. StandBefore text n fault.1.0) e fault.1.1) none.1.1 in
         wants_same fault.0 none.0 none.1.0 (sym (ap (behind (Ok begin)) ts) ∙ fault.1.2) none.1.2
+
     ended : at ≡ length text → IsCause text at fault.0 why → ⊥
     ended e (inl bad) = let lt : at < length text = bad.0 in omega arith
     ended e (inr (inl stands)) =

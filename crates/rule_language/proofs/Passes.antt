@@ -151,8 +151,7 @@ pub passes : (trees : Trees) → RowPasses trees × MembersPass trees
 passes no_trees = ((λ scope depth rest after good. refl), (λ n scope depth rest after few good. refl))
 passes (tree_then f parts trees) =
     let inside = passes parts in
-    let behind_it = passes trees in
-    (
+    let behind_it = passes trees in (
       λ scope depth rest after good.
           let may = may_stand scope depth f parts trees good in
           form_passes f parts inside.0 inside.1 scope depth (wants_for trees scope depth rest) (tokens_then trees after) may.0

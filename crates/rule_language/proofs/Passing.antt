@@ -120,6 +120,7 @@ no_number v word letter = cases (number_in (v ∷ word)) refl
   where
     digits : (n : ℕ) → n < 2 ^ 32 → v ∷ word ≡ decimal n → AreDigits (v ∷ word)
     digits n small is = subst AreDigits (sym is) (decimal_digits n (omega arith))
+
     cases : (o : Option ℕ) → number_in (v ∷ word) ≡ o → o ≡ None
     cases None is = refl
     cases (Some n) is =

@@ -24,10 +24,12 @@ cause_there text token wants reason next against going =
   where
     whole : (start end : ℕ) → start ≤ end → end ≤ start → start ≡ end
     whole start end a b = omega arith
+
     bad : (b : Bool) → nat_le token.end token.start ≡ b → token.start < length text
         → IsCause text token.start wants (if b then BadByte else reason)
     bad true none within = inl (within, next.none (leb-true token.end token.start none) within, refl)
     bad false some within = inr (inl (token.end, next.some (leb-false token.end token.start some), against))
+
     ends : (b : Bool) → (token.start == length text) ≡ b
         → IsCause text token.start wants (if b then Shape else (if nat_le token.end token.start then BadByte else reason))
     ends true at_end = let e : token.start ≡ length text = eqb-true token.start (length text) at_end in inr (inr (e, going e, refl))

@@ -74,8 +74,7 @@ module _ (text : List ℕ) (names : List Token) where
       → Takes text f g (right ∷ []) → Takes text a g (rule_tokens (rule_tree rule))
   rule_read a f g rule before closed =
       let ts = tokens_then (tree_of rule.body) [] in
-      let whole : tokens_then (tree_of rule.body) (right ∷ []) ≡ ts ++ right ∷ [] = tokens_append (tree_of rule.body) [] (right ∷ []) in
-      (
+      let whole : tokens_then (tree_of rule.body) (right ∷ []) ≡ ts ++ right ∷ [] = tokens_append (tree_of rule.body) [] (right ∷ []) in (
         rw whole (spell_more text a.start f.start g.start ((left ∷ codes "rule" ∷ string_bytes rule.name ∷ []) ++ ts) (right ∷ []) before.spell closed.0),
         closed.1,
       )

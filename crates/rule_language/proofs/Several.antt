@@ -27,12 +27,11 @@ use Rattle.rule_language.proofs.FormsRead.{form_read}
 -- a further formula was read
 pub parts_more : (text : List ℕ) (a b e : Span) (scope : Scope) (depth : ℕ) (ps : List Formula) (p : Formula) → Takes text a b (tokens_then (trees_of ps) [])
     → IsRead text b e scope depth [] p → Takes text a e (tokens_then (trees_of (ps ++ p ∷ [])) [])
-parts_more text a b e scope depth ps p before read =
-    (
-      rw (tokens-push ps p []) (rw (tokens_append (trees_of ps) [] (tokens_then (tree_of p) [])) (rw read.spelt
-          (spell_more text a.start b.start e.start (tokens_then (trees_of ps) []) read.tokens before.0 read.taken.0))),
-      read.taken.1,
-    )
+parts_more text a b e scope depth ps p before read = (
+  rw (tokens-push ps p []) (rw (tokens_append (trees_of ps) [] (tokens_then (tree_of p) [])) (rw read.spelt
+      (spell_more text a.start b.start e.start (tokens_then (trees_of ps) []) read.tokens before.0 read.taken.0))),
+  read.taken.1,
+)
 
 -- the parenthesis is next
 pub parts_closed : (text : List ℕ) (a b e : Span) (scope : Scope) (depth : ℕ) (ps : List Formula) (n : ℕ) → Takes text a b (tokens_then (trees_of ps) [])

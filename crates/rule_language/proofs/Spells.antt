@@ -54,8 +54,7 @@ opens_more xs ys ts us first second text front more before is breaks between sta
     let a = first text front (ys ++ more) before (is ∙ ap (λ zs. front ++ zs) (append_assoc xs ys more)) between stand in
     let b = second text (front ++ xs) more (before ++ ts)
     (is ∙ ap (λ zs. front ++ zs) (append_assoc xs ys more) ∙ sym (append_assoc front xs (ys ++ more))) breaks a.1 a.0 in
-    let place : length ((front ++ xs) ++ ys) ≡ length (front ++ (xs ++ ys)) = ap length (append_assoc front xs ys) in
-    (
+    let place : length ((front ++ xs) ++ ys) ≡ length (front ++ (xs ++ ys)) = ap length (append_assoc front xs ys) in (
       subst (λ n. StandBefore text n (before ++ (ts ++ us))) place (subst (StandBefore text (length ((front ++ xs) ++ ys))) (append_assoc before ts us) b.0),
       subst (IsBetween text) place b.1,
     )
@@ -72,8 +71,7 @@ spells_more xs ys ts us first second apart text front more before is breaks betw
     let a = first text front (ys ++ more) before (is ∙ ap (λ zs. front ++ zs) (append_assoc xs ys more)) (apart more breaks) between stand in
     let b = second text (front ++ xs) more (before ++ ts)
     (is ∙ ap (λ zs. front ++ zs) (append_assoc xs ys more) ∙ sym (append_assoc front xs (ys ++ more))) breaks a.1 a.0 in
-    let place : length ((front ++ xs) ++ ys) ≡ length (front ++ (xs ++ ys)) = ap length (append_assoc front xs ys) in
-    (
+    let place : length ((front ++ xs) ++ ys) ≡ length (front ++ (xs ++ ys)) = ap length (append_assoc front xs ys) in (
       subst (λ n. StandBefore text n (before ++ (ts ++ us))) place (subst (StandBefore text (length ((front ++ xs) ++ ys))) (append_assoc before ts us) b.0),
       subst (IsBetween text) place b.1,
     )
@@ -90,8 +88,7 @@ next_breaks (byte ∷ more) breaks some = breaks
 -- nothing, and a separator
 pub spells_none : Spells [] []
 spells_none text front more before is breaks between stand =
-    let place : length front ≡ length (front ++ []) = ap length (sym (append-nil front)) in
-    (
+    let place : length front ≡ length (front ++ []) = ap length (sym (append-nil front)) in (
       subst (λ n. StandBefore text n (before ++ [])) place (subst (StandBefore text (length front)) (sym (append-nil before)) stand),
       subst (IsBetween text) place between,
     )
@@ -103,8 +100,7 @@ opens_separator byte separator text front more before is between stand =
     let sep : IsSeparator (get_or text (length front) 0) = subst IsSeparator (sym here) separator in
     let size : length text ≡ length front + length (byte ∷ more) = ap length is ∙ length-append front (byte ∷ more) in
     let within : length front < length text = omega arith in
-    let place : length front + 1 ≡ length (front ++ byte ∷ []) = sym (length-append front (byte ∷ [])) in
-    (
+    let place : length front + 1 ≡ length (front ++ byte ∷ []) = sym (length-append front (byte ∷ [])) in (
       subst (λ n. StandBefore text n (before ++ [])) place
           (subst (StandBefore text (length front + 1)) (sym (append-nil before)) (separator_more text (length front) before within sep stand)),
       subst (IsBetween text) place (between_separator text (length front) sep),
@@ -125,8 +121,7 @@ token_stands : (xs text front more : List ℕ) (before : List Token) → 0 < len
 token_stands xs text front more before some is token stand =
     let span : Span = record { start = length front; end = length (front ++ xs) } in
     let size : length (front ++ xs) ≡ length front + length xs = length-append front xs in
-    let lt : length front < length (front ++ xs) = omega arith in
-    (
+    let lt : length front < length (front ++ xs) = omega arith in (
       subst (λ t. StandBefore text (length (front ++ xs)) (before ++ t ∷ [])) (piece_is text front xs more is) (token_one text span before lt token stand),
       between_behind text (length front) (length (front ++ xs)) lt token,
     )

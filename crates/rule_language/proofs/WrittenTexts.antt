@@ -189,8 +189,10 @@ form_spells scope f parts good inside = by (spelt_cases f)
         (joined_spells (form_words f) (form_spelt scope f good))
         (spells_more (row_text parts) (41 ∷ []) (tokens_then parts []) (right ∷ []) inside (opens (41 ∷ []) (right ∷ []) (opens_parenthesis 41 (inr refl))) (breaks_first 41 [] right_breaks))
         (inside_breaks parts))
+
     truth : f ≡ form.True → Spells (form_text f (row_text parts)) (spelt f (tokens_then parts []) [])
     truth is = rw is (spells_word (codes "true") (omega arith) refl)
+
     by : ((f ≡ form.True) ⊎ (((inner after : List Token) → spelt f inner after ≡ left ∷ (form_words f ++ (inner ++ right ∷ after))) × ((depth : ℕ) → is_shallow depth f ≡ nat_lt depth 32)))
         → Spells (form_text f (row_text parts)) (spelt f (tokens_then parts []) [])
     by (inl is) = truth is

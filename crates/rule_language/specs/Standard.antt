@@ -88,59 +88,80 @@ never f = one form.Not f
 
 abbrev pub o1 : Trees
 o1 = every_x kind.Opened (every_y kind.Opened is_same)
+
 abbrev pub o2 : Trees
 o2 = every_x kind.Authorise (some_y_before kind.Opened (atom form.True))
+
 abbrev pub a1 : Trees
 a1 = every_x kind.Activate (some_y_before kind.Authorise (two form.And (same_session y x) (booth_is_maker y x)))
+
 abbrev pub a2 : Trees
 a2 = every_x kind.Authorise (every_y kind.Authorise (two form.Implies (same_session x y) is_same))
+
 abbrev pub c1 : Trees
 c1 = every_x kind.Commit (some_y_before kind.Activate (two form.And (same_maker y x) (same_session y x)))
+
 abbrev pub c2 : Trees
 c2 = every_x kind.Cast (some_y_before kind.Commit
     (three form.And (same_maker y x) (same_session y x) (same_ballot y x)))
+
 abbrev pub c3 : Trees
 c3 = every_x kind.Cast (every_y kind.Cast (two form.Implies (same_session x y) is_same))
+
 abbrev pub c4 : Trees
 c4 = every_x kind.Cast (two form.And (every_y kind.Cancel (never (same_session x y)))
     (every_z kind.Challenge (never (same_session x z))))
+
 abbrev pub c5 : Trees
 c5 = every_x kind.Cancel (some_y_before kind.Authorise (two form.And (same_session y x) (booth_is_maker y x)))
+
 abbrev pub v1 : Trees
 v1 = every_x kind.Override (some_y_before kind.Authorise (same_session y x))
+
 abbrev pub v2 : Trees
 v2 = every_x kind.Cast (never (some_y_before kind.Override (same_session y x)))
+
 abbrev pub p1 : Trees
 p1 = every_x kind.Closed (every_y kind.Closed is_same)
+
 abbrev pub p2 : Trees
 p2 = every_x kind.Authorise (never (some_y_before kind.Closed (atom form.True)))
+
 abbrev pub p3 : Trees
 p3 = every_x kind.Authorise (every_y kind.Closed (two form.Implies (atom (form.Before x y))
     (three form.Or (some_z_before_y kind.Cast (same_session z x)) (some_z_before_y kind.Cancel (same_session z x))
     (some_z_before_y kind.Challenge (same_session z x)))))
+
 abbrev pub p4 : Trees
 p4 = every_x kind.Cast (never (some_y_before kind.Closed (atom form.True)))
+
 abbrev pub m1 : Trees
 m1 = every_x kind.Any (two form.Or
     (two form.And (atom (form.Is x Supervisor)) (five form.Or (of_kind kind.Opened) (of_kind kind.Authorise)
     (of_kind kind.Override) (of_kind kind.Forced) (of_kind kind.Closed)))
     (two form.And (atom (form.Is x Booth)) (five form.Or (of_kind kind.Activate) (of_kind kind.Commit)
     (of_kind kind.Cast) (of_kind kind.Cancel) (of_kind kind.Challenge))))
+
 abbrev pub k1 : Trees
 k1 = every_x kind.Any (every_y kind.Any (two form.Implies
     (two form.And (same_maker x y) (same_number x y)) is_same))
+
 abbrev pub k2 : Trees
 k2 = every_x kind.Any (two form.Or (atom (form.Equal (Of x field.Number) (Number 0)))
     (some_y_before kind.Any (atom (form.Next y x))))
+
 abbrev pub c6 : Trees
 c6 = every_x kind.Challenge (some_y_before kind.Commit
     (three form.And (same_maker y x) (same_session y x) (same_ballot y x)))
+
 abbrev pub c7 : Trees
 c7 = every_x kind.Challenge (two form.And (every_y kind.Challenge (two form.Implies (same_session x y) is_same))
     (every_z kind.Cancel (never (same_session x z))))
+
 abbrev pub v3 : Trees
 v3 = every_x kind.Challenge (two form.And (never (some_y_before kind.Override (same_session y x)))
     (never (some_z_before kind.Forced (same_session z x))))
+
 abbrev pub v4 : Trees
 v4 = every_x kind.Forced (two form.And (some_y_before kind.Authorise (same_session y x))
     (some_z_before kind.Commit (same_session z x)))

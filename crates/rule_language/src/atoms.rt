@@ -29,7 +29,11 @@ fn read_pair(text: &[u8], token: &mut Span, scope: &Scope<'_>) -> Result<(u8, u8
 }
 
 /// Takes the rest of `(same v u)`.
-pub(crate) fn read_same(text: &[u8], token: &mut Span, scope: &Scope<'_>) -> Result<Formula, RuleFault>
+pub(crate) fn read_same(
+    text: &[u8],
+    token: &mut Span,
+    scope: &Scope<'_>,
+) -> Result<Formula, RuleFault>
     requires { IsNext text.now token.old }
     ensures ok { (depth : ℕ) → depth < 32 → IfOk result
         (IsRead text.now token.old token.new (bindings scope.now) depth (left ∷ head_word head.Same ∷ [])) }
@@ -41,7 +45,11 @@ pub(crate) fn read_same(text: &[u8], token: &mut Span, scope: &Scope<'_>) -> Res
 }
 
 /// Takes the rest of `(before v u)`.
-pub(crate) fn read_before(text: &[u8], token: &mut Span, scope: &Scope<'_>) -> Result<Formula, RuleFault>
+pub(crate) fn read_before(
+    text: &[u8],
+    token: &mut Span,
+    scope: &Scope<'_>,
+) -> Result<Formula, RuleFault>
     requires { IsNext text.now token.old }
     ensures ok { (depth : ℕ) → depth < 32 → IfOk result
         (IsRead text.now token.old token.new (bindings scope.now) depth (left ∷ head_word head.Before ∷ [])) }
@@ -53,7 +61,11 @@ pub(crate) fn read_before(text: &[u8], token: &mut Span, scope: &Scope<'_>) -> R
 }
 
 /// Takes the rest of `(next v u)`.
-pub(crate) fn read_next(text: &[u8], token: &mut Span, scope: &Scope<'_>) -> Result<Formula, RuleFault>
+pub(crate) fn read_next(
+    text: &[u8],
+    token: &mut Span,
+    scope: &Scope<'_>,
+) -> Result<Formula, RuleFault>
     requires { IsNext text.now token.old }
     ensures ok { (depth : ℕ) → depth < 32 → IfOk result
         (IsRead text.now token.old token.new (bindings scope.now) depth (left ∷ head_word head.Next ∷ [])) }
@@ -65,7 +77,11 @@ pub(crate) fn read_next(text: &[u8], token: &mut Span, scope: &Scope<'_>) -> Res
 }
 
 /// Takes the rest of `(is v ROLE)`.
-pub(crate) fn read_is(text: &[u8], token: &mut Span, scope: &Scope<'_>) -> Result<Formula, RuleFault>
+pub(crate) fn read_is(
+    text: &[u8],
+    token: &mut Span,
+    scope: &Scope<'_>,
+) -> Result<Formula, RuleFault>
     requires { IsNext text.now token.old }
     ensures ok { (depth : ℕ) → depth < 32 → IfOk result
         (IsRead text.now token.old token.new (bindings scope.now) depth (left ∷ head_word head.Is ∷ [])) }
@@ -79,7 +95,11 @@ pub(crate) fn read_is(text: &[u8], token: &mut Span, scope: &Scope<'_>) -> Resul
 }
 
 /// Takes the rest of `(kind v KIND)`.
-pub(crate) fn read_of_kind(text: &[u8], token: &mut Span, scope: &Scope<'_>) -> Result<Formula, RuleFault>
+pub(crate) fn read_of_kind(
+    text: &[u8],
+    token: &mut Span,
+    scope: &Scope<'_>,
+) -> Result<Formula, RuleFault>
     requires { IsNext text.now token.old }
     ensures ok { (depth : ℕ) → depth < 32 → IfOk result
         (IsRead text.now token.old token.new (bindings scope.now) depth (left ∷ head_word head.OfKind ∷ [])) }
@@ -111,7 +131,11 @@ fn read_terms(
 }
 
 /// Takes the rest of `(= T U)`.
-pub(crate) fn read_equal(text: &[u8], token: &mut Span, scope: &Scope<'_>) -> Result<Formula, RuleFault>
+pub(crate) fn read_equal(
+    text: &[u8],
+    token: &mut Span,
+    scope: &Scope<'_>,
+) -> Result<Formula, RuleFault>
     requires { IsNext text.now token.old }
     ensures ok { (depth : ℕ) → depth < 32 → IfOk result
         (IsRead text.now token.old token.new (bindings scope.now) depth (left ∷ head_word head.Equal ∷ [])) }
@@ -123,7 +147,11 @@ pub(crate) fn read_equal(text: &[u8], token: &mut Span, scope: &Scope<'_>) -> Re
 }
 
 /// Takes the rest of `(< T U)`.
-pub(crate) fn read_less(text: &[u8], token: &mut Span, scope: &Scope<'_>) -> Result<Formula, RuleFault>
+pub(crate) fn read_less(
+    text: &[u8],
+    token: &mut Span,
+    scope: &Scope<'_>,
+) -> Result<Formula, RuleFault>
     requires { IsNext text.now token.old }
     ensures ok { (depth : ℕ) → depth < 32 → IfOk result
         (IsRead text.now token.old token.new (bindings scope.now) depth (left ∷ head_word head.Less ∷ [])) }

@@ -66,7 +66,11 @@ fn read_range(text: &[u8], token: &mut Span, scope: &Scope<'_>) -> Result<Option
 }
 
 /// Takes what a quantifier binds.
-pub(crate) fn read_binder(text: &[u8], token: &mut Span, scope: &Scope<'_>) -> Result<Binder, RuleFault>
+pub(crate) fn read_binder(
+    text: &[u8],
+    token: &mut Span,
+    scope: &Scope<'_>,
+) -> Result<Binder, RuleFault>
     requires { IsNext text.now token.old }
     ensures ok { IfOk result (IsBinder text.now token.old token.new (bindings scope.now)) }
     ensures err { (depth : ℕ) → IfFault result

@@ -10,13 +10,31 @@ use roster::Role;
 pub enum Formula {
     True,
     /// For each survivor of the kind.
-    ForEvery { v: u8, kind: Kind, body: Box<Formula> },
+    ForEvery {
+        v: u8,
+        kind: Kind,
+        body: Box<Formula>,
+    },
     /// For some survivor of the kind.
-    ForSome { v: u8, kind: Kind, body: Box<Formula> },
+    ForSome {
+        v: u8,
+        kind: Kind,
+        body: Box<Formula>,
+    },
     /// For each entry of the kind that precedes what `u` stands for.
-    EveryBefore { v: u8, kind: Kind, u: u8, body: Box<Formula> },
+    EveryBefore {
+        v: u8,
+        kind: Kind,
+        u: u8,
+        body: Box<Formula>,
+    },
     /// For some entry of the kind that precedes what `u` stands for.
-    SomeBefore { v: u8, kind: Kind, u: u8, body: Box<Formula> },
+    SomeBefore {
+        v: u8,
+        kind: Kind,
+        u: u8,
+        body: Box<Formula>,
+    },
     /// 1 to 64 formulas.
     And(Vec<Formula>),
     /// 1 to 64 formulas.

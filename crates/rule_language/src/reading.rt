@@ -82,7 +82,11 @@ pub(crate) fn read_head(text: &[u8], token: &mut Span, scope: &Scope<'_>) -> Res
 }
 
 /// Takes the variable that a quantifier binds.
-pub(crate) fn read_new_variable(text: &[u8], token: &mut Span, scope: &Scope<'_>) -> Result<u8, RuleFault>
+pub(crate) fn read_new_variable(
+    text: &[u8],
+    token: &mut Span,
+    scope: &Scope<'_>,
+) -> Result<u8, RuleFault>
     requires { IsNext text.now token.old }
     ensures ok { IfOk result (λ v. Takes text.now token.old token.new (variable v ∷ [])
         × (new_in (bindings scope.now) (letter_in (variable v)) ≡ Ok v)) }
@@ -94,7 +98,11 @@ pub(crate) fn read_new_variable(text: &[u8], token: &mut Span, scope: &Scope<'_>
 }
 
 /// Takes a variable that is bound.
-pub(crate) fn read_variable(text: &[u8], token: &mut Span, scope: &Scope<'_>) -> Result<u8, RuleFault>
+pub(crate) fn read_variable(
+    text: &[u8],
+    token: &mut Span,
+    scope: &Scope<'_>,
+) -> Result<u8, RuleFault>
     requires { IsNext text.now token.old }
     ensures ok { IfOk result (λ v. Takes text.now token.old token.new (variable v ∷ [])
         × (is_bound (bindings scope.now) v ≡ true)) }

@@ -1,6 +1,6 @@
 //! What is read of texts of rules. The expected answers are those of an independent program for the
 //! same texts.
-use crate::{RuleFault, RuleWhy, read, write};
+use crate::{RuleFault, STANDARD, read, standard, write};
 use hall_text::{decimal, lines};
 use std::alloc::Global;
 use std::test::Fail;
@@ -145,8 +145,59 @@ fn the_first_fault_is_told_with_its_place_and_cause(rt: HostRuntime) -> Result<(
         let (cause, text) = split(rest);
         let text = text_of(alloc, text)?;
         let (at, word) = answer_of(alloc, text.as_slice())?;
-        assert_eq!(rt; decimal(place), Some(at as u32), "place of {row:?}");
+        assert_eq!(rt; decimal(place).ok_or("place")? as usize, at, "place of {row:?}");
         assert_eq!(rt; word, cause, "cause of {row:?}");
     }
+    Ok(())
+}
+
+/// What a text begins with, a part and how often it stands there, what stands in the middle, what is
+/// repeated as often behind it, and the end; and the answer.
+const LONG: &[(&str, &str, u32, &str, &str, &str, usize, &str)] = &[
+    ("(rule D ", "(not ", 31, "true", ")", ")", 199, "ok"),
+    ("(rule D ", "(not ", 32, "true", ")", ")", 163, "TooDeep"),
+    ("(rule D ", "(not ", 40, "", "", "", 163, "TooDeep"),
+    ("(rule M (and", " true", 64, "", "", "))", 334, "ok"),
+    ("(rule M (and", " true", 65, "", "", "))", 333, "Shape"),
+    ("", "(", 1048576, "", "", "", 1, "Shape"),
+    ("", "(", 33, "", "", "", 1, "Shape"),
+    ("(rule ", "a", 1048576, "", "", "", 6, "Shape"),
+    ("(rule a ", "a", 1048576, "", "", "", 8, "Shape"),
+    ("\t", " ", 1048576, "", "", "", 1048577, "Shape"),
+    ("(rule a (every x cast (= x.number ", "9", 1048576, "", "", "", 34, "Shape"),
+];
+
+/// Appends the part so many times.
+fn repeat(text: &mut Vec<u8>, part: &str, count: u32) -> Result<(), Fail> {
+    for _ in 0..count {
+        text.extend_from_slice(part.as_bytes())?;
+    }
+    Ok(())
+}
+
+#[test]
+fn long_texts_are_read_up_to_the_limits(rt: HostRuntime) -> Result<(), Fail> {
+    let alloc = rt.alloc();
+    for &(front, part, count, middle, closing, end, place, cause) in LONG {
+        let mut text = Vec::new(alloc);
+        repeat(&mut text, front, 1)?;
+        repeat(&mut text, part, count)?;
+        repeat(&mut text, middle, 1)?;
+        repeat(&mut text, closing, count)?;
+        repeat(&mut text, end, 1)?;
+        let (at, word) = answer_of(alloc, text.as_slice())?;
+        assert_eq!(rt; at, place, "place of {count} times {part}");
+        assert_eq!(rt; word, cause.as_bytes(), "cause of {count} times {part}");
+    }
+    Ok(())
+}
+
+#[test]
+fn the_standard_rules_are_written_as_their_text(rt: HostRuntime) -> Result<(), Fail> {
+    let alloc = rt.alloc();
+    let rules = standard(alloc)?;
+    assert_eq!(rt; rules.len(), 22);
+    let text = write(alloc, rules.as_slice())?;
+    assert_eq!(rt; text.as_slice(), STANDARD.as_bytes());
     Ok(())
 }

@@ -52,7 +52,12 @@ fn name_from(alloc: Global, word: &[u8]) -> Result<String, AllocError>
 }
 
 /// Takes the name of a rule behind these.
-fn read_name(alloc: Global, text: &[u8], token: &mut Span, rules: &[Rule]) -> Result<String, RuleFault>
+fn read_name(
+    alloc: Global,
+    text: &[u8],
+    token: &mut Span,
+    rules: &[Rule],
+) -> Result<String, RuleFault>
     requires { IsNext text.now token.old }
     ensures ok { IfOk result (λ name. Takes text.now token.old token.new (string_bytes name ∷ [])
         × (name_in (rule_names rules.now) (string_bytes name) ≡ Ok (string_bytes name))) }
@@ -65,7 +70,12 @@ fn read_name(alloc: Global, text: &[u8], token: &mut Span, rules: &[Rule]) -> Re
 }
 
 /// Takes a rule behind these.
-fn read_rule(alloc: Global, text: &[u8], token: &mut Span, rules: &[Rule]) -> Result<Rule, RuleFault>
+fn read_rule(
+    alloc: Global,
+    text: &[u8],
+    token: &mut Span,
+    rules: &[Rule],
+) -> Result<Rule, RuleFault>
     requires next { IsNext text.now token.old }
     requires going { token.old.start ≡ length text.now → rule_names rules.now ≡ [] }
     ensures ok { IfOk result (λ rule. Takes text.now token.old token.new (rule_tokens (rule_tree rule))

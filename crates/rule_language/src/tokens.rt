@@ -68,9 +68,15 @@ pub(crate) fn refused(text: &[u8], token: Span, why: RuleWhy) -> RuleFault
 {
     let at = token.start;
     if at == text.len() {
-        RuleFault::At { at, why: RuleWhy::Shape }
+        RuleFault::At {
+            at,
+            why: RuleWhy::Shape,
+        }
     } else if token.end <= token.start {
-        RuleFault::At { at, why: RuleWhy::Token }
+        RuleFault::At {
+            at,
+            why: RuleWhy::Token,
+        }
     } else {
         RuleFault::At { at, why }
     }

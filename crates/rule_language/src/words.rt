@@ -155,7 +155,11 @@ pub(crate) fn first_term_in(
 }
 
 /// A second term, which has to have the sort of the first.
-pub(crate) fn second_term_in(word: &[u8], scope: &Scope<'_>, sort: Sort) -> Result<(Term, Sort), RuleWhy>
+pub(crate) fn second_term_in(
+    word: &[u8],
+    scope: &Scope<'_>,
+    sort: Sort,
+) -> Result<(Term, Sort), RuleWhy>
     ensures { result ≡ whose_sort (is_same_sort sort) (term_in (bindings scope.now) word.now) }
 {
     let term = term_in(word, scope)?;

@@ -147,8 +147,16 @@ fn form_of(formula: &Formula) -> Form
         Formula::True => Form::True,
         Formula::ForEvery { v, kind, .. } => Form::ForEvery { v: *v, kind: *kind },
         Formula::ForSome { v, kind, .. } => Form::ForSome { v: *v, kind: *kind },
-        Formula::EveryBefore { v, kind, u, .. } => Form::EveryBefore { v: *v, kind: *kind, u: *u },
-        Formula::SomeBefore { v, kind, u, .. } => Form::SomeBefore { v: *v, kind: *kind, u: *u },
+        Formula::EveryBefore { v, kind, u, .. } => Form::EveryBefore {
+            v: *v,
+            kind: *kind,
+            u: *u,
+        },
+        Formula::SomeBefore { v, kind, u, .. } => Form::SomeBefore {
+            v: *v,
+            kind: *kind,
+            u: *u,
+        },
         Formula::And(_) => Form::And,
         Formula::Or(_) => Form::Or,
         Formula::Not(_) => Form::Not,

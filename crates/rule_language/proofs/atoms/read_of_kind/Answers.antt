@@ -16,7 +16,6 @@ use Rattle.rule_language.proofs.atoms.read_of_kind.Goals as goal
 
 pub returns-in_err-kind-clause-err : goal.returns-in_err-kind-clause-err
 returns-in_err-kind-clause-err c = λ depth.
-    
     let text = c.args.text.now in
     let scope = bindings c.args.scope.now in
     exit_behind c.read_kind.result c.in_err-kind.field-0.0 c.from_residual-in_err-kind.result text c.args.token.now.start
@@ -27,7 +26,6 @@ returns-in_err-kind-clause-err c = λ depth.
 
 pub returns-in_err-read_only-clause-err : goal.returns-in_err-read_only-clause-err
 returns-in_err-read_only-clause-err c = λ depth.
-    
     let text = c.args.text.now in
     let scope = bindings c.args.scope.now in
     exit_behind c.read_only.result c.in_err-read_only.field-0.0 c.from_residual-in_err-read_only.result text c.args.token.now.start
@@ -50,8 +48,7 @@ returns-clause-ok c = λ depth shallow.
     let d = c.read_kind.new.token in
     let e = c.read_only.new.token in
     let one = c.in_ok-v.ensures.ok in
-    atom_read text a e scope depth (OfKind c.in_ok-v.v c.in_ok-kind.kind) (form.OfKind c.in_ok-v.v c.in_ok-kind.kind) head.OfKind (v ∷ u ∷ []) (view-OfKind c.in_ok-v.v c.in_ok-kind.kind) refl (λ x y. refl) (lt-ltb depth 32 shallow) one.1 refl
-    (
+    atom_read text a e scope depth (OfKind c.in_ok-v.v c.in_ok-kind.kind) (form.OfKind c.in_ok-v.v c.in_ok-kind.kind) head.OfKind (v ∷ u ∷ []) (view-OfKind c.in_ok-v.v c.in_ok-kind.kind) refl (λ x y. refl) (lt-ltb depth 32 shallow) one.1 refl (
       spell_more text a.start b.start e.start (v ∷ []) (u ∷ right ∷ []) one.0.0
           (spell_more text b.start d.start e.start (u ∷ []) (right ∷ []) c.in_ok-kind.ensures.ok.0.0 c.in_ok-read_only.ensures.ok.0.0),
       c.in_ok-read_only.ensures.ok.0.1,

@@ -9,7 +9,7 @@ use Rattle.rule_language.proofs.Steps.{variable_step, kind_step, kind_of_step, r
 use Rattle.rule_language.proofs.atoms.read_terms.Goals as goal
 
 pub returns-in_err-second-clause-err : goal.returns-in_err-second-clause-err
-returns-in_err-second-clause-err c = 
+returns-in_err-second-clause-err c =
     let text = c.args.text.now in
     let scope = bindings c.args.scope.now in
     exit_behind c.read_second.result c.in_err-second.field-0.0 c.from_residual-in_err-second.result text c.args.token.now.start
@@ -19,7 +19,7 @@ returns-in_err-second-clause-err c =
     c.read_second.ensures.err
 
 pub returns-in_err-read_only-clause-err : goal.returns-in_err-read_only-clause-err
-returns-in_err-read_only-clause-err c = 
+returns-in_err-read_only-clause-err c =
     let text = c.args.text.now in
     let scope = bindings c.args.scope.now in
     exit_behind c.read_only.result c.in_err-read_only.field-0.0 c.from_residual-in_err-read_only.result text c.args.token.now.start

@@ -11,14 +11,12 @@ use Rattle.rule_language.proofs.binder.read_binder.Goals as goal
 
 pub returns-in_err-v-clause-err : goal.returns-in_err-v-clause-err
 returns-in_err-v-clause-err c = λ depth.
-    
     let text = c.args.text.now in
     let scope = bindings c.args.scope.now in
     exit_first c.read_new_variable.result c.in_err-v.field-0.0 c.from_residual.result text c.args.token.now.start (λ rest. new_variable scope depth ∷ rest) (λ rest. rest) c.in_err-v.was c.from_residual.ensures.1 (c.read_new_variable.ensures.err depth)
 
 pub returns-in_err-kind-clause-err : goal.returns-in_err-kind-clause-err
 returns-in_err-kind-clause-err c = λ depth.
-    
     let text = c.args.text.now in
     let scope = bindings c.args.scope.now in
     exit_behind c.read_kind.result c.in_err-kind.field-0.0 c.from_residual-in_err-kind.result text c.args.token.now.start
@@ -29,7 +27,6 @@ returns-in_err-kind-clause-err c = λ depth.
 
 pub returns-in_err-u-clause-err : goal.returns-in_err-u-clause-err
 returns-in_err-u-clause-err c = λ depth.
-    
     let text = c.args.text.now in
     let scope = bindings c.args.scope.now in
     exit_behind c.read_range.result c.in_err-u.field-0.0 c.from_residual-in_err-u.result text c.args.token.now.start

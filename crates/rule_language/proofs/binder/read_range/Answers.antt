@@ -30,8 +30,7 @@ returns-clause-ok c =
     let is = c.is_word.ensures.0 c.if-not-is_word.false in
     let taken : Takes text c.args.token.now c.advance.new.token (codes "before" ∷ []) =
     rw is at (c.advance.ensures (is_some (piece text c.args.token.now) is)) in
-    let u = c.in_ok-u.ensures.ok in
-    (
+    let u = c.in_ok-u.ensures.ok in (
       (
         spell_more text c.args.token.now.start c.advance.new.token.start c.read_variable.new.token.start (codes "before" ∷ [])
             (variable c.in_ok-u.u ∷ []) taken.0 u.0.0,

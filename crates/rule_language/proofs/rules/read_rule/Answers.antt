@@ -81,8 +81,7 @@ returns-clause-ok c =
     let one = c.in_ok-read_opening.ensures.ok in
     let name = c.in_ok-name.name in
     let body = c.in_ok-body.body in
-    let read = c.in_ok-body.ensures.ok in
-    (
+    let read = c.in_ok-body.ensures.ok in (
       rule_read text names a f g (record { name = name; body = body })
           (said text names a e f (string_bytes name) body
           (called text names a b d e (string_bytes name) one.0 one.1 c.in_ok-read_only.ensures.ok.0 c.in_ok-name.ensures.ok.0 c.in_ok-name.ensures.ok.1) read)

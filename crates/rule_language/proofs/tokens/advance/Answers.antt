@@ -8,8 +8,7 @@ use Rattle.rule_language.proofs.tokens.advance.Goals as goal
 pub returns-then-token : goal.returns-then-token
 returns-then-token c = λ some.
     let text : List ℕ = c.args.text.now in
-    let token : Span = c.args.token.now in
-    (
+    let token : Span = c.args.token.now in (
       λ before stand.
           c.token_from.ensures.passed (before ++ piece text token ∷ [])
           (token_one text token before c.if-token.true (c.requires.some c.if-token.true) stand),
