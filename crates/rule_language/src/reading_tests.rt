@@ -145,7 +145,11 @@ fn the_first_fault_is_told_with_its_place_and_cause(rt: HostRuntime) -> Result<(
         let (cause, text) = split(rest);
         let text = text_of(alloc, text)?;
         let (at, word) = answer_of(alloc, text.as_slice())?;
-        assert_eq!(rt; decimal(place).ok_or("place")? as usize, at, "place of {row:?}");
+        assert_eq!(rt;
+            decimal(place).ok_or("place")? as usize,
+            at,
+            "place of {row:?}"
+        );
         assert_eq!(rt; word, cause, "cause of {row:?}");
     }
     Ok(())
@@ -164,7 +168,16 @@ const LONG: &[(&str, &str, u32, &str, &str, &str, usize, &str)] = &[
     ("(rule ", "a", 1048576, "", "", "", 6, "Shape"),
     ("(rule a ", "a", 1048576, "", "", "", 8, "Shape"),
     ("\t", " ", 1048576, "", "", "", 1048577, "Shape"),
-    ("(rule a (every x cast (= x.number ", "9", 1048576, "", "", "", 34, "Shape"),
+    (
+        "(rule a (every x cast (= x.number ",
+        "9",
+        1048576,
+        "",
+        "",
+        "",
+        34,
+        "Shape",
+    ),
 ];
 
 /// Appends the part so many times.
