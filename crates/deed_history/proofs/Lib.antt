@@ -1,4 +1,3 @@
-pub mod Rows
 pub mod Entries
 pub mod Ending
 pub mod Members

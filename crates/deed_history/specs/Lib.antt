@@ -1,3 +1,2 @@
 pub mod Deeds
 pub mod Held
-pub mod Refusals

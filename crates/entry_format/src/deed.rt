@@ -1,18 +1,39 @@
 //! What a machine does.
 ghost use Rattle.std.specs.Prelude.{◌≡◌};
-ghost use Rattle.entry_format.specs.EntryText.{deed_word};
+ghost use Rattle.entry_format.specs.EntryText.{deed_word, how_word};
+
+/// What a supervisor who overrides a session has its booth do.
+#[derive(Clone, Copy, Debug, PartialEq, Eq)]
+pub enum How {
+    /// The booth ends the session without a ballot.
+    Cancel,
+    /// The booth casts the ballot that was committed.
+    Cast,
+}
+
+impl How {
+    /// The word in texts.
+    pub fn word(self) -> &'static [u8]
+        ensures { result.now ≡ how_word self }
+    {
+        match self {
+            How::Cancel => b"cancel",
+            How::Cast => b"cast",
+        }
+    }
+}
 
 /// A deed of a machine (VoteBox, USENIX Security 2008). A supervisor opens, authorises, overrides
-/// and closes; a booth activates, commits, casts and cancels. A booth is named by its machine's
-/// place in the roster, and a ballot is an opaque digest.
-#[derive(Clone, Copy, Debug, PartialEq, Eq)]
+/// and closes; a booth activates, commits, casts, cancels and challenges. A booth is named by its
+/// machine's place in the roster, and a ballot is an opaque digest.
+#[derive(Clone, Copy, Debug)]
 pub enum Deed {
     /// The supervisor opens the polling place.
     Opened,
     /// The supervisor authorises a booth for a session.
     Authorise { booth: u32, session: u32 },
-    /// The supervisor takes a session's authorisation back.
-    Override { session: u32 },
+    /// The supervisor ends a session in the booth's place.
+    Override { session: u32, how: How },
     /// The supervisor closes the polling place.
     Closed,
     /// A booth begins a session.
@@ -23,6 +44,8 @@ pub enum Deed {
     Cast { session: u32, ballot: [u8; 32] },
     /// A booth ends a session without a ballot.
     Cancel { session: u32 },
+    /// A booth has the committed ballot opened in place of casting it.
+    Challenge { session: u32, ballot: [u8; 32] },
 }
 
 impl Deed {
@@ -39,6 +62,7 @@ impl Deed {
             Deed::Commit { .. } => b"commit",
             Deed::Cast { .. } => b"cast",
             Deed::Cancel { .. } => b"cancel",
+            Deed::Challenge { .. } => b"challenge",
         }
     }
 }

@@ -1,42 +1,15 @@
 //! An entry's fields.
-ghost use Rattle.std.specs.Prelude.{◌≡◌};
-
 use crate::deed::Deed;
-use std::marker::Model;
+use item_list::Items;
 
-/// The digests that an entry names. Contracts see them as a list.
-#[derive(Debug, Drop)]
-pub struct Names {
-    digests: Vec<[u8; 32]>,
-}
-
-impl Model for Names {
-    ghost use Rattle.std.specs.Prelude.{List, ℕ};
-
-    ghost Value = { List (List ℕ) };
-
-    ghost view = { λ names. names.digests.items };
-}
-
-impl Names {
-    /// The names with these digests.
-    pub fn new(digests: Vec<[u8; 32]>) -> Self
-        ensures { result ≡ digests.items }
-    {
-        Names { digests }
-    }
-
-    /// Lends the digests.
-    pub fn as_slice(&self) -> &[[u8; 32]]
-        ensures { result.now ≡ self.now }
-    {
-        self.digests.as_slice()
-    }
-}
+/// The digests that an entry names.
+pub type Names = Items<[u8; 32]>;
 
 /// What a machine says in an entry.
 #[derive(Debug, Drop)]
 pub struct Entry {
+    /// The version of the entry's text, 1 or 2.
+    pub version: u32,
     /// The digest of the roster's text.
     pub election: [u8; 32],
     /// The place of the maker in the roster, counted from 0.

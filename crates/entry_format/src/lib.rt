@@ -16,7 +16,7 @@ mod taking;
 mod unsealing;
 mod writing;
 
-pub use deed::Deed;
+pub use deed::{Deed, How};
 pub use entry::{Entry, Names};
 pub use laws::{one_reading_is_right, one_unsealing_is_right, texts_have_one_entry};
 pub use plain::{EntryFault, Plain, read_unsigned, read_unsigned_text};

@@ -20,7 +20,7 @@ pub struct Plain {
 }
 
 /// Why a text isn't taken as an entry, the first that applies.
-#[derive(Clone, Copy, Debug, PartialEq, Eq, Error)]
+#[derive(Clone, Copy, Debug, Error)]
 pub enum EntryFault {
     #[error("the text isn't exactly one canonical text")]
     NotCanonical,

@@ -118,11 +118,12 @@ impl Sealed {
         let text = Vec::from_slice(alloc, self.text.as_slice())?;
         Ok(Sealed {
             entry: Entry {
+                version: self.entry.version,
                 election: self.entry.election,
                 maker: self.entry.maker,
                 number: self.entry.number,
                 stamp: self.entry.stamp,
-                names: Names::new(names),
+                names: Names::from_vec(names),
                 deed: self.entry.deed,
             },
             signature,

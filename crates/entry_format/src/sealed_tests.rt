@@ -68,11 +68,12 @@ fn sealed_by(
         return None;
     }
     let entry = Entry {
+        version: 1,
         election: election(text),
         maker,
         number: secret.next(),
         stamp,
-        names: Names::new(names),
+        names: Names::from_vec(names),
         deed,
     };
     Some(seal(alloc, &roster, secret, entry))

@@ -7,7 +7,7 @@ ghost use Rattle.lms_sign.specs.Secret.{public_of, signed_by};
 ghost use Rattle.lms_sign.specs.Signs.{Signs, index_in};
 ghost use Rattle.roster.specs.Machines.{HaveText};
 ghost use Rattle.roster.specs.RosterText.{roster_tree};
-ghost use Rattle.entry_format.specs.EntryText.{body_tree};
+ghost use Rattle.entry_format.specs.EntryText.{body_tree, IsDeedIn, IsVersion};
 ghost use Rattle.entry_format.specs.inside.Parts.{signed_list};
 ghost use Rattle.entry_format.specs.Unsealing.{key_at, IsValid};
 
@@ -97,6 +97,8 @@ pub fn seal(
     requires number { entry.number ≡ secret.now.next }
     requires rising { IsAscending entry.names }
     requires few { length entry.names ≤ 16384 }
+    requires version { IsVersion entry.version }
+    requires deed { IsDeedIn entry.version entry.deed }
     ensures entry { IfOk result (λ sealed. sealed.entry ≡ entry) }
     ensures signature { IfOk result (λ sealed.
         sealed.signature ≡ signed_by secret.now (text_of (body_tree entry))) }

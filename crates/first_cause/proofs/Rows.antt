@@ -3,7 +3,7 @@ use Rattle.std.proofs.Common.{◌≡◌, ◌∙◌, ap, ℕ, ◌+◌, ◌<◌, �
 use Rattle.std.proofs.Common.{get_or, drop, refl, sym, subst, inl, inr}
 use Rattle.std.specs.Prelude.{Result, Ok, Err, IsTrue, ◌↔◌}
 use Rattle.std.proofs.lemmas.List.{drop_more, drop_all}
-use Rattle.deed_history.specs.Refusals.{IsFirstOf, tests_of}
+use Rattle.first_cause.specs.Causes.{IsFirstOf, tests_of}
 
 -- none of the first tests is true, so the rest of the row decides
 abbrev pub IsDecidedFrom : {Cause : Type 0} → List (Bool × Cause) → ℕ → Type 0

@@ -1,5 +1,7 @@
-//! The first cause that applies.
-ghost use Rattle.deed_history.specs.Refusals.{IsFirstOf, tests_of};
+//! The first cause that applies, of a row of causes with their tests.
+#![tactic(auto)]
+
+ghost use Rattle.first_cause.specs.Causes.{IsFirstOf, tests_of};
 
 /// Tells the first cause whose test is true, in the order of the row. It takes no memory.
 ///

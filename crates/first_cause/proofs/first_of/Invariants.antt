@@ -1,5 +1,5 @@
-use Rattle.deed_history.proofs.Rows.{IsDecidedFrom}
-use Rattle.deed_history.proofs.refusals.first_of.Given as goal
+use Rattle.first_cause.proofs.Rows.{IsDecidedFrom}
+use Rattle.first_cause.proofs.first_of.Given as goal
 
 -- no test so far is true
 abbrev pub invariant-loop-applies : goal.invariant-loop-applies

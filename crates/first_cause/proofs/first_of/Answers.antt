@@ -1,5 +1,5 @@
-use Rattle.deed_history.proofs.Rows.{decided_more, decided_here, decided_whole}
-use Rattle.deed_history.proofs.refusals.first_of.Goals as goal
+use Rattle.first_cause.proofs.Rows.{decided_more, decided_here, decided_whole}
+use Rattle.first_cause.proofs.first_of.Goals as goal
 
 pub loop-applies-init : goal.loop-applies-init
 loop-applies-init g c = λ answer first. first
