@@ -2,6 +2,8 @@
 use Rattle.std.proofs.Common.{◌≡◌, ℕ, ◌-◌, ◌^◌, ◌<◌, ◌≤◌, List, [], ◌∷◌, length, map, All, refl}
 use Rattle.std.proofs.Common.{arith}
 use Rattle.std.specs.Fmt.{decimal}
+use Rattle.std.specs.Prelude.{Bool, true, false, ◌==◌, if◌then◌else◌, codes}
+use Rattle.canonical_sexp.specs.Forms.{list_of, number_atom}
 use Rattle.std.proofs.lemmas.List.Elements.{All-head, All-tail}
 use Rattle.canonical_sexp.specs.declared.sexp.Sexp.{Sexp}
 use Rattle.canonical_sexp.specs.declared.sexp.Sexp.TheVariants.{Atom, List as Branch}
@@ -12,9 +14,13 @@ use Rattle.canonical_sexp.proofs.Decimal.{length-decimal-le_20}
 use Rattle.canonical_sexp.proofs.Rows.{AreWithin-one, count_of-one}
 use Rattle.entry_format.specs.declared.deed.Deed.{Deed}
 use Rattle.entry_format.specs.declared.deed.Deed.TheVariants.{Opened, Authorise, Override, Closed, Activate, Commit}
-use Rattle.entry_format.specs.declared.deed.Deed.TheVariants.{Cast, Cancel}
+use Rattle.entry_format.specs.declared.deed.Deed.TheVariants.{Cast, Cancel, Challenge}
+use Rattle.entry_format.specs.declared.deed.How.{How}
+use Rattle.entry_format.specs.declared.deed.How.TheVariants as how
 use Rattle.entry_format.specs.declared.entry.Entry.{Entry}
-use Rattle.entry_format.specs.EntryText.{IsDigest, IsDeed, IsEntry, deed_tree, body_tree, signed_tree}
+use Rattle.entry_format.specs.EntryText.{IsDigest, IsDeed, IsEntry, how_word, deed_tree}
+use Rattle.entry_format.specs.EntryText.{body_tree, signed_tree}
+use Rattle.entry_format.proofs.Taken.{version_small}
 
 -- the members of a list
 abbrev members_in : Sexp → Forest
@@ -40,18 +46,29 @@ octets_short : (digest : List ℕ) → IsDigest digest → length digest ≤ 262
 octets_short digest is = omega arith
 
 -- a deed and the names are within the limits
-deed_within : (deed : Deed) → IsDeed deed → IsWithin 6 (deed_tree deed)
-deed_within Opened h = (omega arith, omega arith, (omega arith, tt))
-deed_within (Authorise booth session) h =
+override_within : (is_first : Bool) (session : ℕ) (how : How) → session < 2 ^ 32 →
+    IsWithin 6 (list_of (Atom (codes "override") ∷ number_atom session
+    ∷ (if is_first then [] else Atom (how_word how) ∷ [])))
+override_within true session how h = (omega arith, omega arith, (omega arith, (short session h, tt)))
+override_within false session how.Cancel h =
+    (omega arith, omega arith, (omega arith, (short session h, (omega arith, tt))))
+override_within false session how.Cast h =
+    (omega arith, omega arith, (omega arith, (short session h, (omega arith, tt))))
+
+deed_within : (version : ℕ) (deed : Deed) → IsDeed deed → IsWithin 6 (deed_tree version deed)
+deed_within version Opened h = (omega arith, omega arith, (omega arith, tt))
+deed_within version (Authorise booth session) h =
     (omega arith, omega arith, (omega arith, (short booth h.0, (short session h.1, tt))))
-deed_within (Override session) h = (omega arith, omega arith, (omega arith, (short session h, tt)))
-deed_within Closed h = (omega arith, omega arith, (omega arith, tt))
-deed_within (Activate session) h = (omega arith, omega arith, (omega arith, (short session h, tt)))
-deed_within (Commit session ballot) h =
+deed_within version (Override session how) h = override_within (version == 1) session how h
+deed_within version Closed h = (omega arith, omega arith, (omega arith, tt))
+deed_within version (Activate session) h = (omega arith, omega arith, (omega arith, (short session h, tt)))
+deed_within version (Commit session ballot) h =
     (omega arith, omega arith, (omega arith, (short session h.0, (octets_short ballot h.1, tt))))
-deed_within (Cast session ballot) h =
+deed_within version (Cast session ballot) h =
     (omega arith, omega arith, (omega arith, (short session h.0, (octets_short ballot h.1, tt))))
-deed_within (Cancel session) h = (omega arith, omega arith, (omega arith, (short session h, tt)))
+deed_within version (Cancel session) h = (omega arith, omega arith, (omega arith, (short session h, tt)))
+deed_within version (Challenge session ballot) h =
+    (omega arith, omega arith, (omega arith, (short session h.0, (octets_short ballot h.1, tt))))
 
 names_within : (names : List (List ℕ)) → All IsDigest names → AreWithin 5 (forest_of (map Atom names))
 names_within [] all = tt
@@ -68,23 +85,26 @@ pub signed_fits : (entry : Entry) (signature : List ℕ) → IsEntry entry → l
     length signature ≤ 262144 → Fits (signed_tree entry signature)
 signed_fits entry signature h few small =
     let names : (0 < 6) × (count_of (forest_of (map Atom entry.names)) ≤ 16384)
-    × AreWithin 5 (forest_of (map Atom entry.names)) × AreWithin 6 (forest_of (deed_tree entry.deed ∷ [])) = (
+    × AreWithin 5 (forest_of (map Atom entry.names))
+    × AreWithin 6 (forest_of (deed_tree entry.version entry.deed ∷ [])) = (
       omega arith,
       omega (arith, names_counted entry.names),
       names_within entry.names h.names,
-      AreWithin-one 6 (deed_tree entry.deed) (deed_within entry.deed h.deed),
-    ) in (
+      AreWithin-one 6 (deed_tree entry.version entry.deed) (deed_within entry.version entry.deed h.deed),
+    ) in
+    let version : length (decimal entry.version) ≤ 262144 =
+    short entry.version (version_small entry.version h.version) in (
       omega arith,
       omega arith,
       (
         omega arith,
         (
           omega arith,
-          omega (arith, count_of-one (deed_tree entry.deed)),
+          omega (arith, count_of-one (deed_tree entry.version entry.deed)),
           (
             omega arith,
             (
-              omega arith,
+              version,
               (
                 octets_short entry.election h.election,
                 (short entry.maker h.maker, (short entry.number h.number, (short entry.stamp h.stamp, names))),

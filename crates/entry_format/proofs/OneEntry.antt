@@ -1,5 +1,5 @@
 -- A text has one entry.
-use Rattle.std.proofs.Common.{◌≡◌, ◌∙◌, ℕ, ◌^◌, get_or, if◌then◌else◌, ◌<◌, List, [], ◌∷◌, map, refl, ap, sym}
+use Rattle.std.proofs.Common.{◌≡◌, ◌∙◌, ℕ, ◌^◌, get_or, if◌then◌else◌, ◌<◌, ◌==◌, Bool, true, false, List, [], ◌∷◌, map, refl, ap, sym}
 use Rattle.std.proofs.Common.{arith, append-nil}
 use Rattle.std.specs.Prelude.{codes}
 use Rattle.std.specs.Fmt.{decimal}
@@ -14,10 +14,13 @@ use Rattle.canonical_sexp.proofs.Rows.{members_of-forest_of}
 use Rattle.std.specs.Str.{bytes_eq}
 use Rattle.entry_format.specs.declared.deed.Deed.{Deed}
 use Rattle.entry_format.specs.declared.deed.Deed.TheVariants.{Opened, Authorise, Override, Closed, Activate, Commit}
-use Rattle.entry_format.specs.declared.deed.Deed.TheVariants.{Cast, Cancel}
+use Rattle.entry_format.specs.declared.deed.Deed.TheVariants.{Cast, Cancel, Challenge}
+use Rattle.entry_format.specs.declared.deed.How.{How}
+use Rattle.entry_format.specs.declared.deed.How.TheVariants as how
 use Rattle.entry_format.specs.declared.entry.Entry.{Entry}
-use Rattle.entry_format.specs.EntryText.{IsDeed, IsEntry, deed_tree, body_tree, signed_tree, IsSignedText}
-use Rattle.entry_format.proofs.Taken.{atoms_of}
+use Rattle.entry_format.specs.EntryText.{IsDeed, IsDeedIn, IsEntry, how_word, deed_tree}
+use Rattle.entry_format.specs.EntryText.{body_tree, signed_tree, IsSignedText}
+use Rattle.entry_format.proofs.Taken.{atoms_of, version_small}
 
 -- one tree has one text, and a text one tree
 pub one_text : (text : List ℕ) (tree other : Sexp) → Fits tree → Fits other → text ≡ text_of tree →
@@ -58,6 +61,10 @@ abbrev argument : ℕ → Sexp → List ℕ
 argument n (Atom octets) = []
 argument n (Branch members) = octets_of (get_or (members_of members) n (Atom []))
 
+-- what a booth is to do, by the word for it, if there is one
+abbrev how_from : List ℕ → How
+how_from word = if bytes_eq word (codes "cast") then how.Cast else how.Cancel
+
 -- the deed whose tree it is
 abbrev deed_from : Sexp → Deed
 deed_from tree =
@@ -66,32 +73,52 @@ deed_from tree =
     let second : List ℕ = argument 2 tree in
     if bytes_eq word (codes "opened") then Opened
     else (if bytes_eq word (codes "authorise") then Authorise first (number_from 0 second)
-    else (if bytes_eq word (codes "override") then Override first
+    else (if bytes_eq word (codes "override") then Override first (how_from second)
     else (if bytes_eq word (codes "closed") then Closed
     else (if bytes_eq word (codes "activate") then Activate first
     else (if bytes_eq word (codes "commit") then Commit first second
     else (if bytes_eq word (codes "cast") then Cast first second
-    else Cancel first))))))
+    else (if bytes_eq word (codes "challenge") then Challenge first second
+    else Cancel first)))))))
 
 -- a number and a deed come back from their trees
 number_back : (n : ℕ) → n < 2 ^ 32 → number_from 0 (decimal n) ≡ n
 number_back n small = number_from-decimal n (omega arith)
 
-deed_back : (deed : Deed) → IsDeed deed → deed_from (deed_tree deed) ≡ deed
-deed_back Opened h = refl
-deed_back (Authorise booth session) h =
+-- an override comes back from its tree, in a version that says the booth's part and in one that doesn't
+override_back : (is_first : Bool) (session : ℕ) (part : How) → session < 2 ^ 32 →
+    (part ≡ how.Cast → is_first ≡ false) →
+    deed_from (list_of (Atom (codes "override") ∷ number_atom session
+    ∷ (if is_first then [] else Atom (how_word part) ∷ []))) ≡ Override session part
+override_back true session how.Cancel h later = ap (λ s. Override s how.Cancel) (number_back session h)
+override_back true session how.Cast h later = let not : true ≡ false = later refl in absurd cc
+override_back false session how.Cancel h later = ap (λ s. Override s how.Cancel) (number_back session h)
+override_back false session how.Cast h later = ap (λ s. Override s how.Cast) (number_back session h)
+
+-- a version that has an override that says cast isn't the first
+is_later : (version session : ℕ) (part : How) → IsDeedIn version (Override session part) → part ≡ how.Cast →
+    (version == 1) ≡ false
+is_later version session how.Cancel has is = absurd cc
+is_later version session how.Cast has is = ap (λ v. v == 1) has
+
+deed_back : (version : ℕ) (deed : Deed) → IsDeed deed → IsDeedIn version deed → deed_from (deed_tree version deed) ≡ deed
+deed_back version Opened h has = refl
+deed_back version (Authorise booth session) h has =
     ap (λ b. Authorise b (number_from 0 (decimal session))) (number_back booth h.0)
     ∙ ap (Authorise booth) (number_back session h.1)
-deed_back (Override session) h = ap Override (number_back session h)
-deed_back Closed h = refl
-deed_back (Activate session) h = ap Activate (number_back session h)
-deed_back (Commit session ballot) h = ap (λ s. Commit s ballot) (number_back session h.0)
-deed_back (Cast session ballot) h = ap (λ s. Cast s ballot) (number_back session h.0)
-deed_back (Cancel session) h = ap Cancel (number_back session h)
+deed_back version (Override session how) h has =
+    override_back (version == 1) session how h (is_later version session how has)
+deed_back version Closed h has = refl
+deed_back version (Activate session) h has = ap Activate (number_back session h)
+deed_back version (Commit session ballot) h has = ap (λ s. Commit s ballot) (number_back session h.0)
+deed_back version (Cast session ballot) h has = ap (λ s. Cast s ballot) (number_back session h.0)
+deed_back version (Cancel session) h has = ap Cancel (number_back session h)
+deed_back version (Challenge session ballot) h has = ap (λ s. Challenge s ballot) (number_back session h.0)
 
 -- a deed has one tree
-one_deed : (deed other : Deed) → IsDeed deed → IsDeed other → deed_tree deed ≡ deed_tree other → deed ≡ other
-one_deed deed other h k e = sym (deed_back deed h) ∙ ap deed_from e ∙ deed_back other k
+one_deed : (v w : ℕ) (deed other : Deed) → IsDeed deed → IsDeedIn v deed → IsDeed other → IsDeedIn w other →
+    deed_tree v deed ≡ deed_tree w other → deed ≡ other
+one_deed v w deed other h has k likewise e = sym (deed_back v deed h has) ∙ ap deed_from e ∙ deed_back w other k likewise
 
 -- lists with the same members
 pub same_members : (trees others : List Sexp) → list_of trees ≡ list_of others → trees ≡ others
@@ -100,26 +127,35 @@ same_members trees others e =
     sym (members_of-forest_of trees) ∙ ap members_of same ∙ members_of-forest_of others
 
 -- an entry of these fields
-abbrev entry_with : List ℕ → ℕ → ℕ → ℕ → List (List ℕ) → Deed → Entry
-entry_with election maker number stamp names deed =
-    record { election = election; maker = maker; number = number; stamp = stamp; names = names; deed = deed }
+abbrev entry_with : ℕ → List ℕ → ℕ → ℕ → ℕ → List (List ℕ) → Deed → Entry
+entry_with version election maker number stamp names deed = record {
+  version = version;
+  election = election;
+  maker = maker;
+  number = number;
+  stamp = stamp;
+  names = names;
+  deed = deed;
+}
 
 -- entries with the same fields are the same
-same_fields : (a b : Entry) → a.election ≡ b.election → a.maker ≡ b.maker → a.number ≡ b.number → a.stamp ≡ b.stamp →
-    a.names ≡ b.names → a.deed ≡ b.deed → a ≡ b
-same_fields a b e m n s names d =
-    ap (λ x. entry_with x a.maker a.number a.stamp a.names a.deed) e
-    ∙ ap (λ x. entry_with b.election x a.number a.stamp a.names a.deed) m
-    ∙ ap (λ x. entry_with b.election b.maker x a.stamp a.names a.deed) n
-    ∙ ap (λ x. entry_with b.election b.maker b.number x a.names a.deed) s
-    ∙ ap (λ x. entry_with b.election b.maker b.number b.stamp x a.deed) names
-    ∙ ap (entry_with b.election b.maker b.number b.stamp b.names) d
+same_fields : (a b : Entry) → a.version ≡ b.version → a.election ≡ b.election → a.maker ≡ b.maker →
+    a.number ≡ b.number → a.stamp ≡ b.stamp → a.names ≡ b.names → a.deed ≡ b.deed → a ≡ b
+same_fields a b v e m n s names d =
+    ap (λ x. entry_with x a.election a.maker a.number a.stamp a.names a.deed) v
+    ∙ ap (λ x. entry_with b.version x a.maker a.number a.stamp a.names a.deed) e
+    ∙ ap (λ x. entry_with b.version b.election x a.number a.stamp a.names a.deed) m
+    ∙ ap (λ x. entry_with b.version b.election b.maker x a.stamp a.names a.deed) n
+    ∙ ap (λ x. entry_with b.version b.election b.maker b.number x a.names a.deed) s
+    ∙ ap (λ x. entry_with b.version b.election b.maker b.number b.stamp x a.deed) names
+    ∙ ap (entry_with b.version b.election b.maker b.number b.stamp b.names) d
 
 -- the members of a body, and of a signed entry
 abbrev body_members : Entry → List Sexp
 body_members entry =
-    Atom (codes "entry") ∷ Atom (codes "1") ∷ Atom entry.election ∷ number_atom entry.maker ∷ number_atom entry.number
-    ∷ number_atom entry.stamp ∷ list_of (map Atom entry.names) ∷ deed_tree entry.deed ∷ []
+    Atom (codes "entry") ∷ number_atom entry.version ∷ Atom entry.election ∷ number_atom entry.maker
+    ∷ number_atom entry.number ∷ number_atom entry.stamp ∷ list_of (map Atom entry.names)
+    ∷ deed_tree entry.version entry.deed ∷ []
 
 -- equal lists have equal members
 member : (i : ℕ) {trees others : List Sexp} → trees ≡ others → get_or trees i (Atom []) ≡ get_or others i (Atom [])
@@ -129,16 +165,20 @@ member i e = ap (λ ts. get_or ts i (Atom [])) e
 one_body : (entry other : Entry) → IsEntry entry → IsEntry other → body_tree entry ≡ body_tree other → entry ≡ other
 one_body entry other h k e =
     let same : body_members entry ≡ body_members other = same_members (body_members entry) (body_members other) e in
+    let version : number_atom entry.version ≡ number_atom other.version = member 1 same in
     let election : Atom entry.election ≡ Atom other.election = member 2 same in
     let maker : number_atom entry.maker ≡ number_atom other.maker = member 3 same in
     let number : number_atom entry.number ≡ number_atom other.number = member 4 same in
     let stamp : number_atom entry.stamp ≡ number_atom other.stamp = member 5 same in
     let names : list_of (map Atom entry.names) ≡ list_of (map Atom other.names) = member 6 same in
-    let deed : deed_tree entry.deed ≡ deed_tree other.deed = member 7 same in
-    same_fields entry other (ap octets_of election) (one_number entry.maker other.maker h.maker k.maker maker)
+    let deed : deed_tree entry.version entry.deed ≡ deed_tree other.version other.deed = member 7 same in
+    same_fields entry other
+    (one_number entry.version other.version (version_small entry.version h.version)
+    (version_small other.version k.version) version)
+    (ap octets_of election) (one_number entry.maker other.maker h.maker k.maker maker)
     (one_number entry.number other.number h.number k.number number)
     (one_number entry.stamp other.stamp h.stamp k.stamp stamp) (one_names entry.names other.names names)
-    (one_deed entry.deed other.deed h.deed k.deed deed)
+    (one_deed entry.version other.version entry.deed other.deed h.deed h.of_version k.deed k.of_version deed)
 
 abbrev signed_members : Sexp → List ℕ → List Sexp
 signed_members body signature = Atom (codes "sealed") ∷ body ∷ Atom signature ∷ []

@@ -1,20 +1,25 @@
 -- Members of a row that are taken one after another.
-use Rattle.std.proofs.Common.{◌≡◌, ◌∙◌, refl, ap, sym, arith, List, [], ◌∷◌, ◌++◌, ℕ, map, All, Option, Some, None}
+use Rattle.std.proofs.Common.{◌≡◌, ◌∙◌, inl, inr, refl, ap, sym, subst, arith, List, [], ◌∷◌, ◌++◌, ℕ, map, All, Option, Some, None}
 use Rattle.std.specs.Fmt.{decimal}
-use Rattle.std.specs.Prelude.{length, ◌<◌, ◌^◌}
+use Rattle.std.specs.Prelude.{length, codes, ◌<◌, ◌^◌, ◌==◌, ◌≢◌, Bool, true, false, if◌then◌else◌}
 use Rattle.std.proofs.lemmas.List.Elements.{All-head, All-tail}
 use Rattle.canonical_sexp.specs.declared.sexp.Sexp.{Sexp}
 use Rattle.canonical_sexp.specs.declared.sexp.Sexp.TheVariants.{Atom, List as Branch}
 use Rattle.canonical_sexp.specs.Forest.{Forest, no_trees, atom_then, joined}
 use Rattle.canonical_sexp.specs.Sexp.{in_front, forest_of, members_of}
-use Rattle.canonical_sexp.specs.Forms.{Finds, list_of}
-use Rattle.canonical_sexp.proofs.Decimal.{length-decimal-le_20}
+use Rattle.canonical_sexp.specs.Forms.{Finds, list_of, number_atom}
+use Rattle.canonical_sexp.proofs.Decimal.{length-decimal-le_20, AreDigits, decimal_digits, decimal_same}
 use Rattle.canonical_sexp.proofs.Rows.{joined-none}
 use Rattle.std.specs.Option.{IsSome}
-use Rattle.entry_format.specs.EntryText.{IsDigest, IsEntry, deed_tree, body_tree}
+use Rattle.entry_format.specs.EntryText.{IsVersion, IsDigest, IsDeedIn, IsEntry, how_word, deed_tree, body_tree}
+use Rattle.entry_format.specs.declared.deed.How.{How}
+use Rattle.entry_format.specs.declared.deed.How.TheVariants as how
 use Rattle.entry_format.specs.declared.entry.Entry.{Entry}
 use Rattle.entry_format.specs.declared.reading.Head.{Head}
-use Rattle.entry_format.specs.inside.Parts.{IsHead, head_then}
+use Rattle.entry_format.specs.inside.Parts.{IsHead, IsVersionDeed, head_then}
+use Rattle.entry_format.specs.declared.deed.Deed.{Deed}
+use Rattle.entry_format.specs.declared.deed.Deed.TheVariants.{Opened, Authorise, Override, Closed, Activate, Commit}
+use Rattle.entry_format.specs.declared.deed.Deed.TheVariants.{Cast, Cancel, Challenge}
 
 -- the trees of a row of atoms
 pub atoms_of : (digests : List (List ℕ)) → members_of (forest_of (map Atom digests)) ≡ map Atom digests
@@ -45,6 +50,43 @@ atom_behind (c ∷ digests) (d ∷ all) tree rest are e =
 -- no digest is a number in decimal
 pub no_number : (number : ℕ) (digest : List ℕ) → number < 2 ^ 32 → IsDigest digest → decimal number ≡ digest → ⊥
 no_number number digest small is e = omega (arith, length-decimal-le_20 number (omega arith), ap length e)
+
+-- no word of what a booth is to do is a digest, or a number in decimal
+pub how_no_digest : (how : How) (digest : List ℕ) → IsDigest digest → digest ≡ how_word how → ⊥
+how_no_digest how.Cancel digest is e = omega (arith, ap length e)
+how_no_digest how.Cast digest is e = omega (arith, ap length e)
+
+pub how_no_number : (how : How) (number : ℕ) → number < 2 ^ 32 → decimal number ≡ how_word how → ⊥
+how_no_number how.Cancel number small e = let are = subst AreDigits e (decimal_digits number (omega arith)) in omega arith
+how_no_number how.Cast number small e = let are = subst AreDigits e (decimal_digits number (omega arith)) in omega arith
+
+-- an override's tree has no second number
+override_no_number : (is_first : Bool) (part : How) (word second : List ℕ) (first session number : ℕ) → number < 2 ^ 32 →
+    second ≡ decimal number →
+    list_of (Atom word ∷ number_atom first ∷ Atom second ∷ [])
+    ≡ list_of (Atom (codes "override") ∷ number_atom session
+    ∷ (if is_first then [] else Atom (how_word part) ∷ [])) → ⊥
+override_no_number true part word second first session number small is e = absurd cc
+override_no_number false part word second first session number small is e =
+    let same : second ≡ how_word part = cc in how_no_number part number small (sym is ∙ same)
+
+-- a deed whose tree has a word and two numbers is an Authorise
+pub numbers_authorise : (version : ℕ) (word second : List ℕ) (first number : ℕ) (deed : Deed) →
+    IsVersionDeed version deed → number < 2 ^ 32 → second ≡ decimal number →
+    list_of (Atom word ∷ number_atom first ∷ Atom second ∷ []) ≡ deed_tree version deed → word ≡ codes "authorise"
+numbers_authorise version word second first number Opened h small is e = absurd cc
+numbers_authorise version word second first number (Authorise booth session) h small is e = cc
+numbers_authorise version word second first number (Override session part) h small is e =
+    absurd (override_no_number (version == 1) part word second first session number small is e)
+numbers_authorise version word second first number Closed h small is e = absurd cc
+numbers_authorise version word second first number (Activate session) h small is e = absurd cc
+numbers_authorise version word second first number (Commit session ballot) h small is e =
+    let same : second ≡ ballot = cc in absurd (no_number number ballot small h.0.1 (sym is ∙ same))
+numbers_authorise version word second first number (Cast session ballot) h small is e =
+    let same : second ≡ ballot = cc in absurd (no_number number ballot small h.0.1 (sym is ∙ same))
+numbers_authorise version word second first number (Cancel session) h small is e = absurd cc
+numbers_authorise version word second first number (Challenge session ballot) h small is e =
+    let same : second ≡ ballot = cc in absurd (no_number number ballot small h.0.1 (sym is ∙ same))
 
 -- some digests of a list were taken; the member behind them, if it is a list of digests
 pub next_is_digest : (digests all : List (List ℕ)) (tree member : Sexp) (members left : Forest) →
@@ -85,17 +127,66 @@ digest_is (Some other) digest tree is same = let one : other ≡ digest = cc in 
 
 -- what stands in a body before its names, and behind
 abbrev pub head_in : Entry → Head
-head_in entry = record { election = entry.election; maker = entry.maker; number = entry.number; stamp = entry.stamp }
+head_in entry = record {
+  version = entry.version;
+  election = entry.election;
+  maker = entry.maker;
+  number = entry.number;
+  stamp = entry.stamp;
+}
 
 abbrev pub behind_head : Entry → Forest
-behind_head entry = forest_of (list_of (map Atom entry.names) ∷ deed_tree entry.deed ∷ [])
+behind_head entry = forest_of (list_of (map Atom entry.names) ∷ deed_tree entry.version entry.deed ∷ [])
 
 -- the numbers and the digest of an entry
 pub is_head : (entry : Entry) → IsEntry entry → IsHead (head_in entry)
-is_head entry h = record { election = h.election; maker = h.maker; number = h.number; stamp = h.stamp }
+is_head entry h =
+    record { version = h.version; election = h.election; maker = h.maker; number = h.number; stamp = h.stamp }
 
 -- the members of the body of an entry
 pub body_row : (entry : Entry) (tree : Sexp) (row : Forest) → tree ≡ Branch row → tree ≡ body_tree entry →
     row ≡ head_then (head_in entry) (behind_head entry)
 body_row entry tree row list is =
     let same : Branch row ≡ Branch (head_then (head_in entry) (behind_head entry)) = sym list ∙ is in cc
+
+-- a version is a number of 32 bits
+pub version_small : (version : ℕ) → IsVersion version → version < 2 ^ 32
+version_small version (inl first) = omega arith
+version_small version (inr second) = omega arith
+
+-- a number that is written as a version is that version
+pub number_is_version : (number version : ℕ) → number < 2 ^ 32 → IsVersion version → decimal number ≡ decimal version →
+    number ≡ version
+number_is_version number version small is e =
+    let other : version < 2 ^ 32 = version_small version is in decimal_same number version (omega arith) (omega arith) e
+
+-- equal rows have equal rests
+rest_of_two : (tree other : Sexp) (rest left : Forest) → in_front tree rest ≡ in_front other left → rest ≡ left
+rest_of_two (Atom a) (Atom b) rest left e = cc
+rest_of_two (Atom a) (Branch b) rest left e = absurd cc
+rest_of_two (Branch a) (Atom b) rest left e = absurd cc
+rest_of_two (Branch a) (Branch b) rest left e = cc
+
+-- what stands behind the head of a body, and the version that it says
+pub behind_same : (head : Head) (entry : Entry) (rest : Forest) → IsHead head → IsEntry entry →
+    head_then head rest ≡ head_then (head_in entry) (behind_head entry) →
+    (head.version ≡ entry.version) × (rest ≡ behind_head entry)
+behind_same head entry rest h lawful e =
+    let same : decimal head.version ≡ decimal entry.version = cc in
+    (number_is_version head.version entry.version (version_small head.version h.version) lawful.version same, cc)
+
+-- a tree whose last member is no deed of its version is no body
+pub no_last_deed : (tree names : Sexp) (row behind left : Forest) (head : Head) (entry : Entry) → tree ≡ Branch row →
+    IsHead head → row ≡ head_then head behind → behind ≡ in_front names left →
+    ((deed : Deed) → IsVersionDeed head.version deed → left ≢ in_front (deed_tree head.version deed) no_trees) →
+    IsEntry entry → tree ≡ body_tree entry → ⊥
+no_last_deed tree names row behind left head entry list is_head found after none lawful is =
+    let split : (head.version ≡ entry.version) × (behind ≡ behind_head entry) =
+    behind_same head entry behind is_head lawful (sym found ∙ body_row entry tree row list is) in
+    let last : in_front names left ≡ behind_head entry = sym after ∙ split.1 in
+    let P : ℕ → Type 0 = λ v. left ≢ in_front (deed_tree v entry.deed) no_trees in
+    let lacks : left ≢ in_front (deed_tree head.version entry.deed) no_trees =
+    none entry.deed (lawful.deed, subst (λ v. IsDeedIn v entry.deed) (sym split.0) lawful.of_version) in
+    let lacks_there : left ≢ in_front (deed_tree entry.version entry.deed) no_trees = subst P split.0 lacks in
+    lacks_there (rest_of_two names (list_of (map Atom entry.names)) left
+    (in_front (deed_tree entry.version entry.deed) no_trees) last)

@@ -1,15 +1,16 @@
 //! Reading the parts of an entry where its text stands. What is of the wrong shape is found without
 //! memory; of what is read only the names are copied to the heap.
-ghost use Rattle.std.specs.Prelude.{◌≡◌, ◌≢◌, ◌↔◌, List, ℕ, map, All, IfOk, IfSome, IfNone, IsTrue};
-ghost use Rattle.canonical_sexp.specs.Forest.{Forest};
-ghost use Rattle.canonical_sexp.specs.Forms.{Finds, list_of};
+ghost use Rattle.std.specs.Prelude.{◌≡◌, ◌≢◌, ◌↔◌, List, ℕ, map, codes, All};
+ghost use Rattle.std.specs.Prelude.{IfOk, IfSome, IfNone, IsTrue};
+ghost use Rattle.canonical_sexp.specs.Forest.{Forest, atom_then};
+ghost use Rattle.canonical_sexp.specs.Forms.{Finds, list_of, number_atom};
 ghost use Rattle.canonical_sexp.specs.Sexp.{in_front};
 ghost use Rattle.canonical_sexp.specs.declared.sexp.Sexp.{Sexp};
 ghost use Rattle.canonical_sexp.specs.declared.sexp.Sexp.TheVariants.{Atom};
 ghost use Rattle.entry_order.specs.Ascending.{IsAscending};
-ghost use Rattle.entry_format.specs.EntryText.{IsDigest, IsEntry, body_tree};
+ghost use Rattle.entry_format.specs.EntryText.{IsVersion, IsDigest, IsEntry, body_tree};
 ghost use Rattle.entry_format.specs.declared.entry.Entry.{Entry};
-ghost use Rattle.entry_format.specs.inside.Parts.{AreNames, IsHead, beginning_then, head_then, IsBody, IsSigned};
+ghost use Rattle.entry_format.specs.inside.Parts.{Takes, AreNames, IsHead, head_then, IsBody, IsSigned};
 ghost use Rattle.entry_format.specs.declared.reading.Head.{Head};
 ghost use Rattle.std.specs.Cmp.Lexicographic.{slice_cmp};
 ghost use Rattle.std.specs.Ordering.{nat_cmp};
@@ -66,7 +67,7 @@ fn names_of(alloc: Global, tree: &Text<'_>) -> Result<Names, Memory>
     while let Some(member) = members.take_next() {
         digests.push(digest_of(&member).unwrap())?;
     }
-    Ok(Names::new(digests))
+    Ok(Names::from_vec(digests))
 }
 
 /// Whether a digest is below another in the order of bytes.
@@ -91,22 +92,41 @@ pub(crate) fn is_rising(digests: &[[u8; 32]]) -> bool
 /// The fields of a body before its names.
 #[derive(Clone, Copy)]
 struct Head {
+    version: u32,
     election: [u8; 32],
     maker: u32,
     number: u32,
     stamp: u32,
 }
 
-/// Takes the members of a body up to its election.
-fn take_beginning(members: &mut Rest<'_>) -> Option<[u8; 32]>
-    ensures found { IfSome result (λ election. IsDigest election
-        × (members.old ≡ beginning_then election members.new)) }
-    ensures none { IfNone result ((election : List ℕ) (rest : Forest) → IsDigest election →
-        members.old ≢ beginning_then election rest) }
+/// Whether the number is a version's.
+fn is_version(number: u32) -> bool
+    ensures { IsTrue result ↔ IsVersion number }
+{
+    number == 1 || number == 2
+}
+
+/// Takes the next member, if it is a version.
+fn take_version(members: &mut Rest<'_>) -> Option<u32>
+    ensures { Takes IsVersion number_atom result members.old members.new }
+{
+    let version = take_number(members)?;
+    if is_version(version) {
+        Some(version)
+    } else {
+        None
+    }
+}
+
+/// Takes the members of a body up to its version.
+fn take_beginning(members: &mut Rest<'_>) -> Option<u32>
+    ensures found { IfSome result (λ version. IsVersion version
+        × (members.old ≡ atom_then (codes "entry") (in_front (number_atom version) members.new))) }
+    ensures none { IfNone result ((version : ℕ) (rest : Forest) → IsVersion version →
+        members.old ≢ atom_then (codes "entry") (in_front (number_atom version) rest)) }
 {
     take_word(members, b"entry")?;
-    take_word(members, b"1")?;
-    take_digest(members)
+    take_version(members)
 }
 
 /// Takes the members of a body before its names.
@@ -117,7 +137,8 @@ fn take_head(members: &mut Rest<'_>) -> Option<Head>
         members.old ≢ head_then head rest) }
 {
     Some(Head {
-        election: take_beginning(members)?,
+        version: take_beginning(members)?,
+        election: take_digest(members)?,
         maker: take_number(members)?,
         number: take_number(members)?,
         stamp: take_number(members)?,
@@ -143,7 +164,9 @@ fn fields_of<'a>(tree: &Text<'a>) -> Option<Fields<'a>>
         return None;
     };
     let names = take_names(&mut members)?;
-    let deed = last_deed(&mut members)?;
+    let Some(deed) = last_deed(head.version, &mut members) else {
+        return None;
+    };
     Some(Fields { head, names, deed })
 }
 
@@ -157,6 +180,7 @@ pub(crate) fn entry_of(alloc: Global, tree: &Text<'_>) -> Result<Option<Entry>, 
     };
     let names = names_of(alloc, &fields.names)?;
     Ok(Some(Entry {
+        version: fields.head.version,
         election: fields.head.election,
         maker: fields.head.maker,
         number: fields.head.number,

@@ -4,10 +4,12 @@ ghost use Rattle.canonical_sexp.specs.declared.sexp.Sexp.TheVariants.{Atom};
 ghost use Rattle.canonical_sexp.specs.Forest.{no_trees, joined};
 ghost use Rattle.canonical_sexp.specs.Forms.{list_of, number_atom};
 ghost use Rattle.canonical_sexp.specs.Sexp.{in_front, forest_of};
-ghost use Rattle.entry_format.specs.EntryText.{IsDigest, IsDeed, IsEntry, deed_tree, body_tree};
+ghost use Rattle.entry_format.specs.EntryText.{IsVersion, IsDigest, IsDeed, IsDeedIn, IsEntry};
+ghost use Rattle.entry_format.specs.EntryText.{deed_tree, body_tree};
+ghost use Rattle.entry_format.specs.declared.deed.Deed.TheVariants.{Override};
 ghost use Rattle.entry_format.specs.inside.Parts.{IsSigned};
 
-use crate::deed::Deed;
+use crate::deed::{Deed, How};
 use crate::entry::Entry;
 use canonical_sexp::{Members, Memory, Sexp, atom, number_atom};
 use std::alloc::Global;
@@ -58,33 +60,45 @@ fn of_numbers(alloc: Global, word: &[u8], first: u32, second: u32) -> Result<Sex
     Ok(Sexp::List(members))
 }
 
-/// A list of a word, a session and a ballot.
-fn of_ballot(alloc: Global, word: &[u8], session: u32, ballot: &[u8]) -> Result<Sexp, Memory>
+/// A list of a word, a number and further octets.
+fn of_octets(alloc: Global, word: &[u8], number: u32, octets: &[u8]) -> Result<Sexp, Memory>
     ensures { IfOk result (λ tree. tree ≡ list_of
-        (Atom word.now ∷ number_atom session ∷ Atom ballot.now ∷ [])) }
+        (Atom word.now ∷ number_atom number ∷ Atom octets.now ∷ [])) }
 {
     let mut members = Members::new(alloc);
     push_atom(alloc, &mut members, word)?;
-    push_number(alloc, &mut members, session)?;
-    push_atom(alloc, &mut members, ballot)?;
+    push_number(alloc, &mut members, number)?;
+    push_atom(alloc, &mut members, octets)?;
     Ok(Sexp::List(members))
 }
 
-/// The tree of a deed.
-fn tree_of_deed(alloc: Global, deed: Deed) -> Result<Sexp, Memory>
-    ensures tree { IfOk result (λ tree. tree ≡ deed_tree deed) }
+/// The tree of an override, which says in version 2 what the booth is to do.
+fn tree_of_override(alloc: Global, version: u32, session: u32, how: How) -> Result<Sexp, Memory>
+    ensures { IfOk result (λ tree. tree ≡ deed_tree version (Override session how)) }
+{
+    let word = Deed::Override { session, how }.word();
+    if version == 1 {
+        return of_number(alloc, word, session);
+    }
+    of_octets(alloc, word, session, how.word())
+}
+
+/// The tree of a deed in the version.
+fn tree_of_deed(alloc: Global, version: u32, deed: Deed) -> Result<Sexp, Memory>
+    ensures tree { IfOk result (λ tree. tree ≡ deed_tree version deed) }
     ensures lawful { IfOk result (λ _. IsDeed deed) }
 {
     let word = deed.word();
     match deed {
         Deed::Opened => of_word(alloc, word),
         Deed::Authorise { booth, session } => of_numbers(alloc, word, booth, session),
-        Deed::Override { session } => of_number(alloc, word, session),
+        Deed::Override { session, how } => tree_of_override(alloc, version, session, how),
         Deed::Closed => of_word(alloc, word),
         Deed::Activate { session } => of_number(alloc, word, session),
-        Deed::Commit { session, ballot } => of_ballot(alloc, word, session, &ballot),
-        Deed::Cast { session, ballot } => of_ballot(alloc, word, session, &ballot),
+        Deed::Commit { session, ballot } => of_octets(alloc, word, session, &ballot),
+        Deed::Cast { session, ballot } => of_octets(alloc, word, session, &ballot),
         Deed::Cancel { session } => of_number(alloc, word, session),
+        Deed::Challenge { session, ballot } => of_octets(alloc, word, session, &ballot),
     }
 }
 
@@ -110,23 +124,23 @@ fn push_names(alloc: Global, members: &mut Members, names: &[[u8; 32]]) -> Resul
 }
 
 /// Adds the tree of a deed at the end.
-fn push_deed(alloc: Global, members: &mut Members, deed: Deed) -> Result<(), Memory>
+fn push_deed(alloc: Global, members: &mut Members, version: u32, deed: Deed) -> Result<(), Memory>
     ensures tree { OnOk result
-        (members.new ≡ joined members.old (in_front (deed_tree deed) no_trees)) }
+        (members.new ≡ joined members.old (in_front (deed_tree version deed) no_trees)) }
     ensures lawful { OnOk result (IsDeed deed) }
 {
-    members.push(tree_of_deed(alloc, deed)?)
+    members.push(tree_of_deed(alloc, version, deed)?)
 }
 
 /// The members of a body up to its election.
-fn begun_with(alloc: Global, election: &[u8; 32]) -> Result<Members, Memory>
+fn begun_with(alloc: Global, version: u32, election: &[u8; 32]) -> Result<Members, Memory>
     ensures row { IfOk result (λ members. members ≡ forest_of (Atom (codes "entry")
-        ∷ Atom (codes "1") ∷ Atom election.now ∷ [])) }
+        ∷ number_atom version ∷ Atom election.now ∷ [])) }
     ensures lawful { IfOk result (λ _. IsDigest election.now) }
 {
     let mut members = Members::new(alloc);
     push_atom(alloc, &mut members, b"entry")?;
-    push_atom(alloc, &mut members, b"1")?;
+    push_number(alloc, &mut members, version)?;
     push_atom(alloc, &mut members, election)?;
     Ok(members)
 }
@@ -134,12 +148,12 @@ fn begun_with(alloc: Global, election: &[u8; 32]) -> Result<Members, Memory>
 /// The members of a body before its names.
 fn head_of(alloc: Global, entry: &Entry) -> Result<Members, Memory>
     ensures row { IfOk result (λ members. members ≡ forest_of (Atom (codes "entry")
-        ∷ Atom (codes "1") ∷ Atom entry.now.election ∷ number_atom entry.now.maker
+        ∷ number_atom entry.now.version ∷ Atom entry.now.election ∷ number_atom entry.now.maker
         ∷ number_atom entry.now.number ∷ number_atom entry.now.stamp ∷ [])) }
     ensures lawful { IfOk result (λ _. IsDigest entry.now.election × (entry.now.maker < 2 ^ 32)
         × (entry.now.number < 2 ^ 32) × (entry.now.stamp < 2 ^ 32)) }
 {
-    let mut members = begun_with(alloc, &entry.election)?;
+    let mut members = begun_with(alloc, entry.version, &entry.election)?;
     push_number(alloc, &mut members, entry.maker)?;
     push_number(alloc, &mut members, entry.number)?;
     push_number(alloc, &mut members, entry.stamp)?;
@@ -148,12 +162,14 @@ fn head_of(alloc: Global, entry: &Entry) -> Result<Members, Memory>
 
 /// The tree of an entry's body.
 pub(crate) fn tree_of(alloc: Global, entry: &Entry) -> Result<Sexp, Memory>
+    requires version { IsVersion entry.now.version }
+    requires deed { IsDeedIn entry.now.version entry.now.deed }
     ensures tree { IfOk result (λ tree. tree ≡ body_tree entry.now) }
     ensures lawful { IfOk result (λ _. IsEntry entry.now) }
 {
     let mut members = head_of(alloc, entry)?;
     push_names(alloc, &mut members, entry.names.as_slice())?;
-    push_deed(alloc, &mut members, entry.deed)?;
+    push_deed(alloc, &mut members, entry.version, entry.deed)?;
     Ok(Sexp::List(members))
 }
 

@@ -15,7 +15,8 @@ use Rattle.entry_order.specs.Ascending.{IsAscending}
 use Rattle.entry_format.specs.declared.reading.Head.{Head}
 use Rattle.entry_format.specs.declared.reading.Fields.{Fields}
 use Rattle.entry_format.specs.declared.form.Form.{Form}
-use Rattle.entry_format.specs.EntryText.{IsDigest, IsDeed, deed_tree, body_tree, IsSignedText}
+use Rattle.entry_format.specs.declared.deed.Deed.{Deed}
+use Rattle.entry_format.specs.EntryText.{IsVersion, IsDigest, IsDeed, IsDeedIn, deed_tree, body_tree, IsSignedText}
 
 -- The first tree of the row is taken, as the value of which it is the tree. `None` only where it is that of no value.
 abbrev pub Takes : {A : Type 0} → (A → Type 0) → (A → Sexp) → Option A → Forest → Forest → Type 0
@@ -26,28 +27,32 @@ Takes P tree (Some value) old new = P value × (old ≡ in_front (tree value) ne
 abbrev pub AreNames : Sexp → Type 0
 AreNames tree = (digests : List (List ℕ)) × (All IsDigest digests × (tree ≡ list_of (map Atom digests)))
 
--- the numbers are of 32 bits, and the election is a digest
+-- a deed that the version has, with numbers of 32 bits
+abbrev pub IsVersionDeed : ℕ → Deed → Type 0
+IsVersionDeed version deed = IsDeed deed × IsDeedIn version deed
+
+-- the version is 1 or 2, the numbers are of 32 bits, and the election is a digest
 pub record IsHead (head : Head) : Type 0 where
+  pub version : IsVersion head.version
   pub election : IsDigest head.election
   pub maker : head.maker < 2 ^ 32
   pub number : head.number < 2 ^ 32
   pub stamp : head.stamp < 2 ^ 32
 
--- the members of a body up to its election, and up to its names, in front of others
-abbrev pub beginning_then : List ℕ → Forest → Forest
-beginning_then election rest = atom_then (codes "entry") (atom_then (codes "1") (atom_then election rest))
-
+-- the members of a body up to its names, in front of others
 abbrev pub head_then : Head → Forest → Forest
 head_then head rest =
-    beginning_then head.election (in_front (number_atom head.maker)
-    (in_front (number_atom head.number) (in_front (number_atom head.stamp) rest)))
+    atom_then (codes "entry") (in_front (number_atom head.version) (atom_then head.election
+    (in_front (number_atom head.maker) (in_front (number_atom head.number) (in_front (number_atom head.stamp) rest)))))
 
 -- the tree is the body with these fields
 pub record IsBody (tree : Sexp) (fields : Fields) : Type 0 where
   pub head : IsHead fields.head
   pub names : AreNames fields.names
-  pub deed : IsDeed fields.deed
-  pub spelt : tree ≡ Branch (head_then fields.head (in_front fields.names (in_front (deed_tree fields.deed) no_trees)))
+  pub deed : IsVersionDeed fields.head.version fields.deed
+  pub spelt :
+      tree ≡ Branch (head_then fields.head (in_front fields.names
+      (in_front (deed_tree fields.head.version fields.deed) no_trees)))
 
 -- a signed entry with this body and signature
 abbrev pub signed_list : Sexp → List ℕ → Sexp

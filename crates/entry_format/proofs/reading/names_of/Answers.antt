@@ -29,5 +29,5 @@ returns c =
     let done : c.args.tree.now ≡ list_of (map Atom c.loop-member.digests.items) =
     all_taken c.loop-member.digests.items c.args.tree.now c.loop-member.members c.loop-member.invariant.members
     c.in_default.ensures.none.0 in
-    let same : c.new.result ≡ c.loop-member.digests.items = c.new.ensures in
+    let same : c.from_vec.result ≡ c.loop-member.digests.items = c.from_vec.ensures in
     (search rules, done ∙ ap (λ ds. list_of (map Atom ds)) (sym same))

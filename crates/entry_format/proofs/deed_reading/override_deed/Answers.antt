@@ -1,0 +1,5 @@
+use Rattle.std.proofs.Common.{rules}
+use Rattle.entry_format.proofs.deed_reading.override_deed.Goals as goal
+
+pub returns : goal.returns
+returns c = search (rules)
