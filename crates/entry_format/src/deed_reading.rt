@@ -87,7 +87,7 @@ fn override_deed(version: u32, word: &[u8], session: u32, further: &[u8]) -> Opt
         (Atom word.now ∷ number_atom session ∷ Atom further.now ∷ []) ≡ deed_tree version deed)) result }
 {
     let how = how_of(further)?;
-    if version == 1 {
+    if version != 2 {
         return None;
     }
     named(word, Deed::Override { session, how })

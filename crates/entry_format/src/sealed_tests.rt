@@ -1,4 +1,7 @@
 //! Sealed entries: the first fault of a text, and entries that another program seals likewise.
+ghost use Rattle.std.specs.Prelude.{IsTrue};
+ghost use Rattle.entry_format.specs.EntryText.{IsVersion, IsDeedIn};
+
 use super::*;
 use crate::reading::is_rising;
 use crate::tests::text_in;
@@ -38,8 +41,19 @@ fn signed_text(alloc: Global, body: &[u8], signature: &[u8]) -> Result<Vec<u8>, 
     Ok(text)
 }
 
-/// Seals an entry with the key's next number, unless the roster's text or the names can't stand or
-/// the maker has another key.
+/// Whether the version has the deed.
+fn has(version: u32, deed: Deed) -> bool
+    ensures { IsTrue result → IsVersion version × IsDeedIn version deed }
+{
+    match deed {
+        Deed::Challenge { .. } => version == 2,
+        Deed::Override { how, .. } if how == How::Cast => version == 2,
+        _ => version == 1 || version == 2,
+    }
+}
+
+/// Seals an entry with the key's next number, unless the roster's text or the names can't stand, the
+/// maker has another key or the version hasn't the deed.
 fn sealed_by(
     alloc: Global,
     text: &[u8],
@@ -47,6 +61,7 @@ fn sealed_by(
     maker: u32,
     stamp: u32,
     names: Vec<[u8; 32]>,
+    version: u32,
     deed: Deed,
 ) -> Option<Result<Sealed, SealFault>> {
     let Ok(roster) = Roster::read(alloc, text) else {
@@ -64,11 +79,11 @@ fn sealed_by(
     if !is_rising(names.as_slice()) {
         return None;
     }
-    if names.len() > 16384 {
+    if names.len() > 16384 || !has(version, deed) {
         return None;
     }
     let entry = Entry {
-        version: 1,
+        version,
         election: election(text),
         maker,
         number: secret.next(),
@@ -170,6 +185,64 @@ fn sealed_as(
     }
 }
 
+const BALLOT: [u8; 32] = [b'v'; 32];
+
+/// Seals the maker's deed: an opening has the first stamp and no name, another two names.
+fn sealed_row(
+    alloc: Global,
+    text: &[u8],
+    secret: &LmsSecret,
+    maker: u32,
+    version: u32,
+    deed: Deed,
+) -> Result<Option<Result<Sealed, SealFault>>, Fail> {
+    let mut names = Vec::new(alloc);
+    let mut stamp = 1;
+    if !matches!(deed, Deed::Opened) {
+        names.extend_from_slice(&[[b'a'; 32], [b'b'; 32]])?;
+        stamp = 9;
+    }
+    Ok(sealed_by(alloc, text, secret, maker, stamp, names, version, deed))
+}
+
+/// Versions and deeds, with the length and the digest of the sealed text.
+const SEALED: &[(u32, Deed, &str)] = &[
+    (
+        1,
+        Deed::Opened,
+        "2431 1cbdb043d04e3cffd395f54d57d919e1965a8b6b7e796360f6cdb1c56e4a7ddb",
+    ),
+    (
+        1,
+        Deed::Commit {
+            session: 3,
+            ballot: BALLOT,
+        },
+        "2539 731585973cf6de0352076ded2778464aa9f643bf9d4b9b8d5924deceb3f1e425",
+    ),
+    (
+        2,
+        Deed::Opened,
+        "2431 6ca5212f2703dca1038e51ee81fef40d9173c5551a7e6d144799f944f4b69e17",
+    ),
+    (
+        2,
+        Deed::Override {
+            session: 3,
+            how: How::Cast,
+        },
+        "2512 a3e9768497b62084d4a64088a2c5125394f5dc17c0c0745fe7c8c5421d656f80",
+    ),
+    (
+        2,
+        Deed::Challenge {
+            session: 3,
+            ballot: BALLOT,
+        },
+        "2542 f25006e3a1aaf3740f0e85250481977214b66b6cdfbdc90a1e679b99e132077d",
+    ),
+];
+
 #[test]
 fn sealed_entries_are_those_of_another_program(rt: HostRuntime) -> Result<(), Fail> {
     let alloc = rt.alloc();
@@ -177,16 +250,15 @@ fn sealed_entries_are_those_of_another_program(rt: HostRuntime) -> Result<(), Fa
     let mut booth = LmsSecret::make(alloc, OtsKind::W4, 5, BOOTH_ID, SEED)?;
     booth.advance();
     let text = roster_text(alloc, supervisor.public().bytes(), booth.public().bytes())?;
-    let none = Vec::new(alloc);
-    let opened = sealed_by(alloc, &text, &supervisor, 0, 1, none, Deed::Opened);
-    let names = Vec::from_slice(alloc, &[[b'a'; 32], [b'b'; 32]])?;
-    let ballot = [b'v'; 32];
-    let commit = Deed::Commit { session: 3, ballot };
-    let committed = sealed_by(alloc, &text, &booth, 1, 9, names, commit);
-    let digest = "2431 1cbdb043d04e3cffd395f54d57d919e1965a8b6b7e796360f6cdb1c56e4a7ddb";
-    assert_eq!(rt; sealed_as(alloc, &text, opened)?.as_str(), digest);
-    let digest = "2539 731585973cf6de0352076ded2778464aa9f643bf9d4b9b8d5924deceb3f1e425";
-    assert_eq!(rt; sealed_as(alloc, &text, committed)?.as_str(), digest);
+    for (version, deed, want) in SEALED {
+        let sealed = match deed {
+            Deed::Commit { .. } | Deed::Challenge { .. } => {
+                sealed_row(alloc, &text, &booth, 1, *version, *deed)?
+            }
+            _ => sealed_row(alloc, &text, &supervisor, 0, *version, *deed)?,
+        };
+        assert_eq!(rt; sealed_as(alloc, &text, sealed)?.as_str(), *want);
+    }
     Ok(())
 }
 
@@ -197,7 +269,16 @@ fn a_spent_key_seals_nothing(rt: HostRuntime) -> Result<(), Fail> {
     let text = roster_text(alloc, secret.public().bytes(), &[b'k'; 56])?;
     let messages = vec![in alloc; b"vote".as_slice(); 32]?;
     let _signatures = sign_each(alloc, &mut secret, &messages)?;
-    match sealed_by(alloc, &text, &secret, 0, 1, Vec::new(alloc), Deed::Opened) {
+    match sealed_by(
+        alloc,
+        &text,
+        &secret,
+        0,
+        1,
+        Vec::new(alloc),
+        1,
+        Deed::Opened,
+    ) {
         Some(sealed) => assert_eq!(rt; sealed.err(), Some(SealFault::Spent)),
         None => assert!(rt; false, "the roster is read"),
     }
