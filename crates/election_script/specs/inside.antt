@@ -1,0 +1,5 @@
+pub mod Words
+pub mod Draft
+pub mod Lines
+pub mod Sheets
+pub mod Clears
