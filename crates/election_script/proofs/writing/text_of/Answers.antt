@@ -1,0 +1,42 @@
+-- The kinds one behind the other.
+use Rattle.std.proofs.Common.{◌≡◌, ◌∙◌, ap, sym, refl, ℕ, List, [], ◌∷◌, ◌++◌, append_assoc, not, ◌==◌}
+use Rattle.std.specs.List.{flat_map}
+use Rattle.std.proofs.lemmas.List.{append-nil}
+use Rattle.std.proofs.lemmas.List.Concat.{flat_map-append}
+use Rattle.election_script.specs.declared.kinds.Kind.{Kind}
+use Rattle.election_script.specs.Grammar.{lines_of_kind}
+use Rattle.election_script.specs.Kinds.{kinds}
+use Rattle.election_script.specs.Written.{ended, text_of_lines, deeds_from}
+use Rattle.election_script.proofs.writing.text_of.Goals as goal
+
+by_kind : (f : Kind → List (List (List ℕ))) (ks : List Kind) →
+    text_of_lines (flat_map f ks) ≡ flat_map (λ k. text_of_lines (f k)) ks
+by_kind f [] = refl
+by_kind f (k ∷ ks) =
+    flat_map-append ended (f k) (flat_map f ks) ∙ ap (λ (rest : List ℕ). text_of_lines (f k) ++ rest) (by_kind f ks)
+
+joined : (v s k l n m d o t p : List ℕ) → ((((((((v ++ s) ++ k) ++ l) ++ n) ++ m) ++ d) ++ o) ++ t) ++ p
+    ≡ v ++ ((s ++ []) ++ ((k ++ []) ++ ((l ++ []) ++ ((n ++ []) ++ (m ++ (d ++ (o ++ (t ++ (p ++ [])))))))))
+joined v s k l n m d o t p = simp (append_assoc, append-nil)
+
+pub returns : goal.returns
+returns c =
+    let script = c.args.script.now in
+    let f : Kind → List (List (List ℕ)) = lines_of_kind (not (script.version == 1)) script (deeds_from 0 script.machines) in
+    rw (
+      c.in_ok-push_steps.ensures,
+      c.in_ok-push_stops.ensures,
+      c.in_ok-push_loses.ensures,
+      c.in_ok-push_deeds.ensures,
+      c.in_ok-push_machines.ensures,
+      c.in_ok-push_number-2.ensures,
+      c.in_ok-push_number.ensures,
+      c.in_ok-push_key.ensures,
+      c.in_ok-push_seed.ensures,
+      c.in_ok-push_version.ensures,
+      c.new-text.ensures.items,
+      c.as_slice-machines.ensures,
+      c.as_slice.ensures,
+      c.as_slice-2.ensures,
+      c.as_slice-3.ensures
+    ) (joined _ _ _ _ _ _ _ _ _ _ ∙ sym (by_kind f kinds))
