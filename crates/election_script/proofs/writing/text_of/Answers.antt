@@ -4,7 +4,8 @@ use Rattle.std.specs.List.{flat_map}
 use Rattle.std.proofs.lemmas.List.{append-nil}
 use Rattle.std.proofs.lemmas.List.Concat.{flat_map-append}
 use Rattle.election_script.specs.declared.kinds.Kind.{Kind}
-use Rattle.election_script.specs.Grammar.{lines_of_kind}
+use Rattle.election_script.specs.declared.kinds.Kind.TheVariants as kind
+use Rattle.election_script.specs.Grammar.{lines_of_kind, seed_line, key_line, log_line, link_line}
 use Rattle.election_script.specs.Kinds.{kinds}
 use Rattle.election_script.specs.Written.{ended, text_of_lines, deeds_from}
 use Rattle.election_script.proofs.writing.text_of.Goals as goal
@@ -23,6 +24,7 @@ pub returns : goal.returns
 returns c =
     let script = c.args.script.now in
     let f : Kind → List (List (List ℕ)) = lines_of_kind (not (script.version == 1)) script (deeds_from 0 script.machines) in
+    let t : Kind → List ℕ = λ k. text_of_lines (f k) in
     rw (
       c.in_ok-push_steps.ensures,
       c.in_ok-push_stops.ensures,
@@ -38,5 +40,7 @@ returns c =
       c.as_slice-machines.ensures,
       c.as_slice.ensures,
       c.as_slice-2.ensures,
-      c.as_slice-3.ensures
-    ) (joined _ _ _ _ _ _ _ _ _ _ ∙ sym (by_kind f kinds))
+      c.as_slice-3.ensures,
+    ) (joined (t kind.Version) (ended (seed_line script)) (ended (key_line script)) (ended (log_line script))
+    (ended (link_line script)) (t kind.Machine) (t kind.Do) (t kind.Lose) (t kind.Stop) (t kind.Step)
+    ∙ sym (by_kind f kinds))
