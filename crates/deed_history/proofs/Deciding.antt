@@ -1,19 +1,21 @@
 -- Tests that decide what entries say, and so which cause is the first.
 use Rattle.std.proofs.Common.{◌≡◌, ℕ, Bool, true, false, ◌&&◌, ◌==◌, List, [], ◌∷◌, refl, inl, inr, ap}
-use Rattle.std.specs.Prelude.{Any, Result, Ok, Err, IsTrue}
+use Rattle.std.specs.Prelude.{Any, Result, Ok, Err}
 use Rattle.std.specs.Bool.{Decides}
 use Rattle.std.specs.List.{list_any}
 use Rattle.std.specs.Str.{bytes_eq}
-use Rattle.std.proofs.lemmas.Bool.Decides.{Decides-eqb, Decides-and, Decides-like}
+use Rattle.std.proofs.lemmas.Bool.Decides.{Decides-eqb, Decides-and}
 use Rattle.std.proofs.lemmas.List.Folds.{Any-from_list_any, list_any-from_Any}
 use Rattle.std.proofs.lemmas.Slice.Eq.{bytes_eq-Decides}
 use Rattle.entry_format.specs.declared.deed.Deed.{Deed}
 use Rattle.entry_format.specs.declared.deed.Deed.TheVariants.{Opened, Authorise, Override, Closed, Activate, Commit}
-use Rattle.entry_format.specs.declared.deed.Deed.TheVariants.{Cast, Cancel}
+use Rattle.entry_format.specs.declared.deed.Deed.TheVariants.{Cast, Cancel, Challenge}
+use Rattle.entry_format.specs.declared.deed.How.{How}
+use Rattle.entry_format.specs.declared.deed.How.TheVariants as word
 use Rattle.entry_format.specs.declared.entry.Entry.{Entry}
-use Rattle.deed_history.specs.Deeds.{Authorises, Commits, Ends}
+use Rattle.deed_history.specs.Deeds.{Authorises, Overrides, Commits, Ends}
 use Rattle.deed_history.specs.Held.{Holds, HoldsOwn, HasEnded}
-use Rattle.deed_history.specs.Refusals.{IsFirstOf, tests_of}
+use Rattle.first_cause.specs.Causes.{IsFirstOf, tests_of}
 
 pub any_decides : {X : Type 0} (p : X → Bool) (P : X → Type 0) → ((x : X) → Decides (p x) (P x)) → (xs : List X)
     → Decides (list_any p xs) (Any P xs)
@@ -86,14 +88,38 @@ authorises_booth_decides booth session (Authorise b s) =
 authorises_booth_decides booth session _ = (λ yes. cc, λ is. cc)
 
 abbrev pub overrides : ℕ → Deed → Bool
-overrides session (Override s) = s == session
+overrides session (Override s how) = s == session
 overrides session _ = false
 
-pub overrides_decides : (session : ℕ) (deed : Deed) → Decides (overrides session deed) (deed ≡ Override session)
-overrides_decides session (Override s) =
+pub overrides_decides : (session : ℕ) (deed : Deed) → Decides (overrides session deed) (Overrides session deed)
+overrides_decides session (Override s how) =
     let same = Decides-eqb s session in
-    (λ yes. ap Override (same.0 yes), λ is. same.1 (cc))
-overrides_decides session _ = (λ yes. cc, λ is. cc)
+    (λ yes. (how, ap (λ n. Override n how) (same.0 yes)), λ is. same.1 (cc (is.1)))
+overrides_decides session _ = (λ yes. cc, λ is. cc (is.1))
+
+-- two words
+abbrev pub is_word : How → How → Bool
+is_word word.Cancel word.Cancel = true
+is_word word.Cancel word.Cast = false
+is_word word.Cast word.Cancel = false
+is_word word.Cast word.Cast = true
+
+pub word_decides : (one other : How) → Decides (is_word one other) (one ≡ other)
+word_decides word.Cancel word.Cancel = (λ yes. refl, λ is. refl)
+word_decides word.Cancel word.Cast = (λ yes. cc, λ is. cc)
+word_decides word.Cast word.Cancel = (λ yes. cc, λ is. cc)
+word_decides word.Cast word.Cast = (λ yes. refl, λ is. refl)
+
+abbrev pub overrides_by : ℕ → How → Deed → Bool
+overrides_by session how (Override s h) = (s == session) && is_word h how
+overrides_by session how _ = false
+
+pub overrides_by_decides : (session : ℕ) (how : How) (deed : Deed)
+    → Decides (overrides_by session how deed) (deed ≡ Override session how)
+overrides_by_decides session how (Override s h) =
+    let same = Decides-and (s == session) (is_word h how) (Decides-eqb s session) (word_decides h how) in
+    (λ yes. let both = same.0 yes in cc (both.0, both.1), λ is. same.1 (cc, cc))
+overrides_by_decides session how _ = (λ yes. cc, λ is. cc)
 
 abbrev pub activates : ℕ → Deed → Bool
 activates session (Activate s) = s == session
@@ -129,20 +155,41 @@ commits_to_decides session ballot _ = (λ yes. cc, λ is. cc)
 abbrev pub ends : ℕ → Deed → Bool
 ends session (Cast s ballot) = s == session
 ends session (Cancel s) = s == session
+ends session (Challenge s ballot) = s == session
 ends session _ = false
 
 pub ends_decides : (session : ℕ) (deed : Deed) → Decides (ends session deed) (Ends session deed)
 ends_decides session (Cast s ballot) =
     let same = Decides-eqb s session in (
       λ yes. inl (ballot, ap (λ n. Cast n ballot) (same.0 yes)),
-      λ is. same.1 (elim is [ inl cast ↦ cc (cast.1) | inr cancel ↦ cc ]),
+      λ is. same.1 (elim is [
+        | inl cast ↦ cc (cast.1)
+        | inr others ↦ elim others [ inl cancel ↦ cc | inr challenge ↦ cc (challenge.1) ]
+      ]),
     )
 ends_decides session (Cancel s) =
     let same = Decides-eqb s session in (
-      λ yes. inr (ap Cancel (same.0 yes)),
-      λ is. same.1 (elim is [ inl cast ↦ cc (cast.1) | inr cancel ↦ cc ]),
+      λ yes. inr (inl (ap Cancel (same.0 yes))),
+      λ is. same.1 (elim is [
+        | inl cast ↦ cc (cast.1)
+        | inr others ↦ elim others [ inl cancel ↦ cc | inr challenge ↦ cc (challenge.1) ]
+      ]),
     )
-ends_decides session _ = (λ yes. cc, λ is. elim is [ inl cast ↦ cc (cast.1) | inr cancel ↦ cc ])
+ends_decides session (Challenge s ballot) =
+    let same = Decides-eqb s session in (
+      λ yes. inr (inr (ballot, ap (λ n. Challenge n ballot) (same.0 yes))),
+      λ is. same.1 (elim is [
+        | inl cast ↦ cc (cast.1)
+        | inr others ↦ elim others [ inl cancel ↦ cc | inr challenge ↦ cc (challenge.1) ]
+      ]),
+    )
+ends_decides session _ = (
+  λ yes. cc,
+  λ is. elim is [
+    | inl cast ↦ cc (cast.1)
+    | inr others ↦ elim others [ inl cancel ↦ cc | inr challenge ↦ cc (challenge.1) ]
+  ],
+)
 
 abbrev pub has_ended : List Entry → ℕ → Bool
 has_ended entries session = list_any (λ entry. ends session entry.deed) entries

@@ -12,6 +12,6 @@ Holds entries IsSuch = Any (λ entry. IsSuch entry.deed) entries
 abbrev pub HoldsOwn : ℕ → List Entry → (Deed → Type 0) → Type 0
 HoldsOwn owner entries IsSuch = Any (λ entry. (entry.maker ≡ owner) × IsSuch entry.deed) entries
 
--- a session has ended where a Cast or a Cancel of it is held
+-- a session has ended where a Cast, a Cancel or a Challenge of it is held
 abbrev pub HasEnded : List Entry → ℕ → Type 0
 HasEnded entries session = Holds entries (Ends session)

@@ -1,0 +1,82 @@
+-- Two tables that answer alike where every deed is of version 1.
+use Rattle.std.proofs.Common.{◌≡◌, ◌∙◌, ℕ, List, [], ◌∷◌, inl, inr, ap, refl, sym, subst, arith}
+use Rattle.std.specs.Prelude.{All, Any, Result, Err, ◌↔◌}
+use Rattle.entry_format.specs.declared.deed.Deed.{Deed}
+use Rattle.entry_format.specs.declared.deed.Deed.TheVariants.{Override, Challenge}
+use Rattle.entry_format.specs.declared.deed.How.TheVariants as word
+use Rattle.entry_format.specs.EntryText.{IsDeedIn}
+use Rattle.first_cause.specs.Causes.{IsFirstOf}
+use Rattle.deed_history.specs.Deeds.{Ends}
+use Rattle.deed_history.specs.VersionOne.{EndsInVersion1}
+
+-- where all elements have R, and P and Q are alike for those
+pub any_alike : {X : Type 0} (R P Q : X → Type 0) (xs : List X) → All R xs → ((x : X) → R x → P x ↔ Q x) →
+    Any P xs ↔ Any Q xs
+any_alike R P Q xs all alike = (
+  λ any. (any.0, any.1, any.2, any.3, (alike any.1 (subst R any.3 (all any.0 any.1 any.2))).0 any.4),
+  λ any. (any.0, any.1, any.2, any.3, (alike any.1 (subst R any.3 (all any.0 any.1 any.2))).1 any.4),
+)
+
+not_2 : (n : ℕ) → n ≡ 1 → n ≡ 2 → ⊥
+not_2 n one two = omega arith
+
+-- version 1 has no challenge, and no override that says cast
+pub no_challenge : (deed : Deed) (session : ℕ) (ballot : List ℕ) → IsDeedIn 1 deed → deed ≡ Challenge session ballot → ⊥
+no_challenge deed session ballot in_version is = not_2 1 refl (subst (IsDeedIn 1) is in_version)
+
+pub no_cast_override : (deed : Deed) (session : ℕ) → IsDeedIn 1 deed → deed ≡ Override session word.Cast → ⊥
+no_cast_override deed session in_version is = not_2 1 refl (subst (IsDeedIn 1) is in_version)
+
+pub ends_alike : (deed : Deed) (session : ℕ) → IsDeedIn 1 deed → Ends session deed ↔ EndsInVersion1 session deed
+ends_alike deed session in_version = (
+  λ ends. elim ends [
+    | inl cast ↦ inl cast
+    | inr others ↦ elim others [
+      | inl cancel ↦ inr cancel
+      | inr challenge ↦ absurd (no_challenge deed session challenge.0 in_version challenge.1)
+    ]
+  ],
+  λ ends. elim ends [ inl cast ↦ inl cast | inr cancel ↦ inr (inl cancel) ],
+)
+
+-- the causes of a row apply where those of another do, and those that it has beyond them don't apply
+abbrev pub IsAlike : {Cause : Type 0} → List (Type 0 × Cause) → List (Type 0 × Cause) → Type 0
+IsAlike [] [] = Unit {0}
+IsAlike [] (other ∷ others) = ⊥
+IsAlike (cause ∷ row) [] = (cause.0 → ⊥) × IsAlike row []
+IsAlike (cause ∷ row) (other ∷ others) = (cause.0 ↔ other.0) × (cause.1 ≡ other.1) × IsAlike row others
+
+first_to : {Cause : Type 0} (row others : List (Type 0 × Cause)) (answer : Result (Unit {0}) Cause) →
+    IsAlike row others → IsFirstOf row answer → IsFirstOf others answer
+first_to [] [] answer alike first = first
+first_to [] (other ∷ others) answer alike first = absurd alike
+first_to (cause ∷ row) [] answer alike (inl here) = absurd (alike.0 here.0)
+first_to (cause ∷ row) [] answer alike (inr later) = first_to row [] answer alike.1 later.1
+first_to (cause ∷ row) (other ∷ others) answer alike (inl here) = inl (alike.0.0 here.0, here.1 ∙ ap Err alike.1)
+first_to (cause ∷ row) (other ∷ others) answer alike (inr later) =
+    inr (λ applies. later.0 (alike.0.1 applies), first_to row others answer alike.2 later.1)
+
+first_from : {Cause : Type 0} (row others : List (Type 0 × Cause)) (answer : Result (Unit {0}) Cause) →
+    IsAlike row others → IsFirstOf others answer → IsFirstOf row answer
+first_from [] [] answer alike first = first
+first_from [] (other ∷ others) answer alike first = absurd alike
+first_from (cause ∷ row) [] answer alike first = inr (alike.0, first_from row [] answer alike.1 first)
+first_from (cause ∷ row) (other ∷ others) answer alike (inl here) =
+    inl (alike.0.1 here.0, here.1 ∙ ap Err (sym alike.1))
+first_from (cause ∷ row) (other ∷ others) answer alike (inr later) =
+    inr (λ applies. later.0 (alike.0.0 applies), first_from row others answer alike.2 later.1)
+
+pub first_alike : {Cause : Type 0} (row others : List (Type 0 × Cause)) (answer : Result (Unit {0}) Cause) →
+    IsAlike row others → IsFirstOf row answer ↔ IsFirstOf others answer
+first_alike row others answer alike = (first_to row others answer alike, first_from row others answer alike)
+
+-- a row doesn't have the cause
+abbrev pub IsNoneOf : {Cause : Type 0} → List (Type 0 × Cause) → Cause → Type 0
+IsNoneOf [] cause = Unit {0}
+IsNoneOf (other ∷ others) cause = (cause ≡ other.1 → ⊥) × IsNoneOf others cause
+
+pub never_told : {Cause : Type 0} (row : List (Type 0 × Cause)) (cause : Cause) → IsNoneOf row cause →
+    IsFirstOf row (Err cause) → ⊥
+never_told [] cause none first = cc
+never_told (other ∷ others) cause none (inl here) = none.0 (cc (here.1))
+never_told (other ∷ others) cause none (inr later) = never_told others cause none.1 later.1
