@@ -5,19 +5,22 @@ use Rattle.std.specs.Bool.{Decides}
 use Rattle.std.specs.List.{list_any}
 use Rattle.std.proofs.lemmas.Bool.Decides.{Decides-not}
 use Rattle.entry_format.specs.declared.deed.Deed.{Deed}
-use Rattle.entry_format.specs.declared.deed.Deed.TheVariants.{Opened, Authorise, Override, Closed, Activate, Commit}
-use Rattle.entry_format.specs.declared.deed.Deed.TheVariants.{Cast, Cancel}
+use Rattle.entry_format.specs.declared.deed.Deed.TheVariants.{Authorise, Override, Closed, Activate, Commit}
+use Rattle.entry_format.specs.declared.deed.Deed.TheVariants.{Cast, Cancel, Challenge}
+use Rattle.entry_format.specs.declared.deed.How.{How}
+use Rattle.entry_format.specs.declared.deed.How.TheVariants as word
 use Rattle.entry_format.specs.declared.entry.Entry.{Entry}
-use Rattle.deed_history.specs.Deeds.{Commits, Ends}
+use Rattle.deed_history.specs.Deeds.{Overrides, Commits, Ends}
 use Rattle.deed_history.proofs.Deciding.{holds_decides, holds_own, own_decides, is_closed, closed_decides}
 use Rattle.deed_history.proofs.Deciding.{authorises_booth, authorises_booth_decides, overrides, overrides_decides}
 use Rattle.deed_history.proofs.Deciding.{activates, activates_decides, commits, commits_decides, commits_to}
 use Rattle.deed_history.proofs.Deciding.{commits_to_decides, ends, ends_decides, first_test}
-use Rattle.deed_history.proofs.Rows.{AreTestsOf, first_by_tests}
+use Rattle.deed_history.proofs.Deciding.{overrides_by, overrides_by_decides}
+use Rattle.first_cause.proofs.Rows.{AreTestsOf, first_by_tests}
 use Rattle.booth_core.specs.declared.state.BoothNot.{BoothNot}
 use Rattle.booth_core.specs.declared.state.BoothNot.TheVariants as cause
-use Rattle.booth_core.specs.Causes.{IsAuthorised, IsOverridden, IsClosed, HasActivated, HasCommitted, HasCommittedTo}
-use Rattle.booth_core.specs.Causes.{HasEndedOwn}
+use Rattle.booth_core.specs.Causes.{IsAuthorised, IsOverridden, IsOverriddenTo, IsClosed, HasActivated}
+use Rattle.booth_core.specs.Causes.{HasCommitted, HasCommittedTo, HasEndedOwn}
 use Rattle.booth_core.specs.Table.{causes_of, Refuses}
 
 -- the tests of the sentences
@@ -36,7 +39,16 @@ is_overridden entries session = list_any (λ entry. overrides session entry.deed
 overridden_is : (entries : List Entry) (session : ℕ)
     → Decides (is_overridden entries session) (IsOverridden entries session)
 overridden_is entries session =
-    holds_decides (overrides session) (λ deed. deed ≡ Override session) (overrides_decides session) entries
+    holds_decides (overrides session) (Overrides session) (overrides_decides session) entries
+
+abbrev is_overridden_to : How → List Entry → ℕ → Bool
+is_overridden_to how entries session = list_any (λ entry. overrides_by session how entry.deed) entries
+
+overridden_to_is : (how : How) (entries : List Entry) (session : ℕ)
+    → Decides (is_overridden_to how entries session) (IsOverriddenTo how entries session)
+overridden_to_is how entries session =
+    holds_decides (overrides_by session how) (λ deed. deed ≡ Override session how) (overrides_by_decides session how)
+    entries
 
 abbrev has_closed : List Entry → Bool
 has_closed entries = list_any (λ entry. is_closed entry.deed) entries
@@ -83,6 +95,13 @@ tests owner entries whole (Commit session ballot) =
 tests owner entries whole (Cast session ballot) =
     (not (holds_own owner (commits_to session ballot) entries), cause.NotCommitted)
     ∷ (holds_own owner (ends session) entries, cause.Ended)
+    ∷ (is_overridden_to word.Cancel entries session, cause.Overridden)
+    ∷ (has_closed entries, cause.Closed)
+    ∷ (not whole, cause.LogNotWhole)
+    ∷ []
+tests owner entries whole (Challenge session ballot) =
+    (not (holds_own owner (commits_to session ballot) entries), cause.NotCommitted)
+    ∷ (holds_own owner (ends session) entries, cause.Ended)
     ∷ (is_overridden entries session, cause.Overridden)
     ∷ (has_closed entries, cause.Closed)
     ∷ (not whole, cause.LogNotWhole)
@@ -90,6 +109,7 @@ tests owner entries whole (Cast session ballot) =
 tests owner entries whole (Cancel session) =
     (not (is_authorised owner entries session), cause.NotAuthorised)
     ∷ (holds_own owner (ends session) entries, cause.Ended)
+    ∷ (is_overridden_to word.Cast entries session, cause.CastForced)
     ∷ []
 tests owner entries whole _ = []
 
@@ -129,6 +149,20 @@ are_tests owner entries IsWhole whole (Cast session ballot) is = (
     ended_is owner entries session,
     refl,
     (
+      overridden_to_is word.Cancel entries session,
+      refl,
+      (closed_is entries, refl, (Decides-not whole is, refl, tt)),
+    ),
+  ),
+)
+are_tests owner entries IsWhole whole (Challenge session ballot) is = (
+  Decides-not (holds_own owner (commits_to session ballot) entries)
+      (committed_to_is owner entries session ballot),
+  refl,
+  (
+    ended_is owner entries session,
+    refl,
+    (
       overridden_is entries session,
       refl,
       (closed_is entries, refl, (Decides-not whole is, refl, tt)),
@@ -138,7 +172,7 @@ are_tests owner entries IsWhole whole (Cast session ballot) is = (
 are_tests owner entries IsWhole whole (Cancel session) is = (
   Decides-not (is_authorised owner entries session) (authorised_is owner entries session),
   refl,
-  (ended_is owner entries session, refl, tt),
+  (ended_is owner entries session, refl, (overridden_to_is word.Cast entries session, refl, tt)),
 )
 are_tests owner entries IsWhole whole _ is = tt
 

@@ -4,7 +4,9 @@ use Rattle.std.specs.Prelude.{◌↔◌}
 use Rattle.std.proofs.lemmas.List.Quantifiers.{Any-push}
 use Rattle.entry_format.specs.declared.deed.Deed.{Deed}
 use Rattle.entry_format.specs.declared.deed.Deed.TheVariants.{Opened, Authorise, Override, Closed, Activate, Commit}
-use Rattle.entry_format.specs.declared.deed.Deed.TheVariants.{Cast, Cancel}
+use Rattle.entry_format.specs.declared.deed.Deed.TheVariants.{Cast, Cancel, Challenge}
+use Rattle.entry_format.specs.declared.deed.How.{How}
+use Rattle.entry_format.specs.declared.deed.How.TheVariants as word
 use Rattle.entry_format.specs.declared.entry.Entry.{Entry}
 use Rattle.deed_history.specs.Deeds.{Ends}
 use Rattle.deed_history.proofs.Ending.{no_end}
@@ -17,7 +19,7 @@ use Rattle.booth_core.specs.State.{StandsFor}
 pub record IsOther (owner : ℕ) (entry : Entry) : Type 0 where
   pub closed : entry.deed ≡ Closed → ⊥
   pub authorised : (session : ℕ) → entry.deed ≡ Authorise owner session → ⊥
-  pub overridden : (session : ℕ) → entry.deed ≡ Override session → ⊥
+  pub overridden : (session : ℕ) (how : How) → entry.deed ≡ Override session how → ⊥
   pub activated : (session : ℕ) → IsOwnSuch owner (λ deed. deed ≡ Activate session) entry → ⊥
   pub committed : (session : ℕ) (ballot : List ℕ) →
       IsOwnSuch owner (λ deed. deed ≡ Commit session ballot) entry → ⊥
@@ -32,8 +34,10 @@ noted_other notes spare owner entries entry stands other = record {
   closed = stays (IsSuchEntry (λ deed. deed ≡ Closed)) entries entry stands.closed other.closed;
   authorised = λ s. stays (IsSuchEntry (λ deed. deed ≡ Authorise owner s)) entries entry (stands.authorised s)
       (other.authorised s);
-  overridden = λ s. stays (IsSuchEntry (λ deed. deed ≡ Override s)) entries entry (stands.overridden s)
-      (other.overridden s);
+  to_cancel = λ s. stays (IsSuchEntry (λ deed. deed ≡ Override s word.Cancel)) entries entry (stands.to_cancel s)
+      (other.overridden s word.Cancel);
+  to_cast = λ s. stays (IsSuchEntry (λ deed. deed ≡ Override s word.Cast)) entries entry (stands.to_cast s)
+      (other.overridden s word.Cast);
   activated = λ s. stays (IsOwnSuch owner (λ deed. deed ≡ Activate s)) entries entry (stands.activated s)
       (other.activated s);
   committed = λ s x. stays (IsOwnSuch owner (λ deed. deed ≡ Commit s x)) entries entry (stands.committed s x)
@@ -52,35 +56,62 @@ noted_authorised notes spare owner entries entry session stands is = record {
       (λ such. cc);
   authorised = λ s. is_added (IsSuchEntry (λ deed. deed ≡ Authorise owner s)) entries entry notes.authorised session s
       (stands.authorised s) (λ same. cc, λ such. cc);
-  overridden = λ s. stays (IsSuchEntry (λ deed. deed ≡ Override s)) entries entry (stands.overridden s)
+  to_cancel = λ s. stays (IsSuchEntry (λ deed. deed ≡ Override s word.Cancel)) entries entry (stands.to_cancel s)
+      (λ such. cc);
+  to_cast = λ s. stays (IsSuchEntry (λ deed. deed ≡ Override s word.Cast)) entries entry (stands.to_cast s)
       (λ such. cc);
   activated = λ s. stays (IsOwnSuch owner (λ deed. deed ≡ Activate s)) entries entry (stands.activated s)
       (λ such. cc);
   committed = λ s x. stays (IsOwnSuch owner (λ deed. deed ≡ Commit s x)) entries entry (stands.committed s x)
       (λ such. cc);
   ended = λ s. stays (IsOwnSuch owner (Ends s)) entries entry (stands.ended s)
-      (λ such. no_end entry.deed s (λ ballot e. cc) (λ e. cc) such.1);
+      (λ such. no_end entry.deed s (λ ballot e. cc) (λ e. cc) (λ ballot e. cc) such.1);
 }
 
--- a session is overridden
-pub noted_overridden : (notes : Notes) (spare owner : ℕ) (entries : List Entry) (entry : Entry) (session : ℕ) →
-    StandsFor notes owner entries → entry.deed ≡ Override session →
-    StandsFor (record notes { overridden = notes.overridden ++ session ∷ []; spare = spare }) owner
+-- a session is overridden by cancelling
+pub noted_to_cancel : (notes : Notes) (spare owner : ℕ) (entries : List Entry) (entry : Entry) (session : ℕ) →
+    StandsFor notes owner entries → entry.deed ≡ Override session word.Cancel →
+    StandsFor (record notes { to_cancel = notes.to_cancel ++ session ∷ []; spare = spare }) owner
     (entries ++ entry ∷ [])
-noted_overridden notes spare owner entries entry session stands is = record {
+noted_to_cancel notes spare owner entries entry session stands is = record {
   same_owner = stands.same_owner;
   closed = stays (IsSuchEntry (λ deed. deed ≡ Closed)) entries entry stands.closed
       (λ such. cc);
   authorised = λ s. stays (IsSuchEntry (λ deed. deed ≡ Authorise owner s)) entries entry (stands.authorised s)
       (λ such. cc);
-  overridden = λ s. is_added (IsSuchEntry (λ deed. deed ≡ Override s)) entries entry notes.overridden session s
-      (stands.overridden s) (λ same. cc, λ such. cc);
+  to_cancel = λ s. is_added (IsSuchEntry (λ deed. deed ≡ Override s word.Cancel)) entries entry notes.to_cancel session s
+      (stands.to_cancel s) (λ same. cc, λ such. cc (such));
+  to_cast = λ s. stays (IsSuchEntry (λ deed. deed ≡ Override s word.Cast)) entries entry (stands.to_cast s)
+      (λ such. cc);
   activated = λ s. stays (IsOwnSuch owner (λ deed. deed ≡ Activate s)) entries entry (stands.activated s)
       (λ such. cc);
   committed = λ s x. stays (IsOwnSuch owner (λ deed. deed ≡ Commit s x)) entries entry (stands.committed s x)
       (λ such. cc);
   ended = λ s. stays (IsOwnSuch owner (Ends s)) entries entry (stands.ended s)
-      (λ such. no_end entry.deed s (λ ballot e. cc) (λ e. cc) such.1);
+      (λ such. no_end entry.deed s (λ ballot e. cc) (λ e. cc) (λ ballot e. cc) such.1);
+}
+
+-- a session is overridden by casting
+pub noted_to_cast : (notes : Notes) (spare owner : ℕ) (entries : List Entry) (entry : Entry) (session : ℕ) →
+    StandsFor notes owner entries → entry.deed ≡ Override session word.Cast →
+    StandsFor (record notes { to_cast = notes.to_cast ++ session ∷ []; spare = spare }) owner
+    (entries ++ entry ∷ [])
+noted_to_cast notes spare owner entries entry session stands is = record {
+  same_owner = stands.same_owner;
+  closed = stays (IsSuchEntry (λ deed. deed ≡ Closed)) entries entry stands.closed
+      (λ such. cc);
+  authorised = λ s. stays (IsSuchEntry (λ deed. deed ≡ Authorise owner s)) entries entry (stands.authorised s)
+      (λ such. cc);
+  to_cancel = λ s. stays (IsSuchEntry (λ deed. deed ≡ Override s word.Cancel)) entries entry (stands.to_cancel s)
+      (λ such. cc);
+  to_cast = λ s. is_added (IsSuchEntry (λ deed. deed ≡ Override s word.Cast)) entries entry notes.to_cast session s
+      (stands.to_cast s) (λ same. cc, λ such. cc (such));
+  activated = λ s. stays (IsOwnSuch owner (λ deed. deed ≡ Activate s)) entries entry (stands.activated s)
+      (λ such. cc);
+  committed = λ s x. stays (IsOwnSuch owner (λ deed. deed ≡ Commit s x)) entries entry (stands.committed s x)
+      (λ such. cc);
+  ended = λ s. stays (IsOwnSuch owner (Ends s)) entries entry (stands.ended s)
+      (λ such. no_end entry.deed s (λ ballot e. cc) (λ e. cc) (λ ballot e. cc) such.1);
 }
 
 -- the polling place is closed
@@ -92,14 +123,16 @@ noted_closed notes spare owner entries entry stands is = record {
   closed = (λ always. Any-push (IsSuchEntry (λ deed. deed ≡ Closed)) entries entry is, λ any. refl);
   authorised = λ s. stays (IsSuchEntry (λ deed. deed ≡ Authorise owner s)) entries entry (stands.authorised s)
       (λ such. cc);
-  overridden = λ s. stays (IsSuchEntry (λ deed. deed ≡ Override s)) entries entry (stands.overridden s)
+  to_cancel = λ s. stays (IsSuchEntry (λ deed. deed ≡ Override s word.Cancel)) entries entry (stands.to_cancel s)
+      (λ such. cc);
+  to_cast = λ s. stays (IsSuchEntry (λ deed. deed ≡ Override s word.Cast)) entries entry (stands.to_cast s)
       (λ such. cc);
   activated = λ s. stays (IsOwnSuch owner (λ deed. deed ≡ Activate s)) entries entry (stands.activated s)
       (λ such. cc);
   committed = λ s x. stays (IsOwnSuch owner (λ deed. deed ≡ Commit s x)) entries entry (stands.committed s x)
       (λ such. cc);
   ended = λ s. stays (IsOwnSuch owner (Ends s)) entries entry (stands.ended s)
-      (λ such. no_end entry.deed s (λ ballot e. cc) (λ e. cc) such.1);
+      (λ such. no_end entry.deed s (λ ballot e. cc) (λ e. cc) (λ ballot e. cc) such.1);
 }
 
 -- this booth activates a session
@@ -113,14 +146,16 @@ noted_activated notes spare owner entries entry session stands is own = record {
       (λ such. cc);
   authorised = λ s. stays (IsSuchEntry (λ deed. deed ≡ Authorise owner s)) entries entry (stands.authorised s)
       (λ such. cc);
-  overridden = λ s. stays (IsSuchEntry (λ deed. deed ≡ Override s)) entries entry (stands.overridden s)
+  to_cancel = λ s. stays (IsSuchEntry (λ deed. deed ≡ Override s word.Cancel)) entries entry (stands.to_cancel s)
+      (λ such. cc);
+  to_cast = λ s. stays (IsSuchEntry (λ deed. deed ≡ Override s word.Cast)) entries entry (stands.to_cast s)
       (λ such. cc);
   activated = λ s. is_added (IsOwnSuch owner (λ deed. deed ≡ Activate s)) entries entry notes.activated session s
       (stands.activated s) (λ same. (own, cc), λ such. cc);
   committed = λ s x. stays (IsOwnSuch owner (λ deed. deed ≡ Commit s x)) entries entry (stands.committed s x)
       (λ such. cc);
   ended = λ s. stays (IsOwnSuch owner (Ends s)) entries entry (stands.ended s)
-      (λ such. no_end entry.deed s (λ ballot e. cc) (λ e. cc) such.1);
+      (λ such. no_end entry.deed s (λ ballot e. cc) (λ e. cc) (λ ballot e. cc) such.1);
 }
 
 abbrev to : ℕ → List ℕ → Commitment
@@ -151,14 +186,16 @@ noted_committed notes spare owner entries entry session ballot stands is own = r
       (λ such. cc);
   authorised = λ s. stays (IsSuchEntry (λ deed. deed ≡ Authorise owner s)) entries entry (stands.authorised s)
       (λ such. cc);
-  overridden = λ s. stays (IsSuchEntry (λ deed. deed ≡ Override s)) entries entry (stands.overridden s)
+  to_cancel = λ s. stays (IsSuchEntry (λ deed. deed ≡ Override s word.Cancel)) entries entry (stands.to_cancel s)
+      (λ such. cc);
+  to_cast = λ s. stays (IsSuchEntry (λ deed. deed ≡ Override s word.Cast)) entries entry (stands.to_cast s)
       (λ such. cc);
   activated = λ s. stays (IsOwnSuch owner (λ deed. deed ≡ Activate s)) entries entry (stands.activated s)
       (λ such. cc);
   committed = λ s x. is_added (IsOwnSuch owner (λ deed. deed ≡ Commit s x)) entries entry
       notes.committed (to session ballot) (to s x) (stands.committed s x) (commits entry session s ballot x is own);
   ended = λ s. stays (IsOwnSuch owner (Ends s)) entries entry (stands.ended s)
-      (λ such. no_end entry.deed s (λ ballot e. cc) (λ e. cc) such.1);
+      (λ such. no_end entry.deed s (λ ballot e. cc) (λ e. cc) (λ ballot e. cc) such.1);
 }
 
 -- this booth ends a session
@@ -170,15 +207,20 @@ noted_ended notes spare owner entries entry session stands ends own =
     record {
       same_owner = stands.same_owner;
       closed = stays (IsSuchEntry (λ deed. deed ≡ Closed)) entries entry stands.closed
-          (λ such. no_end Closed session (λ ballot e. cc) (λ e. cc) (only Closed such));
+          (λ such. no_end Closed session (λ ballot e. cc) (λ e. cc) (λ ballot e. cc) (only Closed such));
       authorised = λ s. stays (IsSuchEntry (λ deed. deed ≡ Authorise owner s)) entries entry (stands.authorised s)
-          (λ such. no_end (Authorise owner s) session (λ ballot e. cc) (λ e. cc) (only (Authorise owner s) such));
-      overridden = λ s. stays (IsSuchEntry (λ deed. deed ≡ Override s)) entries entry (stands.overridden s)
-          (λ such. no_end (Override s) session (λ ballot e. cc) (λ e. cc) (only (Override s) such));
+          (λ such. no_end (Authorise owner s) session (λ ballot e. cc) (λ e. cc) (λ ballot e. cc)
+          (only (Authorise owner s) such));
+      to_cancel = λ s. stays (IsSuchEntry (λ deed. deed ≡ Override s word.Cancel)) entries entry (stands.to_cancel s)
+          (λ such. no_end (Override s word.Cancel) session (λ ballot e. cc) (λ e. cc) (λ ballot e. cc)
+          (only (Override s word.Cancel) such));
+      to_cast = λ s. stays (IsSuchEntry (λ deed. deed ≡ Override s word.Cast)) entries entry (stands.to_cast s)
+          (λ such. no_end (Override s word.Cast) session (λ ballot e. cc) (λ e. cc) (λ ballot e. cc)
+          (only (Override s word.Cast) such));
       activated = λ s. stays (IsOwnSuch owner (λ deed. deed ≡ Activate s)) entries entry (stands.activated s)
-          (λ such. no_end (Activate s) session (λ ballot e. cc) (λ e. cc) (only (Activate s) such.1));
+          (λ such. no_end (Activate s) session (λ ballot e. cc) (λ e. cc) (λ ballot e. cc) (only (Activate s) such.1));
       committed = λ s x. stays (IsOwnSuch owner (λ deed. deed ≡ Commit s x)) entries entry (stands.committed s x)
-          (λ such. no_end (Commit s x) session (λ ballot e. cc) (λ e. cc) (only (Commit s x) such.1));
+          (λ such. no_end (Commit s x) session (λ ballot e. cc) (λ e. cc) (λ ballot e. cc) (only (Commit s x) such.1));
       ended = λ s. is_added (IsOwnSuch owner (Ends s)) entries entry notes.ended session s (stands.ended s)
           (λ same. (own, (ends s).0 same), λ such. (ends s).1 such.1);
     }
@@ -187,19 +229,20 @@ noted_ended notes spare owner entries entry session stands ends own =
 abbrev pub CountsIfOwn : Deed → Type 0
 CountsIfOwn Opened = Unit {0}
 CountsIfOwn (Authorise booth session) = ⊥
-CountsIfOwn (Override session) = ⊥
+CountsIfOwn (Override session how) = ⊥
 CountsIfOwn Closed = ⊥
 CountsIfOwn (Activate session) = Unit {0}
 CountsIfOwn (Commit session ballot) = Unit {0}
 CountsIfOwn (Cast session ballot) = Unit {0}
 CountsIfOwn (Cancel session) = Unit {0}
+CountsIfOwn (Challenge session ballot) = Unit {0}
 
 pub other_of_another : (owner : ℕ) (entry : Entry) (deed : Deed) → entry.deed ≡ deed → CountsIfOwn deed →
     (entry.maker ≡ owner → ⊥) → IsOther owner entry
 other_of_another owner entry deed is counts other = record {
   closed = λ e. subst CountsIfOwn (sym is ∙ e) counts;
   authorised = λ session e. subst CountsIfOwn (sym is ∙ e) counts;
-  overridden = λ session e. subst CountsIfOwn (sym is ∙ e) counts;
+  overridden = λ session how e. subst CountsIfOwn (sym is ∙ e) counts;
   activated = λ session such. other such.0;
   committed = λ session ballot such. other such.0;
   ended = λ session such. other such.0;
@@ -209,10 +252,10 @@ pub other_opened : (owner : ℕ) (entry : Entry) → entry.deed ≡ Opened → I
 other_opened owner entry is = record {
   closed = λ e. cc;
   authorised = λ session e. cc;
-  overridden = λ session e. cc;
+  overridden = λ session how e. cc;
   activated = λ session such. cc;
   committed = λ session ballot such. cc;
-  ended = λ session such. no_end entry.deed session (λ ballot e. cc) (λ e. cc) such.1;
+  ended = λ session such. no_end entry.deed session (λ ballot e. cc) (λ e. cc) (λ ballot e. cc) such.1;
 }
 
 pub other_booth : (owner : ℕ) (entry : Entry) (booth session : ℕ) → entry.deed ≡ Authorise booth session →
@@ -220,8 +263,8 @@ pub other_booth : (owner : ℕ) (entry : Entry) (booth session : ℕ) → entry.
 other_booth owner entry booth session is other = record {
   closed = λ e. cc;
   authorised = λ s e. other (cc);
-  overridden = λ s e. cc;
+  overridden = λ s how e. cc;
   activated = λ s such. cc;
   committed = λ s ballot such. cc;
-  ended = λ s such. no_end entry.deed s (λ ballot e. cc) (λ e. cc) such.1;
+  ended = λ s such. no_end entry.deed s (λ ballot e. cc) (λ e. cc) (λ ballot e. cc) such.1;
 }

@@ -1,14 +1,16 @@
 -- The tests of each row are true exactly where its causes apply.
-use Rattle.std.proofs.Common.{◌≡◌, ℕ, Bool, not, List, [], ◌∷◌, refl, subst, ap}
+use Rattle.std.proofs.Common.{◌≡◌, ◌⊎◌, ℕ, Bool, not, List, [], ◌∷◌, inl, inr, refl, subst, ap}
 use Rattle.std.specs.Prelude.{Any, Contains, IsTrue, ◌↔◌, Result}
-use Rattle.entry_format.specs.declared.deed.Deed.TheVariants.{Activate, Commit, Cast, Cancel}
+use Rattle.entry_format.specs.declared.deed.Deed.TheVariants.{Override, Activate, Commit, Cast, Cancel, Challenge}
+use Rattle.entry_format.specs.declared.deed.How.{How}
+use Rattle.entry_format.specs.declared.deed.How.TheVariants as word
 use Rattle.entry_format.specs.declared.entry.Entry.{Entry}
-use Rattle.deed_history.specs.Refusals.{IsFirstOf, tests_of}
-use Rattle.deed_history.proofs.Rows.{first_by_tests, iff_trans, is_not}
+use Rattle.first_cause.specs.Causes.{IsFirstOf, tests_of}
+use Rattle.first_cause.proofs.Rows.{first_by_tests, iff_trans, is_not}
 use Rattle.booth_core.specs.declared.commitment.Commitment.{Commitment}
 use Rattle.booth_core.specs.declared.state.BoothNot.{BoothNot}
 use Rattle.booth_core.specs.declared.state.BoothNot.TheVariants as cause
-use Rattle.booth_core.specs.Causes.{HasCommitted, HasCommittedTo}
+use Rattle.booth_core.specs.Causes.{IsOverridden, IsOverriddenTo, HasCommitted, HasCommittedTo}
 use Rattle.booth_core.specs.Notes.{Notes}
 use Rattle.booth_core.specs.State.{StandsFor}
 use Rattle.booth_core.specs.Table.{causes_of, Refuses}
@@ -17,11 +19,42 @@ use Rattle.booth_core.specs.Table.{causes_of, Refuses}
 abbrev to : List ℕ → ℕ → Commitment
 to ballot session = record { session = session; ballot = ballot }
 
+-- an override says one word or the other
+by_word : (entries : List Entry) (session : ℕ) (how : How) → IsOverriddenTo how entries session →
+    IsOverridden entries session
+by_word entries session how any = (any.0, any.1, any.2, any.3, (how, any.4))
+
+one_word : (entries : List Entry) (session : ℕ) (entry : Entry) (how : How) → entry.deed ≡ Override session how →
+    Contains entries entry →
+    IsOverriddenTo word.Cancel entries session ⊎ IsOverriddenTo word.Cast entries session
+one_word entries session entry word.Cancel is at = inl (at.0, entry, at.1, at.2, is)
+one_word entries session entry word.Cast is at = inr (at.0, entry, at.1, at.2, is)
+
+-- the test of the one word is true
+pub overridden_first : (notes : Notes) (owner : ℕ) (entries : List Entry) (session : ℕ) (cancels : Bool) →
+    StandsFor notes owner entries → IsTrue cancels ↔ Contains notes.to_cancel session → IsTrue cancels →
+    IsTrue cancels ↔ IsOverridden entries session
+overridden_first notes owner entries session cancels stands c told =
+    (λ t. by_word entries session word.Cancel ((stands.to_cancel session).0 (c.0 told)), λ is. told)
+
+-- the test of the one word is false, so that of the other decides
+pub overridden_second : (notes : Notes) (owner : ℕ) (entries : List Entry) (session : ℕ) (cancels casts : Bool) →
+    StandsFor notes owner entries → IsTrue cancels ↔ Contains notes.to_cancel session →
+    IsTrue casts ↔ Contains notes.to_cast session → (IsTrue cancels → ⊥) →
+    IsTrue casts ↔ IsOverridden entries session
+overridden_second notes owner entries session cancels casts stands c f untold = (
+  λ told. by_word entries session word.Cast ((stands.to_cast session).0 (f.0 told)),
+  λ any. elim (one_word entries session any.1 any.4.0 any.4.1 (any.0, any.2, any.3)) [
+    | inl cancel ↦ absurd (untold (c.1 ((stands.to_cancel session).1 cancel)))
+    | inr cast ↦ f.1 ((stands.to_cast session).1 cast)
+  ],
+)
+
 pub activate_row : (notes : Notes) (owner : ℕ) (entries : List Entry) (IsWhole : Type 0) (session : ℕ)
     (authorised ended activated overridden : Bool) (answer : Result (Unit {0}) BoothNot) →
     StandsFor notes owner entries → IsTrue authorised ↔ Contains notes.authorised session →
     IsTrue ended ↔ Contains notes.ended session → IsTrue activated ↔ Contains notes.activated session →
-    IsTrue overridden ↔ Contains notes.overridden session →
+    IsTrue overridden ↔ IsOverridden entries session →
     IsFirstOf (tests_of ((not authorised, cause.NotAuthorised) ∷ (ended, cause.Ended) ∷ (activated, cause.AlreadyActive)
     ∷ (overridden, cause.Overridden) ∷ (notes.closed, cause.Closed) ∷ [])) answer →
     Refuses owner entries IsWhole (Activate session) answer
@@ -38,7 +71,7 @@ activate_row notes owner entries IsWhole session authorised ended activated over
           iff_trans t (stands.activated session),
           refl,
           (
-            iff_trans o (stands.overridden session),
+            o,
             refl,
             (stands.closed, refl, tt),
           ),
@@ -51,7 +84,7 @@ pub commit_row : (notes : Notes) (owner : ℕ) (entries : List Entry) (IsWhole :
     StandsFor notes owner entries → IsTrue activated ↔ Contains notes.activated session →
     IsTrue ended ↔ Contains notes.ended session →
     IsTrue committed ↔ Any (λ one. one.session ≡ session) notes.committed →
-    IsTrue overridden ↔ Contains notes.overridden session →
+    IsTrue overridden ↔ IsOverridden entries session →
     IsFirstOf (tests_of ((not activated, cause.NotActive) ∷ (ended, cause.Ended) ∷ (committed, cause.AlreadyCommitted)
     ∷ (overridden, cause.Overridden) ∷ (notes.closed, cause.Closed) ∷ [])) answer →
     Refuses owner entries IsWhole (Commit session ballot) answer
@@ -78,14 +111,14 @@ commit_row notes owner entries IsWhole session ballot activated ended committed 
       (
         iff_trans e (stands.ended session),
         refl,
-        (has_committed, refl, (iff_trans o (stands.overridden session), refl, (stands.closed, refl, tt))),
+        (has_committed, refl, (o, refl, (stands.closed, refl, tt))),
       ),
     )
 
 pub cast_row : (notes : Notes) (owner : ℕ) (entries : List Entry) (session : ℕ) (ballot : List ℕ)
     (committed ended overridden whole : Bool) (answer : Result (Unit {0}) BoothNot) →
     StandsFor notes owner entries → IsTrue committed ↔ Contains notes.committed (to ballot session) →
-    IsTrue ended ↔ Contains notes.ended session → IsTrue overridden ↔ Contains notes.overridden session →
+    IsTrue ended ↔ Contains notes.ended session → IsTrue overridden ↔ Contains notes.to_cancel session →
     IsFirstOf (tests_of ((not committed, cause.NotCommitted) ∷ (ended, cause.Ended) ∷ (overridden, cause.Overridden)
     ∷ (notes.closed, cause.Closed) ∷ (not whole, cause.LogNotWhole) ∷ [])) answer →
     Refuses owner entries (IsTrue whole) (Cast session ballot) answer
@@ -99,7 +132,31 @@ cast_row notes owner entries session ballot committed ended overridden whole ans
         iff_trans e (stands.ended session),
         refl,
         (
-          iff_trans o (stands.overridden session),
+          iff_trans o (stands.to_cancel session),
+          refl,
+          (stands.closed, refl, (is_not whole ((λ told. told), (λ told. told)), refl, tt)),
+        ),
+      ),
+    )
+
+pub challenge_row : (notes : Notes) (owner : ℕ) (entries : List Entry) (session : ℕ) (ballot : List ℕ)
+    (committed ended overridden whole : Bool) (answer : Result (Unit {0}) BoothNot) →
+    StandsFor notes owner entries → IsTrue committed ↔ Contains notes.committed (to ballot session) →
+    IsTrue ended ↔ Contains notes.ended session → IsTrue overridden ↔ IsOverridden entries session →
+    IsFirstOf (tests_of ((not committed, cause.NotCommitted) ∷ (ended, cause.Ended) ∷ (overridden, cause.Overridden)
+    ∷ (notes.closed, cause.Closed) ∷ (not whole, cause.LogNotWhole) ∷ [])) answer →
+    Refuses owner entries (IsTrue whole) (Challenge session ballot) answer
+challenge_row notes owner entries session ballot committed ended overridden whole answer stands c e o =
+    first_by_tests ((not committed, cause.NotCommitted) ∷ (ended, cause.Ended) ∷ (overridden, cause.Overridden)
+    ∷ (notes.closed, cause.Closed) ∷ (not whole, cause.LogNotWhole) ∷ [])
+    (causes_of owner entries (IsTrue whole) (Challenge session ballot)) answer (
+      is_not committed (iff_trans c (stands.committed session ballot)),
+      refl,
+      (
+        iff_trans e (stands.ended session),
+        refl,
+        (
+          o,
           refl,
           (stands.closed, refl, (is_not whole ((λ told. told), (λ told. told)), refl, tt)),
         ),
@@ -107,14 +164,15 @@ cast_row notes owner entries session ballot committed ended overridden whole ans
     )
 
 pub cancel_row : (notes : Notes) (owner : ℕ) (entries : List Entry) (IsWhole : Type 0) (session : ℕ)
-    (authorised ended : Bool) (answer : Result (Unit {0}) BoothNot) → StandsFor notes owner entries →
+    (authorised ended forced : Bool) (answer : Result (Unit {0}) BoothNot) → StandsFor notes owner entries →
     IsTrue authorised ↔ Contains notes.authorised session → IsTrue ended ↔ Contains notes.ended session →
-    IsFirstOf (tests_of ((not authorised, cause.NotAuthorised) ∷ (ended, cause.Ended) ∷ [])) answer →
+    IsTrue forced ↔ Contains notes.to_cast session →
+    IsFirstOf (tests_of ((not authorised, cause.NotAuthorised) ∷ (ended, cause.Ended) ∷ (forced, cause.CastForced) ∷ [])) answer →
     Refuses owner entries IsWhole (Cancel session) answer
-cancel_row notes owner entries IsWhole session authorised ended answer stands a e =
-    first_by_tests ((not authorised, cause.NotAuthorised) ∷ (ended, cause.Ended) ∷ [])
+cancel_row notes owner entries IsWhole session authorised ended forced answer stands a e f =
+    first_by_tests ((not authorised, cause.NotAuthorised) ∷ (ended, cause.Ended) ∷ (forced, cause.CastForced) ∷ [])
     (causes_of owner entries IsWhole (Cancel session)) answer (
       is_not authorised (iff_trans a (stands.authorised session)),
       refl,
-      (iff_trans e (stands.ended session), refl, tt),
+      (iff_trans e (stands.ended session), refl, (iff_trans f (stands.to_cast session), refl, tt)),
     )

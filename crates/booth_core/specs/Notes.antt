@@ -7,7 +7,8 @@ pub record Notes : Type 0 where
   pub owner : ℕ
   pub closed : Bool
   pub authorised : List ℕ
-  pub overridden : List ℕ
+  pub to_cancel : List ℕ
+  pub to_cast : List ℕ
   pub activated : List ℕ
   pub committed : List Commitment
   pub ended : List ℕ

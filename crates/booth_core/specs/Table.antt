@@ -2,13 +2,14 @@
 use Rattle.std.specs.Prelude.{ℕ, List, [], ◌∷◌, Result}
 use Rattle.entry_format.specs.declared.deed.Deed.{Deed}
 use Rattle.entry_format.specs.declared.deed.Deed.TheVariants.{Opened, Authorise, Override, Closed, Activate, Commit}
-use Rattle.entry_format.specs.declared.deed.Deed.TheVariants.{Cast, Cancel}
+use Rattle.entry_format.specs.declared.deed.Deed.TheVariants.{Cast, Cancel, Challenge}
+use Rattle.entry_format.specs.declared.deed.How.TheVariants as word
 use Rattle.entry_format.specs.declared.entry.Entry.{Entry}
-use Rattle.deed_history.specs.Refusals.{IsFirstOf}
+use Rattle.first_cause.specs.Causes.{IsFirstOf}
 use Rattle.booth_core.specs.declared.state.BoothNot.{BoothNot}
 use Rattle.booth_core.specs.declared.state.BoothNot.TheVariants as cause
-use Rattle.booth_core.specs.Causes.{IsAuthorised, IsOverridden, IsClosed, HasActivated, HasCommitted, HasCommittedTo}
-use Rattle.booth_core.specs.Causes.{HasEndedOwn}
+use Rattle.booth_core.specs.Causes.{IsAuthorised, IsOverridden, IsOverriddenTo, IsClosed, HasActivated}
+use Rattle.booth_core.specs.Causes.{HasCommitted, HasCommittedTo, HasEndedOwn}
 
 -- The causes against each deed, in the order in which they are tried; `IsWhole` says that the log is whole. A
 -- supervisor's deed isn't asked.
@@ -30,6 +31,13 @@ causes_of owner entries IsWhole (Commit session ballot) =
 causes_of owner entries IsWhole (Cast session ballot) =
     (¬ HasCommittedTo owner entries session ballot, cause.NotCommitted)
     ∷ (HasEndedOwn owner entries session, cause.Ended)
+    ∷ (IsOverriddenTo word.Cancel entries session, cause.Overridden)
+    ∷ (IsClosed entries, cause.Closed)
+    ∷ (¬ IsWhole, cause.LogNotWhole)
+    ∷ []
+causes_of owner entries IsWhole (Challenge session ballot) =
+    (¬ HasCommittedTo owner entries session ballot, cause.NotCommitted)
+    ∷ (HasEndedOwn owner entries session, cause.Ended)
     ∷ (IsOverridden entries session, cause.Overridden)
     ∷ (IsClosed entries, cause.Closed)
     ∷ (¬ IsWhole, cause.LogNotWhole)
@@ -37,10 +45,11 @@ causes_of owner entries IsWhole (Cast session ballot) =
 causes_of owner entries IsWhole (Cancel session) =
     (¬ IsAuthorised owner entries session, cause.NotAuthorised)
     ∷ (HasEndedOwn owner entries session, cause.Ended)
+    ∷ (IsOverriddenTo word.Cast entries session, cause.CastForced)
     ∷ []
 causes_of owner entries IsWhole Opened = []
 causes_of owner entries IsWhole (Authorise booth session) = []
-causes_of owner entries IsWhole (Override session) = []
+causes_of owner entries IsWhole (Override session how) = []
 causes_of owner entries IsWhole Closed = []
 
 -- the answer is the first cause that applies, or `Ok` where none does

@@ -6,7 +6,7 @@ mod commitment;
 mod laws;
 mod state;
 
-pub use laws::each_deed_has_one_answer;
+pub use laws::{each_deed_has_one_answer, version_1_has_its_own_answers};
 pub use state::{BoothNot, BoothState, Memory};
 
 #[cfg(test)]

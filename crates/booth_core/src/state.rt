@@ -1,14 +1,16 @@
 //! The booth's state and its rules.
-ghost use Rattle.std.specs.Prelude.{◌≡◌, ◌+◌, ◌≤◌, List, [], ◌∷◌, ◌++◌, ℕ, IfOk, IsTrue};
+ghost use Rattle.std.specs.Prelude.{◌≡◌, ◌↔◌, ◌+◌, ◌≤◌, List, [], ◌∷◌, ◌++◌, ℕ, IfOk, IsTrue};
 ghost use Rattle.entry_format.specs.declared.entry.Entry.{Entry};
-ghost use Rattle.deed_history.specs.Deeds.{IsBoothDeed};
+ghost use Rattle.entry_format.specs.Deeds.{IsDeedOf};
+ghost use Rattle.roster.specs.declared.post.Role.TheVariants.{Booth};
+ghost use Rattle.booth_core.specs.Causes.{IsOverridden};
 ghost use Rattle.booth_core.specs.State.{StandsFor};
 ghost use Rattle.booth_core.specs.Table.{Refuses};
 ghost use Rattle.booth_core.specs.CauseWords.{booth_not_word};
 
 use crate::commitment::{Commitment, has_commitment, has_committed};
-use deed_history::{first_of, push_reserved};
-use entry_format::{Deed, Entry};
+use entry_format::{Deed, Entry, How};
+use first_cause::first_of;
 use std::alloc::{AllocError, Global};
 use std::marker::Model;
 use thiserror::Error;
@@ -37,6 +39,8 @@ pub enum BoothNot {
     Ended,
     #[error("the log lacks an entry that one of its entries names")]
     LogNotWhole,
+    #[error("the session was overridden by casting")]
+    CastForced,
 }
 
 impl BoothNot {
@@ -54,6 +58,7 @@ impl BoothNot {
             BoothNot::AlreadyCommitted => "AlreadyCommitted",
             BoothNot::Ended => "Ended",
             BoothNot::LogNotWhole => "LogNotWhole",
+            BoothNot::CastForced => "CastForced",
         }
     }
 }
@@ -65,12 +70,15 @@ pub struct BoothState {
     closed: bool,
     /// The sessions that were authorised at this booth.
     authorised: Vec<u32>,
-    overridden: Vec<u32>,
+    /// The sessions that were overridden by cancelling.
+    to_cancel: Vec<u32>,
+    /// The sessions that were overridden by casting.
+    to_cast: Vec<u32>,
     /// The sessions that this booth activated.
     activated: Vec<u32>,
     /// What this booth committed to.
     committed: Vec<Commitment>,
-    /// The sessions that this booth cast or cancelled.
+    /// The sessions that this booth cast, cancelled or challenged.
     ended: Vec<u32>,
     /// How many entries more there is room for.
     spare: usize,
@@ -86,7 +94,8 @@ impl Model for BoothState {
       owner = s.owner;
       closed = s.closed;
       authorised = s.authorised.items;
-      overridden = s.overridden.items;
+      to_cancel = s.to_cancel.items;
+      to_cast = s.to_cast.items;
       activated = s.activated.items;
       committed = s.committed.items;
       ended = s.ended.items;
@@ -94,7 +103,8 @@ impl Model for BoothState {
     } };
 
     ghost invariant = { λ s. (vec_len s.authorised + s.spare ≤ vec_capacity s.authorised)
-        × (vec_len s.overridden + s.spare ≤ vec_capacity s.overridden)
+        × (vec_len s.to_cancel + s.spare ≤ vec_capacity s.to_cancel)
+        × (vec_len s.to_cast + s.spare ≤ vec_capacity s.to_cast)
         × (vec_len s.activated + s.spare ≤ vec_capacity s.activated)
         × (vec_len s.committed + s.spare ≤ vec_capacity s.committed)
         × (vec_len s.ended + s.spare ≤ vec_capacity s.ended) };
@@ -111,7 +121,8 @@ impl BoothState {
             owner,
             closed: false,
             authorised: Vec::with_capacity(alloc, count)?,
-            overridden: Vec::with_capacity(alloc, count)?,
+            to_cancel: Vec::with_capacity(alloc, count)?,
+            to_cast: Vec::with_capacity(alloc, count)?,
             activated: Vec::with_capacity(alloc, count)?,
             committed: Vec::with_capacity(alloc, count)?,
             ended: Vec::with_capacity(alloc, count)?,
@@ -131,33 +142,49 @@ impl BoothState {
         match entry.deed {
             Deed::Authorise { booth, session } => {
                 if booth == self.owner {
-                    push_reserved(&mut self.authorised, session);
+                    self.authorised.push_reserved(session);
                 }
             }
-            Deed::Override { session } => push_reserved(&mut self.overridden, session),
+            Deed::Override { session, how } => match how {
+                How::Cancel => self.to_cancel.push_reserved(session),
+                How::Cast => self.to_cast.push_reserved(session),
+            },
             Deed::Closed => self.closed = true,
             Deed::Activate { session } => {
                 if own {
-                    push_reserved(&mut self.activated, session);
+                    self.activated.push_reserved(session);
                 }
             }
             Deed::Commit { session, ballot } => {
                 if own {
-                    push_reserved(&mut self.committed, Commitment { session, ballot });
+                    self.committed.push_reserved(Commitment { session, ballot });
                 }
             }
             Deed::Cast { session, .. } => {
                 if own {
-                    push_reserved(&mut self.ended, session);
+                    self.ended.push_reserved(session);
                 }
             }
             Deed::Cancel { session } => {
                 if own {
-                    push_reserved(&mut self.ended, session);
+                    self.ended.push_reserved(session);
+                }
+            }
+            Deed::Challenge { session, .. } => {
+                if own {
+                    self.ended.push_reserved(session);
                 }
             }
             Deed::Opened => {}
         }
+    }
+
+    /// Whether the session was overridden, with whichever word.
+    fn is_overridden(&self, session: u32) -> bool
+        ensures { (owner : ℕ) (entries : List Entry) → StandsFor self.now owner entries →
+            IsTrue result ↔ IsOverridden entries session }
+    {
+        self.to_cancel.contains(&session) || self.to_cast.contains(&session)
     }
 
     /// Whether the booth may do the deed now. `whole` is whether each digest that an entry of its
@@ -168,7 +195,7 @@ impl BoothState {
     ///
     /// The first cause that applies, in the order of the deed's row.
     pub fn may(&self, deed: &Deed, whole: bool) -> Result<(), BoothNot>
-        requires { IsBoothDeed deed.now }
+        requires { IsDeedOf Booth deed.now }
         ensures { (owner : ℕ) (entries : List Entry) → StandsFor self.now owner entries →
             Refuses owner entries (IsTrue whole) deed.now result }
     {
@@ -177,7 +204,7 @@ impl BoothState {
                 (!self.authorised.contains(&session), BoothNot::NotAuthorised),
                 (self.ended.contains(&session), BoothNot::Ended),
                 (self.activated.contains(&session), BoothNot::AlreadyActive),
-                (self.overridden.contains(&session), BoothNot::Overridden),
+                (self.is_overridden(session), BoothNot::Overridden),
                 (self.closed, BoothNot::Closed),
             ]),
             Deed::Commit { session, .. } => first_of(&[
@@ -187,7 +214,7 @@ impl BoothState {
                     has_committed(&self.committed, session),
                     BoothNot::AlreadyCommitted,
                 ),
-                (self.overridden.contains(&session), BoothNot::Overridden),
+                (self.is_overridden(session), BoothNot::Overridden),
                 (self.closed, BoothNot::Closed),
             ]),
             Deed::Cast { session, ballot } => first_of(&[
@@ -196,13 +223,24 @@ impl BoothState {
                     BoothNot::NotCommitted,
                 ),
                 (self.ended.contains(&session), BoothNot::Ended),
-                (self.overridden.contains(&session), BoothNot::Overridden),
+                (self.to_cancel.contains(&session), BoothNot::Overridden),
+                (self.closed, BoothNot::Closed),
+                (!whole, BoothNot::LogNotWhole),
+            ]),
+            Deed::Challenge { session, ballot } => first_of(&[
+                (
+                    !has_commitment(&self.committed, &Commitment { session, ballot }),
+                    BoothNot::NotCommitted,
+                ),
+                (self.ended.contains(&session), BoothNot::Ended),
+                (self.is_overridden(session), BoothNot::Overridden),
                 (self.closed, BoothNot::Closed),
                 (!whole, BoothNot::LogNotWhole),
             ]),
             Deed::Cancel { session } => first_of(&[
                 (!self.authorised.contains(&session), BoothNot::NotAuthorised),
                 (self.ended.contains(&session), BoothNot::Ended),
+                (self.to_cast.contains(&session), BoothNot::CastForced),
             ]),
             Deed::Opened | Deed::Authorise { .. } | Deed::Override { .. } | Deed::Closed => Ok(()),
         }

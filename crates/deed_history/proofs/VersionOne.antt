@@ -3,10 +3,11 @@ use Rattle.std.proofs.Common.{◌≡◌, ◌∙◌, ℕ, List, [], ◌∷◌, in
 use Rattle.std.specs.Prelude.{All, Any, Result, Err, ◌↔◌}
 use Rattle.entry_format.specs.declared.deed.Deed.{Deed}
 use Rattle.entry_format.specs.declared.deed.Deed.TheVariants.{Override, Challenge}
+use Rattle.entry_format.specs.declared.deed.How.{How}
 use Rattle.entry_format.specs.declared.deed.How.TheVariants as word
 use Rattle.entry_format.specs.EntryText.{IsDeedIn}
 use Rattle.first_cause.specs.Causes.{IsFirstOf}
-use Rattle.deed_history.specs.Deeds.{Ends}
+use Rattle.deed_history.specs.Deeds.{Overrides, Ends}
 use Rattle.deed_history.specs.VersionOne.{EndsInVersion1}
 
 -- where all elements have R, and P and Q are alike for those
@@ -38,6 +39,16 @@ ends_alike deed session in_version = (
   ],
   λ ends. elim ends [ inl cast ↦ inl cast | inr cancel ↦ inr (inl cancel) ],
 )
+
+says_cancel : (deed : Deed) (session : ℕ) (how : How) → IsDeedIn 1 deed → deed ≡ Override session how →
+    deed ≡ Override session word.Cancel
+says_cancel deed session word.Cancel in_version is = is
+says_cancel deed session word.Cast in_version is = absurd (no_cast_override deed session in_version is)
+
+pub overrides_alike : (deed : Deed) (session : ℕ) → IsDeedIn 1 deed →
+    Overrides session deed ↔ (deed ≡ Override session word.Cancel)
+overrides_alike deed session in_version =
+    (λ override. says_cancel deed session override.0 in_version override.1, λ is. (word.Cancel, is))
 
 -- the causes of a row apply where those of another do, and those that it has beyond them don't apply
 abbrev pub IsAlike : {Cause : Type 0} → List (Type 0 × Cause) → List (Type 0 × Cause) → Type 0

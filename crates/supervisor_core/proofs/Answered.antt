@@ -1,23 +1,25 @@
 -- Each deed has an answer after each history.
-use Rattle.std.proofs.Common.{◌≡◌, ℕ, Bool, true, false, not, ◌&&◌, ◌==◌, List, [], ◌∷◌, refl, ap, subst}
-use Rattle.std.specs.Prelude.{Any, Result}
+use Rattle.std.proofs.Common.{◌≡◌, ℕ, Bool, false, not, ◌&&◌, ◌==◌, List, [], ◌∷◌, refl, ap, subst}
+use Rattle.std.specs.Prelude.{Result}
 use Rattle.std.specs.Bool.{Decides}
 use Rattle.std.specs.List.{list_any}
 use Rattle.std.proofs.lemmas.Bool.Decides.{Decides-eqb, Decides-and, Decides-like, Decides-not}
 use Rattle.entry_format.specs.declared.deed.Deed.{Deed}
-use Rattle.entry_format.specs.declared.deed.Deed.TheVariants.{Opened, Authorise, Override, Closed, Activate, Commit}
-use Rattle.entry_format.specs.declared.deed.Deed.TheVariants.{Cast, Cancel}
+use Rattle.entry_format.specs.declared.deed.Deed.TheVariants.{Opened, Authorise, Override, Closed}
+use Rattle.entry_format.specs.declared.deed.How.{How}
+use Rattle.entry_format.specs.declared.deed.How.TheVariants as word
 use Rattle.entry_format.specs.declared.entry.Entry.{Entry}
-use Rattle.deed_history.specs.Deeds.{Authorises}
-use Rattle.deed_history.specs.Held.{HoldsOwn, HasEnded}
-use Rattle.deed_history.specs.Refusals.{tests_of}
-use Rattle.deed_history.proofs.Deciding.{any_decides, holds_own, own_decides, is_opened, opened_decides, is_closed}
+use Rattle.deed_history.specs.Deeds.{Authorises, Commits}
+use Rattle.deed_history.specs.Held.{HasEnded}
+use Rattle.deed_history.proofs.Deciding.{holds_own, own_decides, is_opened, opened_decides, is_closed}
 use Rattle.deed_history.proofs.Deciding.{closed_decides, authorises, authorises_decides, has_ended, ended_decides}
-use Rattle.deed_history.proofs.Deciding.{authorises_booth, authorises_booth_decides, first_test}
-use Rattle.deed_history.proofs.Rows.{AreTestsOf, first_by_tests}
+use Rattle.deed_history.proofs.Deciding.{first_test, holds_decides}
+use Rattle.deed_history.proofs.Deciding.{overrides_by, overrides_by_decides, is_word, word_decides, commits, commits_decides}
+use Rattle.first_cause.proofs.Rows.{AreTestsOf, first_by_tests}
 use Rattle.supervisor_core.specs.declared.state.SupervisorNot.{SupervisorNot}
 use Rattle.supervisor_core.specs.declared.state.SupervisorNot.TheVariants as cause
-use Rattle.supervisor_core.specs.Causes.{HasOpened, HasClosed, HasAuthorised, IsRunning, IsBusy, HasSessionsLeft}
+use Rattle.supervisor_core.specs.Causes.{HasOpened, HasClosed, HasAuthorised, HasOverridden, other, IsCommitted}
+use Rattle.supervisor_core.specs.Causes.{IsBusy, HasSessionsLeft}
 use Rattle.supervisor_core.specs.Table.{causes_of, Refuses}
 
 -- the tests of the sentences
@@ -40,6 +42,19 @@ authorised_is : (owner : ℕ) (entries : List Entry) (session : ℕ)
     → Decides (has_authorised owner entries session) (HasAuthorised owner entries session)
 authorised_is owner entries session =
     own_decides owner (authorises session) (Authorises session) (authorises_decides session) entries
+
+overridden_is : (owner : ℕ) (entries : List Entry) (session : ℕ) (how : How)
+    → Decides (holds_own owner (overrides_by session how) entries) (HasOverridden owner entries session how)
+overridden_is owner entries session how =
+    own_decides owner (overrides_by session how) (λ deed. deed ≡ Override session how)
+    (overrides_by_decides session how) entries
+
+abbrev is_committed : List Entry → ℕ → Bool
+is_committed entries session = list_any (λ entry. commits session entry.deed) entries
+
+committed_is : (entries : List Entry) (session : ℕ)
+    → Decides (is_committed entries session) (IsCommitted entries session)
+committed_is entries session = holds_decides (commits session) (Commits session) (commits_decides session) entries
 
 -- the deed authorises the booth for a session that hasn't ended
 abbrev runs_at : List Entry → ℕ → Deed → Bool
@@ -113,9 +128,11 @@ tests owner entries (Authorise booth session) =
     ∷ (has_authorised owner entries session, cause.SessionUsed)
     ∷ (holds_own owner (runs_at entries booth) entries, cause.BoothBusy)
     ∷ []
-tests owner entries (Override session) =
+tests owner entries (Override session how) =
     (not (has_authorised owner entries session), cause.NoSession)
     ∷ (has_ended entries session, cause.SessionEnded)
+    ∷ (holds_own owner (overrides_by session (other how)) entries, cause.OtherOverride)
+    ∷ (is_word how word.Cast && not (is_committed entries session), cause.NothingCommitted)
     ∷ []
 tests owner entries Closed =
     (not (has_opened owner entries), cause.NotOpened)
@@ -136,10 +153,23 @@ are_tests owner entries (Authorise booth session) = (
     (authorised_is owner entries session, refl, (busy_is owner entries booth, refl, tt)),
   ),
 )
-are_tests owner entries (Override session) = (
+are_tests owner entries (Override session how) = (
   Decides-not (has_authorised owner entries session) (authorised_is owner entries session),
   refl,
-  (ended_decides entries session, refl, tt),
+  (
+    ended_decides entries session,
+    refl,
+    (
+      overridden_is owner entries session (other how),
+      refl,
+      (
+        Decides-and (is_word how word.Cast) (not (is_committed entries session)) (word_decides how word.Cast)
+            (Decides-not (is_committed entries session) (committed_is entries session)),
+        refl,
+        tt,
+      ),
+    ),
+  ),
 )
 are_tests owner entries Closed = (
   Decides-not (has_opened owner entries) (opened_is owner entries),

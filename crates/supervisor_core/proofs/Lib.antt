@@ -1,3 +1,4 @@
 mod Rows
 mod Noted
 pub mod Answered
+mod OfVersion1

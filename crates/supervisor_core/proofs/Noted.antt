@@ -8,9 +8,10 @@ use Rattle.std.proofs.lemmas.List.Quantifiers.{Any-push}
 use Rattle.std.proofs.lemmas.List.Elements.{Contains-push, Contains-push_cases, Contains-append_left}
 use Rattle.entry_format.specs.declared.deed.Deed.{Deed}
 use Rattle.entry_format.specs.declared.deed.Deed.TheVariants.{Opened, Authorise, Override, Closed, Activate, Commit}
-use Rattle.entry_format.specs.declared.deed.Deed.TheVariants.{Cast, Cancel}
+use Rattle.entry_format.specs.declared.deed.How.{How}
+use Rattle.entry_format.specs.declared.deed.How.TheVariants as word
 use Rattle.entry_format.specs.declared.entry.Entry.{Entry}
-use Rattle.deed_history.specs.Deeds.{Authorises, Ends}
+use Rattle.deed_history.specs.Deeds.{Authorises, Commits, Ends}
 use Rattle.deed_history.specs.Held.{HasEnded}
 use Rattle.deed_history.proofs.Ending.{no_end}
 use Rattle.deed_history.proofs.Entries.{IsOwnSuch, IsSuchEntry, any_kept, any_cases, stays, is_marked, is_added}
@@ -25,7 +26,12 @@ pub record IsOther (owner : ℕ) (entry : Entry) : Type 0 where
   pub opened : IsOwnSuch owner (λ deed. deed ≡ Opened) entry → ⊥
   pub closed : IsOwnSuch owner (λ deed. deed ≡ Closed) entry → ⊥
   pub authorised : (booth session : ℕ) → IsOwnSuch owner (λ deed. deed ≡ Authorise booth session) entry → ⊥
+  pub overridden : (session : ℕ) (how : How) → IsOwnSuch owner (λ deed. deed ≡ Override session how) entry → ⊥
+  pub committed : (session : ℕ) → Commits session entry.deed → ⊥
   pub ended : (session : ℕ) → Ends session entry.deed → ⊥
+
+abbrev OwnOverride : ℕ → ℕ → How → Entry → Type 0
+OwnOverride owner session how = IsOwnSuch owner (λ deed. deed ≡ Override session how)
 
 abbrev OwnAuthorise : ℕ → ℕ → ℕ → Entry → Type 0
 OwnAuthorise owner booth session = IsOwnSuch owner (λ deed. deed ≡ Authorise booth session)
@@ -64,6 +70,9 @@ noted_other notes spare owner entries entry stands other = record {
   running = λ booth session. running_stays (Contains notes.running (record { booth = booth; session = session })) owner
       entries entry booth session (stands.running booth session) (other.authorised booth session) (other.ended session);
   ended = λ session. stays (IsSuchEntry (Ends session)) entries entry (stands.ended session) (other.ended session);
+  to_cancel = λ s. stays (OwnOverride owner s word.Cancel) entries entry (stands.to_cancel s) (other.overridden s word.Cancel);
+  to_cast = λ s. stays (OwnOverride owner s word.Cast) entries entry (stands.to_cast s) (other.overridden s word.Cast);
+  committed = λ s. stays (IsSuchEntry (Commits s)) entries entry (stands.committed s) (other.committed s);
 }
 
 -- the test of the maker
@@ -88,9 +97,12 @@ noted_opened notes spare owner entries entry stands is = record {
       (λ such. cc (such.1.1));
   running = λ booth session. running_stays (Contains notes.running (record { booth = booth; session = session })) owner
       entries entry booth session (stands.running booth session) (λ such. cc)
-      (no_end entry.deed session (λ ballot e. cc) (λ e. cc));
+      (no_end entry.deed session (λ ballot e. cc) (λ e. cc) (λ ballot e. cc));
   ended = λ session. stays (IsSuchEntry (Ends session)) entries entry (stands.ended session)
-      (no_end entry.deed session (λ ballot e. cc) (λ e. cc));
+      (no_end entry.deed session (λ ballot e. cc) (λ e. cc) (λ ballot e. cc));
+  to_cancel = λ s. stays (OwnOverride owner s word.Cancel) entries entry (stands.to_cancel s) (λ such. cc);
+  to_cast = λ s. stays (OwnOverride owner s word.Cast) entries entry (stands.to_cast s) (λ such. cc);
+  committed = λ s. stays (IsSuchEntry (Commits s)) entries entry (stands.committed s) (λ such. cc (such.1));
 }
 
 pub noted_closed : (notes : Notes) (spare owner : ℕ) (entries : List Entry) (entry : Entry) →
@@ -106,9 +118,12 @@ noted_closed notes spare owner entries entry stands is = record {
       (λ such. cc (such.1.1));
   running = λ booth session. running_stays (Contains notes.running (record { booth = booth; session = session })) owner
       entries entry booth session (stands.running booth session) (λ such. cc)
-      (no_end entry.deed session (λ ballot e. cc) (λ e. cc));
+      (no_end entry.deed session (λ ballot e. cc) (λ e. cc) (λ ballot e. cc));
   ended = λ session. stays (IsSuchEntry (Ends session)) entries entry (stands.ended session)
-      (no_end entry.deed session (λ ballot e. cc) (λ e. cc));
+      (no_end entry.deed session (λ ballot e. cc) (λ e. cc) (λ ballot e. cc));
+  to_cancel = λ s. stays (OwnOverride owner s word.Cancel) entries entry (stands.to_cancel s) (λ such. cc);
+  to_cast = λ s. stays (OwnOverride owner s word.Cast) entries entry (stands.to_cast s) (λ such. cc);
+  committed = λ s. stays (IsSuchEntry (Commits s)) entries entry (stands.committed s) (λ such. cc (such.1));
 }
 
 abbrev run : ℕ → ℕ → Running
@@ -132,7 +147,7 @@ running_added : (notes : Notes) (owner : ℕ) (entries : List Entry) (entry : En
     (HasEnded entries session → ⊥) →
     Contains (notes.running ++ run booth session ∷ []) (run b s) ↔ IsRunning owner (entries ++ entry ∷ []) b s
 running_added notes owner entries entry booth session b s stands is own lasts =
-    let none : Ends s entry.deed → ⊥ = no_end entry.deed s (λ ballot e. cc) (λ e. cc) in (
+    let none : Ends s entry.deed → ⊥ = no_end entry.deed s (λ ballot e. cc) (λ e. cc) (λ ballot e. cc) in (
       λ at. elim (Contains-push_cases notes.running (run booth session) (run b s) at) [
         | inl old ↦ (
           any_kept (OwnAuthorise owner b s) entries entry ((stands.running b s).0 old).0,
@@ -164,7 +179,7 @@ running_same : (notes : Notes) (owner : ℕ) (entries : List Entry) (entry : Ent
     StandsFor notes owner entries → entry.deed ≡ Authorise booth session → HasEnded entries session →
     Contains notes.running (run b s) ↔ IsRunning owner (entries ++ entry ∷ []) b s
 running_same notes owner entries entry booth session b s stands is ended =
-    let none : Ends s entry.deed → ⊥ = no_end entry.deed s (λ ballot e. cc) (λ e. cc) in (
+    let none : Ends s entry.deed → ⊥ = no_end entry.deed s (λ ballot e. cc) (λ e. cc) (λ ballot e. cc) in (
       λ at. (
         any_kept (OwnAuthorise owner b s) entries entry ((stands.running b s).0 at).0,
         lasts_after entries entry s ((stands.running b s).0 at).1 none,
@@ -227,7 +242,10 @@ noted_running notes spare owner entries entry booth session stands is own lasts 
       (stands.authorised s) (λ same. (own, (booth, cc)), λ such. cc (such.1.1));
   running = λ b s. running_added notes owner entries entry booth session b s stands is own lasts;
   ended = λ s. stays (IsSuchEntry (Ends s)) entries entry (stands.ended s)
-      (no_end entry.deed s (λ ballot e. cc) (λ e. cc));
+      (no_end entry.deed s (λ ballot e. cc) (λ e. cc) (λ ballot e. cc));
+  to_cancel = λ s. stays (OwnOverride owner s word.Cancel) entries entry (stands.to_cancel s) (λ such. cc);
+  to_cast = λ s. stays (OwnOverride owner s word.Cast) entries entry (stands.to_cast s) (λ such. cc);
+  committed = λ s. stays (IsSuchEntry (Commits s)) entries entry (stands.committed s) (λ such. cc (such.1));
 }
 
 -- a session that has ended doesn't begin
@@ -244,7 +262,10 @@ noted_ended_before notes spare owner entries entry booth session stands is own e
       (stands.authorised s) (λ same. (own, (booth, cc)), λ such. cc (such.1.1));
   running = λ b s. running_same notes owner entries entry booth session b s stands is ended;
   ended = λ s. stays (IsSuchEntry (Ends s)) entries entry (stands.ended s)
-      (no_end entry.deed s (λ ballot e. cc) (λ e. cc));
+      (no_end entry.deed s (λ ballot e. cc) (λ e. cc) (λ ballot e. cc));
+  to_cancel = λ s. stays (OwnOverride owner s word.Cancel) entries entry (stands.to_cancel s) (λ such. cc);
+  to_cast = λ s. stays (OwnOverride owner s word.Cast) entries entry (stands.to_cast s) (λ such. cc);
+  committed = λ s. stays (IsSuchEntry (Commits s)) entries entry (stands.committed s) (λ such. cc (such.1));
 }
 
 -- a session ends
@@ -260,33 +281,97 @@ noted_end notes spare owner entries entry session stands ends =
     record {
       same_owner = stands.same_owner;
       opened = stays (IsOwnSuch owner (λ deed. deed ≡ Opened)) entries entry stands.opened
-          (λ such. no_end Opened session (λ ballot e. cc) (λ e. cc) (only Opened such.1));
+          (λ such. no_end Opened session (λ ballot e. cc) (λ e. cc) (λ ballot e. cc) (only Opened such.1));
       closed = stays (IsOwnSuch owner (λ deed. deed ≡ Closed)) entries entry stands.closed
-          (λ such. no_end Closed session (λ ballot e. cc) (λ e. cc) (only Closed such.1));
+          (λ such. no_end Closed session (λ ballot e. cc) (λ e. cc) (λ ballot e. cc) (only Closed such.1));
       authorised = λ s. stays (IsOwnSuch owner (Authorises s)) entries entry (stands.authorised s)
-          (λ such. no_end (Authorise such.1.0 s) session (λ ballot e. cc) (λ e. cc)
+          (λ such. no_end (Authorise such.1.0 s) session (λ ballot e. cc) (λ e. cc) (λ ballot e. cc)
           (only (Authorise such.1.0 s) such.1.1));
       running = λ b s. running_ended notes owner entries entry session b s stands (ends s)
-          (λ such. no_end (Authorise b s) session (λ ballot e. cc) (λ e. cc) (only (Authorise b s) such.1));
+          (λ such. no_end (Authorise b s) session (λ ballot e. cc) (λ e. cc) (λ ballot e. cc)
+          (only (Authorise b s) such.1));
       ended = λ s. is_added (IsSuchEntry (Ends s)) entries entry notes.ended session s (stands.ended s) (ends s);
+      to_cancel = λ s. stays (OwnOverride owner s word.Cancel) entries entry (stands.to_cancel s)
+          (λ such. no_end (Override s word.Cancel) session (λ ballot e. cc) (λ e. cc) (λ ballot e. cc)
+          (only (Override s word.Cancel) such.1));
+      to_cast = λ s. stays (OwnOverride owner s word.Cast) entries entry (stands.to_cast s)
+          (λ such. no_end (Override s word.Cast) session (λ ballot e. cc) (λ e. cc) (λ ballot e. cc)
+          (only (Override s word.Cast) such.1));
+      committed = λ s. stays (IsSuchEntry (Commits s)) entries entry (stands.committed s)
+          (λ such. no_end (Commit s such.0) session (λ ballot e. cc) (λ e. cc) (λ ballot e. cc)
+          (only (Commit s such.0) such.1));
     }
 
--- a deed that isn't the supervisor's business, whoever did it
-abbrev pub IsOtherDeed : Deed → Type 0
-IsOtherDeed Opened = ⊥
-IsOtherDeed (Authorise booth session) = ⊥
-IsOtherDeed (Override session) = Unit {0}
-IsOtherDeed Closed = ⊥
-IsOtherDeed (Activate session) = Unit {0}
-IsOtherDeed (Commit session ballot) = Unit {0}
-IsOtherDeed (Cast session ballot) = ⊥
-IsOtherDeed (Cancel session) = ⊥
+-- the supervisor overrides a session by cancelling
+pub noted_to_cancel : (notes : Notes) (spare owner : ℕ) (entries : List Entry) (entry : Entry) (session : ℕ) →
+    StandsFor notes owner entries → entry.deed ≡ Override session word.Cancel → entry.maker ≡ owner →
+    StandsFor (record notes { to_cancel = notes.to_cancel ++ session ∷ []; spare = spare }) owner (entries ++ entry ∷ [])
+noted_to_cancel notes spare owner entries entry session stands is own = record {
+  same_owner = stands.same_owner;
+  opened = stays (IsOwnSuch owner (λ deed. deed ≡ Opened)) entries entry stands.opened (λ such. cc);
+  closed = stays (IsOwnSuch owner (λ deed. deed ≡ Closed)) entries entry stands.closed (λ such. cc);
+  authorised = λ session. stays (IsOwnSuch owner (Authorises session)) entries entry (stands.authorised session)
+      (λ such. cc (such.1.1));
+  running = λ booth session. running_stays (Contains notes.running (record { booth = booth; session = session })) owner
+      entries entry booth session (stands.running booth session) (λ such. cc)
+      (no_end entry.deed session (λ ballot e. cc) (λ e. cc) (λ ballot e. cc));
+  ended = λ session. stays (IsSuchEntry (Ends session)) entries entry (stands.ended session)
+      (no_end entry.deed session (λ ballot e. cc) (λ e. cc) (λ ballot e. cc));
+  to_cancel = λ s. is_added (OwnOverride owner s word.Cancel) entries entry notes.to_cancel session s (stands.to_cancel s)
+      (λ same. (own, cc), λ such. cc (such.1));
+  to_cast = λ s. stays (OwnOverride owner s word.Cast) entries entry (stands.to_cast s) (λ such. cc);
+  committed = λ s. stays (IsSuchEntry (Commits s)) entries entry (stands.committed s) (λ such. cc (such.1));
+}
 
-pub other_deed : (owner : ℕ) (entry : Entry) (deed : Deed) → entry.deed ≡ deed → IsOtherDeed deed → IsOther owner entry
-other_deed owner entry deed is other = record {
-  opened = λ such. subst IsOtherDeed (sym is ∙ such.1) other;
-  closed = λ such. subst IsOtherDeed (sym is ∙ such.1) other;
-  authorised = λ booth session such. subst IsOtherDeed (sym is ∙ such.1) other;
-  ended = λ session. no_end entry.deed session (λ ballot e. subst IsOtherDeed (sym is ∙ e) other)
-      (λ e. subst IsOtherDeed (sym is ∙ e) other);
+-- the supervisor overrides a session by casting
+pub noted_to_cast : (notes : Notes) (spare owner : ℕ) (entries : List Entry) (entry : Entry) (session : ℕ) →
+    StandsFor notes owner entries → entry.deed ≡ Override session word.Cast → entry.maker ≡ owner →
+    StandsFor (record notes { to_cast = notes.to_cast ++ session ∷ []; spare = spare }) owner (entries ++ entry ∷ [])
+noted_to_cast notes spare owner entries entry session stands is own = record {
+  same_owner = stands.same_owner;
+  opened = stays (IsOwnSuch owner (λ deed. deed ≡ Opened)) entries entry stands.opened (λ such. cc);
+  closed = stays (IsOwnSuch owner (λ deed. deed ≡ Closed)) entries entry stands.closed (λ such. cc);
+  authorised = λ session. stays (IsOwnSuch owner (Authorises session)) entries entry (stands.authorised session)
+      (λ such. cc (such.1.1));
+  running = λ booth session. running_stays (Contains notes.running (record { booth = booth; session = session })) owner
+      entries entry booth session (stands.running booth session) (λ such. cc)
+      (no_end entry.deed session (λ ballot e. cc) (λ e. cc) (λ ballot e. cc));
+  ended = λ session. stays (IsSuchEntry (Ends session)) entries entry (stands.ended session)
+      (no_end entry.deed session (λ ballot e. cc) (λ e. cc) (λ ballot e. cc));
+  to_cancel = λ s. stays (OwnOverride owner s word.Cancel) entries entry (stands.to_cancel s) (λ such. cc);
+  to_cast = λ s. is_added (OwnOverride owner s word.Cast) entries entry notes.to_cast session s (stands.to_cast s)
+      (λ same. (own, cc), λ such. cc (such.1));
+  committed = λ s. stays (IsSuchEntry (Commits s)) entries entry (stands.committed s) (λ such. cc (such.1));
+}
+
+-- a booth commits to a ballot
+pub noted_committed : (notes : Notes) (spare owner : ℕ) (entries : List Entry) (entry : Entry) (session : ℕ)
+    (ballot : List ℕ) → StandsFor notes owner entries → entry.deed ≡ Commit session ballot →
+    StandsFor (record notes { committed = notes.committed ++ session ∷ []; spare = spare }) owner (entries ++ entry ∷ [])
+noted_committed notes spare owner entries entry session ballot stands is = record {
+  same_owner = stands.same_owner;
+  opened = stays (IsOwnSuch owner (λ deed. deed ≡ Opened)) entries entry stands.opened (λ such. cc);
+  closed = stays (IsOwnSuch owner (λ deed. deed ≡ Closed)) entries entry stands.closed (λ such. cc);
+  authorised = λ session. stays (IsOwnSuch owner (Authorises session)) entries entry (stands.authorised session)
+      (λ such. cc (such.1.1));
+  running = λ booth session. running_stays (Contains notes.running (record { booth = booth; session = session })) owner
+      entries entry booth session (stands.running booth session) (λ such. cc)
+      (no_end entry.deed session (λ ballot e. cc) (λ e. cc) (λ ballot e. cc));
+  ended = λ session. stays (IsSuchEntry (Ends session)) entries entry (stands.ended session)
+      (no_end entry.deed session (λ ballot e. cc) (λ e. cc) (λ ballot e. cc));
+  to_cancel = λ s. stays (OwnOverride owner s word.Cancel) entries entry (stands.to_cancel s) (λ such. cc);
+  to_cast = λ s. stays (OwnOverride owner s word.Cast) entries entry (stands.to_cast s) (λ such. cc);
+  committed = λ s. is_added (IsSuchEntry (Commits s)) entries entry notes.committed session s (stands.committed s)
+      (λ same. (ballot, cc), λ such. cc (such.1));
+}
+
+-- a booth begins a session
+pub other_activate : (owner : ℕ) (entry : Entry) (session : ℕ) → entry.deed ≡ Activate session → IsOther owner entry
+other_activate owner entry session is = record {
+  opened = λ such. cc;
+  closed = λ such. cc;
+  authorised = λ booth s such. cc;
+  overridden = λ s how such. cc;
+  committed = λ s such. cc (such.1);
+  ended = λ s. no_end entry.deed s (λ ballot e. cc) (λ e. cc) (λ ballot e. cc);
 }

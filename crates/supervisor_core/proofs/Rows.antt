@@ -3,12 +3,14 @@ use Rattle.std.proofs.Common.{◌≡◌, ℕ, ◌<◌, Bool, not, List, [], ◌�
 use Rattle.std.specs.Prelude.{Any, Contains, IsTrue, ◌↔◌, Result}
 use Rattle.entry_format.specs.declared.deed.Deed.TheVariants.{Authorise, Override, Closed}
 use Rattle.entry_format.specs.declared.entry.Entry.{Entry}
-use Rattle.deed_history.proofs.Rows.{first_by_tests, iff_trans, is_not}
-use Rattle.deed_history.specs.Refusals.{IsFirstOf, tests_of}
+use Rattle.entry_format.specs.declared.deed.How.{How}
+use Rattle.entry_format.specs.declared.deed.How.TheVariants as word
+use Rattle.first_cause.proofs.Rows.{first_by_tests, iff_trans, is_not}
+use Rattle.first_cause.specs.Causes.{IsFirstOf, tests_of}
 use Rattle.supervisor_core.specs.declared.state.SupervisorNot.{SupervisorNot}
 use Rattle.supervisor_core.specs.declared.running.Running.{Running}
 use Rattle.supervisor_core.specs.declared.state.SupervisorNot.TheVariants as cause
-use Rattle.supervisor_core.specs.Causes.{IsBusy, HasSessionsLeft}
+use Rattle.supervisor_core.specs.Causes.{HasOverridden, other, IsCommitted, IsBusy, HasSessionsLeft}
 use Rattle.supervisor_core.specs.Notes.{Notes}
 use Rattle.supervisor_core.specs.State.{StandsFor}
 use Rattle.supervisor_core.specs.Table.{causes_of, Refuses}
@@ -51,17 +53,30 @@ authorise_row notes owner entries booth session used busy answer stands listed a
       ),
     )
 
-pub override_row : (notes : Notes) (owner : ℕ) (entries : List Entry) (session : ℕ) (used over : Bool)
-    (answer : Result (Unit {0}) SupervisorNot) → StandsFor notes owner entries →
+pub override_row : (notes : Notes) (owner : ℕ) (entries : List Entry) (session : ℕ) (how : How)
+    (used over otherwise lacking : Bool) (answer : Result (Unit {0}) SupervisorNot) → StandsFor notes owner entries →
     IsTrue used ↔ Contains notes.authorised session → IsTrue over ↔ Contains notes.ended session →
-    IsFirstOf (tests_of ((not used, cause.NoSession) ∷ (over, cause.SessionEnded) ∷ [])) answer →
-    Refuses owner entries (Override session) answer
-override_row notes owner entries session used over answer stands listed ended =
-    first_by_tests ((not used, cause.NoSession) ∷ (over, cause.SessionEnded) ∷ [])
-    (causes_of owner entries (Override session)) answer (
+    IsTrue otherwise ↔ HasOverridden owner entries session (other how) →
+    IsTrue lacking ↔ ((how ≡ word.Cast) × (Contains notes.committed session → ⊥)) →
+    IsFirstOf (tests_of ((not used, cause.NoSession) ∷ (over, cause.SessionEnded) ∷ (otherwise, cause.OtherOverride)
+    ∷ (lacking, cause.NothingCommitted) ∷ [])) answer →
+    Refuses owner entries (Override session how) answer
+override_row notes owner entries session how used over otherwise lacking answer stands listed ended overridden lacks =
+    let nothing : ((how ≡ word.Cast) × (Contains notes.committed session → ⊥))
+    ↔ ((how ≡ word.Cast) × (IsCommitted entries session → ⊥)) = (
+      λ none. (none.0, λ is. none.1 ((stands.committed session).1 is)),
+      λ none. (none.0, λ at. none.1 ((stands.committed session).0 at)),
+    ) in
+    first_by_tests ((not used, cause.NoSession) ∷ (over, cause.SessionEnded) ∷ (otherwise, cause.OtherOverride)
+    ∷ (lacking, cause.NothingCommitted) ∷ [])
+    (causes_of owner entries (Override session how)) answer (
       is_not used (iff_trans listed (stands.authorised session)),
       refl,
-      (iff_trans ended (stands.ended session), refl, tt),
+      (
+        iff_trans ended (stands.ended session),
+        refl,
+        (overridden, refl, (iff_trans lacks nothing, refl, tt)),
+      ),
     )
 
 pub closed_row : (notes : Notes) (owner : ℕ) (entries : List Entry) (left : Bool)

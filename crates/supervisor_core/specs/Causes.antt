@@ -1,9 +1,11 @@
 -- What a history says against a deed of the supervisor, who owns it (VoteBox, USENIX Security 2008).
 use Rattle.std.specs.Prelude.{◌≡◌, ℕ, List}
-use Rattle.entry_format.specs.declared.deed.Deed.TheVariants.{Opened, Authorise, Closed}
+use Rattle.entry_format.specs.declared.deed.Deed.TheVariants.{Opened, Authorise, Override, Closed}
+use Rattle.entry_format.specs.declared.deed.How.{How}
+use Rattle.entry_format.specs.declared.deed.How.TheVariants as word
 use Rattle.entry_format.specs.declared.entry.Entry.{Entry}
-use Rattle.deed_history.specs.Deeds.{Authorises}
-use Rattle.deed_history.specs.Held.{HoldsOwn, HasEnded}
+use Rattle.deed_history.specs.Deeds.{Authorises, Commits}
+use Rattle.deed_history.specs.Held.{Holds, HoldsOwn, HasEnded}
 
 -- an own Opened is held
 abbrev pub HasOpened : ℕ → List Entry → Type 0
@@ -16,6 +18,19 @@ HasClosed owner entries = HoldsOwn owner entries (λ deed. deed ≡ Closed)
 -- an own Authorise of the session is held
 abbrev pub HasAuthorised : ℕ → List Entry → ℕ → Type 0
 HasAuthorised owner entries session = HoldsOwn owner entries (Authorises session)
+
+-- an own Override of the session that says the word is held
+abbrev pub HasOverridden : ℕ → List Entry → ℕ → How → Type 0
+HasOverridden owner entries session how = HoldsOwn owner entries (λ deed. deed ≡ Override session how)
+
+-- the other word of an Override
+abbrev pub other : How → How
+other word.Cancel = word.Cast
+other word.Cast = word.Cancel
+
+-- a Commit of the session is held, by whichever booth
+abbrev pub IsCommitted : List Entry → ℕ → Type 0
+IsCommitted entries session = Holds entries (Commits session)
 
 -- an own Authorise of the booth and the session is held, and the session hasn't ended
 abbrev pub IsRunning : ℕ → List Entry → ℕ → ℕ → Type 0

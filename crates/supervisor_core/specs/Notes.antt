@@ -10,4 +10,7 @@ pub record Notes : Type 0 where
   pub authorised : List ℕ
   pub running : List Running
   pub ended : List ℕ
+  pub to_cancel : List ℕ
+  pub to_cast : List ℕ
+  pub committed : List ℕ
   pub spare : ℕ

@@ -3,8 +3,6 @@ ghost use Rattle.std.specs.Prelude.{◌≡◌, ◌==◌, ◌<◌, ◌≤◌, ◌
 ghost use Rattle.std.specs.Prelude.{[], ◌∷◌, ◌++◌, Any, IsTrue, filter, not, length};
 ghost use Rattle.std.specs.Prelude.{vec_len, vec_capacity};
 
-use deed_history::push_reserved;
-
 /// A session that was authorised and hasn't ended.
 #[derive(Clone, Copy, Debug, PartialEq, Eq)]
 pub struct Running {
@@ -53,5 +51,5 @@ pub fn end_session(running: &mut Vec<Running>, ended: &mut Vec<u32>, session: u3
     ensures ended_capacity { vec_capacity ended.old ≤ vec_capacity ended.new }
 {
     take_out(running, session);
-    push_reserved(ended, session);
+    ended.push_reserved(session);
 }

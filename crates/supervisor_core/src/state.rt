@@ -1,14 +1,17 @@
 //! The supervisor's state and its rules.
-ghost use Rattle.std.specs.Prelude.{◌≡◌, ◌+◌, ◌≤◌, List, [], ◌∷◌, ◌++◌, ℕ, IfOk};
+ghost use Rattle.std.specs.Prelude.{◌≡◌, ◌↔◌, ◌+◌, ◌≤◌, List, [], ◌∷◌, ◌++◌, ℕ, IfOk, IsTrue, Contains};
 ghost use Rattle.entry_format.specs.declared.entry.Entry.{Entry};
-ghost use Rattle.deed_history.specs.Deeds.{IsSupervisorDeed};
+ghost use Rattle.entry_format.specs.declared.deed.How.TheVariants.{Cast};
+ghost use Rattle.entry_format.specs.Deeds.{IsDeedOf};
+ghost use Rattle.roster.specs.declared.post.Role.TheVariants.{Supervisor};
+ghost use Rattle.supervisor_core.specs.Causes.{HasOverridden, other};
 ghost use Rattle.supervisor_core.specs.State.{StandsFor};
 ghost use Rattle.supervisor_core.specs.Table.{Refuses};
 ghost use Rattle.supervisor_core.specs.CauseWords.{supervisor_not_word};
 
 use crate::running::{Running, end_session, is_any_left, is_busy};
-use deed_history::{first_of, push_reserved};
-use entry_format::{Deed, Entry};
+use entry_format::{Deed, Entry, How};
+use first_cause::first_of;
 use std::alloc::{AllocError, Global};
 use std::marker::Model;
 use thiserror::Error;
@@ -35,6 +38,10 @@ pub enum SupervisorNot {
     SessionEnded,
     #[error("a session hasn't ended")]
     SessionsLeft,
+    #[error("the session was overridden with the other word")]
+    OtherOverride,
+    #[error("no ballot was committed in the session")]
+    NothingCommitted,
 }
 
 impl SupervisorNot {
@@ -51,6 +58,8 @@ impl SupervisorNot {
             SupervisorNot::NoSession => "NoSession",
             SupervisorNot::SessionEnded => "SessionEnded",
             SupervisorNot::SessionsLeft => "SessionsLeft",
+            SupervisorNot::OtherOverride => "OtherOverride",
+            SupervisorNot::NothingCommitted => "NothingCommitted",
         }
     }
 }
@@ -65,8 +74,14 @@ pub struct SupervisorState {
     authorised: Vec<u32>,
     /// Those that haven't ended.
     running: Vec<Running>,
-    /// The sessions of the held Casts and Cancels, authorised or not.
+    /// The sessions of the held Casts, Cancels and Challenges, authorised or not.
     ended: Vec<u32>,
+    /// The sessions that it overrode by cancelling.
+    to_cancel: Vec<u32>,
+    /// The sessions that it overrode by casting.
+    to_cast: Vec<u32>,
+    /// The sessions of the held Commits, authorised or not.
+    committed: Vec<u32>,
     /// How many entries more there is room for.
     spare: usize,
 }
@@ -84,12 +99,18 @@ impl Model for SupervisorState {
       authorised = s.authorised.items;
       running = s.running.items;
       ended = s.ended.items;
+      to_cancel = s.to_cancel.items;
+      to_cast = s.to_cast.items;
+      committed = s.committed.items;
       spare = s.spare;
     } };
 
     ghost invariant = { λ s. (vec_len s.authorised + s.spare ≤ vec_capacity s.authorised)
         × (vec_len s.running + s.spare ≤ vec_capacity s.running)
-        × (vec_len s.ended + s.spare ≤ vec_capacity s.ended) };
+        × (vec_len s.ended + s.spare ≤ vec_capacity s.ended)
+        × (vec_len s.to_cancel + s.spare ≤ vec_capacity s.to_cancel)
+        × (vec_len s.to_cast + s.spare ≤ vec_capacity s.to_cast)
+        × (vec_len s.committed + s.spare ≤ vec_capacity s.committed) };
 }
 
 impl SupervisorState {
@@ -106,6 +127,9 @@ impl SupervisorState {
             authorised: Vec::with_capacity(alloc, count)?,
             running: Vec::with_capacity(alloc, count)?,
             ended: Vec::with_capacity(alloc, count)?,
+            to_cancel: Vec::with_capacity(alloc, count)?,
+            to_cast: Vec::with_capacity(alloc, count)?,
+            committed: Vec::with_capacity(alloc, count)?,
             spare: count,
         })
     }
@@ -124,9 +148,9 @@ impl SupervisorState {
             Deed::Closed => self.closed |= own,
             Deed::Authorise { booth, session } => {
                 if own {
-                    push_reserved(&mut self.authorised, session);
+                    self.authorised.push_reserved(session);
                     if !self.ended.contains(&session) {
-                        push_reserved(&mut self.running, Running { booth, session });
+                        self.running.push_reserved(Running { booth, session });
                     }
                 }
             }
@@ -136,7 +160,40 @@ impl SupervisorState {
             Deed::Cancel { session } => {
                 end_session(&mut self.running, &mut self.ended, session);
             }
-            Deed::Override { .. } | Deed::Activate { .. } | Deed::Commit { .. } => {}
+            Deed::Challenge { session, .. } => {
+                end_session(&mut self.running, &mut self.ended, session);
+            }
+            Deed::Override { session, how } => {
+                if own {
+                    match how {
+                        How::Cancel => self.to_cancel.push_reserved(session),
+                        How::Cast => self.to_cast.push_reserved(session),
+                    }
+                }
+            }
+            Deed::Commit { session, .. } => self.committed.push_reserved(session),
+            Deed::Activate { .. } => {}
+        }
+    }
+
+    /// Whether it overrode the session with the other word.
+    fn has_other_override(&self, session: u32, how: How) -> bool
+        ensures { (owner : ℕ) (entries : List Entry) → StandsFor self.now owner entries →
+            IsTrue result ↔ HasOverridden owner entries session (other how) }
+    {
+        match how {
+            How::Cancel => self.to_cast.contains(&session),
+            How::Cast => self.to_cancel.contains(&session),
+        }
+    }
+
+    /// Whether an override with the word would cast where nothing was committed.
+    fn lacks_commitment(&self, session: u32, how: How) -> bool
+        ensures { IsTrue result ↔ ((how ≡ Cast) × (¬ Contains self.now.committed session)) }
+    {
+        match how {
+            How::Cancel => false,
+            How::Cast => !self.committed.contains(&session),
         }
     }
 
@@ -147,7 +204,7 @@ impl SupervisorState {
     ///
     /// The first cause that applies, in the order of the deed's row.
     pub fn may(&self, deed: &Deed) -> Result<(), SupervisorNot>
-        requires { IsSupervisorDeed deed.now }
+        requires { IsDeedOf Supervisor deed.now }
         ensures { (owner : ℕ) (entries : List Entry) → StandsFor self.now owner entries →
             Refuses owner entries deed.now result }
     {
@@ -162,20 +219,31 @@ impl SupervisorState {
                 ),
                 (is_busy(&self.running, booth), SupervisorNot::BoothBusy),
             ]),
-            Deed::Override { session } => first_of(&[
+            Deed::Override { session, how } => first_of(&[
                 (
                     !self.authorised.contains(&session),
                     SupervisorNot::NoSession,
                 ),
                 (self.ended.contains(&session), SupervisorNot::SessionEnded),
+                (
+                    self.has_other_override(session, how),
+                    SupervisorNot::OtherOverride,
+                ),
+                (
+                    self.lacks_commitment(session, how),
+                    SupervisorNot::NothingCommitted,
+                ),
             ]),
             Deed::Closed => first_of(&[
                 (!self.opened, SupervisorNot::NotOpened),
                 (self.closed, SupervisorNot::Closed),
                 (is_any_left(&self.running), SupervisorNot::SessionsLeft),
             ]),
-            Deed::Activate { .. } | Deed::Commit { .. } | Deed::Cast { .. } | Deed::Cancel { .. } =>
-                Ok(()),
+            Deed::Activate { .. }
+            | Deed::Commit { .. }
+            | Deed::Cast { .. }
+            | Deed::Cancel { .. }
+            | Deed::Challenge { .. } => Ok(()),
         }
     }
 }

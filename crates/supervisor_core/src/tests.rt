@@ -1,9 +1,10 @@
 //! Histories in which each cause applies alone, in which each two causes of a row apply together,
 //! and in which an entry comes near to a cause. The answers are those of another program.
-ghost use Rattle.deed_history.specs.Deeds.{IsSupervisorDeed};
+ghost use Rattle.entry_format.specs.Deeds.{IsDeedOf};
+ghost use Rattle.roster.specs.declared.post.Role.TheVariants.{Supervisor};
 
 use super::*;
-use entry_format::{Deed, Entry, Names};
+use entry_format::{Deed, Entry, How, Names};
 use std::alloc::{AllocError, Global};
 use std::test::Fail;
 
@@ -19,30 +20,46 @@ fn event(words: &str) -> (u32, Deed) {
         "authorised 7 at 1" => (OWNER, authorise(1, 7)),
         "authorised 7 at 2" => (OWNER, authorise(2, 7)),
         "authorised 8 at 1" => (OWNER, authorise(1, 8)),
-        "overridden 7" => (OWNER, Deed::Override { session: 7 }),
+        "overridden 7 to cancel" => (OWNER, override_by(7, How::Cancel)),
+        "overridden 7 to cast" => (OWNER, override_by(7, How::Cast)),
+        "overridden 8 to cast" => (OWNER, override_by(8, How::Cast)),
+        "booth commits 7" => (1, Deed::Commit { session: 7, ballot }),
+        "booth commits 8" => (1, Deed::Commit { session: 8, ballot }),
         "booth casts 7" => (1, Deed::Cast { session: 7, ballot }),
+        "booth challenges 7" => (1, Deed::Challenge { session: 7, ballot }),
+        "booth challenges 8" => (1, Deed::Challenge { session: 8, ballot }),
         "booth cancels 7" => (1, Deed::Cancel { session: 7 }),
         "booth cancels 8" => (1, Deed::Cancel { session: 8 }),
         "booth 2 opens" => (2, Deed::Opened),
         "booth 2 closes" => (2, Deed::Closed),
-        _ => (2, authorise(2, 7)),
+        "booth 2 authorises 7 at 2" => (2, authorise(2, 7)),
+        "booth 2 overrides 7 to cancel" => (2, override_by(7, How::Cancel)),
+        "booth 2 overrides 7 to cast" => (2, override_by(7, How::Cast)),
+        _ => (2, Deed::Commit { session: 7, ballot }),
     }
 }
 
 fn authorise(booth: u32, session: u32) -> Deed
-    ensures { IsSupervisorDeed result }
+    ensures { IsDeedOf Supervisor result }
 {
     Deed::Authorise { booth, session }
+}
+
+fn override_by(session: u32, how: How) -> Deed
+    ensures { IsDeedOf Supervisor result }
+{
+    Deed::Override { session, how }
 }
 
 fn entry_of(alloc: Global, words: &str) -> Entry {
     let (maker, deed) = event(words);
     Entry {
+        version: 2,
         election: [0; 32],
         maker,
         number: 0,
         stamp: 1,
-        names: Names::new(Vec::new(alloc)),
+        names: Names::new(alloc),
         deed,
     }
 }
@@ -66,7 +83,7 @@ fn entries_in<'a>(alloc: Global, history: &'a str) -> Result<Vec<&'a str>, Alloc
 
 /// The answer for the deed after the history, in words.
 fn answer(rt: &HostRuntime, history: &str, deed: &Deed) -> Result<String, Fail>
-    requires { IsSupervisorDeed deed.now }
+    requires { IsDeedOf Supervisor deed.now }
 {
     let history = entries_in(rt.alloc(), history)?;
     let state = state_of(rt.alloc(), history.as_slice())?;
@@ -78,12 +95,13 @@ fn answer(rt: &HostRuntime, history: &str, deed: &Deed) -> Result<String, Fail>
 
 /// The deed of a row.
 fn deed_named(word: &str) -> Deed
-    ensures { IsSupervisorDeed result }
+    ensures { IsDeedOf Supervisor result }
 {
     match word {
         "Opened" => Deed::Opened,
         "Authorise" => authorise(1, 7),
-        "Override" => Deed::Override { session: 7 },
+        "Override to cancel" => override_by(7, How::Cancel),
+        "Override to cast" => override_by(7, How::Cast),
         _ => Deed::Closed,
     }
 }
@@ -118,16 +136,40 @@ Authorise;opened,booth 2 closes;Ok
 Authorise;opened,booth 2 authorises 7 at 2;Ok
 Authorise;opened,authorised 8 at 1,booth cancels 8;Ok
 Authorise;opened,booth cancels 8,authorised 8 at 1;Ok
+Authorise;opened,authorised 8 at 1,booth challenges 8;Ok
+Authorise;opened,booth challenges 8,authorised 8 at 1;Ok
 Authorise;opened,authorised 7 at 1,booth cancels 7;SessionUsed
-Override;authorised 7 at 1;Ok
-Override;;NoSession
-Override;authorised 7 at 1,booth casts 7;SessionEnded
-Override;booth casts 7;NoSession
-Override;booth 2 authorises 7 at 2;NoSession
-Override;authorised 7 at 1,booth cancels 7;SessionEnded
-Override;booth cancels 7,authorised 7 at 1;SessionEnded
-Override;authorised 7 at 1,booth cancels 8;Ok
-Override;authorised 7 at 1,overridden 7;Ok
+Override to cancel;authorised 7 at 1;Ok
+Override to cancel;;NoSession
+Override to cancel;authorised 7 at 1,booth casts 7;SessionEnded
+Override to cancel;authorised 7 at 1,overridden 7 to cast;OtherOverride
+Override to cancel;booth casts 7;NoSession
+Override to cancel;overridden 7 to cast;NoSession
+Override to cancel;authorised 7 at 1,booth casts 7,overridden 7 to cast;SessionEnded
+Override to cancel;booth 2 authorises 7 at 2;NoSession
+Override to cancel;authorised 7 at 1,booth cancels 7;SessionEnded
+Override to cancel;booth cancels 7,authorised 7 at 1;SessionEnded
+Override to cancel;authorised 7 at 1,booth challenges 7;SessionEnded
+Override to cancel;authorised 7 at 1,booth cancels 8;Ok
+Override to cancel;authorised 7 at 1,overridden 7 to cancel;Ok
+Override to cancel;authorised 7 at 1,overridden 8 to cast;Ok
+Override to cancel;authorised 7 at 1,booth 2 overrides 7 to cast;Ok
+Override to cast;authorised 7 at 1,booth commits 7;Ok
+Override to cast;;NoSession
+Override to cast;authorised 7 at 1,booth commits 7,booth casts 7;SessionEnded
+Override to cast;authorised 7 at 1,booth commits 7,overridden 7 to cancel;OtherOverride
+Override to cast;authorised 7 at 1;NothingCommitted
+Override to cast;booth casts 7;NoSession
+Override to cast;overridden 7 to cancel;NoSession
+Override to cast;booth commits 7;NoSession
+Override to cast;authorised 7 at 1,booth commits 7,booth casts 7,overridden 7 to cancel;SessionEnded
+Override to cast;authorised 7 at 1,booth casts 7;SessionEnded
+Override to cast;authorised 7 at 1,overridden 7 to cancel;OtherOverride
+Override to cast;authorised 7 at 1,booth commits 7,booth challenges 7;SessionEnded
+Override to cast;authorised 7 at 1,booth 2 commits 7;Ok
+Override to cast;authorised 7 at 1,booth commits 8;NothingCommitted
+Override to cast;authorised 7 at 1,booth commits 7,overridden 7 to cast;Ok
+Override to cast;authorised 7 at 1,booth commits 7,booth 2 overrides 7 to cancel;Ok
 Closed;opened;Ok
 Closed;;NotOpened
 Closed;opened,closed;Closed
@@ -139,9 +181,11 @@ Closed;booth 2 opens;NotOpened
 Closed;opened,booth 2 closes;Ok
 Closed;opened,authorised 8 at 1,booth cancels 8;Ok
 Closed;opened,booth cancels 8,authorised 8 at 1;Ok
+Closed;opened,authorised 8 at 1,booth challenges 8;Ok
 Closed;opened,authorised 8 at 1,authorised 7 at 2,booth cancels 8;SessionsLeft
 Closed;opened,booth 2 authorises 7 at 2;Ok
-Closed;opened,authorised 7 at 1,overridden 7;SessionsLeft
+Closed;opened,authorised 7 at 1,overridden 7 to cancel;SessionsLeft
+Closed;opened,authorised 7 at 1,overridden 7 to cast;SessionsLeft
 Closed;opened,authorised 7 at 1,booth casts 7;Ok";
 
 #[test]

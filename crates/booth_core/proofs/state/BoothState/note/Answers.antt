@@ -1,8 +1,9 @@
 use Rattle.std.proofs.Common.{◌∙◌, ap, sym, subst}
-use Rattle.entry_format.specs.declared.deed.Deed.TheVariants.{Authorise, Activate, Commit, Cast, Cancel}
-use Rattle.deed_history.proofs.Ending.{cast_ends, cancel_ends}
+use Rattle.entry_format.specs.declared.deed.Deed.TheVariants.{Authorise, Override, Activate, Commit, Cast, Cancel}
+use Rattle.entry_format.specs.declared.deed.Deed.TheVariants.{Challenge}
+use Rattle.deed_history.proofs.Ending.{cast_ends, cancel_ends, challenge_ends}
 use Rattle.booth_core.specs.State.{StandsFor}
-use Rattle.booth_core.proofs.Noted.{noted_other, noted_authorised, noted_overridden, noted_closed, noted_activated}
+use Rattle.booth_core.proofs.Noted.{noted_other, noted_authorised, noted_to_cancel, noted_to_cast, noted_closed, noted_activated}
 use Rattle.booth_core.proofs.Noted.{noted_committed, noted_ended, other_of_another, other_opened, other_booth}
 use Rattle.booth_core.proofs.state.BoothState.note.Goals as goal
 
@@ -21,11 +22,19 @@ returns-else-booth-self-clause-kept c = λ owner entries stands.
     (other_booth owner c.args.entry.now c.in-Authorise.booth c.in-Authorise.session c.in-Authorise.is
     (λ same. c.if-booth-self.false (same ∙ sym before.same_owner)))
 
-pub returns-in-Override-clause-kept : goal.returns-in-Override-clause-kept
-returns-in-Override-clause-kept c = λ owner entries stands.
+pub returns-in-Cancel-how-clause-kept : goal.returns-in-Cancel-how-clause-kept
+returns-in-Cancel-how-clause-kept c = λ owner entries stands.
     let before = subst (λ notes. StandsFor notes owner entries) (sym c.self.view_is) stands in
-    rw (c.push_reserved-in-Override.ensures.items)
-    (noted_overridden _ _ owner entries c.args.entry.now c.in-Override.session before c.in-Override.is)
+    rw (c.push_reserved-in-Cancel-how.ensures.items)
+    (noted_to_cancel _ _ owner entries c.args.entry.now c.in-Override.session before
+    (c.in-Override.is ∙ ap (Override c.in-Override.session) c.in-Cancel-how.is))
+
+pub returns-in-Cast-how-clause-kept : goal.returns-in-Cast-how-clause-kept
+returns-in-Cast-how-clause-kept c = λ owner entries stands.
+    let before = subst (λ notes. StandsFor notes owner entries) (sym c.self.view_is) stands in
+    rw (c.push_reserved-in-Cast-how.ensures.items)
+    (noted_to_cast _ _ owner entries c.args.entry.now c.in-Override.session before
+    (c.in-Override.is ∙ ap (Override c.in-Override.session) c.in-Cast-how.is))
 
 pub returns-in-Closed-clause-kept : goal.returns-in-Closed-clause-kept
 returns-in-Closed-clause-kept c = λ owner entries stands.
@@ -92,3 +101,18 @@ pub returns-in-Opened-clause-kept : goal.returns-in-Opened-clause-kept
 returns-in-Opened-clause-kept c = λ owner entries stands.
     let before = subst (λ notes. StandsFor notes owner entries) (sym c.self.view_is) stands in
     noted_other _ _ owner entries c.args.entry.now before (other_opened owner c.args.entry.now c.in-Opened.is)
+
+pub returns-then-own-5-clause-kept : goal.returns-then-own-5-clause-kept
+returns-then-own-5-clause-kept c = λ owner entries stands.
+    let before = subst (λ notes. StandsFor notes owner entries) (sym c.self.view_is) stands in
+    rw (c.push_reserved-then-own-5.ensures.items)
+    (noted_ended _ _ owner entries c.args.entry.now c.in-Challenge.session before
+    (challenge_ends c.args.entry.now c.in-Challenge.session c.in-Challenge.ballot c.in-Challenge.is)
+    (c.if-own-5.true ∙ before.same_owner))
+
+pub returns-else-own-5-clause-kept : goal.returns-else-own-5-clause-kept
+returns-else-own-5-clause-kept c = λ owner entries stands.
+    let before = subst (λ notes. StandsFor notes owner entries) (sym c.self.view_is) stands in
+    noted_other _ _ owner entries c.args.entry.now before
+    (other_of_another owner c.args.entry.now (Challenge c.in-Challenge.session c.in-Challenge.ballot) c.in-Challenge.is
+    tt (λ own. c.if-own-5.false (own ∙ sym before.same_owner)))

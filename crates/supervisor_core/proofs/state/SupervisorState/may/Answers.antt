@@ -1,5 +1,6 @@
 use Rattle.std.proofs.Common.{◌≡◌, ◌<◌, length, sym, subst}
-use Rattle.std.specs.Prelude.{Any, IsTrue, ◌↔◌}
+use Rattle.std.specs.Prelude.{Any, IsTrue, Contains, ◌↔◌}
+use Rattle.entry_format.specs.declared.deed.How.TheVariants.{Cast}
 use Rattle.deed_history.proofs.Members.{is_listed}
 use Rattle.supervisor_core.specs.State.{StandsFor}
 use Rattle.supervisor_core.specs.Table.{Refuses}
@@ -19,10 +20,15 @@ returns-in-Authorise c = λ owner entries stands.
 pub returns-in-Override : goal.returns-in-Override
 returns-in-Override c = λ owner entries stands.
     subst (λ deed. Refuses owner entries deed c.first_of-in-Override.result) (sym c.in-Override.is)
-    (override_row _ owner entries c.in-Override.session c.contains-in-Override.result c.contains-in-Override-2.result _
+    (override_row _ owner entries c.in-Override.session c.in-Override.how c.contains-in-Override.result
+    c.contains-in-Override-2.result c.has_other_override.result c.lacks_commitment.result _
     (subst (λ notes. StandsFor notes owner entries) (sym c.self.view_is) stands)
     (is_listed _ _ _ c.in-Override.session c.contains-in-Override.ensures.value c.deref-in-Override.ensures.value)
     (is_listed _ _ _ c.in-Override.session c.contains-in-Override-2.ensures.value c.deref-in-Override-2.ensures.value)
+    (c.has_other_override.ensures owner entries stands)
+    (subst (λ notes. IsTrue c.lacks_commitment.result
+    ↔ ((c.in-Override.how ≡ Cast) × (Contains notes.committed c.in-Override.session → ⊥))) (sym c.self.view_is)
+    c.lacks_commitment.ensures)
     c.first_of-in-Override.ensures)
 
 pub returns-in-Closed : goal.returns-in-Closed

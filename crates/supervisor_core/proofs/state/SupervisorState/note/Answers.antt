@@ -1,11 +1,11 @@
-use Rattle.std.proofs.Common.{◌≡◌, ◌∙◌, ℕ, true, inl, inr, sym, subst}
-use Rattle.entry_format.specs.declared.deed.Deed.TheVariants.{Override, Activate, Commit}
+use Rattle.std.proofs.Common.{◌≡◌, ◌∙◌, ℕ, true, ap, sym, subst}
+use Rattle.entry_format.specs.declared.deed.Deed.TheVariants.{Override}
 use Rattle.deed_history.specs.Held.{HasEnded}
-use Rattle.deed_history.proofs.Ending.{no_end, cast_ends, cancel_ends}
+use Rattle.deed_history.proofs.Ending.{no_end, cast_ends, cancel_ends, challenge_ends}
 use Rattle.deed_history.proofs.Members.{is_listed}
 use Rattle.supervisor_core.specs.State.{StandsFor}
 use Rattle.supervisor_core.proofs.Noted.{noted_opened, noted_closed, noted_other, noted_running, noted_ended_before}
-use Rattle.supervisor_core.proofs.Noted.{noted_end, other_deed}
+use Rattle.supervisor_core.proofs.Noted.{noted_end, noted_to_cancel, noted_to_cast, noted_committed, other_activate}
 use Rattle.supervisor_core.proofs.state.SupervisorState.note.Goals as goal
 
 pub returns-in-Opened-clause-kept : goal.returns-in-Opened-clause-kept
@@ -48,20 +48,10 @@ returns-else-own-clause-kept c = λ owner entries stands.
       opened = λ such. other such.0;
       closed = λ such. other such.0;
       authorised = λ booth session such. other such.0;
-      ended = λ session. no_end c.args.entry.now.deed session (λ ballot e. cc) (λ e. cc);
+      overridden = λ session how such. other such.0;
+      committed = λ session such. cc (such.1);
+      ended = λ session. no_end c.args.entry.now.deed session (λ ballot e. cc) (λ e. cc) (λ ballot e. cc);
     })
-
-pub returns-in-Override-clause-kept : goal.returns-in-Override-clause-kept
-returns-in-Override-clause-kept c = λ owner entries stands.
-    noted_other _ _ owner entries c.args.entry.now
-    (subst (λ notes. StandsFor notes owner entries) (sym c.self.view_is) stands)
-    (elim c.in-Override.is [
-      | inl one ↦ other_deed owner c.args.entry.now (Override one.0) one.1 tt
-      | inr others ↦ elim others [
-        | inl one ↦ other_deed owner c.args.entry.now (Activate one.0) one.1 tt
-        | inr one ↦ other_deed owner c.args.entry.now (Commit one.0 one.1) one.2 tt
-      ]
-    ])
 
 pub returns-in-Cast-clause-kept : goal.returns-in-Cast-clause-kept
 returns-in-Cast-clause-kept c = λ owner entries stands.
@@ -76,3 +66,49 @@ returns-in-Cancel-clause-kept c = λ owner entries stands.
     (noted_end _ _ owner entries c.args.entry.now c.in-Cancel.session
     (subst (λ notes. StandsFor notes owner entries) (sym c.self.view_is) stands)
     (cancel_ends c.args.entry.now c.in-Cancel.session c.in-Cancel.is))
+
+pub returns-in-Challenge-clause-kept : goal.returns-in-Challenge-clause-kept
+returns-in-Challenge-clause-kept c = λ owner entries stands.
+    rw (c.end_session-in-Challenge.ensures.running, c.end_session-in-Challenge.ensures.ended)
+    (noted_end _ _ owner entries c.args.entry.now c.in-Challenge.session
+    (subst (λ notes. StandsFor notes owner entries) (sym c.self.view_is) stands)
+    (challenge_ends c.args.entry.now c.in-Challenge.session c.in-Challenge.ballot c.in-Challenge.is))
+
+pub returns-in-Cancel-how-clause-kept : goal.returns-in-Cancel-how-clause-kept
+returns-in-Cancel-how-clause-kept c = λ owner entries stands.
+    let before = subst (λ notes. StandsFor notes owner entries) (sym c.self.view_is) stands in
+    rw (c.push_reserved-in-Cancel-how.ensures.items)
+    (noted_to_cancel _ _ owner entries c.args.entry.now c.in-Override.session before
+    (c.in-Override.is ∙ ap (Override c.in-Override.session) c.in-Cancel-how.is) (c.if-own-2.true ∙ before.same_owner))
+
+pub returns-in-Cast-how-clause-kept : goal.returns-in-Cast-how-clause-kept
+returns-in-Cast-how-clause-kept c = λ owner entries stands.
+    let before = subst (λ notes. StandsFor notes owner entries) (sym c.self.view_is) stands in
+    rw (c.push_reserved-in-Cast-how.ensures.items)
+    (noted_to_cast _ _ owner entries c.args.entry.now c.in-Override.session before
+    (c.in-Override.is ∙ ap (Override c.in-Override.session) c.in-Cast-how.is) (c.if-own-2.true ∙ before.same_owner))
+
+pub returns-else-own-2-clause-kept : goal.returns-else-own-2-clause-kept
+returns-else-own-2-clause-kept c = λ owner entries stands.
+    let before = subst (λ notes. StandsFor notes owner entries) (sym c.self.view_is) stands in
+    let other : c.args.entry.now.maker ≡ owner → ⊥ = λ own. c.if-own-2.false (own ∙ sym before.same_owner) in
+    noted_other _ _ owner entries c.args.entry.now before (record {
+      opened = λ such. other such.0;
+      closed = λ such. other such.0;
+      authorised = λ booth session such. other such.0;
+      overridden = λ session how such. other such.0;
+      committed = λ session such. cc (such.1);
+      ended = λ session. no_end c.args.entry.now.deed session (λ ballot e. cc) (λ e. cc) (λ ballot e. cc);
+    })
+
+pub returns-in-Commit-clause-kept : goal.returns-in-Commit-clause-kept
+returns-in-Commit-clause-kept c = λ owner entries stands.
+    let before = subst (λ notes. StandsFor notes owner entries) (sym c.self.view_is) stands in
+    rw (c.push_reserved-in-Commit.ensures.items)
+    (noted_committed _ _ owner entries c.args.entry.now c.in-Commit.session c.in-Commit.ballot before c.in-Commit.is)
+
+pub returns-in-Activate-clause-kept : goal.returns-in-Activate-clause-kept
+returns-in-Activate-clause-kept c = λ owner entries stands.
+    noted_other _ _ owner entries c.args.entry.now
+    (subst (λ notes. StandsFor notes owner entries) (sym c.self.view_is) stands)
+    (other_activate owner c.args.entry.now c.in-Activate.session c.in-Activate.is)

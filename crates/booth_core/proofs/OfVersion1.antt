@@ -1,0 +1,95 @@
+-- A booth's table over histories and deeds of version 1.
+use Rattle.std.proofs.Common.{◌≡◌, ℕ, List, refl, subst}
+use Rattle.std.specs.Prelude.{All, ◌↔◌}
+use Rattle.entry_format.specs.declared.deed.Deed.{Deed}
+use Rattle.entry_format.specs.declared.deed.Deed.TheVariants.{Opened, Authorise, Override, Closed, Activate, Commit}
+use Rattle.entry_format.specs.declared.deed.Deed.TheVariants.{Cast, Cancel, Challenge}
+use Rattle.entry_format.specs.declared.deed.How.TheVariants as word
+use Rattle.entry_format.specs.declared.entry.Entry.{Entry}
+use Rattle.entry_format.specs.EntryText.{IsDeedIn}
+use Rattle.deed_history.specs.Deeds.{Overrides, Ends}
+use Rattle.deed_history.specs.VersionOne.{EndsInVersion1}
+use Rattle.deed_history.proofs.VersionOne.{any_alike, no_challenge, no_cast_override, overrides_alike, ends_alike}
+use Rattle.deed_history.proofs.VersionOne.{IsAlike, IsNoneOf}
+use Rattle.booth_core.specs.declared.state.BoothNot.TheVariants.{CastForced}
+use Rattle.booth_core.specs.Causes.{IsOverridden, IsOverriddenTo, HasEndedOwn}
+use Rattle.booth_core.specs.Table.{causes_of}
+use Rattle.booth_core.specs.VersionOne.{HasEndedInVersion1, IsOverriddenInVersion1, causes_in_version_1}
+
+abbrev AreOfVersion1 : List Entry → Type 0
+AreOfVersion1 entries = All (λ entry. IsDeedIn 1 entry.deed) entries
+
+ended_alike : (owner : ℕ) (entries : List Entry) (session : ℕ) → AreOfVersion1 entries →
+    HasEndedOwn owner entries session ↔ HasEndedInVersion1 owner entries session
+ended_alike owner entries session all =
+    any_alike (λ entry. IsDeedIn 1 entry.deed) (λ entry. (entry.maker ≡ owner) × Ends session entry.deed)
+    (λ entry. (entry.maker ≡ owner) × EndsInVersion1 session entry.deed) entries all
+    (λ entry one. (
+      λ such. (such.0, (ends_alike entry.deed session one).0 such.1),
+      λ such. (such.0, (ends_alike entry.deed session one).1 such.1),
+    ))
+
+overridden_alike : (entries : List Entry) (session : ℕ) → AreOfVersion1 entries →
+    IsOverridden entries session ↔ IsOverriddenInVersion1 entries session
+overridden_alike entries session all =
+    any_alike (λ entry. IsDeedIn 1 entry.deed) (λ entry. Overrides session entry.deed)
+    (λ entry. entry.deed ≡ Override session word.Cancel) entries all
+    (λ entry one. overrides_alike entry.deed session one)
+
+-- no override says cast
+none_casts : (entries : List Entry) (session : ℕ) → AreOfVersion1 entries →
+    IsOverriddenTo word.Cast entries session → ⊥
+none_casts entries session all any =
+    let one : IsDeedIn 1 any.1.deed = subst (λ entry. IsDeedIn 1 entry.deed) any.3 (all any.0 any.1 any.2) in
+    no_cast_override any.1.deed session one any.4
+
+pub rows_alike : (owner : ℕ) (entries : List Entry) (IsWhole : Type 0) (deed : Deed) → AreOfVersion1 entries →
+    IsDeedIn 1 deed → IsAlike (causes_of owner entries IsWhole deed) (causes_in_version_1 owner entries IsWhole deed)
+rows_alike owner entries IsWhole (Activate session) all one = (
+  (λ is. is, λ is. is),
+  refl,
+  (
+    ended_alike owner entries session all,
+    refl,
+    ((λ is. is, λ is. is), refl, (overridden_alike entries session all, refl, ((λ is. is, λ is. is), refl, tt))),
+  ),
+)
+rows_alike owner entries IsWhole (Commit session ballot) all one = (
+  (λ is. is, λ is. is),
+  refl,
+  (
+    ended_alike owner entries session all,
+    refl,
+    ((λ is. is, λ is. is), refl, (overridden_alike entries session all, refl, ((λ is. is, λ is. is), refl, tt))),
+  ),
+)
+rows_alike owner entries IsWhole (Cast session ballot) all one = (
+  (λ is. is, λ is. is),
+  refl,
+  (
+    ended_alike owner entries session all,
+    refl,
+    ((λ is. is, λ is. is), refl, ((λ is. is, λ is. is), refl, ((λ is. is, λ is. is), refl, tt))),
+  ),
+)
+rows_alike owner entries IsWhole (Cancel session) all one = (
+  (λ is. is, λ is. is),
+  refl,
+  (ended_alike owner entries session all, refl, (none_casts entries session all, tt)),
+)
+rows_alike owner entries IsWhole (Challenge session ballot) all one =
+    absurd (no_challenge (Challenge session ballot) session ballot one refl)
+rows_alike owner entries IsWhole Opened all one = tt
+rows_alike owner entries IsWhole (Authorise booth session) all one = tt
+rows_alike owner entries IsWhole (Override session how) all one = tt
+rows_alike owner entries IsWhole Closed all one = tt
+
+pub no_cast_forced : (owner : ℕ) (entries : List Entry) (IsWhole : Type 0) (deed : Deed) →
+    IsNoneOf (causes_in_version_1 owner entries IsWhole deed) CastForced
+no_cast_forced owner entries IsWhole (Activate session) = (λ e. cc, (λ e. cc, (λ e. cc, (λ e. cc, (λ e. cc, tt)))))
+no_cast_forced owner entries IsWhole (Commit session ballot) =
+    (λ e. cc, (λ e. cc, (λ e. cc, (λ e. cc, (λ e. cc, tt)))))
+no_cast_forced owner entries IsWhole (Cast session ballot) =
+    (λ e. cc, (λ e. cc, (λ e. cc, (λ e. cc, (λ e. cc, tt)))))
+no_cast_forced owner entries IsWhole (Cancel session) = (λ e. cc, (λ e. cc, tt))
+no_cast_forced owner entries IsWhole _ = tt

@@ -1,0 +1,94 @@
+-- The supervisor's table over histories and deeds of version 1.
+use Rattle.std.proofs.Common.{ℕ, List, refl, subst}
+use Rattle.std.specs.Prelude.{All, ◌↔◌}
+use Rattle.entry_format.specs.declared.deed.Deed.{Deed}
+use Rattle.entry_format.specs.declared.deed.Deed.TheVariants.{Opened, Authorise, Override, Closed, Activate, Commit}
+use Rattle.entry_format.specs.declared.deed.Deed.TheVariants.{Cast, Cancel, Challenge}
+use Rattle.entry_format.specs.declared.deed.How.TheVariants as word
+use Rattle.entry_format.specs.declared.entry.Entry.{Entry}
+use Rattle.entry_format.specs.EntryText.{IsDeedIn}
+use Rattle.deed_history.specs.Deeds.{Ends}
+use Rattle.deed_history.specs.Held.{HasEnded}
+use Rattle.deed_history.specs.VersionOne.{EndsInVersion1}
+use Rattle.deed_history.proofs.VersionOne.{any_alike, no_cast_override, ends_alike, IsAlike, IsNoneOf}
+use Rattle.supervisor_core.specs.declared.state.SupervisorNot.TheVariants.{OtherOverride, NothingCommitted}
+use Rattle.supervisor_core.specs.Causes.{HasOverridden, IsBusy, HasSessionsLeft}
+use Rattle.supervisor_core.specs.Table.{causes_of}
+use Rattle.supervisor_core.specs.VersionOne.{HasEndedInVersion1, IsBusyInVersion1, HasSessionsLeftInVersion1}
+use Rattle.supervisor_core.specs.VersionOne.{causes_in_version_1}
+
+abbrev AreOfVersion1 : List Entry → Type 0
+AreOfVersion1 entries = All (λ entry. IsDeedIn 1 entry.deed) entries
+
+ended_alike : (entries : List Entry) (session : ℕ) → AreOfVersion1 entries →
+    HasEnded entries session ↔ HasEndedInVersion1 entries session
+ended_alike entries session all =
+    any_alike (λ entry. IsDeedIn 1 entry.deed) (λ entry. Ends session entry.deed)
+    (λ entry. EndsInVersion1 session entry.deed) entries all (λ entry one. ends_alike entry.deed session one)
+
+busy_alike : (owner : ℕ) (entries : List Entry) (booth : ℕ) → AreOfVersion1 entries →
+    IsBusy owner entries booth ↔ IsBusyInVersion1 owner entries booth
+busy_alike owner entries booth all = (
+  λ busy. (busy.0, (busy.1.0, λ ended. busy.1.1 ((ended_alike entries busy.0 all).1 ended))),
+  λ busy. (busy.0, (busy.1.0, λ ended. busy.1.1 ((ended_alike entries busy.0 all).0 ended))),
+)
+
+left_alike : (owner : ℕ) (entries : List Entry) → AreOfVersion1 entries →
+    HasSessionsLeft owner entries ↔ HasSessionsLeftInVersion1 owner entries
+left_alike owner entries all = (
+  λ left. (left.0, (busy_alike owner entries left.0 all).0 left.1),
+  λ left. (left.0, (busy_alike owner entries left.0 all).1 left.1),
+)
+
+-- no override says cast
+none_casts : (owner : ℕ) (entries : List Entry) (session : ℕ) → AreOfVersion1 entries →
+    HasOverridden owner entries session word.Cast → ⊥
+none_casts owner entries session all any =
+    let one : IsDeedIn 1 any.1.deed = subst (λ entry. IsDeedIn 1 entry.deed) any.3 (all any.0 any.1 any.2) in
+    no_cast_override any.1.deed session one any.4.1
+
+pub rows_alike : (owner : ℕ) (entries : List Entry) (deed : Deed) → AreOfVersion1 entries → IsDeedIn 1 deed →
+    IsAlike (causes_of owner entries deed) (causes_in_version_1 owner entries deed)
+rows_alike owner entries Opened all one = ((λ is. is, λ is. is), refl, tt)
+rows_alike owner entries (Authorise booth session) all one = (
+  (λ is. is, λ is. is),
+  refl,
+  ((λ is. is, λ is. is), refl, ((λ is. is, λ is. is), refl, (busy_alike owner entries booth all, refl, tt))),
+)
+rows_alike owner entries (Override session word.Cancel) all one = (
+  (λ is. is, λ is. is),
+  refl,
+  (
+    ended_alike entries session all,
+    refl,
+    (none_casts owner entries session all, (λ nothing. cc (nothing.0), tt)),
+  ),
+)
+rows_alike owner entries (Override session word.Cast) all one =
+    absurd (no_cast_override (Override session word.Cast) session one refl)
+rows_alike owner entries Closed all one = (
+  (λ is. is, λ is. is),
+  refl,
+  ((λ is. is, λ is. is), refl, (left_alike owner entries all, refl, tt)),
+)
+rows_alike owner entries (Activate session) all one = tt
+rows_alike owner entries (Commit session ballot) all one = tt
+rows_alike owner entries (Cast session ballot) all one = tt
+rows_alike owner entries (Cancel session) all one = tt
+rows_alike owner entries (Challenge session ballot) all one = tt
+
+pub no_other_override : (owner : ℕ) (entries : List Entry) (deed : Deed) →
+    IsNoneOf (causes_in_version_1 owner entries deed) OtherOverride
+no_other_override owner entries Opened = (λ e. cc, tt)
+no_other_override owner entries (Authorise booth session) = (λ e. cc, (λ e. cc, (λ e. cc, (λ e. cc, tt))))
+no_other_override owner entries (Override session how) = (λ e. cc, (λ e. cc, tt))
+no_other_override owner entries Closed = (λ e. cc, (λ e. cc, (λ e. cc, tt)))
+no_other_override owner entries _ = tt
+
+pub no_nothing_committed : (owner : ℕ) (entries : List Entry) (deed : Deed) →
+    IsNoneOf (causes_in_version_1 owner entries deed) NothingCommitted
+no_nothing_committed owner entries Opened = (λ e. cc, tt)
+no_nothing_committed owner entries (Authorise booth session) = (λ e. cc, (λ e. cc, (λ e. cc, (λ e. cc, tt))))
+no_nothing_committed owner entries (Override session how) = (λ e. cc, (λ e. cc, tt))
+no_nothing_committed owner entries Closed = (λ e. cc, (λ e. cc, (λ e. cc, tt)))
+no_nothing_committed owner entries _ = tt
