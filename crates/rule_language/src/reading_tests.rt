@@ -105,6 +105,16 @@ const ROWS: &str = "\
 30 SameName (rule a (every x entry (every x nokind true)))
 26 Unbound (rule a (every x entry (= y.nofield 0)))
 26 WrongField (rule a (every x entry (< x.maker x.nofield)))
+15 Token (rule a (every \x01
+17 Token (rule a (every x \x01
+31 Token (rule a (every x entry (same x \x01
+25 Token (rule a (every x cast (= \x01
+31 Shape (rule a (every x entry (same x Y
+35 Shape (rule a (every x cast (= x.session X.number
+35 Shape (rule a (every x cast (= x.session 4294967296
+35 WrongField (rule a (every x cast (= x.session 4294967295
+35 Unbound (rule a (every x cast (= x.session y.number
+25 Unbound (rule a (every x cast (< y.maker
 ";
 
 /// The place and the word of the answer.
@@ -161,6 +171,7 @@ const LONG: &[(&str, &str, u32, &str, &str, &str, usize, &str)] = &[
     ("(rule D ", "(not ", 31, "true", ")", ")", 199, "ok"),
     ("(rule D ", "(not ", 32, "true", ")", ")", 163, "TooDeep"),
     ("(rule D ", "(not ", 40, "", "", "", 163, "TooDeep"),
+    ("(rule D ", "(not ", 31, "true (", "", "", 168, "Shape"),
     ("(rule M (and", " true", 64, "", "", "))", 334, "ok"),
     ("(rule M (and", " true", 65, "", "", "))", 333, "Shape"),
     ("", "(", 1048576, "", "", "", 1, "Shape"),
@@ -201,6 +212,25 @@ fn long_texts_are_read_up_to_the_limits(rt: HostRuntime) -> Result<(), Fail> {
         let (at, word) = answer_of(alloc, text.as_slice())?;
         assert_eq!(rt; at, place, "place of {count} times {part}");
         assert_eq!(rt; word, cause.as_bytes(), "cause of {count} times {part}");
+    }
+    Ok(())
+}
+
+/// How many rules there are, and the answer.
+const MANY: &[(u32, usize, &str)] = &[(256, 3986, "ok"), (257, 3986, "Shape")];
+
+#[test]
+fn at_most_256_rules_are_read(rt: HostRuntime) -> Result<(), Fail> {
+    let alloc = rt.alloc();
+    for &(count, place, cause) in MANY {
+        let mut text = Vec::new(alloc);
+        for i in 0..count {
+            let rule = format!(in alloc; "(rule {i} true)\n")?;
+            text.extend_from_slice(rule.as_bytes())?;
+        }
+        let (at, word) = answer_of(alloc, text.as_slice())?;
+        assert_eq!(rt; at, place, "place of {count} rules");
+        assert_eq!(rt; word, cause.as_bytes(), "cause of {count} rules");
     }
     Ok(())
 }
