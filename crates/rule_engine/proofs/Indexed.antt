@@ -1,156 +1,168 @@
--- Places that stand in buckets, and values over some places in place of all.
-use Rattle.std.proofs.Common.{◌≡◌, ◌∙◌, ap, sym, refl, subst, ℕ, ◌+◌, ◌<◌, ◌%◌, Bool, true, false, not, cond, Option, Some, None}
-use Rattle.std.proofs.Common.{List, [], ◌∷◌, ◌++◌, map, length, get_or, arith, ◌⊎◌, inl, inr}
+-- Rows in buckets, and values over the rows of one bucket in place of all.
+use Rattle.std.proofs.Common.{◌≡◌, ◌≢◌, ◌∙◌, ap, sym, refl, subst, ℕ, zero, suc, ◌+◌, ◌-◌, ◌<◌, ◌≤◌, ◌%◌, Bool, true, false}
+use Rattle.std.proofs.Common.{not, cond, Option, Some, None, List, length, get_or, replicate, arith, ◌⊎◌, inl, inr}
 use Rattle.std.specs.Prelude.{slice_get, slice_set, slice_index_or, ◌&&◌}
-use Rattle.std.specs.List.{Contains, filter, range_with_len}
-use Rattle.std.proofs.lemmas.Option.{slice_get_within, slice_get-get_or}
-use Rattle.std.proofs.lemmas.Bool.{cases_eq}
-use Rattle.std.proofs.lemmas.List.{get_or-set_same, get_or-set_other, length-set}
-use Rattle.std.proofs.lemmas.List.Elements.{Contains-append_left, Contains-append_right}
+use Rattle.std.proofs.lemmas.Option.{slice_get_within, slice_get_cases, slice_get-get_or}
+use Rattle.std.proofs.lemmas.Grind.{get_or_default_zero}
+use Rattle.std.proofs.lemmas.Bool.{cases_eq, cases_lt}
+use Rattle.std.proofs.lemmas.List.{get_or-set_same, get_or-set_other, get_or-replicate, length-set, length-replicate}
 use Rattle.entry_order.specs.declared.three.Three.{Three}
 use Rattle.entry_order.specs.declared.three.Three.TheVariants.{False, Unknown, True}
-use Rattle.entry_order.proofs.Lists.{Contains-none, Contains-head, Contains-later, Contains-cons_cases}
 use Rattle.rule_language.specs.declared.row.Row.{Row}
-use Rattle.rule_language.specs.declared.kind.Field.{Field}
-use Rattle.rule_engine.specs.Kleene.{both, least}
 use Rattle.rule_language.specs.declared.kind.Kind.{Kind}
+use Rattle.rule_language.specs.declared.kind.Kind.TheVariants as kinds
 use Rattle.rule_language.specs.declared.formula.Formula.{Formula}
-use Rattle.rule_engine.specs.declared.wanted.Wanted.{Wanted}
-use Rattle.rule_engine.specs.Kleene.{as_three}
-use Rattle.rule_engine.specs.Tests.{has_kind}
+use Rattle.rule_engine.specs.declared.index.Key.{Key}
+use Rattle.rule_engine.specs.Kleene.{both, as_three, is_false}
+use Rattle.rule_engine.specs.Tests.{is_kind, has_kind}
 use Rattle.rule_engine.specs.Meaning.{bind}
-use Rattle.rule_engine.specs.inside.Judging.{signed, value_of, is_in, over_rows, over_places, if_meant}
-use Rattle.rule_engine.specs.inside.Index.{number_in, bucket_of, HoldsFirst, HasWanting}
-use Rattle.rule_engine.specs.inside.Wanted.{has_wanted, SettledWithout}
-use Rattle.rule_engine.proofs.Sounds.{in_range}
-use Rattle.rule_engine.proofs.Wants.{signed_true}
-use Rattle.rule_engine.proofs.Judges.{both_assoc}
+use Rattle.rule_engine.specs.inside.Judging.{signed, value_of, is_in, over_from, over_rows, if_meant}
+use Rattle.rule_engine.specs.inside.Bucket.{IsBucketFor}
+use Rattle.rule_engine.specs.declared.quantifier.Quantifier.{Quantifier}
+use Rattle.rule_engine.specs.declared.quantifier.Bucket.{Bucket}
+use Rattle.rule_engine.specs.inside.Index.{rank, number_in, first_in, IsFirst, HoldsFrom}
+use Rattle.rule_engine.proofs.Wants.{signed_true, false_is}
+use Rattle.rule_engine.proofs.Judges.{both_true, over_step}
 
-mod_below : (n d : ℕ) → 0 < d → n % d < d
+same_row : (a b : Row) → Some a ≡ Some b → a ≡ b
+same_row a b e = cc
+
+pub mod_below : (n d : ℕ) → 0 < d → n % d < d
 mod_below n d some = omega arith
 
+module _ (rows : List Row) (by : Key) (count : ℕ) where
+  -- the row itself is the first from its place on
+  first_here : (i : ℕ) (row : Row) → slice_get rows i ≡ Some row →
+      IsFirst rows by count (number_in by row % count) i i
+  first_here i row at = record {
+    from = omega arith;
+    none = λ k other low high is. absurd (omega (arith, low, high));
+    here = λ other is. ap (λ (r : Row). number_in by r % count) (same_row other row (sym is ∙ at));
+  }
+
+  -- in another bucket than the row's the first stays
+  first_earlier : (i j bucket : ℕ) (row : Row) → slice_get rows i ≡ Some row → bucket ≢ number_in by row % count →
+      IsFirst rows by count bucket (i + 1) j → IsFirst rows by count bucket i j
+  first_earlier i j bucket row at apart first = record {
+    from = omega (arith, first.from);
+    none = λ k other low high is.
+        elim (cases_eq k i) [
+          | inl same ↦ λ e. apart (sym e ∙ ap (λ (r : Row). number_in by r % count)
+              (same_row other row (sym is ∙ ap (slice_get rows) same ∙ at)))
+          | inr later ↦ first.none k other (omega (arith, low, later)) high is
+        ];
+    here = first.here;
+  }
+
+-- where no row is listed yet
+pub holds_none : (rows : List Row) (by : Key) (n : ℕ) → n ≡ length rows →
+    HoldsFrom rows by (replicate (n + 1) n) (replicate n n) n
+holds_none rows by n all = record {
+  firsts_are = λ bucket within. record {
+    from = subst (λ (v : ℕ). n ≤ v) (sym (get_or-replicate (n + 1) bucket n 0 (many bucket within))) (omega arith);
+    none = λ k row low high is. absurd (over k row low is);
+    here = λ row is. absurd (over _ row
+        (subst (λ (v : ℕ). n ≤ v) (sym (get_or-replicate (n + 1) bucket n 0 (many bucket within))) (omega arith)) is);
+  };
+  nexts_are = λ j row low is. absurd (over j row low is);
+}
+  where
+    over : (k : ℕ) (row : Row) → n ≤ k → slice_get rows k ≡ Some row → ⊥
+    over k row low is = omega (arith, slice_get_within rows k row is, all, low)
+
+    many : (bucket : ℕ) → bucket < length (replicate (n + 1) n) → bucket < n + 1
+    many bucket within = subst (λ (m : ℕ). bucket < m) (length-replicate (n + 1) n) within
+
 -- one row more
-pub holds_more : (rows : List Row) (field : Field) (buckets new : List (List ℕ)) (i : ℕ) (row : Row) →
-    slice_get rows i ≡ Some row → 0 < length buckets → number_in field row % length buckets < length buckets →
-    new ≡ slice_set buckets (number_in field row % length buckets)
-    (slice_index_or buckets (number_in field row % length buckets) [] ++ i ∷ []) →
-    HoldsFirst rows field buckets i → HoldsFirst rows field new (i + 1)
-holds_more rows field buckets new i row at some inside is before j other within there =
-    let h = number_in field row % length buckets in
-    let k = number_in field other % length buckets in
-    let grown = slice_index_or buckets h [] ++ i ∷ [] in
-    let long : length new ≡ length buckets = ap length is ∙ length-set buckets h grown in
-    let bucket : bucket_of new (number_in field other) ≡ slice_index_or (slice_set buckets h grown) k [] =
-    ap (λ (n : ℕ). slice_index_or new (number_in field other % n) []) long
-    ∙ ap (λ (bs : List (List ℕ)). slice_index_or bs k []) is in
-    subst (λ (b : List ℕ). Contains b j) (sym bucket)
-    (elim (cases_eq k h) [
-      | inl same ↦
-          subst (λ (n : ℕ). Contains (slice_index_or (slice_set buckets h grown) n []) j) (sym same)
-          (subst (λ (b : List ℕ). Contains b j) (sym (get_or-set_same buckets h grown [] inside))
-          (elim (cases_eq j i) [
-            | inl last ↦
-                subst (λ (n : ℕ). Contains grown n) (sym last)
-                (Contains-append_right (slice_index_or buckets h []) (i ∷ []) i (Contains-head i []))
-            | inr earlier ↦
-                Contains-append_left (slice_index_or buckets h []) (i ∷ []) j
-                (subst (λ (n : ℕ). Contains (slice_index_or buckets n []) j) same
-                (before j other (omega (arith, earlier)) there))
-          ]))
-      | inr apart ↦
-          subst (λ (b : List ℕ). Contains b j) (sym (get_or-set_other buckets h k grown [] apart))
-          (elim (cases_eq j i) [
-            | inl last ↦ absurd (apart (ap (λ (r : Row). number_in field r % length buckets)
-                (same_row other row (sym there ∙ ap (slice_get rows) last ∙ at))))
-            | inr earlier ↦ before j other (omega (arith, earlier)) there
-          ])
-    ])
-  where
-    same_row : (a b : Row) → Some a ≡ Some b → a ≡ b
-    same_row a b e = cc
+module _ (rows : List Row) (by : Key) (firsts nexts : List ℕ) (i : ℕ) (row : Row) (at : slice_get rows i ≡ Some row)
+    (inside : i < length nexts) (some : 0 < length firsts) (before : HoldsFrom rows by firsts nexts (i + 1)) where
+  abbrev count : ℕ
+  count = length firsts
 
--- the same, with the row's number and the count of buckets as they were found
-pub holds_at : (rows : List Row) (field : Field) (buckets new : List (List ℕ)) (i number count : ℕ) (d : Row) →
-    i < length rows → 0 < length buckets → number ≡ number_in field (get_or rows i d) → count ≡ length buckets →
-    new ≡ slice_set buckets (number % count) (slice_index_or buckets (number % count) [] ++ i ∷ []) →
-    HoldsFirst rows field buckets i → (0 < length new) × HoldsFirst rows field new (i + 1)
-holds_at rows field buckets new i number count d inside some number_is count_is is before =
+  abbrev own : ℕ
+  own = number_in by row % count
+
+  abbrev grown : List ℕ
+  grown = slice_set firsts own i
+
+  abbrev linked : List ℕ
+  linked = slice_set nexts i (slice_index_or firsts own 0)
+
+  own_below : own < count
+  own_below = mod_below (number_in by row) count some
+
+  firsts_at : (bucket : ℕ) → bucket < count → IsFirst rows by count bucket i (slice_index_or grown bucket 0)
+  firsts_at bucket within =
+      elim (cases_eq bucket own) [
+        | inl same ↦
+            subst (λ (b : ℕ). IsFirst rows by count b i (slice_index_or grown b 0)) (sym same)
+            (subst (λ (v : ℕ). IsFirst rows by count own i v) (sym (get_or-set_same firsts own i 0 own_below))
+            (first_here rows by count i row at))
+        | inr apart ↦
+            subst (λ (v : ℕ). IsFirst rows by count bucket i v) (sym (get_or-set_other firsts own bucket i 0 apart))
+            (first_earlier rows by count i _ bucket row at apart (before.firsts_are bucket within))
+      ]
+
+  nexts_at : (j : ℕ) (other : Row) → i ≤ j → slice_get rows j ≡ Some other →
+      IsFirst rows by count (number_in by other % count) (j + 1) (slice_index_or linked j 0)
+  nexts_at j other low is =
+      elim (cases_eq j i) [
+        | inl same ↦
+            let one : other ≡ row = same_row other row (sym is ∙ ap (slice_get rows) same ∙ at) in
+            subst (λ (r : Row). IsFirst rows by count (number_in by r % count) (j + 1) (slice_index_or linked j 0)) (sym one)
+            (subst (λ (n : ℕ). IsFirst rows by count own (n + 1) (slice_index_or linked n 0)) (sym same)
+            (subst (λ (v : ℕ). IsFirst rows by count own (i + 1) v)
+            (sym (get_or-set_same nexts i (slice_index_or firsts own 0) 0 inside)) (before.firsts_are own own_below)))
+        | inr apart ↦
+            subst (λ (v : ℕ). IsFirst rows by count (number_in by other % count) (j + 1) v)
+            (sym (get_or-set_other nexts i j (slice_index_or firsts own 0) 0 apart))
+            (before.nexts_are j other (omega (arith, low, apart)) is)
+      ]
+
+  holds_more : HoldsFrom rows by grown linked i
+  holds_more =
+      let long : length grown ≡ count = length-set firsts own i in
+      record {
+        firsts_are =
+            subst (λ (n : ℕ). (b : ℕ) → b < n → IsFirst rows by n b i (slice_index_or grown b 0)) (sym long) firsts_at;
+        nexts_are =
+            subst (λ (n : ℕ). (j : ℕ) (r : Row) → i ≤ j → slice_get rows j ≡ Some r →
+            IsFirst rows by n (number_in by r % n) (j + 1) (slice_index_or linked j 0)) (sym long) nexts_at;
+      }
+
+-- the same, with the bucket and its first row as they were found
+pub holds_with : (rows : List Row) (by : Key) (firsts nexts : List ℕ) (i bucket number count first : ℕ) (d : Row) →
+    i < length rows → i < length nexts → 0 < length firsts → number ≡ number_in by (get_or rows i d) →
+    count ≡ length firsts → bucket ≡ number % count → first ≡ slice_index_or firsts bucket first →
+    HoldsFrom rows by firsts nexts (i + 1) → HoldsFrom rows by (slice_set firsts bucket i) (slice_set nexts i first) i
+holds_with rows by firsts nexts i bucket number count first d within inside some number_is count_is bucket_is first_is before =
     let row = get_or rows i d in
-    let n = number_in field row in
-    let here : number % count ≡ n % length buckets =
-    ap (λ (k : ℕ). k % count) number_is ∙ ap (λ (k : ℕ). n % k) count_is in
-    let is' : new ≡ slice_set buckets (n % length buckets) (slice_index_or buckets (n % length buckets) [] ++ i ∷ []) =
-    subst (λ (k : ℕ). new ≡ slice_set buckets k (slice_index_or buckets k [] ++ i ∷ [])) here is in
-    let long = length-set buckets (number % count) (slice_index_or buckets (number % count) [] ++ i ∷ []) in (
-      subst (λ (k : ℕ). 0 < k) (sym (ap length is ∙ long)) some,
-      holds_more rows field buckets new i row (slice_get-get_or rows i d inside) some
-          (mod_below n (length buckets) some) is' before,
-    )
+    let own = number_in by row % length firsts in
+    let is : bucket ≡ own =
+    bucket_is ∙ ap (λ (n : ℕ). n % count) number_is ∙ ap (λ (n : ℕ). number_in by row % n) count_is in
+    let old : first ≡ slice_index_or firsts own 0 =
+    first_is ∙ ap (λ (b : ℕ). slice_index_or firsts b first) is
+    ∙ get_or_default_zero firsts own first (mod_below (number_in by row) (length firsts) some) in
+    subst (λ (b : ℕ). HoldsFrom rows by (slice_set firsts b i) (slice_set nexts i first) i) (sym is)
+    (subst (λ (n : ℕ). HoldsFrom rows by (slice_set firsts own i) (slice_set nexts i n) i) (sym old)
+    (holds_more rows by firsts nexts i row (slice_get-get_or rows i d within) inside some before))
 
-both_comm : (x y : Three) → both x y ≡ both y x
-both_comm True True = refl
-both_comm True Unknown = refl
-both_comm True False = refl
-both_comm Unknown True = refl
-both_comm Unknown Unknown = refl
-both_comm Unknown False = refl
-both_comm False True = refl
-both_comm False Unknown = refl
-both_comm False False = refl
+-- kinds of another number are other kinds
+pub other_kind : (wanted k : Kind) → wanted ≢ kinds.Any → rank k ≢ rank wanted → is_kind wanted k ≡ false
+other_kind kinds.Any k some apart = absurd (some refl)
+other_kind kinds.Opened kinds.Opened some apart = absurd (apart refl)
+other_kind kinds.Authorise kinds.Authorise some apart = absurd (apart refl)
+other_kind kinds.Override kinds.Override some apart = absurd (apart refl)
+other_kind kinds.Forced kinds.Forced some apart = absurd (apart refl)
+other_kind kinds.Closed kinds.Closed some apart = absurd (apart refl)
+other_kind kinds.Activate kinds.Activate some apart = absurd (apart refl)
+other_kind kinds.Commit kinds.Commit some apart = absurd (apart refl)
+other_kind kinds.Cast kinds.Cast some apart = absurd (apart refl)
+other_kind kinds.Cancel kinds.Cancel some apart = absurd (apart refl)
+other_kind kinds.Challenge kinds.Challenge some apart = absurd (apart refl)
+other_kind wanted k some apart = refl
 
-both_twice : (x : Three) → both x x ≡ x
-both_twice True = refl
-both_twice Unknown = refl
-both_twice False = refl
-
--- a member adds nothing to the least
-absorbs : (f : ℕ → Three) (xs : List ℕ) (x : ℕ) → Contains xs x → both (f x) (least (map f xs)) ≡ least (map f xs)
-absorbs f [] x c = absurd (Contains-none x c)
-absorbs f (y ∷ ys) x c =
-    elim (Contains-cons_cases y ys x c) [
-      | inl same ↦
-          ap (λ (z : ℕ). both (f z) (both (f y) (least (map f ys)))) (sym same)
-          ∙ both_assoc (f y) (f y) (least (map f ys))
-          ∙ ap (λ (z : Three). both z (least (map f ys))) (both_twice (f y))
-      | inr later ↦
-          both_assoc (f x) (f y) (least (map f ys))
-          ∙ ap (λ (z : Three). both z (least (map f ys))) (both_comm (f x) (f y))
-          ∙ sym (both_assoc (f y) (f x) (least (map f ys)))
-          ∙ ap (both (f y)) (absorbs f ys x later)
-    ]
-
--- so does a list of which each member stands in the other or is true
-all_absorbed : (f : ℕ → Three) (xs ys : List ℕ) → ((x : ℕ) → Contains xs x → (f x ≡ True) ⊎ Contains ys x) →
-    both (least (map f xs)) (least (map f ys)) ≡ least (map f ys)
-all_absorbed f [] ys each = refl
-all_absorbed f (x ∷ xs) ys each =
-    sym (both_assoc (f x) (least (map f xs)) (least (map f ys)))
-    ∙ ap (both (f x)) (all_absorbed f xs ys (λ y c. each y (Contains-later x xs y c)))
-    ∙ elim (each x (Contains-head x xs)) [
-      | inl is ↦ ap (λ (z : Three). both z (least (map f ys))) is
-      | inr c ↦ absorbs f ys x c
-    ]
-
--- the value over a list of places is that over another, where what stands in one alone is true
-pub least_same : (f : ℕ → Three) (xs ys : List ℕ) → ((x : ℕ) → Contains xs x → (f x ≡ True) ⊎ Contains ys x) →
-    ((y : ℕ) → Contains ys y → (f y ≡ True) ⊎ Contains xs y) → least (map f xs) ≡ least (map f ys)
-least_same f xs ys there back =
-    sym (all_absorbed f ys xs back) ∙ both_comm (least (map f ys)) (least (map f xs))
-    ∙ all_absorbed f xs ys there
-
--- what is filtered out counts as true
-least_filter : (f : ℕ → Three) (p : ℕ → Bool) (xs : List ℕ) →
-    least (map f (filter p xs)) ≡ least (map (λ x. cond (p x) (f x) True) xs)
-least_filter f p [] = refl
-least_filter f p (x ∷ xs) = by (p x) (least_filter f p xs)
-  where
-    by : (b : Bool) → least (map f (filter p xs)) ≡ least (map (λ y. cond (p y) (f y) True) xs) →
-        least (map f (cond b (x ∷ filter p xs) (filter p xs)))
-        ≡ both (cond b (f x) True) (least (map (λ y. cond (p y) (f y) True) xs))
-    by true rest = ap (both (f x)) rest
-    by false rest = rest
-
--- a quantifier's value over all rows is that over places that hold each row at which its body isn't settled
+-- values at rows, one by one and past those that count as true
 module _ (rows : List Row) (order : ℕ → ℕ → Three) (wholes : ℕ → Bool) (some : Bool) (body : Formula) (v : ℕ)
     (kind : Kind) (within : Option ℕ) (env : ℕ → Option ℕ) where
   abbrev at : ℕ → Three
@@ -159,35 +171,123 @@ module _ (rows : List Row) (order : ℕ → ℕ → Three) (wholes : ℕ → Boo
   abbrev value : ℕ → Three
   value j = value_of rows order wholes body (bind v j env)
 
+  abbrev is_one : ℕ → Bool
+  is_one j = has_kind kind (slice_get rows j) && is_in order within j
+
+  -- the least from a row on
+  abbrev pub rest : ℕ → Three
+  rest i = over_from rows order wholes some body v kind within env i (length rows - i)
+
   no_row : (j : ℕ) → slice_get rows j ≡ None → at j ≡ True
   no_row j lost = ap (λ (o : Option Row). cond (has_kind kind o && is_in order within j) (signed some (value j)) True) lost
 
-  settled_at : (j : ℕ) → value j ≡ as_three (not some) → at j ≡ True
-  settled_at j is = by (has_kind kind (slice_get rows j) && is_in order within j)
+  pub settled_at : (j : ℕ) → value j ≡ as_three (not some) → at j ≡ True
+  settled_at j is = by (is_one j)
     where
       by : (b : Bool) → cond b (signed some (value j)) True ≡ True
       by true = signed_true some (value j) is
       by false = refl
 
-  pub over_rows_by_places : (wanted : Option Wanted) (places : List ℕ) →
-      SettledWithout rows wanted value (as_three (not some)) → HasWanting rows wanted places →
-      over_rows rows order wholes some body v kind within env
-      ≡ over_places rows order wholes some body v kind within env places
-  over_rows_by_places wanted places settled has =
-      least_filter (λ j. signed some (value j)) (λ j. has_kind kind (slice_get rows j) && is_in order within j)
-      (range_with_len 0 (length rows))
-      ∙ least_same at (range_with_len 0 (length rows)) places (λ j c. there j (slice_get rows j) refl)
-      (λ j c. back j (slice_get rows j) refl)
+  pub other_at : (j : ℕ) (row : Row) → slice_get rows j ≡ Some row → kind ≢ kinds.Any → rank row.kind ≢ rank kind →
+      at j ≡ True
+  other_at j row is any apart =
+      ap (λ (b : Bool). cond (b && is_in order within j) (signed some (value j)) True)
+      (ap (has_kind kind) is ∙ other_kind kind row.kind any apart)
+
+  pub step_at : (i : ℕ) (acc : Three) → i < length rows → both acc (rest i) ≡ both (both acc (at i)) (rest (i + 1))
+  step_at i acc inside =
+      over_step rows order wholes env some body v kind within i acc
+      (cond (is_one i) (both acc (signed some (value i))) acc) (both acc (rest i)) (is_one i) inside refl refl refl
+      ∙ ap (λ (x : Three). both x (rest (i + 1))) (by (is_one i))
     where
-      wants : (j : ℕ) (row : Row) → slice_get rows j ≡ Some row → (b : Bool) → has_wanted wanted row ≡ b →
-          (at j ≡ True) ⊎ Contains places j
-      wants j row is true w = inr (has j row is w)
-      wants j row is false w = inl (settled_at j (settled j row is w))
+      by : (b : Bool) → cond b (both acc (signed some (value i))) acc ≡ both acc (cond b (signed some (value i)) True)
+      by true = refl
+      by false = sym (both_true acc)
 
-      there : (j : ℕ) (o : Option Row) → slice_get rows j ≡ o → (at j ≡ True) ⊎ Contains places j
-      there j None is = inl (no_row j is)
-      there j (Some row) is = wants j row is (has_wanted wanted row) refl
+  pub no_rest : (i : ℕ) → length rows ≤ i → rest i ≡ True
+  no_rest i over =
+      let none : length rows - i ≡ 0 = omega (arith, over) in
+      ap (over_from rows order wholes some body v kind within env i) none
 
-      back : (j : ℕ) (o : Option Row) → slice_get rows j ≡ o → (at j ≡ True) ⊎ Contains (range_with_len 0 (length rows)) j
-      back j None is = inl (no_row j is)
-      back j (Some row) is = inr (in_range (length rows) j (slice_get_within rows j row is))
+  skip_one : (i : ℕ) → at i ≡ True → rest i ≡ rest (i + 1)
+  skip_one i is = elim (cases_lt i (length rows)) [
+    | inl inside ↦ step_at i True inside ∙ ap (λ (x : Three). both x (rest (i + 1))) is
+    | inr over ↦ no_rest i over ∙ sym (no_rest (i + 1) (omega (arith, over)))
+  ]
+
+  skip_by : (d i : ℕ) → ((k : ℕ) → i ≤ k → k < i + d → at k ≡ True) → rest i ≡ rest (i + d)
+  skip_by zero i each = let same : i ≡ i + 0 = omega arith in ap rest same
+  skip_by (suc d) i each =
+      let same : (i + 1) + d ≡ i + suc d = omega arith in
+      skip_one i (each i (omega arith) (omega arith))
+      ∙ skip_by d (i + 1) (λ k low high. each k (omega (arith, low)) (omega (arith, high))) ∙ ap rest same
+
+  -- past rows of other buckets, where each row outside the number counts as true
+  pub skip : (by : Key) (number count i j : ℕ) →
+      ((k : ℕ) (row : Row) → slice_get rows k ≡ Some row → number_in by row ≢ number → at k ≡ True) →
+      IsFirst rows by count (number % count) i j → rest i ≡ rest j
+  skip by number count i j others first =
+      let same : i + (j - i) ≡ j = omega (arith, first.from) in
+      skip_by (j - i) i (λ k low high. passed k (slice_get rows k) low (subst (λ (n : ℕ). k < n) same high) refl)
+      ∙ ap rest same
+    where
+      passed : (k : ℕ) (o : Option Row) → i ≤ k → k < j → slice_get rows k ≡ o → at k ≡ True
+      passed k None low high is = no_row k is
+      passed k (Some row) low high is =
+          others k row is (λ e. first.none k row low high is (ap (λ (n : ℕ). n % count) e))
+
+  -- one row more, by the values as they were found
+  pub step_with : (i : ℕ) (acc x new total : Three) → i < length rows → x ≡ at i → new ≡ both acc x →
+      total ≡ both acc (rest i) → total ≡ both new (rest (i + 1))
+  step_with i acc x new total inside value_is new_is so_far =
+      so_far ∙ step_at i acc inside
+      ∙ ap (λ (y : Three). both y (rest (i + 1))) (ap (both acc) (sym value_is) ∙ sym new_is)
+
+  pub stop_with : (i : ℕ) (acc x new total : Three) → i < length rows → x ≡ at i → new ≡ both acc x →
+      total ≡ both acc (rest i) → is_false new ≡ true → False ≡ total
+  stop_with i acc x new total inside value_is new_is so_far lost =
+      sym (step_with i acc x new total inside value_is new_is so_far
+      ∙ ap (λ (y : Three). both y (rest (i + 1))) (false_is new lost))
+
+-- a quantifier over the rows of a bucket
+module _ (rows : List Row) (order : ℕ → ℕ → Three) (wholes : ℕ → Bool) (q : Quantifier) (body : Formula)
+    (env : ℕ → Option ℕ) (bucket : Bucket) (serves : IsBucketFor rows order wholes q body env bucket) where
+  abbrev left : ℕ → Three
+  left = rest rows order wholes q.some body q.v q.kind q.within env
+
+  abbrev size : ℕ
+  size = length bucket.index.now.firsts.items
+
+  -- a row at the place is in the bucket
+  abbrev IsInside : ℕ → Type 0
+  IsInside i = (row : Row) → slice_get rows i ≡ Some row → number_in bucket.index.now.key row % size ≡ bucket.number % size
+
+  passed_over : (i j : ℕ) → IsFirst rows bucket.index.now.key size (bucket.number % size) i j → left i ≡ left j
+  passed_over i j first =
+      skip rows order wholes q.some body q.v q.kind q.within env bucket.index.now.key bucket.number size i j
+      serves.others first
+
+  pub bucket_starts : (i : ℕ) → i ≡ first_in bucket.index.now.firsts.items bucket.number →
+      (over_rows rows order wholes q.some body q.v q.kind q.within env ≡ left i) × IsInside i
+  bucket_starts i is =
+      let index = serves.indexed in
+      let first : IsFirst rows bucket.index.now.key size (bucket.number % size) 0 i =
+      subst (λ (n : ℕ). IsFirst rows bucket.index.now.key size (bucket.number % size) 0 n) (sym is)
+      (index.holds.firsts_are (bucket.number % size) (mod_below bucket.number size index.some)) in
+      let all : length rows ≡ length rows - 0 = omega arith in (
+        ap (over_from rows order wholes q.some body q.v q.kind q.within env 0) all ∙ passed_over 0 i first,
+        first.here,
+      )
+
+  pub bucket_goes_on : (i next : ℕ) → i < length rows → next ≡ slice_index_or bucket.index.now.nexts.items i 0 →
+      IsInside i → (i < next) × (left (i + 1) ≡ left next) × IsInside next
+  bucket_goes_on i next inside is here = elim (slice_get_cases rows i).1 [
+    | inl (row, within, there, same) ↦
+        let first : IsFirst rows bucket.index.now.key size (bucket.number % size) (i + 1) next =
+        subst (λ (n : ℕ). IsFirst rows bucket.index.now.key size (bucket.number % size) (i + 1) n) (sym is)
+        (subst (λ (b : ℕ). IsFirst rows bucket.index.now.key size b (i + 1)
+        (slice_index_or bucket.index.now.nexts.items i 0)) (here row there)
+        (serves.indexed.holds.nexts_are i row (omega arith) there)) in
+        (omega (arith, first.from), passed_over (i + 1) next first, first.here)
+    | inr (over, none) ↦ absurd (omega (arith, inside, over))
+  ]

@@ -3,3 +3,4 @@ pub mod Scopes
 pub mod Judging
 pub mod Wanted
 pub mod Index
+pub mod Bucket

@@ -1,67 +1,68 @@
-//! The value of a formula, by recursion over all rows.
-ghost use Rattle.std.specs.Prelude.{◌≡◌, ◌<◌, ◌&&◌, length, slice_get, IfSome};
+//! The value of a formula, by recursion over the rows.
+ghost use Rattle.std.specs.Prelude.{◌≡◌, ◌<◌, length, IfSome};
 ghost use Rattle.precedence.specs.Known.{known_before, known_count, known_whole};
-ghost use Rattle.rule_engine.specs.Tests.{has_kind, value_of as term_value};
+ghost use Rattle.rule_engine.specs.Tests.{value_of as term_value};
 ghost use Rattle.rule_engine.specs.Values.{order_of, row_at};
 ghost use Rattle.rule_engine.specs.inside.Judging.{
   value_of,
   over,
   over_rows,
   over_before,
-  over_places,
   if_meant,
-  is_in,
   unless_ragged,
 };
+ghost use Rattle.rule_engine.specs.inside.Bucket.{IsBucketFor};
 ghost use Rattle.rule_engine.specs.inside.Index.{AreIndexesOf};
 ghost use Rattle.rule_engine.specs.inside.Scopes.{IsWithin, env_of};
 
 use crate::atoms::{Value, are_equal, field_of, has_kind, has_role, is_less, is_next, same_place};
-use crate::index::Indexes;
 use crate::kleene::{as_three, both, either, is_false, opposite, signed};
+use crate::quantifier::{Bucket, Quantifier, bucket_for, is_meant, quantifier_over};
 use crate::scope::Scope;
-use crate::wanted::wanted_for;
+use crate::survivors::Survivors;
 use entry_order::Three;
 use precedence::Rows;
-use rule_language::{Formula, Kind, Row, Term};
+use rule_language::{Formula, Row, Term};
 
 /// The value of the formula where the variables of the scope are bound.
 #[cycle(judging)]
-pub(crate) fn value(
-    formula: &Formula,
-    scope: &Scope<'_>,
-    rows: &[Row],
-    order: &Rows,
-    indexes: &Indexes,
-) -> Three
-    requires same { length rows.now ≡ known_count order.now }
-    requires within { IsWithin (length rows.now) scope.now }
-    requires indexed { AreIndexesOf rows.now indexes.now }
-    ensures { result ≡ value_of rows.now (known_before order.now) (known_whole order.now) formula.now (env_of scope.now) }
+pub(crate) fn value(formula: &Formula, scope: &Scope<'_>, survivors: &Survivors<'_>) -> Three
+    requires same { length survivors.now.rows.now ≡ known_count survivors.now.order.now }
+    requires within { IsWithin (length survivors.now.rows.now) scope.now }
+    requires indexed { AreIndexesOf survivors.now.rows.now survivors.now.indexes }
+    ensures { result ≡ value_of survivors.now.rows.now (known_before survivors.now.order.now)
+        (known_whole survivors.now.order.now) formula.now (env_of scope.now) }
 {
+    let rows = survivors.rows;
     match formula {
         Formula::True => Three::True,
         Formula::ForEvery { v, kind, body } => {
-            over_rows(false, body, *v, *kind, None, scope, rows, order, indexes)
+            over_rows(quantifier_over(false, *v, *kind), body, scope, survivors)
         }
         Formula::ForSome { v, kind, body } => {
-            opposite(over_rows(true, body, *v, *kind, None, scope, rows, order, indexes))
+            opposite(over_rows(quantifier_over(true, *v, *kind), body, scope, survivors))
         }
         Formula::EveryBefore { v, kind, u, body } => {
-            over_before(false, body, *v, *kind, *u, scope, rows, order, indexes)
+            over_before(
+                quantifier_over(false, *v, *kind),
+                *u,
+                body,
+                scope,
+                survivors,
+            )
         }
         Formula::SomeBefore { v, kind, u, body } => {
-            opposite(over_before(true, body, *v, *kind, *u, scope, rows, order, indexes))
+            opposite(over_before(quantifier_over(true, *v, *kind), *u, body, scope, survivors))
         }
-        Formula::And(parts) => over(false, parts.as_slice(), scope, rows, order, indexes),
-        Formula::Or(parts) => opposite(over(true, parts.as_slice(), scope, rows, order, indexes)),
-        Formula::Not(body) => opposite(value(body, scope, rows, order, indexes)),
+        Formula::And(parts) => over(false, parts.as_slice(), scope, survivors),
+        Formula::Or(parts) => opposite(over(true, parts.as_slice(), scope, survivors)),
+        Formula::Not(body) => opposite(value(body, scope, survivors)),
         Formula::Implies(first, second) => either(
-            opposite(value(first, scope, rows, order, indexes)),
-            value(second, scope, rows, order, indexes),
+            opposite(value(first, scope, survivors)),
+            value(second, scope, survivors),
         ),
         Formula::Same(v, u) => same_place(scope.place_of(*v), scope.place_of(*u)),
-        Formula::Before(v, u) => order_of(*v, *u, scope, order),
+        Formula::Before(v, u) => order_of(*v, *u, scope, survivors.order),
         Formula::Next(v, u) => as_three(is_next(
             row_at(rows, scope.place_of(*v)),
             row_at(rows, scope.place_of(*u)),
@@ -81,93 +82,95 @@ pub(crate) fn value(
 
 /// The least value of formulas, or of their opposites.
 #[cycle(judging)]
-fn over(
-    some: bool,
-    parts: &[Formula],
-    scope: &Scope<'_>,
-    rows: &[Row],
-    order: &Rows,
-    indexes: &Indexes,
-) -> Three
-    requires same { length rows.now ≡ known_count order.now }
-    requires within { IsWithin (length rows.now) scope.now }
-    requires indexed { AreIndexesOf rows.now indexes.now }
-    ensures { result ≡ over rows.now (known_before order.now) (known_whole order.now) some parts.now (env_of scope.now) }
+fn over(some: bool, parts: &[Formula], scope: &Scope<'_>, survivors: &Survivors<'_>) -> Three
+    requires same { length survivors.now.rows.now ≡ known_count survivors.now.order.now }
+    requires within { IsWithin (length survivors.now.rows.now) scope.now }
+    requires indexed { AreIndexesOf survivors.now.rows.now survivors.now.indexes }
+    ensures { result ≡ over survivors.now.rows.now (known_before survivors.now.order.now)
+        (known_whole survivors.now.order.now) some parts.now (env_of scope.now) }
 {
     let mut least = Three::True;
     for part in parts {
-        least = both(
-            least,
-            signed(some, value(part, scope, rows, order, indexes)),
-        );
+        least = both(least, signed(some, value(part, scope, survivors)));
+        if is_false(least) {
+            return Three::False;
+        }
     }
     least
 }
 
-/// The same over the rows of the kind, or over those of them that come before one.
+/// The same of a formula at the rows that a quantifier goes over.
 #[cycle(judging)]
 fn over_rows(
-    some: bool,
+    quantifier: Quantifier,
     body: &Formula,
-    v: u8,
-    kind: Kind,
-    within: Option<usize>,
     scope: &Scope<'_>,
-    rows: &[Row],
-    order: &Rows,
-    indexes: &Indexes,
+    survivors: &Survivors<'_>,
 ) -> Three
-    requires same { length rows.now ≡ known_count order.now }
-    requires within { IsWithin (length rows.now) scope.now }
-    requires indexed { AreIndexesOf rows.now indexes.now }
-    requires node { IfSome within (λ u. u < length rows.now) }
-    ensures { result
-        ≡ over_rows rows.now (known_before order.now) (known_whole order.now) some body.now v kind within (env_of scope.now) }
+    requires same { length survivors.now.rows.now ≡ known_count survivors.now.order.now }
+    requires within { IsWithin (length survivors.now.rows.now) scope.now }
+    requires indexed { AreIndexesOf survivors.now.rows.now survivors.now.indexes }
+    requires node { IfSome quantifier.within (λ u. u < length survivors.now.rows.now) }
+    ensures { result ≡ over_rows survivors.now.rows.now (known_before survivors.now.order.now)
+        (known_whole survivors.now.order.now) quantifier.some body.now quantifier.v
+        quantifier.kind quantifier.within (env_of scope.now) }
 {
-    match indexes.places(wanted_for(body, !some, v, scope, rows)) {
-        Some(places) => over_places(
-            places, some, body, v, kind, within, scope, rows, order, indexes,
-        ),
-        None => over_each(some, body, v, kind, within, scope, rows, order, indexes),
+    match bucket_for(quantifier, body, scope, survivors) {
+        Some(bucket) => over_bucket(&bucket, quantifier, body, scope, survivors),
+        None => over_each(quantifier, body, scope, survivors),
     }
 }
 
-/// The same over the rows at these places.
+/// The same, where at all rows outside the bucket the formula is settled.
 #[cycle(judging)]
-fn over_places(
-    places: &[u32],
-    some: bool,
+fn over_bucket(
+    bucket: &Bucket<'_>,
+    quantifier: Quantifier,
     body: &Formula,
-    v: u8,
-    kind: Kind,
-    within: Option<usize>,
     scope: &Scope<'_>,
-    rows: &[Row],
-    order: &Rows,
-    indexes: &Indexes,
+    survivors: &Survivors<'_>,
 ) -> Three
-    requires same { length rows.now ≡ known_count order.now }
-    requires within { IsWithin (length rows.now) scope.now }
-    requires indexed { AreIndexesOf rows.now indexes.now }
-    requires node { IfSome within (λ u. u < length rows.now) }
-    ensures { result ≡ over_places rows.now (known_before order.now) (known_whole order.now) some
-        body.now v kind within (env_of scope.now) places.now }
+    requires same { length survivors.now.rows.now ≡ known_count survivors.now.order.now }
+    requires within { IsWithin (length survivors.now.rows.now) scope.now }
+    requires indexed { AreIndexesOf survivors.now.rows.now survivors.now.indexes }
+    requires node { IfSome quantifier.within (λ u. u < length survivors.now.rows.now) }
+    requires bucket { IsBucketFor survivors.now.rows.now (known_before survivors.now.order.now)
+        (known_whole survivors.now.order.now) quantifier body.now (env_of scope.now) bucket.now }
+    ensures { result ≡ over_rows survivors.now.rows.now (known_before survivors.now.order.now)
+        (known_whole survivors.now.order.now) quantifier.some body.now quantifier.v
+        quantifier.kind quantifier.within (env_of scope.now) }
 {
     let mut least = Three::True;
-    for place in places {
-        let value = value_at(
-            *place as usize,
-            some,
-            body,
-            v,
-            kind,
-            within,
-            scope,
-            rows,
-            order,
-            indexes,
-        );
-        least = both(least, value);
+    let mut i = bucket.first();
+    'bucket: while i < survivors.rows.len() {
+        least = both(least, value_at(i, quantifier, body, scope, survivors));
+        if is_false(least) {
+            return Three::False;
+        }
+        i = bucket.after(i);
+    }
+    least
+}
+
+/// The same, row by row.
+#[cycle(judging)]
+fn over_each(
+    quantifier: Quantifier,
+    body: &Formula,
+    scope: &Scope<'_>,
+    survivors: &Survivors<'_>,
+) -> Three
+    requires same { length survivors.now.rows.now ≡ known_count survivors.now.order.now }
+    requires within { IsWithin (length survivors.now.rows.now) scope.now }
+    requires indexed { AreIndexesOf survivors.now.rows.now survivors.now.indexes }
+    requires node { IfSome quantifier.within (λ u. u < length survivors.now.rows.now) }
+    ensures { result ≡ over_rows survivors.now.rows.now (known_before survivors.now.order.now)
+        (known_whole survivors.now.order.now) quantifier.some body.now quantifier.v
+        quantifier.kind quantifier.within (env_of scope.now) }
+{
+    let mut least = Three::True;
+    for i in 0..survivors.rows.len() {
+        least = both(least, value_at(i, quantifier, body, scope, survivors));
         if is_false(least) {
             return Three::False;
         }
@@ -179,131 +182,60 @@ fn over_places(
 #[cycle(judging)]
 fn value_at(
     i: usize,
-    some: bool,
+    quantifier: Quantifier,
     body: &Formula,
-    v: u8,
-    kind: Kind,
-    within: Option<usize>,
     scope: &Scope<'_>,
-    rows: &[Row],
-    order: &Rows,
-    indexes: &Indexes,
+    survivors: &Survivors<'_>,
 ) -> Three
-    requires same { length rows.now ≡ known_count order.now }
-    requires within { IsWithin (length rows.now) scope.now }
-    requires indexed { AreIndexesOf rows.now indexes.now }
-    requires node { IfSome within (λ u. u < length rows.now) }
-    ensures { result ≡ if_meant rows.now (known_before order.now) (known_whole order.now) some
-        body.now v kind within (env_of scope.now) i }
+    requires same { length survivors.now.rows.now ≡ known_count survivors.now.order.now }
+    requires within { IsWithin (length survivors.now.rows.now) scope.now }
+    requires indexed { AreIndexesOf survivors.now.rows.now survivors.now.indexes }
+    requires node { IfSome quantifier.within (λ u. u < length survivors.now.rows.now) }
+    requires row { i < length survivors.now.rows.now }
+    ensures { result ≡ if_meant survivors.now.rows.now (known_before survivors.now.order.now)
+        (known_whole survivors.now.order.now) quantifier.some body.now quantifier.v
+        quantifier.kind quantifier.within (env_of scope.now) i }
 {
-    if i < rows.len() && is_meant(kind, within, i, rows, order) {
+    if is_meant(quantifier, i, survivors.rows, survivors.order) {
         let inner = Scope::With {
-            v,
+            v: quantifier.v,
             place: i,
             outer: &*scope,
         };
-        signed(some, value(body, &inner, rows, order, indexes))
+        signed(quantifier.some, value(body, &inner, survivors))
     } else {
         Three::True
     }
 }
 
-/// The same, row by row, over the rows of the kind, or over those of them that come before one.
-#[cycle(judging)]
-fn over_each(
-    some: bool,
-    body: &Formula,
-    v: u8,
-    kind: Kind,
-    within: Option<usize>,
-    scope: &Scope<'_>,
-    rows: &[Row],
-    order: &Rows,
-    indexes: &Indexes,
-) -> Three
-    requires same { length rows.now ≡ known_count order.now }
-    requires within { IsWithin (length rows.now) scope.now }
-    requires indexed { AreIndexesOf rows.now indexes.now }
-    requires node { IfSome within (λ u. u < length rows.now) }
-    ensures { result
-        ≡ over_rows rows.now (known_before order.now) (known_whole order.now) some body.now v kind within (env_of scope.now) }
-{
-    let mut least = Three::True;
-    for i in 0..rows.len() {
-        if is_meant(kind, within, i, rows, order) {
-            let inner = Scope::With {
-                v,
-                place: i,
-                outer: &*scope,
-            };
-            least = both(
-                least,
-                signed(some, value(body, &inner, rows, order, indexes)),
-            );
-            if is_false(least) {
-                return Three::False;
-            }
-        }
-    }
-    least
-}
-
-/// The same over the rows of the kind that come before what a variable stands for.
+/// The same at the rows that a quantifier goes over and that come before what a variable stands for.
 #[cycle(judging)]
 fn over_before(
-    some: bool,
-    body: &Formula,
-    v: u8,
-    kind: Kind,
+    quantifier: Quantifier,
     u: u8,
+    body: &Formula,
     scope: &Scope<'_>,
-    rows: &[Row],
-    order: &Rows,
-    indexes: &Indexes,
+    survivors: &Survivors<'_>,
 ) -> Three
-    requires same { length rows.now ≡ known_count order.now }
-    requires within { IsWithin (length rows.now) scope.now }
-    requires indexed { AreIndexesOf rows.now indexes.now }
-    ensures { result ≡ over_before rows.now (known_before order.now) (known_whole order.now) some
-        body.now v kind (env_of scope.now) (env_of scope.now u) }
+    requires same { length survivors.now.rows.now ≡ known_count survivors.now.order.now }
+    requires within { IsWithin (length survivors.now.rows.now) scope.now }
+    requires indexed { AreIndexesOf survivors.now.rows.now survivors.now.indexes }
+    ensures { result ≡ over_before survivors.now.rows.now (known_before survivors.now.order.now)
+        (known_whole survivors.now.order.now) quantifier.some body.now quantifier.v
+        quantifier.kind (env_of scope.now) (env_of scope.now u) }
 {
     match scope.place_of(u) {
         None => Three::True,
-        Some(place) => both(
-            over_rows(
-                some,
-                body,
-                v,
-                kind,
-                Some(place),
-                scope,
-                rows,
-                order,
-                indexes,
-            ),
-            unless_ragged(order, place),
-        ),
-    }
-}
-
-/// Whether the row is of the kind, and comes before the other, if there is one.
-fn is_meant(kind: Kind, within: Option<usize>, i: usize, rows: &[Row], order: &Rows) -> bool
-    requires row { i < length rows.now }
-    requires node { IfSome within (λ u. u < known_count order.now) }
-    ensures { result ≡ (has_kind kind (slice_get rows.now i)
-        && is_in (known_before order.now) within i) }
-{
-    has_kind(kind, Some(rows[i])) && is_before(order, i, within)
-}
-
-/// Whether the row comes before the other, if there is one.
-fn is_before(order: &Rows, i: usize, within: Option<usize>) -> bool
-    requires { IfSome within (λ u. u < known_count order.now) }
-    ensures { result ≡ is_in (known_before order.now) within i }
-{
-    match within {
-        None => true,
-        Some(u) => matches!(order.before(i, u), Three::True),
+        Some(place) => {
+            let within = Quantifier {
+                within: Some(place),
+                ..quantifier
+            };
+            both(
+                over_rows(within, body, scope, survivors),
+                unless_ragged(survivors.order, place),
+            )
+        }
     }
 }
 
@@ -331,7 +263,7 @@ fn order_of(v: u8, u: u8, scope: &Scope<'_>, order: &Rows) -> Three
 }
 
 /// The row at a place.
-fn row_at(rows: &[Row], place: Option<usize>) -> Option<Row>
+pub(crate) fn row_at(rows: &[Row], place: Option<usize>) -> Option<Row>
     ensures { result ≡ row_at rows.now place }
 {
     match place {

@@ -14,6 +14,7 @@ use crate::index::Indexes;
 use crate::judging::value;
 use crate::kleene::is_false;
 use crate::scope::Scope;
+use crate::survivors::Survivors;
 use crate::width::is_too_wide;
 use entry_order::Three;
 use precedence::Rows;
@@ -70,13 +71,18 @@ fn answer(alloc: Global, body: &Formula, rows: &[Row], order: &Rows) -> Result<V
     if is_too_wide(body, 1, rows) {
         return Err(JudgeFault::TooWide);
     }
-    let indexes = Indexes::make(alloc, rows, order)?;
-    match value(body, &Scope::Empty, rows, order, &indexes) {
+    let indexes = Indexes::make(alloc, body, rows, order)?;
+    let survivors = Survivors {
+        rows,
+        order,
+        indexes,
+    };
+    match value(body, &Scope::Empty, &survivors) {
         Three::True => Ok(Verdict::Kept),
         Three::Unknown => Ok(Verdict::Unsettled),
         Three::False => {
             let mut places = Vec::new(alloc);
-            push_broken(body, &Scope::Empty, rows, order, &indexes, &mut places)?;
+            push_broken(body, &Scope::Empty, &survivors, &mut places)?;
             Ok(Verdict::Broken(places))
         }
     }
@@ -86,21 +92,19 @@ fn answer(alloc: Global, body: &Formula, rows: &[Row], order: &Rows) -> Result<V
 fn push_broken(
     formula: &Formula,
     scope: &Scope<'_>,
-    rows: &[Row],
-    order: &Rows,
-    indexes: &Indexes,
+    survivors: &Survivors<'_>,
     places: &mut Vec<u32>,
 ) -> Result<(), AllocError>
-    requires same { length rows.now ≡ known_count order.now }
-    requires within { IsWithin (length rows.now) scope.now }
-    requires indexed { AreIndexesOf rows.now indexes.now }
+    requires same { length survivors.now.rows.now ≡ known_count survivors.now.order.now }
+    requires within { IsWithin (length survivors.now.rows.now) scope.now }
+    requires indexed { AreIndexesOf survivors.now.rows.now survivors.now.indexes }
     ensures { OnOk result (places.new.items ≡ places.old.items
-        ++ broken rows.now (known_before order.now) (known_whole order.now) (tree_of formula.now)
-        (env_of scope.now)) }
+        ++ broken survivors.now.rows.now (known_before survivors.now.order.now)
+        (known_whole survivors.now.order.now) (tree_of formula.now) (env_of scope.now)) }
 {
     match formula {
         Formula::ForEvery { v, kind, body } => {
-            match first_broken(body, *v, *kind, scope, rows, order, indexes) {
+            match first_broken(body, *v, *kind, scope, survivors) {
                 None => Ok(()),
                 Some(place) => {
                     places.push(place)?;
@@ -109,7 +113,7 @@ fn push_broken(
                         place: place as usize,
                         outer: &*scope,
                     };
-                    push_broken(body, &inner, rows, order, indexes, places)
+                    push_broken(body, &inner, survivors, places)
                 }
             }
         }
@@ -123,25 +127,25 @@ fn first_broken(
     v: u8,
     kind: Kind,
     scope: &Scope<'_>,
-    rows: &[Row],
-    order: &Rows,
-    indexes: &Indexes,
+    survivors: &Survivors<'_>,
 ) -> Option<u32>
-    requires same { length rows.now ≡ known_count order.now }
-    requires within { IsWithin (length rows.now) scope.now }
-    requires indexed { AreIndexesOf rows.now indexes.now }
-    ensures first { result ≡ first_false rows.now (known_before order.now) (known_whole order.now) kind
-        (λ i. value_of rows.now (known_before order.now) (known_whole order.now) body.now
-        (bind v i (env_of scope.now))) 0 (length rows.now) }
-    ensures within { IfSome result (λ place. place < length rows.now) }
+    requires same { length survivors.now.rows.now ≡ known_count survivors.now.order.now }
+    requires within { IsWithin (length survivors.now.rows.now) scope.now }
+    requires indexed { AreIndexesOf survivors.now.rows.now survivors.now.indexes }
+    ensures first { result ≡ first_false survivors.now.rows.now (known_before survivors.now.order.now)
+        (known_whole survivors.now.order.now) kind
+        (λ i. value_of survivors.now.rows.now (known_before survivors.now.order.now)
+        (known_whole survivors.now.order.now) body.now (bind v i (env_of scope.now)))
+        0 (length survivors.now.rows.now) }
+    ensures within { IfSome result (λ place. place < length survivors.now.rows.now) }
 {
-    for i in 0..order.count() {
+    for i in 0..survivors.order.count() {
         let inner = Scope::With {
             v,
             place: i,
             outer: &*scope,
         };
-        if has_kind(kind, Some(rows[i])) && is_false(value(body, &inner, rows, order, indexes)) {
+        if has_kind(kind, Some(survivors.rows[i])) && is_false(value(body, &inner, survivors)) {
             return Some(i as u32);
         }
     }

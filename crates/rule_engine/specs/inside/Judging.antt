@@ -55,7 +55,3 @@ module _ (rows : List Row) (order : ℕ → ℕ → Three) (wholes : ℕ → Boo
   if_meant some body v kind within env j =
       if has_kind kind (slice_get rows j) && is_in order within j
       then signed some (value_of body (bind v j env)) else True
-
-  -- the least of these at some places
-  abbrev pub over_places : Bool → Formula → ℕ → Kind → Option ℕ → (ℕ → Option ℕ) → List ℕ → Three
-  over_places some body v kind within env places = least (map (if_meant some body v kind within env) places)

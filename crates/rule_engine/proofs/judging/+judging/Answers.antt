@@ -1,4 +1,4 @@
-use Rattle.std.proofs.Common.{◌∙◌, ◌<◌, ap, sym, subst, true, false, ℕ, Option, Some, None, IfSome, length, rules}
+use Rattle.std.proofs.Common.{◌∙◌, ◌<◌, ap, sym, subst, true, false, ℕ, Option, Some, None, IfSome, length, rules, arith}
 use Rattle.rule_language.specs.declared.row.Row.{Row}
 use Rattle.rule_engine.specs.Tests.{value_of as term_value}
 use Rattle.rule_engine.specs.Kleene.{both, opposite, as_three}
@@ -6,33 +6,31 @@ use Rattle.rule_engine.specs.Tests.{is_next, has_role, has_kind, are_equal, is_l
 use Rattle.rule_engine.specs.Values.{row_at}
 use Rattle.rule_engine.specs.inside.Judging.{signed, value_of, over, over_rows, over_before}
 use Rattle.rule_engine.specs.inside.Scopes.{env_of}
+use Rattle.rule_engine.specs.declared.quantifier.Quantifier.{Quantifier}
 use Rattle.rule_engine.proofs.Judges.{value-And, value-Or, value-ForEvery, value-ForSome, value-EveryBefore}
 use Rattle.rule_engine.proofs.Judges.{value-SomeBefore, value-Before, value-Next, value-Is, value-OfKind, value-Equal, value-Less}
-use Rattle.rule_engine.proofs.Judges.{over_step}
+use Rattle.rule_engine.proofs.Indexed.{step_with, stop_with, bucket_starts, bucket_goes_on}
 use Rattle.rule_engine.proofs.judging.+judging.Goals as goal
-use Rattle.rule_engine.proofs.judging.+judging.Goals.{over_each-then-is_meant+else-is_false, over_each-else-is_meant}
 use Rattle.precedence.specs.Known.{known_before, known_whole}
 use Rattle.std.proofs.Common.{◌+◌, ◌-◌}
 use Rattle.entry_order.specs.declared.three.Three.{Three}
 use Rattle.rule_engine.specs.inside.Judging.{over_from}
-use Rattle.rule_engine.specs.inside.Index.{HasWanting}
-use Rattle.rule_engine.proofs.Indexed.{over_rows_by_places}
 use Rattle.rule_engine.proofs.Wants.{false_is}
 
 pub value-returns-in-And : goal.value-returns-in-And
 value-returns-in-And t c =
-    let rows = c.args.rows.now in
-    let P = known_before c.args.order.now in
-    let R = known_whole c.args.order.now in
+    let rows = c.args.survivors.now.rows.now in
+    let P = known_before c.args.survivors.now.order.now in
+    let R = known_whole c.args.survivors.now.order.now in
     let env = env_of c.args.scope.now in
     c.over.ensures ∙ ap (λ fs. over rows P R false fs env) c.as_slice.ensures.value
     ∙ sym (ap (λ f. value_of rows P R f env) c.in-And.is ∙ value-And rows P R env c.in-And.parts)
 
 pub value-returns-in-Or : goal.value-returns-in-Or
 value-returns-in-Or t c =
-    let rows = c.args.rows.now in
-    let P = known_before c.args.order.now in
-    let R = known_whole c.args.order.now in
+    let rows = c.args.survivors.now.rows.now in
+    let P = known_before c.args.survivors.now.order.now in
+    let R = known_whole c.args.survivors.now.order.now in
     let env = env_of c.args.scope.now in
     c.opposite-in-Or.ensures ∙ ap opposite (c.over-in-Or.ensures ∙ ap (λ fs. over rows P R true fs env)
     c.as_slice-in-Or.ensures.value)
@@ -40,51 +38,55 @@ value-returns-in-Or t c =
 
 pub value-returns-in-ForEvery : goal.value-returns-in-ForEvery
 value-returns-in-ForEvery t c =
-    let rows = c.args.rows.now in
-    let P = known_before c.args.order.now in
-    let R = known_whole c.args.order.now in
+    let rows = c.args.survivors.now.rows.now in
+    let P = known_before c.args.survivors.now.order.now in
+    let R = known_whole c.args.survivors.now.order.now in
     let env = env_of c.args.scope.now in
     let a = c.in-ForEvery in
-    c.over_rows.ensures ∙ ap (λ f. over_rows rows P R false f a.v a.kind None env) c.deref.ensures
+    c.over_rows.ensures ∙ ap (λ (q : Quantifier). over_rows rows P R q.some c.deref.result.now q.v q.kind q.within env) c.quantifier_over.ensures
+    ∙ ap (λ f. over_rows rows P R false f a.v a.kind None env) c.deref.ensures
     ∙ sym (ap (λ f. value_of rows P R f env) c.in-ForEvery.is ∙ value-ForEvery rows P R env a.v a.kind a.body)
 
 pub value-returns-in-ForSome : goal.value-returns-in-ForSome
 value-returns-in-ForSome t c =
-    let rows = c.args.rows.now in
-    let P = known_before c.args.order.now in
-    let R = known_whole c.args.order.now in
+    let rows = c.args.survivors.now.rows.now in
+    let P = known_before c.args.survivors.now.order.now in
+    let R = known_whole c.args.survivors.now.order.now in
     let env = env_of c.args.scope.now in
     let a = c.in-ForSome in
     c.opposite.ensures ∙ ap opposite (c.over_rows-in-ForSome.ensures
+    ∙ ap (λ (q : Quantifier). over_rows rows P R q.some c.deref-in-ForSome.result.now q.v q.kind q.within env) c.quantifier_over-in-ForSome.ensures
     ∙ ap (λ f. over_rows rows P R true f a.v a.kind None env) c.deref-in-ForSome.ensures)
     ∙ sym (ap (λ f. value_of rows P R f env) c.in-ForSome.is ∙ value-ForSome rows P R env a.v a.kind a.body)
 
 pub value-returns-in-EveryBefore : goal.value-returns-in-EveryBefore
 value-returns-in-EveryBefore t c =
-    let rows = c.args.rows.now in
-    let P = known_before c.args.order.now in
-    let R = known_whole c.args.order.now in
+    let rows = c.args.survivors.now.rows.now in
+    let P = known_before c.args.survivors.now.order.now in
+    let R = known_whole c.args.survivors.now.order.now in
     let env = env_of c.args.scope.now in
     let a = c.in-EveryBefore in
-    c.over_before.ensures ∙ ap (λ f. over_before rows P R false f a.v a.kind env (env a.u)) c.deref-in-EveryBefore.ensures
+    c.over_before.ensures ∙ ap (λ (q : Quantifier). over_before rows P R q.some c.deref-in-EveryBefore.result.now q.v q.kind env (env a.u)) c.quantifier_over-in-EveryBefore.ensures
+    ∙ ap (λ f. over_before rows P R false f a.v a.kind env (env a.u)) c.deref-in-EveryBefore.ensures
     ∙ sym (ap (λ f. value_of rows P R f env) a.is ∙ value-EveryBefore rows P R env a.v a.kind a.u a.body)
 
 pub value-returns-in-SomeBefore : goal.value-returns-in-SomeBefore
 value-returns-in-SomeBefore t c =
-    let rows = c.args.rows.now in
-    let P = known_before c.args.order.now in
-    let R = known_whole c.args.order.now in
+    let rows = c.args.survivors.now.rows.now in
+    let P = known_before c.args.survivors.now.order.now in
+    let R = known_whole c.args.survivors.now.order.now in
     let env = env_of c.args.scope.now in
     let a = c.in-SomeBefore in
     c.opposite-in-SomeBefore.ensures ∙ ap opposite (c.over_before-in-SomeBefore.ensures
+    ∙ ap (λ (q : Quantifier). over_before rows P R q.some c.deref-in-SomeBefore.result.now q.v q.kind env (env a.u)) c.quantifier_over-in-SomeBefore.ensures
     ∙ ap (λ f. over_before rows P R true f a.v a.kind env (env a.u)) c.deref-in-SomeBefore.ensures)
     ∙ sym (ap (λ f. value_of rows P R f env) a.is ∙ value-SomeBefore rows P R env a.v a.kind a.u a.body)
 
 pub value-returns-in-Next : goal.value-returns-in-Next
 value-returns-in-Next t c =
-    let rows = c.args.rows.now in
-    let P = known_before c.args.order.now in
-    let R = known_whole c.args.order.now in
+    let rows = c.args.survivors.now.rows.now in
+    let P = known_before c.args.survivors.now.order.now in
+    let R = known_whole c.args.survivors.now.order.now in
     let env = env_of c.args.scope.now in
     c.as_three.ensures ∙ ap as_three (c.is_next.ensures
     ∙ ap (λ x. is_next x c.row_at-in-Next.result)
@@ -94,9 +96,9 @@ value-returns-in-Next t c =
 
 pub value-returns-in-Is : goal.value-returns-in-Is
 value-returns-in-Is t c =
-    let rows = c.args.rows.now in
-    let P = known_before c.args.order.now in
-    let R = known_whole c.args.order.now in
+    let rows = c.args.survivors.now.rows.now in
+    let P = known_before c.args.survivors.now.order.now in
+    let R = known_whole c.args.survivors.now.order.now in
     let env = env_of c.args.scope.now in
     c.as_three-in-Is.ensures ∙ ap as_three (c.has_role.ensures
     ∙ ap (has_role c.in-Is.role) (c.row_at-in-Is.ensures ∙ ap (row_at rows) c.place_of-in-Is.ensures.is))
@@ -104,9 +106,9 @@ value-returns-in-Is t c =
 
 pub value-returns-in-OfKind : goal.value-returns-in-OfKind
 value-returns-in-OfKind t c =
-    let rows = c.args.rows.now in
-    let P = known_before c.args.order.now in
-    let R = known_whole c.args.order.now in
+    let rows = c.args.survivors.now.rows.now in
+    let P = known_before c.args.survivors.now.order.now in
+    let R = known_whole c.args.survivors.now.order.now in
     let env = env_of c.args.scope.now in
     c.as_three-in-OfKind.ensures ∙ ap as_three (c.has_kind.ensures
     ∙ ap (has_kind c.in-OfKind.kind)
@@ -115,9 +117,9 @@ value-returns-in-OfKind t c =
 
 pub value-returns-in-Equal : goal.value-returns-in-Equal
 value-returns-in-Equal t c =
-    let rows = c.args.rows.now in
-    let P = known_before c.args.order.now in
-    let R = known_whole c.args.order.now in
+    let rows = c.args.survivors.now.rows.now in
+    let P = known_before c.args.survivors.now.order.now in
+    let R = known_whole c.args.survivors.now.order.now in
     let env = env_of c.args.scope.now in
     let at : ℕ → Option Row = λ v. row_at rows (env v) in
     c.as_three-in-Equal.ensures ∙ ap as_three (c.are_equal.ensures
@@ -127,9 +129,9 @@ value-returns-in-Equal t c =
 
 pub value-returns-in-Less : goal.value-returns-in-Less
 value-returns-in-Less t c =
-    let rows = c.args.rows.now in
-    let P = known_before c.args.order.now in
-    let R = known_whole c.args.order.now in
+    let rows = c.args.survivors.now.rows.now in
+    let P = known_before c.args.survivors.now.order.now in
+    let R = known_whole c.args.survivors.now.order.now in
     let env = env_of c.args.scope.now in
     let at : ℕ → Option Row = λ v. row_at rows (env v) in
     c.as_three-in-Less.ensures ∙ ap as_three (c.is_less.ensures
@@ -137,63 +139,14 @@ value-returns-in-Less t c =
     ∙ ap (is_less (term_value at c.in-Less.t)) (c.term_value-in-Less-2.ensures))
     ∙ sym (ap (λ f. value_of rows P R f env) c.in-Less.is ∙ value-Less rows P R env c.in-Less.t c.in-Less.s)
 
-pub over_each-loop-i-preserved : goal.over_each-loop-i-preserved
-over_each-loop-i-preserved t c =
-    let rows = c.args.rows.now in
-    let P = known_before c.args.order.now in
-    let R = known_whole c.args.order.now in
-    let env = env_of c.args.scope.now in
-    let body = c.args.body.now in
-    elim c.if-is_meant.branch [
-      | over_each-then-is_meant+else-is_false w ↦
-          over_step rows P R env c.args.some body c.args.v c.args.kind c.args.within c.loop-i.i c.loop-i.least
-          c.if-is_meant.least _ true c.loop-i-test.true (sym c.is_meant.ensures ∙ w.if-is_meant.true)
-          (w.least-is ∙ w.both-least.ensures
-          ∙ ap (both c.loop-i.least) (w.signed.ensures ∙ ap (signed c.args.some) w.value.ensures))
-          c.loop-i.invariant
-      | over_each-else-is_meant w ↦
-          over_step rows P R env c.args.some body c.args.v c.args.kind c.args.within c.loop-i.i c.loop-i.least
-          c.if-is_meant.least _ false c.loop-i-test.true (sym c.is_meant.ensures ∙ w.if-is_meant.false) w.least-is
-          c.loop-i.invariant
-    ]
-
-pub over_each-returns-then-is_false : goal.over_each-returns-then-is_false
-over_each-returns-then-is_false t c =
-    let rows = c.args.rows.now in
-    let P = known_before c.args.order.now in
-    let R = known_whole c.args.order.now in
-    let env = env_of c.args.scope.now in
-    let body = c.args.body.now in
-    let i = c.loop-i.i in
-    let rest = over_from rows P R c.args.some body c.args.v c.args.kind c.args.within env (i + 1) (length rows - (i + 1)) in
-    sym (over_step rows P R env c.args.some body c.args.v c.args.kind c.args.within i c.loop-i.least
-    c.both-least.result _ true c.loop-i-test.true (sym c.is_meant.ensures ∙ c.if-is_meant.true)
-    (c.both-least.ensures
-    ∙ ap (both c.loop-i.least) (c.signed.ensures ∙ ap (signed c.args.some) c.value.ensures))
-    c.loop-i.invariant
-    ∙ ap (λ (x : Three). both x rest)
-    (false_is c.both-least.result (sym c.is_false.ensures ∙ c.if-is_false.true)))
-
 pub value-returns-in-Before : goal.value-returns-in-Before
 value-returns-in-Before t c =
-    let rows = c.args.rows.now in
-    let P = known_before c.args.order.now in
-    let R = known_whole c.args.order.now in
+    let rows = c.args.survivors.now.rows.now in
+    let P = known_before c.args.survivors.now.order.now in
+    let R = known_whole c.args.survivors.now.order.now in
     let env = env_of c.args.scope.now in
     c.order_of.ensures
     ∙ sym (ap (λ f. value_of rows P R f env) c.in-Before.is ∙ value-Before rows P R env c.in-Before.v c.in-Before.u)
-
-pub over_rows-returns-in-Some : goal.over_rows-returns-in-Some
-over_rows-returns-in-Some t c =
-    let rows = c.args.rows.now in
-    let P = known_before c.args.order.now in
-    let R = known_whole c.args.order.now in
-    let env = env_of c.args.scope.now in
-    c.over_places.ensures
-    ∙ sym (over_rows_by_places rows P R c.args.some c.args.body.now c.args.v c.args.kind c.args.within env
-    c.wanted_for.result c.in-Some.places.now (c.wanted_for.ensures P R)
-    (subst (λ o. IfSome o (λ p. HasWanting rows c.wanted_for.result p.now)) c.in-Some.is
-    (c.places.ensures rows c.requires.indexed)))
 
 pub over_before-over_rows-requires : goal.over_before-over_rows-requires
 over_before-over_rows-requires t c = (
@@ -204,8 +157,8 @@ over_before-over_rows-requires t c = (
       c.requires.within,
       (
         c.requires.indexed,
-        subst (λ (o : Option ℕ). IfSome o (λ (p : ℕ). p < length c.args.rows.now)) c.in-Some.is
-            (c.place_of.ensures.within (length c.args.rows.now) c.requires.within),
+        subst (λ (o : Option ℕ). IfSome o (λ (p : ℕ). p < length c.args.survivors.now.rows.now)) c.in-Some.is
+            (c.place_of.ensures.within (length c.args.survivors.now.rows.now) c.requires.within),
       ),
     ),
   ),
@@ -214,16 +167,87 @@ over_before-over_rows-requires t c = (
 pub over_before-unless_ragged-requires : goal.over_before-unless_ragged-requires
 over_before-unless_ragged-requires t c =
     subst (λ (n : ℕ). c.in-Some.place < n) c.requires.same
-    (subst (λ (o : Option ℕ). IfSome o (λ (p : ℕ). p < length c.args.rows.now)) c.in-Some.is
-    (c.place_of.ensures.within (length c.args.rows.now) c.requires.within))
+    (subst (λ (o : Option ℕ). IfSome o (λ (p : ℕ). p < length c.args.survivors.now.rows.now)) c.in-Some.is
+    (c.place_of.ensures.within (length c.args.survivors.now.rows.now) c.requires.within))
 
 pub over_before-returns-in-Some : goal.over_before-returns-in-Some
 over_before-returns-in-Some t c =
-    let rows = c.args.rows.now in
-    let P = known_before c.args.order.now in
-    let R = known_whole c.args.order.now in
+    let rows = c.args.survivors.now.rows.now in
+    let P = known_before c.args.survivors.now.order.now in
+    let R = known_whole c.args.survivors.now.order.now in
     let env = env_of c.args.scope.now in
     let p = c.in-Some.place in
     c.both.ensures ∙ ap (λ x. both x c.unless_ragged.result) c.over_rows.ensures
-    ∙ ap (both (over_rows rows P R c.args.some c.args.body.now c.args.v c.args.kind (Some p) env)) c.unless_ragged.ensures
-    ∙ ap (over_before rows P R c.args.some c.args.body.now c.args.v c.args.kind env) (sym c.in-Some.is ∙ c.place_of.ensures.is)
+    ∙ ap (both (over_rows rows P R c.args.quantifier.some c.args.body.now c.args.quantifier.v c.args.quantifier.kind (Some p) env)) c.unless_ragged.ensures
+    ∙ ap (over_before rows P R c.args.quantifier.some c.args.body.now c.args.quantifier.v c.args.quantifier.kind env) (sym c.in-Some.is ∙ c.place_of.ensures.is)
+
+pub over_each-loop-i-preserved : goal.over_each-loop-i-preserved
+over_each-loop-i-preserved t c =
+    let rows = c.args.survivors.now.rows.now in
+    let P = known_before c.args.survivors.now.order.now in
+    let R = known_whole c.args.survivors.now.order.now in
+    let env = env_of c.args.scope.now in
+    let body = c.args.body.now in
+    let q = c.args.quantifier in
+    step_with rows P R q.some body q.v q.kind q.within env c.loop-i.i c.loop-i.least c.value_at.result
+    c.both-least.result _ c.loop-i-test.true c.value_at.ensures c.both-least.ensures c.loop-i.invariant
+
+pub over_each-returns-then-is_false : goal.over_each-returns-then-is_false
+over_each-returns-then-is_false t c =
+    let rows = c.args.survivors.now.rows.now in
+    let P = known_before c.args.survivors.now.order.now in
+    let R = known_whole c.args.survivors.now.order.now in
+    let env = env_of c.args.scope.now in
+    let body = c.args.body.now in
+    let q = c.args.quantifier in
+    stop_with rows P R q.some body q.v q.kind q.within env c.loop-i.i c.loop-i.least c.value_at.result
+    c.both-least.result _ c.loop-i-test.true c.value_at.ensures c.both-least.ensures c.loop-i.invariant
+    (sym c.is_false.ensures ∙ c.if-is_false.true)
+
+pub over_bucket-bucket-init : goal.over_bucket-bucket-init
+over_bucket-bucket-init t c =
+    let rows = c.args.survivors.now.rows.now in
+    let P = known_before c.args.survivors.now.order.now in
+    let R = known_whole c.args.survivors.now.order.now in
+    let env = env_of c.args.scope.now in
+    let body = c.args.body.now in
+    bucket_starts rows P R c.args.quantifier body env c.args.bucket.now c.requires.bucket c.first-i.result c.first-i.ensures
+
+pub over_bucket-returns-then-is_false : goal.over_bucket-returns-then-is_false
+over_bucket-returns-then-is_false t c =
+    let rows = c.args.survivors.now.rows.now in
+    let P = known_before c.args.survivors.now.order.now in
+    let R = known_whole c.args.survivors.now.order.now in
+    let env = env_of c.args.scope.now in
+    let body = c.args.body.now in
+    let q = c.args.quantifier in
+    stop_with rows P R q.some body q.v q.kind q.within env c.bucket.i c.bucket.least c.value_at.result
+    c.both-least.result _ c.bucket-test.true c.value_at.ensures c.both-least.ensures c.bucket.invariant.0
+    (sym c.is_false.ensures ∙ c.if-is_false.true)
+
+pub over_bucket-bucket-smaller : goal.over_bucket-bucket-smaller
+over_bucket-bucket-smaller t c =
+    let rows = c.args.survivors.now.rows.now in
+    let P = known_before c.args.survivors.now.order.now in
+    let R = known_whole c.args.survivors.now.order.now in
+    let env = env_of c.args.scope.now in
+    let body = c.args.body.now in
+    let more = bucket_goes_on rows P R c.args.quantifier body env c.args.bucket.now c.requires.bucket c.bucket.i
+    c.after-i.result c.bucket-test.true c.after-i.ensures c.bucket.invariant.1 in
+    omega (arith, more.0, c.bucket-test.true)
+
+pub over_bucket-bucket-preserved : goal.over_bucket-bucket-preserved
+over_bucket-bucket-preserved t c =
+    let rows = c.args.survivors.now.rows.now in
+    let P = known_before c.args.survivors.now.order.now in
+    let R = known_whole c.args.survivors.now.order.now in
+    let env = env_of c.args.scope.now in
+    let body = c.args.body.now in
+    let q = c.args.quantifier in
+    let more = bucket_goes_on rows P R q body env c.args.bucket.now c.requires.bucket c.bucket.i
+    c.after-i.result c.bucket-test.true c.after-i.ensures c.bucket.invariant.1 in (
+      step_with rows P R q.some body q.v q.kind q.within env c.bucket.i c.bucket.least c.value_at.result
+          c.both-least.result _ c.bucket-test.true c.value_at.ensures c.both-least.ensures c.bucket.invariant.0
+          ∙ ap (both c.both-least.result) more.1,
+      more.2,
+    )

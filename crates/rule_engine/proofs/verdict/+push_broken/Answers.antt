@@ -10,9 +10,9 @@ use Rattle.rule_engine.proofs.verdict.+push_broken.Goals as goal
 
 pub returns-in-None : goal.returns-in-None
 returns-in-None t c =
-    let rows = c.args.rows.now in
-    let P = known_before c.args.order.now in
-    let R = known_whole c.args.order.now in
+    let rows = c.args.survivors.now.rows.now in
+    let P = known_before c.args.survivors.now.order.now in
+    let R = known_whole c.args.survivors.now.order.now in
     let env = env_of c.args.scope.now in
     let a = c.in-ForEvery in
     let first : None ≡ first_false rows P R a.kind (λ i. value_of rows P R a.body.value (bind a.v i env)) 0 (length rows) =
@@ -25,9 +25,9 @@ returns-in-None t c =
 
 pub returns-in_ok-push-in-Some : goal.returns-in_ok-push-in-Some
 returns-in_ok-push-in-Some t c =
-    let rows = c.args.rows.now in
-    let P = known_before c.args.order.now in
-    let R = known_whole c.args.order.now in
+    let rows = c.args.survivors.now.rows.now in
+    let P = known_before c.args.survivors.now.order.now in
+    let R = known_whole c.args.survivors.now.order.now in
     let env = env_of c.args.scope.now in
     let a = c.in-ForEvery in
     let place = c.in-Some.place in

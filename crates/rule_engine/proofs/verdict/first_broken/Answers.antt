@@ -13,9 +13,9 @@ use Rattle.rule_engine.proofs.verdict.first_broken.Goals.{else-has_kind-via-then
 
 pub loop-i-preserved : goal.loop-i-preserved
 loop-i-preserved c =
-    let rows = c.args.rows.now in
-    let P = known_before c.args.order.now in
-    let R = known_whole c.args.order.now in
+    let rows = c.args.survivors.now.rows.now in
+    let P = known_before c.args.survivors.now.order.now in
+    let R = known_whole c.args.survivors.now.order.now in
     let env = env_of c.args.scope.now in
     let i = c.loop-i.i in
     let value : ℕ → Three = λ j. value_of rows P R c.args.body.now (bind c.args.v j env) in
@@ -35,9 +35,9 @@ loop-i-preserved c =
 
 pub returns-then-is_false-clause-first : goal.returns-then-is_false-clause-first
 returns-then-is_false-clause-first c =
-    let rows = c.args.rows.now in
-    let P = known_before c.args.order.now in
-    let R = known_whole c.args.order.now in
+    let rows = c.args.survivors.now.rows.now in
+    let P = known_before c.args.survivors.now.order.now in
+    let R = known_whole c.args.survivors.now.order.now in
     let env = env_of c.args.scope.now in
     let i = c.loop-i.i in
     let value : ℕ → Three = λ j. value_of rows P R c.args.body.now (bind c.args.v j env) in

@@ -8,8 +8,8 @@ use Rattle.rule_engine.proofs.verdict.first_broken.Given as goal
 
 abbrev pub invariant-loop-i : goal.invariant-loop-i
 invariant-loop-i l =
-    let P = known_before l.order in
-    let R = known_whole l.order in
-    let value = λ (i : ℕ). value_of l.rows P R l.body (bind l.v i (env_of l.scope)) in
-    first_false l.rows P R l.kind value 0 (length l.rows)
-    ≡ first_false l.rows P R l.kind value l.i (length l.rows - l.i)
+    let P = known_before l.survivors.order.now in
+    let R = known_whole l.survivors.order.now in
+    let value = λ (i : ℕ). value_of l.survivors.rows.now P R l.body (bind l.v i (env_of l.scope)) in
+    first_false l.survivors.rows.now P R l.kind value 0 (length l.survivors.rows.now)
+    ≡ first_false l.survivors.rows.now P R l.kind value l.i (length l.survivors.rows.now - l.i)

@@ -1,19 +1,28 @@
-use Rattle.std.proofs.Common.{◌∙◌, ◌<◌, sym, subst, ℕ, length, arith}
-use Rattle.std.proofs.lemmas.Option.{slice_get_within}
-use Rattle.rule_engine.proofs.Indexed.{holds_at}
+use Rattle.std.proofs.Common.{◌≡◌, ◌∙◌, ◌<◌, ◌+◌, ◌-◌, sym, subst, ℕ, length, arith}
+use Rattle.std.specs.Prelude.{slice_set}
+use Rattle.std.proofs.lemmas.List.{length-set}
+use Rattle.rule_engine.specs.inside.Index.{HoldsFrom}
+use Rattle.rule_engine.proofs.Indexed.{holds_with}
 use Rattle.rule_engine.proofs.index.Index.make.Goals as goal
 
-pub loop-i-preserved : goal.loop-i-preserved
-loop-i-preserved c =
+pub loop-done-preserved : goal.loop-done-preserved
+loop-done-preserved c =
     let rows = c.args.rows.now in
-    let inside : c.loop-i.i < length rows =
-    subst (λ (n : ℕ). c.loop-i.i < n) (c.count-i-end.ensures.count ∙ sym c.requires) c.loop-i-test.true in
-    holds_at rows c.args.field c.loop-i.buckets.items c.put.new.buckets.items c.loop-i.i c.number_in.result c.len.result _
-    inside c.loop-i.invariant.0 c.number_in.ensures
-    (c.len.ensures ∙ omega (arith, c.loop-i.buckets.ok.0)) c.in_ok-put.ensures c.loop-i.invariant.1
-
-pub returns : goal.returns
-returns c j row is =
-    c.loop-i.invariant.1 j row
-    (omega (arith, slice_get_within c.args.rows.now j row is, c.count-i-end.ensures.count, c.requires, c.loop-i-test.false))
-    is
+    let firsts = c.loop-done.firsts.items in
+    let nexts = c.loop-done.nexts.items in
+    let i = c.count-count.result - 1 - c.loop-done.done in
+    let bucket = c.bucket_of-bucket.result in
+    let first = c.index.result.now in
+    let all : c.count-count.result ≡ length rows = c.count-count.ensures.count ∙ sym c.requires in
+    let inside : i < length rows = omega (arith, all, c.loop-done-test.true) in
+    let before : length rows - c.loop-done.done ≡ i + 1 = omega (arith, all, c.loop-done-test.true) in
+    let after : i ≡ length rows - (c.loop-done.done + 1) = omega (arith, all) in
+    let count : c.len.result ≡ length firsts = c.len.ensures ∙ omega (arith, c.loop-done.firsts.ok.0) in
+    let held = c.loop-done.invariant in (
+      subst (λ (n : ℕ). 0 < n) (sym (length-set firsts bucket i)) held.0,
+      length-set nexts i first ∙ held.1,
+      subst (HoldsFrom rows c.args.key (slice_set firsts bucket i) (slice_set nexts i first)) after
+          (holds_with rows c.args.key firsts nexts i bucket c.number_in.result c.len.result first _ inside
+          (subst (λ (n : ℕ). i < n) (sym held.1) inside) held.0 c.number_in.ensures count c.bucket_of-bucket.ensures.is
+          c.index.ensures (subst (HoldsFrom rows c.args.key firsts nexts) before held.2)),
+    )
