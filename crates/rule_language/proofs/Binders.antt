@@ -1,22 +1,21 @@
 -- What a quantifier binds, as it is read.
-use Rattle.std.proofs.Common.{◌≡◌, ◌≢◌, ◌⊎◌, inl, inr, ◌∙◌, ℕ, ◌+◌, ◌<◌, ◌≤◌, Bool, true, false, ◌&&◌, List, [], ◌∷◌, ◌++◌, length, Option, Some, None, Result, Ok, Err, refl, ap, sym, subst, arith}
-use Rattle.std.specs.Prelude.{codes, nat_lt, nat_le, not, is_some, if◌then◌else◌}
+use Rattle.std.proofs.Common.{◌≡◌, ◌≢◌, ◌∙◌, ℕ, ◌<◌, Bool, true, false, List, [], ◌∷◌, length, Option, Some, None, Ok, Err, refl, ap, sym, subst}
+use Rattle.std.specs.Prelude.{codes, nat_le, is_some, if◌then◌else◌}
 use Rattle.std.specs.Str.{bytes_eq}
 use Rattle.std.proofs.lemmas.Bool.{lt-ltb, leb-false}
 use Rattle.hall_text.specs.declared.spans.Span.{Span}
 use Rattle.rule_language.specs.declared.kind.Kind.{Kind}
 use Rattle.rule_language.specs.declared.faults.RuleWhy.{RuleWhy}
-use Rattle.rule_language.specs.declared.faults.RuleWhy.TheVariants.{SameName, Unbound, Shape, TooDeep}
+use Rattle.rule_language.specs.declared.faults.RuleWhy.TheVariants.{SameName, Shape, TooDeep}
 use Rattle.rule_language.specs.declared.binder.Binder.{Binder}
 use Rattle.rule_language.specs.Kinds.{kind_word}
 use Rattle.rule_language.specs.Scopes.{Scope, kind_in, is_letter}
-use Rattle.rule_language.specs.Lawful.{is_bound, can_bind}
+use Rattle.rule_language.specs.Lawful.{can_bind}
 use Rattle.rule_language.specs.Spelling.{Token, variable, piece}
-use Rattle.rule_language.specs.Wants.{Want, formula, close, new_variable, kind_of, before_or_body, a_variable, meets, meets_formula, new_in, letter_in, nested, then_want, Met}
+use Rattle.rule_language.specs.Wants.{Want, formula, close, new_variable, kind_of, before_or_body, a_variable, meets_formula, new_in, letter_in, nested, then_want, Met}
 use Rattle.rule_language.specs.inside.Reader.{IsNext, Takes, FailsAt}
-use Rattle.rule_language.specs.inside.Quantifiers.{IsRange, IsBinder, IsBound, range_words, quantifier_head}
-use Rattle.rule_language.proofs.Refusals.{Passed, passed_more, one_passed, spell_more, transfer, fails_behind}
-use Rattle.rule_language.proofs.Steps.{variable_step, new_step, kind_of_step}
+use Rattle.rule_language.specs.inside.Quantifiers.{IsRange, IsBinder, range_words, quantifier_head}
+use Rattle.rule_language.proofs.Refusals.{Passed, spell_more, transfer, fails_behind}
 use Rattle.rule_language.proofs.Passing.{step, kind_of_passes, variable_passes}
 use Rattle.rule_language.proofs.Found.{if_second, bytes_same}
 

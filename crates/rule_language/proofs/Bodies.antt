@@ -1,8 +1,8 @@
 -- Formulas that were read, one behind another, and their faults.
-use Rattle.std.proofs.Common.{◌≡◌, ◌≢◌, ◌⊎◌, inl, inr, ◌∙◌, ◌↔◌, ℕ, ◌+◌, ◌-◌, ◌<◌, ◌≤◌, Bool, true, false, ◌&&◌, List, [], ◌∷◌, ◌++◌, length, Some, Result, Ok, Err, refl, ap, sym, subst, arith, append_assoc, Box, Global}
-use Rattle.std.specs.Prelude.{codes, nat_lt, nat_le, ◌==◌, IsTrue, if◌then◌else◌}
+use Rattle.std.proofs.Common.{◌≡◌, ◌≢◌, inl, inr, ◌∙◌, ◌↔◌, ℕ, ◌+◌, ◌-◌, ◌<◌, ◌≤◌, Bool, true, false, List, [], ◌∷◌, ◌++◌, Some, Result, Ok, Err, refl, ap, sym, arith, append_assoc, Box, Global}
+use Rattle.std.specs.Prelude.{codes, nat_le, ◌==◌, IsTrue, if◌then◌else◌}
 use Rattle.std.specs.Str.{bytes_eq}
-use Rattle.std.proofs.lemmas.Bool.{le-ltb, lt-ltb, ne_eqb}
+use Rattle.std.proofs.lemmas.Bool.{lt-ltb, ne_eqb}
 use Rattle.hall_text.specs.declared.spans.Span.{Span}
 use Rattle.rule_language.specs.declared.formula.Formula.{Formula}
 use Rattle.rule_language.specs.declared.form.Form.{Form}
@@ -12,15 +12,15 @@ use Rattle.rule_language.specs.declared.faults.RuleWhy.TheVariants.{Shape, TooDe
 use Rattle.rule_language.specs.Kinds.{head_word}
 use Rattle.rule_language.specs.Scopes.{Scope}
 use Rattle.rule_language.specs.Trees.{Trees, no_trees, tree_then, count_of}
-use Rattle.rule_language.specs.Forms.{in_front, tree_of, trees_of}
+use Rattle.rule_language.specs.Forms.{in_front, tree_of}
 use Rattle.rule_language.specs.Lawful.{are_formulas}
 use Rattle.rule_language.specs.Spelling.{Token, left, right, form_words, spelt, tokens_then, piece}
-use Rattle.rule_language.specs.Wants.{Want, Met, formula, head, more, close, new_variable, meets, meets_formula, behind, behind_head, nested}
+use Rattle.rule_language.specs.Wants.{Want, Met, formula, head, more, new_variable, meets_formula, behind_head, nested}
 use Rattle.rule_language.specs.inside.Reader.{IsNext, Takes, FailsAt, IfFault, IsRead, IsBody, told}
-use Rattle.rule_language.proofs.Refusals.{Passed, one_passed, spell_more, fails_there, cause_there, fails_behind, transfer}
+use Rattle.rule_language.proofs.Refusals.{Passed, one_passed, spell_more, fails_there, cause_there, transfer}
 use Rattle.rule_language.proofs.Found.{bytes_same}
 use Rattle.rule_language.proofs.Passing.{open_passes, head_passes, tokens_append, spelt_cases, more_wanted}
-use Rattle.rule_language.proofs.Parts.{formula_passes, count-one, count-front, good-front, tokens-front, members_left}
+use Rattle.rule_language.proofs.Parts.{formula_passes, count-front, good-front, tokens-front, members_left}
 use Rattle.rule_language.specs.declared.faults.RuleFault.{RuleFault}
 use Rattle.rule_language.specs.declared.formula.Formula.{Implies}
 use Rattle.rule_language.specs.declared.form.Form.TheVariants as form

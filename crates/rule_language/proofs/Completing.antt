@@ -1,29 +1,21 @@
 -- Tokens that pass fill the wants: one token behind another.
-use Rattle.std.proofs.Common.{◌≡◌, ◌≢◌, ◌⊎◌, inl, inr, ◌∙◌, ℕ, ◌+◌, ◌-◌, ◌<◌, ◌≤◌, zero, suc, Bool, true, false, ◌&&◌, List, [], ◌∷◌, ◌++◌, length, Option, Some, None, Result, Ok, Err, refl, ap, sym, subst, ⊎_elim, arith, append_assoc}
-use Rattle.std.specs.Prelude.{nat_lt, nat_le, not, ◌==◌, if◌then◌else◌, codes, is_some}
+use Rattle.std.proofs.Common.{◌≡◌, ◌≢◌, ◌⊎◌, inl, inr, ◌∙◌, ℕ, ◌+◌, ◌-◌, ◌<◌, ◌≤◌, Bool, true, false, ◌&&◌, List, [], ◌∷◌, ◌++◌, Some, None, Result, Ok, Err, refl, ap, sym, subst, arith}
+use Rattle.std.specs.Prelude.{nat_lt, nat_le, ◌==◌, if◌then◌else◌, codes}
 use Rattle.std.specs.Str.{bytes_eq}
-use Rattle.std.proofs.lemmas.Bool.{ltb-true, lt-ltb, leb-true, leb-false, eq-eqb, ne_eqb, eqb-false}
+use Rattle.std.proofs.lemmas.Bool.{lt-ltb, leb-false, eqb-false}
 use Rattle.rule_language.specs.declared.kind.Kind.{Kind}
-use Rattle.rule_language.specs.declared.kind.Sort.{Sort}
-use Rattle.rule_language.specs.declared.term.Term.{Term}
-use Rattle.rule_language.specs.declared.form.Form.{Form}
 use Rattle.rule_language.specs.declared.form.Form.TheVariants as form
-use Rattle.rule_language.specs.declared.form.Head.{Head}
-use Rattle.rule_language.specs.declared.form.Head.TheVariants as begins
 use Rattle.rule_language.specs.declared.faults.RuleWhy.{RuleWhy}
 use Rattle.rule_language.specs.declared.faults.RuleWhy.TheVariants.{Shape, TooDeep}
-use Rattle.rule_language.specs.Kinds.{kind_word, head_word, is_same_sort, is_ordered}
 use Rattle.rule_language.specs.Scopes.{Scope}
-use Rattle.rule_language.specs.Trees.{Trees, no_trees, tree_then, count_of, RuleTree}
-use Rattle.rule_language.specs.Lawful.{is_bound, can_bind, sort_of, are_of_one_sort, has_order, is_closed, has_arity, is_shallow, scope_in, are_formulas, is_rule, follow}
-use Rattle.rule_language.specs.Spelling.{Token, left, right, variable, term_word, form_words, spelt, tokens_then, rule_tokens, rules_tokens}
-use Rattle.rule_language.specs.Wants.{Want, Met, more_rules, rule_word, rule_name, formula, head, new_variable, kind_of, before_or_body, more, a_variable, a_role, a_kind, first_term, second_term, close}
-use Rattle.rule_language.specs.Wants.{meets, meets_formula, then_want, behind, behind_head, nested, head_for, may_begin, only, opening, name_in, is_end, begin}
-use Rattle.rule_language.specs.inside.Quantifiers.{form_of, quantifier_head, range_words}
-use Rattle.rule_language.proofs.Found.{both_true, if_first, if_second, bytes_same, head_found, new_found, kind_found, variable_found, role_found, term_found}
+use Rattle.rule_language.specs.Trees.{Trees, no_trees, tree_then, count_of}
+use Rattle.rule_language.specs.Lawful.{is_closed, has_arity, is_shallow, scope_in, are_formulas}
+use Rattle.rule_language.specs.Spelling.{Token, left, right, variable, form_words, spelt, tokens_then}
+use Rattle.rule_language.specs.Wants.{Want, Met, formula, head, before_or_body, more, a_variable, close}
+use Rattle.rule_language.specs.Wants.{meets, meets_formula, then_want}
+use Rattle.rule_language.proofs.Found.{both_true, bytes_same}
 use Rattle.rule_language.proofs.Passing.{spelt_cases, tokens_append}
-use Rattle.rule_language.proofs.Binders.{may_bind}
-use Rattle.rule_language.proofs.Fills.{FillsFormula, FillsHead, FillsBody, FillsKind, FillsBinder, FillsMore, FillsVariable, FillsSecond, FillsFirst, FillsName, FillsRules, IsRange, Completes}
+use Rattle.rule_language.proofs.Fills.{FillsFormula, FillsHead, Completes}
 
 abbrev as_met : List Want → Met
 as_met wants = Ok wants

@@ -1,24 +1,23 @@
 -- What follows the first word of a formula fills it.
-use Rattle.std.proofs.Common.{◌≡◌, ◌≢◌, ◌∙◌, ℕ, ◌+◌, ◌<◌, ◌≤◌, Bool, true, false, ◌&&◌, List, [], ◌∷◌, ◌++◌, Option, Some, None, Ok, refl, ap, sym, subst, arith}
+use Rattle.std.proofs.Common.{◌≡◌, ◌∙◌, ℕ, ◌+◌, ◌<◌, ◌≤◌, Bool, true, false, ◌&&◌, List, ◌∷◌, ◌++◌, Option, Some, None, Ok, refl, ap, sym, arith}
 use Rattle.std.specs.Prelude.{codes, nat_lt, nat_le}
-use Rattle.std.proofs.lemmas.Bool.{lt-ltb, eq-eqb}
+use Rattle.std.proofs.lemmas.Bool.{lt-ltb}
 use Rattle.rule_language.specs.declared.kind.Kind.{Kind}
 use Rattle.rule_language.specs.declared.kind.Sort.{Sort}
 use Rattle.rule_language.specs.declared.term.Term.{Term}
-use Rattle.rule_language.specs.declared.form.Form.{Form}
 use Rattle.rule_language.specs.declared.form.Form.TheVariants as form
 use Rattle.rule_language.specs.declared.form.Head.{Head}
 use Rattle.rule_language.specs.declared.form.Head.TheVariants as begins
-use Rattle.rule_language.specs.Kinds.{kind_word, head_word, is_same_sort, is_ordered}
+use Rattle.rule_language.specs.Kinds.{kind_word, head_word, is_ordered}
 use Rattle.roster.specs.RosterText.{role_word}
 use Rattle.rule_language.specs.Scopes.{Scope}
-use Rattle.rule_language.specs.Trees.{Trees, no_trees, tree_then, count_of}
-use Rattle.rule_language.specs.Lawful.{is_bound, sort_of, are_of_one_sort, has_order, is_closed, has_arity, scope_in, are_formulas}
-use Rattle.rule_language.specs.Spelling.{Token, right, variable, term_word, form_words, tokens_then}
-use Rattle.rule_language.specs.Wants.{Want, formula, new_variable, more, a_variable, a_role, a_kind, first_term, second_term, close, behind_head, nested, may_begin}
+use Rattle.rule_language.specs.Trees.{Trees, no_trees, count_of}
+use Rattle.rule_language.specs.Lawful.{is_bound, sort_of, are_of_one_sort, has_order, is_closed, are_formulas}
+use Rattle.rule_language.specs.Spelling.{Token, right, variable, term_word, tokens_then}
+use Rattle.rule_language.specs.Wants.{Want, formula, new_variable, more, a_variable, first_term, close, behind_head, nested, may_begin}
 use Rattle.rule_language.specs.inside.Quantifiers.{form_of, quantifier_head, range_words}
 use Rattle.rule_language.proofs.Binders.{may_bind}
-use Rattle.rule_language.proofs.Fills.{FillsHead, FillsBinder, FillsBody, IsRange, Completes}
+use Rattle.rule_language.proofs.Fills.{FillsHead, IsRange, Completes}
 use Rattle.rule_language.proofs.Completing.{one_closed, le_true, in_row, row-tokens, row-count, row-good}
 
 -- a formula behind its first word, and the rest

@@ -1,9 +1,9 @@
 -- Tokens are those of one list of rules.
-use Rattle.std.proofs.Common.{◌≡◌, ◌≢◌, ◌⊎◌, inl, inr, ◌∙◌, ℕ, ◌+◌, ◌^◌, ◌<◌, zero, suc, Bool, true, false, ◌&&◌, List, [], ◌∷◌, ◌++◌, length, Option, Some, None, Result, Ok, Err, refl, ap, sym, subst, ⊎_elim, arith, append_assoc}
-use Rattle.std.specs.Prelude.{nat_lt, not, ◌==◌, if◌then◌else◌, codes, is_some}
+use Rattle.std.proofs.Common.{◌≡◌, ◌≢◌, ℕ, ◌^◌, Bool, true, false, List, [], ◌∷◌, ◌++◌, Option, Some, None, refl}
+use Rattle.std.specs.Prelude.{nat_lt, codes, is_some}
 use Rattle.std.specs.Str.{bytes_eq}
 use Rattle.std.specs.Fmt.{decimal}
-use Rattle.std.proofs.lemmas.Bool.{ltb-true, eqb-true}
+use Rattle.std.proofs.lemmas.Bool.{ltb-true}
 use Rattle.roster.specs.declared.post.Role.{Role}
 use Rattle.roster.specs.declared.post.Role.TheVariants as role
 use Rattle.roster.specs.RosterText.{role_word}
@@ -19,17 +19,13 @@ use Rattle.rule_language.specs.declared.form.Form.TheVariants as form
 use Rattle.rule_language.specs.declared.form.Head.{Head}
 use Rattle.rule_language.specs.declared.form.Head.TheVariants as begins
 use Rattle.rule_language.specs.Kinds.{kind_word, kind_named, field_word, field_named, role_named, head_named}
-use Rattle.rule_language.specs.Scopes.{Scope, kind_in, is_letter}
-use Rattle.rule_language.specs.Trees.{Trees, no_trees, tree_then, count_of, RuleTree}
-use Rattle.rule_language.specs.Lawful.{is_bound, sort_of, are_of_one_sort, has_order, is_closed, has_arity, is_shallow, scope_in, are_formulas, is_rule, follow, are_rules}
-use Rattle.rule_language.specs.Spelling.{Token, left, right, variable, term_word, form_words, spelt, tokens_then, rule_tokens, rules_tokens}
-use Rattle.rule_language.specs.Wants.{number_in, term_in, Typed}
-use Rattle.rule_language.proofs.Found.{both_true, bytes_same}
-use Rattle.rule_language.proofs.Bodies.{bytes_differ}
-use Rattle.rule_language.proofs.Passing.{spelt_cases, tokens_append, field_named_word, no_number}
-use Rattle.rule_language.proofs.Passes.{may_stand}
+use Rattle.rule_language.specs.Scopes.{Scope, is_letter}
+use Rattle.rule_language.specs.Lawful.{sort_of, are_of_one_sort, has_order, is_closed}
+use Rattle.rule_language.specs.Spelling.{Token, term_word, form_words}
+use Rattle.rule_language.specs.Wants.{number_in}
+use Rattle.rule_language.proofs.Found.{both_true}
+use Rattle.rule_language.proofs.Passing.{field_named_word, no_number}
 use Rattle.rule_language.proofs.Numbers.{number-found}
-use Rattle.rule_language.proofs.RulesPass.{rule_good}
 
 -- the first byte of a word
 abbrev pub first_of : Token → ℕ

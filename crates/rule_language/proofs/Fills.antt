@@ -1,7 +1,6 @@
 -- What fills the wants of a list: the grammar at each place of the table.
-use Rattle.std.proofs.Common.{◌≡◌, ◌≢◌, ◌⊎◌, inl, inr, ◌∙◌, ℕ, ◌+◌, ◌-◌, ◌<◌, ◌≤◌, zero, suc, Bool, true, false, ◌&&◌, List, [], ◌∷◌, ◌++◌, length, Option, Some, None, Result, Ok, Err, refl, ap, sym, subst, ⊎_elim, arith, append_assoc}
-use Rattle.std.specs.Prelude.{nat_lt, nat_le, not, ◌==◌, if◌then◌else◌, codes, is_some}
-use Rattle.std.specs.Str.{bytes_eq}
+use Rattle.std.proofs.Common.{◌≡◌, ◌≢◌, ℕ, ◌≤◌, Bool, true, false, List, [], ◌∷◌, ◌++◌, Option, Some, None, Ok}
+use Rattle.std.specs.Prelude.{codes}
 use Rattle.roster.specs.declared.post.Role.{Role}
 use Rattle.roster.specs.RosterText.{role_word}
 use Rattle.rule_language.specs.declared.kind.Kind.{Kind}
@@ -10,10 +9,10 @@ use Rattle.rule_language.specs.declared.term.Term.{Term}
 use Rattle.rule_language.specs.declared.form.Form.{Form}
 use Rattle.rule_language.specs.declared.form.Form.TheVariants as form
 use Rattle.rule_language.specs.Kinds.{kind_word, is_same_sort}
-use Rattle.rule_language.specs.Scopes.{Scope, kind_in, is_letter}
-use Rattle.rule_language.specs.Trees.{Trees, no_trees, tree_then, count_of, RuleTree}
-use Rattle.rule_language.specs.Lawful.{is_bound, sort_of, are_of_one_sort, is_closed, has_arity, is_shallow, scope_in, are_formulas, is_name, is_among, follow}
-use Rattle.rule_language.specs.Spelling.{Token, left, right, variable, term_word, form_words, spelt, tokens_then, rules_tokens}
+use Rattle.rule_language.specs.Scopes.{Scope}
+use Rattle.rule_language.specs.Trees.{Trees, count_of, RuleTree}
+use Rattle.rule_language.specs.Lawful.{is_bound, sort_of, is_closed, has_arity, scope_in, are_formulas, is_name, is_among, follow}
+use Rattle.rule_language.specs.Spelling.{Token, right, variable, term_word, form_words, tokens_then, rules_tokens}
 use Rattle.rule_language.specs.Wants.{Want, more_rules, rule_word, rule_name, formula, head, new_variable, kind_of, before_or_body, more, a_variable, a_role, a_kind, first_term, second_term, close, may_begin, new_in, letter_in}
 use Rattle.rule_language.specs.inside.Quantifiers.{range_words}
 

@@ -1,6 +1,5 @@
 -- Formulas that were read: their tokens, and that they are good where they stand.
-use Rattle.std.proofs.Common.{◌≡◌, ◌⊎◌, inl, inr, ◌∙◌, ℕ, ◌+◌, ◌<◌, Bool, true, false, ◌&&◌, List, [], ◌∷◌, ◌++◌, Some, Ok, refl, ap, sym, rules, append_assoc}
-use Rattle.std.proofs.lemmas.Bool.{lt-ltb}
+use Rattle.std.proofs.Common.{◌≡◌, ◌∙◌, ℕ, ◌+◌, Bool, true, ◌&&◌, List, [], ◌∷◌, ◌++◌, refl, ap, sym}
 use Rattle.hall_text.specs.declared.spans.Span.{Span}
 use Rattle.rule_language.specs.declared.formula.Formula.{Formula}
 use Rattle.rule_language.specs.declared.form.Form.{Form}
@@ -10,7 +9,7 @@ use Rattle.rule_language.specs.Scopes.{Scope}
 use Rattle.rule_language.specs.Trees.{Trees, no_trees, tree_then, count_of}
 use Rattle.rule_language.specs.Forms.{tree_of}
 use Rattle.rule_language.specs.Lawful.{is_closed, has_arity, is_shallow, scope_in, are_formulas}
-use Rattle.rule_language.specs.Spelling.{Token, left, right, form_words, spelt, tokens_then}
+use Rattle.rule_language.specs.Spelling.{Token, left, right, form_words, tokens_then}
 use Rattle.rule_language.specs.inside.Reader.{Takes, IsRead}
 use Rattle.rule_language.proofs.Passing.{IsEnclosed, tokens_append}
 

@@ -1,6 +1,6 @@
 -- What a word is that was found.
-use Rattle.std.proofs.Common.{◌≡◌, ◌≢◌, ◌∙◌, ℕ, ◌+◌, ◌-◌, ◌*◌, ◌^◌, ◌<◌, Bool, true, false, ◌&&◌, List, [], ◌∷◌, length, Option, Some, None, Result, Ok, Err, refl, ap, sym, subst, arith}
-use Rattle.std.specs.Prelude.{if◌then◌else◌, nat_lt, nat_le, ◌==◌, ◌||◌, is_some, codes}
+use Rattle.std.proofs.Common.{◌≡◌, ◌≢◌, ◌∙◌, ℕ, ◌^◌, ◌<◌, Bool, true, false, ◌&&◌, List, [], ◌∷◌, length, Option, Some, None, Result, Ok, Err, refl, ap, sym, subst, arith}
+use Rattle.std.specs.Prelude.{if◌then◌else◌, nat_lt, nat_le, ◌==◌, ◌||◌, is_some}
 use Rattle.std.specs.Str.{bytes_eq}
 use Rattle.std.specs.Fmt.{decimal}
 use Rattle.std.proofs.lemmas.Slice.Eq.{bytes_eq-Decides}
@@ -12,7 +12,6 @@ use Rattle.roster.specs.RosterText.{role_word}
 use Rattle.rule_language.specs.declared.kind.Kind.{Kind}
 use Rattle.rule_language.specs.declared.kind.Kind.TheVariants as kind
 use Rattle.rule_language.specs.declared.kind.Field.{Field}
-use Rattle.rule_language.specs.declared.kind.Field.TheVariants as field
 use Rattle.rule_language.specs.declared.kind.Sort.{Sort}
 use Rattle.rule_language.specs.declared.kind.Sort.TheVariants as sort
 use Rattle.rule_language.specs.declared.term.Term.TheVariants.{Of, Number}
@@ -22,7 +21,7 @@ use Rattle.rule_language.specs.declared.faults.RuleWhy.{RuleWhy}
 use Rattle.rule_language.specs.declared.faults.RuleWhy.TheVariants.{Shape, UnknownKind, SameName, Unbound, WrongField}
 use Rattle.rule_language.specs.Kinds.{named, kind_word, kinds, kind_named, field_word, fields, field_named, role_named, head_word, heads, head_named, has_field, sort_of_field, is_quantifier}
 use Rattle.rule_language.specs.Scopes.{Scope, kind_in, is_letter}
-use Rattle.rule_language.specs.Lawful.{is_bound, sort_of, field_sort}
+use Rattle.rule_language.specs.Lawful.{is_bound, sort_of}
 use Rattle.rule_language.specs.Spelling.{Token, left, right, variable, term_word}
 use Rattle.rule_language.specs.Wants.{Typed, letter_in, new_in, bound_in, kind_for, or_cause, value_from, number_in, of_field, of_variable, dotted_in, number_or, term_in, whose_sort, nested, head_for, only}
 use Rattle.rule_language.specs.inside.Reader.{IsTyped}

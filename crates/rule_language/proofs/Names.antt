@@ -1,5 +1,5 @@
 -- Names of rules.
-use Rattle.std.proofs.Common.{◌≡◌, ◌≢◌, ◌∙◌, ℕ, ◌<◌, ◌≤◌, zero, suc, Bool, true, false, ◌&&◌, List, [], ◌∷◌, ◌++◌, length, map, Ok, Err, Result, refl, ap, sym, arith, get_or}
+use Rattle.std.proofs.Common.{◌≡◌, ◌≢◌, ℕ, ◌<◌, ◌≤◌, zero, suc, Bool, true, false, ◌&&◌, List, [], ◌∷◌, length, map, Ok, Err, Result, refl, ap, arith}
 use Rattle.std.specs.Prelude.{◌||◌, nat_le, nat_lt, string_bytes, if◌then◌else◌}
 use Rattle.std.specs.Str.{IsUtf8, IsAscii}
 use Rattle.std.proofs.lemmas.Str.{IsUtf8-from_ascii}
@@ -12,7 +12,7 @@ use Rattle.rule_language.specs.Lawful.{is_alphanumeric, are_alphanumeric, is_nam
 use Rattle.rule_language.specs.Spelling.{Token}
 use Rattle.rule_language.specs.Wants.{name_in}
 use Rattle.rule_language.specs.inside.Reader.{rule_names, checked}
-use Rattle.rule_language.proofs.Found.{both_true, if_first, if_second}
+use Rattle.rule_language.proofs.Found.{both_true}
 use Rattle.rule_language.proofs.RulesPass.{names_of}
 
 -- one of two tests

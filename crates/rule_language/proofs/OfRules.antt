@@ -1,22 +1,19 @@
 -- A text without a fault is one of rules.
-use Rattle.std.proofs.Common.{◌≡◌, ◌≢◌, ◌∙◌, ℕ, ◌+◌, ◌<◌, Bool, true, false, ◌&&◌, List, [], ◌∷◌, ◌++◌, length, Option, Some, None, Result, Ok, Err, refl, ap, sym, subst, arith, append_assoc, append-nil}
+use Rattle.std.proofs.Common.{◌≡◌, ◌∙◌, ℕ, true, false, List, [], ◌∷◌, ◌++◌, length, Result, Ok, Err, refl, ap, sym, subst, arith, append_assoc, append-nil}
 use Rattle.std.specs.Prelude.{codes, nat_lt, if◌then◌else◌}
 use Rattle.std.specs.Str.{bytes_eq}
 use Rattle.std.proofs.lemmas.Bool.{lt-ltb}
-use Rattle.roster.specs.declared.post.Role.{Role}
-use Rattle.roster.specs.RosterText.{role_word}
-use Rattle.rule_language.specs.declared.kind.Kind.{Kind}
 use Rattle.rule_language.specs.declared.faults.RuleWhy.{RuleWhy}
 use Rattle.rule_language.specs.declared.faults.RuleWhy.TheVariants.{Shape, SameName}
-use Rattle.rule_language.specs.Kinds.{kind_word, head_word, is_same_sort, role_named}
+use Rattle.rule_language.specs.Kinds.{head_word, is_same_sort, role_named}
 use Rattle.rule_language.specs.Scopes.{Scope}
-use Rattle.rule_language.specs.Trees.{Trees, count_of, RuleTree}
-use Rattle.rule_language.specs.Lawful.{are_formulas, is_name, is_among, is_rule, follow, are_rules}
-use Rattle.rule_language.specs.Spelling.{Token, left, right, variable, term_word, tokens_then, rule_tokens, rules_tokens, StandBefore, IsTextOf}
+use Rattle.rule_language.specs.Trees.{RuleTree}
+use Rattle.rule_language.specs.Lawful.{is_name, is_among}
+use Rattle.rule_language.specs.Spelling.{Token, left, right, tokens_then, rule_tokens, rules_tokens, StandBefore, IsTextOf}
 use Rattle.rule_language.specs.Wants.{Want, Met, Typed, more_rules, rule_word, rule_name, formula, head, new_variable, kind_of, before_or_body, more, a_variable, a_role, a_kind, first_term, second_term, close}
-use Rattle.rule_language.specs.Wants.{meets, then_want, behind, behind_head, head_for, new_in, bound_in, letter_in, kind_for, or_cause, whose_sort, may_begin, term_in, only, opening, name_in, is_end, begin}
+use Rattle.rule_language.specs.Wants.{meets, behind, behind_head, head_for, new_in, bound_in, letter_in, kind_for, or_cause, whose_sort, may_begin, term_in, only, opening, name_in, is_end, begin}
 use Rattle.rule_language.specs.Reading.{HasNoFault}
-use Rattle.rule_language.proofs.Found.{if_first, if_second, bytes_same, both_true, head_found, new_found, kind_found, variable_found, role_found, term_found}
+use Rattle.rule_language.proofs.Found.{if_first, if_second, bytes_same, head_found, new_found, kind_found, variable_found, role_found, term_found}
 use Rattle.rule_language.proofs.RuleRead.{opening_found}
 use Rattle.rule_language.proofs.Refusals.{first_met, ok_wants}
 use Rattle.rule_language.proofs.Passing.{tokens_append}

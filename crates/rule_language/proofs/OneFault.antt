@@ -1,16 +1,15 @@
 -- A text has one first fault, or none.
-use Rattle.std.proofs.Common.{◌≡◌, ◌≢◌, ◌⊎◌, inl, inr, ◌∙◌, ℕ, ◌+◌, ◌-◌, ◌<◌, ◌≤◌, zero, suc, Bool, true, false, List, [], ◌∷◌, ◌++◌, length, get_or, map, Result, Ok, Err, refl, ap, sym, subst, ⊎_elim, arith, length-append}
+use Rattle.std.proofs.Common.{◌≡◌, inl, inr, ◌∙◌, ℕ, ◌+◌, ◌<◌, ◌≤◌, true, false, List, [], ◌∷◌, ◌++◌, length, get_or, map, Ok, Err, refl, ap, sym, subst, ⊎_elim, arith, length-append}
 use Rattle.std.specs.Prelude.{Contains, AllPairs}
 use Rattle.std.proofs.lemmas.Bool.{cases_lt}
 use Rattle.std.proofs.lemmas.List.{map-append, get_or_append_left}
-use Rattle.std.proofs.lemmas.List.Elements.{Contains-append_left, Contains-append_right, Contains-append_cases}
+use Rattle.std.proofs.lemmas.List.Elements.{Contains-append_left, Contains-append_cases}
 use Rattle.hall_text.specs.declared.spans.Span.{Span}
 use Rattle.hall_text.specs.Spans.{IsToken, AreAll}
 use Rattle.hall_text.proofs.TokenLemmas.{same_end, some_bytes}
 use Rattle.hall_text.proofs.OneSpans.{StandsBefore, one_all, first_among, behind_first, tail_ordered, first_is_before}
 use Rattle.rule_language.specs.declared.faults.RuleWhy.{RuleWhy}
-use Rattle.rule_language.specs.declared.faults.RuleWhy.TheVariants.{Token as BadByte, Shape}
-use Rattle.rule_language.specs.Spelling.{Token, IsGoodByte, piece, StandBefore}
+use Rattle.rule_language.specs.Spelling.{Token, piece, StandBefore}
 use Rattle.rule_language.specs.Wants.{Want, Met, meets, behind, begin, is_end}
 use Rattle.rule_language.specs.Reading.{Leaves, IsCause, IsFirstFault, HasNoFault}
 use Rattle.rule_language.proofs.Stands.{token_good}

@@ -1,6 +1,6 @@
 -- Tokens are those of one list of rules.
-use Rattle.std.proofs.Common.{◌≡◌, ◌≢◌, ◌⊎◌, inl, inr, ◌∙◌, ℕ, ◌+◌, ◌<◌, Bool, true, false, ◌&&◌, List, [], ◌∷◌, ◌++◌, length, refl, ap, sym, subst, ⊎_elim, arith, append_assoc}
-use Rattle.std.specs.Prelude.{nat_lt, ◌==◌, codes}
+use Rattle.std.proofs.Common.{◌≡◌, ◌≢◌, inl, inr, ◌∙◌, ℕ, ◌+◌, true, false, List, [], ◌∷◌, ◌++◌, refl, ap, sym, arith}
+use Rattle.std.specs.Prelude.{nat_lt, codes}
 use Rattle.std.specs.Str.{bytes_eq}
 use Rattle.std.proofs.lemmas.Bool.{eqb-true}
 use Rattle.rule_language.specs.declared.form.Form.{Form}
@@ -8,7 +8,7 @@ use Rattle.rule_language.specs.declared.form.Form.TheVariants as form
 use Rattle.rule_language.specs.Scopes.{Scope}
 use Rattle.rule_language.specs.Trees.{Trees, no_trees, tree_then, count_of, RuleTree}
 use Rattle.rule_language.specs.Lawful.{is_closed, has_arity, is_shallow, scope_in, are_formulas, is_rule, follow}
-use Rattle.rule_language.specs.Spelling.{Token, left, right, form_words, spelt, tokens_then, rule_tokens, rules_tokens}
+use Rattle.rule_language.specs.Spelling.{Token, left, right, form_words, spelt, tokens_then, rules_tokens}
 use Rattle.rule_language.proofs.Found.{both_true}
 use Rattle.rule_language.proofs.Passing.{spelt_cases, tokens_append}
 use Rattle.rule_language.proofs.Passes.{may_stand}

@@ -1,5 +1,5 @@
 -- A text is read in one way.
-use Rattle.std.proofs.Common.{◌≡◌, ◌∙◌, ℕ, List, length, Result, Ok, Err, true, ◌&&◌, refl, ap, sym}
+use Rattle.std.proofs.Common.{◌≡◌, ℕ, List, length, Result, Ok, Err, ap}
 use Rattle.std.specs.Prelude.{nat_lt, []}
 use Rattle.rule_language.specs.declared.faults.RuleWhy.{RuleWhy}
 use Rattle.rule_language.specs.declared.faults.RuleFault.{RuleFault}

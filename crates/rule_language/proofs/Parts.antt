@@ -1,18 +1,16 @@
 -- Formulas in a row, one by one.
-use Rattle.std.proofs.Common.{◌≡◌, ◌∙◌, ℕ, ◌+◌, ◌-◌, ◌<◌, ◌≤◌, Bool, true, false, ◌&&◌, List, [], ◌∷◌, ◌++◌, length, Ok, refl, ap, sym, arith}
-use Rattle.std.specs.Prelude.{◌==◌, nat_lt, nat_le}
+use Rattle.std.proofs.Common.{◌≡◌, ◌∙◌, ℕ, ◌+◌, ◌-◌, ◌≤◌, Bool, true, false, ◌&&◌, List, [], ◌∷◌, ◌++◌, length, Ok, refl, ap, sym, arith}
 use Rattle.std.proofs.lemmas.Bool.{ne_eqb}
 use Rattle.rule_language.specs.declared.formula.Formula.{Formula}
-use Rattle.rule_language.specs.declared.form.Form.{Form}
 use Rattle.rule_language.specs.Scopes.{Scope}
 use Rattle.rule_language.specs.Trees.{Trees, no_trees, tree_then, count_of}
 use Rattle.rule_language.specs.Forms.{in_front, tree_of, trees_of}
 use Rattle.rule_language.specs.Lawful.{is_closed, has_arity, is_shallow, scope_in, are_formulas}
-use Rattle.rule_language.specs.Spelling.{Token, right, spelt, tokens_then}
+use Rattle.rule_language.specs.Spelling.{Token, tokens_then}
 use Rattle.rule_language.specs.Wants.{Want, formula, more, behind}
 use Rattle.rule_language.proofs.Views.{shape}
 use Rattle.rule_language.proofs.Found.{both_true}
-use Rattle.rule_language.proofs.Passing.{more_wanted, tokens_append}
+use Rattle.rule_language.proofs.Passing.{more_wanted}
 use Rattle.rule_language.proofs.Passes.{passes, may_stand}
 
 -- a formula in front of others

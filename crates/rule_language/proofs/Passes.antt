@@ -1,20 +1,18 @@
 -- The tokens of formulas meet what is wanted, form by form.
-use Rattle.std.proofs.Common.{◌≡◌, ◌⊎◌, inl, inr, ◌∙◌, ℕ, ◌+◌, ◌-◌, ◌<◌, ◌≤◌, zero, suc, Bool, true, false, ◌&&◌, List, [], ◌∷◌, ◌++◌, length, Option, Some, None, Result, Ok, Err, refl, ap, sym, subst, arith}
-use Rattle.std.specs.Prelude.{nat_lt, nat_le, ◌==◌, codes}
+use Rattle.std.proofs.Common.{◌≡◌, ◌⊎◌, inl, inr, ◌∙◌, ℕ, ◌+◌, ◌-◌, ◌≤◌, true, false, ◌&&◌, List, [], ◌∷◌, ◌++◌, Ok, refl, ap, sym, arith}
+use Rattle.std.specs.Prelude.{nat_lt, ◌==◌, codes}
 use Rattle.std.proofs.lemmas.Bool.{eqb-true, ne_eqb}
-use Rattle.rule_language.specs.declared.form.Head.{Head}
 use Rattle.rule_language.specs.declared.form.Head.TheVariants as begins
 use Rattle.rule_language.specs.declared.form.Form.{Form}
 use Rattle.rule_language.specs.declared.form.Form.TheVariants as form
-use Rattle.rule_language.specs.declared.kind.Sort.{Sort}
-use Rattle.rule_language.specs.Kinds.{kind_word, head_word, is_ordered}
+use Rattle.rule_language.specs.Kinds.{kind_word}
 use Rattle.roster.specs.RosterText.{role_word}
 use Rattle.rule_language.specs.Scopes.{Scope}
 use Rattle.rule_language.specs.Trees.{Trees, no_trees, tree_then, count_of}
 use Rattle.rule_language.specs.Lawful.{is_bound, can_bind, sort_of, are_of_one_sort, has_order, is_closed, has_arity, is_shallow, scope_in, are_formulas}
 use Rattle.rule_language.specs.Spelling.{Token, left, right, variable, term_word, form_words, spelt, tokens_then}
-use Rattle.rule_language.specs.Wants.{Want, formula, head, before_or_body, more, a_variable, a_role, a_kind, first_term, close}
-use Rattle.rule_language.specs.Wants.{behind_head, meets, behind, may_begin}
+use Rattle.rule_language.specs.Wants.{Want, formula, more, a_variable, a_role, a_kind, first_term, close}
+use Rattle.rule_language.specs.Wants.{behind}
 use Rattle.rule_language.proofs.Found.{both_true}
 use Rattle.rule_language.proofs.Passing.{RowPasses, MembersPass, step, begin_passes, quantifier_begins, quantified, one_passes, two_pass, body_row, pair_passes, terms_pass, order_begins, several_pass, variable_passes, role_passes, kind_passes, tokens_append, wants_for, more_wanted, spelt_cases}
 

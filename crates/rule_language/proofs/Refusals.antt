@@ -1,5 +1,5 @@
 -- What is refused at a place, and how a fault behind some tokens is one before them.
-use Rattle.std.proofs.Common.{◌≡◌, ◌≢◌, ◌⊎◌, inl, inr, ◌∙◌, ℕ, ◌<◌, ◌≤◌, Bool, true, false, cond, List, [], ◌∷◌, ◌++◌, length, get_or, Result, Ok, Err, refl, sym, ap, subst, ⊎_elim, arith, append_assoc, append-nil}
+use Rattle.std.proofs.Common.{◌≡◌, ◌≢◌, inl, inr, ◌∙◌, ℕ, ◌<◌, ◌≤◌, Bool, true, false, List, [], ◌∷◌, ◌++◌, length, Result, Ok, Err, refl, sym, ap, subst, ⊎_elim, arith, append_assoc, append-nil}
 use Rattle.std.specs.Prelude.{if◌then◌else◌, nat_le, ◌==◌, IfOk, IsErrAnd}
 use Rattle.std.proofs.lemmas.Bool.{cases_lt, leb-true, leb-false, eqb-true, eqb-false}
 use Rattle.hall_text.specs.declared.spans.Span.{Span}
@@ -10,7 +10,7 @@ use Rattle.rule_language.specs.declared.faults.RuleWhy.{RuleWhy}
 use Rattle.rule_language.specs.declared.faults.RuleWhy.TheVariants.{Token as BadByte, Shape}
 use Rattle.rule_language.specs.declared.faults.RuleFault.{RuleFault}
 use Rattle.rule_language.specs.declared.faults.RuleFault.TheVariants.{At, Memory}
-use Rattle.rule_language.specs.Spelling.{Token, IsGoodByte, piece, StandBefore}
+use Rattle.rule_language.specs.Spelling.{Token, piece, StandBefore}
 use Rattle.rule_language.specs.Wants.{Want, Met, behind, meets, then_want, is_end}
 use Rattle.rule_language.specs.Reading.{IsCause}
 use Rattle.rule_language.specs.inside.Reader.{IsNext, Takes, Spell, Fails, FailsAt, IfFault, IsRefused, Asks, told}

@@ -1,21 +1,21 @@
 -- A rule that is read, token by token.
-use Rattle.std.proofs.Common.{◌≡◌, ◌≢◌, ◌∙◌, ℕ, ◌+◌, ◌<◌, ◌≤◌, Bool, true, false, ◌&&◌, List, [], ◌∷◌, ◌++◌, length, map, Ok, Err, Result, refl, ap, sym, subst, arith, Vec, Global}
-use Rattle.std.specs.Prelude.{if◌then◌else◌, nat_lt, not, ◌==◌, codes, string_bytes, IsErrAnd}
+use Rattle.std.proofs.Common.{◌≡◌, ◌≢◌, ◌∙◌, ℕ, ◌<◌, Bool, true, false, List, [], ◌∷◌, ◌++◌, length, map, Ok, Err, Result, refl, ap, sym, arith, Vec, Global}
+use Rattle.std.specs.Prelude.{if◌then◌else◌, nat_lt, codes, string_bytes, IsErrAnd}
 use Rattle.std.specs.Str.{bytes_eq}
 use Rattle.hall_text.specs.declared.spans.Span.{Span}
 use Rattle.rule_language.specs.declared.faults.RuleWhy.{RuleWhy}
 use Rattle.rule_language.specs.declared.faults.RuleWhy.TheVariants.{Shape, SameName}
 use Rattle.rule_language.specs.declared.formula.Formula.{Formula}
 use Rattle.rule_language.specs.declared.formula.Rule.{Rule}
-use Rattle.rule_language.specs.Trees.{RuleTree, count_of}
+use Rattle.rule_language.specs.Trees.{count_of}
 use Rattle.rule_language.specs.Forms.{tree_of, rule_tree}
 use Rattle.rule_language.specs.Lawful.{are_formulas, is_name, is_among, is_rule, follow}
-use Rattle.rule_language.specs.Spelling.{Token, left, right, piece, tokens_then, rule_tokens, rules_tokens, StandBefore}
-use Rattle.rule_language.specs.Wants.{Want, more_rules, rule_word, rule_name, formula, close, meets, behind, begin, opening, only, name_in, then_want}
+use Rattle.rule_language.specs.Spelling.{Token, left, right, tokens_then, rule_tokens, rules_tokens, StandBefore}
+use Rattle.rule_language.specs.Wants.{Want, more_rules, rule_word, rule_name, formula, close, behind, begin, opening, only, name_in, then_want}
 use Rattle.rule_language.specs.Reading.{IsFirstFault, Reads, answered}
 use Rattle.rule_language.specs.inside.Reader.{Takes, Asks, Fails, FailsAt, IfFault, IsRead, rule_names}
 use Rattle.rule_language.proofs.Refusals.{Passed, one_passed, passed_more, spell_more, behind_more, err_same, at_same, why_same}
-use Rattle.rule_language.proofs.Found.{if_first, if_second, bytes_same}
+use Rattle.rule_language.proofs.Found.{if_first, bytes_same}
 use Rattle.rule_language.proofs.Bodies.{formula_passed}
 use Rattle.rule_language.proofs.Passing.{tokens_append}
 use Rattle.rule_language.proofs.RulesPass.{opening_is, rules_pass, rule_good, follow_push, tokens_push}

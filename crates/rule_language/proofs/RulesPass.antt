@@ -1,15 +1,12 @@
 -- The tokens of rules meet what is wanted.
-use Rattle.std.proofs.Common.{◌≡◌, ◌≢◌, ◌∙◌, ℕ, ◌+◌, ◌<◌, ◌≤◌, zero, suc, Bool, true, false, ◌&&◌, List, [], ◌∷◌, ◌++◌, length, map, Ok, Err, Result, refl, ap, sym, subst, arith, append_assoc, append-nil}
-use Rattle.std.specs.Prelude.{if◌then◌else◌, nat_lt, not, ◌==◌, codes, IsTrue}
+use Rattle.std.proofs.Common.{◌≡◌, ◌∙◌, ℕ, ◌<◌, true, false, ◌&&◌, List, [], ◌∷◌, ◌++◌, length, map, Ok, refl, ap, sym, arith, append_assoc, append-nil}
+use Rattle.std.specs.Prelude.{nat_lt, not, ◌==◌, codes}
 use Rattle.std.proofs.lemmas.Bool.{eqb-true, ltb-true}
-use Rattle.rule_language.specs.declared.faults.RuleWhy.{RuleWhy}
-use Rattle.rule_language.specs.declared.faults.RuleWhy.TheVariants.{Shape, SameName}
-use Rattle.rule_language.specs.Scopes.{Scope}
-use Rattle.rule_language.specs.Trees.{Trees, no_trees, tree_then, count_of, RuleTree}
-use Rattle.rule_language.specs.Lawful.{are_formulas, is_name, is_among, is_rule, follow, are_rules}
-use Rattle.rule_language.specs.Spelling.{Token, left, right, tokens_then, rule_tokens, rules_tokens, StandBefore, IsTextOf}
-use Rattle.rule_language.specs.Wants.{Want, more_rules, rule_word, rule_name, formula, close, meets, behind, begin, is_end, opening, name_in, then_want}
-use Rattle.rule_language.specs.Reading.{Leaves, HasNoFault}
+use Rattle.rule_language.specs.Trees.{count_of, RuleTree}
+use Rattle.rule_language.specs.Lawful.{are_formulas, is_name, is_among, is_rule, follow}
+use Rattle.rule_language.specs.Spelling.{Token, left, right, tokens_then, rule_tokens, rules_tokens, IsTextOf}
+use Rattle.rule_language.specs.Wants.{Want, more_rules, rule_word, rule_name, formula, close, behind, is_end, opening, name_in, then_want}
+use Rattle.rule_language.specs.Reading.{HasNoFault}
 use Rattle.rule_language.proofs.Found.{both_true}
 use Rattle.rule_language.proofs.Passing.{step, one_passes, not_true, tokens_append}
 use Rattle.rule_language.proofs.Passes.{passes}

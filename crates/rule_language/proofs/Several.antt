@@ -1,7 +1,7 @@
 -- Formulas of an `and` or an `or` that were read, and of a quantifier.
-use Rattle.std.proofs.Common.{◌≡◌, ◌≢◌, ◌∙◌, ℕ, ◌+◌, ◌-◌, ◌<◌, ◌≤◌, zero, suc, Bool, true, false, ◌&&◌, List, [], ◌∷◌, ◌++◌, length, Option, Some, None, Ok, refl, ap, sym, subst, arith}
-use Rattle.std.specs.Prelude.{codes, nat_lt, nat_le}
-use Rattle.std.proofs.lemmas.Bool.{le-ltb, lt-ltb}
+use Rattle.std.proofs.Common.{◌≡◌, ◌≢◌, ℕ, ◌+◌, ◌-◌, ◌<◌, ◌≤◌, zero, suc, Bool, true, false, List, [], ◌∷◌, ◌++◌, Option, Some, None, Ok, refl, subst, arith}
+use Rattle.std.specs.Prelude.{codes, nat_le}
+use Rattle.std.proofs.lemmas.Bool.{lt-ltb}
 use Rattle.hall_text.specs.declared.spans.Span.{Span}
 use Rattle.rule_language.specs.declared.formula.Formula.{Formula}
 use Rattle.rule_language.specs.declared.kind.Kind.{Kind}
@@ -10,16 +10,16 @@ use Rattle.rule_language.specs.declared.faults.RuleWhy.TheVariants.{Shape}
 use Rattle.rule_language.specs.declared.form.Form.TheVariants as form
 use Rattle.rule_language.specs.Kinds.{kind_word, head_word}
 use Rattle.rule_language.specs.Scopes.{Scope}
-use Rattle.rule_language.specs.Trees.{Trees, no_trees, tree_then, count_of}
+use Rattle.rule_language.specs.Trees.{no_trees, tree_then, count_of}
 use Rattle.rule_language.specs.Forms.{tree_of, trees_of}
 use Rattle.rule_language.specs.Lawful.{are_formulas}
-use Rattle.rule_language.specs.Spelling.{Token, left, right, variable, tokens_then, piece}
-use Rattle.rule_language.specs.Wants.{Want, formula, more, nested}
-use Rattle.rule_language.specs.inside.Reader.{IsNext, Takes, FailsAt, IsRead, IsBody, IsSeveral, told}
-use Rattle.rule_language.specs.inside.Quantifiers.{form_of, quantifier_head, IsBinder, range_words}
+use Rattle.rule_language.specs.Spelling.{left, right, variable, tokens_then, piece}
+use Rattle.rule_language.specs.Wants.{formula, more, nested}
+use Rattle.rule_language.specs.inside.Reader.{Takes, FailsAt, IsRead, IsBody, IsSeveral, told}
+use Rattle.rule_language.specs.inside.Quantifiers.{form_of, quantifier_head, IsBinder}
 use Rattle.rule_language.proofs.Refusals.{spell_more, fails_behind}
 use Rattle.rule_language.proofs.Passing.{tokens_append}
-use Rattle.rule_language.proofs.Parts.{tokens-push, good-push, count-trees}
+use Rattle.rule_language.proofs.Parts.{tokens-push}
 use Rattle.rule_language.proofs.Bodies.{parts_passed, more_fails, one_too_many}
 use Rattle.rule_language.proofs.Binders.{made, may_bind}
 use Rattle.rule_language.proofs.FormsRead.{form_read}

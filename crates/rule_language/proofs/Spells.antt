@@ -1,10 +1,10 @@
 -- Texts that spell tokens wherever they stand.
-use Rattle.std.proofs.Common.{◌≡◌, ◌≢◌, ◌⊎◌, inl, inr, ◌∙◌, ℕ, ◌+◌, ◌-◌, ◌<◌, ◌≤◌, zero, suc, Bool, true, false, ◌&&◌, List, [], ◌∷◌, ◌++◌, length, get_or, take, drop, refl, ap, sym, subst, ⊎_elim, arith, append_assoc, append-nil, length-append, add-zero, get_or-append-add, take_at, drop_at}
-use Rattle.std.specs.Prelude.{nat_le, not, ◌==◌, codes}
+use Rattle.std.proofs.Common.{◌≡◌, inl, inr, ◌∙◌, ℕ, ◌+◌, ◌-◌, ◌<◌, zero, suc, Bool, true, false, ◌&&◌, List, [], ◌∷◌, ◌++◌, length, get_or, take, drop, refl, ap, sym, subst, arith, append_assoc, append-nil, length-append, add-zero, get_or-append-add, take_at, drop_at}
+use Rattle.std.specs.Prelude.{nat_le, not, ◌==◌}
 use Rattle.std.proofs.lemmas.Bool.{leb-true, eqb-false}
 use Rattle.std.proofs.lemmas.List.{get_or_append_left}
 use Rattle.hall_text.specs.declared.spans.Span.{Span}
-use Rattle.hall_text.specs.Spans.{IsWordByte, IsParenthesis, IsWord, IsAlone, IsToken}
+use Rattle.hall_text.specs.Spans.{IsWordByte, IsParenthesis, IsToken}
 use Rattle.hall_text.specs.Places.{IsBetween}
 use Rattle.hall_text.proofs.TokenLemmas.{between_behind}
 use Rattle.rule_language.specs.Spelling.{Token, IsSeparator, piece, StandBefore}

@@ -1,10 +1,10 @@
 -- The tokens that begin before a place, as the reader comes to it.
-use Rattle.std.proofs.Common.{◌≡◌, ◌⊎◌, inl, inr, ℕ, ◌+◌, ◌-◌, ◌<◌, ◌≤◌, List, [], ◌∷◌, ◌++◌, length, get_or, map, refl, sym, ap, ◌∙◌, subst, ⊎_elim, arith}
+use Rattle.std.proofs.Common.{◌≡◌, ◌⊎◌, inl, inr, ℕ, ◌+◌, ◌<◌, ◌≤◌, List, [], ◌∷◌, ◌++◌, length, get_or, map, refl, sym, ap, ◌∙◌, subst, ⊎_elim, arith}
 use Rattle.std.proofs.lemmas.Bool.{cases_lt}
 use Rattle.hall_text.specs.declared.spans.Span.{Span}
-use Rattle.hall_text.specs.Spans.{IsWordByte, IsParenthesis, IsWord, IsAlone, IsToken, AreAll}
-use Rattle.hall_text.specs.Places.{IsBetween, BeginsToken}
-use Rattle.hall_text.proofs.TokenLemmas.{token_more, none_there, none_before_first, between_behind, between_none}
+use Rattle.hall_text.specs.Spans.{IsWordByte, IsParenthesis, IsWord, IsAlone, IsToken}
+use Rattle.hall_text.specs.Places.{IsBetween}
+use Rattle.hall_text.proofs.TokenLemmas.{token_more, none_there, none_before_first, between_none}
 use Rattle.rule_language.specs.Spelling.{Token, IsSeparator, IsGoodByte, piece, StandBefore}
 
 -- a separator begins no token

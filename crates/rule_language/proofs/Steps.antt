@@ -9,7 +9,7 @@ use Rattle.rule_language.specs.declared.term.Term.{Term}
 use Rattle.rule_language.specs.Kinds.{kind_word, is_same_sort}
 use Rattle.rule_language.specs.Scopes.{Scope}
 use Rattle.rule_language.specs.Lawful.{is_bound, sort_of}
-use Rattle.rule_language.specs.Spelling.{Token, left, right, variable, term_word}
+use Rattle.rule_language.specs.Spelling.{right, variable, term_word}
 use Rattle.rule_language.specs.Wants.{Want, close, a_variable, a_role, a_kind, first_term, second_term, new_variable, kind_of, before_or_body, may_begin, only, kind_for, new_in, letter_in, then_want}
 use Rattle.rule_language.specs.inside.Reader.{Takes, Asks}
 use Rattle.rule_language.proofs.Refusals.{Passed, one_passed}

@@ -4,7 +4,7 @@ use Rattle.rule_language.specs.declared.formula.Formula.{Formula}
 use Rattle.rule_language.specs.declared.form.Form.{Form}
 use Rattle.rule_language.specs.declared.form.Form.TheVariants as form
 use Rattle.rule_language.specs.Trees.{Trees, no_trees, tree_then}
-use Rattle.rule_language.specs.Forms.{in_front, tree_of, trees_of}
+use Rattle.rule_language.specs.Forms.{in_front, tree_of}
 use Rattle.rule_language.specs.Spelling.{form_words}
 use Rattle.rule_language.specs.Written.{joined, form_text, row_text}
 use Rattle.rule_language.proofs.Views.{shape}

@@ -1,6 +1,6 @@
 -- What is written of rules is a text of them.
-use Rattle.std.proofs.Common.{◌≡◌, ◌≢◌, ◌⊎◌, inl, inr, ◌∙◌, ℕ, ◌+◌, ◌-◌, ◌^◌, ◌<◌, ◌≤◌, zero, suc, Bool, true, false, ◌&&◌, List, [], ◌∷◌, ◌++◌, length, map, Option, Some, None, refl, ap, sym, subst, ⊎_elim, arith, append_assoc, append-nil}
-use Rattle.std.specs.Prelude.{nat_le, nat_lt, not, ◌||◌, ◌==◌, codes, is_some}
+use Rattle.std.proofs.Common.{◌≡◌, ◌≢◌, ◌⊎◌, inl, inr, ◌∙◌, ℕ, ◌+◌, ◌^◌, ◌<◌, ◌≤◌, Bool, true, false, ◌&&◌, List, [], ◌∷◌, ◌++◌, length, Option, Some, None, refl, ap, sym, subst, arith, append-nil}
+use Rattle.std.specs.Prelude.{nat_le, nat_lt, not, ◌||◌, codes, is_some}
 use Rattle.std.specs.Fmt.{decimal}
 use Rattle.std.proofs.lemmas.Fmt.{decimal_nonempty}
 use Rattle.std.proofs.lemmas.Bool.{leb-true, leb-false, ltb-true, lt-ltb, ne_eqb}
@@ -8,7 +8,7 @@ use Rattle.canonical_sexp.proofs.Decimal.{AreDigits, decimal_digits}
 use Rattle.roster.specs.declared.post.Role.{Role}
 use Rattle.roster.specs.declared.post.Role.TheVariants as role
 use Rattle.roster.specs.RosterText.{role_word}
-use Rattle.hall_text.specs.Spans.{IsWordByte, IsParenthesis}
+use Rattle.hall_text.specs.Spans.{IsWordByte}
 use Rattle.rule_language.specs.declared.kind.Kind.{Kind}
 use Rattle.rule_language.specs.declared.kind.Kind.TheVariants as kind
 use Rattle.rule_language.specs.declared.kind.Field.{Field}
@@ -20,9 +20,9 @@ use Rattle.rule_language.specs.declared.form.Form.{Form}
 use Rattle.rule_language.specs.declared.form.Form.TheVariants as form
 use Rattle.rule_language.specs.Kinds.{kind_word, field_word}
 use Rattle.rule_language.specs.Scopes.{Scope, kind_in, is_letter}
-use Rattle.rule_language.specs.Trees.{Trees, no_trees, tree_then, count_of, RuleTree}
-use Rattle.rule_language.specs.Lawful.{is_bound, can_bind, sort_of, field_sort, are_of_one_sort, has_order, is_closed, has_arity, is_shallow, scope_in, are_formulas, is_alphanumeric, are_alphanumeric, is_name, is_rule, follow, are_rules}
-use Rattle.rule_language.specs.Spelling.{Token, left, right, variable, term_word, form_words, spelt, tokens_then, rule_tokens, rules_tokens, StandBefore, IsTextOf}
+use Rattle.rule_language.specs.Trees.{Trees, no_trees, tree_then, RuleTree}
+use Rattle.rule_language.specs.Lawful.{is_bound, can_bind, sort_of, are_of_one_sort, has_order, is_closed, is_shallow, scope_in, are_formulas, is_alphanumeric, are_alphanumeric, is_name, is_rule, follow, are_rules}
+use Rattle.rule_language.specs.Spelling.{Token, left, right, variable, term_word, form_words, spelt, tokens_then, rule_tokens, rules_tokens, IsTextOf}
 use Rattle.rule_language.specs.Written.{spaced, joined, form_text, row_text, rule_text, rules_text}
 use Rattle.rule_language.proofs.Found.{both_true}
 use Rattle.rule_language.proofs.Passing.{spelt_cases, tokens_append}
@@ -31,7 +31,7 @@ use Rattle.rule_language.proofs.RulesPass.{rule_good}
 use Rattle.rule_language.proofs.Names.{either_true}
 use Rattle.rule_language.proofs.Stands.{none_yet}
 use Rattle.rule_language.proofs.WrittenForms.{enclosed_text}
-use Rattle.rule_language.proofs.Spells.{Spells, Opens, opens, opens_more, spells_more, spells_none, opens_separator, opens_parenthesis, spells_word, breaks_first, breaks_none, BreaksBehind, is_word_byte, are_word_bytes}
+use Rattle.rule_language.proofs.Spells.{Spells, opens, opens_more, spells_more, spells_none, opens_separator, opens_parenthesis, spells_word, breaks_first, breaks_none, BreaksBehind, is_word_byte, are_word_bytes}
 
 -- a word that is spelt
 abbrev IsSpelt : Token → Type 0

@@ -2,7 +2,6 @@
 use Rattle.std.specs.Prelude.{List, [], ◌∷◌, map, string_bytes}
 use Rattle.rule_language.specs.declared.formula.Formula.{Formula, fold-Formula}
 use Rattle.rule_language.specs.declared.formula.Formula.TheOpen.{Formula-F}
-use Rattle.rule_language.specs.declared.form.Form.{Form}
 use Rattle.rule_language.specs.declared.form.Form.TheVariants as form
 use Rattle.rule_language.specs.declared.formula.Rule.{Rule}
 use Rattle.rule_language.specs.Trees.{Trees, no_trees, tree_then, RuleTree}

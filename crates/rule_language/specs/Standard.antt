@@ -1,10 +1,8 @@
 -- The standard rules, which hold of every honest election.
 use Rattle.std.specs.Prelude.{ℕ, List, [], ◌∷◌, codes}
-use Rattle.roster.specs.declared.post.Role.{Role}
 use Rattle.roster.specs.declared.post.Role.TheVariants.{Supervisor, Booth}
 use Rattle.rule_language.specs.declared.kind.Kind.{Kind}
 use Rattle.rule_language.specs.declared.kind.Kind.TheVariants as kind
-use Rattle.rule_language.specs.declared.term.Term.{Term}
 use Rattle.rule_language.specs.declared.term.Term.TheVariants.{Of, Number}
 use Rattle.rule_language.specs.declared.kind.Field.TheVariants as field
 use Rattle.rule_language.specs.declared.form.Form.{Form}

@@ -1,5 +1,5 @@
 -- What a quantifier binds, as it is read.
-use Rattle.std.specs.Prelude.{◌≡◌, ◌≢◌, ℕ, Bool, true, false, List, [], ◌∷◌, ◌++◌, Option, Some, None, Ok, codes}
+use Rattle.std.specs.Prelude.{◌≡◌, ◌≢◌, ℕ, Bool, true, false, List, [], ◌∷◌, Option, Some, None, Ok, codes}
 use Rattle.hall_text.specs.declared.spans.Span.{Span}
 use Rattle.rule_language.specs.declared.kind.Kind.{Kind}
 use Rattle.rule_language.specs.declared.form.Form.{Form}

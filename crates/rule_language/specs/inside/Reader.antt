@@ -1,5 +1,5 @@
 -- What the parts of the reader answer.
-use Rattle.std.specs.Prelude.{◌≡◌, ℕ, ◌<◌, ◌≤◌, ◌==◌, nat_le, nat_lt, ◌&&◌, Bool, true, false, Some, if◌then◌else◌, IsTrue, List, [], ◌∷◌, ◌++◌, length, map, string_bytes, Result, Ok, Err, slice_index}
+use Rattle.std.specs.Prelude.{◌≡◌, ℕ, ◌<◌, ◌≤◌, ◌==◌, nat_le, nat_lt, ◌&&◌, Bool, true, false, Some, if◌then◌else◌, List, [], ◌∷◌, ◌++◌, length, map, string_bytes, Result, Ok, Err, slice_index}
 use Rattle.hall_text.specs.declared.spans.Span.{Span}
 use Rattle.hall_text.specs.Spans.{IsToken}
 use Rattle.rule_language.specs.declared.scope.Scope.{Scope as CodeScope, Empty, With'}
@@ -15,7 +15,7 @@ use Rattle.rule_language.specs.declared.formula.Rule.{Rule}
 use Rattle.rule_language.specs.Trees.{count_of}
 use Rattle.rule_language.specs.Forms.{tree_of, trees_of}
 use Rattle.rule_language.specs.Lawful.{are_formulas, sort_of, is_bound, are_of_one_sort, has_order}
-use Rattle.rule_language.specs.Spelling.{Token, IsGoodByte, piece, StandBefore, tokens_then, right, variable, term_word}
+use Rattle.rule_language.specs.Spelling.{Token, IsGoodByte, StandBefore, tokens_then, right, variable, term_word}
 use Rattle.rule_language.specs.Wants.{Want, behind, meets, then_want, is_end, Typed}
 use Rattle.rule_language.specs.Reading.{IsCause}
 

@@ -1,14 +1,13 @@
 use Rattle.std.proofs.lemmas.Bool.{lt-ltb}
 use Rattle.rule_language.specs.declared.formula.Formula.{Is}
 use Rattle.rule_language.proofs.Views.{view-Is}
-use Rattle.std.proofs.Common.{◌∷◌, [], ◌++◌, refl, true, ◌∙◌, sym}
+use Rattle.std.proofs.Common.{◌∷◌, [], ◌++◌, refl}
 use Rattle.roster.specs.RosterText.{role_word}
-use Rattle.rule_language.specs.Kinds.{kind_word, head_word, is_same_sort}
-use Rattle.rule_language.specs.Wants.{Want, a_variable, a_role, a_kind, first_term, second_term, close, new_variable, kind_of, before_or_body, formula, more}
-use Rattle.rule_language.specs.Spelling.{variable, term_word, left, right}
+use Rattle.rule_language.specs.Wants.{a_variable, a_role, close}
+use Rattle.rule_language.specs.Spelling.{variable, right}
 use Rattle.rule_language.specs.inside.Reader.{bindings}
-use Rattle.rule_language.proofs.Refusals.{exit_first, exit_behind, passed_more, spell_more}
-use Rattle.rule_language.proofs.Steps.{variable_step, kind_step, kind_of_step, role_step, first_step, second_step, close_asks, kind_asks, kind_of_asks}
+use Rattle.rule_language.proofs.Refusals.{exit_behind, passed_more, spell_more}
+use Rattle.rule_language.proofs.Steps.{variable_step, role_step, close_asks}
 use Rattle.rule_language.proofs.FormsRead.{atom_read}
 use Rattle.rule_language.specs.declared.form.Form.TheVariants as form
 use Rattle.rule_language.specs.declared.form.Head.TheVariants as head

@@ -1,11 +1,9 @@
-use Rattle.std.proofs.Common.{◌∷◌, [], ◌++◌, refl, true, ◌∙◌, sym}
-use Rattle.roster.specs.RosterText.{role_word}
-use Rattle.rule_language.specs.Kinds.{kind_word, head_word, is_same_sort}
-use Rattle.rule_language.specs.Wants.{Want, a_variable, a_role, a_kind, first_term, second_term, close, new_variable, kind_of, before_or_body, formula, more}
-use Rattle.rule_language.specs.Spelling.{variable, term_word, left, right}
+use Rattle.std.proofs.Common.{◌∷◌, [], ◌++◌}
+use Rattle.rule_language.specs.Wants.{first_term, second_term, close}
+use Rattle.rule_language.specs.Spelling.{term_word, right}
 use Rattle.rule_language.specs.inside.Reader.{bindings}
-use Rattle.rule_language.proofs.Refusals.{exit_first, exit_behind, passed_more, spell_more}
-use Rattle.rule_language.proofs.Steps.{variable_step, kind_step, kind_of_step, role_step, first_step, second_step, close_asks, kind_asks, kind_of_asks}
+use Rattle.rule_language.proofs.Refusals.{exit_behind, passed_more, spell_more}
+use Rattle.rule_language.proofs.Steps.{first_step, second_step, close_asks}
 use Rattle.rule_language.proofs.atoms.read_terms.Goals as goal
 
 pub returns-in_err-second-clause-err : goal.returns-in_err-second-clause-err

@@ -1,11 +1,10 @@
-use Rattle.std.proofs.Common.{◌∷◌, [], ◌++◌, refl, true, ◌∙◌, sym}
-use Rattle.roster.specs.RosterText.{role_word}
-use Rattle.rule_language.specs.Kinds.{kind_word, head_word, is_same_sort}
-use Rattle.rule_language.specs.Wants.{Want, a_variable, a_role, a_kind, first_term, second_term, close, new_variable, kind_of, before_or_body, formula, more}
-use Rattle.rule_language.specs.Spelling.{variable, term_word, left, right}
+use Rattle.std.proofs.Common.{◌∷◌, [], ◌++◌}
+use Rattle.rule_language.specs.Kinds.{kind_word}
+use Rattle.rule_language.specs.Wants.{new_variable, kind_of, before_or_body}
+use Rattle.rule_language.specs.Spelling.{variable}
 use Rattle.rule_language.specs.inside.Reader.{bindings}
-use Rattle.rule_language.proofs.Refusals.{exit_first, exit_behind, passed_more, spell_more}
-use Rattle.rule_language.proofs.Steps.{variable_step, kind_step, kind_of_step, role_step, first_step, second_step, new_step, close_asks, kind_asks, kind_of_asks}
+use Rattle.rule_language.proofs.Refusals.{exit_first, exit_behind, passed_more}
+use Rattle.rule_language.proofs.Steps.{kind_of_step, new_step, kind_of_asks}
 use Rattle.rule_language.proofs.Binders.{binder_read}
 use Rattle.rule_language.proofs.binder.read_binder.Goals as goal
 

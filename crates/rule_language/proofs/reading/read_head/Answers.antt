@@ -1,6 +1,6 @@
-use Rattle.std.proofs.Common.{◌≡◌, ◌∙◌, true, ap, sym, refl, ◌∷◌, Ok, Some, List, ℕ}
+use Rattle.std.proofs.Common.{◌≡◌, ◌∙◌, ap, sym, refl, ◌∷◌, Ok, Some}
 use Rattle.rule_language.proofs.Refusals.{taken, asked, if_fault}
-use Rattle.rule_language.specs.inside.Reader.{bindings, IsTyped}
+use Rattle.rule_language.specs.inside.Reader.{bindings}
 use Rattle.rule_language.specs.Kinds.{head_word}
 use Rattle.rule_language.specs.Spelling.{piece}
 use Rattle.rule_language.specs.Wants.{head, head_for, nested, behind_head}

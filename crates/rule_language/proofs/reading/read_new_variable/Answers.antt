@@ -1,6 +1,6 @@
-use Rattle.std.proofs.Common.{◌≡◌, ◌∙◌, true, ap, sym, refl, ◌∷◌, Ok, Some, List, ℕ}
+use Rattle.std.proofs.Common.{◌≡◌, ◌∙◌, ap, sym, refl, ◌∷◌, Ok}
 use Rattle.rule_language.proofs.Refusals.{taken, asked, if_fault}
-use Rattle.rule_language.specs.inside.Reader.{bindings, IsTyped}
+use Rattle.rule_language.specs.inside.Reader.{bindings}
 use Rattle.rule_language.specs.Spelling.{piece, variable}
 use Rattle.rule_language.specs.Wants.{new_variable, kind_of, new_in, letter_in}
 use Rattle.rule_language.proofs.Found.{new_found}

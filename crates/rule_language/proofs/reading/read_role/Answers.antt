@@ -1,4 +1,4 @@
-use Rattle.std.proofs.Common.{◌≡◌, ◌∙◌, true, ap, sym, refl, ◌∷◌, Ok, Some, List, ℕ}
+use Rattle.std.proofs.Common.{◌∙◌, ap, sym, refl, ◌∷◌}
 use Rattle.rule_language.proofs.Refusals.{taken, asked, if_fault}
 use Rattle.roster.specs.RosterText.{role_word}
 use Rattle.rule_language.specs.declared.faults.RuleWhy.TheVariants.{Shape}

@@ -1,6 +1,6 @@
-use Rattle.std.proofs.Common.{◌≡◌, ◌∙◌, true, ap, sym, refl, ◌∷◌, Ok, Some, List, ℕ}
+use Rattle.std.proofs.Common.{◌≡◌, ◌∙◌, true, ap, sym, refl, ◌∷◌}
 use Rattle.rule_language.proofs.Refusals.{taken, asked, if_fault}
-use Rattle.rule_language.specs.inside.Reader.{bindings, IsTyped}
+use Rattle.rule_language.specs.inside.Reader.{bindings}
 use Rattle.rule_language.specs.Lawful.{is_bound}
 use Rattle.rule_language.specs.Spelling.{piece, variable}
 use Rattle.rule_language.specs.Wants.{a_variable, bound_in, letter_in}

@@ -1,8 +1,4 @@
-use Rattle.std.proofs.Common.{◌≡◌, ◌≢◌, ◌∷◌, ◌++◌, ◌∙◌, ◌≤◌, ◌<◌, ◌+◌, ◌-◌, [], List, Ok, Err, Result, refl, sym, ap, map, length, vec_len, arith}
-use Rattle.rule_language.specs.declared.faults.RuleFault.{RuleFault}
-use Rattle.rule_language.specs.Forms.{rule_tree}
-use Rattle.rule_language.specs.Spelling.{rules_tokens}
-use Rattle.rule_language.specs.inside.Reader.{rule_names}
+use Rattle.std.proofs.Common.{[], refl, arith}
 use Rattle.rule_language.proofs.Stands.{none_yet}
 use Rattle.rule_language.proofs.RuleRead.{reads_fault, stand_more, good_more_rules, few_rules}
 use Rattle.rule_language.proofs.rules.read.Goals as goal

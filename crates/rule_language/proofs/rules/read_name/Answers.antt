@@ -1,8 +1,8 @@
-use Rattle.std.proofs.Common.{◌≡◌, ◌∷◌, ◌++◌, [], ◌∙◌, ap, refl, sym, Ok}
+use Rattle.std.proofs.Common.{◌∷◌, ◌++◌, [], ◌∙◌, ap, refl, sym}
 use Rattle.rule_language.specs.Spelling.{piece}
 use Rattle.rule_language.specs.Wants.{rule_name, name_in, formula, close, more_rules, then_want}
 use Rattle.rule_language.specs.inside.Reader.{rule_names, checked}
-use Rattle.rule_language.proofs.Refusals.{exit_by, exit_first, refuse, if_fault}
+use Rattle.rule_language.proofs.Refusals.{exit_first, refuse, if_fault}
 use Rattle.rule_language.proofs.Names.{name_found, name_some, unchecked}
 use Rattle.rule_language.proofs.rules.read_name.Goals as goal
 

@@ -1,7 +1,7 @@
-use Rattle.std.proofs.Common.{◌≡◌, ◌∷◌, ◌++◌, [], refl}
+use Rattle.std.proofs.Common.{◌∷◌, ◌++◌, []}
 use Rattle.std.specs.Prelude.{codes, string_bytes}
 use Rattle.rule_language.specs.Forms.{tree_of}
-use Rattle.rule_language.specs.Spelling.{left, right, tokens_then}
+use Rattle.rule_language.specs.Spelling.{left, tokens_then}
 use Rattle.rule_language.specs.Wants.{more_rules, rule_word, rule_name, formula, close}
 use Rattle.rule_language.specs.inside.Reader.{rule_names}
 use Rattle.rule_language.proofs.Refusals.{exit_behind}

@@ -1,4 +1,4 @@
-use Rattle.std.proofs.Common.{◌≡◌, ◌≢◌, ◌∙◌, refl, sym, subst}
+use Rattle.std.proofs.Common.{◌≡◌, ◌∙◌, refl, sym, subst}
 use Rattle.rule_language.specs.Written.{rules_text}
 use Rattle.rule_language.specs.Spelling.{IsTextOf}
 use Rattle.rule_language.specs.Standard.{standard_rules}
