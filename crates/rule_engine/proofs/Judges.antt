@@ -8,7 +8,7 @@ use Rattle.entry_order.specs.declared.three.Three.{Three}
 use Rattle.entry_order.specs.declared.three.Three.TheVariants.{False, Unknown, True}
 use Rattle.rule_language.specs.declared.row.Row.{Row}
 use Rattle.rule_language.specs.declared.kind.Kind.{Kind}
-use Rattle.rule_language.specs.declared.formula.Formula.{Formula, And, Or, ForEvery, ForSome, EveryBefore, SomeBefore, Before, Next, Is, OfKind, Equal, Less, the_lemmas}
+use Rattle.rule_language.specs.declared.formula.Formula.{Formula, And, Or, Implies, ForEvery, ForSome, EveryBefore, SomeBefore, Before, Next, Is, OfKind, Equal, Less, the_lemmas}
 use Rattle.rule_language.specs.declared.term.Term.{Term}
 use Rattle.roster.specs.declared.post.Role.{Role}
 use mathlib.Core.Path.{fun_ext}
@@ -19,9 +19,9 @@ use Rattle.rule_engine.specs.Kleene.{both, either, opposite, least, greatest, as
 use Rattle.rule_engine.specs.Tests.{has_kind, is_next, has_role, are_equal, is_less}
 use Rattle.rule_engine.specs.Tests.{value_of as term_value}
 use Rattle.rule_engine.specs.Meaning.{bind}
-use Rattle.rule_engine.specs.Values.{values, first_value, places, ancestors, rest_of, values_before, row_at, order_of}
-use Rattle.rule_language.proofs.Views.{view-And, view-Or}
-use Rattle.rule_engine.proofs.Rows.{values-trees_of}
+use Rattle.rule_engine.specs.Values.{values, first_value, second_value, places, ancestors, rest_of, values_before, row_at, order_of}
+use Rattle.rule_language.proofs.Views.{view-And, view-Or, view-Implies}
+use Rattle.rule_engine.proofs.Rows.{values-trees_of, values-in_front}
 use Rattle.rule_engine.specs.inside.Judging.{signed, value_of, over, over_from, over_rows, over_before, is_in, unless_ragged}
 
 pub both_true : (x : Three) → both x True ≡ x
@@ -163,6 +163,14 @@ module _ (rows : List Row) (order : ℕ → ℕ → Three) (wholes : ℕ → Boo
   value-Or v =
       ap seen (view-Or v) ∙ ap greatest (values-trees_of rows order wholes env v.items)
       ∙ greatest_by_least (λ formula. value_of rows order wholes formula env) v.items
+
+  pub value-Implies : (f g : Box Formula Global) →
+      value_of rows order wholes (Implies f g) env
+      ≡ either (opposite (value_of rows order wholes f.value env)) (value_of rows order wholes g.value env)
+  value-Implies f g =
+      ap seen (view-Implies f g)
+      ∙ ap (λ (xs : List Three). either (opposite (first_value xs)) (second_value xs))
+      (values-in_front rows order wholes env f.value (tree_of g.value))
 
   all_rows : (kind : Kind) →
       places rows order wholes kind

@@ -5,13 +5,9 @@ use Rattle.entry_order.specs.declared.three.Three.{Three}
 use Rattle.entry_order.specs.declared.three.Three.TheVariants.{False, Unknown, True}
 use Rattle.rule_language.specs.declared.row.Row.{Row}
 use Rattle.rule_language.specs.declared.formula.Formula.{Formula, And, Or, Implies}
-use Rattle.rule_language.specs.Forms.{tree_of}
-use Rattle.rule_language.proofs.Views.{view-Implies}
 use Rattle.rule_engine.specs.Kleene.{both, either, opposite, least, as_three, is_false}
-use Rattle.rule_engine.specs.Values.{first_value, second_value}
 use Rattle.rule_engine.specs.inside.Judging.{signed, value_of, over}
-use Rattle.rule_engine.proofs.Rows.{values-in_front}
-use Rattle.rule_engine.proofs.Judges.{value-And, value-Or, seen}
+use Rattle.rule_engine.proofs.Judges.{value-And, value-Or, value-Implies}
 
 both_false : (x : Three) → both x False ≡ False
 both_false True = refl
@@ -53,7 +49,5 @@ module _ (rows : List Row) (order : ℕ → ℕ → Three) (wholes : ℕ → Boo
   pub settled-Implies : (f g : Box Formula Global) → value_of rows order wholes f.value env ≡ False →
       value_of rows order wholes (Implies f g) env ≡ True
   settled-Implies f g is =
-      ap (seen rows order wholes env) (view-Implies f g)
-      ∙ ap (λ (xs : List Three). either (opposite (first_value xs)) (second_value xs))
-      (values-in_front rows order wholes env f.value (tree_of g.value))
+      value-Implies rows order wholes env f g
       ∙ ap (λ (x : Three). either (opposite x) (value_of rows order wholes g.value env)) is

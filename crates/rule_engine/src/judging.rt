@@ -1,6 +1,7 @@
 //! The value of a formula, by recursion over the rows.
 ghost use Rattle.std.specs.Prelude.{◌≡◌, ◌<◌, length, IfSome};
 ghost use Rattle.precedence.specs.Known.{known_before, known_count, known_whole};
+ghost use Rattle.rule_engine.specs.Kleene.{either, opposite};
 ghost use Rattle.rule_engine.specs.Tests.{value_of as term_value};
 ghost use Rattle.rule_engine.specs.Values.{order_of, row_at};
 ghost use Rattle.rule_engine.specs.inside.Judging.{
@@ -57,10 +58,9 @@ pub(crate) fn value(formula: &Formula, scope: &Scope<'_>, survivors: &Survivors<
         Formula::And(parts) => over(false, parts.as_slice(), scope, survivors),
         Formula::Or(parts) => opposite(over(true, parts.as_slice(), scope, survivors)),
         Formula::Not(body) => opposite(value(body, scope, survivors)),
-        Formula::Implies(first, second) => either(
-            opposite(value(first, scope, survivors)),
-            value(second, scope, survivors),
-        ),
+        Formula::Implies(first, second) => {
+            implied(value(first, scope, survivors), second, scope, survivors)
+        }
         Formula::Same(v, u) => same_place(scope.place_of(*v), scope.place_of(*u)),
         Formula::Before(v, u) => order_of(*v, *u, scope, survivors.order),
         Formula::Next(v, u) => as_three(is_next(
@@ -77,6 +77,22 @@ pub(crate) fn value(formula: &Formula, scope: &Scope<'_>, survivors: &Survivors<
             term_value(*t, scope, rows),
             term_value(*s, scope, rows),
         )),
+    }
+}
+
+/// The value of an implication. The second formula isn't looked at where the first is false.
+#[cycle(judging)]
+fn implied(first: Three, second: &Formula, scope: &Scope<'_>, survivors: &Survivors<'_>) -> Three
+    requires same { length survivors.now.rows.now ≡ known_count survivors.now.order.now }
+    requires within { IsWithin (length survivors.now.rows.now) scope.now }
+    requires indexed { AreIndexesOf survivors.now.rows.now survivors.now.indexes }
+    ensures { result ≡ either (opposite first) (value_of survivors.now.rows.now
+        (known_before survivors.now.order.now) (known_whole survivors.now.order.now) second.now (env_of scope.now)) }
+{
+    if is_false(first) {
+        Three::True
+    } else {
+        either(opposite(first), value(second, scope, survivors))
     }
 }
 

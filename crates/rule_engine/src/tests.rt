@@ -4,7 +4,7 @@ ghost use Rattle.std.specs.List.{All, list_all};
 use super::*;
 use precedence::{Arrows, Rows};
 use roster::Role;
-use rule_language::{Field, Formula, Kind, Row, Rule, Term};
+use rule_language::{Kind, Row, Rule, read, standard};
 use std::alloc::Global;
 use std::marker::Model;
 use std::test::Fail;
@@ -83,7 +83,8 @@ fn number_in(words: &str, place: usize) -> u32 {
     }
 }
 
-/// A row by its kind, maker, number and session. Machine 0 is the supervisor.
+/// A row by its kind, maker, number and session, and by what is left: a booth or a byte of a ballot.
+/// Machine 0 is the supervisor.
 fn row_of(words: &str) -> Row {
     let word = words.split(' ').next().unwrap_or("");
     let maker = number_in(words, 1);
@@ -97,8 +98,8 @@ fn row_of(words: &str) -> Row {
         },
         number: number_in(words, 2),
         session: number_in(words, 3),
-        ballot: [0; 32],
-        booth: 0,
+        ballot: [(number_in(words, 4) % 256) as u8; 32],
+        booth: number_in(words, 4),
     }
 }
 
@@ -137,145 +138,8 @@ fn crowd_of(alloc: Global, count: u32) -> Result<Place, Fail> {
     Ok(place)
 }
 
-fn field(v: u8, field: Field) -> Term {
-    Term::Of { v, field }
-}
-
-/// What a letter says of `x` and `y` without a formula in it.
-fn atom(letter: u8) -> Formula {
-    match letter {
-        b'<' => Formula::Before(b'y', b'x'),
-        b'=' => Formula::Same(b'y', b'x'),
-        b'n' => Formula::Next(b'y', b'x'),
-        b'r' => Formula::Is(b'x', Role::Booth),
-        b'k' => Formula::OfKind(b'x', Kind::Cast),
-        b'm' => Formula::Equal(field(b'y', Field::Maker), field(b'x', Field::Maker)),
-        b'0' => Formula::Equal(field(b'x', Field::Number), Term::Number(0)),
-        b'l' => Formula::Less(field(b'y', Field::Number), field(b'x', Field::Number)),
-        _ => Formula::True,
-    }
-}
-
-fn taken(alloc: Global, formulas: &mut Vec<Formula>) -> Result<Box<Formula>, Fail> {
-    let formula = formulas.pop().unwrap_or(Formula::True);
-    Ok(Box::new(alloc, formula)?)
-}
-
-fn two_of(alloc: Global, formulas: &mut Vec<Formula>) -> Result<Vec<Formula>, Fail> {
-    let second = formulas.pop().unwrap_or(Formula::True);
-    let first = formulas.pop().unwrap_or(Formula::True);
-    let mut both = Vec::new(alloc);
-    both.push(first)?;
-    both.push(second)?;
-    Ok(both)
-}
-
-/// A quantifier over the last formula: over `x` or, in lower case, `y`, over casts (C), or over what
-/// comes before `x`.
-fn quantified(alloc: Global, letter: u8, formulas: &mut Vec<Formula>) -> Result<Formula, Fail> {
-    let body = taken(alloc, formulas)?;
-    let (x, y) = (b'x', b'y');
-    let (any, cast) = (Kind::Any, Kind::Cast);
-    Ok(match letter {
-        b'E' => Formula::ForEvery {
-            v: x,
-            kind: any,
-            body,
-        },
-        b'e' => Formula::ForEvery {
-            v: y,
-            kind: any,
-            body,
-        },
-        b'S' => Formula::ForSome {
-            v: x,
-            kind: any,
-            body,
-        },
-        b's' => Formula::ForSome {
-            v: y,
-            kind: any,
-            body,
-        },
-        b'C' => Formula::ForEvery {
-            v: x,
-            kind: cast,
-            body,
-        },
-        b'A' => Formula::ForEvery {
-            v: x,
-            kind: Kind::Activate,
-            body,
-        },
-        b'B' => Formula::EveryBefore {
-            v: y,
-            kind: any,
-            u: x,
-            body,
-        },
-        b'b' => Formula::SomeBefore {
-            v: y,
-            kind: any,
-            u: x,
-            body,
-        },
-        b'c' => Formula::SomeBefore {
-            v: y,
-            kind: cast,
-            u: x,
-            body,
-        },
-        _ => Formula::Not(body),
-    })
-}
-
-/// Puts one formula more, made of the last ones.
-fn put(alloc: Global, letter: u8, formulas: &mut Vec<Formula>) -> Result<(), Fail> {
-    let formula = match letter {
-        b'&' => Formula::And(two_of(alloc, formulas)?),
-        b'|' => Formula::Or(two_of(alloc, formulas)?),
-        b'>' => {
-            let second = taken(alloc, formulas)?;
-            let first = taken(alloc, formulas)?;
-            Formula::Implies(first, second)
-        }
-        b'!' | b'E' | b'e' | b'S' | b's' | b'C' | b'A' | b'B' | b'b' | b'c' => {
-            quantified(alloc, letter, formulas)?
-        }
-        letter => atom(letter),
-    };
-    formulas.push(formula)?;
-    Ok(())
-}
-
-fn put_all(alloc: Global, letters: &[u8], formulas: &mut Vec<Formula>) -> Result<(), Fail> {
-    for letter in letters {
-        put(alloc, *letter, formulas)?;
-    }
-    Ok(())
-}
-
-/// The rule that the letters say, each form behind its parts: F is false, and U is unknown of the
-/// chain below, whose one activating machine names what is missing.
-fn rule_of(alloc: Global, letters: &str) -> Result<Rule, Fail> {
-    let mut formulas = Vec::new(alloc);
-    for letter in letters.bytes() {
-        match letter {
-            b'F' => put_all(alloc, b"T!", &mut formulas)?,
-            b'U' => put_all(alloc, b"TcA", &mut formulas)?,
-            letter => put(alloc, letter, &mut formulas)?,
-        }
-    }
-    let body = formulas.pop().unwrap_or(Formula::True);
-    Ok(Rule {
-        name: String::new(alloc),
-        body,
-    })
-}
-
-/// Its answer: K, U, W where it is too wide, or B and the places for which it is broken.
-fn answer_of(alloc: Global, letters: &str, place: &Place) -> Result<String, Fail> {
-    let rule = rule_of(alloc, letters)?;
+/// The answer on a rule: K, U, W where it is too wide, or B and the places for which it is broken.
+fn answer_of(alloc: Global, rule: &Rule, place: &Place) -> Result<String, Fail> {
     if place.count() > 16384 {
         return Ok(String::new(alloc));
     }
@@ -283,7 +147,7 @@ fn answer_of(alloc: Global, letters: &str, place: &Place) -> Result<String, Fail
     if place.rows.len() != order.count() {
         return Ok(String::new(alloc));
     }
-    Ok(match judge(alloc, &rule, &place.rows, &order) {
+    Ok(match judge(alloc, rule, &place.rows, &order) {
         Ok(Verdict::Kept) => format!(in alloc; "K")?,
         Ok(Verdict::Unsettled) => format!(in alloc; "U")?,
         Ok(Verdict::Broken(places)) => format!(in alloc; "B{:?}", places.as_slice())?,
@@ -292,73 +156,153 @@ fn answer_of(alloc: Global, letters: &str, place: &Place) -> Result<String, Fail
     })
 }
 
+/// The text of a rule that says this. T is true, F is false, and U is unknown of the chain below, whose
+/// one activating machine names what is missing.
+fn text_of(alloc: Global, formula: &str) -> Result<Vec<u8>, Fail> {
+    let mut text = Vec::new(alloc);
+    text.extend_from_slice(b"(rule R ")?;
+    for byte in formula.bytes() {
+        match byte {
+            b'T' => text.extend_from_slice(b"true")?,
+            b'F' => text.extend_from_slice(b"(not true)")?,
+            b'U' => text.extend_from_slice(b"(every u activate (some w cast before u true))")?,
+            byte => text.push(byte)?,
+        }
+    }
+    text.push(b')')?;
+    Ok(text)
+}
+
+/// The answer on the one rule that says this.
+fn answer_on(alloc: Global, formula: &str, place: &Place) -> Result<String, Fail> {
+    let text = text_of(alloc, formula)?;
+    let rules = read(alloc, text.as_slice())?;
+    answer_of(alloc, rules.as_slice().first().ok_or("rule")?, place)
+}
+
 /// Four entries in a chain, of which the third names what is missing.
 const CHAIN: &str = "opened 0 0 0, authorise 0 1 1, activate 1 0 1, cast 1 2 1";
 
-const ANSWERS: &str = "T = K
-F = B[]
-U = U
-T! = B[]
-F! = K
-U! = U
-TT& = K
-TU& = U
-UT& = U
-UF& = B[]
-FU& = B[]
-TF| = K
-UT| = K
-UF| = U
-FU| = U
-FF| = B[]
-TT> = K
-TF> = B[]
-TU> = U
-UT> = K
-UF> = U
-FF> = K
-FU> = K
-TE = K
-UE = U
-FE = B[0]
-FS = B[]
-TS = K
-US = U
-kS = K
-kE = B[0]
-rE = B[0]
-rk>E = B[2]
-=eE = B[0, 1]
-=sE = K
-<sE = B[0]
-<eS = U
-<eE = B[0, 0]
-meE = B[0, 2]
-meA = B[2, 0]
-lsE = B[0]
-l<>eE = B[1, 2]
-TbE = B[0]
-0Tb|E = K
-nbS = K
-0nb|E = U
-TbA = K
-FbA = U
-FBA = B[2]
-TBA = U
-TcA = U
-FBE = B[1]
-FcC = U
-TCFA& = B[]";
+/// The answers of an independent program, with the rules.
+const ANSWERS: &str = "K: T
+B[]: F
+U: U
+B[]: (not T)
+K: (not F)
+U: (not U)
+K: (and T T)
+U: (and T U)
+B[]: (and T F)
+U: (and U T)
+U: (and U U)
+B[]: (and U F)
+B[]: (and F T)
+B[]: (and F U)
+B[]: (and F F)
+K: (or T T)
+K: (or T U)
+K: (or T F)
+K: (or U T)
+U: (or U U)
+U: (or U F)
+K: (or F T)
+U: (or F U)
+B[]: (or F F)
+K: (implies T T)
+U: (implies T U)
+B[]: (implies T F)
+K: (implies U T)
+U: (implies U U)
+U: (implies U F)
+K: (implies F T)
+K: (implies F U)
+K: (implies F F)
+K: (every x entry T)
+U: (every x entry U)
+B[0]: (every x entry F)
+K: (every x closed F)
+K: (some x entry T)
+U: (some x entry U)
+B[]: (some x entry F)
+B[]: (some x closed T)
+U: (every x activate (every y entry before x T))
+B[2]: (every x activate (every y entry before x F))
+K: (every x activate (some y entry before x T))
+U: (every x activate (some y entry before x F))
+U: (every x activate (every y cast before x F))
+K: (every x authorise (every y entry before x T))
+B[1]: (every x authorise (some y cast before x T))
+U: (every x cast (some y cast before x T))
+B[0, 1]: (every x entry (every y entry (same x y)))
+K: (every x entry (some y entry (same x y)))
+B[0]: (every x entry (kind x cast))
+K: (some x entry (kind x cast))
+B[2]: (every x entry (is x supervisor))
+B[2]: (every x entry (implies (is x booth) (kind x cast)))
+B[0]: (every x entry (some y entry before x (next y x)))
+U: (every x entry (or (= x.number 0) (some y entry before x (next y x))))
+B[3]: (every x entry (or (= x.number 0) (some y entry (next y x))))
+K: (some x entry (some y entry (next y x)))
+B[0, 2]: (every x entry (every y entry (= x.maker y.maker)))
+K: (every x entry (every y entry (implies (and (= x.maker y.maker) (= x.number y.number)) (same x y))))
+B[2, 1]: (every x activate (every y authorise (not (= x.session y.session))))
+K: (every x cast (some y authorise before x (= y.session x.session)))
+U: (every x cast (some y authorise before x (= y.booth x.maker)))
+B[3]: (every x entry (< x.number 2))
+B[2, 1]: (every x entry (every y entry (implies (< x.number y.number) (before x y))))
+B[0, 0]: (every x entry (every y entry (before x y)))
+U: (every x entry (every y entry (or (before y x) (not (before y x)))))
+B[]: (some x entry (every y entry (before x y)))
+K: (every x cast (every y cast (= x.ballot y.ballot)))
+B[]: (and (every x entry F) T)";
 
 #[test]
 fn small_rules_have_their_answers(rt: HostRuntime) -> Result<(), Fail> {
     let alloc = rt.alloc();
     let place = chain_of(alloc, CHAIN, 2)?;
     for row in ANSWERS.lines() {
-        if let Some((rule, want)) = row.split_once(" = ") {
+        let (want, formula) = row.split_once(": ").ok_or("row")?;
+        let answer = answer_on(alloc, formula, &place)?;
+        assert!(rt; answer.as_str() == want, "{row}");
+    }
+    Ok(())
+}
+
+/// Entries in a chain, which of them names what is missing, and the standard rules that aren't kept with
+/// their answers, which are those of an independent program too.
+const PLACES: &[(&str, usize, &str)] = &[
+    (
+        "opened 0 0 0, authorise 0 1 1 1, activate 1 0 1, commit 1 1 1 7, cast 1 2 1 7, closed 0 2 0",
+        usize::MAX,
+        "",
+    ),
+    (
+        "opened 0 0 0, authorise 0 1 1 1, activate 1 0 1, cast 1 2 1 7, closed 0 2 0",
+        3,
+        " C2 U V2 U P4 U K2 U",
+    ),
+    (
+        "authorise 0 1 1 2, activate 1 0 1, challenge 1 1 1 7, cast 1 1 1 8, closed 0 2 0, \
+         forced 1 5 2, authorise 0 3 1 1",
+        usize::MAX,
+        " O2 B[0] A1 B[1] A2 B[0, 6] C2 B[3] C4 B[3] P2 B[6] M1 B[5] K1 B[2, 3] K2 B[0] C6 B[2] V4 B[5]",
+    ),
+];
+
+#[test]
+fn the_standard_rules_have_their_answers(rt: HostRuntime) -> Result<(), Fail> {
+    let alloc = rt.alloc();
+    let rules = standard(alloc)?;
+    for &(entries, ragged, want) in PLACES {
+        let place = chain_of(alloc, entries, ragged)?;
+        let mut found = String::new(alloc);
+        for rule in rules.as_slice() {
             let answer = answer_of(alloc, rule, &place)?;
-            assert!(rt; answer.as_str() == want, "{row}");
+            if answer.as_str() != "K" {
+                write!(found, " {} {}", rule.name, answer)?;
+            }
         }
+        assert!(rt; found.as_str() == want, "{found}");
     }
     Ok(())
 }
@@ -369,9 +313,10 @@ const WIDTHS: &[(u32, &str)] = &[(128, "B[0, 0, 0, 0]"), (129, "W")];
 #[test]
 fn a_rule_may_be_as_wide_as_the_limit(rt: HostRuntime) -> Result<(), Fail> {
     let alloc = rt.alloc();
+    let rule = "(every a entry (every b entry (every c entry (every d entry F))))";
     for &(count, want) in WIDTHS {
         let place = crowd_of(alloc, count)?;
-        let answer = answer_of(alloc, "FEeEe", &place)?;
+        let answer = answer_on(alloc, rule, &place)?;
         assert!(rt; answer.as_str() == want, "{count}");
     }
     Ok(())

@@ -1,13 +1,14 @@
 use Rattle.std.proofs.Common.{◌∙◌, ◌<◌, ap, sym, subst, true, false, ℕ, Option, Some, None, IfSome, length, rules, arith}
 use Rattle.rule_language.specs.declared.row.Row.{Row}
+use Rattle.rule_language.specs.declared.formula.Formula.{Formula}
 use Rattle.rule_engine.specs.Tests.{value_of as term_value}
-use Rattle.rule_engine.specs.Kleene.{both, opposite, as_three}
+use Rattle.rule_engine.specs.Kleene.{both, either, opposite, as_three}
 use Rattle.rule_engine.specs.Tests.{is_next, has_role, has_kind, are_equal, is_less}
 use Rattle.rule_engine.specs.Values.{row_at}
 use Rattle.rule_engine.specs.inside.Judging.{signed, value_of, over, over_rows, over_before}
 use Rattle.rule_engine.specs.inside.Scopes.{env_of}
 use Rattle.rule_engine.specs.declared.quantifier.Quantifier.{Quantifier}
-use Rattle.rule_engine.proofs.Judges.{value-And, value-Or, value-ForEvery, value-ForSome, value-EveryBefore}
+use Rattle.rule_engine.proofs.Judges.{value-And, value-Or, value-Implies, value-ForEvery, value-ForSome, value-EveryBefore}
 use Rattle.rule_engine.proofs.Judges.{value-SomeBefore, value-Before, value-Next, value-Is, value-OfKind, value-Equal, value-Less}
 use Rattle.rule_engine.proofs.Indexed.{step_with, stop_with, bucket_starts, bucket_goes_on}
 use Rattle.rule_engine.proofs.judging.+judging.Goals as goal
@@ -251,3 +252,17 @@ over_bucket-bucket-preserved t c =
           ∙ ap (both c.both-least.result) more.1,
       more.2,
     )
+
+pub value-returns-in-Implies : goal.value-returns-in-Implies
+value-returns-in-Implies t c =
+    let rows = c.args.survivors.now.rows.now in
+    let P = known_before c.args.survivors.now.order.now in
+    let R = known_whole c.args.survivors.now.order.now in
+    let env = env_of c.args.scope.now in
+    let of : Formula → Three = λ f. value_of rows P R f env in
+    let a = c.in-Implies in
+    c.implied.ensures
+    ∙ ap (λ (x : Three). either (opposite x) (of c.deref-in-Implies-2.result.now))
+    (c.value-in-Implies.ensures ∙ ap of c.deref-in-Implies.ensures)
+    ∙ ap (λ (f : Formula). either (opposite (of a.first.value)) (of f)) c.deref-in-Implies-2.ensures
+    ∙ sym (ap of a.is ∙ value-Implies rows P R env a.first a.second)
