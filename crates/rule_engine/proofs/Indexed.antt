@@ -1,13 +1,13 @@
 -- Rows in buckets, and values over the rows of one bucket in place of all.
 use Rattle.std.proofs.Common.{◌≡◌, ◌≢◌, ◌∙◌, ap, sym, refl, subst, ℕ, zero, suc, ◌+◌, ◌-◌, ◌<◌, ◌≤◌, ◌%◌, Bool, true, false}
-use Rattle.std.proofs.Common.{not, cond, Option, Some, None, List, length, get_or, replicate, arith, ◌⊎◌, inl, inr}
+use Rattle.std.proofs.Common.{not, cond, Option, Some, None, List, length, get_or, replicate, arith, inl, inr}
 use Rattle.std.specs.Prelude.{slice_get, slice_set, slice_index_or, ◌&&◌}
 use Rattle.std.proofs.lemmas.Option.{slice_get_within, slice_get_cases, slice_get-get_or}
 use Rattle.std.proofs.lemmas.Grind.{get_or_default_zero}
 use Rattle.std.proofs.lemmas.Bool.{cases_eq, cases_lt}
 use Rattle.std.proofs.lemmas.List.{get_or-set_same, get_or-set_other, get_or-replicate, length-set, length-replicate}
 use Rattle.entry_order.specs.declared.three.Three.{Three}
-use Rattle.entry_order.specs.declared.three.Three.TheVariants.{False, Unknown, True}
+use Rattle.entry_order.specs.declared.three.Three.TheVariants.{False, True}
 use Rattle.rule_language.specs.declared.row.Row.{Row}
 use Rattle.rule_language.specs.declared.kind.Kind.{Kind}
 use Rattle.rule_language.specs.declared.kind.Kind.TheVariants as kinds

@@ -5,7 +5,7 @@ use Rattle.rule_engine.specs.Tests.{value_of as term_value}
 use Rattle.rule_engine.specs.Kleene.{both, either, opposite, as_three}
 use Rattle.rule_engine.specs.Tests.{is_next, has_role, has_kind, are_equal, is_less}
 use Rattle.rule_engine.specs.Values.{row_at}
-use Rattle.rule_engine.specs.inside.Judging.{signed, value_of, over, over_rows, over_before}
+use Rattle.rule_engine.specs.inside.Judging.{value_of, over, over_rows, over_before}
 use Rattle.rule_engine.specs.inside.Scopes.{env_of}
 use Rattle.rule_engine.specs.declared.quantifier.Quantifier.{Quantifier}
 use Rattle.rule_engine.proofs.Judges.{value-And, value-Or, value-Implies, value-ForEvery, value-ForSome, value-EveryBefore}
@@ -13,10 +13,7 @@ use Rattle.rule_engine.proofs.Judges.{value-SomeBefore, value-Before, value-Next
 use Rattle.rule_engine.proofs.Indexed.{step_with, stop_with, bucket_starts, bucket_goes_on}
 use Rattle.rule_engine.proofs.judging.+judging.Goals as goal
 use Rattle.precedence.specs.Known.{known_before, known_whole}
-use Rattle.std.proofs.Common.{◌+◌, ◌-◌}
 use Rattle.entry_order.specs.declared.three.Three.{Three}
-use Rattle.rule_engine.specs.inside.Judging.{over_from}
-use Rattle.rule_engine.proofs.Wants.{false_is}
 
 pub value-returns-in-And : goal.value-returns-in-And
 value-returns-in-And t c =
@@ -44,7 +41,9 @@ value-returns-in-ForEvery t c =
     let R = known_whole c.args.survivors.now.order.now in
     let env = env_of c.args.scope.now in
     let a = c.in-ForEvery in
-    c.over_rows.ensures ∙ ap (λ (q : Quantifier). over_rows rows P R q.some c.deref.result.now q.v q.kind q.within env) c.quantifier_over.ensures
+    c.over_rows.ensures
+    ∙ ap (λ (q : Quantifier). over_rows rows P R q.some c.deref.result.now q.v q.kind q.within env)
+    c.quantifier_over.ensures
     ∙ ap (λ f. over_rows rows P R false f a.v a.kind None env) c.deref.ensures
     ∙ sym (ap (λ f. value_of rows P R f env) c.in-ForEvery.is ∙ value-ForEvery rows P R env a.v a.kind a.body)
 
@@ -56,7 +55,8 @@ value-returns-in-ForSome t c =
     let env = env_of c.args.scope.now in
     let a = c.in-ForSome in
     c.opposite.ensures ∙ ap opposite (c.over_rows-in-ForSome.ensures
-    ∙ ap (λ (q : Quantifier). over_rows rows P R q.some c.deref-in-ForSome.result.now q.v q.kind q.within env) c.quantifier_over-in-ForSome.ensures
+    ∙ ap (λ (q : Quantifier). over_rows rows P R q.some c.deref-in-ForSome.result.now q.v q.kind q.within env)
+    c.quantifier_over-in-ForSome.ensures
     ∙ ap (λ f. over_rows rows P R true f a.v a.kind None env) c.deref-in-ForSome.ensures)
     ∙ sym (ap (λ f. value_of rows P R f env) c.in-ForSome.is ∙ value-ForSome rows P R env a.v a.kind a.body)
 
@@ -67,7 +67,9 @@ value-returns-in-EveryBefore t c =
     let R = known_whole c.args.survivors.now.order.now in
     let env = env_of c.args.scope.now in
     let a = c.in-EveryBefore in
-    c.over_before.ensures ∙ ap (λ (q : Quantifier). over_before rows P R q.some c.deref-in-EveryBefore.result.now q.v q.kind env (env a.u)) c.quantifier_over-in-EveryBefore.ensures
+    let of : Quantifier → Three =
+    λ q. over_before rows P R q.some c.deref-in-EveryBefore.result.now q.v q.kind env (env a.u) in
+    c.over_before.ensures ∙ ap of c.quantifier_over-in-EveryBefore.ensures
     ∙ ap (λ f. over_before rows P R false f a.v a.kind env (env a.u)) c.deref-in-EveryBefore.ensures
     ∙ sym (ap (λ f. value_of rows P R f env) a.is ∙ value-EveryBefore rows P R env a.v a.kind a.u a.body)
 
@@ -79,7 +81,8 @@ value-returns-in-SomeBefore t c =
     let env = env_of c.args.scope.now in
     let a = c.in-SomeBefore in
     c.opposite-in-SomeBefore.ensures ∙ ap opposite (c.over_before-in-SomeBefore.ensures
-    ∙ ap (λ (q : Quantifier). over_before rows P R q.some c.deref-in-SomeBefore.result.now q.v q.kind env (env a.u)) c.quantifier_over-in-SomeBefore.ensures
+    ∙ ap (λ (q : Quantifier). over_before rows P R q.some c.deref-in-SomeBefore.result.now q.v q.kind env (env a.u))
+    c.quantifier_over-in-SomeBefore.ensures
     ∙ ap (λ f. over_before rows P R true f a.v a.kind env (env a.u)) c.deref-in-SomeBefore.ensures)
     ∙ sym (ap (λ f. value_of rows P R f env) a.is ∙ value-SomeBefore rows P R env a.v a.kind a.u a.body)
 
@@ -178,9 +181,10 @@ over_before-returns-in-Some t c =
     let R = known_whole c.args.survivors.now.order.now in
     let env = env_of c.args.scope.now in
     let p = c.in-Some.place in
+    let q = c.args.quantifier in
     c.both.ensures ∙ ap (λ x. both x c.unless_ragged.result) c.over_rows.ensures
-    ∙ ap (both (over_rows rows P R c.args.quantifier.some c.args.body.now c.args.quantifier.v c.args.quantifier.kind (Some p) env)) c.unless_ragged.ensures
-    ∙ ap (over_before rows P R c.args.quantifier.some c.args.body.now c.args.quantifier.v c.args.quantifier.kind env) (sym c.in-Some.is ∙ c.place_of.ensures.is)
+    ∙ ap (both (over_rows rows P R q.some c.args.body.now q.v q.kind (Some p) env)) c.unless_ragged.ensures
+    ∙ ap (over_before rows P R q.some c.args.body.now q.v q.kind env) (sym c.in-Some.is ∙ c.place_of.ensures.is)
 
 pub over_each-loop-i-preserved : goal.over_each-loop-i-preserved
 over_each-loop-i-preserved t c =

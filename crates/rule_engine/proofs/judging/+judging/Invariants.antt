@@ -1,4 +1,4 @@
-use Rattle.std.proofs.Common.{◌≡◌, ◌-◌, ◌%◌, ℕ, Some, length, drop}
+use Rattle.std.proofs.Common.{◌≡◌, ◌-◌, ◌%◌, Some, length, drop}
 use Rattle.std.specs.Prelude.{slice_get}
 use Rattle.rule_language.specs.declared.row.Row.{Row}
 use Rattle.rule_engine.specs.Kleene.{both}

@@ -1,4 +1,4 @@
-use Rattle.std.proofs.Common.{◌∙◌, ◌≡◌, ap, sym, subst, ℕ, Option, IfSome, inl, inr}
+use Rattle.std.proofs.Common.{◌∙◌, ap, sym, subst, ℕ, Option, IfSome, inl, inr}
 use Rattle.std.proofs.lemmas.Bool.{cases_eq, ne_eqb}
 use Rattle.precedence.specs.Known.{known_before, known_whole}
 use Rattle.rule_engine.specs.declared.index.Index.{Index}
