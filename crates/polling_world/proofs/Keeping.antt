@@ -1,5 +1,5 @@
 -- What a machine keeps, when it is made and when an event is appended.
-use Rattle.std.proofs.Common.{◌≡◌, ℕ, ◌+◌, ◌<◌, ◌≤◌, Bool, true, false, List, [], ◌∷◌, ◌++◌, length, All, refl, sym, ap}
+use Rattle.std.proofs.Common.{◌≡◌, ℕ, ◌+◌, ◌<◌, ◌≤◌, Bool, true, false, List, [], ◌∷◌, ◌++◌, length, refl, sym, ap}
 use Rattle.std.proofs.Common.{subst, ◌∙◌, get_or, arith, length-append}
 use Rattle.std.proofs.lemmas.List.{length-map}
 use Rattle.std.proofs.lemmas.Option.{slice_get_within, get_or_from_slice_get}
@@ -21,7 +21,7 @@ use Rattle.entangled_log.specs.Logs.{History}
 use Rattle.entry_order.proofs.Histories.{IsLegal-push, IsLegal-none, sent_one_more, sent_as_many}
 use Rattle.election_script.specs.declared.script.Cast0.{Cast0}
 use Rattle.election_script.specs.declared.script.Script.{Script}
-use Rattle.election_script.specs.Lawful.{IsLawful, IsCast, IsDeedAmong, IsDeedOf}
+use Rattle.election_script.specs.Lawful.{IsLawful, IsCast}
 use Rattle.polling_world.specs.declared.rules.Rules.{Rules}
 use Rattle.polling_world.specs.Configs.{config_of}
 use Rattle.polling_world.specs.Keys.{key_of, post_of, roster_of}
@@ -55,6 +55,7 @@ IsMachine-push : (m : MachineState) (x : Event SealedEntry) → IsMachine m → 
 IsMachine-push m x machine going room may send =
     let longer : length (m.events ++ x ∷ []) ≡ length m.events + 1 = length-append m.events (x ∷ []) in
     record {
+      version = machine.version;
       roster = machine.roster;
       place = machine.place;
       public = machine.public;
@@ -108,10 +109,11 @@ fresh script at cast stop =
     record { config = config_of script at cast; stop = stop; marked = false; events = [] }
 
 -- what is seen of these fields
-abbrev pub state_from : Option ℕ → Bool → List ℕ → Role → List Deed → Secret → List Post → History SealedEntry →
+abbrev pub state_from : Option ℕ → Bool → ℕ → List ℕ → Role → List Deed → Secret → List Post → History SealedEntry →
     MachineState
-state_from stop marked name role actions key posts log = record {
+state_from stop marked version name role actions key posts log = record {
   config = record {
+    version = version;
     number = log.owner;
     name = name;
     role = role;
@@ -130,14 +132,14 @@ pub is_fresh : (script : Script) (at : ℕ) (cast read : Cast0) (stop : Option �
     (key : Secret) (posts : List Post) (log : History SealedEntry) → read ≡ cast → name ≡ read.name →
     actions ≡ read.actions → key ≡ key_of script cast → posts ≡ roster_of script →
     log ≡ record { owner = at; capacity = script.log; events = [] } →
-    state_from stop false name read.role actions key posts log ≡ fresh script at cast stop
+    state_from stop false script.version name read.role actions key posts log ≡ fresh script at cast stop
 is_fresh script at cast read stop name actions key posts log reads names acts keys rosters logs =
-    ap (λ n. state_from stop false n read.role actions key posts log) (names ∙ ap (λ (c : Cast0). c.name) reads)
-    ∙ ap (λ r. state_from stop false cast.name r actions key posts log) (ap (λ (c : Cast0). c.role) reads)
-    ∙ ap (λ a. state_from stop false cast.name cast.role a key posts log) (acts ∙ ap (λ (c : Cast0). c.actions) reads)
-    ∙ ap (λ k. state_from stop false cast.name cast.role cast.actions k posts log) keys
-    ∙ ap (λ p. state_from stop false cast.name cast.role cast.actions (key_of script cast) p log) rosters
-    ∙ ap (λ l. state_from stop false cast.name cast.role cast.actions (key_of script cast) (roster_of script) l) logs
+    ap (λ n. state_from stop false script.version n read.role actions key posts log) (names ∙ ap (λ (c : Cast0). c.name) reads)
+    ∙ ap (λ r. state_from stop false script.version cast.name r actions key posts log) (ap (λ (c : Cast0). c.role) reads)
+    ∙ ap (λ a. state_from stop false script.version cast.name cast.role a key posts log) (acts ∙ ap (λ (c : Cast0). c.actions) reads)
+    ∙ ap (λ k. state_from stop false script.version cast.name cast.role cast.actions k posts log) keys
+    ∙ ap (λ p. state_from stop false script.version cast.name cast.role cast.actions (key_of script cast) p log) rosters
+    ∙ ap (λ l. state_from stop false script.version cast.name cast.role cast.actions (key_of script cast) (roster_of script) l) logs
 
 -- any number of events to stop at allows none
 none_yet : (stop : Option ℕ) → IsWithinStop stop 0
@@ -149,13 +151,14 @@ IsMachine-fresh : (script : Script) (at : ℕ) (cast : Cast0) (stop : Option ℕ
 IsMachine-fresh script at cast stop lawful is =
     let within : at < length script.machines = slice_get_within script.machines at cast is in
     let here : get_or script.machines at cast ≡ cast = get_or_from_slice_get script.machines at cast cast is in
-    let acts : All (λ deed. IsDeedOf cast.role deed × IsDeedAmong script.machines deed) cast.actions =
-    subst (IsCast script.machines) here (lawful.machines.actions at cast within) in
+    let acts : IsCast script.version script.machines cast =
+    subst (IsCast script.version script.machines) here (lawful.machines.actions at cast within) in
     record {
+      version = lawful.version;
       roster = roster_has_text script lawful;
       place = omega (arith, within, length-map script.machines (post_of script));
       public = key_in_roster script at cast is;
-      actions = λ k d inside. (acts k d inside).0;
+      actions = λ k d inside. let is = acts k d inside in (is.0, is.1);
       legal = IsLegal-none node_of_sealed at;
       within = omega arith;
       sent = AreMade-none (config_of script at cast);

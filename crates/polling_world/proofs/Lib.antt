@@ -12,3 +12,4 @@ pub mod Stepping
 pub mod WorldSteps
 pub mod WorldMaking
 pub mod Played
+pub mod Taking

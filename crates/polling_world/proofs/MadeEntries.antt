@@ -59,8 +59,9 @@ is_made config k stamp names deed sealed entry signature text digest key =
     same_parts sealed (made config k stamp names deed) entry signed spelt (digest ∙ ap sha256 spelt) key
 
 -- an entry is its parts
-abbrev entry_of_parts : List ℕ → ℕ → ℕ → ℕ → List (List ℕ) → Deed → Entry
-entry_of_parts election maker number stamp names deed = record {
+abbrev entry_of_parts : ℕ → List ℕ → ℕ → ℕ → ℕ → List (List ℕ) → Deed → Entry
+entry_of_parts version election maker number stamp names deed = record {
+  version = version;
   election = election;
   maker = maker;
   number = number;
@@ -69,15 +70,16 @@ entry_of_parts election maker number stamp names deed = record {
   deed = deed;
 }
 
-pub same_entry : (e f : Entry) → e.election ≡ f.election → e.maker ≡ f.maker → e.number ≡ f.number →
+pub same_entry : (e f : Entry) → e.version ≡ f.version → e.election ≡ f.election → e.maker ≡ f.maker → e.number ≡ f.number →
     e.stamp ≡ f.stamp → e.names ≡ f.names → e.deed ≡ f.deed → e ≡ f
-same_entry e f election maker number stamp names deed =
-    ap (λ x. entry_of_parts x e.maker e.number e.stamp e.names e.deed) election
-    ∙ ap (λ x. entry_of_parts f.election x e.number e.stamp e.names e.deed) maker
-    ∙ ap (λ x. entry_of_parts f.election f.maker x e.stamp e.names e.deed) number
-    ∙ ap (λ x. entry_of_parts f.election f.maker f.number x e.names e.deed) stamp
-    ∙ ap (λ x. entry_of_parts f.election f.maker f.number f.stamp x e.deed) names
-    ∙ ap (λ x. entry_of_parts f.election f.maker f.number f.stamp f.names x) deed
+same_entry e f version election maker number stamp names deed =
+    ap (λ x. entry_of_parts x e.election e.maker e.number e.stamp e.names e.deed) version
+    ∙ ap (λ x. entry_of_parts f.version x e.maker e.number e.stamp e.names e.deed) election
+    ∙ ap (λ x. entry_of_parts f.version f.election x e.number e.stamp e.names e.deed) maker
+    ∙ ap (λ x. entry_of_parts f.version f.election f.maker x e.stamp e.names e.deed) number
+    ∙ ap (λ x. entry_of_parts f.version f.election f.maker f.number x e.names e.deed) stamp
+    ∙ ap (λ x. entry_of_parts f.version f.election f.maker f.number f.stamp x e.deed) names
+    ∙ ap (λ x. entry_of_parts f.version f.election f.maker f.number f.stamp f.names x) deed
 
 -- what a machine's key sealed is what it makes
 pub sealed_is_made : (config : Config) (k stamp : ℕ) (names : List (List ℕ)) (deed : Deed) (secret : Secret)

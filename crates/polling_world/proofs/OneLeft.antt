@@ -12,8 +12,6 @@ use Rattle.booth_core.specs.Table as booth
 use Rattle.polling_world.specs.declared.left.Left.{Left}
 use Rattle.polling_world.specs.declared.left.LeftWhy.{LeftWhy}
 use Rattle.polling_world.specs.declared.left.LeftWhy.TheVariants as why
-use Rattle.polling_world.specs.declared.rules.RuleNot.{RuleNot}
-use Rattle.polling_world.specs.declared.rules.RuleNot.TheVariants as cause
 use Rattle.polling_world.specs.Machines.{MachineState, has_stopped}
 use Rattle.polling_world.specs.Rules.{RoleRefuses, IsWhole, entries_in}
 use Rattle.polling_world.specs.Waiting.{IsWhy, IsLeft}
@@ -23,33 +21,33 @@ clash true so none = cc
 clash false so none = cc
 
 -- the rules of a role have one answer
-supervisor_rule : (owner : ℕ) (h : List (Event SealedEntry)) (deed : Deed) (a b : Result (Unit {0}) RuleNot)
+supervisor_rule : (owner : ℕ) (h : List (Event SealedEntry)) (deed : Deed) (a b : Result (Unit {0}) LeftWhy)
     → RoleRefuses Supervisor owner h deed a → RoleRefuses Supervisor owner h deed b → a ≡ b
 supervisor_rule owner h deed (Ok x) (Ok y) p q = refl
-supervisor_rule owner h deed (Ok x) (Err (cause.Supervisor w)) p q =
+supervisor_rule owner h deed (Ok x) (Err (why.SupervisorNot w)) p q =
     let same = one_first (supervisor.causes_of owner (entries_in h) deed) (Ok x) (Err w) p q in cc
-supervisor_rule owner h deed (Ok x) (Err (cause.Booth w)) p q = absurd q
-supervisor_rule owner h deed (Err (cause.Supervisor v)) (Ok y) p q =
+supervisor_rule owner h deed (Ok x) (Err _) p q = absurd q
+supervisor_rule owner h deed (Err (why.SupervisorNot v)) (Ok y) p q =
     let same = one_first (supervisor.causes_of owner (entries_in h) deed) (Err v) (Ok y) p q in cc
-supervisor_rule owner h deed (Err (cause.Supervisor v)) (Err (cause.Supervisor w)) p q =
+supervisor_rule owner h deed (Err (why.SupervisorNot v)) (Err (why.SupervisorNot w)) p q =
     let same = one_first (supervisor.causes_of owner (entries_in h) deed) (Err v) (Err w) p q in cc
-supervisor_rule owner h deed (Err (cause.Supervisor v)) (Err (cause.Booth w)) p q = absurd q
-supervisor_rule owner h deed (Err (cause.Booth v)) b p q = absurd p
+supervisor_rule owner h deed (Err (why.SupervisorNot v)) (Err _) p q = absurd q
+supervisor_rule owner h deed (Err _) b p q = absurd p
 
-booth_rule : (owner : ℕ) (h : List (Event SealedEntry)) (deed : Deed) (a b : Result (Unit {0}) RuleNot)
+booth_rule : (owner : ℕ) (h : List (Event SealedEntry)) (deed : Deed) (a b : Result (Unit {0}) LeftWhy)
     → RoleRefuses Booth owner h deed a → RoleRefuses Booth owner h deed b → a ≡ b
 booth_rule owner h deed (Ok x) (Ok y) p q = refl
-booth_rule owner h deed (Ok x) (Err (cause.Booth w)) p q =
+booth_rule owner h deed (Ok x) (Err (why.BoothNot w)) p q =
     let same = one_first (booth.causes_of owner (entries_in h) (IsWhole h) deed) (Ok x) (Err w) p q in cc
-booth_rule owner h deed (Ok x) (Err (cause.Supervisor w)) p q = absurd q
-booth_rule owner h deed (Err (cause.Booth v)) (Ok y) p q =
+booth_rule owner h deed (Ok x) (Err _) p q = absurd q
+booth_rule owner h deed (Err (why.BoothNot v)) (Ok y) p q =
     let same = one_first (booth.causes_of owner (entries_in h) (IsWhole h) deed) (Err v) (Ok y) p q in cc
-booth_rule owner h deed (Err (cause.Booth v)) (Err (cause.Booth w)) p q =
+booth_rule owner h deed (Err (why.BoothNot v)) (Err (why.BoothNot w)) p q =
     let same = one_first (booth.causes_of owner (entries_in h) (IsWhole h) deed) (Err v) (Err w) p q in cc
-booth_rule owner h deed (Err (cause.Booth v)) (Err (cause.Supervisor w)) p q = absurd q
-booth_rule owner h deed (Err (cause.Supervisor v)) b p q = absurd p
+booth_rule owner h deed (Err (why.BoothNot v)) (Err _) p q = absurd q
+booth_rule owner h deed (Err _) b p q = absurd p
 
-one_rule : (role : Role) (owner : ℕ) (h : List (Event SealedEntry)) (deed : Deed) (a b : Result (Unit {0}) RuleNot)
+one_rule : (role : Role) (owner : ℕ) (h : List (Event SealedEntry)) (deed : Deed) (a b : Result (Unit {0}) LeftWhy)
     → RoleRefuses role owner h deed a → RoleRefuses role owner h deed b → a ≡ b
 one_rule Supervisor owner h deed a b p q = supervisor_rule owner h deed a b p q
 one_rule Booth owner h deed a b p q = booth_rule owner h deed a b p q
@@ -66,57 +64,57 @@ one_why m deed why.Stopped why.Ready x y = absurd (clash (has_stopped m) x y.goi
 one_why m deed (why.SupervisorNot v) why.Stopped x y = absurd (clash (has_stopped m) y x.0)
 one_why m deed (why.SupervisorNot v) (why.SupervisorNot w) x y =
     let same =
-    one_rule m.config.role m.config.number m.events deed (Err (cause.Supervisor v)) (Err (cause.Supervisor w)) x.1 y.1 in cc
+    one_rule m.config.role m.config.number m.events deed (Err (why.SupervisorNot v)) (Err (why.SupervisorNot w)) x.1 y.1 in cc
 one_why m deed (why.SupervisorNot v) (why.BoothNot w) x y =
     let same =
-    one_rule m.config.role m.config.number m.events deed (Err (cause.Supervisor v)) (Err (cause.Booth w)) x.1 y.1 in cc
+    one_rule m.config.role m.config.number m.events deed (Err (why.SupervisorNot v)) (Err (why.BoothNot w)) x.1 y.1 in cc
 one_why m deed (why.SupervisorNot v) why.Full x y =
-    let same = one_rule m.config.role m.config.number m.events deed (Err (cause.Supervisor v)) (Ok tt) x.1 y.1 in cc
+    let same = one_rule m.config.role m.config.number m.events deed (Err (why.SupervisorNot v)) (Ok tt) x.1 y.1 in cc
 one_why m deed (why.SupervisorNot v) why.StampSpent x y =
-    let same = one_rule m.config.role m.config.number m.events deed (Err (cause.Supervisor v)) (Ok tt) x.1 y.1 in cc
+    let same = one_rule m.config.role m.config.number m.events deed (Err (why.SupervisorNot v)) (Ok tt) x.1 y.1 in cc
 one_why m deed (why.SupervisorNot v) why.Spent x y =
-    let same = one_rule m.config.role m.config.number m.events deed (Err (cause.Supervisor v)) (Ok tt) x.1 y.1 in cc
+    let same = one_rule m.config.role m.config.number m.events deed (Err (why.SupervisorNot v)) (Ok tt) x.1 y.1 in cc
 one_why m deed (why.SupervisorNot v) why.Ready x y =
     let same =
-    one_rule m.config.role m.config.number m.events deed (Err (cause.Supervisor v)) (Ok tt) x.1 y.allowed in cc
+    one_rule m.config.role m.config.number m.events deed (Err (why.SupervisorNot v)) (Ok tt) x.1 y.allowed in cc
 one_why m deed (why.BoothNot v) why.Stopped x y = absurd (clash (has_stopped m) y x.0)
 one_why m deed (why.BoothNot v) (why.SupervisorNot w) x y =
     let same =
-    one_rule m.config.role m.config.number m.events deed (Err (cause.Booth v)) (Err (cause.Supervisor w)) x.1 y.1 in cc
+    one_rule m.config.role m.config.number m.events deed (Err (why.BoothNot v)) (Err (why.SupervisorNot w)) x.1 y.1 in cc
 one_why m deed (why.BoothNot v) (why.BoothNot w) x y =
     let same =
-    one_rule m.config.role m.config.number m.events deed (Err (cause.Booth v)) (Err (cause.Booth w)) x.1 y.1 in cc
+    one_rule m.config.role m.config.number m.events deed (Err (why.BoothNot v)) (Err (why.BoothNot w)) x.1 y.1 in cc
 one_why m deed (why.BoothNot v) why.Full x y =
-    let same = one_rule m.config.role m.config.number m.events deed (Err (cause.Booth v)) (Ok tt) x.1 y.1 in cc
+    let same = one_rule m.config.role m.config.number m.events deed (Err (why.BoothNot v)) (Ok tt) x.1 y.1 in cc
 one_why m deed (why.BoothNot v) why.StampSpent x y =
-    let same = one_rule m.config.role m.config.number m.events deed (Err (cause.Booth v)) (Ok tt) x.1 y.1 in cc
+    let same = one_rule m.config.role m.config.number m.events deed (Err (why.BoothNot v)) (Ok tt) x.1 y.1 in cc
 one_why m deed (why.BoothNot v) why.Spent x y =
-    let same = one_rule m.config.role m.config.number m.events deed (Err (cause.Booth v)) (Ok tt) x.1 y.1 in cc
+    let same = one_rule m.config.role m.config.number m.events deed (Err (why.BoothNot v)) (Ok tt) x.1 y.1 in cc
 one_why m deed (why.BoothNot v) why.Ready x y =
-    let same = one_rule m.config.role m.config.number m.events deed (Err (cause.Booth v)) (Ok tt) x.1 y.allowed in cc
+    let same = one_rule m.config.role m.config.number m.events deed (Err (why.BoothNot v)) (Ok tt) x.1 y.allowed in cc
 one_why m deed why.Full why.Stopped x y = absurd (clash (has_stopped m) y x.0)
 one_why m deed why.Full (why.SupervisorNot w) x y =
-    let same = one_rule m.config.role m.config.number m.events deed (Ok tt) (Err (cause.Supervisor w)) x.1 y.1 in cc
+    let same = one_rule m.config.role m.config.number m.events deed (Ok tt) (Err (why.SupervisorNot w)) x.1 y.1 in cc
 one_why m deed why.Full (why.BoothNot w) x y =
-    let same = one_rule m.config.role m.config.number m.events deed (Ok tt) (Err (cause.Booth w)) x.1 y.1 in cc
+    let same = one_rule m.config.role m.config.number m.events deed (Ok tt) (Err (why.BoothNot w)) x.1 y.1 in cc
 one_why m deed why.Full why.Full x y = refl
 one_why m deed why.Full why.StampSpent x y = absurd (let full = x.2 in let room = y.2 in omega arith)
 one_why m deed why.Full why.Spent x y = absurd (let full = x.2 in let room = y.2 in omega arith)
 one_why m deed why.Full why.Ready x y = absurd (let full = x.2 in let room = y.room in omega arith)
 one_why m deed why.StampSpent why.Stopped x y = absurd (clash (has_stopped m) y x.0)
 one_why m deed why.StampSpent (why.SupervisorNot w) x y =
-    let same = one_rule m.config.role m.config.number m.events deed (Ok tt) (Err (cause.Supervisor w)) x.1 y.1 in cc
+    let same = one_rule m.config.role m.config.number m.events deed (Ok tt) (Err (why.SupervisorNot w)) x.1 y.1 in cc
 one_why m deed why.StampSpent (why.BoothNot w) x y =
-    let same = one_rule m.config.role m.config.number m.events deed (Ok tt) (Err (cause.Booth w)) x.1 y.1 in cc
+    let same = one_rule m.config.role m.config.number m.events deed (Ok tt) (Err (why.BoothNot w)) x.1 y.1 in cc
 one_why m deed why.StampSpent why.Full x y = absurd (let full = y.2 in let room = x.2 in omega arith)
 one_why m deed why.StampSpent why.StampSpent x y = refl
 one_why m deed why.StampSpent why.Spent x y = absurd (y.3 x.3)
 one_why m deed why.StampSpent why.Ready x y = absurd (y.stamp x.3)
 one_why m deed why.Spent why.Stopped x y = absurd (clash (has_stopped m) y x.0)
 one_why m deed why.Spent (why.SupervisorNot w) x y =
-    let same = one_rule m.config.role m.config.number m.events deed (Ok tt) (Err (cause.Supervisor w)) x.1 y.1 in cc
+    let same = one_rule m.config.role m.config.number m.events deed (Ok tt) (Err (why.SupervisorNot w)) x.1 y.1 in cc
 one_why m deed why.Spent (why.BoothNot w) x y =
-    let same = one_rule m.config.role m.config.number m.events deed (Ok tt) (Err (cause.Booth w)) x.1 y.1 in cc
+    let same = one_rule m.config.role m.config.number m.events deed (Ok tt) (Err (why.BoothNot w)) x.1 y.1 in cc
 one_why m deed why.Spent why.Full x y = absurd (let full = y.2 in let room = x.2 in omega arith)
 one_why m deed why.Spent why.StampSpent x y = absurd (x.3 y.3)
 one_why m deed why.Spent why.Spent x y = refl
@@ -124,9 +122,9 @@ one_why m deed why.Spent why.Ready x y = absurd (let spent = x.4 in let unspent 
 one_why m deed why.Ready why.Stopped x y = absurd (clash (has_stopped m) y x.going)
 one_why m deed why.Ready (why.SupervisorNot w) x y =
     let same =
-    one_rule m.config.role m.config.number m.events deed (Ok tt) (Err (cause.Supervisor w)) x.allowed y.1 in cc
+    one_rule m.config.role m.config.number m.events deed (Ok tt) (Err (why.SupervisorNot w)) x.allowed y.1 in cc
 one_why m deed why.Ready (why.BoothNot w) x y =
-    let same = one_rule m.config.role m.config.number m.events deed (Ok tt) (Err (cause.Booth w)) x.allowed y.1 in cc
+    let same = one_rule m.config.role m.config.number m.events deed (Ok tt) (Err (why.BoothNot w)) x.allowed y.1 in cc
 one_why m deed why.Ready why.Full x y = absurd (let full = y.2 in let room = x.room in omega arith)
 one_why m deed why.Ready why.StampSpent x y = absurd (x.stamp y.3)
 one_why m deed why.Ready why.Spent x y = absurd (let spent = y.4 in let unspent = x.unspent in omega arith)

@@ -1,10 +1,10 @@
 -- The machines of a script play it in one way.
 use mathlib.Core.Path.{fun_ext}
-use Rattle.std.proofs.Common.{◌≡◌, ◌∙◌, ℕ, ◌<◌, Bool, false, ◌||◌, List, [], length, get_or, Option}
-use Rattle.std.proofs.Common.{Some, None, sym, subst, ap, arith}
+use Rattle.std.proofs.Common.{◌≡◌, ◌∙◌, ℕ, Bool, ◌||◌, List, length, get_or, Option}
+use Rattle.std.proofs.Common.{Some, None, sym, ap, arith}
 use Rattle.std.specs.Prelude.{slice_get}
 use Rattle.std.proofs.Math.Bool.{or-false}
-use Rattle.std.proofs.lemmas.List.{same_lists, get_or-map, length-map}
+use Rattle.std.proofs.lemmas.List.{same_lists, get_or-map}
 use Rattle.std.proofs.lemmas.Option.{slice_get-get_or}
 use Rattle.entry_format.specs.Nodes.{node_of_sealed}
 use Rattle.entry_format.specs.SealedEntry.{SealedEntry}
@@ -12,10 +12,10 @@ use Rattle.entry_order.specs.declared.event.Event.{Event}
 use Rattle.entry_order.specs.World.{Machine, World, start, play}
 use Rattle.election_script.specs.declared.script.Cast0.{Cast0}
 use Rattle.election_script.specs.declared.script.Script.{Script}
-use Rattle.polling_world.specs.Configs.{Config, IsOf, config_of}
+use Rattle.polling_world.specs.Configs.{Config, IsOf, config_of, script_configs}
 use Rattle.polling_world.specs.Machines.{MachineState, is_reached}
 use Rattle.polling_world.specs.Playing.{AreOf, IsPlayed}
-use Rattle.polling_world.specs.Worlds.{TellsNext, machine_of, world_of, configs_of}
+use Rattle.polling_world.specs.Worlds.{machine_of, world_of}
 use Rattle.polling_world.proofs.NextTold.{tells_same}
 
 -- a script gives each machine one configuration
@@ -60,33 +60,12 @@ same_machines script ms ns p q worlds =
     ∙ get_or-map machine_of ns k d (machine_of d) (omega arith) in
     same_machine m n config (p.no_stop k m at) (q.no_stop k n there) same)
 
--- the configurations of a script's machines are the script's
-same_configs : (script : Script) (ms ns : List MachineState) → AreOf script ms → AreOf script ns
-    → configs_of ms ≡ configs_of ns
-same_configs script ms ns p q =
-    let made_of : MachineState → Config = λ (m : MachineState). m.config in
-    let long : length (configs_of ms) ≡ length (configs_of ns) =
-    length-map ms made_of ∙ p.count ∙ sym q.count ∙ sym (length-map ns made_of) in
-    same_lists (configs_of ms) (configs_of ns) long (λ k e below.
-    let d : MachineState = record { config = e; stop = None; marked = false; events = [] } in
-    let within : k < length ms = omega (arith, length-map ms made_of) in
-    let also : k < length ns = omega (arith, length-map ns made_of) in
-    let m : MachineState = get_or ms k d in
-    let n : MachineState = get_or ns k d in
-    let at : slice_get ms k ≡ Some m = slice_get-get_or ms k d within in
-    let there : slice_get ns k ≡ Some n = slice_get-get_or ns k d also in
-    get_or-map made_of ms k d e within
-    ∙ same_config script m.config n.config (p.number k m at ∙ sym (q.number k n there)) (p.config k m at)
-    (q.config k n there)
-    ∙ sym (get_or-map made_of ns k d e also))
-
 pub one_play : (script : Script) (ms ns : List MachineState) → IsPlayed script ms → IsPlayed script ns → ms ≡ ns
 one_play script ms ns p q =
-    let configs : configs_of ms ≡ configs_of ns = same_configs script ms ns p.are_of q.are_of in
-    let P : List Config → Type 0 = λ cs. TellsNext cs q.next in
-    let tells : TellsNext (configs_of ms) q.next = subst P (sym configs) q.tells in
-    let next : p.next ≡ q.next = fun_ext (λ (m : ℕ). fun_ext (λ (h : List (Event SealedEntry)).
-    tells_same (configs_of ms) p.next q.next p.tells tells m h)) in
+    let (next, tells, played) = p.played in
+    let (other, also, again) = q.played in
+    let same : next ≡ other = fun_ext (λ (m : ℕ). fun_ext (λ (h : List (Event SealedEntry)).
+    tells_same (script_configs script) next other tells also m h)) in
     same_machines script ms ns p.are_of q.are_of
-    (p.played
-    ∙ ap (λ f. play node_of_sealed f script.log (start (length script.machines)) script.steps) next ∙ sym q.played)
+    (played
+    ∙ ap (λ f. play node_of_sealed f script.log (start (length script.machines)) script.steps) same ∙ sym again)

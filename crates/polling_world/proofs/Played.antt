@@ -14,12 +14,13 @@ use Rattle.entry_order.specs.World.{Machine, World, start, happens, play}
 use Rattle.election_script.specs.declared.script.Script.{Script}
 use Rattle.election_script.specs.declared.script.Cast0.{Cast0}
 use Rattle.election_script.specs.Lawful.{IsStep, IsLawful}
-use Rattle.polling_world.specs.Configs.{Config, config_of}
+use Rattle.polling_world.specs.Configs.{Config, config_of, script_configs}
 use Rattle.polling_world.specs.Machines.{MachineState}
 use Rattle.polling_world.specs.Playing.{AreOf, IsPlayed}
 use Rattle.polling_world.specs.Steps.{IsStepOf}
 use Rattle.polling_world.specs.Worlds.{machine_of, world_of, configs_of, stops_of, HaveLog, AreFresh, TellsNext}
 use Rattle.polling_world.proofs.NextTold.{next_of, tells_next}
+use Rattle.polling_world.proofs.WorldMaking.{fresh_configs}
 
 -- lists that a function makes one of
 same_by : {X Y : Type 0} (f : X → Y) (x : X) (o : Option X) → option_map f o ≡ Some (f x)
@@ -155,16 +156,17 @@ leads_more script first now new steps i d within stays happened leads next tells
 pub played_whole : (script : Script) (first now : List MachineState) (steps : List Step) (i : ℕ)
     → length steps ≤ i → Stays script first now → Leads script first now (drop i steps) → IsPlayed script now
 played_whole script first now steps i past stays leads =
-    let next : ℕ → List (Event SealedEntry) → Option SealedEntry = next_of (configs_of first) in
-    let tells : TellsNext (configs_of first) next = tells_next (configs_of first) in
+    let next : ℕ → List (Event SealedEntry) → Option SealedEntry = next_of (script_configs script) in
+    let tells : TellsNext (script_configs script) next = tells_next (script_configs script) in
     let P : List Config → Type 0 = λ configs. TellsNext configs next in
     record {
       are_of = are_of script first now stays;
-      next = next;
-      tells = subst P (sym stays.configs) tells;
-      played = ap (λ (ss : List Step). play node_of_sealed next script.log (world_of now) ss)
-          (sym (drop_all i steps past))
-          ∙ leads next tells
-          ∙ ap (λ (w : World SealedEntry). play node_of_sealed next script.log w script.steps)
-          (at_start script first stays.fresh);
+      played = (
+        next,
+        tells,
+        ap (λ (ss : List Step). play node_of_sealed next script.log (world_of now) ss) (sym (drop_all i steps past))
+            ∙ leads next (subst P (sym (fresh_configs script first stays.fresh)) tells)
+            ∙ ap (λ (w : World SealedEntry). play node_of_sealed next script.log w script.steps)
+            (at_start script first stays.fresh),
+      );
     }

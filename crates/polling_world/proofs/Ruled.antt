@@ -1,14 +1,16 @@
 -- The rules of a role.
 use Rattle.std.proofs.Common.{◌≡◌, ℕ, List, [], ◌∷◌, ◌++◌, refl, subst, inl, inr}
-use Rattle.std.specs.Prelude.{Result, IsTrue, ◌↔◌}
+use Rattle.std.specs.Prelude.{Result, Err, IsTrue, ◌↔◌}
 use Rattle.entry_format.specs.declared.deed.Deed.{Deed}
 use Rattle.entry_format.specs.declared.deed.Deed.TheVariants.{Opened, Authorise, Override, Closed, Activate, Commit}
-use Rattle.entry_format.specs.declared.deed.Deed.TheVariants.{Cast, Cancel}
+use Rattle.entry_format.specs.declared.deed.Deed.TheVariants.{Cast, Cancel, Challenge}
 use Rattle.entry_format.specs.declared.entry.Entry.{Entry}
+use Rattle.entry_format.specs.SealedEntry.{SealedEntry}
+use Rattle.entry_order.specs.declared.event.Event.{Event}
 use Rattle.roster.specs.declared.post.Role.{Role}
 use Rattle.roster.specs.declared.post.Role.TheVariants.{Supervisor, Booth}
-use Rattle.deed_history.specs.Refusals.{IsFirstOf}
-use Rattle.election_script.specs.Lawful.{IsDeedOf}
+use Rattle.first_cause.specs.Causes.{IsFirstOf}
+use Rattle.entry_format.specs.Deeds.{IsDeedOf}
 use Rattle.booth_core.specs.Table as booth
 use Rattle.booth_core.specs.Table.{causes_of}
 use Rattle.booth_core.specs.declared.state.BoothNot.{BoothNot}
@@ -19,7 +21,11 @@ use Rattle.booth_core.specs.State as booth_state
 use Rattle.polling_world.specs.declared.rules.Rules.{Rules}
 use Rattle.polling_world.specs.declared.rules.Rules.TheVariants as rules
 use Rattle.polling_world.specs.Kept.{IsDeedFor, StandFor}
-use Rattle.polling_world.specs.Rules.{needs_whole}
+use Rattle.polling_world.specs.declared.left.LeftWhy.{LeftWhy}
+use Rattle.polling_world.specs.declared.left.LeftWhy.TheVariants as left
+use Rattle.polling_world.specs.Machines.{MachineState}
+use Rattle.polling_world.specs.Rules.{needs_whole, RoleRefuses, Refuses}
+use Rattle.polling_world.specs.Waiting.{IsGoing, IsWhy}
 
 -- a deed of the role is one that its rules are for
 pub deed_for : (state : Rules) (role : Role) (owner : ℕ) (entries : List Entry) (deed : Deed) →
@@ -28,6 +34,26 @@ deed_for (rules.Supervisor notes) Supervisor owner entries deed stand is = is
 deed_for (rules.Supervisor notes) Booth owner entries deed stand is = absurd stand
 deed_for (rules.Booth notes) Supervisor owner entries deed stand is = absurd stand
 deed_for (rules.Booth notes) Booth owner entries deed stand is = is
+
+-- a cause that rules give
+abbrev IsOfRules : LeftWhy → Type 0
+IsOfRules (left.SupervisorNot why) = Unit {0}
+IsOfRules (left.BoothNot why) = Unit {0}
+IsOfRules _ = ⊥
+
+of_rules : (role : Role) (owner : ℕ) (h : List (Event SealedEntry)) (deed : Deed) (why : LeftWhy) →
+    RoleRefuses role owner h deed (Err why) → IsOfRules why
+of_rules Supervisor owner h deed (left.SupervisorNot why) refused = tt
+of_rules Supervisor owner h deed _ refused = absurd refused
+of_rules Booth owner h deed (left.BoothNot why) refused = tt
+of_rules Booth owner h deed _ refused = absurd refused
+
+-- where the machine hasn't stopped, a cause that its rules give is the first against the deed
+pub refused_why : (m : MachineState) (deed : Deed) (why : LeftWhy) → IsGoing m →
+    Refuses m.config m.events deed (Err why) → IsWhy m deed why
+refused_why m deed (left.SupervisorNot why) going refused = (going, refused)
+refused_why m deed (left.BoothNot why) going refused = (going, refused)
+refused_why m deed _ going refused = absurd (of_rules m.config.role m.config.number m.events deed _ refused)
 
 -- the fifth and last cause of a row by another fact that holds alike
 fifth_alike : (A B P Q R S : Type 0) (p q r s t : BoothNot) (answer : Result (Unit {0}) BoothNot) → A ↔ B →
@@ -49,13 +75,15 @@ pub same_whole : (A B : Type 0) (owner : ℕ) (entries : List Entry) (deed : Dee
     booth.Refuses owner entries B deed answer
 same_whole A B owner entries Opened answer same first = first
 same_whole A B owner entries (Authorise booth session) answer same first = first
-same_whole A B owner entries (Override session) answer same first = first
+same_whole A B owner entries (Override session how) answer same first = first
 same_whole A B owner entries Closed answer same first = first
 same_whole A B owner entries (Activate session) answer same first = first
 same_whole A B owner entries (Commit session ballot) answer same first = first
 same_whole A B owner entries (Cast session ballot) answer same first =
     fifth_alike A B _ _ _ _ _ _ _ _ _ answer (same refl) first
 same_whole A B owner entries (Cancel session) answer same first = first
+same_whole A B owner entries (Challenge session ballot) answer same first =
+    fifth_alike A B _ _ _ _ _ _ _ _ _ answer (same refl) first
 
 supervisor_row : (before after : supervisor_notes.Notes) (entry : Entry) →
     ((owner : ℕ) (entries : List Entry) → supervisor_state.StandsFor before owner entries →

@@ -3,7 +3,7 @@ use Rattle.std.proofs.Common.{◌≡◌, ◌≢◌, ◌∙◌, ℕ, ◌<◌, inl
 use Rattle.std.proofs.Common.{Some, None, Option, Ok, Err, Bool, true, false, cond, refl, sym, ap, subst, arith}
 use Rattle.std.specs.Prelude.{◌||◌, not, nat_le}
 use Rattle.std.proofs.lemmas.Bool.{leb-true, leb-false}
-use Rattle.deed_history.specs.Refusals.{IsFirstOf}
+use Rattle.first_cause.specs.Causes.{IsFirstOf}
 use Rattle.entry_format.specs.declared.deed.Deed.{Deed}
 use Rattle.entry_format.specs.Nodes.{node_of_sealed}
 use Rattle.entry_format.specs.SealedEntry.{SealedEntry}
@@ -21,8 +21,8 @@ use Rattle.polling_world.specs.declared.acted.Acted.{Acted}
 use Rattle.polling_world.specs.declared.acted.Acted.TheVariants as acted
 use Rattle.polling_world.specs.declared.heard.MachineHeard.{MachineHeard}
 use Rattle.polling_world.specs.declared.heard.MachineHeard.TheVariants as heard
-use Rattle.polling_world.specs.declared.rules.RuleNot.{RuleNot}
-use Rattle.polling_world.specs.declared.rules.RuleNot.TheVariants as cause
+use Rattle.polling_world.specs.declared.left.LeftWhy.{LeftWhy}
+use Rattle.polling_world.specs.declared.left.LeftWhy.TheVariants as left
 use Rattle.polling_world.specs.Acting.{IsActed}
 use Rattle.polling_world.specs.Hearing.{IsHeard, machine_after}
 use Rattle.polling_world.specs.Configs.{Config}
@@ -44,14 +44,14 @@ one_first (c ∷ row) cause (inr h) (inl k) = h.0 k.0
 one_first (c ∷ row) cause (inr h) (inr k) = one_first row cause h.1 k.1
 
 -- where the rules give no cause they don't give one
-refuses_one : (role : Role) (owner : ℕ) (h : List (Event SealedEntry)) (deed : Deed) (why : RuleNot) →
+refuses_one : (role : Role) (owner : ℕ) (h : List (Event SealedEntry)) (deed : Deed) (why : LeftWhy) →
     RoleRefuses role owner h deed (Ok tt) → RoleRefuses role owner h deed (Err why) → ⊥
-refuses_one Supervisor owner h deed (cause.Supervisor why) ok err =
+refuses_one Supervisor owner h deed (left.SupervisorNot why) ok err =
     one_first (supervisor.causes_of owner (entries_in h) deed) why ok err
-refuses_one Supervisor owner h deed (cause.Booth why) ok err = err
-refuses_one Booth owner h deed (cause.Supervisor why) ok err = err
-refuses_one Booth owner h deed (cause.Booth why) ok err =
+refuses_one Supervisor owner h deed _ ok err = err
+refuses_one Booth owner h deed (left.BoothNot why) ok err =
     one_first (booth.causes_of owner (entries_in h) (IsWhole h) deed) why ok err
+refuses_one Booth owner h deed _ ok err = err
 
 not_true : (b : Bool) → not b ≡ true → b ≡ false
 not_true true e = cc
@@ -91,7 +91,7 @@ module _ (config : Config) (h : List (Event SealedEntry)) where
       send_none o a (λ e is. none e (subst (λ (p : Option SealedEntry). IsNextOf config h p) is told))
 
   -- against a cause nothing may be sent
-  refused_not : (deed : Deed) (why : RuleNot) → next_action config h ≡ Some deed → Refuses config h deed (Err why) →
+  refused_not : (deed : Deed) (why : LeftWhy) → next_action config h ≡ Some deed → Refuses config h deed (Err why) →
       (e : SealedEntry) → MaySend config h e → ⊥
   refused_not deed why action refused e may =
       refuses_one config.role config.number h deed why
@@ -112,11 +112,11 @@ act_is m new acted.NoMore o alone spent told h =
 act_is m new (acted.SupervisorNot why) o alone spent told ((deed, action, (going, refused)), same) =
     ap machine_of same
     ∙ sym (next_not m.config m.events o (machine_of m) told
-    (refused_not m.config m.events deed (cause.Supervisor why) action refused))
+    (refused_not m.config m.events deed (left.SupervisorNot why) action refused))
 act_is m new (acted.BoothNot why) o alone spent told ((deed, action, (going, refused)), same) =
     ap machine_of same
     ∙ sym (next_not m.config m.events o (machine_of m) told
-    (refused_not m.config m.events deed (cause.Booth why) action refused))
+    (refused_not m.config m.events deed (left.BoothNot why) action refused))
 act_is m new acted.Full o alone spent told ((deed, action, (going, allowed, full)), same) =
     ap machine_of same
     ∙ sym (next_not m.config m.events o (machine_of m) told (λ e may. let room = may.room in omega (arith, full, room)))

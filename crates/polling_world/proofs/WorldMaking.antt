@@ -1,10 +1,11 @@
 -- The machines of a script before anything happened are a world.
-use Rattle.std.proofs.Common.{◌≡◌, ◌∙◌, ℕ, zero, suc, ◌≤◌, ◌⊎◌, inl, inr, List, [], ◌∷◌, ◌++◌, length, map}
+use Rattle.std.proofs.Common.{◌≡◌, ◌∙◌, ℕ, zero, suc, ◌+◌, ◌≤◌, ◌⊎◌, inl, inr, List, [], ◌∷◌, ◌++◌, length, map}
 use Rattle.std.proofs.Common.{Some, None, refl, sym, ap, subst, arith, drop}
 use Rattle.std.specs.Prelude.{slice_get}
 use Rattle.std.specs.List.{Contains}
 use Rattle.std.proofs.Common.{length-append, add-one}
 use Rattle.std.proofs.lemmas.Option.{slice_get_within}
+use Rattle.std.specs.List.{enumerate_from}
 use Rattle.entry_format.specs.Nodes.{node_of_sealed}
 use Rattle.entry_format.specs.SealedEntry.{SealedEntry}
 use Rattle.entry_order.specs.declared.event.Event.{Event}
@@ -14,12 +15,14 @@ use Rattle.entry_order.specs.World.{history}
 use Rattle.entry_order.proofs.Lists.{Contains-none}
 use Rattle.entry_order.proofs.Orders.{sent_in_cases}
 use Rattle.entry_order.proofs.Histories.{IsLegal-none}
+use Rattle.election_script.specs.declared.script.Cast0.{Cast0}
 use Rattle.election_script.specs.declared.script.Script.{Script}
 use Rattle.election_script.specs.Lawful.{IsLawful}
 use Rattle.lms_sign.specs.Secret.{Secret}
+use Rattle.polling_world.specs.Configs.{Config, config_of, script_configs}
 use Rattle.polling_world.specs.Keys.{key_of, IsKeyOf, roster_of}
 use Rattle.polling_world.specs.Machines.{MachineState, IsFresh}
-use Rattle.polling_world.specs.Worlds.{world_of, AreFresh, IsPlaced, IsWorld}
+use Rattle.polling_world.specs.Worlds.{world_of, configs_of, AreFresh, IsPlaced, IsWorld}
 
 -- what stands first in the rest of a list that was mapped
 pub rest_step : {X Y : Type 0} (f : X → Y) (xs : List X) (n : ℕ) (y : Y) (ys : List Y) →
@@ -125,3 +128,39 @@ all_fresh script ms [] first none = record {
       let within = first.within in omega (arith, past, within);
   each = first.each;
 }
+
+-- what the machines of a part of the script are made of, of which the first is at the place n
+configs_from : (script : Script) (n : ℕ) (casts : List Cast0) (ms : List MachineState) → length ms ≡ length casts →
+    ((k : ℕ) (m : MachineState) → slice_get ms k ≡ Some m →
+    (cast : Cast0) × (slice_get casts k ≡ Some cast) × (m.config ≡ config_of script (n + k) cast)) →
+    configs_of ms ≡ map (λ at. config_of script at.0 at.1) (enumerate_from n casts)
+configs_from script n [] [] count each = refl
+configs_from script n [] (m ∷ ms) count each = absurd (omega arith)
+configs_from script n (cast ∷ casts) [] count each = absurd (omega arith)
+configs_from script n (cast ∷ casts) (m ∷ ms) count each =
+    let first = each zero m refl in
+    let same : cast ≡ first.0 = let at = first.1 in cc in
+    let place : n + zero ≡ n = omega arith in
+    let here : m.config ≡ config_of script n cast =
+    first.2 ∙ ap (λ (k : ℕ). config_of script k first.0) place ∙ ap (config_of script n) (sym same) in
+    let rest : configs_of ms ≡ map (λ at. config_of script at.0 at.1) (enumerate_from (n + 1) casts) =
+    configs_from script (n + 1) casts ms (omega arith)
+    (λ k u stands.
+    let later = each (suc k) u stands in
+    let further : n + suc k ≡ (n + 1) + k = omega arith in
+    (later.0, later.1, later.2 ∙ ap (λ (j : ℕ). config_of script j later.0) further)) in
+    ap (λ (c : Config). c ∷ configs_of ms) here ∙ ap (λ (cs : List Config). config_of script n cast ∷ cs) rest
+
+-- they are made of what the script says
+pub fresh_configs : (script : Script) (ms : List MachineState) → AreFresh script ms →
+    configs_of ms ≡ script_configs script
+fresh_configs script ms fresh =
+    configs_from script 0 script.machines ms fresh.count
+    (λ k m stands.
+    let made = fresh.each k m stands in
+    let place : k ≡ 0 + k = omega arith in (
+      made.0,
+      made.1,
+      ap (λ (u : MachineState). u.config) made.2
+          ∙ ap (λ (j : ℕ). config_of script j made.0) place,
+    ))

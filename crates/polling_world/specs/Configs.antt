@@ -1,5 +1,6 @@
 -- What a machine is made of, which no call changes.
-use Rattle.std.specs.Prelude.{◌≡◌, ℕ, List, slice_get, Some}
+use Rattle.std.specs.Prelude.{◌≡◌, ℕ, List, map, slice_get, Some}
+use Rattle.std.specs.List.{enumerate_from}
 use Rattle.entry_format.specs.declared.deed.Deed.{Deed}
 use Rattle.lms_sign.specs.Secret.{Secret}
 use Rattle.roster.specs.declared.post.Post.{Post}
@@ -8,9 +9,10 @@ use Rattle.election_script.specs.declared.script.Cast0.{Cast0}
 use Rattle.election_script.specs.declared.script.Script.{Script}
 use Rattle.polling_world.specs.Keys.{key_of, roster_of}
 
--- a machine's place in the roster, its name and role, what it is to do in order, its key before it signed anything, the
--- roster, and how many events its log may have
+-- the version in which it makes its entries, its place in the roster, its name and role, what it is to do in order, its
+-- key before it signed anything, the roster, and how many events its log may have
 pub record Config : Type 0 where
+  pub version : ℕ
   pub number : ℕ
   pub name : List ℕ
   pub role : Role
@@ -22,6 +24,7 @@ pub record Config : Type 0 where
 -- what the script gives this machine at this place
 abbrev pub config_of : Script → ℕ → Cast0 → Config
 config_of script number cast = record {
+  version = script.version;
   number = number;
   name = cast.name;
   role = cast.role;
@@ -30,6 +33,10 @@ config_of script number cast = record {
   roster = roster_of script;
   log = script.log;
 }
+
+-- the configurations of a script's machines, in its order
+abbrev pub script_configs : Script → List Config
+script_configs script = map (λ at. config_of script at.0 at.1) (enumerate_from 0 script.machines)
 
 -- it is what the script gives the machine at its place
 abbrev pub IsOf : Script → Config → Type 0

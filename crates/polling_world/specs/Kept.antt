@@ -1,8 +1,8 @@
 -- What the fields of a machine keep that contracts don't see.
 use Rattle.std.specs.Prelude.{◌≡◌, ℕ, ◌+◌, ◌^◌, ◌≤◌, List, length}
-use Rattle.deed_history.specs.Deeds.{IsSupervisorDeed, IsBoothDeed}
 use Rattle.entry_format.specs.declared.deed.Deed.{Deed}
 use Rattle.entry_format.specs.declared.entry.Entry.{Entry}
+use Rattle.entry_format.specs.Deeds.{IsDeedOf}
 use Rattle.entry_order.specs.History.{sent}
 use Rattle.roster.specs.declared.post.Role.{Role}
 use Rattle.roster.specs.declared.post.Role.TheVariants.{Supervisor, Booth}
@@ -28,8 +28,8 @@ spare_of (rules.Booth notes) = notes.spare
 
 -- the deed is one of the role that the rules are for
 abbrev pub IsDeedFor : Rules → Deed → Type 0
-IsDeedFor (rules.Supervisor notes) deed = IsSupervisorDeed deed
-IsDeedFor (rules.Booth notes) deed = IsBoothDeed deed
+IsDeedFor (rules.Supervisor notes) deed = IsDeedOf Supervisor deed
+IsDeedFor (rules.Booth notes) deed = IsDeedOf Booth deed
 
 -- the machine is one, its election is the roster's, its key signs next with the number of its next entry, its rules
 -- have noted what it holds and have room for what its log has room for, and its log is small enough for an entry to

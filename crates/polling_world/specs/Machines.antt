@@ -1,6 +1,8 @@
 -- A machine, as contracts see it.
 use Rattle.std.specs.Prelude.{◌≡◌, ℕ, ◌<◌, ◌≤◌, nat_le, Bool, false, ◌||◌, List, [], ◌∷◌, ◌++◌, length, All}
 use Rattle.std.specs.Prelude.{Option, Some, None, slice_get}
+use Rattle.entry_format.specs.Deeds.{IsDeedOf}
+use Rattle.entry_format.specs.EntryText.{IsVersion, IsDeedIn}
 use Rattle.entry_format.specs.Nodes.{node_of_sealed}
 use Rattle.entry_format.specs.SealedEntry.{SealedEntry}
 use Rattle.entry_format.specs.Unsealing.{key_at}
@@ -11,7 +13,6 @@ use Rattle.lms_sign.specs.Secret.{public_of}
 use Rattle.roster.specs.Machines.{HaveText}
 use Rattle.election_script.specs.declared.script.Cast0.{Cast0}
 use Rattle.election_script.specs.declared.script.Script.{Script}
-use Rattle.election_script.specs.Lawful.{IsDeedOf}
 use Rattle.polling_world.specs.Configs.{Config, config_of}
 use Rattle.polling_world.specs.Sending.{AreMade}
 
@@ -51,13 +52,15 @@ abbrev pub IsWithinStop : Option ℕ → ℕ → Type 0
 IsWithinStop None count = Unit {0}
 IsWithinStop (Some stop) count = count ≤ stop
 
--- what is true of every machine: the roster has its key at its number, its actions are deeds of its role, its history
--- is legal and within its log, each entry that it sent could be sent then, and no event came after its stop
+-- what is true of every machine: its version is one, the roster has its key at its number, its actions are deeds of its
+-- role that the version has, its history is legal and within its log, each entry that it sent could be sent then, and no
+-- event came after its stop
 pub record IsMachine (m : MachineState) : Type 0 where
+  pub version : IsVersion m.config.version
   pub roster : HaveText m.config.roster
   pub place : m.config.number < length m.config.roster
   pub public : public_of m.config.key ≡ key_at m.config.roster m.config.number
-  pub actions : All (IsDeedOf m.config.role) m.config.actions
+  pub actions : All (λ deed. IsDeedOf m.config.role deed × IsDeedIn m.config.version deed) m.config.actions
   pub legal : IsLegal node_of_sealed m.config.number m.events
   pub within : length m.events ≤ m.config.log
   pub sent : AreMade m.config m.events

@@ -23,6 +23,7 @@ election_of machines = sha256 (text_of (roster_tree machines))
 -- what the machine says
 abbrev pub entry_with : Config → ℕ → ℕ → List (List ℕ) → Deed → Entry
 entry_with config k stamp names deed = record {
+  version = config.version;
   election = election_of config.roster;
   maker = config.number;
   number = k;

@@ -2,7 +2,7 @@
 use Rattle.std.specs.Prelude.{ℕ, Bool, true, false, List, map, Result, Ok, Err}
 use Rattle.entry_format.specs.declared.deed.Deed.{Deed}
 use Rattle.entry_format.specs.declared.deed.Deed.TheVariants.{Opened, Authorise, Override, Closed, Activate, Commit}
-use Rattle.entry_format.specs.declared.deed.Deed.TheVariants.{Cast, Cancel}
+use Rattle.entry_format.specs.declared.deed.Deed.TheVariants.{Cast, Cancel, Challenge}
 use Rattle.entry_format.specs.declared.entry.Entry.{Entry}
 use Rattle.entry_format.specs.Nodes.{node_of_sealed}
 use Rattle.entry_format.specs.SealedEntry.{SealedEntry}
@@ -13,8 +13,8 @@ use Rattle.roster.specs.declared.post.Role.{Role}
 use Rattle.roster.specs.declared.post.Role.TheVariants.{Supervisor, Booth}
 use Rattle.supervisor_core.specs.Table as supervisor
 use Rattle.booth_core.specs.Table as booth
-use Rattle.polling_world.specs.declared.rules.RuleNot.{RuleNot}
-use Rattle.polling_world.specs.declared.rules.RuleNot.TheVariants as cause
+use Rattle.polling_world.specs.declared.left.LeftWhy.{LeftWhy}
+use Rattle.polling_world.specs.declared.left.LeftWhy.TheVariants.{SupervisorNot, BoothNot}
 use Rattle.polling_world.specs.Configs.{Config}
 
 -- what a machine with this history holds, without signatures
@@ -25,35 +25,36 @@ entries_in h = map (λ sealed. sealed.entry) (held h)
 abbrev pub IsWhole : List (Event SealedEntry) → Type 0
 IsWhole h = NamesOnlyHeld node_of_sealed (held h)
 
--- a Cast alone is asked whether the log is whole
+-- a Cast and a Challenge alone are asked whether the log is whole
 abbrev pub needs_whole : Deed → Bool
 needs_whole Opened = false
 needs_whole (Authorise booth session) = false
-needs_whole (Override session) = false
+needs_whole (Override session how) = false
 needs_whole Closed = false
 needs_whole (Activate session) = false
 needs_whole (Commit session ballot) = false
 needs_whole (Cast session ballot) = true
 needs_whole (Cancel session) = false
+needs_whole (Challenge session ballot) = true
 
--- what a supervisor's rules answer, and what a booth's do
-abbrev pub SupervisorRefuses : ℕ → List Entry → Deed → Result (Unit {0}) RuleNot → Type 0
+-- what a supervisor's rules answer, and what a booth's do; they give no other cause
+abbrev pub SupervisorRefuses : ℕ → List Entry → Deed → Result (Unit {0}) LeftWhy → Type 0
 SupervisorRefuses owner entries deed (Ok done) = supervisor.Refuses owner entries deed (Ok done)
-SupervisorRefuses owner entries deed (Err (cause.Supervisor why)) = supervisor.Refuses owner entries deed (Err why)
-SupervisorRefuses owner entries deed (Err (cause.Booth why)) = ⊥
+SupervisorRefuses owner entries deed (Err (SupervisorNot why)) = supervisor.Refuses owner entries deed (Err why)
+SupervisorRefuses owner entries deed (Err _) = ⊥
 
-abbrev pub BoothRefuses : ℕ → List Entry → Type 0 → Deed → Result (Unit {0}) RuleNot → Type 0
+abbrev pub BoothRefuses : ℕ → List Entry → Type 0 → Deed → Result (Unit {0}) LeftWhy → Type 0
 BoothRefuses owner entries IsWhole deed (Ok done) = booth.Refuses owner entries IsWhole deed (Ok done)
-BoothRefuses owner entries IsWhole deed (Err (cause.Supervisor why)) = ⊥
-BoothRefuses owner entries IsWhole deed (Err (cause.Booth why)) = booth.Refuses owner entries IsWhole deed (Err why)
+BoothRefuses owner entries IsWhole deed (Err (BoothNot why)) = booth.Refuses owner entries IsWhole deed (Err why)
+BoothRefuses owner entries IsWhole deed (Err _) = ⊥
 
 -- what the rules of the role answer to the deed: the first cause against it, or none
-abbrev pub RoleRefuses : Role → ℕ → List (Event SealedEntry) → Deed → Result (Unit {0}) RuleNot → Type 0
+abbrev pub RoleRefuses : Role → ℕ → List (Event SealedEntry) → Deed → Result (Unit {0}) LeftWhy → Type 0
 RoleRefuses Supervisor owner h deed answer = SupervisorRefuses owner (entries_in h) deed answer
 RoleRefuses Booth owner h deed answer = BoothRefuses owner (entries_in h) (IsWhole h) deed answer
 
 -- what they answer to the machine
-abbrev pub Refuses : Config → List (Event SealedEntry) → Deed → Result (Unit {0}) RuleNot → Type 0
+abbrev pub Refuses : Config → List (Event SealedEntry) → Deed → Result (Unit {0}) LeftWhy → Type 0
 Refuses config h deed answer = RoleRefuses config.role config.number h deed answer
 
 -- they give no cause

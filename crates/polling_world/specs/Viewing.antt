@@ -6,6 +6,7 @@ use Rattle.polling_world.specs.Machines.{MachineState}
 abbrev pub state_of : Inside → MachineState
 state_of m = record {
   config = record {
+    version = m.version;
     number = m.log.owner;
     name = m.name;
     role = m.role;

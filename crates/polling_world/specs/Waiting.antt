@@ -4,7 +4,6 @@ use Rattle.entry_format.specs.declared.deed.Deed.{Deed}
 use Rattle.entry_format.specs.Nodes.{node_of_sealed}
 use Rattle.entry_order.specs.History.{held, sent}
 use Rattle.entangled_log.specs.Nexts.{HasGreatestStamp}
-use Rattle.polling_world.specs.declared.rules.RuleNot.TheVariants as cause
 use Rattle.polling_world.specs.declared.left.Left.{Left}
 use Rattle.polling_world.specs.declared.left.LeftWhy.{LeftWhy}
 use Rattle.polling_world.specs.declared.left.LeftWhy.TheVariants.{Stopped, SupervisorNot, BoothNot, Full, StampSpent}
@@ -36,8 +35,8 @@ pub record IsReady (m : MachineState) (deed : Deed) : Type 0 where
 -- the first cause against the deed, in this order, or `Ready` where none applies
 abbrev pub IsWhy : MachineState → Deed → LeftWhy → Type 0
 IsWhy m deed Stopped = IsTrue (has_stopped m)
-IsWhy m deed (SupervisorNot why) = IsGoing m × Refuses m.config m.events deed (Err (cause.Supervisor why))
-IsWhy m deed (BoothNot why) = IsGoing m × Refuses m.config m.events deed (Err (cause.Booth why))
+IsWhy m deed (SupervisorNot why) = IsGoing m × Refuses m.config m.events deed (Err (SupervisorNot why))
+IsWhy m deed (BoothNot why) = IsGoing m × Refuses m.config m.events deed (Err (BoothNot why))
 IsWhy m deed Full = IsGoing m × MayDo m.config m.events deed × (length m.events ≡ m.config.log)
 IsWhy m deed StampSpent = IsGoing m × MayDo m.config m.events deed × HasRoom m × IsStampSpent m
 IsWhy m deed Spent =

@@ -4,7 +4,9 @@ ghost use Rattle.entry_format.specs.Nodes.{node_of_sealed};
 ghost use Rattle.entry_order.specs.declared.event.Event.TheVariants.{Sent};
 ghost use Rattle.entry_order.specs.History.{held, sent};
 ghost use Rattle.entry_order.specs.Naming.{IsBorneIn};
-ghost use Rattle.election_script.specs.Lawful.{IsDeedOf, IsLawful};
+ghost use Rattle.entry_format.specs.Deeds.{IsDeedOf};
+ghost use Rattle.entry_format.specs.EntryText.{IsDeedIn};
+ghost use Rattle.election_script.specs.Lawful.{IsLawful};
 ghost use Rattle.polling_world.specs.Acting.{IsActed};
 ghost use Rattle.polling_world.specs.Hearing.{IsHeard, machine_after};
 ghost use Rattle.polling_world.specs.Keys.{IsKeyOf, roster_of};
@@ -17,7 +19,7 @@ use crate::acted::Acted;
 use crate::heard::MachineHeard;
 use crate::left::{Left, LeftWhy};
 use crate::parts::{copies_of, hear_into, is_reached, note_last};
-use crate::rules::{RuleNot, Rules};
+use crate::rules::Rules;
 use election_script::Script;
 use entangled_log::{Heard, Log, NextFault};
 use entry_format::{Deed, Entry, Names, SealFault, Sealed, seal};
@@ -33,6 +35,8 @@ pub type Memory = AllocError;
 /// printed, so that its key isn't printed by accident.
 #[derive(Drop)]
 pub struct Machine {
+    /// The version in which it makes its entries.
+    version: u32,
     name: Name,
     role: Role,
     /// What it is to do, in order.
@@ -93,6 +97,7 @@ impl Machine {
         let log = Log::make(alloc, at, capacity)?;
         let rules = Rules::make(alloc, cast.role, at, capacity)?;
         Ok(Machine {
+            version: script.version,
             name: Name::new(name),
             role: cast.role,
             actions,
@@ -159,6 +164,23 @@ impl Machine {
         }
     }
 
+    // Whether `hear` would take the entry.
+    pub(crate) fn takes(&self, s: &Sealed) -> bool
+        ensures { (answer : MachineHeard) × IsHeard self.now s.now answer
+            × (IsTrue result ↔ (answer ≡ MachineHeard.Taken)) }
+    {
+        if self.has_stopped() {
+            return false;
+        }
+        if s.entry().maker == self.log.owner() {
+            return false;
+        }
+        if self.holds(s.digest()) {
+            return false;
+        }
+        self.log.events().len() < self.capacity
+    }
+
     /// Stops the machine: from now on it sends and hears nothing.
     pub fn stop(&mut self)
         ensures { self.new ≡ record self.old { marked = true } }
@@ -210,7 +232,8 @@ impl Machine {
     // The action that it does next, if one is left.
     fn next_action(&self) -> Option<Deed>
         ensures action { result ≡ next_action self.now.config self.now.events }
-        ensures deed { IfSome result (λ deed. IsDeedOf self.now.config.role deed) }
+        ensures deed { IfSome result (λ deed.
+            IsDeedOf self.now.config.role deed × IsDeedIn self.now.config.version deed) }
     {
         self.actions.get(self.key.next() as usize).copied()
     }
@@ -232,8 +255,7 @@ impl Machine {
         }
         match self.rules.may(deed, &self.log) {
             Ok(()) => {}
-            Err(RuleNot::Supervisor(why)) => return LeftWhy::SupervisorNot(why),
-            Err(RuleNot::Booth(why)) => return LeftWhy::BoothNot(why),
+            Err(why) => return why,
         }
         if self.log.events().len() >= self.capacity {
             return LeftWhy::Full;
@@ -249,7 +271,8 @@ impl Machine {
 
     // The entry of the deed, signed.
     fn next_entry(&self, alloc: Global, deed: Deed) -> Result<Sealed, Memory>
-        requires { IsReady self.now deed }
+        requires deed { IsDeedIn self.now.config.version deed }
+        requires ready { IsReady self.now deed }
         ensures { IfOk result (λ e. e ≡ next_entry self.now.config self.now.events deed) }
     {
         let next = match self.log.next(alloc) {
@@ -258,11 +281,12 @@ impl Machine {
             Err(NextFault::Memory) => return Err(AllocError),
         };
         let entry = Entry {
+            version: self.version,
             election: self.election,
             maker: self.log.owner(),
             number: next.number,
             stamp: next.stamp,
-            names: Names::new(next.names),
+            names: Names::from_vec(next.names),
             deed,
         };
         match seal(alloc, &self.roster, &self.key, entry) {

@@ -6,23 +6,18 @@ ghost use Rattle.entry_order.specs.declared.event.Event.{Event};
 ghost use Rattle.roster.specs.declared.post.Role.{Role};
 ghost use Rattle.booth_core.specs.State.{StandsFor};
 ghost use Rattle.booth_core.specs.Table.{Refuses};
-ghost use Rattle.deed_history.specs.Deeds.{IsBoothDeed};
+ghost use Rattle.entry_format.specs.Deeds.{IsDeedOf};
+ghost use Rattle.roster.specs.declared.post.Role.TheVariants.{Booth};
 ghost use Rattle.polling_world.specs.Kept.{IsDeedFor, StandFor, spare_of};
 ghost use Rattle.polling_world.specs.Rules.{IsWhole, RoleRefuses, entries_in, needs_whole};
 
+use crate::left::LeftWhy;
 use booth_core::{BoothNot, BoothState};
 use entangled_log::Log;
 use entry_format::{Deed, Entry, Sealed};
 use roster::Role;
 use std::alloc::{AllocError, Global};
-use supervisor_core::{SupervisorNot, SupervisorState};
-
-/// Why the rules of a machine's role refuse a deed.
-#[derive(Clone, Copy, Debug, PartialEq, Eq)]
-pub enum RuleNot {
-    Supervisor(SupervisorNot),
-    Booth(BoothNot),
-}
+use supervisor_core::SupervisorState;
 
 /// What the rules of a machine's role ask of the entries that it holds.
 #[derive(Debug, Drop)]
@@ -64,23 +59,25 @@ impl Rules {
     }
 
     /// Whether the machine whose log this is may do the deed now, which is one of its role. Only
-    /// for a Cast the log is asked whether it is whole. It takes no memory.
-    pub fn may(&self, deed: &Deed, log: &Log<Sealed>) -> Result<(), RuleNot>
+    /// for a Cast or a Challenge the log is asked whether it is whole. It takes no memory.
+    pub fn may(&self, deed: &Deed, log: &Log<Sealed>) -> Result<(), LeftWhy>
         requires { IsDeedFor self.now deed.now }
         ensures { (role : Role) (owner : ℕ) →
             StandFor self.now role owner (entries_in log.now.events) →
             RoleRefuses role owner log.now.events deed.now result }
     {
         match self {
-            Rules::Supervisor(state) => state.may(deed).map_err(|why| RuleNot::Supervisor(why)),
-            Rules::Booth(state) => booth_may(state, deed, log).map_err(|why| RuleNot::Booth(why)),
+            Rules::Supervisor(state) => state.may(deed).map_err(|why| LeftWhy::SupervisorNot(why)),
+            Rules::Booth(state) => booth_may(state, deed, log).map_err(|why| LeftWhy::BoothNot(
+                why,
+            )),
         }
     }
 }
 
 /// Whether the booth whose log this is may do the deed now.
 fn booth_may(state: &BoothState, deed: &Deed, log: &Log<Sealed>) -> Result<(), BoothNot>
-    requires { IsBoothDeed deed.now }
+    requires { IsDeedOf Booth deed.now }
     ensures { (owner : ℕ) → StandsFor state.now owner (entries_in log.now.events) →
         Refuses owner (entries_in log.now.events) (IsWhole log.now.events) deed.now result }
 {
@@ -92,5 +89,5 @@ fn booth_may(state: &BoothState, deed: &Deed, log: &Log<Sealed>) -> Result<(), B
 fn needs_whole(deed: &Deed) -> bool
     ensures { result ≡ needs_whole deed.now }
 {
-    matches!(deed, Deed::Cast { .. })
+    matches!(deed, Deed::Cast { .. } | Deed::Challenge { .. })
 }

@@ -64,6 +64,9 @@ fn hear_at(
     let Some(entry) = machines[from].log().sent_at(number) else {
         return Ok(Stepped::Nothing);
     };
+    if !machines[at].takes(entry) {
+        return Ok(Stepped::Nothing);
+    }
     let entry = entry.copy(alloc)?;
     Ok(give(machines, at, entry))
 }

@@ -1,12 +1,25 @@
-//! Machines of a script of one session, and what stands against their actions.
+//! Machines and plays of small scripts. What they come to was computed by another program.
 ghost use Rattle.std.specs.Prelude.{IfOk};
 ghost use Rattle.election_script.specs.Lawful.{IsLawful};
 
 use super::*;
-use booth_core::BoothNot;
 use election_script::{Script, read};
-use std::alloc::Global;
+use entangled_log::Event;
+use std::alloc::{AllocError, Global};
 use std::test::Fail;
+
+/// The script of these lines in this version, with logs of so many events.
+pub(crate) fn script_of(alloc: Global, version: u32, log: u32, lines: &str) -> Result<Script, Fail>
+    ensures { IfOk result IsLawful }
+{
+    let text = format!(in alloc;
+        "version {version}\nseed 0102\nkey w4 h5\nlog {log}\nlink 64\n{lines}"
+    )?;
+    match read(alloc, text.as_bytes()) {
+        Ok(script) => Ok(script),
+        Err(_) => Err(Fail::from("the script is read")),
+    }
+}
 
 /// A supervisor and a booth that do one session.
 const SESSION: &str = "machine sv supervisor\nmachine b1 booth\n\
@@ -14,24 +27,9 @@ const SESSION: &str = "machine sv supervisor\nmachine b1 booth\n\
     do b1 commit 1 0707070707070707070707070707070707070707070707070707070707070707\n\
     do b1 cast 1 0707070707070707070707070707070707070707070707070707070707070707\n";
 
-const SUPERVISOR: u32 = 0;
-
-const BOOTH: u32 = 1;
-
-/// The script of these lines, with logs of so many events.
-pub(crate) fn script_of(alloc: Global, log: u32, lines: &str) -> Result<Script, Fail>
-    ensures { IfOk result IsLawful }
-{
-    let text = format!(in alloc; "seed 0102\nkey w4 h5\nlog {log}\nlink 64\n{lines}")?;
-    match read(alloc, text.as_bytes()) {
-        Ok(script) => Ok(script),
-        Err(_) => Err(Fail::from("the script is read")),
-    }
-}
-
 /// The session's machine at the place, with a log of so many events.
 fn machine_of(alloc: Global, log: u32, at: u32, stop_at: Option<u32>) -> Result<Machine, Fail> {
-    let script = script_of(alloc, log, SESSION)?;
+    let script = script_of(alloc, 1, log, SESSION)?;
     if at as usize >= script.machines.as_slice().len() {
         return Err(Fail::from("the script has the machine"));
     }
@@ -41,53 +39,182 @@ fn machine_of(alloc: Global, log: u32, at: u32, stop_at: Option<u32>) -> Result<
     Ok(Machine::make(alloc, &script, &roster, at, key, stop_at)?)
 }
 
+/// The word of what became of an action.
+fn word_of(acted: &Acted) -> &'static str {
+    match acted {
+        Acted::Did { .. } => "Ready",
+        Acted::Stopped => "Stopped",
+        Acted::NoMore => "NoMore",
+        Acted::SupervisorNot(why) => why.word(),
+        Acted::BoothNot(why) => why.word(),
+        Acted::Full => "Full",
+        Acted::StampSpent => "StampSpent",
+        Acted::Spent => "Spent",
+        Acted::SameDigest => "SameDigest",
+    }
+}
+
+/// The word of what stands against the next action.
+fn left_word(machine: &Machine) -> &'static str {
+    match machine.left() {
+        Some(left) => left.why.word(),
+        None => "NoMore",
+    }
+}
+
+/// How many actions the machine does before it is refused one, and the cause, which is also the one
+/// that it told before.
+fn acts(alloc: Global, machine: &mut Machine) -> Result<(u32, &'static str), AllocError> {
+    for done in 0..6 {
+        let told = left_word(machine);
+        let word = word_of(&machine.act(alloc, 1)?);
+        if word != told {
+            return Ok((done, "another cause was told"));
+        }
+        if word != "Ready" {
+            return Ok((done, word));
+        }
+    }
+    Ok((6, "Ready"))
+}
+
+/// The room in the log, the machine's place and where it stops; how many actions it does by itself,
+/// and the cause against the next.
+const ACTS: &[(u32, u32, Option<u32>, u32, &str)] = &[
+    (64, 0, None, 2, "SessionsLeft"),
+    (64, 1, None, 0, "NotAuthorised"),
+    (1, 0, None, 1, "Full"),
+    (64, 0, Some(1), 1, "Stopped"),
+];
+
 #[test]
-fn a_booth_that_isnt_authorised_does_nothing(rt: HostRuntime) -> Result<(), Fail> {
-    let alloc = rt.alloc();
-    let mut booth = machine_of(alloc, 64, BOOTH, None)?;
-    assert!(rt;
-        matches!(
-            booth.act(alloc, 1)?,
-            Acted::BoothNot(BoothNot::NotAuthorised)
-        )
-    );
-    let unauthorised = Left {
-        place: 0,
-        why: LeftWhy::BoothNot(BoothNot::NotAuthorised),
-    };
-    assert_eq!(rt; booth.left(), Some(unauthorised));
+fn a_machine_acts_until_a_cause_stands_against_it(rt: HostRuntime) -> Result<(), Fail> {
+    for &(log, at, stop_at, done, why) in ACTS {
+        let mut machine = machine_of(rt.alloc(), log, at, stop_at)?;
+        assert_eq!(rt;
+            acts(rt.alloc(), &mut machine)?,
+            (done, why),
+            "{log} {at} {stop_at:?}"
+        );
+    }
     Ok(())
 }
 
-#[test]
-fn a_log_of_one_event_is_full_after_one(rt: HostRuntime) -> Result<(), Fail> {
-    let alloc = rt.alloc();
-    let mut supervisor = machine_of(alloc, 1, SUPERVISOR, None)?;
-    let ready = Left {
-        place: 0,
-        why: LeftWhy::Ready,
-    };
-    assert_eq!(rt; supervisor.left(), Some(ready));
-    assert!(rt; matches!(supervisor.act(alloc, 15)?, Acted::Did { number: 0, .. }));
-    assert!(rt; matches!(supervisor.act(alloc, 1)?, Acted::Full));
-    let full = Left {
-        place: 1,
-        why: LeftWhy::Full,
-    };
-    assert_eq!(rt; supervisor.left(), Some(full));
-    Ok(())
+/// Each machine's name, how many entries it sent, the lengths of the texts that it holds, and why its
+/// next action isn't done.
+fn outcome(alloc: Global, world: &World) -> Result<String, AllocError> {
+    let mut text = String::new(alloc);
+    for machine in &world.machines {
+        let sent = machine.sent_count();
+        text.push_str(machine.name())?;
+        text.push_str(&format!(in alloc; " sent {sent}, holds")?)?;
+        for event in machine.log().events() {
+            let length = text_of(event).len();
+            text.push_str(&format!(in alloc; " {length}")?)?;
+        }
+        text.push_str(", ")?;
+        text.push_str(left_word(machine))?;
+        text.push_str("\n")?;
+    }
+    Ok(text)
 }
 
+/// The text of the event's entry.
+fn text_of(event: &Event<Sealed>) -> &[u8] {
+    match event {
+        Event::Sent(sealed) => sealed.text(),
+        Event::Got(sealed) => sealed.text(),
+    }
+}
+
+/// The version of a script and its lines, and what it comes to.
+const PLAYS: &[(u32, &str, &str)] = &[
+    // A session from its authorisation to its ballot.
+    (
+        1,
+        "machine sv supervisor\nmachine b1 booth\ndo sv open\ndo sv authorise b1 1\ndo sv close\n\
+            do b1 activate 1\n\
+            do b1 commit 1 0707070707070707070707070707070707070707070707070707070707070707\n\
+            do b1 cast 1 0707070707070707070707070707070707070707070707070707070707070707\n\
+            step act sv\nstep act sv\nstep hear b1 sv 0\nstep hear b1 sv 1\nstep act b1\n\
+            step act b1\nstep act b1\nstep hear sv b1 0\nstep hear sv b1 1\nstep hear sv b1 2\n\
+            step act sv\nstep hear b1 sv 2\n",
+        "sv sent 3, holds 2431 2475 2471 2504 2502 2466, NoMore\n\
+            b1 sent 3, holds 2431 2475 2471 2504 2502 2466, NoMore\n",
+    ),
+    // The ballot is challenged in place of being cast.
+    (
+        2,
+        "machine sv supervisor\nmachine b1 booth\ndo sv open\ndo sv authorise b1 1\ndo sv close\n\
+            do b1 activate 1\n\
+            do b1 commit 1 0707070707070707070707070707070707070707070707070707070707070707\n\
+            do b1 challenge 1 0707070707070707070707070707070707070707070707070707070707070707\n\
+            step act sv\nstep act sv\nstep hear b1 sv 0\nstep hear b1 sv 1\nstep act b1\n\
+            step act b1\nstep act b1\nstep hear sv b1 0\nstep hear sv b1 1\nstep hear sv b1 2\n\
+            step act sv\nstep hear b1 sv 2\n",
+        "sv sent 3, holds 2431 2475 2471 2504 2507 2466, NoMore\n\
+            b1 sent 3, holds 2431 2475 2471 2504 2507 2466, NoMore\n",
+    ),
+    // The supervisor overrides by casting, so the booth can't cancel.
+    (
+        2,
+        "machine sv supervisor\nmachine b1 booth\ndo sv open\ndo sv authorise b1 1\n\
+            do sv override 1 cast\ndo sv close\ndo b1 activate 1\n\
+            do b1 commit 1 0707070707070707070707070707070707070707070707070707070707070707\n\
+            do b1 cancel 1\nstep act sv\nstep act sv\nstep hear b1 sv 0\nstep hear b1 sv 1\n\
+            step act b1\nstep act b1\nstep hear sv b1 0\nstep hear sv b1 1\nstep act sv\n\
+            step hear b1 sv 2\nstep act b1\n",
+        "sv sent 3, holds 2431 2475 2471 2504 2477, SessionsLeft\n\
+            b1 sent 2, holds 2431 2475 2471 2504 2477, CastForced\n",
+    ),
+    // The supervisor never hears the commitment.
+    (
+        2,
+        "machine sv supervisor\nmachine b1 booth\ndo sv open\ndo sv authorise b1 1\n\
+            do sv override 1 cast\ndo sv close\ndo b1 activate 1\n\
+            do b1 commit 1 0707070707070707070707070707070707070707070707070707070707070707\n\
+            do b1 cancel 1\nstep act sv\nstep act sv\nstep hear b1 sv 0\nstep hear b1 sv 1\n\
+            step act b1\nstep act b1\nstep hear sv b1 0\nstep act sv\nstep hear b1 sv 2\n\
+            step act b1\n",
+        "sv sent 2, holds 2431 2475 2471, NothingCommitted\n\
+            b1 sent 3, holds 2431 2475 2471 2504 2469, NoMore\n",
+    ),
+    // The supervisor hears nothing of the session.
+    (
+        1,
+        "machine sv supervisor\nmachine b1 booth\ndo sv open\ndo sv authorise b1 1\ndo sv close\n\
+            do b1 activate 1\n\
+            do b1 commit 1 0707070707070707070707070707070707070707070707070707070707070707\n\
+            do b1 cast 1 0707070707070707070707070707070707070707070707070707070707070707\n\
+            step act sv\nstep act sv\nstep hear b1 sv 0\nstep hear b1 sv 1\nstep act b1\n\
+            step act b1\nstep act b1\nstep act sv\nstep hear b1 sv 2\n",
+        "sv sent 2, holds 2431 2475, SessionsLeft\n\
+            b1 sent 3, holds 2431 2475 2471 2504 2502, NoMore\n",
+    ),
+    // The second booth lacks an entry that is named when it is to challenge.
+    (
+        2,
+        "machine sv supervisor\nmachine b1 booth\nmachine b2 booth\ndo sv open\n\
+            do sv authorise b1 1\ndo sv authorise b2 2\ndo b1 activate 1\n\
+            do b1 commit 1 0707070707070707070707070707070707070707070707070707070707070707\n\
+            do b2 activate 2\n\
+            do b2 commit 2 0707070707070707070707070707070707070707070707070707070707070707\n\
+            do b2 challenge 2 0707070707070707070707070707070707070707070707070707070707070707\n\
+            step act sv\nstep act sv\nstep act sv\nstep hear b1 sv 0\nstep hear b1 sv 1\n\
+            step hear b1 sv 2\nstep hear b2 sv 0\nstep hear b2 sv 1\nstep hear b2 sv 2\n\
+            step act b1\nstep act b1\nstep hear b2 b1 1\nstep act b2\nstep act b2\nstep act b2\n",
+        "sv sent 3, holds 2431 2475 2475, NoMore\n\
+            b1 sent 2, holds 2431 2475 2475 2471 2504, NoMore\n\
+            b2 sent 2, holds 2431 2475 2475 2504 2506 2504, LogNotWhole\n",
+    ),
+];
+
 #[test]
-fn a_machine_stops_at_its_number_of_events(rt: HostRuntime) -> Result<(), Fail> {
-    let alloc = rt.alloc();
-    let mut supervisor = machine_of(alloc, 64, SUPERVISOR, Some(1))?;
-    assert!(rt; matches!(supervisor.act(alloc, 1)?, Acted::Did { .. }));
-    assert!(rt; matches!(supervisor.act(alloc, 1)?, Acted::Stopped));
-    let stopped = Left {
-        place: 1,
-        why: LeftWhy::Stopped,
-    };
-    assert_eq!(rt; supervisor.left(), Some(stopped));
+fn scripts_of_both_versions_are_played(rt: HostRuntime) -> Result<(), Fail> {
+    for &(version, lines, want) in PLAYS {
+        let script = script_of(rt.alloc(), version, 64, lines)?;
+        let world = play(rt.alloc(), &script)?;
+        assert_eq!(rt; outcome(rt.alloc(), &world)?.as_str(), want, "{lines}");
+    }
     Ok(())
 }

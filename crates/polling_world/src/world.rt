@@ -11,6 +11,7 @@ ghost use Rattle.entry_order.specs.Receipt.{OrderIsReceiptIn};
 ghost use Rattle.entry_order.specs.World.{happens, history, sent_in};
 ghost use Rattle.held_counts.specs.Places.{IsSentAt};
 ghost use Rattle.election_script.specs.Lawful.{IsLawful};
+ghost use Rattle.polling_world.specs.Configs.{script_configs};
 ghost use Rattle.polling_world.specs.Keys.{roster_of};
 ghost use Rattle.polling_world.specs.Steps.{IsStepOf};
 ghost use Rattle.polling_world.specs.Worlds.{
@@ -73,6 +74,8 @@ impl World {
         requires { IsLawful script.now }
         ensures machines { IfOk result (λ world. AreFresh script.now world.machines) }
         ensures roster { IfOk result (λ world. world.roster ≡ roster_of script.now) }
+        ensures configs { IfOk result (λ world.
+            configs_of world.machines ≡ script_configs script.now) }
     {
         let keys = keys_of(alloc, script)?;
         let roster = roster_of(alloc, script, &keys)?;
@@ -86,7 +89,7 @@ impl World {
 
     /// Does the step, or changes nothing. `Act` is done where the machine does its next action,
     /// `Hear` where the entry was sent by another machine and is taken, and `Stop` where the machine
-    /// hasn't stopped. Only an entry that is heard is copied.
+    /// hasn't stopped. Only an entry that is taken is copied.
     pub fn step(&mut self, alloc: Global, step: &Step) -> Result<Stepped, Memory>
         requires { IsStepOf (length self.old.machines) step.now }
         ensures ok { IfOk result (λ _.

@@ -63,7 +63,7 @@ fn taken(alloc: Global, world: &mut World, step: &Step) -> Result<Option<Stepped
 
 /// The world after the steps of those sessions.
 fn worked_world(alloc: Global) -> Result<World, Fail> {
-    let script = script_of(alloc, 64, SESSIONS)?;
+    let script = script_of(alloc, 1, 64, SESSIONS)?;
     Ok(play(alloc, &script)?)
 }
 

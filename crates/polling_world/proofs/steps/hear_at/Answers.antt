@@ -1,4 +1,4 @@
-use Rattle.std.proofs.Common.{◌∙◌, List, Some, ap, arith, inr, sym}
+use Rattle.std.proofs.Common.{◌∙◌, List, Some, ap, arith, inr, subst, sym}
 use Rattle.std.specs.Prelude.{slice_get}
 use Rattle.entry_format.specs.SealedEntry.{SealedEntry}
 use Rattle.entry_order.specs.declared.event.Event.{Event}
@@ -6,7 +6,25 @@ use Rattle.entry_order.specs.History.{sent}
 use Rattle.entangled_log.specs.Logs.{History}
 use Rattle.polling_world.specs.Machines.{MachineState}
 use Rattle.polling_world.proofs.Placing.{history_at}
+use Rattle.polling_world.proofs.Taking.{IsTold, refused_given, stands_at}
 use Rattle.polling_world.proofs.steps.hear_at.Goals as goal
+
+-- the entry isn't taken
+pub returns-then-not-takes-clause-ok : goal.returns-then-not-takes-clause-ok
+returns-then-not-takes-clause-ok c =
+    let events = history_at c.args.machines.now.items c.args.from c.index.result.now (omega arith)
+    ∙ ap (λ (m : MachineState). m.events) (sym c.index.ensures)
+    ∙ sym (ap (λ (h : History SealedEntry). h.events) c.log.ensures.log) in
+    inr (
+      c.if-at-from.false,
+      (
+        c.in-Some.entry.now,
+        ap (λ (h : List (Event SealedEntry)). slice_get (sent h) c.args.number) events ∙ c.in-Some.ensures.found,
+        refused_given c.args.at c.in-Some.entry.now c.args.machines.now.items c.index-2.result.now
+            (stands_at c.args.machines.now.items c.args.at c.index-2.result.now (omega arith) c.index-2.ensures)
+            (subst (IsTold c.index-2.result.now c.in-Some.entry.now) c.if-not-takes.true c.takes.ensures),
+      ),
+    )
 
 -- the entry that was sent is given
 pub returns-clause-ok : goal.returns-clause-ok

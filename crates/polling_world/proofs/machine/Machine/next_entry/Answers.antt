@@ -16,13 +16,13 @@ seal-requires-clause-election c = c.self.invariant.of_roster
 
 pub seal-requires-clause-rising : goal.seal-requires-clause-rising
 seal-requires-clause-rising c =
-    subst IsAscending (sym (c.new.ensures ∙ c.in-Ok.ensures.ok.names)) (frontier_rises (held c.self.inside.log.events))
+    subst IsAscending (sym (c.from_vec.ensures ∙ c.in-Ok.ensures.ok.names)) (frontier_rises (held c.self.inside.log.events))
 
 pub seal-requires-clause-few : goal.seal-requires-clause-few
 seal-requires-clause-few c =
     omega (
       arith,
-      ap length (c.new.ensures ∙ c.in-Ok.ensures.ok.names),
+      ap length (c.from_vec.ensures ∙ c.in-Ok.ensures.ok.names),
       few_in_frontier c.self.inside.log.events,
       c.self.invariant.machine.within,
       c.self.invariant.few,
@@ -38,6 +38,6 @@ returns-in-Ok-seal c =
     (sealed_is_made m.config (length (sent h)) (1 + greatest_stamp node_of_sealed (held h))
     (frontier node_of_sealed (held h)) c.args.deed c.self.inside.key _ c.in-Ok-seal.sealed
     (ap (λ n. record c.self.inside.key { next = n }) c.self.invariant.signs_next) c.self.invariant.machine.public
-    (same_entry _ _ c.self.invariant.of_roster c.owner.ensures next.number next.stamp
-    (c.new.ensures ∙ next.names) refl)
+    (same_entry _ _ refl c.self.invariant.of_roster c.owner.ensures next.number next.stamp
+    (c.from_vec.ensures ∙ next.names) refl)
     c.in-Ok-seal.ensures.entry c.in-Ok-seal.ensures.signature c.in-Ok-seal.ensures.valid)

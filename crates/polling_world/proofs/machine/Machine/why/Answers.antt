@@ -2,8 +2,18 @@ use Rattle.std.proofs.Common.{◌≢◌, ◌^◌, ◌∙◌, length, sym, ap, su
 use Rattle.std.specs.Prelude.{not}
 use Rattle.std.proofs.lemmas.Bool.{true≢false, eq-eqb}
 use Rattle.polling_world.specs.Machines.{MachineState}
-use Rattle.polling_world.specs.Waiting.{IsGoing, IsReady}
+use Rattle.polling_world.specs.Waiting.{IsGoing, IsReady, IsWhy}
+use Rattle.polling_world.proofs.Ruled.{refused_why}
 use Rattle.polling_world.proofs.machine.Machine.why.Goals as goal
+
+-- the cause of the rules
+pub returns-in-Err : goal.returns-in-Err
+returns-in-Err c =
+    let fields = c.self.inside in
+    let going : IsGoing c.args.self.now = ap not (sym c.has_stopped.ensures ∙ c.if-has_stopped.false) in
+    subst (λ (m : MachineState). IsWhy m c.args.deed.now c.in-Err.why) c.self.view_is
+    (refused_why _ c.args.deed.now c.in-Err.why (subst IsGoing (sym c.self.view_is) going)
+    (c.in-Err.ensures fields.role fields.log.owner c.self.invariant.noted))
 
 -- each test before was false
 pub returns : goal.returns

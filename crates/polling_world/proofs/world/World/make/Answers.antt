@@ -1,7 +1,7 @@
 use Rattle.std.proofs.Common.{List, arith, sym, subst}
 use Rattle.roster.specs.declared.post.Post.{Post}
 use Rattle.polling_world.specs.Worlds.{IsWorld}
-use Rattle.polling_world.proofs.WorldMaking.{next_key, one_more, all_fresh, fresh_world}
+use Rattle.polling_world.proofs.WorldMaking.{next_key, one_more, all_fresh, fresh_world, fresh_configs}
 use Rattle.polling_world.proofs.world.World.make.Goals as goal
 
 pub make-requires-clause-key : goal.make-requires-clause-key
@@ -25,3 +25,9 @@ pub returns-clause-machines : goal.returns-clause-machines
 returns-clause-machines c =
     all_fresh c.args.script.now c.loop-key.machines.items c.loop-key.key-iterator.rest.items c.loop-key.invariant
     (omega (arith, c.in-None.ensures.steps.0))
+
+pub returns-clause-configs : goal.returns-clause-configs
+returns-clause-configs c =
+    fresh_configs c.args.script.now c.loop-key.machines.items
+    (all_fresh c.args.script.now c.loop-key.machines.items c.loop-key.key-iterator.rest.items c.loop-key.invariant
+    (omega (arith, c.in-None.ensures.steps.0)))
