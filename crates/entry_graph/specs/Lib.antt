@@ -1,0 +1,4 @@
+pub mod Given
+pub mod EntryGraph
+pub mod Answers
+pub mod inside
