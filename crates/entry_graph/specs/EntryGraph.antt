@@ -5,6 +5,7 @@ use Rattle.std.specs.List.{AllPairs, Contains}
 use Rattle.std.specs.List.Sorted.{IsStrictlySortedBy}
 use Rattle.std.specs.Cmp.Lexicographic.{slice_cmp}
 use Rattle.std.specs.Ordering.{nat_cmp, ordering_then}
+use Rattle.std.specs.declared.cmp.Ordering.{Ordering}
 use Rattle.std.specs.declared.cmp.Ordering.TheVariants.{Less}
 use Rattle.entry_order.specs.Node.{Node}
 use Rattle.entry_order.specs.Ascending.{IsAscending}
@@ -40,6 +41,10 @@ parents_of links i = parents_in (slice_get links i)
 abbrev pub ragged_of : List Links → ℕ → Bool
 ragged_of links i = ragged_in (slice_get links i)
 
+-- pairs by their first number and then their second
+abbrev pub pair_cmp : ℕ × ℕ → ℕ × ℕ → Ordering
+pair_cmp p q = ordering_then (nat_cmp p.0 q.0) (nat_cmp p.1 q.1)
+
 module _ {T : Type 0} (node : T → Node) where
   -- e has the lower stamp, or the same stamp and the lower digest
   abbrev pub IsLower : T → T → Type 0
@@ -61,7 +66,7 @@ module _ {T : Type 0} (node : T → Node) where
 
   -- the forks, ascending
   pub record AreForks (S : List T) (forks : List (ℕ × ℕ)) : Type 0 where
-    pub rises : IsStrictlySortedBy (λ p q. ordering_then (nat_cmp p.0 q.0) (nat_cmp p.1 q.1)) forks
+    pub rises : IsStrictlySortedBy pair_cmp forks
     pub members : (m n : ℕ) → Contains forks (m, n) ↔ IsFork S m n
 
   -- one place for each entry of S, by which its graph is that of the names

@@ -1,7 +1,7 @@
 //! The distinct entries among those given.
 ghost use Rattle.std.specs.Prelude.{◌≡◌, IfOk, IfErr};
 ghost use Rattle.entry_graph.specs.Given.{HasNoCollision, distinct};
-ghost use Rattle.entry_graph.specs.inside.Distinct.{IsDistinctFault};
+ghost use Rattle.entry_graph.specs.inside.Distinct.{HasNoDigestTwice, IsDistinctFault};
 
 use crate::digest_table::DigestTable;
 use crate::fault::GraphFault;
@@ -16,6 +16,7 @@ pub fn distinct_of<T: SignedText + Drop>(
 ) -> Result<Vec<T>, GraphFault<T>>
     ensures no_collision { IfOk result (λ _. HasNoCollision T.node T.text entries.items) }
     ensures found { IfOk result (λ found. found.items ≡ distinct T.node entries.items) }
+    ensures single { IfOk result (λ found. HasNoDigestTwice T.node found.items) }
     ensures fault { IfErr result (IsDistinctFault T.node T.text entries.items) }
 {
     let mut places = DigestTable::new(alloc);

@@ -1,9 +1,9 @@
 //! What each survivor names.
-ghost use Rattle.std.specs.Prelude.{◌≡◌, ◌<◌, ◌^◌, ◌↔◌, ℕ, IfOk, List, Option, Some, is_none, length};
-ghost use Rattle.std.specs.List.{Contains, list_any};
-ghost use Rattle.entry_graph.specs.EntryGraph.{AreLinks};
-ghost use Rattle.entry_graph.specs.inside.Tables.{ArePlaces};
-ghost use Rattle.entry_graph.specs.inside.Distinct.{HasNoDigestTwice};
+ghost use Rattle.std.specs.Prelude.{◌≡◌, ◌<◌, ◌≤◌, ◌^◌, ℕ, IfOk, List, Some, length};
+ghost use Rattle.std.specs.List.{AllPairs};
+ghost use Rattle.entry_graph.specs.EntryGraph.{AreLinks, IsLower};
+ghost use Rattle.entry_graph.specs.inside.Tables.{ArePlaces, IsLinked, number_at};
+ghost use Rattle.entry_graph.specs.inside.Distinct.{HasNoDigestTwice, NamesLower};
 
 use crate::digest_table::DigestTable;
 use entry_order::Knot;
@@ -44,7 +44,9 @@ impl Links {
 /// What each of these survivors names.
 pub fn links_of<T: Knot>(alloc: Global, survivors: &[T]) -> Result<Vec<Links>, AllocError>
     requires distinct { HasNoDigestTwice T.node survivors.now }
-    requires few { length survivors.now < 2 ^ 32 }
+    requires few { length survivors.now ≤ 16384 }
+    requires numbered { AllPairs (IsLower T.node) survivors.now }
+    requires falling { NamesLower T.node survivors.now }
     ensures { IfOk result (λ links. AreLinks T.node survivors.now links.items) }
 {
     let places = places_of(alloc, survivors)?;
@@ -72,11 +74,8 @@ fn links_at(
     names: &[[u8; 32]],
     places: &DigestTable,
 ) -> Result<Links, AllocError>
-    requires { (d : List ℕ) (p : ℕ) → places.now d ≡ Some p → p < 2 ^ 32 }
-    ensures parents { IfOk result (λ links. (p : ℕ) → Contains links.parents p
-        ↔ ((d : List ℕ) × Contains names.now d × (places.now d ≡ Some p))) }
-    ensures ragged { IfOk result (λ links.
-        links.ragged ≡ list_any (λ d. is_none (places.now d)) names.now) }
+    requires { (d : List ℕ) (p : ℕ) → number_at places.now d ≡ Some p → p < 2 ^ 32 }
+    ensures { IfOk result (IsLinked places.now names.now) }
 {
     let mut parents = Vec::new(alloc);
     let mut ragged = false;

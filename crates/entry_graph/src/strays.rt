@@ -2,7 +2,7 @@
 ghost use Rattle.std.specs.Prelude.{◌≡◌, ℕ, IfOk, List, Option};
 ghost use Rattle.std.specs.List.{list_any};
 ghost use Rattle.entry_order.specs.Survivors.{is_stray, survivors};
-ghost use Rattle.entry_graph.specs.inside.Tables.{AreStamps, is_from};
+ghost use Rattle.entry_graph.specs.inside.Tables.{AreStamps, is_from, number_at};
 ghost use Rattle.entry_graph.specs.inside.Distinct.{HasNoDigestTwice};
 ghost use Rattle.entry_graph.specs.EntryGraph.{AreStrays};
 
@@ -42,7 +42,6 @@ pub fn sift<T: Knot + Drop>(alloc: Global, given: Vec<T>) -> Result<Sifted<T>, A
 
 /// The stamp of each entry at its digest.
 fn stamps_of<T: Knot>(alloc: Global, given: &[T]) -> Result<DigestTable, AllocError>
-    requires { HasNoDigestTwice T.node given.now }
     ensures { IfOk result (AreStamps T.node given.now) }
 {
     let mut stamps = DigestTable::new(alloc);
@@ -54,7 +53,7 @@ fn stamps_of<T: Knot>(alloc: Global, given: &[T]) -> Result<DigestTable, AllocEr
 
 /// Whether the entry is a stray, by the stamps of those given.
 fn is_stray<T: Knot>(entry: &T, stamps: &DigestTable) -> bool
-    ensures { (given : List T) → AreStamps T.node given stamps.now →
+    ensures { (given : List T) → HasNoDigestTwice T.node given → AreStamps T.node given stamps.now →
         result ≡ is_stray T.node given entry.now }
 {
     names_from(entry, stamps)
@@ -62,7 +61,7 @@ fn is_stray<T: Knot>(entry: &T, stamps: &DigestTable) -> bool
 
 /// Whether a digest that it names has a stamp that isn't lower than its own.
 fn names_from<T: Knot>(entry: &T, stamps: &DigestTable) -> bool
-    ensures { result ≡ list_any (λ d. is_from (T.node entry.now).stamp (stamps.now d))
+    ensures { result ≡ list_any (λ d. is_from (T.node entry.now).stamp (number_at stamps.now d))
         (T.node entry.now).names }
 {
     let stamp = entry.stamp();

@@ -1,0 +1,171 @@
+-- Forks by the pairs that were seen.
+use Rattle.std.proofs.Common.{◌≡◌, ◌≢◌, ℕ, ◌+◌, ◌<◌, ◌≤◌, Bool, true, false, List, [], ◌∷◌, ◌++◌, length, take, get_or}
+use Rattle.std.proofs.Common.{refl, sym, ap, subst, ◌∙◌, ◌⊎◌, inl, inr, arith}
+use Rattle.std.specs.Prelude.{◌↔◌, ◌&&◌, ◌||◌}
+use Rattle.std.specs.BTreeMap.{is_at}
+use Rattle.std.specs.BTreeSet.{BTreeSet, contains}
+use Rattle.std.specs.List.{Contains, list_any}
+use Rattle.std.specs.List.Sorted.{IsStrictlySortedBy}
+use Rattle.std.specs.Cmp.{IsTotalOrder, on_total, then_total}
+use Rattle.std.specs.Ordering.{nat_cmp}
+use Rattle.std.specs.declared.cmp.Ordering.TheVariants.{Equal}
+use Rattle.std.proofs.lemmas.Bool.{cases_Bool, true≢false, or_cases, or_left, or_right, and_parts, and_from}
+use Rattle.std.proofs.lemmas.Cmp.{nat_cmp_total, eq_by_cmp_equiv}
+use Rattle.std.proofs.lemmas.List.{length-take, get_or-take}
+use Rattle.std.proofs.lemmas.List.Elements.{Contains-push, Contains-push_cases, Contains-append_left}
+use Rattle.std.proofs.lemmas.List.Folds.{list_any_more}
+use Rattle.std.proofs.lemmas.Map.Lookups.{exact_pairs, exact_unsigned}
+use Rattle.std.proofs.lemmas.Map.Views.{btree_set_contains_iff}
+use Rattle.std.proofs.lemmas.Option.{slice_get-get_or}
+use Rattle.entry_order.specs.Node.{Node}
+use Rattle.entry_order.proofs.Lists.{Contains-none, list_any_some, list_any_of}
+use Rattle.entry_graph.specs.EntryGraph.{pair_cmp, IsFork, AreForks}
+use Rattle.entry_graph.specs.inside.Distinct.{HasNoDigestTwice}
+use Rattle.entry_graph.proofs.Places.{equal_from, one_place, taken_more}
+
+pair_total : IsTotalOrder pair_cmp
+pair_total = then_total (on_total (λ (p : ℕ × ℕ). p.0) nat_cmp_total) (on_total (λ (p : ℕ × ℕ). p.1) nat_cmp_total)
+
+pair_exact : (p q : ℕ × ℕ) → pair_cmp p q ≡ Equal → p ≡ q
+pair_exact = exact_pairs nat_cmp nat_cmp exact_unsigned exact_unsigned
+
+same_pair : (p q : ℕ × ℕ) → is_at (pair_cmp p) q ≡ true → p ≡ q
+same_pair p q t = pair_exact p q (equal_from (pair_cmp p q) t)
+
+passes_pair : (p q : ℕ × ℕ) → p ≡ q → is_at (pair_cmp p) q ≡ true
+passes_pair p q same =
+    subst (λ r. is_at (pair_cmp p) r ≡ true) same ((eq_by_cmp_equiv pair_total).refl p)
+
+or_swapped : (a b : Bool) → (a || b) ≡ (b || a)
+or_swapped true true = refl
+or_swapped true false = refl
+or_swapped false true = refl
+or_swapped false false = refl
+
+-- an entry of the first ones isn't that at their end
+pub new_at : {T : Type 0} (node : T → Node) (es : List T) (i : ℕ) (d : T) → HasNoDigestTwice node es → i < length es
+    → Contains (take i es) (get_or es i d) → ⊥
+new_at node es i d single within (k, l, is) =
+    let e = get_or es i d in
+    let lower : k < i = omega (arith, length-take i es) in
+    let there : get_or es k e ≡ e = sym (get_or-take i es k e lower) ∙ is in
+    let one : k ≡ i =
+    one_place node es k i (get_or es k e) e single (slice_get-get_or es k e (omega arith))
+    (slice_get-get_or es i d within) (ap (λ z. (node z).digest) there) in
+    omega arith
+
+module _ {T : Type 0} (node : T → Node) where
+  -- the maker and the number of an entry
+  abbrev pub pair_of : T → ℕ × ℕ
+  pair_of e = ((node e).maker, (node e).number)
+
+  -- whether one of the entries has the pair
+  abbrev pub has_pair : List T → ℕ × ℕ → Bool
+  has_pair es q = list_any (λ e. is_at (pair_cmp (pair_of e)) q) es
+
+  -- no entry has a pair, and there is no fork, before the first
+  pub no_fork : (f : Bool) (m n : ℕ) → f ≡ false → (f ≡ true) ↔ IsFork node [] m n
+  no_fork f m n none =
+      ((λ t. absurd (true≢false (sym t ∙ none))), (λ fork. absurd (Contains-none fork.0 fork.1)))
+
+  -- the forks of one entry more
+  pub fork_more : (es : List T) (e : T) (m n : ℕ) (f g : Bool) → (Contains es e → ⊥)
+      → (f ≡ true) ↔ IsFork node es m n
+      → g ≡ ((has_pair es (pair_of e) && is_at (pair_cmp (pair_of e)) (m, n)) || f)
+      → (g ≡ true) ↔ IsFork node (es ++ e ∷ []) m n
+  fork_more es e m n f g new before is = (
+    λ t. elim (or_cases (has_pair es (pair_of e) && is_at (pair_cmp (pair_of e)) (m, n)) f (sym is ∙ t)) [
+      | inl both ↦
+          (let parts = and_parts (has_pair es (pair_of e)) (is_at (pair_cmp (pair_of e)) (m, n)) both in
+          let r = list_any_some (λ x. is_at (pair_cmp (pair_of x)) (pair_of e)) es parts.0 in
+          let first : pair_of r.0 ≡ (m, n) =
+          same_pair (pair_of r.0) (pair_of e) r.2 ∙ same_pair (pair_of e) (m, n) parts.1 in
+          let last : pair_of e ≡ (m, n) = same_pair (pair_of e) (m, n) parts.1 in
+          (
+            r.0,
+            e,
+            Contains-append_left es (e ∷ []) r.0 r.1,
+            Contains-push es e,
+            (λ same. new (subst (λ x. Contains es x) same r.1)),
+            ap (λ (p : ℕ × ℕ). p.0) first,
+            ap (λ (p : ℕ × ℕ). p.1) first,
+            ap (λ (p : ℕ × ℕ). p.0) last,
+            ap (λ (p : ℕ × ℕ). p.1) last,
+          ))
+      | inr old ↦
+          (let r = before.0 old in
+          (
+            r.0,
+            r.1,
+            Contains-append_left es (e ∷ []) r.0 r.2,
+            Contains-append_left es (e ∷ []) r.1 r.3,
+            r.4,
+            r.5,
+            r.6,
+            r.7,
+            r.8,
+          ))
+    ],
+    λ (a, b, ca, cb, ne, am, an, bm, bn).
+        is
+        ∙ (elim (Contains-push_cases es e a ca) [
+          | inl a_before ↦ elim (Contains-push_cases es e b cb) [
+            | inl b_before ↦
+                or_right (has_pair es (pair_of e) && is_at (pair_cmp (pair_of e)) (m, n)) f
+                (before.1 (a, b, a_before, b_before, ne, am, an, bm, bn))
+            | inr b_last ↦ here a a_before am an (ap (λ z. (node z).maker) b_last ∙ bm)
+                (ap (λ z. (node z).number) b_last ∙ bn)
+          ]
+          | inr a_last ↦ elim (Contains-push_cases es e b cb) [
+            | inl b_before ↦ here b b_before bm bn (ap (λ z. (node z).maker) a_last ∙ am)
+                (ap (λ z. (node z).number) a_last ∙ an)
+            | inr b_last ↦ absurd (ne (sym a_last ∙ b_last))
+          ]
+        ]),
+  )
+    where
+      -- an entry before has the pair, and so has the last
+      here : (x : T) → Contains es x → (node x).maker ≡ m → (node x).number ≡ n → (node e).maker ≡ m
+          → (node e).number ≡ n
+          → ((has_pair es (pair_of e) && is_at (pair_cmp (pair_of e)) (m, n)) || f) ≡ true
+      here x c xm xn em en =
+          let first : pair_of x ≡ (m, n) = λ i. (xm i, xn i) in
+          let last : pair_of e ≡ (m, n) = λ i. (em i, en i) in
+          or_left (has_pair es (pair_of e) && is_at (pair_cmp (pair_of e)) (m, n)) f
+          (and_from (has_pair es (pair_of e)) (is_at (pair_cmp (pair_of e)) (m, n))
+          (list_any_of (λ z. is_at (pair_cmp (pair_of z)) (pair_of e)) es x c
+          (passes_pair (pair_of x) (pair_of e) (first ∙ sym last)))
+          (passes_pair (pair_of e) (m, n) last))
+
+  -- the same of the first entries and one more
+  pub fork_step : (es : List T) (i : ℕ) (e : T) (m n : ℕ) (f g : Bool) → HasNoDigestTwice node es → i < length es
+      → e ≡ get_or es i e → (f ≡ true) ↔ IsFork node (take i es) m n
+      → g ≡ ((has_pair (take i es) (pair_of e) && is_at (pair_cmp (pair_of e)) (m, n)) || f)
+      → (g ≡ true) ↔ IsFork node (take (i + 1) es) m n
+  fork_step es i e m n f g single within is before note =
+      subst (λ xs. (g ≡ true) ↔ IsFork node xs m n) (sym (taken_more es i e within is))
+      (fork_more (take i es) e m n f g
+      (λ c. new_at node es i e single within (subst (λ x. Contains (take i es) x) is c)) before note)
+
+  pub seen_step : (es : List T) (i : ℕ) (e : T) (q : ℕ × ℕ) (f g : Bool) → i < length es → e ≡ get_or es i e
+      → f ≡ has_pair (take i es) q → g ≡ (is_at (pair_cmp (pair_of e)) q || f) → g ≡ has_pair (take (i + 1) es) q
+  seen_step es i e q f g within is before note =
+      let test : T → Bool = λ x. is_at (pair_cmp (pair_of x)) q in
+      note ∙ ap (λ b. is_at (pair_cmp (pair_of e)) q || b) before
+      ∙ or_swapped (test e) (has_pair (take i es) q)
+      ∙ ap (λ x. has_pair (take i es) q || test x) is
+      ∙ sym (list_any_more test es i e within)
+
+  -- the forked pairs as a list
+  pub forks_from : (es : List T) (set : BTreeSet (ℕ × ℕ)) (forks : List (ℕ × ℕ))
+      → ((m n : ℕ) → (contains pair_cmp set (m, n) ≡ true) ↔ IsFork node es m n) → forks ≡ set.keys
+      → IsStrictlySortedBy pair_cmp forks → AreForks node es forks
+  forks_from es set forks are is rises = record {
+    rises = rises;
+    members = λ m n.
+        let iff = btree_set_contains_iff pair_total pair_exact set (m, n) in
+        (
+          (λ c. (are m n).0 (iff.1 (subst (λ ks. Contains ks (m, n)) is c))),
+          (λ fork. subst (λ ks. Contains ks (m, n)) (sym is) (iff.0 ((are m n).1 fork))),
+        );
+  }

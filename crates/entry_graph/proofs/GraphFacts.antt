@@ -1,0 +1,66 @@
+-- The graph of distinct entries from its parts.
+use Rattle.std.proofs.Common.{◌≡◌, ℕ, ◌≤◌, Bool, true, false, cond, not, List, [], ◌∷◌, length, refl, ap, subst, arith}
+use Rattle.std.specs.List.{AllPairs, Contains, filter}
+use Rattle.std.specs.List.Sorted.{IsPermutation}
+use Rattle.std.proofs.lemmas.List.Sorted.{Contains-permutation, IsPermutation-sym, length_permutation}
+use Rattle.entry_order.specs.Node.{Node}
+use Rattle.entry_order.specs.Survivors.{is_stray, survivors, gaps}
+use Rattle.entry_graph.specs.EntryGraph.{EntryGraph, IsLower, AreLinks, AreForks, AreStrays, IsEntryGraph, IsGraphOfGiven}
+use Rattle.entry_graph.specs.inside.Distinct.{HasNoDigestTwice}
+use Rattle.entry_graph.proofs.Places.{one_place, single_filter}
+
+-- a part isn't longer than the whole
+filter_shorter : {X : Type 0} (p : X → Bool) (xs : List X) → length (filter p xs) ≤ length xs
+filter_shorter p [] = omega arith
+filter_shorter p (x ∷ xs) =
+    let rest = filter_shorter p xs in
+    elim (p x) as (λ b. length (cond b (x ∷ filter p xs) (filter p xs)) ≤ length (x ∷ xs))
+    [ true ↦ omega (arith, rest) | false ↦ omega (arith, rest) ]
+
+module _ {T : Type 0} (node : T → Node) where
+  -- no digest stands twice among survivors, in any order
+  pub survivors_single : (given S : List T) → HasNoDigestTwice node given → survivors node given ≡ S
+      → HasNoDigestTwice node S
+  survivors_single given S single is =
+      subst (λ es. HasNoDigestTwice node es) is (single_filter node (λ e. not (is_stray node given e)) given single)
+
+  -- there are no more survivors than entries
+  pub survivors_few : (given found S : List T) → found ≡ survivors node given → IsPermutation found S
+      → length given ≤ 16384 → length S ≤ 16384
+  survivors_few given found S is moved few =
+      let moved_length : length S ≡ length found = length_permutation found S moved in
+      let found_length : length found ≡ length (survivors node given) = ap length is in
+      let shorter : length (survivors node given) ≤ length given =
+      filter_shorter (λ e. not (is_stray node given e)) given in
+      omega arith
+
+  -- what holds of the graph's parts
+  pub parts_are_right : (graph : EntryGraph T) → length graph.survivors ≤ 16384
+      → AllPairs (IsLower node) graph.survivors → HasNoDigestTwice node graph.survivors
+      → AreLinks node graph.survivors graph.links → graph.gaps ≡ gaps node graph.survivors
+      → AreForks node graph.survivors graph.forks → IsEntryGraph node graph
+  parts_are_right graph few numbered single linked gaps_are forks = record {
+    few = few;
+    numbered = numbered;
+    single = λ i j e ie je. one_place node graph.survivors i j e e single ie je refl;
+    linked = linked;
+    gaps = gaps_are;
+    forks = forks;
+  }
+
+  -- and of the graph and the entries
+  pub graph_is_right : (given found : List T) (graph : EntryGraph T) → found ≡ survivors node given
+      → IsPermutation found graph.survivors → AreStrays node given graph.strays → IsEntryGraph node graph
+      → IsGraphOfGiven node given graph
+  graph_is_right given found graph is moved strays kept =
+      let same : IsPermutation (survivors node given) graph.survivors =
+      subst (λ es. IsPermutation es graph.survivors) is moved in
+      record {
+        kept = kept;
+        members = λ e. (
+          Contains-permutation graph.survivors (survivors node given) e
+              (IsPermutation-sym (survivors node given) graph.survivors same),
+          Contains-permutation (survivors node given) graph.survivors e same,
+        );
+        strays = strays;
+      }

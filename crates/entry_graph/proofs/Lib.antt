@@ -1,0 +1,8 @@
+pub mod Places
+pub mod DistinctFacts
+pub mod TableFacts
+pub mod StrayFacts
+pub mod NumberFacts
+pub mod LinkFacts
+pub mod ForkFacts
+pub mod GraphFacts

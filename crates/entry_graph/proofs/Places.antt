@@ -1,0 +1,143 @@
+-- Places of entries, and entries of which no two have one digest.
+use Rattle.std.proofs.Common.{◌≡◌, ℕ, zero, suc, ◌+◌, ◌<◌, Bool, true, false, cond, List, [], ◌∷◌, ◌++◌, length, map, take, get_or}
+use Rattle.std.proofs.Common.{refl, sym, ap, subst, ◌∙◌, ◌⊎◌, inl, inr, Some, None, arith}
+use Rattle.std.specs.Prelude.{◌||◌, slice_get}
+use Rattle.std.specs.List.{All, AllZip, Contains, IsDistinct, filter, list_any}
+use Rattle.std.specs.Ordering.{is_eq}
+use Rattle.std.specs.Str.{bytes_eq}
+use Rattle.std.specs.declared.cmp.Ordering.{Ordering}
+use Rattle.std.specs.declared.cmp.Ordering.TheVariants.{Less, Equal, Greater}
+use Rattle.std.proofs.lemmas.Bool.{true≢false}
+use Rattle.std.proofs.lemmas.List.{take_more}
+use Rattle.std.proofs.lemmas.List.Folds.{list_any-append}
+use Rattle.std.proofs.Math.Bool.{or-false}
+use Rattle.std.proofs.lemmas.List.Elements.{All-from_recursion, recursion_from_All, All-contains}
+use Rattle.std.proofs.lemmas.List.Elements.{All-map, All-filter, Contains-get_or}
+use Rattle.std.proofs.lemmas.Map.Keys.{IsDistinct-head, IsDistinct-tail, IsDistinct-cons}
+use Rattle.std.proofs.lemmas.Option.{none-some, same_Some, slice_get-get_or, slice_get_within, get_or_from_slice_get}
+use Rattle.std.proofs.lemmas.Slice.Eq.{bytes_eq-Decides}
+use Rattle.entry_order.specs.Node.{Node}
+use Rattle.entry_order.proofs.Lists.{Contains-map, Contains-head, Contains-later}
+use Rattle.entry_graph.specs.inside.Distinct.{HasNoDigestTwice}
+
+-- a test of equality that passes
+pub equal_from : (o : Ordering) → is_eq o ≡ true → o ≡ Equal
+equal_from Less t = absurd (true≢false (sym t))
+equal_from Equal t = refl
+equal_from Greater t = absurd (true≢false (sym t))
+
+-- what one more passes or doesn't
+pub any_push : {X : Type 0} (f : X → Bool) (xs : List X) (x : X) → list_any f (xs ++ x ∷ []) ≡ (list_any f xs || f x)
+any_push f xs x = list_any-append f xs (x ∷ []) ∙ ap (λ b. list_any f xs || b) (or-false (f x))
+
+module _ {X : Type 0} where
+  -- the first elements and the one that comes next
+  pub taken_more : (xs : List X) (i : ℕ) (x : X) → i < length xs → x ≡ get_or xs i x
+      → take (i + 1) xs ≡ take i xs ++ x ∷ []
+  taken_more xs i x within is = take_more xs i x within ∙ ap (λ (y : X). take i xs ++ y ∷ []) (sym is)
+
+  -- the element at a place is a member
+  pub at_place : (xs : List X) (i : ℕ) (x : X) → slice_get xs i ≡ Some x → Contains xs x
+  at_place xs i x is = (i, slice_get_within xs i x is, get_or_from_slice_get xs i x x is)
+
+  -- a member has a place
+  pub place_of : (xs : List X) (x : X) → Contains xs x → (i : ℕ) × (slice_get xs i ≡ Some x)
+  place_of xs x (i, l, is) = (i, slice_get-get_or xs i x l ∙ ap (λ (y : X). Some y) is)
+
+  -- one element more at the end
+  pub push_here : (xs : List X) (y : X) → slice_get (xs ++ y ∷ []) (length xs) ≡ Some y
+  push_here [] y = refl
+  push_here (x ∷ xs) y = push_here xs y
+
+  pub push_before : (xs : List X) (y : X) (i : ℕ) (x : X) → slice_get xs i ≡ Some x
+      → slice_get (xs ++ y ∷ []) i ≡ Some x
+  push_before [] y i x is = absurd (none-some x is)
+  push_before (z ∷ xs) y zero x is = is
+  push_before (z ∷ xs) y (suc i) x is = push_before xs y i x is
+
+  pub push_cases : (xs : List X) (y : X) (i : ℕ) (x : X) → slice_get (xs ++ y ∷ []) i ≡ Some x
+      → (slice_get xs i ≡ Some x) ⊎ (y ≡ x)
+  push_cases [] y zero x is = inr (same_Some y x is)
+  push_cases [] y (suc i) x is = absurd (none-some x is)
+  push_cases (z ∷ xs) y zero x is = inl is
+  push_cases (z ∷ xs) y (suc i) x is = push_cases xs y i x is
+
+-- two lists side by side: one pair more, as many of each, and what stands beside an element
+module _ {X Y : Type 0} (R : X → Y → Type 0) where
+  pub zip_push : (xs : List X) (ys : List Y) (x : X) (y : Y) → AllZip R xs ys → R x y
+      → AllZip R (xs ++ x ∷ []) (ys ++ y ∷ [])
+  zip_push [] [] x y all here = (here, tt)
+  zip_push [] (z ∷ ys) x y all here = absurd all
+  zip_push (z ∷ xs) [] x y all here = absurd all
+  zip_push (z ∷ xs) (w ∷ ys) x y all here = (all.0, zip_push xs ys x y all.1 here)
+
+  pub zip_length : (xs : List X) (ys : List Y) → AllZip R xs ys → length ys ≡ length xs
+  zip_length [] [] all = refl
+  zip_length [] (y ∷ ys) all = absurd all
+  zip_length (x ∷ xs) [] all = absurd all
+  zip_length (x ∷ xs) (y ∷ ys) all = ap (λ n. suc n) (zip_length xs ys all.1)
+
+  pub zip_at : (xs : List X) (ys : List Y) (i : ℕ) (x : X) → AllZip R xs ys → slice_get xs i ≡ Some x
+      → (y : Y) × (slice_get ys i ≡ Some y) × R x y
+  zip_at [] ys i x all is = absurd (none-some x is)
+  zip_at (z ∷ xs) [] i x all is = absurd all
+  zip_at (z ∷ xs) (y ∷ ys) zero x all is = (y, refl, subst (λ w. R w y) (same_Some z x is) all.0)
+  zip_at (z ∷ xs) (y ∷ ys) (suc i) x all is = zip_at xs ys i x all.1 is
+
+module _ {T : Type 0} (node : T → Node) where
+  -- the first has another digest than each later one
+  head_apart : (x : T) (es : List T) (e : T) → HasNoDigestTwice node (x ∷ es) → Contains es e
+      → (node x).digest ≡ (node e).digest → ⊥
+  head_apart x es e single c same =
+      let digests = map (λ e. (node e).digest) es in
+      let all : All (λ y. bytes_eq (node x).digest y ≡ false) digests =
+      All-from_recursion (λ y. bytes_eq (node x).digest y ≡ false) digests
+      (IsDistinct-head bytes_eq (node x).digest digests single) in
+      let here : bytes_eq (node x).digest (node e).digest ≡ false =
+      All-contains (λ y. bytes_eq (node x).digest y ≡ false) digests (node e).digest all
+      (Contains-map (λ (e : T). (node e).digest) es e c) in
+      true≢false (sym ((bytes_eq-Decides (node x).digest (node e).digest).1 same) ∙ here)
+
+  -- a digest has one place
+  pub one_place : (es : List T) (i j : ℕ) (e f : T) → HasNoDigestTwice node es → slice_get es i ≡ Some e
+      → slice_get es j ≡ Some f → (node e).digest ≡ (node f).digest → i ≡ j
+  one_place [] i j e f single ie jf same = absurd (none-some e ie)
+  one_place (x ∷ es) zero zero e f single ie jf same = refl
+  one_place (x ∷ es) zero (suc j) e f single ie jf same =
+      absurd (head_apart x es f single (at_place es j f jf) (ap (λ z. (node z).digest) (same_Some x e ie) ∙ same))
+  one_place (x ∷ es) (suc i) zero e f single ie jf same =
+      absurd (head_apart x es e single (at_place es i e ie) (ap (λ z. (node z).digest) (same_Some x f jf) ∙ sym same))
+  one_place (x ∷ es) (suc i) (suc j) e f single ie jf same =
+      ap (λ n. suc n)
+      (one_place es i j e f (IsDistinct-tail bytes_eq (node x).digest (map (λ e. (node e).digest) es) single) ie jf same)
+
+  -- so a digest has one entry
+  pub one_entry : (es : List T) (e f : T) → HasNoDigestTwice node es → Contains es e → Contains es f
+      → (node e).digest ≡ (node f).digest → e ≡ f
+  one_entry es e f single ce cf same =
+      let p = place_of es e ce in
+      let q = place_of es f cf in
+      let i : p.0 ≡ q.0 = one_place es p.0 q.0 e f single p.1 q.1 same in
+      same_Some e f (sym p.1 ∙ ap (slice_get es) i ∙ q.1)
+
+  -- a part of them too
+  pub single_filter : (p : T → Bool) (es : List T) → HasNoDigestTwice node es → HasNoDigestTwice node (filter p es)
+  single_filter p [] single = single
+  single_filter p (x ∷ es) single =
+      let digest : T → List ℕ = λ e. (node e).digest in
+      let P : List ℕ → Type 0 = λ y. bytes_eq (digest x) y ≡ false in
+      let all : All P (map digest es) =
+      All-from_recursion P (map digest es) (IsDistinct-head bytes_eq (digest x) (map digest es) single) in
+      let each : All (λ e. P (digest e)) es =
+      λ k d within.
+      All-contains P (map digest es) (digest (get_or es k d)) all
+      (Contains-map digest es (get_or es k d) (Contains-get_or es k d within)) in
+      let rest = single_filter p es (IsDistinct-tail bytes_eq (digest x) (map digest es) single) in
+      elim (p x) as (λ b. IsDistinct bytes_eq (map digest (cond b (x ∷ filter p es) (filter p es)))) [
+        | true ↦
+            IsDistinct-cons bytes_eq (digest x) (map digest (filter p es))
+            (recursion_from_All P (map digest (filter p es))
+            (All-map P digest (filter p es) (All-filter p (λ e. P (digest e)) es each)))
+            rest
+        | false ↦ rest
+      ]

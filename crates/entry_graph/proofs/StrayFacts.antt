@@ -1,0 +1,176 @@
+-- Strays by the table of stamps, and sets of digests as ascending lists.
+use Rattle.std.proofs.Common.{◌≡◌, ℕ, ◌≤◌, Bool, true, false, cond, List, [], ◌∷◌, ◌++◌, refl, sym, ap, subst, ◌∙◌, inl, inr}
+use Rattle.std.proofs.Common.{Some, None, Option}
+use Rattle.std.specs.Prelude.{◌&&◌, ◌||◌, nat_le}
+use Rattle.std.specs.List.{All, Contains, list_any, filter}
+use Rattle.std.specs.List.Sorted.{IsStrictlySortedBy, IsPermutation}
+use Rattle.std.specs.Cmp.Lexicographic.{slice_cmp}
+use Rattle.std.specs.Ordering.{nat_cmp, is_eq}
+use Rattle.std.specs.BTreeMap.{is_at}
+use Rattle.std.specs.BTreeSet.{BTreeSet, contains}
+use Rattle.std.specs.declared.cmp.Ordering.{Ordering}
+use Rattle.std.specs.declared.cmp.Ordering.TheVariants.{Less, Equal, Greater}
+use Rattle.std.proofs.lemmas.Bool.{cases_Bool, true≢false, and_parts, and_from, le-leb, leb-true, false_from_ne_true}
+use Rattle.std.proofs.lemmas.Cmp.{nat_list_cmp_total, eq_by_cmp_equiv}
+use Rattle.std.proofs.lemmas.Map.Lookups.{exact_bytes}
+use Rattle.std.proofs.lemmas.Map.Views.{btree_set_contains_iff}
+use Rattle.std.proofs.lemmas.List.Elements.{All-from_recursion, All-contains}
+use Rattle.std.proofs.lemmas.List.Sorted.{Contains-permutation, IsPermutation-sym}
+use Rattle.std.proofs.lemmas.Map.Keys.{sorted_head, sorted_tail}
+use Rattle.std.proofs.Math.Bool.{or-false}
+use Rattle.entry_order.specs.Node.{Node}
+use Rattle.entry_order.specs.Naming.{names_digest}
+use Rattle.entry_order.specs.Ascending.{IsAscending}
+use Rattle.entry_order.specs.Survivors.{IsStray, is_stray, names_later, survivors}
+use Rattle.entry_order.proofs.Lists.{list_any_some, list_any_of}
+use Rattle.entry_order.proofs.Naming.{names_digest_of, names_digest_from}
+use Rattle.entry_order.proofs.Strays.{survivors_are_no_strays, stamp_rises}
+use Rattle.entry_graph.specs.EntryGraph.{AreStrays}
+use Rattle.entry_graph.specs.inside.Distinct.{HasNoDigestTwice, NamesLower}
+use Rattle.entry_graph.specs.inside.Tables.{is_from, number_at, AreStamps}
+use Rattle.entry_graph.proofs.Places.{any_push, equal_from, one_entry}
+
+-- keys that rise strictly are ascending digests
+pub ascending_from_sorted : (ds : List (List ℕ)) → IsStrictlySortedBy (slice_cmp nat_cmp) ds → IsAscending ds
+ascending_from_sorted [] sorted = tt
+ascending_from_sorted (d ∷ ds) sorted =
+    let P : List ℕ → Type 0 = λ c. slice_cmp nat_cmp d c ≡ Less in
+    let low : All P ds = All-from_recursion P ds (sorted_head (slice_cmp nat_cmp) d ds sorted) in
+    ((λ c h. All-contains P ds c low h), ascending_from_sorted ds (sorted_tail (slice_cmp nat_cmp) d ds sorted))
+
+-- a number that is found and is at least this one
+from_parts : (least : ℕ) (found : Option ℕ) → is_from least found ≡ true → (n : ℕ) × (found ≡ Some n) × (least ≤ n)
+from_parts least None t = absurd (true≢false (sym t))
+from_parts least (Some n) t = (n, refl, leb-true least n t)
+
+module _ {T : Type 0} (node : T → Node) where
+  -- a stray is found
+  pub is_stray_of : (given : List T) (e : T) → IsStray node given e → is_stray node given e ≡ true
+  is_stray_of given e (g, c, names, high) =
+      list_any_of (λ g. names_later node e g) given g c
+      (and_from (names_digest node e (node g).digest) (nat_le (node e).stamp (node g).stamp)
+      (names_digest_of node e (node g).digest names) (le-leb (node e).stamp (node g).stamp high))
+
+  -- what is found is a stray
+  pub is_stray_from : (given : List T) (e : T) → is_stray node given e ≡ true → IsStray node given e
+  is_stray_from given e t =
+      let r = list_any_some (λ g. names_later node e g) given t in
+      let parts = and_parts (names_digest node e (node r.0).digest) (nat_le (node e).stamp (node r.0).stamp) r.2 in
+      (r.0, r.1, names_digest_from node e (node r.0).digest parts.0, leb-true (node e).stamp (node r.0).stamp parts.1)
+
+  -- whether the table has a stamp that isn't lower at a digest that the entry names
+  abbrev pub names_from : List (List ℕ × ℕ) → T → Bool
+  names_from table e = list_any (λ d. is_from (node e).stamp (number_at table d)) (node e).names
+
+  -- such a digest is that of a given entry with this stamp
+  stray_by_table : (given : List T) (e : T) (table : List (List ℕ × ℕ)) → AreStamps node given table
+      → names_from table e ≡ true → IsStray node given e
+  stray_by_table given e table stamps t =
+      let r = list_any_some (λ d. is_from (node e).stamp (number_at table d)) (node e).names t in
+      let n = from_parts (node e).stamp (number_at table r.0) r.2 in
+      let f = stamps.found r.0 n.0 n.1 in
+      (
+        f.0,
+        f.1,
+        subst (λ d. Contains (node e).names d) (sym f.2) r.1,
+        subst (λ s. (node e).stamp ≤ s) (sym f.3) n.2,
+      )
+
+  -- and the stamp of each given entry that is named is found
+  table_by_stray : (given : List T) (e : T) (table : List (List ℕ × ℕ)) → HasNoDigestTwice node given
+      → AreStamps node given table → IsStray node given e → names_from table e ≡ true
+  table_by_stray given e table single stamps (g, c, names, high) =
+      let at : (o : Option ℕ) → number_at table (node g).digest ≡ o → is_from (node e).stamp o ≡ true =
+      λ o. elim o as (λ o. number_at table (node g).digest ≡ o → is_from (node e).stamp o ≡ true) [
+        | None ↦ λ is. absurd (stamps.lacks (node g).digest (node g).stamp is (g, c, refl, refl))
+        | Some n ↦ λ is.
+            let f = stamps.found (node g).digest n is in
+            let same : f.0 ≡ g = one_entry node given f.0 g single f.1 c f.2 in
+            le-leb (node e).stamp n
+            (subst (λ s. (node e).stamp ≤ s) (sym (ap (λ z. (node z).stamp) same) ∙ f.3) high)
+      ] in
+      list_any_of (λ d. is_from (node e).stamp (number_at table d)) (node e).names (node g).digest names
+      (at (number_at table (node g).digest) refl)
+
+  -- so the table tells strays
+  pub stray_is_told : (given : List T) (e : T) (table : List (List ℕ × ℕ)) → HasNoDigestTwice node given
+      → AreStamps node given table → names_from table e ≡ is_stray node given e
+  stray_is_told given e table single stamps =
+      elim (cases_Bool (is_stray node given e)) [
+        | inl t ↦ table_by_stray given e table single stamps (is_stray_from given e t) ∙ sym t
+        | inr t ↦
+            false_from_ne_true (names_from table e)
+            (λ u. true≢false (sym (is_stray_of given e (stray_by_table given e table stamps u)) ∙ t))
+            ∙ sym t
+      ]
+
+  -- survivors, in any order, have higher stamps than those that they name
+  pub survivors_name_lower : (given S : List T) → IsPermutation (survivors node given) S → NamesLower node S
+  survivors_name_lower given S moved e f ce cf names =
+      let back : (g : T) → Contains S g → Contains (survivors node given) g =
+      λ g. Contains-permutation S (survivors node given) g (IsPermutation-sym (survivors node given) S moved) in
+      stamp_rises node given e f ((survivors_are_no_strays node given e).0 (back e ce)).1
+      ((survivors_are_no_strays node given f).0 (back f cf)).0 names
+
+-- a test that comes first or last
+last_first : (a b : Bool) → cond a true b ≡ (b || a)
+last_first true true = refl
+last_first true false = refl
+last_first false true = refl
+last_first false false = refl
+
+-- a set of digests has this one exactly where the test of it passes
+pub strays_from : {T : Type 0} (node : T → Node) (given : List T) (set : BTreeSet (List ℕ)) (strays : List (List ℕ))
+    → ((d : List ℕ) → contains (slice_cmp nat_cmp) set d
+    ≡ list_any (λ e. is_stray node given e && is_at (slice_cmp nat_cmp (node e).digest) d) given)
+    → strays ≡ set.keys → IsStrictlySortedBy (slice_cmp nat_cmp) strays → AreStrays node given strays
+strays_from node given set strays are is rises = record {
+  rises = ascending_from_sorted strays rises;
+  members = λ d.
+      let iff = btree_set_contains_iff nat_list_cmp_total exact_bytes set d in
+      let test : T → Bool = λ e. is_stray node given e && is_at (slice_cmp nat_cmp (node e).digest) d in
+      (
+        (λ c.
+            let r = list_any_some test given (sym (are d) ∙ iff.1 (subst (λ ks. Contains ks d) is c)) in
+            let parts = and_parts (is_stray node given r.0) (is_at (slice_cmp nat_cmp (node r.0).digest) d) r.2 in
+            (
+              r.0,
+              r.1,
+              is_stray_from node given r.0 parts.0,
+              exact_bytes (node r.0).digest d
+              (equal_from (slice_cmp nat_cmp (node r.0).digest d) parts.1),
+            )),
+        (λ (e, c, stray, same).
+            subst (λ ks. Contains ks d) (sym is)
+            (iff.0
+            (are d
+            ∙ list_any_of test given e c
+            (and_from (is_stray node given e) (is_at (slice_cmp nat_cmp (node e).digest) d)
+            (is_stray_of node given e stray)
+            (subst (λ x. is_at (slice_cmp nat_cmp (node e).digest) x ≡ true) same
+            ((eq_by_cmp_equiv nat_list_cmp_total).refl (node e).digest)))))),
+      );
+}
+
+module _ {T : Type 0} (node : T → Node) (given es : List T) (e : T) (d : List ℕ) (before after : Bool) where
+  -- whether an entry is a stray with this digest
+  abbrev pub is_stray_at : T → Bool
+  is_stray_at f = is_stray node given f && is_at (slice_cmp nat_cmp (node f).digest) d
+
+  -- one stray more
+  pub stray_more : is_stray node given e ≡ true → before ≡ list_any is_stray_at es
+      → after ≡ cond (is_at (slice_cmp nat_cmp (node e).digest) d) true before
+      → after ≡ list_any is_stray_at (es ++ e ∷ [])
+  stray_more stray is set =
+      set ∙ ap (cond (is_at (slice_cmp nat_cmp (node e).digest) d) true) is
+      ∙ last_first (is_at (slice_cmp nat_cmp (node e).digest) d) (list_any is_stray_at es)
+      ∙ ap (λ b. list_any is_stray_at es || (b && is_at (slice_cmp nat_cmp (node e).digest) d)) (sym stray)
+      ∙ sym (any_push is_stray_at es e)
+
+  -- one survivor more
+  pub survivor_more : is_stray node given e ≡ false → before ≡ list_any is_stray_at es
+      → before ≡ list_any is_stray_at (es ++ e ∷ [])
+  survivor_more kept is =
+      is ∙ sym (or-false (list_any is_stray_at es))
+      ∙ ap (λ b. list_any is_stray_at es || (b && is_at (slice_cmp nat_cmp (node e).digest) d)) (sym kept)
+      ∙ sym (any_push is_stray_at es e)

@@ -1,0 +1,14 @@
+use Rattle.std.proofs.Common.{◌≡◌, ℕ, true, take}
+use Rattle.std.specs.Prelude.{◌↔◌}
+use Rattle.std.specs.BTreeSet.{contains}
+use Rattle.entry_graph.specs.EntryGraph.{pair_cmp, IsFork}
+use Rattle.entry_graph.proofs.ForkFacts.{has_pair}
+use Rattle.entry_graph.proofs.forks.forks_of.Given as goal
+
+-- the pairs so far, and those that are forked
+abbrev pub invariant-loop-entry : goal.invariant-loop-entry
+invariant-loop-entry g l = record {
+  seen : (q : ℕ × ℕ) → contains pair_cmp l.seen q ≡ has_pair g.T.Knot.node (take l.entry-index l.entries) q;
+  forked : (m n : ℕ) → (contains pair_cmp l.forked (m, n) ≡ true)
+      ↔ IsFork g.T.Knot.node (take l.entry-index l.entries) m n;
+}

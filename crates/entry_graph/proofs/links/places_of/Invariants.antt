@@ -1,0 +1,7 @@
+use Rattle.std.proofs.Common.{take}
+use Rattle.entry_graph.specs.inside.Tables.{ArePlaces}
+use Rattle.entry_graph.proofs.links.places_of.Given as goal
+
+-- the places of the survivors so far
+abbrev pub invariant-loop-place : goal.invariant-loop-place
+invariant-loop-place g l = ArePlaces g.T.Knot.node (take l.place l.survivors) l.places

@@ -1,0 +1,18 @@
+use Rattle.std.proofs.Common.{◌≡◌, ℕ, List, not}
+use Rattle.std.specs.Prelude.{◌&&◌}
+use Rattle.std.specs.BTreeMap.{is_at}
+use Rattle.std.specs.BTreeSet.{contains}
+use Rattle.std.specs.List.{filter, list_any}
+use Rattle.std.specs.Cmp.Lexicographic.{slice_cmp}
+use Rattle.std.specs.Ordering.{nat_cmp}
+use Rattle.entry_order.specs.Survivors.{is_stray}
+use Rattle.entry_graph.proofs.strays.sift.Given as goal
+
+-- the survivors so far, and the digests of the strays so far
+abbrev pub invariant-loop-entry : goal.invariant-loop-entry
+invariant-loop-entry g l = record {
+  survivors : l.survivors.items ≡ filter (λ e. not (is_stray g.T.Knot.node l.fn.given.items e)) l.yielded;
+  strays : (d : List ℕ) → contains (slice_cmp nat_cmp) l.strays d
+      ≡ list_any (λ e. is_stray g.T.Knot.node l.fn.given.items e
+      && is_at (slice_cmp nat_cmp (g.T.Knot.node e).digest) d) l.yielded;
+}
