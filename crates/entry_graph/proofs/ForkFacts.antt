@@ -66,7 +66,7 @@ module _ {T : Type 0} (node : T → Node) where
   -- no entry has a pair, and there is no fork, before the first
   pub no_fork : (f : Bool) (m n : ℕ) → f ≡ false → (f ≡ true) ↔ IsFork node [] m n
   no_fork f m n none =
-      ((λ t. absurd (true≢false (sym t ∙ none))), (λ fork. absurd (Contains-none fork.0 fork.1)))
+      ((λ t. absurd (true≢false (sym t ∙ none))), (λ fork. absurd (Contains-none fork.0 fork.2)))
 
   -- the forks of one entry more
   pub fork_more : (es : List T) (e : T) (m n : ℕ) (f g : Bool) → (Contains es e → ⊥)

@@ -1,5 +1,5 @@
 -- The graph of distinct entries from its parts.
-use Rattle.std.proofs.Common.{◌≡◌, ℕ, ◌≤◌, Bool, true, false, cond, not, List, [], ◌∷◌, length, refl, ap, subst, arith}
+use Rattle.std.proofs.Common.{◌≡◌, ℕ, ◌≤◌, Bool, true, false, cond, not, List, [], ◌∷◌, length, refl, sym, ap, subst, arith}
 use Rattle.std.specs.List.{AllPairs, Contains, filter}
 use Rattle.std.specs.List.Sorted.{IsPermutation}
 use Rattle.std.proofs.lemmas.List.Sorted.{Contains-permutation, IsPermutation-sym, length_permutation}
@@ -8,6 +8,7 @@ use Rattle.entry_order.specs.Survivors.{is_stray, survivors, gaps}
 use Rattle.entry_graph.specs.EntryGraph.{EntryGraph, IsLower, AreLinks, AreForks, AreStrays, IsEntryGraph, IsGraphOfGiven}
 use Rattle.entry_graph.specs.inside.Distinct.{HasNoDigestTwice}
 use Rattle.entry_graph.proofs.Places.{one_place, single_filter}
+use Rattle.entry_graph.proofs.NumberFacts.{single_moved}
 
 -- a part isn't longer than the whole
 filter_shorter : {X : Type 0} (p : X → Bool) (xs : List X) → length (filter p xs) ≤ length xs
@@ -35,18 +36,21 @@ module _ {T : Type 0} (node : T → Node) where
       omega arith
 
   -- what holds of the graph's parts
-  pub parts_are_right : (graph : EntryGraph T) → length graph.survivors ≤ 16384
-      → AllPairs (IsLower node) graph.survivors → HasNoDigestTwice node graph.survivors
-      → AreLinks node graph.survivors graph.links → graph.gaps ≡ gaps node graph.survivors
+  pub parts_are_right : (given found : List T) (graph : EntryGraph T) → HasNoDigestTwice node given
+      → length given ≤ 16384 → found ≡ survivors node given → IsPermutation found graph.survivors
+      → AllPairs (IsLower node) graph.survivors → AreLinks node graph.survivors graph.links → graph.gaps ≡ gaps node graph.survivors
       → AreForks node graph.survivors graph.forks → IsEntryGraph node graph
-  parts_are_right graph few numbered single linked gaps_are forks = record {
-    few = few;
-    numbered = numbered;
-    single = λ i j e ie je. one_place node graph.survivors i j e e single ie je refl;
-    linked = linked;
-    gaps = gaps_are;
-    forks = forks;
-  }
+  parts_are_right given found graph single few is moved numbered linked gaps_are forks =
+      let all_single : HasNoDigestTwice node graph.survivors =
+      single_moved node found graph.survivors moved (survivors_single given found single (sym is)) in
+      record {
+        few = survivors_few given found graph.survivors is moved few;
+        numbered = numbered;
+        single = λ i j e ie je. one_place node graph.survivors i j e e all_single ie je refl;
+        linked = linked;
+        gaps = gaps_are;
+        forks = forks;
+      }
 
   -- and of the graph and the entries
   pub graph_is_right : (given found : List T) (graph : EntryGraph T) → found ≡ survivors node given

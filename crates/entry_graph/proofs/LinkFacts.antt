@@ -123,7 +123,7 @@ within_not_none (x ∷ xs) zero l is = none-some x (sym is)
 within_not_none (x ∷ xs) (suc i) l is = within_not_none xs i (omega arith) is
 
 -- a digest is borne by an entry at some place
-lacks_borne : {T : Type 0} (node : T → Node) (S : List T) (table : List (List ℕ × ℕ)) (d : List ℕ)
+pub lacks_borne : {T : Type 0} (node : T → Node) (S : List T) (table : List (List ℕ × ℕ)) (d : List ℕ)
     → ArePlaces node S table → number_at table d ≡ None → IsBorneIn node S d → ⊥
 lacks_borne node S table d places none (f, c, is) =
     let p = place_of S f c in

@@ -1,23 +1,26 @@
 -- Places of entries, and entries of which no two have one digest.
 use Rattle.std.proofs.Common.{◌≡◌, ℕ, zero, suc, ◌+◌, ◌<◌, Bool, true, false, cond, List, [], ◌∷◌, ◌++◌, length, map, take, get_or}
 use Rattle.std.proofs.Common.{refl, sym, ap, subst, ◌∙◌, ◌⊎◌, inl, inr, Some, None, arith}
-use Rattle.std.specs.Prelude.{◌||◌, slice_get}
+use Rattle.std.specs.Prelude.{◌||◌, slice_get, IfOk, Result, Ok, Err}
 use Rattle.std.specs.List.{All, AllZip, Contains, IsDistinct, filter, list_any}
 use Rattle.std.specs.Ordering.{is_eq}
 use Rattle.std.specs.Str.{bytes_eq}
 use Rattle.std.specs.declared.cmp.Ordering.{Ordering}
 use Rattle.std.specs.declared.cmp.Ordering.TheVariants.{Less, Equal, Greater}
-use Rattle.std.proofs.lemmas.Bool.{true≢false}
-use Rattle.std.proofs.lemmas.List.{take_more}
+use Rattle.std.proofs.lemmas.Bool.{true≢false, false_from_ne_true}
+use Rattle.std.proofs.lemmas.List.{take_more, map_push}
 use Rattle.std.proofs.lemmas.List.Folds.{list_any-append}
 use Rattle.std.proofs.Math.Bool.{or-false}
 use Rattle.std.proofs.lemmas.List.Elements.{All-from_recursion, recursion_from_All, All-contains}
 use Rattle.std.proofs.lemmas.List.Elements.{All-map, All-filter, Contains-get_or}
 use Rattle.std.proofs.lemmas.Map.Keys.{IsDistinct-head, IsDistinct-tail, IsDistinct-cons}
+use Rattle.std.proofs.lemmas.Map.Keys.{IsDistinct-from_apart, IsDistinct-push}
+use Rattle.std.proofs.lemmas.Cmp.{nat_list_eq_equiv}
 use Rattle.std.proofs.lemmas.Option.{none-some, same_Some, slice_get-get_or, slice_get_within, get_or_from_slice_get}
 use Rattle.std.proofs.lemmas.Slice.Eq.{bytes_eq-Decides}
 use Rattle.entry_order.specs.Node.{Node}
-use Rattle.entry_order.proofs.Lists.{Contains-map, Contains-head, Contains-later}
+use Rattle.entry_order.proofs.Lists.{Contains-map, Contains-map_cases, list_any_some}
+use Rattle.entry_order.specs.Naming.{IsBorneIn}
 use Rattle.entry_graph.specs.inside.Distinct.{HasNoDigestTwice}
 
 -- a test of equality that passes
@@ -29,6 +32,12 @@ equal_from Greater t = absurd (true≢false (sym t))
 -- what one more passes or doesn't
 pub any_push : {X : Type 0} (f : X → Bool) (xs : List X) (x : X) → list_any f (xs ++ x ∷ []) ≡ (list_any f xs || f x)
 any_push f xs x = list_any-append f xs (x ∷ []) ∙ ap (λ b. list_any f xs || b) (or-false (f x))
+
+-- what two clauses say of a result, taken together
+pub if_ok_both : {A E : Type 0} (r : Result A E) {P Q R : A → Type 0} → IfOk r P → IfOk r Q
+    → ((x : A) → P x → Q x → R x) → IfOk r R
+if_ok_both (Ok x) p q both = both x p q
+if_ok_both (Err e) p q both = tt
 
 module _ {X : Type 0} where
   -- the first elements and the one that comes next
@@ -141,3 +150,19 @@ module _ {T : Type 0} (node : T → Node) where
             rest
         | false ↦ rest
       ]
+
+  -- none, and one more whose digest is new
+  pub single_none : HasNoDigestTwice node []
+  single_none = IsDistinct-from_apart bytes_eq [] (λ i j d l within. absurd (omega arith))
+
+  pub single_push : (es : List T) (e : T) → HasNoDigestTwice node es → (IsBorneIn node es (node e).digest → ⊥)
+      → HasNoDigestTwice node (es ++ e ∷ [])
+  single_push es e single new =
+      let digest : T → List ℕ = λ f. (node f).digest in
+      let none : list_any (bytes_eq (digest e)) (map digest es) ≡ false =
+      false_from_ne_true (list_any (bytes_eq (digest e)) (map digest es)) (λ t.
+      let r = list_any_some (bytes_eq (digest e)) (map digest es) t in
+      let g = Contains-map_cases digest es r.0 r.1 in
+      new (g.0, g.1, g.2 ∙ sym ((bytes_eq-Decides (digest e) r.0).0 r.2))) in
+      subst (λ ds. IsDistinct bytes_eq ds) (sym (map_push digest es e))
+      (IsDistinct-push nat_list_eq_equiv (map digest es) (digest e) single none)

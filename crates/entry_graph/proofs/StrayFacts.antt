@@ -124,11 +124,11 @@ pub strays_from : {T : Type 0} (node : T → Node) (given : List T) (set : BTree
     → ((d : List ℕ) → contains (slice_cmp nat_cmp) set d
     ≡ list_any (λ e. is_stray node given e && is_at (slice_cmp nat_cmp (node e).digest) d) given)
     → strays ≡ set.keys → IsStrictlySortedBy (slice_cmp nat_cmp) strays → AreStrays node given strays
-strays_from node given set strays are is rises = record {
+strays_from {T} node given set strays are is rises = record {
   rises = ascending_from_sorted strays rises;
   members = λ d.
       let iff = btree_set_contains_iff nat_list_cmp_total exact_bytes set d in
-      let test : T → Bool = λ e. is_stray node given e && is_at (slice_cmp nat_cmp (node e).digest) d in
+      let test = λ (e : T). is_stray node given e && is_at (slice_cmp nat_cmp (node e).digest) d in
       (
         (λ c.
             let r = list_any_some test given (sym (are d) ∙ iff.1 (subst (λ ks. Contains ks d) is c)) in
@@ -152,25 +152,25 @@ strays_from node given set strays are is rises = record {
       );
 }
 
-module _ {T : Type 0} (node : T → Node) (given es : List T) (e : T) (d : List ℕ) (before after : Bool) where
+module _ {T : Type 0} (node : T → Node) (given es : List T) (e : T) (d : List ℕ) where
   -- whether an entry is a stray with this digest
   abbrev pub is_stray_at : T → Bool
   is_stray_at f = is_stray node given f && is_at (slice_cmp nat_cmp (node f).digest) d
 
   -- one stray more
-  pub stray_more : is_stray node given e ≡ true → before ≡ list_any is_stray_at es
+  pub stray_more : (before after : Bool) → is_stray node given e ≡ true → before ≡ list_any is_stray_at es
       → after ≡ cond (is_at (slice_cmp nat_cmp (node e).digest) d) true before
       → after ≡ list_any is_stray_at (es ++ e ∷ [])
-  stray_more stray is set =
+  stray_more before after stray is set =
       set ∙ ap (cond (is_at (slice_cmp nat_cmp (node e).digest) d) true) is
       ∙ last_first (is_at (slice_cmp nat_cmp (node e).digest) d) (list_any is_stray_at es)
       ∙ ap (λ b. list_any is_stray_at es || (b && is_at (slice_cmp nat_cmp (node e).digest) d)) (sym stray)
       ∙ sym (any_push is_stray_at es e)
 
   -- one survivor more
-  pub survivor_more : is_stray node given e ≡ false → before ≡ list_any is_stray_at es
+  pub survivor_more : (before : Bool) → is_stray node given e ≡ false → before ≡ list_any is_stray_at es
       → before ≡ list_any is_stray_at (es ++ e ∷ [])
-  survivor_more kept is =
+  survivor_more before kept is =
       is ∙ sym (or-false (list_any is_stray_at es))
       ∙ ap (λ b. list_any is_stray_at es || (b && is_at (slice_cmp nat_cmp (node e).digest) d)) (sym kept)
       ∙ sym (any_push is_stray_at es e)

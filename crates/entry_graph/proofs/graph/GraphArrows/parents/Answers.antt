@@ -1,7 +1,9 @@
-use Rattle.std.proofs.Common.{rules, ◌≡◌, List, ℕ, slice_index_or, subst}
+use Rattle.std.proofs.Common.{◌≡◌, ◌∙◌, ◌<◌, List, ℕ, Some, length, slice_index_or, refl, ap, sym, subst, arith}
+use Rattle.std.specs.Prelude.{slice_get}
 use Rattle.std.specs.List.{Contains}
 use Rattle.std.proofs.lemmas.List.{get_or_default}
-use Rattle.entry_graph.specs.EntryGraph.{parents_of}
+use Rattle.std.proofs.lemmas.Option.{slice_get_read}
+use Rattle.entry_graph.specs.EntryGraph.{parents_in, parents_of}
 use Rattle.entry_graph.proofs.graph.GraphArrows.parents.Goals as goal
 
 -- the links descend
@@ -9,6 +11,12 @@ pub returns-clause-below : goal.returns-clause-below
 returns-clause-below g c = λ k d within.
     let ps : List ℕ = c.parents.result.now in
     let z : ℕ = slice_index_or ps k d in
-    let are : ps ≡ parents_of c.self.inside.links.items c.args.node = search rules in
+    let links = c.self.inside.links.items in
+    let inside : length c.self.inside.survivors.items ≡ length c.args.self.now.survivors =
+    ap (λ graph. length graph.survivors) c.self.view_is in
+    let there : slice_get links c.args.node ≡ Some c.index.result.now =
+    slice_get_read links (length links) c.args.node c.index.result.now refl
+    (omega (arith, inside, c.requires, c.self.invariant.linked.one_each)) c.index.ensures in
+    let are : ps ≡ parents_of links c.args.node = c.parents.ensures ∙ sym (ap parents_in there) in
     c.self.invariant.linked.arrows.descends c.args.node z
     (subst (λ qs. Contains qs z) are (k, within, get_or_default ps k z d within))
