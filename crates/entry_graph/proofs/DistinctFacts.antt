@@ -58,7 +58,7 @@ module _ {T : Type 0} (node : T → Node) where
   distinct_bears (x ∷ es) e c =
       let rest = filter (apart x) (distinct node es) in
       let here : (g : T) → (node x).digest ≡ (node g).digest
-          → IsBorneIn node (x ∷ rest) (node g).digest =
+      → IsBorneIn node (x ∷ rest) (node g).digest =
       λ g same. (x, Contains-head x rest, same) in
       elim (Contains-cons_cases x es e c) [
         | inl is ↦ here e (ap (λ z. (node z).digest) is)
@@ -69,8 +69,8 @@ module _ {T : Type 0} (node : T → Node) where
               | inr t ↦ (
                 r.0,
                 Contains-later x rest r.0
-                (Contains-filter (apart x) (distinct node es) r.0 r.1
-                (not_from_false (bytes_eq (node r.0).digest (node x).digest) t)),
+                    (Contains-filter (apart x) (distinct node es) r.0 r.1
+                    (not_from_false (bytes_eq (node r.0).digest (node x).digest) t)),
                 r.2,
               )
             ])

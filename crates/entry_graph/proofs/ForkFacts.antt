@@ -80,8 +80,7 @@ module _ {T : Type 0} (node : T → Node) where
           let r = list_any_some (λ x. is_at (pair_cmp (pair_of x)) (pair_of e)) es parts.0 in
           let first : pair_of r.0 ≡ (m, n) =
           same_pair (pair_of r.0) (pair_of e) r.2 ∙ same_pair (pair_of e) (m, n) parts.1 in
-          let last : pair_of e ≡ (m, n) = same_pair (pair_of e) (m, n) parts.1 in
-          (
+          let last : pair_of e ≡ (m, n) = same_pair (pair_of e) (m, n) parts.1 in (
             r.0,
             e,
             Contains-append_left es (e ∷ []) r.0 r.1,
@@ -93,8 +92,7 @@ module _ {T : Type 0} (node : T → Node) where
             ap (λ (p : ℕ × ℕ). p.1) last,
           ))
       | inr old ↦
-          (let r = before.0 old in
-          (
+          (let r = before.0 old in (
             r.0,
             r.1,
             Contains-append_left es (e ∷ []) r.0 r.2,
@@ -163,8 +161,7 @@ module _ {T : Type 0} (node : T → Node) where
   forks_from es set forks are is rises = record {
     rises = rises;
     members = λ m n.
-        let iff = btree_set_contains_iff pair_total pair_exact set (m, n) in
-        (
+        let iff = btree_set_contains_iff pair_total pair_exact set (m, n) in (
           (λ c. (are m n).0 (iff.1 (subst (λ ks. Contains ks (m, n)) is c))),
           (λ fork. subst (λ ks. Contains ks (m, n)) (sym is) (iff.0 ((are m n).1 fork))),
         );

@@ -232,8 +232,7 @@ module _ {T : Type 0} (node : T → Node) (S : List T) (table : List (List ℕ �
   gaps_shown i e ie =
       let at = linked_at i e ie in
       let are = (gaps_are_unique node S (gaps node S)).0 refl in
-      let lacking : List ℕ → Bool = λ d. is_none (number_at table d) in
-      (
+      let lacking : List ℕ → Bool = λ d. is_none (number_at table d) in (
         λ clean d named gap.
             let known = (are.members d).0 gap in
             let n = found_from (number_at table d) (λ none.

@@ -66,10 +66,10 @@ module _ {T : Type 0} (node : T → Node) where
         | inl same ↦ inr (
           same,
           below (node e).digest (node f).digest
-          (sym (ap (λ o. is_lt (ordering_then o (slice_cmp nat_cmp (node f).digest (node e).digest)))
-          (level (node f).stamp (node e).stamp (sym same)))
-          ∙ not_lt)
-          differ,
+              (sym (ap (λ o. is_lt (ordering_then o (slice_cmp nat_cmp (node f).digest (node e).digest)))
+              (level (node f).stamp (node e).stamp (sym same)))
+              ∙ not_lt)
+              differ,
         )
         | inr (inl lower) ↦ inl lower
         | inr (inr higher) ↦

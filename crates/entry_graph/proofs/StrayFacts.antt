@@ -68,8 +68,7 @@ module _ {T : Type 0} (node : T → Node) where
   stray_by_table given e table stamps t =
       let r = list_any_some (λ d. is_from (node e).stamp (number_at table d)) (node e).names t in
       let n = from_parts (node e).stamp (number_at table r.0) r.2 in
-      let f = stamps.found r.0 n.0 n.1 in
-      (
+      let f = stamps.found r.0 n.0 n.1 in (
         f.0,
         f.1,
         subst (λ d. Contains (node e).names d) (sym f.2) r.1,
@@ -128,17 +127,15 @@ strays_from {T} node given set strays are is rises = record {
   rises = ascending_from_sorted strays rises;
   members = λ d.
       let iff = btree_set_contains_iff nat_list_cmp_total exact_bytes set d in
-      let test = λ (e : T). is_stray node given e && is_at (slice_cmp nat_cmp (node e).digest) d in
-      (
+      let test = λ (e : T). is_stray node given e && is_at (slice_cmp nat_cmp (node e).digest) d in (
         (λ c.
             let r = list_any_some test given (sym (are d) ∙ iff.1 (subst (λ ks. Contains ks d) is c)) in
-            let parts = and_parts (is_stray node given r.0) (is_at (slice_cmp nat_cmp (node r.0).digest) d) r.2 in
-            (
+            let parts = and_parts (is_stray node given r.0) (is_at (slice_cmp nat_cmp (node r.0).digest) d) r.2 in (
               r.0,
               r.1,
               is_stray_from node given r.0 parts.0,
               exact_bytes (node r.0).digest d
-              (equal_from (slice_cmp nat_cmp (node r.0).digest d) parts.1),
+                  (equal_from (slice_cmp nat_cmp (node r.0).digest d) parts.1),
             )),
         (λ (e, c, stray, same).
             subst (λ ks. Contains ks d) (sym is)

@@ -1,7 +1,6 @@
 //! Why entries have no graph.
 use entry_format::Sealed;
 use std::alloc::{AllocError, AllocFailed};
-
 use thiserror::Error;
 
 /// Why entries have no graph, the first that applies.

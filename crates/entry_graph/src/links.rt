@@ -69,11 +69,7 @@ fn places_of<T: Knot>(alloc: Global, survivors: &[T]) -> Result<DigestTable, All
 }
 
 /// What is linked by these names.
-fn links_at(
-    alloc: Global,
-    names: &[[u8; 32]],
-    places: &DigestTable,
-) -> Result<Links, AllocError>
+fn links_at(alloc: Global, names: &[[u8; 32]], places: &DigestTable) -> Result<Links, AllocError>
     requires { (d : List ℕ) (p : ℕ) → number_at places.now d ≡ Some p → p < 2 ^ 32 }
     ensures { IfOk result (IsLinked places.now names.now) }
 {

@@ -59,7 +59,9 @@ impl SignedText for Small {
 /// The entry that a word tells: the letters of its digest and its text, its maker, number and stamp
 /// as digits, and the letters of the digests that it names.
 fn small(alloc: Global, word: &[u8]) -> Result<Small, AllocError> {
-    let digit = |at: usize| word.get(at).map_or(0, |byte| u32::from(byte.saturating_sub(b'0')));
+    let digit = |at: usize| word
+        .get(at)
+        .map_or(0, |byte| u32::from(byte.saturating_sub(b'0')));
     let letter = |at: usize| word.get(at).copied().unwrap_or(b'?');
     let mut names = Vec::new(alloc);
     for byte in word.iter().skip(5) {
@@ -131,8 +133,14 @@ const GRAPHS: &[(&str, &str)] = &[
     ("aA002b bB103 cC204a", "b c? gaps a strays a forks"),
     ("aA002bc bB102a cC204a", "c? gaps a strays ab forks"),
     // Two survivors of one maker with one number are a fork, and a stray or an equal one is none.
-    ("aA001 bB002 cC103 cC103 dD204 eE204e", "a b c d gaps  strays e forks 00"),
-    ("aA111 bB112 cC113 dD003 eE004", "a b c d e gaps  strays  forks 00 11"),
+    (
+        "aA001 bB002 cC103 cC103 dD204 eE204e",
+        "a b c d gaps  strays e forks 00",
+    ),
+    (
+        "aA111 bB112 cC113 dD003 eE004",
+        "a b c d e gaps  strays  forks 00 11",
+    ),
     // The first that collides is told, with the one before it.
     ("aA001 bB001 bX001 aY001", "bB bX"),
 ];
@@ -177,7 +185,9 @@ fn many(alloc: Global, count: u32) -> Result<Vec<Small>, AllocError> {
 #[test]
 fn a_graph_has_at_most_16_384_entries(rt: HostRuntime) -> Result<(), Fail> {
     let alloc = rt.alloc();
-    assert!(rt; Graph::make(alloc, many(alloc, 16_384)?).is_ok_and(|graph| graph.count() == 16_384));
+    assert!(rt;
+        Graph::make(alloc, many(alloc, 16_384)?).is_ok_and(|graph| graph.count() == 16_384)
+    );
     let refused = Graph::make(alloc, many(alloc, 16_385)?);
     assert!(rt; matches!(refused, Err(GraphFault::TooMany)));
     Ok(())

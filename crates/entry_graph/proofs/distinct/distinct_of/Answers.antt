@@ -105,8 +105,7 @@ returns-then-ne-clause-fault g c =
     true≢false
     (sym c.if-ne.true ∙ c.ne.ensures
     ∙ not_from_true (bytes_eq c.signed_text.result.now c.signed_text-in-Some-get.result.now)
-    ((bytes_eq-Decides c.signed_text.result.now c.signed_text-in-Some-get.result.now).1 one)) in
-    (
+    ((bytes_eq-Decides c.signed_text.result.now c.signed_text-in-Some-get.result.now).1 one)) in (
       c.loop-entry.yielded,
       c.next.new.self.rest.items,
       sym c.loop-entry.invariant.left ∙ ap (λ es. c.loop-entry.yielded ++ es) c.in-Some.ensures.steps.0,

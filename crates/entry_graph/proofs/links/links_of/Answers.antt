@@ -17,7 +17,8 @@ loop-survivor-preserved g c =
     let is : e ≡ get_or S i e = search rules in
     let pushed : c.push.new.self.items ≡ c.loop-survivor.links.items ++ l ∷ [] = search rules in
     let here : IsLinked table (node e).names l =
-    subst (λ ns. IsLinked table ns l) c.names.ensures c.in_ok-links_at.ensures in
+    subst (λ ns. IsLinked table ns l) c.names.ensures
+    (subst (λ t. IsLinked t c.names.result.now l) (sym c.places.view_is) c.in_ok-links_at.ensures) in
     subst (λ ls. AreLinked node table (take (i + 1) S) ls) (sym pushed)
     (linked_step node table S i e c.loop-survivor.links.items l within is c.loop-survivor.invariant here)
 

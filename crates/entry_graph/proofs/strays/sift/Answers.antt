@@ -1,10 +1,12 @@
-use Rattle.std.proofs.Common.{rules, ◌≡◌, ◌∙◌, ◌++◌, ◌∷◌, [], ℕ, Bool, true, false, not, cond, List, ap, sym, subst}
+use Rattle.std.proofs.Common.{rules, ◌≡◌, ◌∙◌, ◌++◌, ◌∷◌, [], ℕ, Bool, true, false, not, cond, List, ap, sym, subst, map-id}
 use Rattle.std.specs.Prelude.{◌&&◌}
 use Rattle.std.specs.BTreeMap.{is_at}
 use Rattle.std.specs.BTreeSet.{contains}
 use Rattle.std.specs.List.{list_any}
 use Rattle.std.specs.Cmp.Lexicographic.{slice_cmp}
 use Rattle.std.specs.Ordering.{nat_cmp}
+use Rattle.std.proofs.lemmas.Iterator.Adapters.{YieldsList-from_vec}
+use Rattle.std.proofs.lemmas.Iterator.Consumers.{YieldsList-end}
 use Rattle.std.proofs.lemmas.Bool.{not_from_true, not_from_false}
 use Rattle.entry_order.specs.Survivors.{is_stray}
 use Rattle.entry_graph.specs.inside.Tables.{AreStamps}
@@ -19,9 +21,8 @@ loop-entry-preserved-then-is_stray g c =
     let given = c.args.given.items in
     let before = c.loop-entry.yielded in
     let e = c.in-Some.entry in
-    let stamps : AreStamps node given c.stamps.inside.map.entries =
-    subst (λ t. AreStamps node given t) (sym c.stamps.view_is)
-    (subst (λ es. AreStamps node es c.in_ok-stamps.stamps) c.deref.ensures.value c.in_ok-stamps.ensures) in
+    let stamps : AreStamps node given c.in_ok-stamps.stamps =
+    subst (λ es. AreStamps node es c.in_ok-stamps.stamps) c.deref.ensures.value c.in_ok-stamps.ensures in
     let told : is_stray node given e ≡ true =
     sym (c.is_stray.ensures given c.requires stamps) ∙ c.if-is_stray.true in
     record {
@@ -43,9 +44,8 @@ loop-entry-preserved g c =
     let given = c.args.given.items in
     let before = c.loop-entry.yielded in
     let e = c.in-Some.entry in
-    let stamps : AreStamps node given c.stamps.inside.map.entries =
-    subst (λ t. AreStamps node given t) (sym c.stamps.view_is)
-    (subst (λ es. AreStamps node es c.in_ok-stamps.stamps) c.deref.ensures.value c.in_ok-stamps.ensures) in
+    let stamps : AreStamps node given c.in_ok-stamps.stamps =
+    subst (λ es. AreStamps node es c.in_ok-stamps.stamps) c.deref.ensures.value c.in_ok-stamps.ensures in
     let told : is_stray node given e ≡ false =
     sym (c.is_stray.ensures given c.requires stamps) ∙ c.if-is_stray.false in
     let pushed : c.push.new.self.items ≡ c.loop-entry.survivors.items ++ e ∷ [] = search rules in
@@ -62,7 +62,12 @@ pub returns-clause-strays : goal.returns-clause-strays
 returns-clause-strays g c =
     let node = g.T.Knot.node in
     let given = c.args.given.items in
-    let done : c.loop-entry.yielded ≡ given = search rules in
+    let end =
+    YieldsList-end
+    (YieldsList-from_vec {s = c.into_iter-entry-iterator.result} given (search rules) (search rules))
+    c.loop-entry.yielded c.loop-entry.entry-iterator c.loop-entry.yielded_by c.next.result c.next.new.self
+    c.in-None.is c.next.ensures.steps in
+    let done : c.loop-entry.yielded ≡ given = sym (map-id c.loop-entry.yielded) ∙ end.0 in
     strays_from node given c.loop-entry.strays c.in_ok-strays.strays.items
     (λ d.
     c.loop-entry.invariant.strays d

@@ -88,11 +88,10 @@ returns g c =
     c.number.ensures.same c.number.ensures.rises
     (subst (λ es. AreLinks node es c.in_ok-links.links.items) c.deref.ensures.value c.in_ok-links.ensures)
     (c.in_ok-gaps.ensures ∙ ap (gaps node) c.deref-2.ensures.value)
-    (subst (λ es. AreForks node es c.in_ok-forks.forks.items) c.deref-3.ensures.value c.in_ok-forks.ensures) in
-    (
+    (subst (λ es. AreForks node es c.in_ok-forks.forks.items) c.deref-3.ensures.value c.in_ok-forks.ensures) in (
       c.in_ok-distinct.ensures.no_collision,
       subst (λ es. length es ≤ 16384) c.in_ok-distinct.ensures.found few,
       subst (λ es. IsGraphOfGiven node es graph) c.in_ok-distinct.ensures.found
-      (graph_is_right node given found graph c.in_ok-sifted.ensures.survivors c.number.ensures.same
-      c.in_ok-sifted.ensures.strays kept),
+          (graph_is_right node given found graph c.in_ok-sifted.ensures.survivors c.number.ensures.same
+          c.in_ok-sifted.ensures.strays kept),
     )
