@@ -134,12 +134,16 @@ pub is_fresh : (script : Script) (at : ℕ) (cast read : Cast0) (stop : Option �
     log ≡ record { owner = at; capacity = script.log; events = [] } →
     state_from stop false script.version name read.role actions key posts log ≡ fresh script at cast stop
 is_fresh script at cast read stop name actions key posts log reads names acts keys rosters logs =
-    ap (λ n. state_from stop false script.version n read.role actions key posts log) (names ∙ ap (λ (c : Cast0). c.name) reads)
-    ∙ ap (λ r. state_from stop false script.version cast.name r actions key posts log) (ap (λ (c : Cast0). c.role) reads)
-    ∙ ap (λ a. state_from stop false script.version cast.name cast.role a key posts log) (acts ∙ ap (λ (c : Cast0). c.actions) reads)
-    ∙ ap (λ k. state_from stop false script.version cast.name cast.role cast.actions k posts log) keys
-    ∙ ap (λ p. state_from stop false script.version cast.name cast.role cast.actions (key_of script cast) p log) rosters
-    ∙ ap (λ l. state_from stop false script.version cast.name cast.role cast.actions (key_of script cast) (roster_of script) l) logs
+    let version = script.version in
+    let own = key_of script cast in
+    ap (λ n. state_from stop false version n read.role actions key posts log)
+    (names ∙ ap (λ (c : Cast0). c.name) reads)
+    ∙ ap (λ r. state_from stop false version cast.name r actions key posts log) (ap (λ (c : Cast0). c.role) reads)
+    ∙ ap (λ a. state_from stop false version cast.name cast.role a key posts log)
+    (acts ∙ ap (λ (c : Cast0). c.actions) reads)
+    ∙ ap (λ k. state_from stop false version cast.name cast.role cast.actions k posts log) keys
+    ∙ ap (λ p. state_from stop false version cast.name cast.role cast.actions own p log) rosters
+    ∙ ap (λ l. state_from stop false version cast.name cast.role cast.actions own (roster_of script) l) logs
 
 -- any number of events to stop at allows none
 none_yet : (stop : Option ℕ) → IsWithinStop stop 0

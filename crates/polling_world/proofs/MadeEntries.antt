@@ -70,8 +70,8 @@ entry_of_parts version election maker number stamp names deed = record {
   deed = deed;
 }
 
-pub same_entry : (e f : Entry) → e.version ≡ f.version → e.election ≡ f.election → e.maker ≡ f.maker → e.number ≡ f.number →
-    e.stamp ≡ f.stamp → e.names ≡ f.names → e.deed ≡ f.deed → e ≡ f
+pub same_entry : (e f : Entry) → e.version ≡ f.version → e.election ≡ f.election → e.maker ≡ f.maker →
+    e.number ≡ f.number → e.stamp ≡ f.stamp → e.names ≡ f.names → e.deed ≡ f.deed → e ≡ f
 same_entry e f version election maker number stamp names deed =
     ap (λ x. entry_of_parts x e.election e.maker e.number e.stamp e.names e.deed) version
     ∙ ap (λ x. entry_of_parts f.version x e.maker e.number e.stamp e.names e.deed) election

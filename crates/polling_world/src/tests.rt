@@ -5,6 +5,7 @@ ghost use Rattle.election_script.specs.Lawful.{IsLawful};
 use super::*;
 use election_script::{Script, read};
 use entangled_log::Event;
+use entry_format::Sealed;
 use std::alloc::{AllocError, Global};
 use std::test::Fail;
 

@@ -16,7 +16,8 @@ seal-requires-clause-election c = c.self.invariant.of_roster
 
 pub seal-requires-clause-rising : goal.seal-requires-clause-rising
 seal-requires-clause-rising c =
-    subst IsAscending (sym (c.from_vec.ensures ∙ c.in-Ok.ensures.ok.names)) (frontier_rises (held c.self.inside.log.events))
+    subst IsAscending (sym (c.from_vec.ensures ∙ c.in-Ok.ensures.ok.names))
+    (frontier_rises (held c.self.inside.log.events))
 
 pub seal-requires-clause-few : goal.seal-requires-clause-few
 seal-requires-clause-few c =

@@ -44,10 +44,10 @@ invariant_of-self c =
     (c.note_last.ensures.kept fields.role fields.log.owner fields.log.events (Sent c.args.sealed) longer kept.noted) in
     let after = IsKept-sent m fields.election fields.key.next fields.capacity fields.rules c.note_last.new.rules kept
     going may.room c.args.sealed may noted c.note_last.ensures.spare in
-    let with_key = subst (λ (k : Secret). IsKept (state_from fields.stop_at fields.marked fields.version fields.name fields.role
-    fields.actions.items k fields.roster.machines
+    let with_key = subst (λ (k : Secret). IsKept (state_from fields.stop_at fields.marked fields.version fields.name
+    fields.role fields.actions.items k fields.roster.machines
     (with_event (Sent c.args.sealed) fields.log))
     fields.election k.next fields.capacity c.note_last.new.rules) (sym c.advance.ensures) after in
-    subst (λ (l : History SealedEntry). IsKept (state_from fields.stop_at fields.marked fields.version fields.name fields.role
-    fields.actions.items c.advance.new.self fields.roster.machines l) fields.election c.advance.new.self.next
+    subst (λ (l : History SealedEntry). IsKept (state_from fields.stop_at fields.marked fields.version fields.name
+    fields.role fields.actions.items c.advance.new.self fields.roster.machines l) fields.election c.advance.new.self.next
     fields.capacity c.note_last.new.rules) (sym c.push_sent.ensures) with_key
