@@ -64,11 +64,13 @@ one_why m deed why.Stopped why.Ready x y = absurd (clash (has_stopped m) x y.goi
 one_why m deed (why.SupervisorNot v) why.Stopped x y = absurd (clash (has_stopped m) y x.0)
 one_why m deed (why.SupervisorNot v) (why.SupervisorNot w) x y =
     let same =
-    one_rule m.config.role m.config.number m.events deed (Err (why.SupervisorNot v)) (Err (why.SupervisorNot w)) x.1 y.1 in
+    one_rule m.config.role m.config.number m.events deed (Err (why.SupervisorNot v)) (Err (why.SupervisorNot w)) x.1
+    y.1 in
     cc
 one_why m deed (why.SupervisorNot v) (why.BoothNot w) x y =
     let same =
-    one_rule m.config.role m.config.number m.events deed (Err (why.SupervisorNot v)) (Err (why.BoothNot w)) x.1 y.1 in
+    one_rule m.config.role m.config.number m.events deed (Err (why.SupervisorNot v)) (Err (why.BoothNot w)) x.1
+    y.1 in
     cc
 one_why m deed (why.SupervisorNot v) why.Full x y =
     let same = one_rule m.config.role m.config.number m.events deed (Err (why.SupervisorNot v)) (Ok tt) x.1 y.1 in cc
@@ -82,11 +84,13 @@ one_why m deed (why.SupervisorNot v) why.Ready x y =
 one_why m deed (why.BoothNot v) why.Stopped x y = absurd (clash (has_stopped m) y x.0)
 one_why m deed (why.BoothNot v) (why.SupervisorNot w) x y =
     let same =
-    one_rule m.config.role m.config.number m.events deed (Err (why.BoothNot v)) (Err (why.SupervisorNot w)) x.1 y.1 in
+    one_rule m.config.role m.config.number m.events deed (Err (why.BoothNot v)) (Err (why.SupervisorNot w)) x.1
+    y.1 in
     cc
 one_why m deed (why.BoothNot v) (why.BoothNot w) x y =
     let same =
-    one_rule m.config.role m.config.number m.events deed (Err (why.BoothNot v)) (Err (why.BoothNot w)) x.1 y.1 in cc
+    one_rule m.config.role m.config.number m.events deed (Err (why.BoothNot v)) (Err (why.BoothNot w)) x.1
+    y.1 in cc
 one_why m deed (why.BoothNot v) why.Full x y =
     let same = one_rule m.config.role m.config.number m.events deed (Err (why.BoothNot v)) (Ok tt) x.1 y.1 in cc
 one_why m deed (why.BoothNot v) why.StampSpent x y =

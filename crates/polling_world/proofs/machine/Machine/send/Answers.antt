@@ -49,5 +49,6 @@ invariant_of-self c =
     (with_event (Sent c.args.sealed) fields.log))
     fields.election k.next fields.capacity c.note_last.new.rules) (sym c.advance.ensures) after in
     subst (λ (l : History SealedEntry). IsKept (state_from fields.stop_at fields.marked fields.version fields.name
-    fields.role fields.actions.items c.advance.new.self fields.roster.machines l) fields.election c.advance.new.self.next
+    fields.role fields.actions.items c.advance.new.self fields.roster.machines l) fields.election
+    c.advance.new.self.next
     fields.capacity c.note_last.new.rules) (sym c.push_sent.ensures) with_key
