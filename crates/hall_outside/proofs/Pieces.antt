@@ -1,5 +1,5 @@
 -- Reads of a file one where the last one ended.
-use Rattle.std.proofs.Common.{◌≡◌, ℕ, ◌+◌, subst, sym, ap}
+use Rattle.std.proofs.Common.{◌≡◌, ℕ, ◌+◌, subst}
 use Rattle.std.specs.Prelude.{Result, Ok}
 use Rattle.hall_outside.specs.declared.stores.Failed.{Failed}
 use Rattle.hall_outside.specs.declared.stores.Taken.{Taken}
