@@ -5,3 +5,5 @@ pub mod OneAnswer
 pub mod Cuts
 pub mod Undone
 pub mod OnePlayAnswer
+pub mod Calls
+pub mod Statuses

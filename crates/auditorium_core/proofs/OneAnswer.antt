@@ -1,5 +1,5 @@
 -- Words and files have at most one answer.
-use Rattle.std.proofs.Common.{◌≡◌, ◌∙◌, ℕ, ◌<◌, ◌≤◌, ◌⊎◌, inl, inr, List, ◌++◌, Option, Some, None, length, ap, sym, subst, arith}
+use Rattle.std.proofs.Common.{◌≡◌, ◌∙◌, ℕ, ◌<◌, ◌≤◌, ◌⊎◌, inl, inr, List, ◌++◌, [], ◌∷◌, refl, Option, Some, None, length, ap, sym, subst, arith}
 use Rattle.std.specs.Prelude.{codes}
 use Rattle.entry_order.specs.Survivors.{gaps as gaps_of}
 use Rattle.entry_format.specs.Nodes.{node_of}
@@ -12,10 +12,10 @@ use Rattle.log_files.specs.declared.plain_log.LogFault.TheVariants.{Absent, TooL
 use Rattle.log_files.specs.LogText.{HasHeader, Says}
 use Rattle.log_files.specs.LogFile.{max_bytes, IsRefused}
 use Rattle.hall_outside.specs.Files.{Files}
-use Rattle.auditorium_core.specs.Words.{Command, gaps, play, words_of, Means}
+use Rattle.auditorium_core.specs.Words.{Command, gaps, play, words_of, files_of, Means}
 use Rattle.auditorium_core.specs.Lines.{Answer, absent_answer, refused_answer}
 use Rattle.auditorium_core.specs.Gaps.{refused_lines, end_line, gap_lines, log_lines, findings_answer, IsRefusal, IsGapsAnswer}
-use Rattle.auditorium_core.specs.Answer.{IsAnswer, Answers}
+use Rattle.auditorium_core.specs.Answer.{IsAnswer, AreFiles, IsAnswerTo, Answers}
 use Rattle.auditorium_core.proofs.OnePlayAnswer.{PlayOne, same_play}
 
 -- bytes say at most one log, and only where they have a header
@@ -109,16 +109,38 @@ same_command words (play script prefix) (play other start) m n =
     let e : words_of (play script prefix) ≡ words_of (play other start) = sym m.spelt ∙ n.spelt in
     cc
 
-same_answer : SayOne → PlayOne → (command : Command) (files : Files) (a b : Answer) → IsAnswer command files a
-    → IsAnswer command files b → a ≡ b
-same_answer one way (gaps log) files a b x y = same_gaps one log (files log) a b x y
-same_answer one way (play script prefix) files a b x y = same_play way script prefix (files script) a b x y
+same_answer : SayOne → PlayOne → (command : Command) (files : List (Option (List ℕ))) (a b : Answer)
+    → IsAnswer command files a → IsAnswer command files b → a ≡ b
+same_answer one way (gaps log) [] a b x y = absurd x
+same_answer one way (gaps log) (file ∷ []) a b x y = same_gaps one log file a b x y
+same_answer one way (gaps log) (file ∷ next ∷ files) a b x y = absurd x
+same_answer one way (play script prefix) [] a b x y = absurd x
+same_answer one way (play script prefix) (file ∷ []) a b x y = same_play way script prefix file a b x y
+same_answer one way (play script prefix) (file ∷ next ∷ files) a b x y = absurd x
 
-pub one_answer : SayOne → PlayOne → (words : List (List ℕ)) (files : Files) (a b : Answer) → Answers words files a
-    → Answers words files b → a ≡ b
+-- the files that are told are these alone
+same_files : (told : Files) (names : List (List ℕ)) (files others : List (Option (List ℕ)))
+    → AreFiles (Some told) names files → AreFiles (Some told) names others → files ≡ others
+same_files told [] [] [] x y = refl
+same_files told [] [] (other ∷ others) x y = absurd y
+same_files told [] (file ∷ files) others x y = absurd x
+same_files told (name ∷ names) [] others x y = absurd x
+same_files told (name ∷ names) (file ∷ files) [] x y = absurd y
+same_files told (name ∷ names) (file ∷ files) (other ∷ others) x y =
+    ap (λ f. f ∷ files) (sym x.0 ∙ y.0) ∙ ap (λ fs. other ∷ fs) (same_files told names files others x.1 y.1)
+
+same_answer_to : SayOne → PlayOne → (command : Command) (told : Files) (a b : Answer)
+    → IsAnswerTo command (Some told) a → IsAnswerTo command (Some told) b → a ≡ b
+same_answer_to one way command told a b (files, are, is) (others, are', is') =
+    let P : List (Option (List ℕ)) → Type 0 = λ fs. IsAnswer command fs b in
+    same_answer one way command files a b is
+    (subst P (same_files told (files_of command) others files are' are) is')
+
+pub one_answer : SayOne → PlayOne → (words : List (List ℕ)) (files : Files) (a b : Answer)
+    → Answers words (Some files) a → Answers words (Some files) b → a ≡ b
 one_answer one way words files a b (inl (command, means, is)) (inl (other, means', is')) =
-    let P : Command → Type 0 = λ c. IsAnswer c files b in
-    same_answer one way command files a b is (subst P (same_command words other command means' means) is')
+    let P : Command → Type 0 = λ c. IsAnswerTo c (Some files) b in
+    same_answer_to one way command files a b is (subst P (same_command words other command means' means) is')
 one_answer one way words files a b (inl (command, means, is)) (inr (bad, f)) = absurd (bad (command, means))
 one_answer one way words files a b (inr (bad, e)) (inl (command, means, is)) = absurd (bad (command, means))
 one_answer one way words files a b (inr (bad, e)) (inr (bad', f)) = e ∙ sym f

@@ -6,3 +6,4 @@ pub mod Play
 pub mod Answer
 pub mod Outcome
 pub mod Meaning
+pub mod inside

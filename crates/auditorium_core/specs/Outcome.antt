@@ -1,33 +1,39 @@
 -- What the program has done, by the status with which it ends.
-use Rattle.std.specs.Prelude.{◌≡◌, ℕ, List, [], ◌∷◌, Option, ◌⊎◌}
+use Rattle.std.specs.Prelude.{◌≡◌, ℕ, List, [], ◌∷◌, Option, ◌⊎◌, Bool, true, false, Result}
 use Rattle.hall_outside.specs.Counts.{HasRisen}
 use Rattle.hall_outside.specs.Files.{Files, with_file, SetsPrefix}
 use Rattle.hall_outside.specs.Reading.{Answered}
-use Rattle.hall_outside.specs.Writing.{appended, AppendsPrefix}
+use Rattle.hall_outside.specs.Writing.{appended, AppendsPrefix, OffersAll, Puts}
+use Rattle.hall_outside.specs.declared.stores.Failed.{Failed}
 use Rattle.auditorium_core.specs.declared.status.Status.{Status}
 use Rattle.auditorium_core.specs.declared.status.Status.TheVariants.{ReadFault, WriteFault, Memory}
 use Rattle.auditorium_core.specs.Lines.{Answer}
 use Rattle.auditorium_core.specs.Answer.{IsAnswerOf}
 
--- what can be seen of a store and a sink: the files and the output, where they are told, and the counts
-pub record Outside : Type 0 where
+-- what can be seen of a store: the files, where they are told, and the counts
+pub record StoreSeen : Type 0 where
   pub files : Option Files
   pub answered : Answered
   pub read_faults : ℕ
   pub write_faults : ℕ
+
+-- what can be seen of a store and a sink: of the sink the output, where it is told, and the count
+pub record Outside : Type 0 where
+  pub store : StoreSeen
   pub output : Option (List ℕ)
   pub output_faults : ℕ
 
 -- the same, part by part
-abbrev pub outside : Option Files → Answered → ℕ → ℕ → Option (List ℕ) → ℕ → Outside
-outside files answered read_faults write_faults output output_faults = record {
+abbrev pub store_seen : Option Files → Answered → ℕ → ℕ → StoreSeen
+store_seen files answered read_faults write_faults = record {
   files = files;
   answered = answered;
   read_faults = read_faults;
   write_faults = write_faults;
-  output = output;
-  output_faults = output_faults;
 }
+
+abbrev pub outside : StoreSeen → Option (List ℕ) → ℕ → Outside
+outside store output output_faults = record { store = store; output = output; output_faults = output_faults }
 
 -- the files with these set, one after another
 abbrev pub with_files : Option Files → List (List ℕ × List ℕ) → Option Files
@@ -40,37 +46,59 @@ SetsSome old [] new = new ≡ old
 SetsSome old (file ∷ files) new =
     SetsPrefix old file.0 file.1 new ⊎ SetsSome (with_file old file.0 file.1) files new
 
+-- files put one after another, up to the first that fails
+pub data PutsAll {S : Type 0} (create : List ℕ → S → Bool → S → Type 0)
+    (append : List ℕ → S → List ℕ → Result ℕ Failed → S → Type 0) : S → List (List ℕ × List ℕ) → Bool → S
+    → Type 0 where
+  all_put : (now : S) → PutsAll create append now [] true now
+  fails : (old new : S) (file : List ℕ × List ℕ) (files : List (List ℕ × List ℕ))
+      → Puts (create file.0) (append file.0) old file.1 false new → PutsAll create append old (file ∷ files) false new
+  puts : (old mid new : S) (file : List ℕ × List ℕ) (files : List (List ℕ × List ℕ)) (ok : Bool)
+      → Puts (create file.0) (append file.0) old file.1 true mid → PutsAll create append mid files ok new
+      → PutsAll create append old (file ∷ files) ok new
+
+-- The calls by which an answer is written: each file by one create and by appends, and then the output by writes, each
+-- append and write being offered all that is left. The first call that fails is the last.
+abbrev pub IsWrittenBy : {S K : Type 0} → (List ℕ → S → Bool → S → Type 0)
+    → (List ℕ → S → List ℕ → Result ℕ Failed → S → Type 0) → (K → List ℕ → Result ℕ Failed → K → Type 0) → Answer
+    → S → K → Bool → S → K → Type 0
+IsWrittenBy create append write answer store out ok store_after out_after =
+    (PutsAll create append store answer.files false store_after × (out_after ≡ out) × (ok ≡ false))
+    ⊎ (PutsAll create append store answer.files true store_after × OffersAll write out answer.output ok out_after)
+
 -- nothing was written
 pub record IsUnwritten (old new : Outside) : Type 0 where
-  pub files : new.files ≡ old.files
+  pub files : new.store.files ≡ old.store.files
   pub output : new.output ≡ old.output
 
 -- all of the answer was written
 pub record IsWritten (answer : Answer) (old new : Outside) : Type 0 where
-  pub files : new.files ≡ with_files old.files answer.files
+  pub files : new.store.files ≡ with_files old.store.files answer.files
   pub output : new.output ≡ appended old.output answer.output
 
 -- a write failed: the files were written up to some place, and a prefix of the output
 pub record IsCutShort (answer : Answer) (old new : Outside) : Type 0 where
-  pub cause : HasRisen old.write_faults new.write_faults ⊎ HasRisen old.output_faults new.output_faults
-  pub files : SetsSome old.files answer.files new.files
+  pub cause : HasRisen old.store.write_faults new.store.write_faults ⊎ HasRisen old.output_faults new.output_faults
+  pub files : SetsSome old.store.files answer.files new.store.files
   pub output : AppendsPrefix old.output answer.output new.output
   -- each file is whole unless the store failed, and the output is empty unless the sink did
-  pub all_files : ¬ HasRisen old.write_faults new.write_faults → new.files ≡ with_files old.files answer.files
+  pub all_files : ¬ HasRisen old.store.write_faults new.store.write_faults
+      → new.store.files ≡ with_files old.store.files answer.files
   pub no_output : ¬ HasRisen old.output_faults new.output_faults → new.output ≡ old.output
 
 -- the answer to the words in this call
 abbrev pub GivesAnswer : List (List ℕ) → Outside → Outside → Answer → Type 0
 GivesAnswer words old new answer =
-    IsAnswerOf words old.files old.answered.absences new.answered.absences answer
+    IsAnswerOf words old.store.files old.store.answered.absences new.store.answered.absences answer
 
--- What was done. A status that isn't a fault of the outside or want of memory is that of the answer.
-abbrev pub HasDone : List (List ℕ) → Outside → Status → Outside → Type 0
-HasDone words old ReadFault new =
-    HasRisen old.read_faults new.read_faults × IsUnwritten old new
-HasDone words old WriteFault new =
-    (answer : Answer) × GivesAnswer words old new answer × IsCutShort answer old new
-HasDone words old Memory new = IsUnwritten old new
-HasDone words old status new =
-    (answer : Answer) × GivesAnswer words old new answer × (status ≡ answer.status)
+-- What was done. A status that isn't a fault of the outside or want of memory is that of the answer. An answer is
+-- written by these calls, all of which but the last, in the second case, do as they are asked.
+abbrev pub HasDone : List (List ℕ) → (Answer → Bool → Type 0) → Outside → Status → Outside → Type 0
+HasDone words is_written_by old ReadFault new =
+    HasRisen old.store.read_faults new.store.read_faults × IsUnwritten old new
+HasDone words is_written_by old WriteFault new =
+    (answer : Answer) × GivesAnswer words old new answer × is_written_by answer false × IsCutShort answer old new
+HasDone words is_written_by old Memory new = IsUnwritten old new
+HasDone words is_written_by old status new =
+    (answer : Answer) × GivesAnswer words old new answer × (status ≡ answer.status) × is_written_by answer true
     × IsWritten answer old new

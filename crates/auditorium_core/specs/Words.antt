@@ -13,6 +13,11 @@ abbrev pub words_of : Command → List (List ℕ)
 words_of (gaps log) = codes "gaps" ∷ log ∷ []
 words_of (play script prefix) = codes "play" ∷ script ∷ prefix ∷ []
 
+-- the files that a command reads, in order
+abbrev pub files_of : Command → List (List ℕ)
+files_of (gaps log) = log ∷ []
+files_of (play script prefix) = script ∷ []
+
 -- the form of a word: 1 to 1,024 bytes, each from `!` to `~`, of which the first isn't `-`
 pub record IsWord (word : List ℕ) : Type 0 where
   pub some : 0 < length word

@@ -1,12 +1,12 @@
 // The command `gaps`: what one log says, without its signatures.
-ghost use Rattle.std.specs.Prelude.{◌≡◌, ◌≢◌, ◌++◌, IfOk, OnOk, IsErrOf, string_bytes};
-ghost use Rattle.hall_outside.specs.Counts.{HasCause, ComesExactly};
-ghost use Rattle.hall_outside.specs.Files.{OnFile};
-ghost use Rattle.auditorium_core.specs.Answer.{IsOfAnswers};
-ghost use Rattle.auditorium_core.specs.Gaps.{refused_lines, end_line, gap_lines, log_lines, IsGapsAnswer};
+ghost use Rattle.std.specs.Prelude.{◌≡◌, ◌++◌, IfOk, OnOk, string_bytes};
+ghost use Rattle.auditorium_core.specs.Answer.{IsAnswerTo};
+ghost use Rattle.auditorium_core.specs.Gaps.{refused_lines, end_line, gap_lines, log_lines};
+ghost use Rattle.auditorium_core.specs.Outcome.{store_seen};
+ghost use Rattle.auditorium_core.specs.Words.{gaps};
+ghost use Rattle.auditorium_core.specs.inside.Promise.{IsAnswered};
 
 use crate::answer::{Answer, Fault};
-use crate::status::Status;
 use entry_format::EntryFault;
 use hall_outside::Store;
 use log_files::{End, LogFault, PlainLog, read_plain_log};
@@ -15,16 +15,12 @@ use std::fmt::Write;
 
 /// The answer of `gaps` for the log in this file.
 pub(crate) fn gaps<S: Store>(alloc: Global, store: &mut S, log: &str) -> Result<Answer, Fault>
-    ensures told { IfOk result (λ answer.
-        OnFile (S.files store.old) log.now (λ file. IsGapsAnswer log.now file answer)) }
-    ensures status { IfOk result (λ answer.
-        (answer.status ≢ Status.Usage) × IsOfAnswers answer.status) }
-    ensures absent { IfOk result (λ answer. ComesExactly (S.answered store.old).absences
-        (S.answered store.new).absences (answer.status ≡ Status.Absent)) }
-    ensures read_fault { HasCause (S.read_faults store.old) (S.read_faults store.new)
-        (IsErrOf result Fault.ReadFault) }
-    ensures unchanged { (S.files store.new ≡ S.files store.old)
-        × (S.write_faults store.new ≡ S.write_faults store.old) }
+    ensures { IsAnswered (IsAnswerTo (gaps log.now))
+        (store_seen (S.files store.old) (S.answered store.old) (S.read_faults store.old)
+        (S.write_faults store.old))
+        result
+        (store_seen (S.files store.new) (S.answered store.new) (S.read_faults store.new)
+        (S.write_faults store.new)) }
 {
     match read_plain_log(alloc, store, log) {
         Ok(plain) => Ok(Answer::findings(alloc, lines_of(alloc, log, &plain)?)),

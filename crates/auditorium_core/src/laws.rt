@@ -1,8 +1,8 @@
 // Laws about answers, which hold of the definitions alone.
-ghost use Rattle.std.specs.Prelude.{◌≡◌, ℕ, List};
+ghost use Rattle.std.specs.Prelude.{◌≡◌, ℕ, List, Option, Some};
 ghost use Rattle.hall_outside.specs.Files.{Files};
 ghost use Rattle.auditorium_core.specs.Lines.{Answer};
-ghost use Rattle.auditorium_core.specs.Answer.{Answers};
+ghost use Rattle.auditorium_core.specs.Answer.{Answers, HasItsWords};
 
 use election_script::one_reading_is_right;
 use log_files::bytes_say_one_log;
@@ -11,10 +11,16 @@ use polling_world::{scripts_are_played_in_one_way, what_is_left_is_told_in_one_w
 /// Words and files have at most one answer. It does nothing.
 pub fn one_answer_is_right()
     ensures { (words : List (List ℕ)) (files : Files) (answer other : Answer) →
-        Answers words files answer → Answers words files other → answer ≡ other }
+        Answers words (Some files) answer → Answers words (Some files) other → answer ≡ other }
 {
     bytes_say_one_log();
     one_reading_is_right();
     scripts_are_played_in_one_way();
     what_is_left_is_told_in_one_way();
 }
+
+/// Over any files, the status of an answer says of which words it is the answer. It does nothing.
+pub fn statuses_have_their_words()
+    ensures { (words : List (List ℕ)) (told : Option Files) (answer : Answer) →
+        Answers words told answer → HasItsWords words answer }
+{}

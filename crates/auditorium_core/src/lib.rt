@@ -13,7 +13,7 @@ mod status;
 mod words;
 mod writing;
 
-pub use laws::one_answer_is_right;
+pub use laws::{one_answer_is_right, statuses_have_their_words};
 pub use program::auditorium_still;
 pub use status::Status;
 

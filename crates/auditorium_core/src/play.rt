@@ -1,15 +1,15 @@
 // The command `play`: a script's machines, on one thread.
-ghost use Rattle.std.specs.Prelude.{◌≡◌, ◌≢◌, ◌≤◌, ◌++◌, ◌∷◌, map, length, Some, IfOk, OnOk, IfErr, IsErrOf, string_bytes};
-ghost use Rattle.hall_outside.specs.Counts.{HasCause, ComesExactly};
-ghost use Rattle.hall_outside.specs.Files.{OnFile};
+ghost use Rattle.std.specs.Prelude.{◌≡◌, ◌≤◌, ◌++◌, map, length, Some, IfOk, OnOk, IfErr, string_bytes};
 ghost use Rattle.roster.specs.Machines.{HaveText};
 ghost use Rattle.election_script.specs.Lawful.{IsLawful};
-ghost use Rattle.auditorium_core.specs.Answer.{IsOfAnswers};
+ghost use Rattle.auditorium_core.specs.Answer.{IsAnswerTo};
+ghost use Rattle.auditorium_core.specs.Outcome.{store_seen};
+ghost use Rattle.auditorium_core.specs.Words.{play};
+ghost use Rattle.auditorium_core.specs.inside.Promise.{IsAnswered};
 ghost use Rattle.auditorium_core.specs.Play.{roster_file, log_file, machine_line, machine_lines, undone_line, SayUndone};
 ghost use Rattle.auditorium_core.specs.Play.{IsPlayOf, IsPlayAnswer, IsOfPlay};
 
 use crate::answer::{Answer, Fault, OutputFile};
-use crate::status::Status;
 use election_script::{Script, ScriptFault, read};
 use hall_outside::{FileFault, Store, read_file};
 use log_files::log_text;
@@ -143,16 +143,12 @@ pub(crate) fn play<S: Store>(
     name: &str,
     prefix: &str,
 ) -> Result<Answer, Fault>
-    ensures told { IfOk result (λ answer. OnFile (S.files store.old) name.now
-        (λ file. IsPlayAnswer name.now prefix.now file answer)) }
-    ensures status { IfOk result (λ answer.
-        (answer.status ≢ Status.Usage) × IsOfAnswers answer.status) }
-    ensures absent { IfOk result (λ answer. ComesExactly (S.answered store.old).absences
-        (S.answered store.new).absences (answer.status ≡ Status.Absent)) }
-    ensures read_fault { HasCause (S.read_faults store.old) (S.read_faults store.new)
-        (IsErrOf result Fault.ReadFault) }
-    ensures unchanged { (S.files store.new ≡ S.files store.old)
-        × (S.write_faults store.new ≡ S.write_faults store.old) }
+    ensures { IsAnswered (IsAnswerTo (play name.now prefix.now))
+        (store_seen (S.files store.old) (S.answered store.old) (S.read_faults store.old)
+        (S.write_faults store.old))
+        result
+        (store_seen (S.files store.new) (S.answered store.new) (S.read_faults store.new)
+        (S.write_faults store.new)) }
 {
     match read_file(alloc, store, name, SCRIPT_BYTES) {
         Ok(bytes) => answer_for(alloc, name, prefix, &bytes),

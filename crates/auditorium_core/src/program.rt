@@ -1,8 +1,8 @@
 // From the words of the command line to the bytes that go out.
-ghost use Rattle.std.specs.Prelude.{◌≡◌, map, string_bytes, IfOk, IsErrOf};
-ghost use Rattle.hall_outside.specs.Counts.{HasCause};
-ghost use Rattle.auditorium_core.specs.Answer.{IsAnswerOf};
-ghost use Rattle.auditorium_core.specs.Outcome.{outside, HasDone};
+ghost use Rattle.std.specs.Prelude.{◌≡◌, map, string_bytes};
+ghost use Rattle.auditorium_core.specs.Answer.{Answers};
+ghost use Rattle.auditorium_core.specs.Outcome.{store_seen, outside, IsWrittenBy, HasDone};
+ghost use Rattle.auditorium_core.specs.inside.Promise.{IsAnswered};
 
 use crate::answer::{Answer, Fault};
 use crate::gaps::gaps;
@@ -22,11 +22,13 @@ pub fn auditorium_still<S: Store, K: Sink>(
     out: &mut K,
 ) -> Status
     ensures { HasDone (map string_bytes words.now)
-        (outside (S.files store.old) (S.answered store.old) (S.read_faults store.old)
-        (S.write_faults store.old) (K.written out.old) (K.faults out.old))
+        (λ answer ok. (read : S) × (S.files read ≡ S.files store.old)
+        × IsWrittenBy S.creates S.appends K.writes answer read out.old ok store.new out.new)
+        (outside (store_seen (S.files store.old) (S.answered store.old) (S.read_faults store.old)
+        (S.write_faults store.old)) (K.written out.old) (K.faults out.old))
         result
-        (outside (S.files store.new) (S.answered store.new) (S.read_faults store.new)
-        (S.write_faults store.new) (K.written out.new) (K.faults out.new)) }
+        (outside (store_seen (S.files store.new) (S.answered store.new) (S.read_faults store.new)
+        (S.write_faults store.new)) (K.written out.new) (K.faults out.new)) }
 {
     match answer_of(alloc, words, store) {
         Ok(answer) => match write_answer(&answer, store, out) {
@@ -40,12 +42,12 @@ pub fn auditorium_still<S: Store, K: Sink>(
 
 /// The answer to the words. Nothing is written.
 fn answer_of<S: Store>(alloc: Global, words: &[String], store: &mut S) -> Result<Answer, Fault>
-    ensures ok { IfOk result (IsAnswerOf (map string_bytes words.now) (S.files store.old)
-        (S.answered store.old).absences (S.answered store.new).absences) }
-    ensures read_fault { HasCause (S.read_faults store.old) (S.read_faults store.new)
-        (IsErrOf result Fault.ReadFault) }
-    ensures unchanged { (S.files store.new ≡ S.files store.old)
-        × (S.write_faults store.new ≡ S.write_faults store.old) }
+    ensures { IsAnswered (Answers (map string_bytes words.now))
+        (store_seen (S.files store.old) (S.answered store.old) (S.read_faults store.old)
+        (S.write_faults store.old))
+        result
+        (store_seen (S.files store.new) (S.answered store.new) (S.read_faults store.new)
+        (S.write_faults store.new)) }
 {
     match request_of(words) {
         Request::Usage => Ok(Answer::usage(alloc)?),

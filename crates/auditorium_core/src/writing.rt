@@ -1,7 +1,8 @@
 // From an answer to the bytes that go out.
-ghost use Rattle.std.specs.Prelude.{◌≡◌, IsErr, OnOk, OnErr};
+ghost use Rattle.std.specs.Prelude.{◌≡◌, is_ok, IsErr, OnOk, OnErr};
 ghost use Rattle.hall_outside.specs.Counts.{HasCause};
-ghost use Rattle.auditorium_core.specs.Outcome.{outside, with_files, SetsSome, IsWritten, IsCutShort};
+ghost use Rattle.auditorium_core.specs.Outcome.{store_seen, outside, with_files, SetsSome};
+ghost use Rattle.auditorium_core.specs.Outcome.{PutsAll, IsWrittenBy, IsWritten, IsCutShort};
 
 use crate::answer::{Answer, OutputFile};
 use hall_outside::{Failed, Sink, Store, put_file, write_all};
@@ -13,6 +14,7 @@ fn put_files<S: Store>(store: &mut S, files: &[OutputFile]) -> Result<(), Failed
     ensures cause { HasCause (S.write_faults store.old) (S.write_faults store.new) (IsErr result) }
     ensures answered { S.answered store.new ≡ S.answered store.old }
     ensures read_faults { S.read_faults store.new ≡ S.read_faults store.old }
+    ensures calls { PutsAll S.creates S.appends store.old files.now (is_ok result) store.new }
 {
     for file in files {
         put_file(store, file.name(), file.bytes())?;
@@ -27,16 +29,18 @@ pub(crate) fn write_answer<S: Store, K: Sink>(
     out: &mut K,
 ) -> Result<(), Failed>
     ensures ok { OnOk result (IsWritten answer.now
-        (outside (S.files store.old) (S.answered store.old) (S.read_faults store.old)
-        (S.write_faults store.old) (K.written out.old) (K.faults out.old))
-        (outside (S.files store.new) (S.answered store.new) (S.read_faults store.new)
-        (S.write_faults store.new) (K.written out.new) (K.faults out.new))) }
+        (outside (store_seen (S.files store.old) (S.answered store.old) (S.read_faults store.old)
+        (S.write_faults store.old)) (K.written out.old) (K.faults out.old))
+        (outside (store_seen (S.files store.new) (S.answered store.new) (S.read_faults store.new)
+        (S.write_faults store.new)) (K.written out.new) (K.faults out.new))) }
     ensures err { OnErr result (IsCutShort answer.now
-        (outside (S.files store.old) (S.answered store.old) (S.read_faults store.old)
-        (S.write_faults store.old) (K.written out.old) (K.faults out.old))
-        (outside (S.files store.new) (S.answered store.new) (S.read_faults store.new)
-        (S.write_faults store.new) (K.written out.new) (K.faults out.new))) }
+        (outside (store_seen (S.files store.old) (S.answered store.old) (S.read_faults store.old)
+        (S.write_faults store.old)) (K.written out.old) (K.faults out.old))
+        (outside (store_seen (S.files store.new) (S.answered store.new) (S.read_faults store.new)
+        (S.write_faults store.new)) (K.written out.new) (K.faults out.new))) }
     ensures answered { S.answered store.new ≡ S.answered store.old }
+    ensures calls { IsWrittenBy S.creates S.appends K.writes answer.now store.old out.old
+        (is_ok result) store.new out.new }
 {
     put_files(store, answer.files())?;
     write_all(out, answer.output())

@@ -1,12 +1,45 @@
-use Rattle.std.proofs.Common.{◌∙◌, inl, ap}
-use Rattle.log_files.specs.LogFile.{IsLogOf}
-use Rattle.auditorium_core.specs.Gaps.{IsGapsAnswer, findings_answer}
-use Rattle.auditorium_core.proofs.Told.{on_file}
+use Rattle.std.proofs.Common.{◌∙◌, ap, rules}
+use Rattle.log_files.specs.declared.plain_log.LogFault.TheVariants.{Absent, TooLong, Header}
+use Rattle.auditorium_core.specs.Gaps.{findings_answer}
+use Rattle.auditorium_core.proofs.Told.{gaps_findings, gaps_refusal}
 use Rattle.auditorium_core.proofs.gaps.gaps.Goals as goal
 
-pub returns-in_ok-lines_of-in-Ok-clause-told : goal.returns-in_ok-lines_of-in-Ok-clause-told
-returns-in_ok-lines_of-in-Ok-clause-told g c =
-    on_file (g.S.Store.files c.args.store.now) c.args.log.now (IsLogOf c.in-Ok.plain)
-    (λ file. IsGapsAnswer c.args.log.now file c.findings.result)
-    (λ file is. inl (c.in-Ok.plain, is, c.findings.ensures ∙ ap findings_answer c.in_ok-lines_of-in-Ok.ensures))
-    c.in-Ok.ensures.ok
+pub returns-in_ok-lines_of-in-Ok : goal.returns-in_ok-lines_of-in-Ok
+returns-in_ok-lines_of-in-Ok g c = record {
+  answer = gaps_findings (g.S.Store.files c.args.store.now) c.args.log.now c.in-Ok.plain c.findings.result
+      (c.findings.ensures ∙ ap findings_answer c.in_ok-lines_of-in-Ok.ensures) c.in-Ok.ensures.ok;
+  absent = search rules;
+  read_fault = search rules;
+  files = search rules;
+  write_faults = search rules;
+}
+
+pub returns-in_ok-absent-in-Err-Absent : goal.returns-in_ok-absent-in-Err-Absent
+returns-in_ok-absent-in-Err-Absent g c = record {
+  answer = gaps_refusal (g.S.Store.files c.args.store.now) c.args.log.now Absent c.in-Err-Absent.field-0
+      c.in_ok-absent-in-Err-Absent.field-0 c.in-Err-Absent.field-0-is c.in_ok-absent-in-Err-Absent.ensures c.in-Err-Absent.ensures.err;
+  absent = search rules;
+  read_fault = search rules;
+  files = search rules;
+  write_faults = search rules;
+}
+
+pub returns-in_ok-refused-in-Err-TooLong : goal.returns-in_ok-refused-in-Err-TooLong
+returns-in_ok-refused-in-Err-TooLong g c = record {
+  answer = gaps_refusal (g.S.Store.files c.args.store.now) c.args.log.now TooLong c.in-Err-TooLong.field-0
+      c.in_ok-refused-in-Err-TooLong.field-0 c.in-Err-TooLong.field-0-is c.in_ok-refused-in-Err-TooLong.ensures c.in-Err-TooLong.ensures.err;
+  absent = search rules;
+  read_fault = search rules;
+  files = search rules;
+  write_faults = search rules;
+}
+
+pub returns-in_ok-refused-in-Err-Header : goal.returns-in_ok-refused-in-Err-Header
+returns-in_ok-refused-in-Err-Header g c = record {
+  answer = gaps_refusal (g.S.Store.files c.args.store.now) c.args.log.now Header c.in-Err-Header.field-0
+      c.in_ok-refused-in-Err-Header.field-0 c.in-Err-Header.field-0-is c.in_ok-refused-in-Err-Header.ensures c.in-Err-Header.ensures.err;
+  absent = search rules;
+  read_fault = search rules;
+  files = search rules;
+  write_faults = search rules;
+}

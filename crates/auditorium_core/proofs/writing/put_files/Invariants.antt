@@ -1,6 +1,6 @@
-use Rattle.std.proofs.Common.{◌≡◌, ◌≤◌, Option, drop}
+use Rattle.std.proofs.Common.{◌≡◌, ◌≤◌, Option, Bool, drop}
 use Rattle.hall_outside.specs.Files.{Files}
-use Rattle.auditorium_core.specs.Outcome.{with_files, SetsSome}
+use Rattle.auditorium_core.specs.Outcome.{with_files, SetsSome, PutsAll}
 use Rattle.auditorium_core.proofs.writing.put_files.Given as goal
 
 -- what is left to be written leads to what all files lead to
@@ -14,4 +14,6 @@ invariant-loop-file g l =
       write_faults : store.write_faults l.fn.store ≤ store.write_faults l.store;
       answered : store.answered l.store ≡ store.answered l.fn.store;
       read_faults : store.read_faults l.store ≡ store.read_faults l.fn.store;
+      calls : (end : g.row.S.Denot) (ok : Bool) → PutsAll store.creates store.appends l.store (drop l.file-index l.files) ok end
+          → PutsAll store.creates store.appends l.fn.store l.files ok end;
     }

@@ -1,0 +1,59 @@
+-- The calls by which files are put.
+use Rattle.std.proofs.Common.{◌≡◌, ◌∙◌, ℕ, ◌+◌, ◌<◌, List, [], ◌∷◌, get_or, drop, length, refl, sym, subst, ap, Bool, true, false, Option, inr}
+use Rattle.std.specs.Prelude.{Result}
+use Rattle.std.proofs.lemmas.List.{drop_more, drop_all}
+use Rattle.hall_outside.specs.Writing.{Puts}
+use Rattle.hall_outside.specs.declared.stores.Failed.{Failed}
+use Rattle.auditorium_core.specs.Outcome.{with_files, SetsSome, PutsAll, puts, fails}
+use Rattle.hall_outside.specs.Files.{Files, with_file}
+
+-- the rest of the files begins with the one at its place
+rest_from : (files : List (List ℕ × List ℕ)) (i : ℕ) (file : List ℕ × List ℕ) → i < length files →
+    file ≡ get_or files i file → file ∷ drop (i + 1) files ≡ drop i files
+rest_from files i file within is = ap (λ f. f ∷ drop (i + 1) files) is ∙ sym (drop_more files i file within)
+
+-- the calls for a file's name and bytes are those for the file
+pub as_put : {S : Type 0} (create : List ℕ → S → Bool → S → Type 0)
+    (append : List ℕ → S → List ℕ → Result ℕ Failed → S → Type 0) (old mid : S) (file : List ℕ × List ℕ)
+    (name bytes : List ℕ) (done ok : Bool) → name ≡ file.0 → bytes ≡ file.1 → done ≡ ok →
+    Puts (create name) (append name) old bytes done mid → Puts (create file.0) (append file.0) old file.1 ok mid
+as_put {S} create append old mid file name bytes done ok same_name same_bytes same put =
+    let P : List ℕ → Type 0 = λ n. Puts (create n) (append n) old bytes done mid in
+    let Q : List ℕ → Type 0 = λ bs. Puts (create file.0) (append file.0) old bs done mid in
+    let R : Bool → Type 0 = λ b. Puts (create file.0) (append file.0) old file.1 b mid in
+    subst R same (subst Q same_bytes (subst P same_name put))
+
+-- the file at this place is put, and then the rest
+pub put_next : {S : Type 0} (create : List ℕ → S → Bool → S → Type 0)
+    (append : List ℕ → S → List ℕ → Result ℕ Failed → S → Type 0) (old mid end : S) (files : List (List ℕ × List ℕ))
+    (i : ℕ) (file : List ℕ × List ℕ) (ok : Bool) → i < length files → file ≡ get_or files i file →
+    Puts (create file.0) (append file.0) old file.1 true mid → PutsAll create append mid (drop (i + 1) files) ok end →
+    PutsAll create append old (drop i files) ok end
+put_next {S} create append old mid end files i file ok within is put rest =
+    let P : List (List ℕ × List ℕ) → Type 0 = λ fs. PutsAll create append old fs ok end in
+    subst P (rest_from files i file within is) (puts old mid end file (drop (i + 1) files) ok put rest)
+
+-- the file at this place isn't put whole, so no later one is
+pub put_fails : {S : Type 0} (create : List ℕ → S → Bool → S → Type 0)
+    (append : List ℕ → S → List ℕ → Result ℕ Failed → S → Type 0) (old end : S) (files : List (List ℕ × List ℕ))
+    (i : ℕ) (file : List ℕ × List ℕ) → i < length files → file ≡ get_or files i file →
+    Puts (create file.0) (append file.0) old file.1 false end → PutsAll create append old (drop i files) false end
+put_fails {S} create append old end files i file within is put =
+    let P : List (List ℕ × List ℕ) → Type 0 = λ fs. PutsAll create append old fs false end in
+    subst P (rest_from files i file within is) (fails old end file (drop (i + 1) files) put)
+
+-- the file at this place set, and then the rest, are the files from its place on
+pub set_next : (old mid : Option Files) (files : List (List ℕ × List ℕ)) (i : ℕ) (file : List ℕ × List ℕ) →
+    i < length files → file ≡ get_or files i file → mid ≡ with_file old file.0 file.1 →
+    with_files mid (drop (i + 1) files) ≡ with_files old (drop i files)
+set_next old mid files i file within is set =
+    ap (λ (m : Option Files). with_files m (drop (i + 1) files)) set
+    ∙ ap (with_files old) (rest_from files i file within is)
+
+pub some_next : (old mid new : Option Files) (files : List (List ℕ × List ℕ)) (i : ℕ) (file : List ℕ × List ℕ) →
+    i < length files → file ≡ get_or files i file → mid ≡ with_file old file.0 file.1 →
+    SetsSome mid (drop (i + 1) files) new → SetsSome old (drop i files) new
+some_next old mid new files i file within is set rest =
+    let P : List (List ℕ × List ℕ) → Type 0 = λ fs. SetsSome old fs new in
+    let Q : Option Files → Type 0 = λ m. SetsSome m (drop (i + 1) files) new in
+    subst P (rest_from files i file within is) (inr (subst Q set rest))
