@@ -52,8 +52,10 @@ gaps_words words log answer means is = record {
     some status.Refused h = tt
     some status.Absent h = tt
     some how h = absurd h
+
     no_usage : (how : Status) → IsOfGaps how → how ≡ status.Usage → ⊥
     no_usage how h e = let at : IsOfGaps status.Usage = subst IsOfGaps e h in at
+
     no_undone : (how : Status) → IsOfGaps how → how ≡ status.Undone → ⊥
     no_undone how h e = let at : IsOfGaps status.Undone = subst IsOfGaps e h in at
 
@@ -68,8 +70,10 @@ usage_words words answer bad e = record {
   where
     is : answer.status ≡ status.Usage
     is = ap (λ (a : Answer). a.status) e
+
     usage_is : answer.status ≡ status.Findings → ⊥
     usage_is same = cc
+
     usage_is_not : answer.status ≡ status.Undone → ⊥
     usage_is_not same = cc
 
@@ -101,8 +105,10 @@ play_words words script prefix answer means is = record {
     some status.Undone h = tt
     some status.Refused h = tt
     some how h = absurd h
+
     no_usage : (how : Status) → IsOfPlay how → how ≡ status.Usage → ⊥
     no_usage how h e = let at : IsOfPlay status.Usage = subst IsOfPlay e h in at
+
     no_findings : (how : Status) → IsOfPlay how → how ≡ status.Findings → ⊥
     no_findings how h e = let at : IsOfPlay status.Findings = subst IsOfPlay e h in at
 
@@ -118,8 +124,10 @@ absent_words words script prefix answer means e = record {
   where
     is : answer.status ≡ status.Absent
     is = ap (λ (a : Answer). a.status) e
+
     no_usage : answer.status ≡ status.Usage → ⊥
     no_usage same = cc
+
     no_findings : answer.status ≡ status.Findings → ⊥
     no_findings same = cc
 

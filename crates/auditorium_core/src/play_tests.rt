@@ -51,11 +51,34 @@ const BALLOT_STEPS: &str = "step act sv\nstep act sv\nstep act sv\n\
     step hear b2 sv 0\nstep hear b2 sv 1\nstep hear b2 sv 2\n\
     step act b1\nstep act b1\nstep hear b2 b1 1\nstep act b2\nstep act b2\nstep act b2\n";
 
-/// The texts, one behind the other.
-fn joined(alloc: Global, parts: &[&str]) -> Result<String, Fail> {
+/// A session of version 2 that ends with a challenge.
+const CHALLENGED: &str = "do sv open\ndo sv authorise b1 1\ndo sv close\ndo b1 activate 1\n\
+    do b1 commit 1 0707070707070707070707070707070707070707070707070707070707070707\n\
+    do b1 challenge 1 0707070707070707070707070707070707070707070707070707070707070707\n";
+
+/// A session that the supervisor overrides: the booth is to cast, and would cancel.
+const FORCED: &str = "do sv open\ndo sv authorise b1 1\ndo sv override 1 cast\ndo sv close\n\
+    do b1 activate 1\n\
+    do b1 commit 1 0707070707070707070707070707070707070707070707070707070707070707\n\
+    do b1 cancel 1\n";
+
+/// The steps of that session up to its commitment.
+const COMMITTED: &str = "step act sv\nstep act sv\nstep hear b1 sv 0\nstep hear b1 sv 1\n\
+    step act b1\nstep act b1\nstep hear sv b1 0\n";
+
+/// The supervisor overrides, and the booth acts once more.
+const OVERRIDDEN: &str = "step act sv\nstep hear b1 sv 2\nstep act b1\n";
+
+/// Parts of a text, each so many times over.
+type Parts = &'static [(usize, &'static str)];
+
+/// The text of the parts, one behind the other.
+fn joined(alloc: Global, parts: &[(usize, &str)]) -> Result<String, Fail> {
     let mut text = String::new(alloc);
-    for part in parts {
-        text.push_str(part)?;
+    for (count, part) in parts {
+        for _ in 0..*count {
+            text.push_str(part)?;
+        }
     }
     Ok(text)
 }
@@ -85,37 +108,72 @@ fn length_of(store: &MemoryStore, name: &str) -> usize {
     }
 }
 
+/// Scripts with the lengths of the files, the status and the output of their plays.
+const PLAYS: &[(Parts, [usize; 4], Status, &str)] = &[
+    (
+        &[(1, TWO), (1, SESSION), (1, STEPS)],
+        [163, 14907, 14907, 0],
+        Status::Done,
+        "machine sv sent 3 held 6\nmachine b1 sent 3 held 6\n",
+    ),
+    (
+        &[(1, TWO), (1, SESSION), (1, UNHEARD)],
+        [163, 4935, 12434, 0],
+        Status::Undone,
+        "machine sv sent 2 held 2\nmachine b1 sent 3 held 5\nundone sv 2 SessionsLeft\n",
+    ),
+    (
+        &[(1, THREE), (1, SESSIONS), (1, PARTED)],
+        [235, 7418, 12406, 12440],
+        Status::Done,
+        "machine sv sent 3 held 3\nmachine b1 sent 2 held 5\nmachine b2 sent 1 held 5\n",
+    ),
+    (
+        &[(1, "version 2\n"), (1, TWO), (1, CHALLENGED), (1, STEPS)],
+        [163, 14912, 14912, 0],
+        Status::Done,
+        "machine sv sent 3 held 6\nmachine b1 sent 3 held 6\n",
+    ),
+    (
+        &[
+            (1, "version 2\n"),
+            (1, TWO),
+            (1, FORCED),
+            (1, COMMITTED),
+            (1, "step hear sv b1 1\n"),
+            (1, OVERRIDDEN),
+        ],
+        [163, 12409, 12408, 0],
+        Status::Undone,
+        "machine sv sent 3 held 5\nmachine b1 sent 2 held 5\n\
+            undone sv 3 SessionsLeft\nundone b1 2 CastForced\n",
+    ),
+    (
+        &[
+            (1, "version 2\n"),
+            (1, TWO),
+            (1, FORCED),
+            (1, COMMITTED),
+            (1, OVERRIDDEN),
+        ],
+        [163, 7413, 12401, 0],
+        Status::Undone,
+        "machine sv sent 2 held 3\nmachine b1 sent 3 held 5\nundone sv 2 NothingCommitted\n",
+    ),
+];
+
 #[test]
 fn a_play_has_its_files_lines_and_status(rt: HostRuntime) -> Result<(), Fail> {
     let alloc = rt.alloc();
-    for (parts, lengths, status, output) in [
-        (
-            [TWO, SESSION, "", STEPS],
-            [163, 14907, 14907, 0],
-            Status::Done,
-            "machine sv sent 3 held 6\nmachine b1 sent 3 held 6\n",
-        ),
-        (
-            [TWO, SESSION, "", UNHEARD],
-            [163, 4935, 12434, 0],
-            Status::Undone,
-            "machine sv sent 2 held 2\nmachine b1 sent 3 held 5\nundone sv 2 SessionsLeft\n",
-        ),
-        (
-            [THREE, SESSIONS, "", PARTED],
-            [235, 7418, 12406, 12440],
-            Status::Done,
-            "machine sv sent 3 held 3\nmachine b1 sent 2 held 5\nmachine b2 sent 1 held 5\n",
-        ),
-    ] {
-        let script = joined(alloc, &parts)?;
+    for (parts, lengths, status, output) in PLAYS {
+        let script = joined(alloc, parts)?;
         let mut out = MemorySink::make(alloc, 100, Vec::new(alloc));
         let (answered, store) = play_over(alloc, script.as_str(), 100, &mut out)?;
-        assert_eq!(rt; answered, status, "{output}");
+        assert_eq!(rt; answered, *status, "{output}");
         assert!(rt; out.bytes() == output.as_bytes(), "{output}");
         let names = ["p.roster", "p.sv.log", "p.b1.log", "p.b2.log"];
-        for (name, length) in names.iter().zip(lengths) {
-            assert_eq!(rt; length_of(&store, name), length, "{name}");
+        for (name, length) in names.iter().zip(lengths.iter()) {
+            assert_eq!(rt; length_of(&store, name), *length, "{name}");
         }
     }
     Ok(())
@@ -132,6 +190,16 @@ const SESSION_ENTRIES: &[Expected] = &[
     (1, 0, 3, &[(0, 1)], 2471),
     (1, 1, 4, &[(1, 0)], 2504),
     (1, 2, 5, &[(1, 1)], 2502),
+    (0, 2, 6, &[(1, 2)], 2466),
+];
+
+/// The entries of the session that ends with a challenge.
+const CHALLENGED_ENTRIES: &[Expected] = &[
+    (0, 0, 1, &[], 2431),
+    (0, 1, 2, &[(0, 0)], 2475),
+    (1, 0, 3, &[(0, 1)], 2471),
+    (1, 1, 4, &[(1, 0)], 2504),
+    (1, 2, 5, &[(1, 1)], 2507),
     (0, 2, 6, &[(1, 2)], 2466),
 ];
 
@@ -175,17 +243,24 @@ fn sent_by(world: &World, (maker, number): (u32, u32)) -> Option<&Sealed> {
     None
 }
 
+/// Scripts with the entries of their plays.
+const SENT: &[(Parts, &[Expected])] = &[
+    (&[(1, TWO), (1, SESSION), (1, STEPS)], SESSION_ENTRIES),
+    (
+        &[(1, "version 2\n"), (1, TWO), (1, CHALLENGED), (1, STEPS)],
+        CHALLENGED_ENTRIES,
+    ),
+    (&[(1, TWO), (1, SESSION), (1, UNHEARD)], UNHEARD_ENTRIES),
+    (&[(1, THREE), (1, SESSIONS), (1, PARTED)], PARTED_ENTRIES),
+];
+
 #[test]
 fn entries_name_what_was_held_last(rt: HostRuntime) -> Result<(), Fail> {
     let alloc = rt.alloc();
-    for (parts, entries) in [
-        ([TWO, SESSION, STEPS], SESSION_ENTRIES),
-        ([TWO, SESSION, UNHEARD], UNHEARD_ENTRIES),
-        ([THREE, SESSIONS, PARTED], PARTED_ENTRIES),
-    ] {
-        let script = joined(alloc, &parts)?;
+    for (parts, entries) in SENT {
+        let script = joined(alloc, parts)?;
         let world = world_of(alloc, script.as_str())?;
-        for (maker, number, stamp, names, length) in entries {
+        for (maker, number, stamp, names, length) in *entries {
             let Some(sealed) = sent_by(&world, (*maker, *number)) else {
                 return Err(Fail::from("the entry was sent"));
             };
@@ -204,84 +279,83 @@ fn entries_name_what_was_held_last(rt: HostRuntime) -> Result<(), Fail> {
     Ok(())
 }
 
-/// A text so many times over.
-fn repeated(alloc: Global, text: &str, count: usize) -> Result<String, Fail> {
-    let mut all = String::new(alloc);
-    for _ in 0..count {
-        all.push_str(text)?;
-    }
-    Ok(all)
-}
+/// Scripts with the status and the output of their plays: a spent key, a log that isn't whole, and one
+/// that is refused.
+const LEFT: &[(Parts, Status, &str)] = &[
+    (
+        &[
+            (1, TWO),
+            (1, "do sv open\ndo sv authorise b1 1\n"),
+            (31, "do sv override 1\n"),
+            (33, "step act sv\n"),
+        ],
+        Status::Undone,
+        "machine sv sent 32 held 32\nmachine b1 sent 0 held 0\nundone sv 32 Spent\n",
+    ),
+    (
+        &[(1, THREE), (1, SESSIONS), (1, BALLOT), (1, BALLOT_STEPS)],
+        Status::Undone,
+        "machine sv sent 3 held 3\nmachine b1 sent 2 held 5\nmachine b2 sent 2 held 6\n\
+            undone b2 2 LogNotWhole\n",
+    ),
+    (
+        &[
+            (1, TWO),
+            (1, "do sv open\ndo sv close\n"),
+            (1, "do sv authorise b9 1\n"),
+        ],
+        Status::Refused,
+        "refused s 9 UnknownName\n",
+    ),
+];
 
 #[test]
 fn what_is_left_has_its_cause(rt: HostRuntime) -> Result<(), Fail> {
     let alloc = rt.alloc();
-    let overrides = repeated(alloc, "do sv override 1\n", 31)?;
-    let acts = repeated(alloc, "step act sv\n", 33)?;
-    for (parts, status, output) in [
-        (
-            [
-                TWO,
-                "do sv open\ndo sv authorise b1 1\n",
-                overrides.as_str(),
-                acts.as_str(),
-            ],
-            Status::Undone,
-            "machine sv sent 32 held 32\nmachine b1 sent 0 held 0\nundone sv 32 Spent\n",
-        ),
-        (
-            [THREE, SESSIONS, BALLOT, BALLOT_STEPS],
-            Status::Undone,
-            "machine sv sent 3 held 3\nmachine b1 sent 2 held 5\nmachine b2 sent 2 held 6\n\
-                undone b2 2 LogNotWhole\n",
-        ),
-        (
-            [
-                TWO,
-                "do sv open\ndo sv close\n",
-                "do sv authorise b9 1\n",
-                "",
-            ],
-            Status::Refused,
-            "refused s 9 UnknownName\n",
-        ),
-    ] {
-        let script = joined(alloc, &parts)?;
+    for (parts, status, output) in LEFT {
+        let script = joined(alloc, parts)?;
         let mut out = MemorySink::make(alloc, 100, Vec::new(alloc));
         let (answered, store) = play_over(alloc, script.as_str(), 100, &mut out)?;
-        assert_eq!(rt; answered, status, "{output}");
+        assert_eq!(rt; answered, *status, "{output}");
         assert!(rt; out.bytes() == output.as_bytes(), "{output}");
         let played = length_of(&store, "p.roster") > 0;
-        assert!(rt; played == (status == Status::Undone), "{output}");
+        assert!(rt; played == (*status == Status::Undone), "{output}");
     }
     Ok(())
 }
 
+/// Writes that fail, counted from 1, with the lengths of the files that are left. Each of three files is
+/// created, and takes its bytes in one piece; the seventh write doesn't come.
+const FAILING: &[(u64, [usize; 3])] = &[
+    (1, [0, 0, 0]),
+    (2, [0, 0, 0]),
+    (3, [163, 0, 0]),
+    (4, [163, 0, 0]),
+    (5, [163, 14907, 0]),
+    (6, [163, 14907, 0]),
+    (7, [163, 14907, 14907]),
+];
+
 #[test]
 fn a_stop_at_a_write_leaves_the_files_before_it(rt: HostRuntime) -> Result<(), Fail> {
     let alloc = rt.alloc();
-    let script = joined(alloc, &[TWO, SESSION, STEPS])?;
-    // Each of three files is created, and takes its bytes in one piece.
-    for (failing, lengths) in [
-        (1, [0, 0, 0]),
-        (2, [0, 0, 0]),
-        (3, [163, 0, 0]),
-        (4, [163, 0, 0]),
-        (5, [163, 14907, 0]),
-        (6, [163, 14907, 0]),
-        (7, [163, 14907, 14907]),
-    ] {
+    let script = joined(alloc, &[(1, TWO), (1, SESSION), (1, STEPS)])?;
+    for (failing, lengths) in FAILING {
         let mut out = MemorySink::make(alloc, 100, Vec::new(alloc));
-        let (answered, store) = play_over(alloc, script.as_str(), failing, &mut out)?;
-        let status = if failing == 7 {
+        let (answered, store) = play_over(alloc, script.as_str(), *failing, &mut out)?;
+        let is_last = *failing == 7;
+        let status = if is_last {
             Status::Done
         } else {
             Status::WriteFault
         };
         assert_eq!(rt; answered, status, "write {failing}");
-        assert!(rt; out.bytes().is_empty() == (failing < 7), "write {failing}");
-        for (name, length) in ["p.roster", "p.sv.log", "p.b1.log"].iter().zip(lengths) {
-            assert_eq!(rt; length_of(&store, name), length, "write {failing}: {name}");
+        assert!(rt; out.bytes().is_empty() != is_last, "write {failing}");
+        for (name, length) in ["p.roster", "p.sv.log", "p.b1.log"]
+            .iter()
+            .zip(lengths.iter())
+        {
+            assert_eq!(rt; length_of(&store, name), *length, "write {failing}: {name}");
         }
     }
     Ok(())

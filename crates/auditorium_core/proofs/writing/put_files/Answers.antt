@@ -13,7 +13,7 @@ returns-in_err-put_file-clause-calls g c =
     let end = c.put_file.new.store in
     let failed : is_ok c.from_residual.result ≡ false = search rules in
     let put = as_put store.creates store.appends c.loop-file.store end file c.name.result.now c.bytes.result.now
-        (is_ok c.put_file.result) false c.name.ensures c.bytes.ensures (search rules) c.put_file.ensures.offers in
+    (is_ok c.put_file.result) false c.name.ensures c.bytes.ensures (search rules) c.put_file.ensures.offers in
     let P : Bool → Type 0 = λ ok. PutsAll store.creates store.appends c.args.store.now c.args.files.now ok end in
     subst P (sym failed) (c.loop-file.invariant.calls end false
     (put_fails store.creates store.appends c.loop-file.store end c.args.files.now c.loop-file.file-index file
@@ -25,7 +25,7 @@ loop-file-preserved g c =
     let file : List ℕ × List ℕ = c.file-item.result in
     let mid = c.put_file.new.store in
     let put = as_put store.creates store.appends c.loop-file.store mid file c.name.result.now c.bytes.result.now
-        (is_ok c.put_file.result) true c.name.ensures c.bytes.ensures (search rules) c.put_file.ensures.offers in
+    (is_ok c.put_file.result) true c.name.ensures c.bytes.ensures (search rules) c.put_file.ensures.offers in
     let set : store.files mid ≡ with_file (store.files c.loop-file.store) file.0 file.1 =
     c.in_ok-put_file.ensures.ok
     ∙ ap (λ n. with_file (store.files c.loop-file.store) n c.bytes.result.now) c.name.ensures
