@@ -1,6 +1,5 @@
 -- The header of a log.
-use Rattle.std.proofs.Common.{◌≡◌, ◌∙◌, ℕ, ◌^◌, ◌<◌, List, ◌++◌, length, take, drop, refl, sym, ap, subst, arith}
-use Rattle.std.proofs.lemmas.List.{take-append-drop, length-take-le}
+use Rattle.std.proofs.Common.{◌≡◌, ℕ, ◌^◌, ◌<◌, List, ◌++◌, length, refl, sym, subst, arith}
 use Rattle.canonical_sexp.specs.declared.sexp.Sexp.{Sexp}
 use Rattle.canonical_sexp.specs.declared.read.Read.{Read}
 use Rattle.canonical_sexp.specs.declared.read.Read.TheVariants as read
@@ -11,9 +10,7 @@ use Rattle.canonical_sexp.specs.Text.{text_of, Fits}
 use Rattle.canonical_sexp.specs.Reading.{Answers}
 use Rattle.canonical_sexp.proofs.Decimal.{length-decimal-le_20}
 use Rattle.canonical_sexp.proofs.Exclusive.{text_is_read}
-use Rattle.log_files.specs.declared.plain_log.PlainLog.{PlainLog}
-use Rattle.log_files.specs.LogText.{header_tree, HasHeader, SaysFrom, Says}
-use Rattle.log_files.specs.inside.Parts.{IsHeader}
+use Rattle.log_files.specs.LogText.{header_tree, HasHeader}
 
 pub header_fits : (owner : ℕ) → owner < 2 ^ 32 → Fits (header_tree owner)
 header_fits owner small = (
@@ -34,24 +31,10 @@ not_whole (front.Bad at why) none tree used e = cc
 
 -- the first whole text of bytes that begin with a header
 pub no_header : (bytes : List ℕ) (answer : Read) → ((other : Read) → Answers bytes other → answer ≡ other) →
-    ((tree : Sexp) (used : ℕ) → answer ≡ read.Whole tree used → IsHeader tree → ⊥) → HasHeader bytes → ⊥
+    ((tree : Sexp) (used : ℕ) → answer ≡ read.Whole tree used → (owner : ℕ) → owner < 2 ^ 32 →
+    tree ≡ header_tree owner → ⊥) → HasHeader bytes → ⊥
 no_header bytes answer only not (owner, rest, small, e) =
     let P : List ℕ → Type 0 = λ bs. Answers bs (read.Whole (header_tree owner)
     (length (text_of (header_tree owner)))) in
     let whole : P bytes = subst P (sym e) (text_is_read (header_tree owner) rest (header_fits owner small)) in
-    not (header_tree owner) (length (text_of (header_tree owner))) (only _ whole) (owner, small, refl)
-
-pub says : (bytes : List ℕ) (tree : Sexp) (used : ℕ) (log : PlainLog) → Answers bytes (read.Whole tree used) →
-    IsHeader tree → SaysFrom used (drop used bytes) log → Says bytes log
-says bytes tree used log whole (owner, small, is) h =
-    let front : take used bytes ≡ text_of (header_tree owner) = whole.2 ∙ ap text_of is in
-    let long : used ≡ length (text_of (header_tree owner)) = sym (length-take-le used bytes whole.1)
-    ∙ ap length front in
-    let P : ℕ → Type 0 = λ n. SaysFrom n (drop used bytes) log in
-    record {
-      owner = owner;
-      behind = drop used bytes;
-      number = small;
-      header = sym (take-append-drop used bytes) ∙ ap (λ bs. bs ++ drop used bytes) front;
-      rest = subst P long h;
-    }
+    not (header_tree owner) (length (text_of (header_tree owner))) (only _ whole) owner small refl

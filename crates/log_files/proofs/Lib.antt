@@ -1,5 +1,7 @@
 pub mod Splits
-pub mod Entries
 pub mod Headers
 pub mod OneLog
+pub mod SealedLogs
+pub mod OneBreak
 pub mod WrittenLogs
+pub mod KeptRecords

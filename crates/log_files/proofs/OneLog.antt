@@ -1,6 +1,6 @@
 -- Bytes say at most one log.
-use Rattle.std.proofs.Common.{◌≡◌, ◌∙◌, ℕ, ◌+◌, ◌<◌, inl, inr, List, [], ◌∷◌, ◌++◌, length, Result}
-use Rattle.std.proofs.Common.{refl, ap, sym, subst, arith, append_assoc, length-append}
+use Rattle.std.proofs.Common.{◌≡◌, ◌∙◌, ℕ, ◌+◌, ◌^◌, ◌<◌, Bool, true, false, inl, inr, List, [], ◌∷◌, ◌++◌, length, Result}
+use Rattle.std.proofs.Common.{Err, refl, ap, sym, subst, arith, append_assoc, length-append}
 use Rattle.std.specs.Prelude.{All, codes}
 use Rattle.std.specs.List.{flat_map}
 use Rattle.std.proofs.lemmas.List.Elements.{All-head, All-tail}
@@ -12,17 +12,18 @@ use Rattle.canonical_sexp.specs.Forms.{list_of}
 use Rattle.std.specs.Fmt.{decimal}
 use Rattle.canonical_sexp.specs.Text.{text_of, Fits}
 use Rattle.canonical_sexp.specs.Reading.{Answers}
+use Rattle.std.proofs.lemmas.Fmt.{decimal_injective}
 use Rattle.canonical_sexp.proofs.Unique.{one_tree}
 use Rattle.canonical_sexp.proofs.Exclusive.{one_answer, text_is_read}
 use Rattle.entry_format.specs.declared.plain.Plain.{Plain}
 use Rattle.entry_format.specs.declared.plain.EntryFault.{EntryFault}
-use Rattle.entry_format.specs.Reading.{Reads}
+use Rattle.entry_format.specs.declared.plain.EntryFault.TheVariants.{WrongShape}
 use Rattle.entry_format.proofs.Forms.{one_reading}
 use Rattle.log_files.specs.declared.plain_log.End.{End}
 use Rattle.log_files.specs.declared.plain_log.End.TheVariants.{Clean, Torn, Malformed}
 use Rattle.log_files.specs.declared.plain_log.PlainLog.{PlainLog}
-use Rattle.log_files.specs.LogText.{header_tree, IsEnd, IsRecordOf, Gives, EachGives}
-use Rattle.log_files.specs.LogText.{kept_of, refused_of, SaysFrom, Says}
+use Rattle.log_files.specs.LogText.{header_tree, record_tree, AreRecords, IsEnd, Gives, EachGives}
+use Rattle.log_files.specs.LogText.{kept_of, refused_of, AreLog, IsReadPlain, Says}
 use Rattle.log_files.proofs.Headers.{header_fits}
 
 -- no whole text stands in front
@@ -99,78 +100,155 @@ one_end offset bytes (Malformed at why) (Malformed place cause) h k =
     let ats : at ≡ place = h.1 ∙ ap (λ n. offset + n) places ∙ sym k.1 in
     ap (λ n. Malformed n why) ats ∙ ap (Malformed place) causes
 
--- the members of the list that a record holds
-held_by : (tree : Sexp) (members others : Forest) → IsRecordOf (Branch members) tree → IsRecordOf (Branch others) tree →
-    members ≡ others
-held_by tree members others (inl h) (inl k) =
-    let same : list_of (Atom (codes "sent") ∷ Branch members ∷ [])
-    ≡ list_of (Atom (codes "sent") ∷ Branch others ∷ []) = sym h ∙ k in
-    cc
-held_by tree members others (inl h) (inr k) =
-    let same : list_of (Atom (codes "sent") ∷ Branch members ∷ [])
-    ≡ list_of (Atom (codes "got") ∷ Branch others ∷ []) = sym h ∙ k in
-    cc
-held_by tree members others (inr h) (inl k) =
-    let same : list_of (Atom (codes "got") ∷ Branch members ∷ [])
-    ≡ list_of (Atom (codes "sent") ∷ Branch others ∷ []) = sym h ∙ k in
-    cc
-held_by tree members others (inr h) (inr k) =
-    let same : list_of (Atom (codes "got") ∷ Branch members ∷ [])
-    ≡ list_of (Atom (codes "got") ∷ Branch others ∷ []) = sym h ∙ k in
-    cc
+-- one header is of one owner
+one_owner : (owner other : ℕ) → owner < 2 ^ 32 → other < 2 ^ 32 → header_tree owner ≡ header_tree other →
+    owner ≡ other
+one_owner owner other small small' e =
+    let same : decimal owner ≡ decimal other = cc in
+    decimal_injective owner other (omega (arith, small)) (omega (arith, small')) same
 
--- a record gives one reading
-one_given : (tree : Sexp) (reading other : Result Plain EntryFault) → Gives tree reading → Gives tree other →
-    reading ≡ other
-one_given tree reading other (inl (members, is, reads)) (inl (others, also, reads')) =
-    let P : Forest → Type 0 = λ m. Reads (text_of (Branch m)) reading in
-    one_reading (text_of (Branch others)) reading other (subst P (held_by tree members others is also) reads) reads'
-one_given tree reading other (inl (members, is, reads)) (inr (none, shape)) = absurd (none members is)
-one_given tree reading other (inr (none, shape)) (inl (members, is, reads)) = absurd (none members is)
-one_given tree reading other (inr (none, shape)) (inr (none', shape')) = shape ∙ sym shape'
+-- bytes are one row of records and one end
+pub one_records : (offset : ℕ) (bytes : List ℕ) (trees others : List Sexp) (end other : End) →
+    AreRecords offset bytes trees end → AreRecords offset bytes others other → (trees ≡ others) × (end ≡ other)
+one_records offset bytes trees others end other h k =
+    let row : (trees ≡ others) × (h.rest ≡ k.rest) =
+    one_row trees others h.rest k.rest h.within k.within
+    (end_has_none (offset + length (flat_map text_of trees)) h.rest end h.ends)
+    (end_has_none (offset + length (flat_map text_of others)) k.rest other k.ends) (sym h.spelt ∙ k.spelt) in
+    let Q : List Sexp → Type 0 = λ ts. IsEnd (offset + length (flat_map text_of ts)) h.rest end in
+    let R : List ℕ → Type 0 = λ bs. IsEnd (offset + length (flat_map text_of others)) bs end in (
+      row.0,
+      one_end (offset + length (flat_map text_of others)) k.rest end other (subst R row.1 (subst Q row.0 h.ends))
+          k.ends,
+    )
 
-pub each_given : (trees : List Sexp) (readings others : List (Result Plain EntryFault)) → EachGives trees readings →
-    EachGives trees others → readings ≡ others
-each_given [] [] [] h k = refl
-each_given [] [] (o ∷ others) h k = absurd k
-each_given [] (r ∷ readings) others h k = absurd h
-each_given (t ∷ trees) [] others h k = absurd h
-each_given (t ∷ trees) (r ∷ readings) [] h k = absurd k
-each_given (t ∷ trees) (r ∷ readings) (o ∷ others) h k =
-    ap (λ x. x ∷ readings) (one_given t r o h.0 k.0) ∙ ap (λ xs. o ∷ xs) (each_given trees readings others h.1 k.1)
+-- a tree is a record of one list, by one word
+one_record : (tree : Sexp) (members others : Forest) (sent got : Bool) → tree ≡ record_tree sent (Branch members) →
+    tree ≡ record_tree got (Branch others) → (sent ≡ got) × (members ≡ others)
+one_record tree members others true true h k =
+    let same : record_tree true (Branch members) ≡ record_tree true (Branch others) = sym h ∙ k in (refl, cc)
+one_record tree members others true false h k =
+    let same : record_tree true (Branch members) ≡ record_tree false (Branch others) = sym h ∙ k in cc
+one_record tree members others false true h k =
+    let same : record_tree false (Branch members) ≡ record_tree true (Branch others) = sym h ∙ k in cc
+one_record tree members others false false h k =
+    let same : record_tree false (Branch members) ≡ record_tree false (Branch others) = sym h ∙ k in (refl, cc)
 
--- the same trees, readings and end
-pub record SameSaid (log other : PlainLog) : Type 0 where
-  pub kept : log.kept.items ≡ other.kept.items
-  pub refused : log.refused.items ≡ other.refused.items
-  pub ends : log.end ≡ other.end
+-- each reading agrees with the one at its place
+abbrev pub EachAgrees : {T U : Type 0} → (ℕ → Result T EntryFault → Result U EntryFault → Type 0) → ℕ →
+    List (Result T EntryFault) → List (Result U EntryFault) → Type 0
+EachAgrees Agree place [] [] = Unit {0}
+EachAgrees Agree place [] (other ∷ others) = ⊥
+EachAgrees Agree place (reading ∷ readings) [] = ⊥
+EachAgrees Agree place (reading ∷ readings) (other ∷ others) =
+    Agree place reading other × EachAgrees Agree (place + 1) readings others
 
-one_said_from : (offset : ℕ) (bytes : List ℕ) (log other : PlainLog) → SaysFrom offset bytes log →
-    SaysFrom offset bytes other → SameSaid log other
-one_said_from offset bytes log other h k =
-    let row : (h.trees ≡ k.trees) × (h.records.rest ≡ k.records.rest) =
-    one_row h.trees k.trees h.records.rest k.records.rest h.records.within k.records.within
-    (end_has_none (offset + length (flat_map text_of h.trees)) h.records.rest log.end h.records.ends)
-    (end_has_none (offset + length (flat_map text_of k.trees)) k.records.rest other.end k.records.ends)
-    (sym h.records.spelt ∙ k.records.spelt) in
-    let P : List Sexp → Type 0 = λ ts. EachGives ts h.readings in
-    let Q : List Sexp → Type 0 = λ ts. IsEnd (offset + length (flat_map text_of ts)) h.records.rest log.end in
-    let R : List ℕ → Type 0 = λ bs. IsEnd (offset + length (flat_map text_of k.trees)) bs log.end in
+-- one owner, one end, and readings that agree
+pub record SayAlike {T U : Type 0} (Agree : ℕ → Result T EntryFault → Result U EntryFault → Type 0) (owner : ℕ)
+    (readings : List (Result T EntryFault)) (end : End) (owner' : ℕ) (readings' : List (Result U EntryFault))
+    (end' : End) : Type 0 where
+  pub owners : owner ≡ owner'
+  pub alike : EachAgrees Agree 0 readings readings'
+  pub ends : end ≡ end'
+
+-- two readings of one text agree so
+module _ {T U : Type 0} (IsReadAs : ℕ → Bool → List ℕ → Result T EntryFault → Type 0)
+    (IsAlsoReadAs : ℕ → Bool → List ℕ → Result U EntryFault → Type 0)
+    (Agree : ℕ → Result T EntryFault → Result U EntryFault → Type 0)
+    (agrees : (place : ℕ) (sent : Bool) (text : List ℕ) (reading : Result T EntryFault) (other : Result U EntryFault) →
+    IsReadAs place sent text reading → IsAlsoReadAs place sent text other → Agree place reading other)
+    (shapeless : (place : ℕ) → Agree place (Err WrongShape) (Err WrongShape)) where
+  -- what a record gives agrees too
+  given_agree : (place : ℕ) (tree : Sexp) (reading : Result T EntryFault) (other : Result U EntryFault) →
+      Gives IsReadAs place tree reading → Gives IsAlsoReadAs place tree other → Agree place reading other
+  given_agree place tree reading other (inl (members, sent, is, reads)) (inl (others, got, also, reads')) =
+      let one : (sent ≡ got) × (members ≡ others) = one_record tree members others sent got is also in
+      let P : Forest → Type 0 = λ m. IsReadAs place sent (text_of (Branch m)) reading in
+      let Q : Bool → Type 0 = λ b. IsReadAs place b (text_of (Branch others)) reading in
+      agrees place got (text_of (Branch others)) reading other (subst Q one.0 (subst P one.1 reads)) reads'
+  given_agree place tree reading other (inl (members, sent, is, reads)) (inr (none, shape)) =
+      absurd (none members sent is)
+  given_agree place tree reading other (inr (none, shape)) (inl (members, sent, is, reads)) =
+      absurd (none members sent is)
+  given_agree place tree reading other (inr (none, shape)) (inr (none', shape')) =
+      subst (λ (r : Result T EntryFault). Agree place r other) (sym shape)
+      (subst (λ (r : Result U EntryFault). Agree place (Err WrongShape) r) (sym shape') (shapeless place))
+
+  pub each_agrees : (place : ℕ) (trees : List Sexp) (readings : List (Result T EntryFault))
+      (others : List (Result U EntryFault)) → EachGives IsReadAs place trees readings →
+      EachGives IsAlsoReadAs place trees others → EachAgrees Agree place readings others
+  each_agrees place [] [] [] h k = tt
+  each_agrees place [] [] (o ∷ others) h k = absurd k
+  each_agrees place [] (r ∷ readings) others h k = absurd h
+  each_agrees place (t ∷ trees) [] others h k = absurd h
+  each_agrees place (t ∷ trees) (r ∷ readings) [] h k = absurd k
+  each_agrees place (t ∷ trees) (r ∷ readings) (o ∷ others) h k =
+      (given_agree place t r o h.0 k.0, each_agrees (place + 1) trees readings others h.1 k.1)
+
+  pub say_alike : (bytes : List ℕ) (owner owner' : ℕ) (kept : List T) (kept' : List U)
+      (refused refused' : List (ℕ × EntryFault)) (end end' : End) →
+      (h : AreLog IsReadAs bytes owner kept refused end) → (k : AreLog IsAlsoReadAs bytes owner' kept' refused' end') →
+      SayAlike Agree owner h.readings end owner' k.readings end'
+  say_alike bytes owner owner' kept kept' refused refused' end end' h k =
+      let one : (header_tree owner ≡ header_tree owner') × (h.behind ≡ k.behind) =
+      one_tree 8 (header_tree owner) (header_tree owner') h.behind k.behind (header_fits owner h.number)
+      (header_fits owner' k.number) (sym h.header ∙ k.header) in
+      let P : Sexp → Type 0 = λ t. AreRecords (length (text_of t)) h.behind h.trees end in
+      let Q : List ℕ → Type 0 = λ bs. AreRecords (length (text_of (header_tree owner'))) bs h.trees end in
+      let same : (h.trees ≡ k.trees) × (end ≡ end') =
+      one_records (length (text_of (header_tree owner'))) k.behind h.trees k.trees end end'
+      (subst Q one.1 (subst P one.0 h.records)) k.records in
+      record {
+        owners = one_owner owner owner' h.number k.number one.0;
+        alike = each_agrees 0 k.trees h.readings k.readings
+            (subst (λ ts. EachGives IsReadAs 0 ts h.readings) same.0 h.gives) k.gives;
+        ends = same.1;
+      }
+
+-- where readings are the same, the lists of them are
+same_readings : {T : Type 0} (place : ℕ) (readings others : List (Result T EntryFault)) →
+    EachAgrees (λ place r o. r ≡ o) place readings others → readings ≡ others
+same_readings place [] [] h = refl
+same_readings place [] (o ∷ others) h = absurd h
+same_readings place (r ∷ readings) [] h = absurd h
+same_readings {T} place (r ∷ readings) (o ∷ others) h =
+    ap (λ (x : Result T EntryFault). x ∷ readings) h.0
+    ∙ ap (λ (xs : List (Result T EntryFault)). o ∷ xs) (same_readings (place + 1) readings others h.1)
+
+-- the same owner, values, faults and end
+pub record SameSaid {T : Type 0} (owner other : ℕ) (values others : List T) (faults causes : List (ℕ × EntryFault))
+    (last end : End) : Type 0 where
+  pub owners : owner ≡ other
+  pub kept : values ≡ others
+  pub refused : faults ≡ causes
+  pub ends : last ≡ end
+
+-- where a text is read in one way, bytes say one log
+pub one_said : {T : Type 0} (IsReadAs : ℕ → Bool → List ℕ → Result T EntryFault → Type 0) →
+    ((place : ℕ) (sent : Bool) (text : List ℕ) (reading other : Result T EntryFault) →
+    IsReadAs place sent text reading → IsReadAs place sent text other → reading ≡ other) →
+    (bytes : List ℕ) (owner owner' : ℕ) (kept kept' : List T) (refused refused' : List (ℕ × EntryFault))
+    (end end' : End) → AreLog IsReadAs bytes owner kept refused end → AreLog IsReadAs bytes owner' kept' refused' end' →
+    SameSaid owner owner' kept kept' refused refused' end end'
+one_said IsReadAs one bytes owner owner' kept kept' refused refused' end end' h k =
+    let alike = say_alike IsReadAs IsReadAs (λ place r o. r ≡ o) one (λ place. refl) bytes owner owner' kept kept' refused
+    refused' end end' h k in
     let readings : h.readings ≡ k.readings =
-    each_given k.trees h.readings k.readings (subst P row.0 h.gives) k.gives in
+    same_readings 0 h.readings k.readings alike.alike in
     record {
-      kept = h.kept ∙ ap kept_of readings ∙ sym k.kept;
-      refused = h.refused ∙ ap (refused_of 0) readings ∙ sym k.refused;
-      ends = one_end (offset + length (flat_map text_of k.trees)) k.records.rest log.end other.end
-          (subst R row.1 (subst Q row.0 h.records.ends)) k.records.ends;
+      owners = alike.owners;
+      kept = h.keeps ∙ ap kept_of readings ∙ sym k.keeps;
+      refused = h.refuses ∙ ap (refused_of 0) readings ∙ sym k.refuses;
+      ends = alike.ends;
     }
 
-pub one_said : (bytes : List ℕ) (log other : PlainLog) → Says bytes log → Says bytes other → SameSaid log other
-one_said bytes log other h k =
-    let one : (header_tree h.owner ≡ header_tree k.owner) × (h.behind ≡ k.behind) =
-    one_tree 8 (header_tree h.owner) (header_tree k.owner) h.behind k.behind (header_fits h.owner h.number)
-    (header_fits k.owner k.number) (sym h.header ∙ k.header) in
-    let P : Sexp → Type 0 = λ t. SaysFrom (length (text_of t)) h.behind log in
-    let Q : List ℕ → Type 0 = λ bs. SaysFrom (length (text_of (header_tree k.owner))) bs log in
-    one_said_from (length (text_of (header_tree k.owner))) k.behind log other (subst Q one.1 (subst P one.0 h.rest))
-    k.rest
+-- a text's plain reading is one
+pub one_plain : (place : ℕ) (sent : Bool) (text : List ℕ) (reading other : Result Plain EntryFault) →
+    IsReadPlain place sent text reading → IsReadPlain place sent text other → reading ≡ other
+one_plain place sent text reading other h k = one_reading text reading other h k
+
+pub one_plain_log : (bytes : List ℕ) (log other : PlainLog) → (h : Says bytes log) → (k : Says bytes other) →
+    SameSaid h.0 k.0 log.kept.items other.kept.items log.refused.items other.refused.items log.end other.end
+one_plain_log bytes log other h k =
+    one_said IsReadPlain one_plain bytes h.0 k.0 log.kept.items other.kept.items log.refused.items other.refused.items
+    log.end other.end h.1 k.1

@@ -1,7 +1,7 @@
 -- What the text of a written log says.
-use Rattle.std.proofs.Common.{◌≡◌, ◌∙◌, ℕ, ◌+◌, ◌^◌, ◌<◌, ◌≤◌, inl, inr, List, [], ◌∷◌, ◌++◌, length, map}
-use Rattle.std.proofs.Common.{Result, Ok, refl, ap, sym, subst, arith, append_assoc, append-nil}
-use Rattle.std.specs.Prelude.{All, codes, get_or, take}
+use Rattle.std.proofs.Common.{◌≡◌, ◌∙◌, ℕ, ◌+◌, ◌^◌, ◌<◌, ◌≤◌, Bool, true, false, inl, inr, List, [], ◌∷◌, ◌++◌, length}
+use Rattle.std.proofs.Common.{map, Result, Ok, Err, refl, ap, sym, subst, arith, append_assoc, append-nil}
+use Rattle.std.specs.Prelude.{All, codes, get_or, take, ◌==◌, if◌then◌else◌}
 use Rattle.std.specs.List.{flat_map}
 use Rattle.std.proofs.lemmas.Fmt.{decimal_digit}
 use Rattle.std.proofs.lemmas.List.{take_more, take_all, map-append}
@@ -11,34 +11,38 @@ use Rattle.canonical_sexp.specs.declared.sexp.Sexp.{Sexp}
 use Rattle.canonical_sexp.specs.declared.sexp.Sexp.TheVariants.{Atom, List as Branch}
 use Rattle.canonical_sexp.specs.Forest.{Forest, no_trees}
 use Rattle.canonical_sexp.specs.Sexp.{forest_of}
-use Rattle.canonical_sexp.specs.Forms.{list_of}
+use Rattle.canonical_sexp.specs.Forms.{list_of, number_atom}
 use Rattle.canonical_sexp.specs.Text.{text_of, atom_text, AreWithin, Fits}
-use Rattle.canonical_sexp.proofs.Unique.{one_tree}
 use Rattle.entry_order.specs.declared.event.Event.{Event}
 use Rattle.entry_order.specs.declared.event.Event.TheVariants.{Sent, Got}
 use Rattle.entry_order.specs.History.{entry_of, held}
 use Rattle.entry_format.specs.declared.deed.Deed.{Deed}
 use Rattle.entry_format.specs.declared.deed.Deed.TheVariants.{Opened, Authorise, Override, Closed, Activate, Commit}
-use Rattle.entry_format.specs.declared.deed.Deed.TheVariants.{Cast, Cancel}
+use Rattle.entry_format.specs.declared.deed.Deed.TheVariants.{Cast, Cancel, Challenge}
+use Rattle.entry_format.specs.declared.deed.How.{How}
 use Rattle.entry_format.specs.declared.entry.Entry.{Entry}
 use Rattle.entry_format.specs.declared.plain.Plain.{Plain}
 use Rattle.entry_format.specs.declared.plain.EntryFault.{EntryFault}
-use Rattle.entry_format.specs.EntryText.{body_tree, deed_tree, signed_tree}
+use Rattle.entry_format.specs.EntryText.{body_tree, deed_tree, how_word, signed_tree}
 use Rattle.entry_format.specs.Reading.{Reads}
 use Rattle.entry_format.specs.SealedEntry.{SealedEntry}
 use Rattle.entry_format.specs.Sealing.{IsSealed}
 use Rattle.log_files.specs.declared.plain_log.End.TheVariants.{Clean}
 use Rattle.log_files.specs.declared.plain_log.PlainLog.{PlainLog}
-use Rattle.log_files.specs.LogText.{header_tree, IsEnd, Gives, EachGives, kept_of, refused_of, SaysFrom, Says}
+use Rattle.log_files.specs.LogText.{header_tree, record_tree, Gives, EachGives, kept_of, refused_of, AreLog}
+use Rattle.log_files.specs.LogText.{IsReadPlain, Says}
 use Rattle.log_files.specs.Written.{record_text, log_text, plain_of, HasAll}
-use Rattle.log_files.proofs.Entries.{text-record}
-use Rattle.log_files.proofs.Headers.{header_fits}
-use Rattle.log_files.proofs.OneLog.{end_has_none, one_row, one_end, each_given}
+use Rattle.log_files.proofs.OneLog.{one_said, one_plain}
 
--- the tree of a record
-abbrev record_tree : Event SealedEntry → Sexp
-record_tree (Sent e) = list_of (Atom (codes "sent") ∷ signed_tree e.entry e.signature ∷ [])
-record_tree (Got e) = list_of (Atom (codes "got") ∷ signed_tree e.entry e.signature ∷ [])
+-- the text of an entry stands between the word's and the parenthesis
+text-record : (word : List ℕ) (members : Forest) → text_of (list_of (Atom word ∷ Branch members ∷ []))
+    ≡ (40 ∷ atom_text word) ++ (text_of (Branch members) ++ 41 ∷ [])
+text-record word members = ap (λ bs. 40 ∷ bs) (append_assoc (atom_text word) (text_of (Branch members)) (41 ∷ []))
+
+-- the tree of an event's record
+abbrev tree_of : Event SealedEntry → Sexp
+tree_of (Sent e) = record_tree true (signed_tree e.entry e.signature)
+tree_of (Got e) = record_tree false (signed_tree e.entry e.signature)
 
 -- digests lie in no list, and those of a deed's fields neither, so they are within any depth
 names_at : (names : List (List ℕ)) (d c : ℕ) → AreWithin d (forest_of (map Atom names)) →
@@ -46,16 +50,25 @@ names_at : (names : List (List ℕ)) (d c : ℕ) → AreWithin d (forest_of (map
 names_at [] d c h = tt
 names_at (name ∷ names) d c h = (h.0, names_at names d c h.1)
 
-deed_at : (deed : Deed) (d c : ℕ) → 0 < c → AreWithin d (forest_of (deed_tree deed ∷ [])) →
-    AreWithin c (forest_of (deed_tree deed ∷ []))
-deed_at Opened d c some h = (some, h.1, h.2, tt)
-deed_at (Authorise booth session) d c some h = (some, h.1, h.2, tt)
-deed_at (Override session) d c some h = (some, h.1, h.2, tt)
-deed_at Closed d c some h = (some, h.1, h.2, tt)
-deed_at (Activate session) d c some h = (some, h.1, h.2, tt)
-deed_at (Commit session ballot) d c some h = (some, h.1, h.2, tt)
-deed_at (Cast session ballot) d c some h = (some, h.1, h.2, tt)
-deed_at (Cancel session) d c some h = (some, h.1, h.2, tt)
+override_at : (is_first : Bool) (session : ℕ) (how : How) (d c : ℕ) → 0 < c →
+    AreWithin d (forest_of (list_of (Atom (codes "override") ∷ number_atom session
+    ∷ (if is_first then [] else Atom (how_word how) ∷ [])) ∷ [])) →
+    AreWithin c (forest_of (list_of (Atom (codes "override") ∷ number_atom session
+    ∷ (if is_first then [] else Atom (how_word how) ∷ [])) ∷ []))
+override_at true session how d c some h = (some, h.1, h.2, tt)
+override_at false session how d c some h = (some, h.1, h.2, tt)
+
+deed_at : (version : ℕ) (deed : Deed) (d c : ℕ) → 0 < c → AreWithin d (forest_of (deed_tree version deed ∷ [])) →
+    AreWithin c (forest_of (deed_tree version deed ∷ []))
+deed_at version Opened d c some h = (some, h.1, h.2, tt)
+deed_at version (Authorise booth session) d c some h = (some, h.1, h.2, tt)
+deed_at version (Override session how) d c some h = override_at (version == 1) session how d c some h
+deed_at version Closed d c some h = (some, h.1, h.2, tt)
+deed_at version (Activate session) d c some h = (some, h.1, h.2, tt)
+deed_at version (Commit session ballot) d c some h = (some, h.1, h.2, tt)
+deed_at version (Cast session ballot) d c some h = (some, h.1, h.2, tt)
+deed_at version (Cancel session) d c some h = (some, h.1, h.2, tt)
+deed_at version (Challenge session ballot) d c some h = (some, h.1, h.2, tt)
 
 -- the members of a list
 abbrev members_in : Sexp → Forest
@@ -64,8 +77,8 @@ members_in (Branch members) = members
 
 body_at : (entry : Entry) → AreWithin 6 (members_in (body_tree entry)) → AreWithin 5 (members_in (body_tree entry))
 body_at entry (word, (version, (election, (maker, (number, (stamp, (deep, few, names, deed))))))) =
-    let more : AreWithin 5 (forest_of (list_of (map Atom entry.names) ∷ deed_tree entry.deed ∷ [])) =
-    (omega arith, few, names_at entry.names 5 4 names, deed_at entry.deed 6 5 (omega arith) deed) in
+    let more : AreWithin 5 (forest_of (list_of (map Atom entry.names) ∷ deed_tree entry.version entry.deed ∷ [])) =
+    (omega arith, few, names_at entry.names 5 4 names, deed_at entry.version entry.deed 6 5 (omega arith) deed) in
     (word, (version, (election, (maker, (number, (stamp, more))))))
 
 -- a record of a signed entry that is within the limits is within them too
@@ -74,7 +87,7 @@ record_fits : (word : List ℕ) (entry : Entry) (signature : List ℕ) → lengt
 record_fits word entry signature short (deep, few, (tag, (inside, count, body, end))) =
     (omega arith, omega arith, (short, (omega arith, few, (tag, (omega arith, count, body_at entry body, end)), tt)))
 
-records_fit : (x : Event SealedEntry) → IsSealed (entry_of x) → Fits (record_tree x)
+records_fit : (x : Event SealedEntry) → IsSealed (entry_of x) → Fits (tree_of x)
 records_fit (Sent e) is = record_fits (codes "sent") e.entry e.signature (omega arith) is.spelt.within
 records_fit (Got e) is = record_fits (codes "got") e.entry e.signature (omega arith) is.spelt.within
 
@@ -86,7 +99,7 @@ record_spelt word front e is begins =
     ∙ ap (λ (bs : List ℕ). bs ++ (text_of (signed_tree e.entry e.signature) ++ 41 ∷ [])) begins
     ∙ ap (λ (bs : List ℕ). front ++ (bs ++ 41 ∷ [])) (sym is.spelt.spelt) ∙ sym (append_assoc front e.text (41 ∷ []))
 
-records_spelt : (x : Event SealedEntry) → IsSealed (entry_of x) → text_of (record_tree x) ≡ record_text x
+records_spelt : (x : Event SealedEntry) → IsSealed (entry_of x) → text_of (tree_of x) ≡ record_text x
 records_spelt (Sent e) is =
     record_spelt (codes "sent") (codes "(4:sent") e is
     (ap (λ (ds : List ℕ). 40 ∷ (ds ++ 58 ∷ codes "sent")) (decimal_digit 4 (omega arith)))
@@ -102,36 +115,37 @@ reads_plain e is = (
   rw is.spelt.spelt at is.hashed,
 )
 
-gives_plain : (x : Event SealedEntry) → IsSealed (entry_of x) → Gives (record_tree x) (Ok (plain_of (entry_of x)))
-gives_plain (Sent e) is = inl (members_in (signed_tree e.entry e.signature), inl refl, reads_plain e is)
-gives_plain (Got e) is = inl (members_in (signed_tree e.entry e.signature), inr refl, reads_plain e is)
+gives_plain : (place : ℕ) (x : Event SealedEntry) → IsSealed (entry_of x) →
+    Gives IsReadPlain place (tree_of x) (Ok (plain_of (entry_of x)))
+gives_plain place (Sent e) is = inl (members_in (signed_tree e.entry e.signature), true, refl, reads_plain e is)
+gives_plain place (Got e) is = inl (members_in (signed_tree e.entry e.signature), false, refl, reads_plain e is)
 
 -- what each record is read as
 abbrev readings_of : List (Event SealedEntry) → List (Result Plain EntryFault)
 readings_of events = map (λ x. Ok (plain_of (entry_of x))) events
 
-all_fit : (events : List (Event SealedEntry)) → All IsSealed (held events) → All Fits (map record_tree events)
+all_fit : (events : List (Event SealedEntry)) → All IsSealed (held events) → All Fits (map tree_of events)
 all_fit [] all = All-nil Fits
 all_fit (x ∷ events) all =
-    All-cons Fits (record_tree x) (map record_tree events)
+    All-cons Fits (tree_of x) (map tree_of events)
     (records_fit x (All-head IsSealed (entry_of x) (held events) all))
     (all_fit events (All-tail IsSealed (entry_of x) (held events) all))
 
 all_spelt : (events : List (Event SealedEntry)) → All IsSealed (held events) →
-    flat_map text_of (map record_tree events) ≡ flat_map record_text events
+    flat_map text_of (map tree_of events) ≡ flat_map record_text events
 all_spelt [] all = refl
 all_spelt (x ∷ events) all =
-    ap (λ (bs : List ℕ). bs ++ flat_map text_of (map record_tree events))
+    ap (λ (bs : List ℕ). bs ++ flat_map text_of (map tree_of events))
     (records_spelt x (All-head IsSealed (entry_of x) (held events) all))
     ∙ ap (λ (bs : List ℕ). record_text x ++ bs)
     (all_spelt events (All-tail IsSealed (entry_of x) (held events) all))
 
-all_given : (events : List (Event SealedEntry)) → All IsSealed (held events) →
-    EachGives (map record_tree events) (readings_of events)
-all_given [] all = tt
-all_given (x ∷ events) all = (
-  gives_plain x (All-head IsSealed (entry_of x) (held events) all),
-  all_given events (All-tail IsSealed (entry_of x) (held events) all),
+all_given : (place : ℕ) (events : List (Event SealedEntry)) → All IsSealed (held events) →
+    EachGives IsReadPlain place (map tree_of events) (readings_of events)
+all_given place [] all = tt
+all_given place (x ∷ events) all = (
+  gives_plain place x (All-head IsSealed (entry_of x) (held events) all),
+  all_given (place + 1) events (All-tail IsSealed (entry_of x) (held events) all),
 )
 
 all_kept : (events : List (Event SealedEntry)) → kept_of (readings_of events) ≡ map plain_of (held events)
@@ -142,36 +156,35 @@ none_refused : (events : List (Event SealedEntry)) (place : ℕ) → refused_of 
 none_refused [] place = refl
 none_refused (x ∷ events) place = none_refused events (place + 1)
 
--- the records say exactly the entries
-said_from : (offset : ℕ) (events : List (Event SealedEntry)) (log : PlainLog) → All IsSealed (held events) →
-    SaysFrom offset (flat_map record_text events) log → HasAll events log
-said_from offset events log all h =
-    let trees : List Sexp = map record_tree events in
-    let behind : ℕ = offset + length (flat_map text_of h.trees) in
-    let clean : IsEnd behind [] Clean = refl in
-    let row : (h.trees ≡ trees) × (h.records.rest ≡ []) =
-    one_row h.trees trees h.records.rest [] h.records.within (all_fit events all)
-    (end_has_none behind h.records.rest log.end h.records.ends) (end_has_none behind [] Clean clean)
-    (sym h.records.spelt ∙ sym (all_spelt events all) ∙ sym (append-nil (flat_map text_of trees))) in
-    let P : List Sexp → Type 0 = λ ts. EachGives ts h.readings in
-    let Q : List ℕ → Type 0 = λ bs. IsEnd behind bs log.end in
-    let readings : h.readings ≡ readings_of events =
-    each_given trees h.readings (readings_of events) (subst P row.0 h.gives) (all_given events all) in
-    record {
-      kept = h.kept ∙ ap kept_of readings ∙ all_kept events;
-      refused = h.refused ∙ ap (refused_of 0) readings ∙ none_refused events 0;
-      ends = one_end behind [] log.end Clean (subst Q row.1 h.records.ends) clean;
-    }
+-- what was written is a log of exactly the entries
+are_written : (owner : ℕ) (events : List (Event SealedEntry)) (bytes : List ℕ) → owner < 2 ^ 32 →
+    All IsSealed (held events) → bytes ≡ log_text owner events →
+    AreLog IsReadPlain bytes owner (map plain_of (held events)) [] Clean
+are_written owner events bytes small all is = record {
+  behind = flat_map record_text events;
+  trees = map tree_of events;
+  readings = readings_of events;
+  number = small;
+  header = is;
+  records = record {
+    rest = [];
+    within = all_fit events all;
+    spelt = sym (all_spelt events all) ∙ sym (append-nil (flat_map text_of (map tree_of events)));
+    ends = refl;
+  };
+  gives = all_given 0 events all;
+  keeps = sym (all_kept events);
+  refuses = sym (none_refused events 0);
+}
 
--- what was written says exactly the entries
+-- so it says them
 pub said_of_written : (owner : ℕ) (events : List (Event SealedEntry)) (bytes : List ℕ) (log : PlainLog) →
     owner < 2 ^ 32 → All IsSealed (held events) → bytes ≡ log_text owner events → Says bytes log → HasAll events log
 said_of_written owner events bytes log small all is h =
-    let one : (header_tree h.owner ≡ header_tree owner) × (h.behind ≡ flat_map record_text events) =
-    one_tree 8 (header_tree h.owner) (header_tree owner) h.behind (flat_map record_text events)
-    (header_fits h.owner h.number) (header_fits owner small) (sym h.header ∙ is) in
-    let P : List ℕ → Type 0 = λ bs. SaysFrom (length (text_of (header_tree h.owner))) bs log in
-    said_from (length (text_of (header_tree h.owner))) events log all (subst P one.1 h.rest)
+    let same =
+    one_said IsReadPlain one_plain bytes h.0 owner log.kept.items (map plain_of (held events)) log.refused.items [] log.end
+    Clean h.1 (are_written owner events bytes small all is) in
+    record { kept = same.kept; refused = same.refused; ends = same.ends }
 
 -- one record more
 pub text_more : (front old new : List ℕ) (events : List (Event SealedEntry)) (i : ℕ) (x : Event SealedEntry) →

@@ -2,13 +2,16 @@
 //! What a reader answers is what the bytes of the file say, by a definition apart from any reader.
 #![tactic(auto)]
 
+mod breaks;
 mod laws;
 mod plain_log;
 mod records;
+mod sealed_log;
 mod written;
 
-pub use laws::bytes_say_one_log;
+pub use laws::{bytes_say_one_log, bytes_say_one_sealed_log, sealed_logs_agree_with_plain_ones};
 pub use plain_log::{End, LogFault, PlainLog, read_plain_log};
+pub use sealed_log::{Kept, LogRead, read_log, sealed_log_of};
 pub use written::log_text;
 
 #[cfg(test)]

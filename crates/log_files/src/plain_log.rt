@@ -1,12 +1,13 @@
 //! A log whose signatures aren't looked at.
-ghost use Rattle.std.specs.Prelude.{◌≡◌, ◌+◌, IfOk, IfErr, IsErrOf};
+ghost use Rattle.std.specs.Prelude.{◌≡◌, ◌+◌, ◌≤◌, length, IfOk, IfErr, IsErrOf, MatchOption};
 ghost use Rattle.hall_outside.specs.Counts.{HasCause, ComesExactly};
 ghost use Rattle.hall_outside.specs.Files.{OnFile};
 ghost use Rattle.log_files.specs.LogFile.{max_bytes, IsLogOf, IsRefused};
+ghost use Rattle.log_files.specs.LogText.{HasHeader, Says};
 
-use crate::records::plain_log_of;
-use canonical_sexp::Why;
-use entry_format::{EntryFault, Plain};
+use crate::records::{ReadEntry, log_of};
+use canonical_sexp::{Memory, Text, Why};
+use entry_format::{EntryFault, Plain, read_unsigned_text};
 use hall_outside::{FileFault, Store, read_file};
 use std::alloc::{AllocError, Global};
 use thiserror::Error;
@@ -77,7 +78,45 @@ impl From<FileFault> for LogFault {
 }
 
 /// The most bytes of a log's file.
-const MAX_BYTES: usize = 67_108_864;
+pub(crate) const MAX_BYTES: usize = 67_108_864;
+
+/// Reads entries and leaves their signatures unverified.
+#[derive(Clone, Copy)]
+struct PlainReader;
+
+impl ReadEntry for PlainReader {
+    type Kept = Plain;
+
+    ghost use Rattle.log_files.specs.LogText.{IsReadPlain};
+
+    ghost reads = { λ _. IsReadPlain };
+
+    fn read(
+        &self,
+        alloc: Global,
+        _place: u32,
+        _sent: bool,
+        entry: &Text<'_>,
+    ) -> Result<Plain, EntryFault> {
+        read_unsigned_text(alloc, entry)
+    }
+}
+
+/// What the bytes of a log say, or `None` where they don't begin with a header.
+fn plain_log_of(alloc: Global, bytes: &[u8]) -> Result<Option<PlainLog>, Memory>
+    requires { length bytes.now ≤ max_bytes }
+    ensures { IfOk result (λ found.
+        MatchOption found (HasHeader bytes.now → ⊥) (λ log. Says bytes.now log)) }
+{
+    match log_of(alloc, &PlainReader, bytes)? {
+        Some(log) => Ok(Some(PlainLog {
+            kept: log.kept,
+            refused: log.refused,
+            end: log.end,
+        })),
+        None => Ok(None),
+    }
+}
 
 /// Reads a log's file, and leaves the signatures of its entries unverified. No file changes.
 ///

@@ -1,35 +1,77 @@
-//! Reading the header and the records of a log where their texts stand.
-ghost use Rattle.std.specs.Prelude.{◌≡◌, ◌≢◌, ◌≤◌, length, drop, Err};
+//! Reading the header and the records of a log where their texts stand. How the entry of a record is
+//! read is the caller's.
+ghost use Rattle.std.specs.Prelude.{◌≡◌, ◌≢◌, ◌≤◌, ℕ, Bool, List, length, Result, Err};
 ghost use Rattle.std.specs.Prelude.{IfOk, IfSome, IfNone, OnOk, MatchOption};
 ghost use Rattle.canonical_sexp.specs.Forest.{Forest};
 ghost use Rattle.canonical_sexp.specs.Forms.{Finds, IsU32};
-ghost use Rattle.canonical_sexp.specs.declared.sexp.Sexp.TheVariants.{List as Branch};
+ghost use Rattle.canonical_sexp.specs.Text.{text_of};
+ghost use Rattle.canonical_sexp.specs.declared.sexp.Sexp.TheVariants.{Atom, List as Branch};
 ghost use Rattle.entry_format.specs.declared.plain.EntryFault.{EntryFault};
 ghost use Rattle.log_files.specs.LogFile.{max_bytes};
-ghost use Rattle.log_files.specs.LogText.{header_tree, HasHeader, IsRecordOf, Gives};
-ghost use Rattle.log_files.specs.LogText.{SaysFrom, Says};
-ghost use Rattle.log_files.specs.inside.Parts.{IsEntryIn, Adds};
+ghost use Rattle.log_files.specs.LogText.{header_tree, record_word, record_tree, HasHeader};
+ghost use Rattle.log_files.specs.LogText.{AreLog, Gives};
+ghost use Rattle.log_files.specs.inside.Parts.{IsHeaderOf, IsRecordOf, Adds};
 
-use crate::plain_log::{End, PlainLog};
+use crate::plain_log::End;
 use canonical_sexp::{Front, Memory, Text, front_of};
-use entry_format::{EntryFault, Plain, read_unsigned_text};
+use entry_format::EntryFault;
 use std::alloc::{AllocError, Global};
 
-/// Reads the entry of a record. The entry's own text is read by its format.
-fn entry_of(alloc: Global, text: &Text<'_>) -> Result<Plain, EntryFault>
-    ensures { result ≢ Err EntryFault.Memory → Gives text.now result }
+/// How the entry of a record is read.
+pub(crate) trait ReadEntry {
+    /// What is kept of a record.
+    type Kept: Drop;
+
+    /// What an entry's text is read as, which stands in the record at a place and was sent or got.
+    ghost reads: { Self → ℕ → Bool → List ℕ → Result Self.Kept EntryFault → Type 0 };
+
+    /// Reads the entry of the record at the place.
+    fn read(
+        &self,
+        alloc: Global,
+        place: u32,
+        sent: bool,
+        entry: &Text<'_>,
+    ) -> Result<Self::Kept, EntryFault>
+        ensures { result ≢ Err EntryFault.Memory →
+            reads self.now place sent (text_of entry.now) result };
+}
+
+/// What the bytes of a log say.
+#[derive(Drop)]
+pub(crate) struct Records<T> {
+    pub(crate) owner: u32,
+    pub(crate) kept: Vec<T>,
+    pub(crate) refused: Vec<(u32, EntryFault)>,
+    pub(crate) end: End,
+}
+
+/// A record of a signed entry.
+#[derive(Drop)]
+struct Record<'a> {
+    /// Whether the owner of the log sent it.
+    sent: bool,
+    entry: Text<'a>,
+}
+
+/// Whether the word says that the entry was sent, or else got.
+fn is_sent(word: &Text<'_>) -> Option<bool>
+    ensures { Finds (λ sent. word.now ≡ Atom (record_word sent)) result }
 {
-    match entry_in(text) {
-        Some(entry) => read_unsigned_text(alloc, &entry),
-        None => Err(EntryFault::WrongShape),
+    if word.is_word(b"sent") {
+        Some(true)
+    } else if word.is_word(b"got") {
+        Some(false)
+    } else {
+        None
     }
 }
 
-/// The signed entry in a record.
-fn entry_in<'a>(text: &Text<'a>) -> Option<Text<'a>>
-    ensures found { IfSome result (λ entry. IsEntryIn text.now entry) }
-    ensures none { IfNone result ((members : Forest) →
-        IsRecordOf (Branch members) text.now → ⊥) }
+/// The record that the text is.
+fn record_of<'a>(text: &Text<'a>) -> Option<Record<'a>>
+    ensures found { IfSome result (λ found. IsRecordOf text.now found.sent found.entry) }
+    ensures none { IfNone result ((members : Forest) (sent : Bool) →
+        text.now ≢ record_tree sent (Branch members)) }
 {
     let mut members = text.as_list()?;
     let word = members.take_next()?;
@@ -38,11 +80,8 @@ fn entry_in<'a>(text: &Text<'a>) -> Option<Text<'a>>
         return None;
     }
     entry.as_list()?;
-    if word.is_word(b"sent") || word.is_word(b"got") {
-        Some(entry)
-    } else {
-        None
-    }
+    let sent = is_sent(&word)?;
+    Some(Record { sent, entry })
 }
 
 /// The owner of the log of which the text is the header.
@@ -59,27 +98,50 @@ fn owner_of(text: &Text<'_>) -> Option<u32>
     owner.as_number()
 }
 
-/// What the bytes of a log say, or `None` where they don't begin with a header.
-pub fn plain_log_of(alloc: Global, bytes: &[u8]) -> Result<Option<PlainLog>, Memory>
-    requires { length bytes.now ≤ max_bytes }
-    ensures { IfOk result (λ found.
-        MatchOption found (HasHeader bytes.now → ⊥) (λ log. Says bytes.now log)) }
+/// The owner of the header in front, and how many bytes it takes.
+fn header_of(bytes: &[u8]) -> Option<(u32, usize)>
+    ensures found { IfSome result (λ (owner, used). IsHeaderOf bytes.now owner used) }
+    ensures none { IfNone result (HasHeader bytes.now → ⊥) }
 {
     let Front::Whole { text, used } = front_of(bytes) else {
-        return Ok(None);
+        return None;
     };
-    let Some(_) = owner_of(&text) else {
-        return Ok(None);
-    };
-    Ok(Some(records_from(alloc, bytes, used)?))
+    match owner_of(&text) {
+        Some(owner) => Some((owner, used)),
+        None => None,
+    }
 }
 
-/// Adds what a record gives to the log's entries or to its refused records.
-fn add_record(alloc: Global, log: &mut PlainLog, place: u32, text: &Text<'_>) -> Result<(), Memory>
-    ensures { OnOk result (Adds text.now place log.old log.new) }
+/// Reads the entry of a record. A text that is no record of a list hasn't the shape.
+fn entry_of<R: ReadEntry>(
+    alloc: Global,
+    reader: &R,
+    place: u32,
+    text: &Text<'_>,
+) -> Result<R::Kept, EntryFault>
+    ensures { result ≢ Err EntryFault.Memory →
+        Gives (R.reads reader.now) place text.now result }
 {
-    match entry_of(alloc, text) {
-        Ok(plain) => log.kept.push(plain)?,
+    match record_of(text) {
+        Some(found) => reader.read(alloc, place, found.sent, &found.entry),
+        None => Err(EntryFault::WrongShape),
+    }
+}
+
+/// Adds what the record at the place gives to what is kept or refused.
+fn add_record<R: ReadEntry>(
+    alloc: Global,
+    reader: &R,
+    log: &mut Records<R::Kept>,
+    place: u32,
+    text: &Text<'_>,
+) -> Result<(), Memory>
+    ensures added { OnOk result (Adds (R.reads reader.now) text.now place
+        log.old.kept.items log.old.refused.items log.new.kept.items log.new.refused.items) }
+    ensures owner { OnOk result (log.new.owner ≡ log.old.owner) }
+{
+    match entry_of(alloc, reader, place, text) {
+        Ok(kept) => log.kept.push(kept)?,
         Err(fault) => match fault {
             EntryFault::Memory => return Err(AllocError),
             _ => log.refused.push((place, fault))?,
@@ -88,23 +150,31 @@ fn add_record(alloc: Global, log: &mut PlainLog, place: u32, text: &Text<'_>) ->
     Ok(())
 }
 
-/// Reads the records from the place `start` on.
-fn records_from(alloc: Global, bytes: &[u8], start: usize) -> Result<PlainLog, Memory>
-    requires within { start ≤ length bytes.now }
+/// Reads the records behind the header, which takes so many bytes.
+fn records_from<R: ReadEntry>(
+    alloc: Global,
+    reader: &R,
+    bytes: &[u8],
+    owner: u32,
+    header: usize,
+) -> Result<Records<R::Kept>, Memory>
+    requires header { IsHeaderOf bytes.now owner header }
     requires short { length bytes.now ≤ max_bytes }
-    ensures { IfOk result (λ log. SaysFrom start (drop start bytes.now) log) }
+    ensures { IfOk result (λ log. AreLog (R.reads reader.now) bytes.now log.owner
+        log.kept.items log.refused.items log.end) }
 {
-    let mut log = PlainLog {
+    let mut log = Records {
+        owner,
         kept: Vec::new(alloc),
         refused: Vec::new(alloc),
         end: End::Clean,
     };
-    let mut at = start;
+    let mut at = header;
     let mut place = 0;
     while at < bytes.len() {
         match front_of(&bytes[at..]) {
             Front::Whole { text, used } => {
-                add_record(alloc, &mut log, place, &text)?;
+                add_record(alloc, reader, &mut log, place, &text)?;
                 at += used;
                 place += 1;
             }
@@ -120,4 +190,21 @@ fn records_from(alloc: Global, bytes: &[u8], start: usize) -> Result<PlainLog, M
     }
     log.end = End::Clean;
     Ok(log)
+}
+
+/// What the bytes of a log say, or `None` where they don't begin with a header.
+pub(crate) fn log_of<R: ReadEntry>(
+    alloc: Global,
+    reader: &R,
+    bytes: &[u8],
+) -> Result<Option<Records<R::Kept>>, Memory>
+    requires { length bytes.now ≤ max_bytes }
+    ensures { IfOk result (λ found. MatchOption found (HasHeader bytes.now → ⊥)
+        (λ log. AreLog (R.reads reader.now) bytes.now log.owner
+        log.kept.items log.refused.items log.end)) }
+{
+    match header_of(bytes) {
+        Some((owner, header)) => Ok(Some(records_from(alloc, reader, bytes, owner, header)?)),
+        None => Ok(None),
+    }
 }
