@@ -5,3 +5,4 @@ pub mod SealedLogs
 pub mod OneBreak
 pub mod WrittenLogs
 pub mod KeptRecords
+pub mod SomeLog

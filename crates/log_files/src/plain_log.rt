@@ -1,7 +1,7 @@
 //! A log whose signatures aren't looked at.
 ghost use Rattle.std.specs.Prelude.{◌≡◌, ◌+◌, ◌≤◌, length, IfOk, IfErr, IsErrOf, MatchOption};
 ghost use Rattle.hall_outside.specs.Counts.{HasCause, ComesExactly};
-ghost use Rattle.hall_outside.specs.Files.{OnFile};
+ghost use Rattle.hall_outside.specs.Files.{OnSomeFile};
 ghost use Rattle.log_files.specs.LogFile.{max_bytes, IsLogOf, IsRefused};
 ghost use Rattle.log_files.specs.LogText.{HasHeader, Says};
 
@@ -129,10 +129,10 @@ pub fn read_plain_log<S: Store>(
     store: &mut S,
     name: &str,
 ) -> Result<PlainLog, LogFault>
-    // Where the store tells its files, the log is what the file says, and so is a refusal.
-    ensures ok { IfOk result (λ log. OnFile (S.files store.old) name.now (IsLogOf log)) }
+    // The log is what the file says, or what some says where none is told, and so is a refusal.
+    ensures ok { IfOk result (λ log. OnSomeFile (S.files store.old) name.now (IsLogOf log)) }
     ensures err { IfErr result (λ fault.
-        OnFile (S.files store.old) name.now (IsRefused fault)) }
+        OnSomeFile (S.files store.old) name.now (IsRefused fault)) }
 
     // Absent and TooLong come exactly where the store said so in this call, ReadFault only so.
     ensures absent { ComesExactly (S.answered store.old).absences (S.answered store.new).absences
@@ -145,9 +145,12 @@ pub fn read_plain_log<S: Store>(
     ensures unchanged { (S.files store.new ≡ S.files store.old)
         × (S.write_faults store.new ≡ S.write_faults store.old) }
 {
-    let bytes = read_file(alloc, store, name, MAX_BYTES)?;
-    match plain_log_of(alloc, &bytes)? {
-        Some(log) => Ok(log),
-        None => Err(LogFault::Header),
+    match read_file(alloc, store, name, MAX_BYTES) {
+        Ok(bytes) => match plain_log_of(alloc, &bytes) {
+            Ok(Some(log)) => Ok(log),
+            Ok(None) => Err(LogFault::Header),
+            Err(_) => Err(LogFault::Memory),
+        },
+        Err(fault) => Err(LogFault::from(fault)),
     }
 }

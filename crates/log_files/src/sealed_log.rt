@@ -1,7 +1,7 @@
 //! A log whose signatures are verified.
 ghost use Rattle.std.specs.Prelude.{◌≡◌, ◌+◌, ◌≤◌, length, IfOk, IfErr, IsErrOf, MatchOption};
 ghost use Rattle.hall_outside.specs.Counts.{HasCause, ComesExactly};
-ghost use Rattle.hall_outside.specs.Files.{OnFile};
+ghost use Rattle.hall_outside.specs.Files.{OnSomeFile};
 ghost use Rattle.log_files.specs.LogFile.{max_bytes, IsSealedLogOf, IsRefused};
 ghost use Rattle.log_files.specs.LogText.{HasHeader};
 ghost use Rattle.log_files.specs.SealedLog.{SaysSealed};
@@ -137,11 +137,11 @@ pub fn read_log<S: Store>(
     roster: &Roster,
     election: &[u8; 32],
 ) -> Result<LogRead, LogFault>
-    // Where the store tells its files, the log is what the file says, and so is a refusal.
-    ensures ok { IfOk result (λ log. OnFile (S.files store.old) name.now
+    // The log is what the file says, or what some says where none is told, and so is a refusal.
+    ensures ok { IfOk result (λ log. OnSomeFile (S.files store.old) name.now
         (IsSealedLogOf roster.now.machines election.now log)) }
     ensures err { IfErr result (λ fault.
-        OnFile (S.files store.old) name.now (IsRefused fault)) }
+        OnSomeFile (S.files store.old) name.now (IsRefused fault)) }
 
     // Absent and TooLong come exactly where the store said so in this call, ReadFault only so.
     ensures absent { ComesExactly (S.answered store.old).absences (S.answered store.new).absences
@@ -154,9 +154,12 @@ pub fn read_log<S: Store>(
     ensures unchanged { (S.files store.new ≡ S.files store.old)
         × (S.write_faults store.new ≡ S.write_faults store.old) }
 {
-    let bytes = read_file(alloc, store, name, MAX_BYTES)?;
-    match sealed_log_of(alloc, roster, election, &bytes)? {
-        Some(log) => Ok(log),
-        None => Err(LogFault::Header),
+    match read_file(alloc, store, name, MAX_BYTES) {
+        Ok(bytes) => match sealed_log_of(alloc, roster, election, &bytes) {
+            Ok(Some(log)) => Ok(log),
+            Ok(None) => Err(LogFault::Header),
+            Err(_) => Err(LogFault::Memory),
+        },
+        Err(fault) => Err(LogFault::from(fault)),
     }
 }
