@@ -1,7 +1,7 @@
 -- The calls by which files are put.
-use Rattle.std.proofs.Common.{◌≡◌, ◌∙◌, ℕ, ◌+◌, ◌<◌, List, [], ◌∷◌, get_or, drop, length, refl, sym, subst, ap, Bool, true, false, Option, inr}
+use Rattle.std.proofs.Common.{◌≡◌, ◌∙◌, ℕ, ◌+◌, ◌<◌, List, ◌∷◌, get_or, drop, length, sym, subst, ap, Bool, true, false, Option, inr}
 use Rattle.std.specs.Prelude.{Result}
-use Rattle.std.proofs.lemmas.List.{drop_more, drop_all}
+use Rattle.std.proofs.lemmas.List.{drop_more}
 use Rattle.hall_outside.specs.Writing.{Puts}
 use Rattle.hall_outside.specs.declared.stores.Failed.{Failed}
 use Rattle.auditorium_core.specs.Outcome.{with_files, SetsSome, PutsAll, puts, fails}

@@ -1,5 +1,5 @@
 -- What the status of an answer says of the words.
-use Rattle.std.proofs.Common.{◌≡◌, ◌≢◌, ◌∙◌, ℕ, List, [], ◌∷◌, Option, Some, None, inl, inr, refl, sym, ap, subst}
+use Rattle.std.proofs.Common.{◌≡◌, ℕ, List, [], ◌∷◌, Option, Some, None, inl, inr, sym, ap, subst, Bool, true}
 use Rattle.hall_outside.specs.Files.{Files}
 use Rattle.log_files.specs.declared.plain_log.LogFault.{LogFault}
 use Rattle.log_files.specs.declared.plain_log.LogFault.TheVariants as log_fault
@@ -9,6 +9,7 @@ use Rattle.auditorium_core.specs.Words.{Command, gaps, play, Means}
 use Rattle.auditorium_core.specs.Lines.{Answer, usage_answer, absent_answer}
 use Rattle.auditorium_core.specs.Gaps.{status_of, IsRefusal, IsGapsAnswer}
 use Rattle.auditorium_core.specs.Play.{status_of_undone, IsPlayAnswer, IsOfPlay}
+use Rattle.auditorium_core.specs.Outcome.{Outside, GivesAnswer, IsWritten, HasDone}
 use Rattle.auditorium_core.specs.Answer.{Answers, IsAnswer, IsOfAnswers, HasItsWords}
 
 -- the statuses with which `gaps` answers
@@ -85,10 +86,10 @@ of_undone (byte ∷ bytes) = tt
 of_script : (name prefix bytes : List ℕ) (answer : Answer) → IsPlayAnswer name prefix (Some bytes) answer →
     IsOfPlay answer.status
 of_script name prefix bytes answer (inl (long, e)) = subst IsOfPlay (sym (ap (λ (a : Answer). a.status) e)) tt
-of_script name prefix bytes answer (inr (inl (fits, number, why, reads, e))) =
+of_script name prefix bytes answer (inr (inl (fits, (number, why, reads, e)))) =
     subst IsOfPlay (sym (ap (λ (a : Answer). a.status) e)) tt
-of_script name prefix bytes answer (inr (inr (fits, script, reads, play))) =
-    subst IsOfPlay (sym (ap (λ (a : Answer). a.status) play.told)) (of_undone play.undone)
+of_script name prefix bytes answer (inr (inr (fits, (script, reads, done)))) =
+    subst IsOfPlay (sym (ap (λ (a : Answer). a.status) done.told)) (of_undone done.undone)
 
 -- what that status says of the words of `play`
 play_words : (words : List (List ℕ)) (script prefix : List ℕ) (answer : Answer) → Means words (play script prefix) →
@@ -145,5 +146,19 @@ command_words words (play script prefix) (file ∷ next ∷ files) answer means 
 -- the same of the words of any command, and of words that aren't good
 pub status_words : (words : List (List ℕ)) (told : Option Files) (answer : Answer) → Answers words told answer →
     HasItsWords words answer
-status_words words told answer (inl (command, means, files, are, is)) = command_words words command files answer means is
+status_words words told answer (inl (command, means, (files, are, is))) = command_words words command files answer means is
 status_words words told answer (inr (bad, e)) = usage_words words answer bad e
+
+-- the program is done with an answer, and ends with its status
+pub is_done : (words : List (List ℕ)) (is_written_by : Answer → Bool → Type 0) (old new : Outside) (answer : Answer)
+    (how : Status) → how ≡ answer.status → GivesAnswer words old new answer → is_written_by answer true →
+    IsWritten answer old new → HasDone words is_written_by old how new
+is_done words is_written_by old new answer how same gives calls written =
+    by_status how same (status_words words old.store.files answer gives.answers).some
+  where
+    by_status : (how : Status) → how ≡ answer.status → IsOfAnswers answer.status →
+        HasDone words is_written_by old how new
+    by_status status.ReadFault e some = absurd (subst IsOfAnswers (sym e) some)
+    by_status status.WriteFault e some = absurd (subst IsOfAnswers (sym e) some)
+    by_status status.Memory e some = absurd (subst IsOfAnswers (sym e) some)
+    by_status how e some = (answer, gives, e, calls, written)

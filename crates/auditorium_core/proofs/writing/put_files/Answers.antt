@@ -1,4 +1,4 @@
-use Rattle.std.proofs.Common.{◌≡◌, ◌∙◌, List, ℕ, Bool, true, false, drop, ap, sym, subst, rules, refl}
+use Rattle.std.proofs.Common.{◌≡◌, ◌∙◌, List, ℕ, Bool, true, false, ap, sym, subst, rules}
 use Rattle.std.specs.Prelude.{is_ok}
 use Rattle.hall_outside.specs.Files.{with_file}
 use Rattle.auditorium_core.specs.Outcome.{PutsAll, all_put}
