@@ -58,7 +58,7 @@ impl SignedText for Small {
 
 /// The entry that a word tells: the letters of its digest and its text, its maker, number and stamp
 /// as digits, and the letters of the digests that it names.
-fn small(alloc: Global, word: &[u8]) -> Result<Small, AllocError> {
+fn entry_of(alloc: Global, word: &[u8]) -> Result<Small, AllocError> {
     let digit = |at: usize| word
         .get(at)
         .map_or(0, |byte| u32::from(byte.saturating_sub(b'0')));
@@ -81,7 +81,7 @@ fn small(alloc: Global, word: &[u8]) -> Result<Small, AllocError> {
 fn entries(alloc: Global, words: &str) -> Result<Vec<Small>, AllocError> {
     let mut entries = Vec::new(alloc);
     for word in words.as_bytes().split(|byte| *byte == b' ') {
-        entries.push(small(alloc, word)?)?;
+        entries.push(entry_of(alloc, word)?)?;
     }
     Ok(entries)
 }
@@ -94,6 +94,12 @@ fn push_letters(shown: &mut Vec<u8>, digests: &[[u8; 32]]) -> Result<(), AllocEr
     Ok(())
 }
 
+/// The last digit of a number.
+fn push_digit(shown: &mut Vec<u8>, number: u32) -> Result<(), AllocError> {
+    shown.push(b'0' + (number % 10) as u8)?;
+    Ok(())
+}
+
 /// The digest of each survivor, the numbers of those that it names, and `?` where it names a gap; then
 /// the gaps, the strays, and the forks by maker and number.
 fn shown(alloc: Global, graph: &Graph<Small>) -> Result<Vec<u8>, AllocError> {
@@ -101,7 +107,7 @@ fn shown(alloc: Global, graph: &Graph<Small>) -> Result<Vec<u8>, AllocError> {
     for node in 0..graph.count() {
         shown.push(graph.node(node).digest()[0])?;
         for parent in graph.parents(node) {
-            shown.push(b'0'.wrapping_add(*parent as u8))?;
+            push_digit(&mut shown, *parent)?;
         }
         if graph.ragged(node) {
             shown.push(b'?')?;
@@ -115,8 +121,8 @@ fn shown(alloc: Global, graph: &Graph<Small>) -> Result<Vec<u8>, AllocError> {
     shown.extend_from_slice(b" forks")?;
     for (maker, number) in graph.forks() {
         shown.push(b' ')?;
-        shown.push(b'0'.wrapping_add(*maker as u8))?;
-        shown.push(b'0'.wrapping_add(*number as u8))?;
+        push_digit(&mut shown, *maker)?;
+        push_digit(&mut shown, *number)?;
     }
     Ok(shown)
 }
@@ -171,12 +177,12 @@ fn graphs_of_a_few_entries(rt: HostRuntime) -> Result<(), Fail> {
 fn many(alloc: Global, count: u32) -> Result<Vec<Small>, AllocError> {
     let mut entries = Vec::new(alloc);
     for n in 0..count {
-        let mut entry = small(alloc, b"aA001")?;
+        let mut entry = entry_of(alloc, b"aA001")?;
         entry.digest[..4].copy_from_slice(&n.to_be_bytes());
         entry.number = n;
         entries.push(entry)?;
     }
-    let mut first = small(alloc, b"aA001")?;
+    let mut first = entry_of(alloc, b"aA001")?;
     first.digest[..4].copy_from_slice(&[0; 4]);
     entries.push(first)?;
     Ok(entries)
