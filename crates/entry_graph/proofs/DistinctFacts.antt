@@ -1,15 +1,17 @@
 -- The distinct ones of some entries, and of one entry more.
-use Rattle.std.proofs.Common.{◌≡◌, ℕ, Bool, true, false, not, cond, List, [], ◌∷◌, ◌++◌, append-nil, map}
-use Rattle.std.proofs.Common.{refl, sym, ap, subst, ◌∙◌, ◌⊎◌, inl, inr, Some, None}
+use Rattle.std.proofs.Common.{◌≡◌, ℕ, Bool, true, false, not, List, [], ◌∷◌, ◌++◌, append-nil}
+use Rattle.std.proofs.Common.{refl, sym, ap, ◌∙◌, inl, inr}
 use Rattle.std.specs.Prelude.{◌≢◌}
-use Rattle.std.specs.List.{Contains, filter, list_any}
+use Rattle.std.specs.List.{Contains, filter}
 use Rattle.std.specs.Str.{bytes_eq}
-use Rattle.std.proofs.lemmas.Bool.{cases_Bool, true≢false, false_from_ne_true, not_from_false, not_from_true, cond-true, cond-false}
+use Rattle.std.proofs.lemmas.Bool.{cases_Bool, true≢false, false_from_ne_true}
+use Rattle.std.proofs.lemmas.Bool.{not_from_false, not_from_true, cond-true, cond-false}
 use Rattle.std.proofs.lemmas.List.Elements.{filter-append, Contains-push_cases}
 use Rattle.std.proofs.lemmas.Slice.Eq.{bytes_eq-Decides}
 use Rattle.entry_order.specs.Node.{Node}
 use Rattle.entry_order.specs.Naming.{IsBorneIn, has_digest}
-use Rattle.entry_order.proofs.Lists.{Contains-none, Contains-head, Contains-later, Contains-at, Contains-cons_cases}
+use Rattle.entry_order.proofs.Lists.{Contains-none, Contains-head}
+use Rattle.entry_order.proofs.Lists.{Contains-later, Contains-at, Contains-cons_cases}
 use Rattle.entry_order.proofs.Lists.{Contains-filter, Contains-filter_cases}
 use Rattle.entry_order.proofs.Naming.{has_digest_of, has_digest_from}
 use Rattle.entry_graph.specs.Given.{distinct, HasNoCollision}

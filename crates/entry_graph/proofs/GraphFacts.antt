@@ -1,11 +1,13 @@
 -- The graph of distinct entries from its parts.
-use Rattle.std.proofs.Common.{◌≡◌, ℕ, ◌≤◌, Bool, true, false, cond, not, List, [], ◌∷◌, length, refl, sym, ap, subst, arith}
-use Rattle.std.specs.List.{AllPairs, Contains, filter}
+use Rattle.std.proofs.Common.{◌≡◌, ◌≤◌, Bool, true, false, cond, not}
+use Rattle.std.proofs.Common.{List, [], ◌∷◌, length, refl, sym, ap, subst, arith}
+use Rattle.std.specs.List.{AllPairs, filter}
 use Rattle.std.specs.List.Sorted.{IsPermutation}
 use Rattle.std.proofs.lemmas.List.Sorted.{Contains-permutation, IsPermutation-sym, length_permutation}
 use Rattle.entry_order.specs.Node.{Node}
 use Rattle.entry_order.specs.Survivors.{is_stray, survivors, gaps}
-use Rattle.entry_graph.specs.EntryGraph.{EntryGraph, IsLower, AreLinks, AreForks, AreStrays, IsEntryGraph, IsGraphOfGiven}
+use Rattle.entry_graph.specs.EntryGraph.{EntryGraph, IsLower, AreLinks}
+use Rattle.entry_graph.specs.EntryGraph.{AreForks, AreStrays, IsEntryGraph, IsGraphOfGiven}
 use Rattle.entry_graph.specs.inside.Distinct.{HasNoDigestTwice}
 use Rattle.entry_graph.proofs.Places.{one_place, single_filter}
 use Rattle.entry_graph.proofs.NumberFacts.{single_moved}
@@ -38,7 +40,8 @@ module _ {T : Type 0} (node : T → Node) where
   -- what holds of the graph's parts
   pub parts_are_right : (given found : List T) (graph : EntryGraph T) → HasNoDigestTwice node given
       → length given ≤ 16384 → found ≡ survivors node given → IsPermutation found graph.survivors
-      → AllPairs (IsLower node) graph.survivors → AreLinks node graph.survivors graph.links → graph.gaps ≡ gaps node graph.survivors
+      → AllPairs (IsLower node) graph.survivors → AreLinks node graph.survivors graph.links
+      → graph.gaps ≡ gaps node graph.survivors
       → AreForks node graph.survivors graph.forks → IsEntryGraph node graph
   parts_are_right given found graph single few is moved numbered linked gaps_are forks =
       let all_single : HasNoDigestTwice node graph.survivors =

@@ -1,12 +1,13 @@
 -- Links by the table of places.
-use Rattle.std.proofs.Common.{◌≡◌, ℕ, zero, suc, ◌+◌, ◌<◌, ◌≤◌, Bool, true, false, List, [], ◌∷◌, ◌++◌, length, get_or, take}
-use Rattle.std.proofs.Common.{refl, sym, ap, subst, ◌∙◌, ◌⊎◌, inl, inr, Some, None, Option, arith}
+use Rattle.std.proofs.Common.{◌≡◌, ℕ, zero, suc, ◌+◌, ◌<◌, ◌≤◌, Bool}
+use Rattle.std.proofs.Common.{true, false, List, [], ◌∷◌, ◌++◌, length, get_or, take}
+use Rattle.std.proofs.Common.{refl, sym, ap, subst, ◌∙◌, inl, inr, Some, None, Option, arith}
 use Rattle.std.specs.Prelude.{◌↔◌, ◌||◌, slice_get, is_none}
 use Rattle.std.specs.List.{AllPairs, Contains, list_any}
 use Rattle.std.proofs.lemmas.Bool.{cases_lt, cases_order, true≢false, false_from_ne_true, or_right}
 use Rattle.std.proofs.lemmas.List.Elements.{Contains-push, Contains-push_cases, Contains-append_left}
 use Rattle.std.proofs.Math.Bool.{or-false}
-use Rattle.std.proofs.lemmas.Option.{none-some, same_Some, slice_get_within, slice_get-get_or, slice_get_past}
+use Rattle.std.proofs.lemmas.Option.{none-some, same_Some, slice_get_within, slice_get_past}
 use Rattle.std.proofs.lemmas.Option.{get_or_from_slice_get}
 use Rattle.entry_order.specs.Node.{Node}
 use Rattle.entry_order.specs.Naming.{Names, IsBorneIn}
@@ -14,10 +15,12 @@ use Rattle.entry_order.specs.Survivors.{gaps}
 use Rattle.entry_order.specs.Settled.{NamesNoGap}
 use Rattle.entry_order.proofs.Completions.{gaps_are_unique}
 use Rattle.entry_order.proofs.Lists.{Contains-none, list_any_some, list_any_of}
-use Rattle.entry_graph.specs.EntryGraph.{Links, IsLower, AreLinks, parents_of, ragged_of, parents_in, ragged_in}
+use Rattle.entry_graph.specs.EntryGraph.{Links, IsLower, AreLinks}
+use Rattle.entry_graph.specs.EntryGraph.{parents_of, ragged_of, parents_in, ragged_in}
 use Rattle.entry_graph.specs.inside.Distinct.{HasNoDigestTwice, NamesLower}
 use Rattle.entry_graph.specs.inside.Tables.{number_at, ArePlaces, IsLinked, AreLinked}
-use Rattle.entry_graph.proofs.Places.{any_push, at_place, place_of, one_place, taken_more, zip_at, zip_length, zip_push}
+use Rattle.entry_graph.proofs.Places.{any_push, at_place, place_of, one_place}
+use Rattle.entry_graph.proofs.Places.{taken_more, zip_at, zip_length, zip_push}
 
 -- what is found at one of the names, with one name more
 pub found_more : (table : List (List ℕ × ℕ)) (names : List (List ℕ)) (name : List ℕ) (parents : List ℕ) (p : ℕ)

@@ -1,7 +1,8 @@
 -- Entries that are sorted by stamp and then digest.
-use Rattle.std.proofs.Common.{◌≡◌, ◌≢◌, ℕ, ◌<◌, ◌≤◌, Bool, true, false, List, length, get_or, map, refl, sym, ap, ◌∙◌, inl, inr, arith}
-use Rattle.std.specs.Prelude.{slice_get, nat_lt, ◌==◌, cond}
-use Rattle.std.specs.List.{AllPairs, IsDistinct}
+use Rattle.std.proofs.Common.{◌≡◌, ◌≢◌, ℕ, ◌<◌, false, List}
+use Rattle.std.proofs.Common.{length, get_or, map, refl, sym, ap, ◌∙◌, inl, inr, arith}
+use Rattle.std.specs.Prelude.{nat_lt, ◌==◌, cond}
+use Rattle.std.specs.List.{AllPairs}
 use Rattle.std.specs.List.Sorted.{IsPermutation, IsSortedByKey}
 use Rattle.std.specs.Str.{bytes_eq}
 use Rattle.std.specs.Cmp.{IsTotalOrder, on_total, then_total}
@@ -55,7 +56,8 @@ module _ {T : Type 0} (node : T → Node) where
   -- no two of the entries have one digest, in any order
   pub single_moved : (es fs : List T) → IsPermutation es fs → HasNoDigestTwice node es → HasNoDigestTwice node fs
   single_moved es fs moved single =
-      IsDistinct-IsPermutation bytes_eq nat_list_eq_equiv.symm (map (λ e. (node e).digest) es) (map (λ e. (node e).digest) fs)
+      IsDistinct-IsPermutation bytes_eq nat_list_eq_equiv.symm (map (λ e. (node e).digest) es)
+      (map (λ e. (node e).digest) fs)
       (IsPermutation-map (λ (e : T). (node e).digest) es fs moved) single
 
   -- of two entries with different digests the one that isn't above is lower

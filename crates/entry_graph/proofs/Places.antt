@@ -1,6 +1,7 @@
 -- Places of entries, and entries of which no two have one digest.
-use Rattle.std.proofs.Common.{◌≡◌, ℕ, zero, suc, ◌+◌, ◌<◌, Bool, true, false, cond, List, [], ◌∷◌, ◌++◌, length, map, take, get_or}
-use Rattle.std.proofs.Common.{refl, sym, ap, subst, ◌∙◌, ◌⊎◌, inl, inr, Some, None, arith}
+use Rattle.std.proofs.Common.{◌≡◌, ℕ, zero, suc, ◌+◌, ◌<◌, Bool, true, false}
+use Rattle.std.proofs.Common.{cond, List, [], ◌∷◌, ◌++◌, length, map, take, get_or}
+use Rattle.std.proofs.Common.{refl, sym, ap, subst, ◌∙◌, ◌⊎◌, inl, inr, Some, arith}
 use Rattle.std.specs.Prelude.{◌||◌, slice_get, IfOk, Result, Ok, Err}
 use Rattle.std.specs.List.{All, AllZip, Contains, IsDistinct, filter, list_any}
 use Rattle.std.specs.Ordering.{is_eq}
@@ -16,7 +17,8 @@ use Rattle.std.proofs.lemmas.List.Elements.{All-map, All-filter, Contains-get_or
 use Rattle.std.proofs.lemmas.Map.Keys.{IsDistinct-head, IsDistinct-tail, IsDistinct-cons}
 use Rattle.std.proofs.lemmas.Map.Keys.{IsDistinct-from_apart, IsDistinct-push}
 use Rattle.std.proofs.lemmas.Cmp.{nat_list_eq_equiv}
-use Rattle.std.proofs.lemmas.Option.{none-some, same_Some, slice_get-get_or, slice_get_within, get_or_from_slice_get}
+use Rattle.std.proofs.lemmas.Option.{none-some, same_Some}
+use Rattle.std.proofs.lemmas.Option.{slice_get-get_or, slice_get_within, get_or_from_slice_get}
 use Rattle.std.proofs.lemmas.Slice.Eq.{bytes_eq-Decides}
 use Rattle.entry_order.specs.Node.{Node}
 use Rattle.entry_order.proofs.Lists.{Contains-map, Contains-map_cases, list_any_some}
@@ -118,7 +120,8 @@ module _ {T : Type 0} (node : T → Node) where
       absurd (head_apart x es e single (at_place es i e ie) (ap (λ z. (node z).digest) (same_Some x f jf) ∙ sym same))
   one_place (x ∷ es) (suc i) (suc j) e f single ie jf same =
       ap (λ n. suc n)
-      (one_place es i j e f (IsDistinct-tail bytes_eq (node x).digest (map (λ e. (node e).digest) es) single) ie jf same)
+      (one_place es i j e f (IsDistinct-tail bytes_eq (node x).digest (map (λ e. (node e).digest) es) single) ie jf
+      same)
 
   -- so a digest has one entry
   pub one_entry : (es : List T) (e f : T) → HasNoDigestTwice node es → Contains es e → Contains es f

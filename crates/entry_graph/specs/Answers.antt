@@ -7,7 +7,8 @@ use Rattle.entry_graph.specs.Given.{distinct, HasNoCollision, IsCollision}
 use Rattle.entry_graph.specs.EntryGraph.{EntryGraph, IsGraphOfGiven}
 
 -- the graph of the distinct entries, or the first fault that applies
-abbrev pub IsGraphAnswer : {T : Type 0} → (T → Node) → (T → List ℕ) → List T → Result (EntryGraph T) (GraphFault T) → Type 0
+abbrev pub IsGraphAnswer : {T : Type 0} → (T → Node) → (T → List ℕ) → List T
+    → Result (EntryGraph T) (GraphFault T) → Type 0
 IsGraphAnswer node text given (Ok graph) =
     HasNoCollision node text given × (length (distinct node given) ≤ 16384)
     × IsGraphOfGiven node (distinct node given) graph

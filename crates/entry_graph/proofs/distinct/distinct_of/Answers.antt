@@ -1,5 +1,5 @@
-use Rattle.std.proofs.Common.{rules, ◌≡◌, ◌≢◌, ◌∙◌, ◌<◌, ◌++◌, ◌∷◌, [], ℕ, List, Some, None, Bool, true, false, not, length, get_or, ap, sym, subst, cond}
-use Rattle.std.specs.Prelude.{slice_get}
+use Rattle.std.proofs.Common.{rules, ◌≡◌, ◌≢◌, ◌∙◌, ◌++◌, ◌∷◌, [], Some}
+use Rattle.std.proofs.Common.{None, length, ap, sym, subst}
 use Rattle.std.specs.List.{Contains}
 use Rattle.std.specs.Str.{bytes_eq}
 use Rattle.std.proofs.lemmas.Bool.{true≢false, not-false, not_from_true}
@@ -8,10 +8,10 @@ use Rattle.std.proofs.lemmas.Option.{get_or_from_slice_get, slice_get_within}
 use Rattle.std.proofs.lemmas.Slice.Eq.{bytes_eq-Decides}
 use Rattle.entry_order.specs.Naming.{IsBorneIn}
 use Rattle.entry_order.proofs.Lists.{Contains-none}
-use Rattle.entry_graph.specs.Given.{distinct}
 use Rattle.entry_graph.specs.inside.Distinct.{HasNoDigestTwice}
 use Rattle.entry_graph.specs.inside.Tables.{number_at, ArePlaces}
-use Rattle.entry_graph.proofs.DistinctFacts.{distinct_given, distinct_bears, distinct_new, distinct_again, no_collision_new, no_collision_again}
+use Rattle.entry_graph.proofs.DistinctFacts.{distinct_given, distinct_bears, distinct_new}
+use Rattle.entry_graph.proofs.DistinctFacts.{distinct_again, no_collision_new, no_collision_again}
 use Rattle.entry_graph.proofs.LinkFacts.{lacks_borne}
 use Rattle.entry_graph.proofs.Places.{at_place, single_none, single_push}
 use Rattle.entry_graph.proofs.TableFacts.{IsSet, no_places, places_more}

@@ -1,4 +1,5 @@
-use Rattle.std.proofs.Common.{rules, ◌≡◌, ◌∙◌, ◌+◌, ◌<◌, ◌++◌, ◌∷◌, [], ℕ, List, Some, None, Bool, true, length, get_or, take, ap, sym, subst}
+use Rattle.std.proofs.Common.{rules, ◌≡◌, ◌+◌, ◌<◌, ◌++◌, ◌∷◌, [], ℕ, List}
+use Rattle.std.proofs.Common.{Some, None, true, length, get_or, take, ap, sym, subst}
 use Rattle.entry_graph.specs.EntryGraph.{Links}
 use Rattle.entry_graph.specs.inside.Tables.{IsLinked, number_at}
 use Rattle.entry_graph.proofs.LinkFacts.{found_step, lacking_step}

@@ -1,4 +1,5 @@
-use Rattle.std.proofs.Common.{rules, ◌≡◌, ◌∙◌, ◌+◌, ◌<◌, ◌++◌, ◌∷◌, [], ℕ, List, length, get_or, take, sym, subst}
+use Rattle.std.proofs.Common.{rules, ◌≡◌, ◌+◌, ◌<◌, ◌++◌, ◌∷◌}
+use Rattle.std.proofs.Common.{[], length, get_or, take, sym, subst}
 use Rattle.std.proofs.lemmas.List.{take_all}
 use Rattle.entry_graph.specs.inside.Tables.{ArePlaces, AreLinked, IsLinked}
 use Rattle.entry_graph.proofs.LinkFacts.{linked_step, links_are_right}

@@ -1,4 +1,5 @@
-use Rattle.std.proofs.Common.{rules, ◌≡◌, ◌∙◌, ◌++◌, ◌∷◌, [], ℕ, Bool, true, false, not, cond, List, ap, sym, subst, map-id}
+use Rattle.std.proofs.Common.{rules, ◌≡◌, ◌∙◌, ◌++◌, ◌∷◌, []}
+use Rattle.std.proofs.Common.{true, false, not, cond, ap, sym, subst, map-id}
 use Rattle.std.specs.Prelude.{◌&&◌}
 use Rattle.std.specs.BTreeMap.{is_at}
 use Rattle.std.specs.BTreeSet.{contains}
@@ -52,7 +53,8 @@ loop-entry-preserved g c =
     record {
       survivors =
           pushed ∙ ap (λ es. es ++ e ∷ []) c.loop-entry.invariant.survivors
-          ∙ sym (filter_keeps (λ f. not (is_stray node given f)) before e (not_from_false (is_stray node given e) told));
+          ∙ sym (filter_keeps (λ f. not (is_stray node given f)) before e
+          (not_from_false (is_stray node given e) told));
       strays = λ d.
           survivor_more node given before e d (contains (slice_cmp nat_cmp) c.loop-entry.strays d) told
           (c.loop-entry.invariant.strays d);

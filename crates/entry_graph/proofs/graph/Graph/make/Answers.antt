@@ -1,7 +1,6 @@
-use Rattle.std.proofs.Common.{rules, ◌≡◌, ◌∙◌, ◌≤◌, List, length, ap, sym, subst, arith}
+use Rattle.std.proofs.Common.{rules, ◌∙◌, ◌≤◌, length, ap, sym, subst}
 use Rattle.std.specs.List.Sorted.{IsPermutation}
-use Rattle.entry_order.specs.Survivors.{gaps, survivors}
-use Rattle.entry_graph.specs.Given.{distinct}
+use Rattle.entry_order.specs.Survivors.{gaps}
 use Rattle.entry_graph.specs.EntryGraph.{EntryGraph, AreForks, AreLinks, IsEntryGraph, IsGraphOfGiven}
 use Rattle.entry_graph.specs.inside.Distinct.{HasNoDigestTwice, NamesLower}
 use Rattle.entry_graph.proofs.GraphFacts.{survivors_single, survivors_few, parts_are_right, graph_is_right}
