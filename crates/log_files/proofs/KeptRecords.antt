@@ -24,8 +24,8 @@ use Rattle.log_frontier.specs.Places.{Places, StandsFor, HasNoDigestTwice, diges
 use Rattle.log_frontier.proofs.Notes.{last_split, digest_at_read}
 use Rattle.log_files.specs.declared.sealed_log.Kept.{Kept}
 use Rattle.log_files.specs.declared.breaks.Seen.{Seen}
-use Rattle.log_files.specs.SealedLog.{event_of, AreLegal, BreaksAt}
-use Rattle.log_files.specs.inside.Kept.{node_of_kept, AreSeen}
+use Rattle.log_files.specs.SealedLog.{event_of, node_of_kept, AreLegal, BreaksAt}
+use Rattle.log_files.specs.inside.Kept.{AreSeen}
 use Rattle.log_files.proofs.OneBreak.{AreLegal-push, not_legal}
 
 -- the entry of a record's event is the record's

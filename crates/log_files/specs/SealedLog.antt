@@ -3,6 +3,7 @@ use Rattle.std.specs.Prelude.{◌≡◌, ℕ, Bool, if◌then◌else◌, List, [
 use Rattle.entry_order.specs.declared.event.Event.{Event}
 use Rattle.entry_order.specs.declared.event.Event.TheVariants.{Sent, Got}
 use Rattle.entry_order.specs.History.{IsLegal}
+use Rattle.entry_order.specs.Node.{Node}
 use Rattle.roster.specs.declared.post.Post.{Post}
 use Rattle.entry_format.specs.declared.plain.EntryFault.{EntryFault}
 use Rattle.entry_format.specs.Nodes.{node_of_sealed}
@@ -21,6 +22,10 @@ IsReadSealed machines election place sent text (Err fault) = Unseals machines el
 -- the event that a kept record is of
 abbrev pub event_of : Kept → Event SealedEntry
 event_of kept = if kept.sent then Sent kept.entry else Got kept.entry
+
+-- what a kept record shows of other entries
+abbrev pub node_of_kept : Kept → Node
+node_of_kept kept = node_of_sealed kept.entry
 
 -- the records are a legal history of the owner
 abbrev pub AreLegal : ℕ → List Kept → Type 0

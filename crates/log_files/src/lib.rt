@@ -15,4 +15,6 @@ pub use sealed_log::{Kept, LogRead, read_log, sealed_log_of};
 pub use written::log_text;
 
 #[cfg(test)]
+mod sealed_tests;
+#[cfg(test)]
 mod tests;

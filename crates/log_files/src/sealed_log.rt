@@ -2,6 +2,7 @@
 ghost use Rattle.std.specs.Prelude.{◌≡◌, ◌+◌, ◌≤◌, length, IfOk, IfErr, IsErrOf, MatchOption};
 ghost use Rattle.hall_outside.specs.Counts.{HasCause, ComesExactly};
 ghost use Rattle.hall_outside.specs.Files.{OnSomeFile};
+ghost use Rattle.hall_outside.specs.ReadFile.{ReadsOn};
 ghost use Rattle.log_files.specs.LogFile.{max_bytes, IsSealedLogOf, IsRefused};
 ghost use Rattle.log_files.specs.LogText.{HasHeader};
 ghost use Rattle.log_files.specs.SealedLog.{SaysSealed};
@@ -27,7 +28,7 @@ pub struct Kept {
 }
 
 impl Knot for Kept {
-    ghost use Rattle.log_files.specs.inside.Kept.{node_of_kept};
+    ghost use Rattle.log_files.specs.SealedLog.{node_of_kept};
 
     ghost node = { node_of_kept };
 
@@ -150,6 +151,10 @@ pub fn read_log<S: Store>(
         (S.answered store.new).bytes (IsErrOf result LogFault.TooLong) }
     ensures read_fault { HasCause (S.read_faults store.old) (S.read_faults store.new)
         (IsErrOf result LogFault.ReadFault) }
+
+    // The file is read to its end, or to the first byte past the limit, in pieces of 65,536 bytes.
+    ensures pieces { (¬ IsErrOf result LogFault.Memory) →
+        ReadsOn (S.reads name.now) 65536 max_bytes 0 store.old store.new }
 
     ensures unchanged { (S.files store.new ≡ S.files store.old)
         × (S.write_faults store.new ≡ S.write_faults store.old) }

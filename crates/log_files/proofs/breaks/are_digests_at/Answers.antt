@@ -1,7 +1,7 @@
 use Rattle.std.proofs.Common.{sym, ◌∙◌}
 use Rattle.std.proofs.lemmas.Bool.{true≢false}
 use Rattle.log_frontier.specs.Places.{digest_at}
-use Rattle.log_files.specs.inside.Kept.{node_of_kept}
+use Rattle.log_files.specs.SealedLog.{node_of_kept}
 use Rattle.log_files.proofs.KeptRecords.{digest_there, names_differ, names_agree}
 use Rattle.log_files.proofs.breaks.are_digests_at.Goals as goal
 

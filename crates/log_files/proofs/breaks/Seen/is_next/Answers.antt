@@ -1,7 +1,7 @@
 use Rattle.std.proofs.Common.{◌≡◌, ◌+◌, ℕ, List, map, sym, subst, arith, rules}
 use Rattle.std.specs.Prelude.{◌↔◌, IsTrue}
 use Rattle.log_frontier.specs.Places.{digest_at}
-use Rattle.log_files.specs.inside.Kept.{node_of_kept}
+use Rattle.log_files.specs.SealedLog.{node_of_kept}
 use Rattle.log_files.proofs.KeptRecords.{next_exactly}
 use Rattle.log_files.proofs.breaks.Seen.is_next.Goals as goal
 

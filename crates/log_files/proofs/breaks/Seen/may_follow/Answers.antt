@@ -2,7 +2,7 @@ use Rattle.std.proofs.Common.{◌≡◌, ◌≢◌, ◌∙◌, sym, ap, true, fa
 use Rattle.std.specs.Prelude.{◌↔◌, not, nat_eq, IsTrue}
 use Rattle.std.proofs.lemmas.Bool.{true≢false}
 use Rattle.entry_order.specs.Naming.{has_digest}
-use Rattle.log_files.specs.inside.Kept.{node_of_kept}
+use Rattle.log_files.specs.SealedLog.{node_of_kept}
 use Rattle.log_files.proofs.KeptRecords.{not_new, may_exactly_sent, may_exactly_got}
 use Rattle.log_files.proofs.breaks.Seen.may_follow.Goals as goal
 
