@@ -213,11 +213,11 @@ taken_none files name bytes into at e past =
     (omega arith, refl, some_and (files name) bytes (IsPartFrom at []) e (refl, ((λ _. past), (λ _. refl))))
 
 -- a read before the end
-pub taken_some : (files : Files) (name bytes into copied : List ℕ) (at count : ℕ) → files name ≡ Some bytes
-    → at < length bytes → count ≡ min (length bytes - at) (length into)
-    → 0 < length into → copied ≡ take count (drop at bytes)
+pub taken_some : (files : Files) (name bytes into copied : List ℕ) (at room count : ℕ) → files name ≡ Some bytes
+    → at < length bytes → count ≡ min (length bytes - at) room
+    → 0 < room → room ≤ length into → copied ≡ take count (drop at bytes)
     → IsTaken (Some files) name at into (copied ++ drop count into) (Bytes count)
-taken_some files name bytes into copied at count e before is some copy =
+taken_some files name bytes into copied at room count e before is some fits copy =
     let rest : count ≤ length (drop at bytes) = omega (arith, length-drop at bytes) in
     let long : length copied ≡ count = ap length copy ∙ length-take-le count (drop at bytes) rest in
     let part : IsPartFrom at copied bytes = (

@@ -12,11 +12,13 @@ abbrev pub content_of : List (List ℕ × List ℕ) → List ℕ → Option (Lis
 content_of [] name = None
 content_of (file ∷ files) name = if bytes_eq file.0 name then Some file.1 else content_of files name
 
--- the files, the numbers of the calls that are to fail, how many calls there were, and how many failed
+-- the files, the numbers of the calls that are to fail, the most bytes that a read gives where that is bounded, how many
+-- calls there were, and how many failed
 pub record StoreState : Type 0 where
   pub files : List (List ℕ × List ℕ)
   pub failing_reads : List ℕ
   pub failing_writes : List ℕ
+  pub greatest : Option ℕ
   pub reads : ℕ
   pub writes : ℕ
   pub read_faults : ℕ
@@ -28,12 +30,17 @@ abbrev pub TakesAll : Option (List ℕ) → ℕ → ℕ → Taken → Type 0
 TakesAll file at room Absent = file ≡ None
 TakesAll file at room (Bytes n) = IsSomeAnd file (λ bytes. n ≡ min (length bytes - at) room)
 
--- a read fails exactly where its number is listed, and else takes all that there is room for
+-- the room of a read, or as much of it as may be used
+abbrev pub room_within : Option ℕ → ℕ → ℕ
+room_within None room = room
+room_within (Some n) room = min n room
+
+-- a read fails exactly where its number is listed, and else takes all that there is room for, within the bound
 pub record IsMemoryRead (name : List ℕ) (at room : ℕ) (old : StoreState) (result : Result Taken Failed)
     (new : StoreState) : Type 0 where
   pub number : new.reads ≡ raised old.reads 1
   pub fails : IsErr result ↔ Contains old.failing_reads new.reads
-  pub took : IfOk result (TakesAll (content_of old.files name) at room)
+  pub took : IfOk result (TakesAll (content_of old.files name) at (room_within old.greatest room))
   pub faults : CountsFailures old.read_faults (is_ok result) new.read_faults
   pub rest : new ≡ record old { reads = new.reads; read_faults = new.read_faults; answered = new.answered }
 

@@ -1,9 +1,9 @@
 // A store in memory.
-ghost use Rattle.std.specs.Prelude.{◌≡◌, ◌<◌, [], length, IfSome, IfNone, OnOk, OnErr, IsSome, Some, None, option_copied, ◌++◌, unwrap_or};
+ghost use Rattle.std.specs.Prelude.{◌≡◌, ◌<◌, ◌≤◌, [], length, IfSome, IfNone, OnOk, OnErr, IsSome, Some, None, option_copied, ◌++◌, unwrap_or};
 ghost use Rattle.hall_outside.specs.Files.{file_set};
 ghost use Rattle.hall_outside.specs.Reading.{IsTaken};
 ghost use Rattle.hall_outside.specs.Writing.{file_appended};
-ghost use Rattle.hall_outside.specs.MemoryStore.{content_of, TakesAll};
+ghost use Rattle.hall_outside.specs.MemoryStore.{content_of, room_within, TakesAll};
 ghost use Rattle.hall_outside.specs.StoreView.{stored, IsPlaceOf};
 
 use crate::counts::raised;
@@ -12,12 +12,15 @@ use std::alloc::Global;
 use std::marker::Model;
 
 /// Files in memory, and the numbers of the calls that are to fail. Reads are counted from 1, and so
-/// are the creates and appends together. Want of memory is a failed create or append too.
+/// are the creates and appends together. Want of memory is a failed create or append too. A read
+/// gives all that there is room for, unless `greatest_read` was called.
 #[derive(Drop)]
 pub struct MemoryStore {
     files: Vec<File>,
     failing_reads: Vec<u64>,
     failing_writes: Vec<u64>,
+    /// The most bytes that a read gives, where there is such a bound. It is at least 1.
+    greatest: Option<usize>,
     reads: u64,
     writes: u64,
     read_faults: u64,
@@ -38,18 +41,22 @@ impl Model for MemoryStore {
 
     ghost Value = { StoreState };
 
+    ghost use Rattle.std.specs.Prelude.{◌<◌, IfSome};
     ghost use Rattle.hall_outside.specs.StoreView.{stored};
 
     ghost view = { λ s. record {
       files = stored s.files.items;
       failing_reads = s.failing_reads.items;
       failing_writes = s.failing_writes.items;
+      greatest = s.greatest;
       reads = s.reads;
       writes = s.writes;
       read_faults = s.read_faults;
       write_faults = s.write_faults;
       answered = record { absences = s.absences; bytes = s.bytes };
     } };
+
+    ghost invariant = { λ s. IfSome s.greatest (λ n. 0 < n) };
 }
 
 impl MemoryStore {
@@ -60,6 +67,7 @@ impl MemoryStore {
           files = [];
           failing_reads = reads.items;
           failing_writes = writes.items;
+          greatest = None;
           reads = 0;
           writes = 0;
           read_faults = 0;
@@ -71,6 +79,7 @@ impl MemoryStore {
             files: Vec::new(alloc),
             failing_reads: reads,
             failing_writes: writes,
+            greatest: None,
             reads: 0,
             writes: 0,
             read_faults: 0,
@@ -90,6 +99,14 @@ impl MemoryStore {
     {
         let bytes = Vec::from_slice(alloc, bytes)?;
         set_file(alloc, &mut self.files, name, bytes)
+    }
+
+    /// Lets each read from now on give at most `n` bytes.
+    pub fn greatest_read(&mut self, n: usize)
+        requires { 0 < n }
+        ensures { self.new ≡ record self.old { greatest = Some n } }
+    {
+        self.greatest = Some(n);
     }
 
     /// The bytes of a file.
@@ -127,7 +144,8 @@ impl Store for MemoryStore {
             self.read_faults = raised(self.read_faults, 1);
             return Err(Failed);
         }
-        let taken = read_from(self.files.as_slice(), name, at, into);
+        let room = most_of(self.greatest, into.len());
+        let taken = read_from(self.files.as_slice(), name, at, room, into);
         match taken {
             Taken::Absent => self.absences = raised(self.absences, 1),
             Taken::Bytes(count) => self.bytes = raised(self.bytes, count as u64),
@@ -175,12 +193,27 @@ fn find(files: &[File], name: &str) -> Option<usize>
     None
 }
 
-/// Reads into the front of `into` as much of the file from `at` on as fits.
-fn read_from(files: &[File], name: &str, at: u64, into: &mut [u8]) -> Taken
-    requires { 0 < length into.old }
+/// How many bytes a read of `room` bytes gives at most.
+fn most_of(greatest: Option<usize>, room: usize) -> usize
+    requires some { 0 < room }
+    requires bound { IfSome greatest (λ n. 0 < n) }
+    ensures value { result ≡ room_within greatest room }
+    ensures some { 0 < result }
+    ensures fits { result ≤ room }
+{
+    match greatest {
+        Some(n) => n.min(room),
+        None => room,
+    }
+}
+
+/// Reads into the front of `into` as much of the file from `at` on as `room` bytes have room for.
+fn read_from(files: &[File], name: &str, at: u64, room: usize, into: &mut [u8]) -> Taken
+    requires some { 0 < room }
+    requires fits { room ≤ length into.old }
     ensures taken { IsTaken (Some (content_of (stored files.now))) name.now at
         into.old into.new result }
-    ensures most { TakesAll (content_of (stored files.now) name.now) at (length into.old) result }
+    ensures most { TakesAll (content_of (stored files.now) name.now) at room result }
 {
     let Some(place) = find(files, name) else {
         return Taken::Absent;
@@ -190,7 +223,7 @@ fn read_from(files: &[File], name: &str, at: u64, into: &mut [u8]) -> Taken
         return Taken::Bytes(0);
     }
     let rest = &bytes[at as usize..];
-    let count = rest.len().min(into.len());
+    let count = rest.len().min(room);
     into[..count].copy_from_slice(&rest[..count]);
     Taken::Bytes(count)
 }

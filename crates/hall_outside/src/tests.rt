@@ -69,6 +69,40 @@ fn read_file_answers_what_the_store_said(rt: HostRuntime) -> Result<(), Fail> {
     Ok(())
 }
 
+/// The most bytes that a read gives, where the next read begins in a file of ten letters, how many
+/// it gives, and a buffer of four hyphens then.
+const GREATEST: &[(usize, u64, usize, &str)] = &[
+    (1, 0, 1, "a---"),
+    (3, 2, 3, "cde-"),
+    (3, 8, 2, "ij--"),
+    (4, 4, 4, "efgh"),
+    (5, 4, 4, "efgh"),
+    (3, 10, 0, "----"),
+];
+
+/// Whether a read gives this, where reads give at most so many bytes.
+fn is_given(alloc: Global, most: usize, at: u64, count: usize, want: &str) -> Result<bool, Fail>
+    requires { 0 < most }
+{
+    let letters = "abcdefghij".as_bytes();
+    let mut store = store_of(alloc, letters, Vec::new(alloc), Vec::new(alloc))?;
+    store.greatest_read(most);
+    let mut into = [b'-'; 4];
+    let taken = store.read_at("a", at, &mut into);
+    Ok(taken == Ok(Taken::Bytes(count)) && into.as_slice() == want.as_bytes())
+}
+
+#[test]
+fn greatest_read_bounds_what_a_read_gives(rt: HostRuntime) -> Result<(), Fail> {
+    for &(most, at, count, want) in GREATEST {
+        if most > 0 {
+            let is_so = is_given(rt.alloc(), most, at, count, want)?;
+            assert!(rt; is_so, "{most} from {at}");
+        }
+    }
+    Ok(())
+}
+
 /// The number of the write that fails, and what went out. Ten bytes at three a write are four.
 const WRITES: &[(u64, &str)] = &[
     (1, ""),

@@ -2,7 +2,7 @@
 use Rattle.std.proofs.Common.{◌≡◌, ◌≢◌, ◌∙◌, ℕ, ◌+◌, ◌<◌, ◌≤◌, Bool, true, false, max, List, [], ◌∷◌, ◌++◌, map, length, take}
 use Rattle.std.proofs.Common.{refl, ap, sym, subst, arith, append_assoc, drop, Some, zero, suc}
 use Rattle.std.specs.Prelude.{◌||◌, ◌↔◌, not, IsTrue, get_or, if◌then◌else◌}
-use Rattle.std.specs.List.{All, Contains, fold, filter}
+use Rattle.std.specs.List.{All, Contains, filter}
 use Rattle.std.specs.Str.{bytes_eq}
 use Rattle.std.proofs.lemmas.Bool.{true≢false, not-false}
 use Rattle.std.proofs.lemmas.Slice.Eq.{bytes_eq-Decides}
@@ -10,11 +10,10 @@ use Rattle.std.proofs.lemmas.List.{map-append, take_more, take-append-drop, leng
 use Rattle.std.proofs.lemmas.List.Elements.{filter_agree, All-get_or}
 use Rattle.entry_order.specs.declared.event.Event.{Event}
 use Rattle.entry_order.specs.declared.event.Event.TheVariants.{Sent, Got}
-use Rattle.entry_order.specs.Node.{Node}
 use Rattle.entry_order.specs.Naming.{IsNew, has_digest, is_named, names_digest}
 use Rattle.entry_order.specs.Ascending.{ascending}
 use Rattle.entry_order.specs.Frontier.{frontier}
-use Rattle.entry_order.specs.History.{entry_of, held, sent, greatest_stamp, IsLegal, IsNext, MayFollow}
+use Rattle.entry_order.specs.History.{entry_of, held, sent, greatest_stamp, IsNext, MayFollow}
 use Rattle.entry_order.proofs.Histories.{greatest_push, new_from_may, sent_one_more, sent_as_many, sent_few}
 use Rattle.entry_order.proofs.Lists.{Contains-map}
 use Rattle.entry_order.proofs.Naming.{has_digest_of, has_digest_from}

@@ -6,3 +6,5 @@ pub mod OneBreak
 pub mod WrittenLogs
 pub mod KeptRecords
 pub mod SomeLog
+pub mod ValidEntries
+pub mod Taken

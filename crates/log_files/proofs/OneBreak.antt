@@ -5,7 +5,7 @@ use Rattle.std.proofs.lemmas.List.{map-append}
 use Rattle.entry_order.specs.declared.event.Event.{Event}
 use Rattle.entry_order.specs.History.{IsLegal, MayFollow}
 use Rattle.entry_order.specs.Node.{Node}
-use Rattle.entry_order.proofs.Histories.{IsLegal-push, IsLegal-none}
+use Rattle.entry_order.proofs.Histories.{IsLegal-push}
 use Rattle.entry_format.specs.Nodes.{node_of_sealed}
 use Rattle.entry_format.specs.SealedEntry.{SealedEntry}
 use Rattle.log_files.specs.declared.sealed_log.Kept.{Kept}

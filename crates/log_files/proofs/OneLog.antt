@@ -1,14 +1,13 @@
 -- Bytes say at most one log.
 use Rattle.std.proofs.Common.{◌≡◌, ◌∙◌, ℕ, ◌+◌, ◌^◌, ◌<◌, Bool, true, false, inl, inr, List, [], ◌∷◌, ◌++◌, length, Result}
 use Rattle.std.proofs.Common.{Err, refl, ap, sym, subst, arith, append_assoc, length-append}
-use Rattle.std.specs.Prelude.{All, codes}
+use Rattle.std.specs.Prelude.{All}
 use Rattle.std.specs.List.{flat_map}
 use Rattle.std.proofs.lemmas.List.Elements.{All-head, All-tail}
 use Rattle.canonical_sexp.specs.declared.sexp.Sexp.{Sexp}
 use Rattle.canonical_sexp.specs.declared.sexp.Sexp.TheVariants.{Atom, List as Branch}
 use Rattle.canonical_sexp.specs.declared.read.Read.TheVariants as read
 use Rattle.canonical_sexp.specs.Forest.{Forest}
-use Rattle.canonical_sexp.specs.Forms.{list_of}
 use Rattle.std.specs.Fmt.{decimal}
 use Rattle.canonical_sexp.specs.Text.{text_of, Fits}
 use Rattle.canonical_sexp.specs.Reading.{Answers}

@@ -1,5 +1,5 @@
 -- What bytes say under a roster is one log, which agrees with the plain one.
-use Rattle.std.proofs.Common.{◌≡◌, ◌∙◌, ℕ, ◌+◌, ◌⊎◌, Bool, inl, inr, List, [], ◌∷◌, Result, Ok, Err, refl, ap, sym, subst}
+use Rattle.std.proofs.Common.{◌≡◌, ◌∙◌, ℕ, ◌+◌, Bool, inl, inr, List, [], ◌∷◌, Result, Ok, Err, refl, ap, sym, subst}
 use Rattle.std.specs.List.{Contains}
 use Rattle.entry_order.proofs.Lists.{Contains-none, Contains-at, Contains-later, Contains-cons_cases}
 use Rattle.roster.specs.declared.post.Post.{Post}
@@ -13,7 +13,7 @@ use Rattle.entry_format.proofs.Unsealings.{one_unsealing}
 use Rattle.log_files.specs.declared.plain_log.PlainLog.{PlainLog}
 use Rattle.log_files.specs.declared.sealed_log.Kept.{Kept}
 use Rattle.log_files.specs.declared.sealed_log.LogRead.{LogRead}
-use Rattle.log_files.specs.LogText.{kept_of, refused_of, AreLog, IsReadPlain, Says}
+use Rattle.log_files.specs.LogText.{kept_of, refused_of, IsReadPlain, Says}
 use Rattle.log_files.specs.SealedLog.{IsReadSealed, SaysSealed}
 use Rattle.log_files.specs.Written.{plain_of}
 use Rattle.log_files.proofs.OneLog.{EachAgrees, SameSaid, SayAlike, one_said, say_alike}

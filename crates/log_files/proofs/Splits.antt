@@ -1,8 +1,7 @@
 -- Records one right after another.
-use Rattle.std.proofs.Common.{◌≡◌, ◌∙◌, ℕ, ◌+◌, ◌-◌, ◌^◌, ◌<◌, ◌≤◌, Bool, List, [], ◌∷◌, ◌++◌, length, take, drop, Result, Ok}
+use Rattle.std.proofs.Common.{◌≡◌, ◌∙◌, ℕ, ◌+◌, ◌-◌, ◌<◌, ◌≤◌, Bool, List, [], ◌∷◌, ◌++◌, length, take, drop, Result, Ok}
 use Rattle.std.proofs.Common.{Err, refl, ap, sym, subst, arith, append_assoc, append-nil, length-append, inl, inr}
 use Rattle.std.proofs.Common.{zero, suc}
-use Rattle.std.specs.Prelude.{All}
 use Rattle.std.specs.List.{flat_map}
 use Rattle.std.proofs.lemmas.List.{take-append-drop, length-drop, length-take-le, drop-drop, take_rest, nil_from_length}
 use Rattle.std.proofs.lemmas.List.Elements.{All-push, All-nil}
@@ -18,8 +17,9 @@ use Rattle.log_files.specs.declared.plain_log.End.{End}
 use Rattle.log_files.specs.declared.plain_log.End.TheVariants.{Clean, Torn, Malformed}
 use Rattle.log_files.specs.LogText.{header_tree, IsEnd, Gives, EachGives, kept_of, refused_of, AreLog}
 use Rattle.log_files.specs.inside.Parts.{Adds, IsHeaderOf}
+use Rattle.log_files.specs.inside.Taking.{AreReadTo}
 
-some_text : (tree : Sexp) → 0 < length (text_of tree)
+pub some_text : (tree : Sexp) → 0 < length (text_of tree)
 some_text (Atom octets) = omega (arith, length-append (decimal (length octets)) (58 ∷ octets))
 some_text (Branch members) = omega arith
 
@@ -81,26 +81,10 @@ module _ {T : Type 0} (IsReadAs : ℕ → Bool → List ℕ → Result T EntryFa
       let same : n ≡ place + 1 + length readings = omega (arith, at) in
       (h.0, EachGives-push (place + 1) n trees readings tree reading same h.1 g)
 
-  -- what the records behind the header up to `at` give
-  pub record AreReadTo (bytes : List ℕ) (owner header at place : ℕ) (kept : List T)
-      (refused : List (ℕ × EntryFault)) : Type 0 where
-    pub is_header : IsHeaderOf bytes owner header
-    pub trees : List Sexp
-    pub readings : List (Result T EntryFault)
-    pub within : All Fits trees
-    pub spelt : drop header bytes ≡ flat_map text_of trees ++ drop at bytes
-    pub so_far : at ≡ header + length (flat_map text_of trees)
-    pub inside : at ≤ length bytes
-    pub gives : EachGives IsReadAs 0 trees readings
-    pub kept_so_far : kept ≡ kept_of readings
-    pub refused_so_far : refused ≡ refused_of 0 readings
-    pub counted : place ≡ length readings
-    pub few : place ≤ at
-
   -- before the first record
   pub read_none : (bytes : List ℕ) (owner header : ℕ) (kept : List T) (refused : List (ℕ × EntryFault)) →
       IsHeaderOf bytes owner header → kept ≡ [] → refused ≡ [] →
-      AreReadTo bytes owner header header 0 kept refused
+      AreReadTo IsReadAs bytes owner header header 0 kept refused
   read_none bytes owner header kept refused is none none' = record {
     is_header = is;
     trees = [];
@@ -119,10 +103,11 @@ module _ {T : Type 0} (IsReadAs : ℕ → Bool → List ℕ → Result T EntryFa
   -- one record more
   read_more : (bytes : List ℕ) (owner header at place used : ℕ) (kept kept' : List T)
       (refused refused' : List (ℕ × EntryFault)) (tree : Sexp) (reading : Result T EntryFault) →
-      (h : AreReadTo bytes owner header at place kept refused) → Answers (drop at bytes) (read.Whole tree used) →
+      (h : AreReadTo IsReadAs bytes owner header at place kept refused) →
+      Answers (drop at bytes) (read.Whole tree used) →
       Gives IsReadAs place tree reading → kept' ≡ kept_of (h.readings ++ reading ∷ []) →
       refused' ≡ refused_of 0 (h.readings ++ reading ∷ []) →
-      AreReadTo bytes owner header (at + used) (place + 1) kept' refused'
+      AreReadTo IsReadAs bytes owner header (at + used) (place + 1) kept' refused'
   read_more bytes owner header at place used kept kept' refused refused' tree reading h whole gives is_kept is_refused =
       let behind : drop at bytes ≡ text_of tree ++ drop (at + used) bytes =
       sym (take-append-drop used (drop at bytes)) ∙ ap (λ bs. bs ++ drop used (drop at bytes)) whole.2
@@ -154,10 +139,11 @@ module _ {T : Type 0} (IsReadAs : ℕ → Bool → List ℕ → Result T EntryFa
         few = omega (arith, h.few, some);
       }
 
-  adds_more : (bytes : List ℕ) (owner header at place used : ℕ) (kept kept' : List T)
-      (refused refused' : List (ℕ × EntryFault)) (tree : Sexp) → AreReadTo bytes owner header at place kept refused →
+  pub adds_more : (bytes : List ℕ) (owner header at place used : ℕ) (kept kept' : List T)
+      (refused refused' : List (ℕ × EntryFault)) (tree : Sexp) →
+      AreReadTo IsReadAs bytes owner header at place kept refused →
       Answers (drop at bytes) (read.Whole tree used) → Adds IsReadAs tree place kept refused kept' refused' →
-      AreReadTo bytes owner header (at + used) (place + 1) kept' refused'
+      AreReadTo IsReadAs bytes owner header (at + used) (place + 1) kept' refused'
   adds_more bytes owner header at place used kept kept' refused refused' tree h whole (inl (value, gives, k, r)) =
       read_more bytes owner header at place used kept kept' refused refused' tree (Ok value) h whole gives
       (k ∙ ap (λ (vs : List T). vs ++ value ∷ []) h.kept_so_far ∙ sym (kept_of-push h.readings value))
@@ -170,20 +156,9 @@ module _ {T : Type 0} (IsReadAs : ℕ → Bool → List ℕ → Result T EntryFa
       ∙ ap (λ n. refused_of 0 h.readings ++ (n, fault) ∷ []) same
       ∙ sym (refused_of-fault 0 h.readings fault))
 
-  -- the reader's answer for the bytes from a place on, and what it adds
-  pub adds_whole : (bytes : List ℕ) (owner header at place used : ℕ) (kept kept' : List T)
-      (refused refused' : List (ℕ × EntryFault)) (tree : Sexp) → AreReadTo bytes owner header at place kept refused →
-      Answers (take (length bytes - at) (drop at bytes)) (read.Whole tree used) →
-      Adds IsReadAs tree place kept refused kept' refused' →
-      AreReadTo bytes owner header (at + used) (place + 1) kept' refused'
-  adds_whole bytes owner header at place used kept kept' refused refused' tree h right adds =
-      let P : List ℕ → Type 0 = λ bs. Answers bs (read.Whole tree used) in
-      adds_more bytes owner header at place used kept kept' refused refused' tree h (subst P (take_rest bytes at) right)
-      adds
-
   -- the log that was read, where the bytes end so
   pub read_all : (bytes : List ℕ) (owner header at place : ℕ) (kept : List T) (refused : List (ℕ × EntryFault))
-      (end : End) → AreReadTo bytes owner header at place kept refused → IsEnd at (drop at bytes) end →
+      (end : End) → AreReadTo IsReadAs bytes owner header at place kept refused → IsEnd at (drop at bytes) end →
       AreLog IsReadAs bytes owner kept refused end
   read_all bytes owner header at place kept refused end h ends =
       let long : header ≡ length (text_of (header_tree owner)) =
@@ -206,37 +181,3 @@ module _ {T : Type 0} (IsReadAs : ℕ → Bool → List ℕ → Result T EntryFa
         keeps = h.kept_so_far;
         refuses = h.refused_so_far;
       }
-
-  -- where the bytes end inside a record
-  pub read_torn : (bytes : List ℕ) (owner header at place : ℕ) (kept : List T) (refused : List (ℕ × EntryFault)) →
-      AreReadTo bytes owner header at place kept refused → at < length bytes →
-      Answers (take (length bytes - at) (drop at bytes)) read.Cut → AreLog IsReadAs bytes owner kept refused (Torn at)
-  read_torn bytes owner header at place kept refused h some cut =
-      let P : List ℕ → Type 0 = λ bs. Answers bs read.Cut in
-      read_all bytes owner header at place kept refused (Torn at) h
-      (refl, omega (arith, some, length-drop at bytes), subst P (take_rest bytes at) cut)
-
-  -- where a record can't go on
-  pub read_malformed : (bytes : List ℕ) (owner header at place bad : ℕ) (why : Why) (kept : List T)
-      (refused : List (ℕ × EntryFault)) → AreReadTo bytes owner header at place kept refused →
-      Answers (take (length bytes - at) (drop at bytes)) (read.Bad bad why) →
-      AreLog IsReadAs bytes owner kept refused (Malformed (at + bad) why)
-  read_malformed bytes owner header at place bad why kept refused h wrong =
-      let P : List ℕ → Type 0 = λ bs. Answers bs (read.Bad bad why) in
-      read_all bytes owner header at place kept refused (Malformed (at + bad) why) h
-      (bad, refl, subst P (take_rest bytes at) wrong)
-
-  -- where nothing is left
-  pub read_clean : (bytes : List ℕ) (owner header at place : ℕ) (kept : List T) (refused : List (ℕ × EntryFault)) →
-      AreReadTo bytes owner header at place kept refused → length bytes ≤ at →
-      AreLog IsReadAs bytes owner kept refused Clean
-  read_clean bytes owner header at place kept refused h past =
-      read_all bytes owner header at place kept refused Clean h (nil_from_length (drop at bytes) (omega (arith, past, length-drop at bytes)))
-
--- the bytes that are left get fewer
-pub fewer : (bytes : List ℕ) (at used : ℕ) (tree : Sexp) → at < length bytes →
-    Answers (take (length bytes - at) (drop at bytes)) (read.Whole tree used) →
-    length bytes - (at + used) < length bytes - at
-fewer bytes at used tree some right =
-    let more : 0 < used = text_some tree (take (length bytes - at) (drop at bytes)) used right.2 in
-    omega (arith, some, more)

@@ -1,5 +1,6 @@
 -- What the text of a log says under a roster, of an election: the entries with their signatures.
 use Rattle.std.specs.Prelude.{◌≡◌, ℕ, Bool, if◌then◌else◌, List, [], ◌∷◌, ◌++◌, map, Option, Some, None, Result, Ok, Err}
+use Rattle.std.specs.List.{All}
 use Rattle.entry_order.specs.declared.event.Event.{Event}
 use Rattle.entry_order.specs.declared.event.Event.TheVariants.{Sent, Got}
 use Rattle.entry_order.specs.History.{IsLegal}
@@ -8,7 +9,7 @@ use Rattle.roster.specs.declared.post.Post.{Post}
 use Rattle.entry_format.specs.declared.plain.EntryFault.{EntryFault}
 use Rattle.entry_format.specs.Nodes.{node_of_sealed}
 use Rattle.entry_format.specs.SealedEntry.{SealedEntry}
-use Rattle.entry_format.specs.Unsealing.{Unseals}
+use Rattle.entry_format.specs.Unsealing.{IsValid, Unseals}
 use Rattle.log_files.specs.declared.sealed_log.Kept.{Kept}
 use Rattle.log_files.specs.declared.sealed_log.LogRead.{LogRead}
 use Rattle.log_files.specs.LogText.{AreLog}
@@ -48,3 +49,7 @@ BreaksAt owner kept (Some place) = (breaks : Kept) × IsBreak owner kept breaks 
 pub record SaysSealed (machines : List Post) (election bytes : List ℕ) (log : LogRead) : Type 0 where
   pub says : AreLog (IsReadSealed machines election) bytes log.owner log.kept.items log.refused.items log.end
   pub broke : BreaksAt log.owner log.kept.items log.broke
+
+-- the entry of each record is valid under the machines, of the election, as what its text is unsealed to
+abbrev pub AreValid : List Post → List ℕ → List Kept → Type 0
+AreValid machines election = All (λ (kept : Kept). IsValid machines election kept.entry.text kept.entry)

@@ -1,15 +1,15 @@
 //! A log whose signatures aren't looked at.
-ghost use Rattle.std.specs.Prelude.{◌≡◌, ◌+◌, ◌≤◌, length, IfOk, IfErr, IsErrOf, MatchOption};
+ghost use Rattle.std.specs.Prelude.{◌≡◌, ◌≤◌, ◌+◌, IfOk, IfErr, IsErrOf};
 ghost use Rattle.hall_outside.specs.Counts.{HasCause, ComesExactly};
 ghost use Rattle.hall_outside.specs.Files.{OnSomeFile};
 ghost use Rattle.hall_outside.specs.ReadFile.{ReadsOn};
 ghost use Rattle.log_files.specs.LogFile.{max_bytes, IsLogOf, IsRefused};
-ghost use Rattle.log_files.specs.LogText.{HasHeader, Says};
 
-use crate::records::{ReadEntry, log_of};
-use canonical_sexp::{Memory, Text, Why};
+use crate::feed::read_records;
+use crate::records::ReadEntry;
+use canonical_sexp::{Text, Why};
 use entry_format::{EntryFault, Plain, read_unsigned_text};
-use hall_outside::{FileFault, Store, read_file};
+use hall_outside::{FileFault, Store};
 use std::alloc::{AllocError, Global};
 use thiserror::Error;
 
@@ -78,9 +78,6 @@ impl From<FileFault> for LogFault {
     }
 }
 
-/// The most bytes of a log's file.
-pub(crate) const MAX_BYTES: usize = 67_108_864;
-
 /// Reads entries and leaves their signatures unverified.
 #[derive(Clone, Copy)]
 struct PlainReader;
@@ -103,22 +100,6 @@ impl ReadEntry for PlainReader {
     }
 }
 
-/// What the bytes of a log say, or `None` where they don't begin with a header.
-fn plain_log_of(alloc: Global, bytes: &[u8]) -> Result<Option<PlainLog>, Memory>
-    requires { length bytes.now ≤ max_bytes }
-    ensures { IfOk result (λ found.
-        MatchOption found (HasHeader bytes.now → ⊥) (λ log. Says bytes.now log)) }
-{
-    match log_of(alloc, &PlainReader, bytes)? {
-        Some(log) => Ok(Some(PlainLog {
-            kept: log.kept,
-            refused: log.refused,
-            end: log.end,
-        })),
-        None => Ok(None),
-    }
-}
-
 /// Reads a log's file, and leaves the signatures of its entries unverified. No file changes.
 ///
 /// # Errors
@@ -138,6 +119,7 @@ pub fn read_plain_log<S: Store>(
     // Absent and TooLong come exactly where the store said so in this call, ReadFault only so.
     ensures absent { ComesExactly (S.answered store.old).absences (S.answered store.new).absences
         (IsErrOf result LogFault.Absent) }
+    ensures absences { (S.answered store.old).absences ≤ (S.answered store.new).absences }
     ensures too_long { ComesExactly ((S.answered store.old).bytes + max_bytes)
         (S.answered store.new).bytes (IsErrOf result LogFault.TooLong) }
     ensures read_fault { HasCause (S.read_faults store.old) (S.read_faults store.new)
@@ -150,12 +132,12 @@ pub fn read_plain_log<S: Store>(
     ensures unchanged { (S.files store.new ≡ S.files store.old)
         × (S.write_faults store.new ≡ S.write_faults store.old) }
 {
-    match read_file(alloc, store, name, MAX_BYTES) {
-        Ok(bytes) => match plain_log_of(alloc, &bytes) {
-            Ok(Some(log)) => Ok(log),
-            Ok(None) => Err(LogFault::Header),
-            Err(_) => Err(LogFault::Memory),
-        },
-        Err(fault) => Err(LogFault::from(fault)),
+    match read_records(alloc, store, name, &PlainReader) {
+        Ok(log) => Ok(PlainLog {
+            kept: log.kept,
+            refused: log.refused,
+            end: log.end,
+        }),
+        Err(fault) => Err(fault),
     }
 }

@@ -1,19 +1,23 @@
 //! Reading the header and the records of a log where their texts stand. How the entry of a record is
 //! read is the caller's.
-ghost use Rattle.std.specs.Prelude.{◌≡◌, ◌≢◌, ◌≤◌, ℕ, Bool, List, length, Result, Err};
-ghost use Rattle.std.specs.Prelude.{IfOk, IfSome, IfNone, OnOk, MatchOption};
+ghost use Rattle.std.specs.Prelude.{◌≡◌, ◌≢◌, ◌+◌, ◌≤◌, ◌<◌, ℕ, Bool, List, [], length, drop, Result, Err};
+ghost use Rattle.std.specs.Prelude.{IfOk, IfSome, IfNone, OnOk, MatchOption, IsTrue};
 ghost use Rattle.canonical_sexp.specs.Forest.{Forest};
 ghost use Rattle.canonical_sexp.specs.Forms.{Finds, IsU32};
+ghost use Rattle.canonical_sexp.specs.Reading.{Answers};
 ghost use Rattle.canonical_sexp.specs.Text.{text_of};
+ghost use Rattle.canonical_sexp.specs.declared.read.Read.TheVariants.{Whole};
+ghost use Rattle.canonical_sexp.specs.declared.read.Why.{Why};
 ghost use Rattle.canonical_sexp.specs.declared.sexp.Sexp.TheVariants.{Atom, List as Branch};
 ghost use Rattle.entry_format.specs.declared.plain.EntryFault.{EntryFault};
 ghost use Rattle.log_files.specs.LogFile.{max_bytes};
 ghost use Rattle.log_files.specs.LogText.{header_tree, record_word, record_tree, HasHeader};
 ghost use Rattle.log_files.specs.LogText.{AreLog, Gives};
-ghost use Rattle.log_files.specs.inside.Parts.{IsHeaderOf, IsRecordOf, Adds};
+ghost use Rattle.log_files.specs.inside.Parts.{IsRecordOf, Adds};
+ghost use Rattle.log_files.specs.inside.Taking.{is_open, stopped, end_of, StandsFor, IsNoneOrCut};
 
 use crate::plain_log::End;
-use canonical_sexp::{Front, Memory, Text, front_of};
+use canonical_sexp::{Front, Memory, Text, Why, front_of};
 use entry_format::EntryFault;
 use std::alloc::{AllocError, Global};
 
@@ -44,6 +48,64 @@ pub(crate) struct Records<T> {
     pub(crate) kept: Vec<T>,
     pub(crate) refused: Vec<(u32, EntryFault)>,
     pub(crate) end: End,
+}
+
+/// Which text of a log comes next.
+#[derive(Clone, Copy)]
+pub(crate) enum Stage {
+    /// The header.
+    Header,
+    /// A record.
+    Records,
+    /// None: so many bytes behind the last whole record stands one that no record has there.
+    Malformed(usize, Why),
+    /// None: the bytes begin with no header.
+    NoLog,
+}
+
+impl Stage {
+    /// Whether a text may come.
+    pub(crate) fn is_open(self) -> bool
+        ensures { result ≡ is_open self }
+    {
+        match self {
+            Stage::Header => true,
+            Stage::Records => true,
+            Stage::Malformed(..) => false,
+            Stage::NoLog => false,
+        }
+    }
+}
+
+/// What has been read of a log.
+#[derive(Drop)]
+pub(crate) struct Progress<T> {
+    pub(crate) stage: Stage,
+    owner: u32,
+    /// How many bytes the header and the whole records take so far.
+    at: usize,
+    /// How many records are whole so far.
+    place: u32,
+    kept: Vec<T>,
+    refused: Vec<(u32, EntryFault)>,
+}
+
+impl<T> Progress<T> {
+    /// Nothing has been read.
+    pub(crate) fn new(alloc: Global) -> Progress<T>
+        ensures stage { result.stage ≡ Stage.Header }
+        ensures none { (result.at ≡ 0) × (result.place ≡ 0) }
+        ensures empty { (result.kept.items ≡ []) × (result.refused.items ≡ []) }
+    {
+        Progress {
+            stage: Stage::Header,
+            owner: 0,
+            at: 0,
+            place: 0,
+            kept: Vec::new(alloc),
+            refused: Vec::new(alloc),
+        }
+    }
 }
 
 /// A record of a signed entry.
@@ -98,20 +160,6 @@ fn owner_of(text: &Text<'_>) -> Option<u32>
     owner.as_number()
 }
 
-/// The owner of the header in front, and how many bytes it takes.
-fn header_of(bytes: &[u8]) -> Option<(u32, usize)>
-    ensures found { IfSome result (λ (owner, used). IsHeaderOf bytes.now owner used) }
-    ensures none { IfNone result (HasHeader bytes.now → ⊥) }
-{
-    let Front::Whole { text, used } = front_of(bytes) else {
-        return None;
-    };
-    match owner_of(&text) {
-        Some(owner) => Some((owner, used)),
-        None => None,
-    }
-}
-
 /// Reads the entry of a record. A text that is no record of a list hasn't the shape.
 fn entry_of<R: ReadEntry>(
     alloc: Global,
@@ -132,64 +180,200 @@ fn entry_of<R: ReadEntry>(
 fn add_record<R: ReadEntry>(
     alloc: Global,
     reader: &R,
-    log: &mut Records<R::Kept>,
+    kept: &mut Vec<R::Kept>,
+    refused: &mut Vec<(u32, EntryFault)>,
     place: u32,
     text: &Text<'_>,
 ) -> Result<(), Memory>
-    ensures added { OnOk result (Adds (R.reads reader.now) text.now place
-        log.old.kept.items log.old.refused.items log.new.kept.items log.new.refused.items) }
-    ensures owner { OnOk result (log.new.owner ≡ log.old.owner) }
+    ensures { OnOk result (Adds (R.reads reader.now) text.now place
+        kept.old.items refused.old.items kept.new.items refused.new.items) }
 {
     match entry_of(alloc, reader, place, text) {
-        Ok(kept) => log.kept.push(kept)?,
+        Ok(value) => kept.push(value)?,
         Err(fault) => match fault {
             EntryFault::Memory => return Err(AllocError),
-            _ => log.refused.push((place, fault))?,
+            _ => refused.push((place, fault))?,
         },
     }
     Ok(())
 }
 
-/// Reads the records behind the header, which takes so many bytes.
-fn records_from<R: ReadEntry>(
+/// Takes the first whole text: the header.
+fn take_header<T>(log: &mut Progress<T>, text: &Text<'_>, used: usize)
+    requires short { log.old.at + used ≤ max_bytes }
+    ensures found { log.new.stage ≡ Stage.Records →
+        IsU32 log.new.owner × (text.now ≡ header_tree log.new.owner) }
+    ensures none { log.new.stage ≢ Stage.Records → (log.new.stage ≡ Stage.NoLog)
+        × ((owner : ℕ) → IsU32 owner → text.now ≢ header_tree owner) }
+    ensures rest { log.new ≡ record log.old {
+      stage = log.new.stage;
+      owner = log.new.owner;
+      at = log.old.at + used;
+    } }
+{
+    match owner_of(text) {
+        Some(owner) => {
+            log.owner = owner;
+            log.stage = Stage::Records;
+        }
+        None => log.stage = Stage::NoLog,
+    }
+    log.at += used;
+}
+
+/// Takes the next whole text behind the header: a record.
+fn take_record<R: ReadEntry>(
     alloc: Global,
     reader: &R,
-    bytes: &[u8],
-    owner: u32,
-    header: usize,
-) -> Result<Records<R::Kept>, Memory>
-    requires header { IsHeaderOf bytes.now owner header }
-    requires short { length bytes.now ≤ max_bytes }
-    ensures { IfOk result (λ log. AreLog (R.reads reader.now) bytes.now log.owner
-        log.kept.items log.refused.items log.end) }
+    log: &mut Progress<R::Kept>,
+    text: &Text<'_>,
+    used: usize,
+) -> Result<(), Memory>
+    requires few { log.old.place ≤ log.old.at }
+    requires short { log.old.at + used ≤ max_bytes }
+    ensures { OnOk result (Adds (R.reads reader.now) text.now log.old.place
+        log.old.kept.items log.old.refused.items log.new.kept.items log.new.refused.items
+        × (log.new ≡ record log.old {
+          kept = log.new.kept;
+          refused = log.new.refused;
+          place = log.old.place + 1;
+          at = log.old.at + used;
+        })) }
 {
-    let mut log = Records {
-        owner,
-        kept: Vec::new(alloc),
-        refused: Vec::new(alloc),
-        end: End::Clean,
-    };
-    let mut at = header;
-    let mut place = 0;
-    while at < bytes.len() {
-        match front_of(&bytes[at..]) {
+    add_record(
+        alloc,
+        reader,
+        &mut log.kept,
+        &mut log.refused,
+        log.place,
+        text,
+    )?;
+    log.place += 1;
+    log.at += used;
+    Ok(())
+}
+
+/// Takes the next whole text, which stands in front of what is left.
+fn take_text<R: ReadEntry>(
+    alloc: Global,
+    reader: &R,
+    log: &mut Progress<R::Kept>,
+    text: &Text<'_>,
+    used: usize,
+) -> Result<(), Memory>
+    requires few { log.old.place ≤ log.old.at }
+    requires short { log.old.at + used ≤ max_bytes }
+    requires some { 0 < used }
+    ensures takes { OnOk result ((bytes rest : List ℕ) →
+        StandsFor (R.reads reader.now) bytes log.old rest →
+        Answers rest (Whole text.now used) →
+        StandsFor (R.reads reader.now) bytes log.new (drop used rest)) }
+    ensures few { OnOk result (log.new.place ≤ log.new.at) }
+    ensures short { OnOk result (log.new.at ≤ log.old.at + used) }
+{
+    match log.stage {
+        Stage::Header => {
+            take_header(log, text, used);
+            Ok(())
+        }
+        Stage::Records => take_record(alloc, reader, log, text, used),
+        Stage::Malformed(..) => Ok(()),
+        Stage::NoLog => Ok(()),
+    }
+}
+
+/// Stops where what is left begins with no text: the byte at the place can't stand there.
+fn stop<T>(log: &mut Progress<T>, at: usize, why: Why)
+    ensures { log.new ≡ record log.old { stage = stopped log.old.stage at why } }
+{
+    match log.stage {
+        Stage::Header => log.stage = Stage::NoLog,
+        Stage::Records => log.stage = Stage::Malformed(at, why),
+        Stage::Malformed(..) => {}
+        Stage::NoLog => {}
+    }
+}
+
+/// Takes the whole texts in front of the bytes, and answers how many bytes they take. If more texts
+/// may come, the bytes behind them are none or the beginning of one.
+pub(crate) fn take_texts<R: ReadEntry>(
+    alloc: Global,
+    reader: &R,
+    log: &mut Progress<R::Kept>,
+    bytes: &[u8],
+) -> Result<usize, Memory>
+    requires few { IsTrue (is_open log.old.stage) → log.old.place ≤ log.old.at }
+    requires short { IsTrue (is_open log.old.stage) →
+        log.old.at + length bytes.now ≤ max_bytes }
+    ensures takes { IfOk result (λ used. (whole : List ℕ) →
+        StandsFor (R.reads reader.now) whole log.old bytes.now →
+        StandsFor (R.reads reader.now) whole log.new (drop used bytes.now)) }
+    ensures within { IfOk result (λ used. used ≤ length bytes.now) }
+    ensures stops { IfOk result (λ used. IsTrue (is_open log.new.stage) →
+        IsNoneOrCut (drop used bytes.now)) }
+{
+    let mut done = 0;
+    while done < bytes.len() && log.stage.is_open() {
+        match front_of(&bytes[done..]) {
             Front::Whole { text, used } => {
-                add_record(alloc, reader, &mut log, place, &text)?;
-                at += used;
-                place += 1;
+                take_text(alloc, reader, log, &text, used)?;
+                done += used;
             }
-            Front::Cut => {
-                log.end = End::Torn(at as u64);
-                return Ok(log);
-            }
-            Front::Bad { at: bad, why } => {
-                log.end = End::Malformed((at + bad) as u64, why);
-                return Ok(log);
+            Front::Cut => return Ok(done),
+            Front::Bad { at, why } => {
+                stop(log, at, why);
+                return Ok(done);
             }
         }
     }
-    log.end = End::Clean;
-    Ok(log)
+    Ok(done)
+}
+
+/// How a log ends, or `None` where there is none. `at` bytes are its header and whole records, and
+/// it is cut where others follow them that may be the beginning of a record.
+fn end_of(stage: Stage, at: usize, is_cut: bool) -> Option<End>
+    requires { (bad : ℕ) (why : Why) → stage ≡ Stage.Malformed bad why → at + bad ≤ max_bytes }
+    ensures { result ≡ end_of stage at is_cut }
+{
+    match stage {
+        Stage::Header => None,
+        Stage::Records => Some(if is_cut {
+            End::Torn(at as u64)
+        } else {
+            End::Clean
+        }),
+        Stage::Malformed(bad, why) => Some(End::Malformed((at + bad) as u64, why)),
+        Stage::NoLog => None,
+    }
+}
+
+/// What the bytes of a log say, of which all but the rest have been read, or `None` where they
+/// don't begin with a header.
+pub(crate) fn log_at_end<R: ReadEntry>(
+    alloc: Global,
+    reader: &R,
+    log: Progress<R::Kept>,
+    rest: &[u8],
+) -> Result<Option<Records<R::Kept>>, Memory>
+    requires { (bytes : List ℕ) × StandsFor (R.reads reader.now) bytes log rest.now
+        × (length bytes ≤ max_bytes) }
+    ensures { IfOk result (λ found. (bytes : List ℕ) →
+        StandsFor (R.reads reader.now) bytes log rest.now → length bytes ≤ max_bytes →
+        MatchOption found (HasHeader bytes → ⊥)
+        (λ log. AreLog (R.reads reader.now) bytes log.owner
+        log.kept.items log.refused.items log.end)) }
+{
+    let mut log = log;
+    let used = take_texts(alloc, reader, &mut log, rest)?;
+    match end_of(log.stage, log.at, used < rest.len()) {
+        Some(end) => Ok(Some(Records {
+            owner: log.owner,
+            kept: log.kept,
+            refused: log.refused,
+            end,
+        })),
+        None => Ok(None),
+    }
 }
 
 /// What the bytes of a log say, or `None` where they don't begin with a header.
@@ -203,8 +387,5 @@ pub(crate) fn log_of<R: ReadEntry>(
         (λ log. AreLog (R.reads reader.now) bytes.now log.owner
         log.kept.items log.refused.items log.end)) }
 {
-    match header_of(bytes) {
-        Some((owner, header)) => Ok(Some(records_from(alloc, reader, bytes, owner, header)?)),
-        None => Ok(None),
-    }
+    log_at_end(alloc, reader, Progress::new(alloc), bytes)
 }

@@ -1,19 +1,23 @@
 //! A log whose signatures are verified.
 ghost use Rattle.std.specs.Prelude.{◌≡◌, ◌+◌, ◌≤◌, length, IfOk, IfErr, IsErrOf, MatchOption};
+ghost use Rattle.std.specs.List.{All};
 ghost use Rattle.hall_outside.specs.Counts.{HasCause, ComesExactly};
 ghost use Rattle.hall_outside.specs.Files.{OnSomeFile};
 ghost use Rattle.hall_outside.specs.ReadFile.{ReadsOn};
 ghost use Rattle.log_files.specs.LogFile.{max_bytes, IsSealedLogOf, IsRefused};
 ghost use Rattle.log_files.specs.LogText.{HasHeader};
-ghost use Rattle.log_files.specs.SealedLog.{SaysSealed};
+ghost use Rattle.log_files.specs.SealedLog.{AreValid, SaysSealed};
+ghost use Rattle.log_files.specs.inside.Fed.{IsWithBreak};
 
 use crate::breaks::broke_at;
-use crate::plain_log::{End, LogFault, MAX_BYTES};
-use crate::records::{ReadEntry, log_of};
-use canonical_sexp::{Memory, Text};
-use entry_format::{EntryFault, Sealed, unseal_text};
+use crate::feed::read_records;
+use crate::plain_log::{End, LogFault};
+use crate::records::{Records, log_of};
+use crate::sealed_reader::SealedReader;
+use canonical_sexp::Memory;
+use entry_format::{EntryFault, Sealed};
 use entry_order::Knot;
-use hall_outside::{Store, read_file};
+use hall_outside::Store;
 use roster::Roster;
 use std::alloc::Global;
 
@@ -69,31 +73,33 @@ pub struct LogRead {
     pub broke: Option<u32>,
 }
 
-/// Reads entries and verifies their signatures.
-#[derive(Clone, Copy)]
-struct SealedReader<'a> {
-    roster: &'a Roster,
-    election: &'a [u8; 32],
+/// The log with the place at which its records break.
+fn with_break(alloc: Global, log: Records<Kept>) -> Result<LogRead, Memory>
+    ensures { IfOk result (IsWithBreak log) }
+{
+    let broke = broke_at(alloc, log.owner, &log.kept)?;
+    Ok(LogRead {
+        owner: log.owner,
+        kept: log.kept,
+        refused: log.refused,
+        end: log.end,
+        broke,
+    })
 }
 
-impl ReadEntry for SealedReader<'_> {
-    type Kept = Kept;
-
-    ghost use Rattle.log_files.specs.SealedLog.{IsReadSealed};
-
-    ghost reads = { λ s. IsReadSealed s.roster.now.machines s.election.now };
-
-    fn read(
-        &self,
-        alloc: Global,
-        place: u32,
-        sent: bool,
-        entry: &Text<'_>,
-    ) -> Result<Kept, EntryFault> {
-        match unseal_text(alloc, self.roster, self.election, entry) {
-            Ok(entry) => Ok(Kept { place, sent, entry }),
-            Err(fault) => Err(fault),
-        }
+/// What the bytes of a log say by the reader, or `None` where they don't begin with a header.
+fn sealed_log_by(
+    alloc: Global,
+    reader: &SealedReader<'_>,
+    bytes: &[u8],
+) -> Result<Option<LogRead>, Memory>
+    requires { length bytes.now ≤ max_bytes }
+    ensures { IfOk result (λ found. MatchOption found (HasHeader bytes.now → ⊥)
+        (λ log. SaysSealed reader.now.machines reader.now.election bytes.now log)) }
+{
+    match log_of(alloc, reader, bytes)? {
+        Some(log) => Ok(Some(with_break(alloc, log)?)),
+        None => Ok(None),
     }
 }
 
@@ -109,20 +115,8 @@ pub fn sealed_log_of(
     ensures { IfOk result (λ found. MatchOption found (HasHeader bytes.now → ⊥)
         (λ log. SaysSealed roster.now.machines election.now bytes.now log)) }
 {
-    let reader = SealedReader { roster, election };
-    match log_of(alloc, &reader, bytes)? {
-        Some(log) => {
-            let broke = broke_at(alloc, log.owner, &log.kept)?;
-            Ok(Some(LogRead {
-                owner: log.owner,
-                kept: log.kept,
-                refused: log.refused,
-                end: log.end,
-                broke,
-            }))
-        }
-        None => Ok(None),
-    }
+    let reader = SealedReader::make(alloc, roster, election, &[])?;
+    sealed_log_by(alloc, &reader, bytes)
 }
 
 /// Reads a log's file, and verifies the signatures of its entries under the roster. No file changes.
@@ -147,6 +141,7 @@ pub fn read_log<S: Store>(
     // Absent and TooLong come exactly where the store said so in this call, ReadFault only so.
     ensures absent { ComesExactly (S.answered store.old).absences (S.answered store.new).absences
         (IsErrOf result LogFault.Absent) }
+    ensures absences { (S.answered store.old).absences ≤ (S.answered store.new).absences }
     ensures too_long { ComesExactly ((S.answered store.old).bytes + max_bytes)
         (S.answered store.new).bytes (IsErrOf result LogFault.TooLong) }
     ensures read_fault { HasCause (S.read_faults store.old) (S.read_faults store.new)
@@ -159,12 +154,59 @@ pub fn read_log<S: Store>(
     ensures unchanged { (S.files store.new ≡ S.files store.old)
         × (S.write_faults store.new ≡ S.write_faults store.old) }
 {
-    match read_file(alloc, store, name, MAX_BYTES) {
-        Ok(bytes) => match sealed_log_of(alloc, roster, election, &bytes) {
-            Ok(Some(log)) => Ok(log),
-            Ok(None) => Err(LogFault::Header),
+    read_log_after(alloc, store, name, roster, election, &[])
+}
+
+/// Reads a log's file as `read_log` does. The signature of an entry isn't verified again where an
+/// entry of the same text was kept of a log that was read before.
+///
+/// # Errors
+///
+/// Those of `read_log`.
+pub fn read_log_after<S: Store>(
+    alloc: Global,
+    store: &mut S,
+    name: &str,
+    roster: &Roster,
+    election: &[u8; 32],
+    before: &[LogRead],
+) -> Result<LogRead, LogFault>
+    requires { All (λ log. AreValid roster.now.machines election.now log.kept.items) before.now }
+    // The log is what the file says, or what some says where none is told, and so is a refusal.
+    ensures ok { IfOk result (λ log. OnSomeFile (S.files store.old) name.now
+        (IsSealedLogOf roster.now.machines election.now log)) }
+    ensures err { IfErr result (λ fault.
+        OnSomeFile (S.files store.old) name.now (IsRefused fault)) }
+
+    // So it may stand among those that were read before.
+    ensures valid { IfOk result (λ log.
+        AreValid roster.now.machines election.now log.kept.items) }
+
+    // Absent and TooLong come exactly where the store said so in this call, ReadFault only so.
+    ensures absent { ComesExactly (S.answered store.old).absences (S.answered store.new).absences
+        (IsErrOf result LogFault.Absent) }
+    ensures absences { (S.answered store.old).absences ≤ (S.answered store.new).absences }
+    ensures too_long { ComesExactly ((S.answered store.old).bytes + max_bytes)
+        (S.answered store.new).bytes (IsErrOf result LogFault.TooLong) }
+    ensures read_fault { HasCause (S.read_faults store.old) (S.read_faults store.new)
+        (IsErrOf result LogFault.ReadFault) }
+
+    // The file is read to its end, or to the first byte past the limit, in pieces of 65,536 bytes.
+    ensures pieces { (¬ IsErrOf result LogFault.Memory) →
+        ReadsOn (S.reads name.now) 65536 max_bytes 0 store.old store.new }
+
+    ensures unchanged { (S.files store.new ≡ S.files store.old)
+        × (S.write_faults store.new ≡ S.write_faults store.old) }
+{
+    let reader = match SealedReader::make(alloc, roster, election, before) {
+        Ok(reader) => reader,
+        Err(_) => return Err(LogFault::Memory),
+    };
+    match read_records(alloc, store, name, &reader) {
+        Ok(log) => match with_break(alloc, log) {
+            Ok(log) => Ok(log),
             Err(_) => Err(LogFault::Memory),
         },
-        Err(fault) => Err(LogFault::from(fault)),
+        Err(fault) => Err(fault),
     }
 }

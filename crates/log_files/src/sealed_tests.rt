@@ -1,4 +1,6 @@
 //! Logs whose signatures are verified.
+ghost use Rattle.std.specs.Prelude.{◌<◌};
+
 use super::*;
 use entry_format::EntryFault;
 use hall_outside::MemoryStore;
@@ -172,7 +174,34 @@ fn answer(
     bytes: &[u8],
     failing: u64,
 ) -> Result<String, Fail> {
-    let mut store = MemoryStore::make(alloc, vec![in alloc; failing]?, Vec::new(alloc));
+    let store = MemoryStore::make(alloc, vec![in alloc; failing]?, Vec::new(alloc));
+    answer_of(alloc, store, roster, own, bytes)
+}
+
+/// The same, where a read gives at most so many bytes.
+fn answer_by(
+    alloc: Global,
+    roster: &[u8],
+    own: &[u8; 32],
+    bytes: &[u8],
+    most: usize,
+) -> Result<String, Fail>
+    requires { 0 < most }
+{
+    let mut store = MemoryStore::make(alloc, Vec::new(alloc), Vec::new(alloc));
+    store.greatest_read(most);
+    answer_of(alloc, store, roster, own, bytes)
+}
+
+/// What the store says of the bytes.
+fn answer_of(
+    alloc: Global,
+    store: MemoryStore,
+    roster: &[u8],
+    own: &[u8; 32],
+    bytes: &[u8],
+) -> Result<String, Fail> {
+    let mut store = store;
     store.place(alloc, "x", bytes)?;
     let Ok(roster) = Roster::read(alloc, roster) else {
         return Ok(String::from_str(alloc, "no roster")?);
@@ -220,8 +249,10 @@ fn each_record_is_kept_or_refused_by_its_first_fault(rt: HostRuntime) -> Result<
     let own = election(&hall.roster);
     for (order, want) in FAULT_LOGS {
         let log = log_of(alloc, "0", &records, order)?;
-        let got = answer(alloc, &hall.roster, &own, &log, 9)?;
-        assert_eq!(rt; got.as_str(), *want, "{order}");
+        for most in [1usize, 7, 65_535, 65_536] {
+            let got = answer_by(alloc, &hall.roster, &own, &log, most)?;
+            assert_eq!(rt; got.as_str(), *want, "{order} in {most}");
+        }
     }
     Ok(())
 }
@@ -321,6 +352,74 @@ fn a_log_under_another_roster_keeps_nothing(rt: HostRuntime) -> Result<(), Fail>
             *want,
             "{other_roster} {other_election} {failing}"
         );
+    }
+    Ok(())
+}
+
+/// What the second of two logs says that are read one after the other.
+fn answer_after(
+    alloc: Global,
+    roster: &[u8],
+    own: &[u8; 32],
+    first: &[u8],
+    second: &[u8],
+) -> Result<String, Fail> {
+    let mut store = MemoryStore::make(alloc, Vec::new(alloc), Vec::new(alloc));
+    store.place(alloc, "first", first)?;
+    store.place(alloc, "second", second)?;
+    let Ok(roster) = Roster::read(alloc, roster) else {
+        return Ok(String::from_str(alloc, "no roster")?);
+    };
+    let Ok(before) = read_log_after(alloc, &mut store, "first", &roster, own, &[]) else {
+        return Ok(String::from_str(alloc, "no first log")?);
+    };
+    let before = vec![in alloc; before]?;
+    match read_log_after(alloc, &mut store, "second", &roster, own, &before) {
+        Ok(log) => said(alloc, &log),
+        Err(fault) => Ok(format!(in alloc; "{fault:?}")?),
+    }
+}
+
+/// The record with the last byte of its signature changed.
+fn altered(alloc: Global, record: &[u8]) -> Result<Vec<u8>, Fail> {
+    let mut altered = Vec::from_slice(alloc, record)?;
+    altered.pop();
+    altered.pop();
+    let last = altered.pop().unwrap_or(0);
+    altered.push(last ^ 1)?;
+    altered.extend_from_slice(b"))")?;
+    Ok(altered)
+}
+
+/// A log, the one that is read after it, and what that says. The record 9 is the record 2 with its
+/// signature changed.
+const AFTER: &[(&str, &str, &str)] = &[
+    ("012", "012", "0 0sent0 1sent1 2got0 Clean None"),
+    (
+        "012",
+        "0129",
+        "0 0sent0 1sent1 2got0 3BadSignature Clean None",
+    ),
+    ("019", "012", "0 0sent0 1sent1 2got0 Clean None"),
+    ("019", "9", "0 0BadSignature Clean None"),
+    ("", "012", "0 0sent0 1sent1 2got0 Clean None"),
+];
+
+#[test]
+fn a_log_read_after_another_says_the_same(rt: HostRuntime) -> Result<(), Fail> {
+    let alloc = rt.alloc();
+    let mut hall = hall_of(alloc)?;
+    let mut records = records_of(alloc, &mut hall, HISTORY)?;
+    if let Some(record) = records.get(2) {
+        let altered = altered(alloc, record)?;
+        records.push(altered)?;
+    }
+    let own = election(&hall.roster);
+    for (first, second, want) in AFTER {
+        let before = log_of(alloc, "0", &records, first)?;
+        let log = log_of(alloc, "0", &records, second)?;
+        let got = answer_after(alloc, &hall.roster, &own, &before, &log)?;
+        assert_eq!(rt; got.as_str(), *want, "{first} {second}");
     }
     Ok(())
 }

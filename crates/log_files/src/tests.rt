@@ -1,4 +1,6 @@
 //! Logs that are cut, damaged or absent.
+ghost use Rattle.std.specs.Prelude.{◌<◌};
+
 use super::*;
 use entangled_log::Log;
 use entry_format::Sealed;
@@ -43,6 +45,19 @@ fn said(alloc: Global, log: &PlainLog) -> Result<String, Fail> {
 fn answer(alloc: Global, bytes: &[u8]) -> Result<String, Fail> {
     let mut store = MemoryStore::make(alloc, Vec::new(alloc), Vec::new(alloc));
     store.place(alloc, "x", bytes)?;
+    match read_plain_log(alloc, &mut store, "x") {
+        Ok(log) => said(alloc, &log),
+        Err(fault) => Ok(format!(in alloc; "{fault:?}")?),
+    }
+}
+
+/// The same, where a read gives at most so many bytes and the one with this number fails.
+fn answer_by(alloc: Global, bytes: &[u8], most: usize, failing: u64) -> Result<String, Fail>
+    requires { 0 < most }
+{
+    let mut store = MemoryStore::make(alloc, vec![in alloc; failing]?, Vec::new(alloc));
+    store.place(alloc, "x", bytes)?;
+    store.greatest_read(most);
     match read_plain_log(alloc, &mut store, "x") {
         Ok(log) => said(alloc, &log),
         Err(fault) => Ok(format!(in alloc; "{fault:?}")?),
@@ -103,6 +118,82 @@ fn a_log_ends_or_is_refused_as_its_bytes_say(rt: HostRuntime) -> Result<(), Fail
             let got = answer(rt.alloc(), bytes.as_bytes())?;
             assert_eq!(rt; got.as_str(), want, "{bytes}");
         }
+    }
+    Ok(())
+}
+
+/// A log longer than a piece: a record of two atoms of 262,144 octets, two short ones, and one that
+/// is cut or damaged.
+fn long_log(alloc: Global, end: &str) -> Result<Vec<u8>, Fail> {
+    let atom: Vec<u8> = vec![in alloc; b'o'; 262_144]?;
+    let mut bytes = Vec::from_slice(alloc, b"(3:log1:11:0)(")?;
+    for _ in 0..2 {
+        bytes.extend_from_slice(b"262144:")?;
+        bytes.extend_from_slice(&atom)?;
+    }
+    bytes.extend_from_slice(b")()(3:got())")?;
+    bytes.extend_from_slice(end.as_bytes())?;
+    Ok(bytes)
+}
+
+/// How a long log ends, and what it says.
+const LONG: &[(&str, &str)] = &[
+    ("", "0 0 WrongShape 1 WrongShape 2 WrongShape Clean"),
+    (
+        "(262144:",
+        "0 0 WrongShape 1 WrongShape 2 WrongShape Torn(524328)",
+    ),
+    (
+        "(262145:",
+        "0 0 WrongShape 1 WrongShape 2 WrongShape Malformed(524334, AtomTooLong)",
+    ),
+];
+
+#[test]
+fn a_long_log_says_the_same_in_reads_of_any_length(rt: HostRuntime) -> Result<(), Fail> {
+    let alloc = rt.alloc();
+    for (end, want) in LONG {
+        let bytes = long_log(alloc, end)?;
+        for most in [7usize, 65_535, 65_536] {
+            let got = answer_by(alloc, &bytes, most, 0)?;
+            assert_eq!(rt; got.as_str(), *want, "{end} in {most}");
+        }
+    }
+    Ok(())
+}
+
+#[test]
+fn a_log_says_the_same_in_short_reads(rt: HostRuntime) -> Result<(), Fail> {
+    for row in FILES.lines() {
+        if let Some((bytes, want)) = row.split_once(" = ") {
+            let got = answer_by(rt.alloc(), bytes.as_bytes(), 1, 0)?;
+            assert_eq!(rt; got.as_str(), want, "{bytes}");
+        }
+    }
+    let want = wanted(rt.alloc(), 573)?;
+    for most in [1usize, 7, 100] {
+        let got = answer_by(rt.alloc(), LOG.as_bytes(), most, 0)?;
+        assert_eq!(rt; got.as_str(), want.as_str(), "in {most}");
+    }
+    Ok(())
+}
+
+#[test]
+fn a_read_that_fails_is_told_before_the_header(rt: HostRuntime) -> Result<(), Fail> {
+    let alloc = rt.alloc();
+    let want = wanted(alloc, 573)?;
+    // The log is six reads of up to 100 bytes, and one at its end.
+    for failing in 1..9u64 {
+        let got = answer_by(alloc, LOG.as_bytes(), 100, failing)?;
+        let want = if failing < 8 {
+            "ReadFault"
+        } else {
+            want.as_str()
+        };
+        assert_eq!(rt; got.as_str(), want, "read {failing}");
+        let got = answer_by(alloc, &LOG.as_bytes()[1..], 100, failing)?;
+        let want = if failing < 8 { "ReadFault" } else { "Header" };
+        assert_eq!(rt; got.as_str(), want, "read {failing} without a header");
     }
     Ok(())
 }

@@ -23,11 +23,11 @@ returns-clause-taken c =
     let rest : take (length bytes - c.args.at)
     (drop c.args.at bytes) ≡ drop c.args.at bytes = take_rest bytes c.args.at in
     taken_some (content_of (stored c.args.files.now)) c.args.name.now c.index-files-place.result.bytes.items
-    c.args.into.now c.copy_from_slice.new.self c.args.at c.min-count.result
+    c.args.into.now c.copy_from_slice.new.self c.args.at c.args.room c.min-count.result
     (content_is c.args.files.now c.args.name.now c.in-Some.place c.index-files-place.result c.in-Some.ensures.found
     c.index-files-place.is)
     (omega (arith, ap length same))
-    (omega (arith, c.min-count.ensures, ap length rest, length-drop c.args.at bytes, ap length same)) c.requires
+    (omega (arith, c.min-count.ensures, ap length rest, length-drop c.args.at bytes, ap length same)) c.requires.some c.requires.fits
     (c.copy_from_slice.ensures.after ∙ ap (take c.min-count.result) (rest ∙ ap (drop c.args.at) same))
 
 pub returns-then-at-bytes-clause-most : goal.returns-then-at-bytes-clause-most
@@ -35,7 +35,7 @@ returns-then-at-bytes-clause-most c =
     let same : c.as_slice-bytes.result.now ≡ c.index-files-place.result.bytes.items = c.as_slice-bytes.ensures.value
     ∙ ap (λ file. file.bytes.items) (sym c.index-files-place.is) in
     some_and _ c.index-files-place.result.bytes.items
-    (λ bytes. 0 ≡ min (length bytes - c.args.at) (length c.args.into.now))
+    (λ bytes. 0 ≡ min (length bytes - c.args.at) c.args.room)
     (content_is c.args.files.now c.args.name.now c.in-Some.place c.index-files-place.result c.in-Some.ensures.found
     c.index-files-place.is)
     (omega (arith, ap length same))
@@ -48,7 +48,7 @@ returns-clause-most c =
     let rest : take (length bytes - c.args.at)
     (drop c.args.at bytes) ≡ drop c.args.at bytes = take_rest bytes c.args.at in
     some_and _ c.index-files-place.result.bytes.items
-    (λ b. c.min-count.result ≡ min (length b - c.args.at) (length c.args.into.now))
+    (λ b. c.min-count.result ≡ min (length b - c.args.at) c.args.room)
     (content_is c.args.files.now c.args.name.now c.in-Some.place c.index-files-place.result c.in-Some.ensures.found
     c.index-files-place.is)
     (omega (arith, c.min-count.ensures, ap length rest, length-drop c.args.at bytes, ap length same))
