@@ -1,0 +1,5 @@
+pub mod Readings
+pub mod LogLists
+pub mod OneLogs
+pub mod OneGraph
+pub mod Survivors

@@ -1,0 +1,64 @@
+//! The files of logs.
+ghost use Rattle.std.specs.Prelude.{map, string_bytes};
+ghost use Rattle.evidence.specs.Logs.{GivesLogsIn};
+ghost use Rattle.evidence.specs.Reading.{IsReadFrom, store_seen};
+ghost use Rattle.evidence.specs.inside.Faults.{IsLogFault};
+
+use crate::fault::AuditFault;
+use hall_outside::Store;
+use log_files::{LogFault, LogRead, read_log_after};
+use roster::Roster;
+use std::alloc::Global;
+
+/// Reads the logs of these names, in their order, and verifies the signatures of their entries
+/// under the roster, of the election. An entry that stands in several logs is verified once. The
+/// first log that is refused ends it, and no file behind it is read. No file changes.
+///
+/// # Errors
+///
+/// `Absent` where the store said so, `Refused` with the cause `TooLong` or `Header`, `ReadFault`
+/// where a read failed, or `Memory`.
+pub fn read_logs<S: Store>(
+    alloc: Global,
+    store: &mut S,
+    names: &[String],
+    roster: &Roster,
+    election: &[u8; 32],
+) -> Result<Vec<LogRead>, AuditFault>
+    ensures { IsReadFrom (λ logs. logs.items)
+        (GivesLogsIn roster.now.machines election.now (map string_bytes names.now))
+        (store_seen (S.files store.old) (S.answered store.old) (S.read_faults store.old)
+        (S.write_faults store.old))
+        result
+        (store_seen (S.files store.new) (S.answered store.new) (S.read_faults store.new)
+        (S.write_faults store.new)) }
+{
+    let mut logs = Vec::new(alloc);
+    for name in names {
+        match read_log_after(
+            alloc,
+            store,
+            name.as_str(),
+            roster,
+            election,
+            logs.as_slice(),
+        ) {
+            Ok(log) => logs.push(log)?,
+            Err(fault) => return Err(log_fault(alloc, name.as_str(), fault)),
+        }
+    }
+    Ok(logs)
+}
+
+/// The fault of a log that isn't read, of this name.
+fn log_fault(alloc: Global, name: &str, fault: LogFault) -> AuditFault
+    ensures { IsLogFault name.now fault result }
+{
+    match fault {
+        LogFault::Absent => AuditFault::absent(alloc, name),
+        LogFault::TooLong => AuditFault::refused(alloc, name, 0, "TooLong"),
+        LogFault::Header => AuditFault::refused(alloc, name, 0, "Header"),
+        LogFault::ReadFault => AuditFault::ReadFault,
+        LogFault::Memory => AuditFault::Memory,
+    }
+}
