@@ -1,0 +1,99 @@
+-- The places at which rules are broken are survivors'.
+use Rattle.std.proofs.Common.{◌≡◌, ◌∙◌, ℕ, zero, suc, ◌+◌, ◌<◌, ◌≤◌, Bool, true, false, cond, List, [], ◌∷◌, length, map, ap, sym, subst, refl, arith, Option, Some, None}
+use Rattle.std.specs.Prelude.{All, find, Ok, slice_get, ◌&&◌}
+use Rattle.std.specs.List.{range_with_len}
+use Rattle.std.specs.List.{AllByRecursion as ByRecursion}
+use Rattle.std.proofs.lemmas.List.Elements.{All-from_recursion}
+use Rattle.std.proofs.lemmas.Slice.Zip.{AllZip-long}
+use Rattle.entry_order.specs.declared.three.Three.{Three}
+use Rattle.entry_order.specs.Ancestors.{before, is_whole}
+use Rattle.precedence.specs.Graph.{Graph}
+use Rattle.rule_language.specs.declared.row.Row.{Row}
+use Rattle.rule_language.specs.declared.kind.Kind.{Kind}
+use Rattle.rule_language.specs.declared.form.Form.{Form}
+use Rattle.rule_language.specs.declared.form.Form.TheVariants as form
+use Rattle.rule_language.specs.Trees.{Trees, no_trees, tree_then, RuleTree}
+use Rattle.rule_engine.specs.Kleene.{is_false}
+use Rattle.rule_engine.specs.Tests.{has_kind}
+use Rattle.rule_engine.specs.Meaning.{bind, unbound}
+use Rattle.rule_engine.specs.Values.{values, first_value}
+use Rattle.rule_engine.specs.Verdicts.{first_false, and_then, broken_by, broken, IsVerdict, IsJudged}
+use Rattle.rule_engine.specs.declared.verdict.Verdict.{Verdict}
+use Rattle.rule_engine.specs.declared.verdict.Verdict.TheVariants.{Kept, Broken, Unsettled}
+use Rattle.auditor.specs.Judged.{AreJudged}
+use Rattle.auditor.specs.inside.Places.{AreBelow, IsBelow}
+
+-- what is found in a range is below its end
+found_step : (b : Bool) (i n found : ℕ) (later : Option ℕ) → (later ≡ Some found → found < i + 1 + n) →
+    cond b (Some i) later ≡ Some found → found < i + suc n
+found_step true i n found later rest e = let same : i ≡ found = cc in omega (arith, same)
+found_step false i n found later rest e = let less = rest e in omega (arith, less)
+
+found_below : (p : ℕ → Bool) (i n found : ℕ) → find p (range_with_len i n) ≡ Some found → found < i + n
+found_below p i zero found e = cc
+found_below p i (suc n) found e =
+    found_step (p i) i n found (find p (range_with_len (i + 1) n)) (λ h. found_below p (i + 1) n found h) e
+
+module _ (rows : List Row) (order : ℕ → ℕ → Three) (wholes : ℕ → Bool) where
+  -- each place is that of a row
+  abbrev Below : List ℕ → Type 0
+  Below = ByRecursion (λ place. place < length rows)
+
+  first_then : (first : Option ℕ) (deeper : ℕ → List ℕ) → ((i : ℕ) → first ≡ Some i → i < length rows) →
+      ((i : ℕ) → Below (deeper i)) → Below (and_then rows order wholes first deeper)
+  first_then None deeper within inner = tt
+  first_then (Some i) deeper within inner = (within i refl, inner i)
+
+  -- so is each place that a form adds
+  form_below : (form : Form) (env : ℕ → Option ℕ) (value : (ℕ → Option ℕ) → Three)
+      (deeper : (ℕ → Option ℕ) → List ℕ) → ((e : ℕ → Option ℕ) → Below (deeper e)) →
+      Below (broken_by rows order wholes form env value deeper)
+  form_below (form.ForEvery v kind) env value deeper inner =
+      first_then (first_false rows order wholes kind (λ i. value (bind v i env)) 0 (length rows))
+      (λ i. deeper (bind v i env))
+      (λ i e.
+      let less = found_below (λ j. has_kind kind (slice_get rows j) && is_false (value (bind v j env))) 0 (length rows) i e in
+      omega (arith, less))
+      (λ i. inner (bind v i env))
+  form_below other env value deeper inner = tt
+
+  broken_below : (trees : Trees) (env : ℕ → Option ℕ) → Below (broken rows order wholes trees env)
+  broken_below no_trees env = tt
+  broken_below (tree_then form parts rest) env =
+      form_below form env (λ e. first_value (values rows order wholes parts e)) (broken rows order wholes parts)
+      (λ e. broken_below parts e)
+
+  -- the places of a verdict are those of rows
+  pub verdict_below : (tree : Trees) (verdict : Verdict) → IsVerdict rows order wholes tree verdict →
+      IsBelow (length rows) verdict
+  verdict_below tree Kept is = tt
+  verdict_below tree (Broken places) is =
+      let P : List ℕ → Type 0 = λ ps. AreBelow (length rows) ps in
+      subst P (sym is.1) (All-from_recursion (λ place. place < length rows) (broken rows order wholes tree unbound)
+      (broken_below tree unbound))
+  verdict_below tree Unsettled is = tt
+
+-- so are those of all verdicts
+each_below : (rows : List Row) (graph : Graph) (rules : List RuleTree) (verdicts : List Verdict) →
+    AreJudged rows graph rules verdicts → ByRecursion (IsBelow (length rows)) verdicts
+each_below rows graph [] [] judged = tt
+each_below rows graph [] (v ∷ verdicts) judged = absurd judged
+each_below rows graph (r ∷ rules) [] judged = absurd judged
+each_below rows graph (r ∷ rules) (v ∷ verdicts) judged = (
+  verdict_below rows (before graph.parents graph.ragged) (λ x. is_whole graph.parents graph.ragged x x) r.body v
+      judged.0.1,
+  each_below rows graph rules verdicts judged.1,
+)
+
+pub verdicts_below : (count : ℕ) (rows : List Row) (graph : Graph) (rules : List RuleTree) (verdicts : List Verdict) →
+    length rows ≡ count → AreJudged rows graph rules verdicts → All (IsBelow count) verdicts
+verdicts_below count rows graph rules verdicts same judged =
+    let P : ℕ → Type 0 = λ n. All (IsBelow n) verdicts in
+    subst P same (All-from_recursion (IsBelow (length rows)) verdicts (each_below rows graph rules verdicts judged))
+
+-- as many verdicts as rules
+pub as_many : (rows : List Row) (graph : Graph) (rules : List RuleTree) (verdicts : List Verdict) →
+    AreJudged rows graph rules verdicts → length rules ≡ length verdicts
+as_many rows graph rules verdicts judged = sym
+    (AllZip-long (λ (rule : RuleTree) (verdict : Verdict). IsJudged rows graph rule.body (Ok verdict)) rules verdicts
+    judged)

@@ -1,0 +1,139 @@
+-- The makers of entries are machines.
+use Rattle.std.proofs.Common.{◌≡◌, ◌∙◌, ℕ, suc, ◌+◌, ◌<◌, List, [], ◌∷◌, ◌++◌, length, take, get_or, map, ap, sym, subst, refl, not, inl, inr, Option, Some, None}
+use Rattle.std.specs.Prelude.{All, slice_get, Result, Ok, Err}
+use Rattle.std.specs.List.{Contains, filter}
+use Rattle.std.specs.List.{AllByRecursion as ByRecursion}
+use Rattle.std.specs.Str.{bytes_eq}
+use Rattle.std.proofs.lemmas.List.{take_more, map-append}
+use Rattle.std.proofs.lemmas.List.Elements.{All-contains, All-from_recursion, Contains-get_or}
+use Rattle.std.proofs.lemmas.Option.{get_or_from_slice_get}
+use Rattle.canonical_sexp.specs.declared.sexp.Sexp.{Sexp}
+use Rattle.roster.specs.declared.post.Post.{Post}
+use Rattle.entry_format.specs.declared.plain.EntryFault.{EntryFault}
+use Rattle.entry_format.specs.SealedEntry.{SealedEntry}
+use Rattle.entry_format.specs.Nodes.{node_of_sealed}
+use Rattle.entry_order.specs.Survivors.{is_stray}
+use Rattle.entry_order.proofs.Lists.{Contains-at, Contains-later, Contains-cons_cases, Contains-filter_cases}
+use Rattle.log_files.specs.declared.sealed_log.Kept.{Kept}
+use Rattle.log_files.specs.declared.sealed_log.LogRead.{LogRead}
+use Rattle.log_files.specs.LogText.{kept_of, Gives, EachGives}
+use Rattle.log_files.specs.SealedLog.{IsReadSealed}
+use Rattle.log_files.specs.LogFile.{IsSealedLogOf}
+use Rattle.entry_graph.specs.Given.{distinct}
+use Rattle.entry_graph.specs.EntryGraph.{EntryGraph, AreForks}
+use Rattle.rule_language.specs.declared.row.Row.{Row}
+use Rattle.evidence.specs.Logs.{GivesLogs}
+use Rattle.evidence.specs.Graphs.{entries_in, entries_of, GivesGraph}
+use Rattle.auditor.specs.Rows.{HaveMakers, row_of}
+
+-- so are those of forks
+pub forks_have_makers : (machines : List Post) (survivors : List SealedEntry) (forks told : List (ℕ × ℕ)) →
+    HaveMakers machines survivors → AreForks node_of_sealed survivors forks → told ≡ forks →
+    All (λ (fork : ℕ × ℕ). fork.0 < length machines) told
+forks_have_makers machines survivors forks told makers are same =
+    let P : List (ℕ × ℕ) → Type 0 = λ fs. All (λ (fork : ℕ × ℕ). fork.0 < length machines) fs in
+    subst P (sym same) (λ k d within. of_fork (get_or forks k d) (Contains-get_or forks k d within))
+  where
+    of_fork : (fork : ℕ × ℕ) → Rattle.std.specs.List.Contains forks fork → fork.0 < length machines
+    of_fork fork member =
+        let (e, f, has, also, differ, maker, number, other, twice) = (are.members fork.0 fork.1).0 member in
+        subst (λ (m : ℕ). m < length machines) maker
+        (All-contains (λ (sealed : SealedEntry). sealed.entry.maker < length machines) survivors e makers has)
+
+-- the rows of the first entries, and one more
+pub rows_more : (machines : List Post) (survivors : List SealedEntry) (i : ℕ) (entry : SealedEntry) (row : Row)
+    (rows new : List Row) → i < length survivors → slice_get survivors i ≡ Some entry →
+    rows ≡ map (row_of machines) (take i survivors) → row ≡ row_of machines entry → new ≡ rows ++ row ∷ [] →
+    new ≡ map (row_of machines) (take (i + 1) survivors)
+rows_more machines survivors i entry row rows new within at so_far is added =
+    added ∙ ap (λ (r : Row). rows ++ r ∷ []) (is ∙ ap (row_of machines) (sym (get_or_from_slice_get survivors i entry entry at)))
+    ∙ ap (λ (rs : List Row). rs ++ row_of machines (get_or survivors i entry) ∷ []) so_far
+    ∙ sym (ap (map (row_of machines)) (take_more survivors i entry within)
+    ∙ map-append (row_of machines) (take i survivors) (get_or survivors i entry ∷ []))
+
+-- a list of the first entries with each digest has given entries alone
+distinct_is_given : (given : List SealedEntry) (entry : SealedEntry) → Contains (distinct node_of_sealed given) entry →
+    Contains given entry
+distinct_is_given [] entry member = member
+distinct_is_given (e ∷ es) entry member =
+    let rest = λ (h : Contains (filter (λ (f : SealedEntry). not (bytes_eq f.digest e.digest)) (distinct node_of_sealed es)) entry).
+    Contains-later e es entry (distinct_is_given es entry
+    (Contains-filter_cases (λ (f : SealedEntry). not (bytes_eq f.digest e.digest)) (distinct node_of_sealed es) entry h).0) in
+    elim (Contains-cons_cases e
+    (filter (λ (f : SealedEntry). not (bytes_eq f.digest e.digest)) (distinct node_of_sealed es)) entry member)
+    [ inl s ↦ Contains-at e es entry s | inr h ↦ rest h ]
+
+-- the survivors of entries of machines are of machines
+pub survivors_have_makers : (machines : List Post) (given : List SealedEntry) (graph : EntryGraph SealedEntry) →
+    HaveMakers machines given → GivesGraph given (Ok graph) → HaveMakers machines graph.survivors
+survivors_have_makers machines given graph makers gives = λ k d within.
+    let e : SealedEntry = get_or graph.survivors k d in
+    let kept = (gives.2.members e).0 (Contains-get_or graph.survivors k d within) in
+    let first = Contains-filter_cases (λ (f : SealedEntry). not (is_stray node_of_sealed (distinct node_of_sealed given) f))
+    (distinct node_of_sealed given) e kept in
+    All-contains (λ (sealed : SealedEntry). sealed.entry.maker < length machines) given e makers
+    (distinct_is_given given e first.0)
+
+-- each entry's maker is a machine, one entry after another
+abbrev Each : List Post → List SealedEntry → Type 0
+Each machines = ByRecursion (λ (sealed : SealedEntry). sealed.entry.maker < length machines)
+
+each_append : (machines : List Post) (xs ys : List SealedEntry) → Each machines xs → Each machines ys →
+    Each machines (xs ++ ys)
+each_append machines [] ys p q = q
+each_append machines (x ∷ xs) ys p q = (p.0, each_append machines xs ys p.1 q)
+
+-- the entries that a log keeps are of machines
+kept_each : (machines : List Post) (election : List ℕ) (place : ℕ) (trees : List Sexp)
+    (readings : List (Result Kept EntryFault)) → EachGives (IsReadSealed machines election) place trees readings →
+    Each machines (entries_in (kept_of readings))
+kept_each machines election place [] [] gives = tt
+kept_each machines election place [] (r ∷ readings) gives = absurd gives
+kept_each machines election place (t ∷ trees) [] gives = absurd gives
+kept_each machines election place (t ∷ trees) (Err fault ∷ readings) gives =
+    kept_each machines election (place + 1) trees readings gives.1
+kept_each machines election place (t ∷ trees) (Ok kept ∷ readings) gives =
+    (valid gives.0, kept_each machines election (place + 1) trees readings gives.1)
+  where
+    valid : Gives (IsReadSealed machines election) place t (Ok kept) → kept.entry.entry.maker < length machines
+    valid (inl (members, sent, e, read)) = read.2.maker
+    valid (inr (none, e)) = cc
+
+log_each : (machines : List Post) (election : List ℕ) (log : LogRead) (file : Option (List ℕ)) →
+    IsSealedLogOf machines election log file → Each machines (entries_in log.kept.items)
+log_each machines election log None is = absurd is
+log_each machines election log (Some bytes) is =
+    let says = is.1.says in
+    let P : List Kept → Type 0 = λ kept. Each machines (entries_in kept) in
+    subst P (sym says.keeps) (kept_each machines election 0 says.trees says.readings says.gives)
+
+logs_each : (machines : List Post) (election : List ℕ) (names : List (List ℕ)) (files : List (Option (List ℕ)))
+    (logs : List LogRead) → GivesLogs machines election names files (Ok logs) → Each machines (entries_of logs)
+logs_each machines election [] [] [] gives = tt
+logs_each machines election [] [] (log ∷ logs) gives = absurd gives
+logs_each machines election [] (file ∷ files) logs gives = absurd gives
+logs_each machines election (name ∷ names) [] logs gives = absurd gives
+logs_each machines election (name ∷ names) (file ∷ files) [] gives = absurd gives
+logs_each machines election (name ∷ names) (file ∷ files) (log ∷ logs) gives =
+    each_append machines (entries_in log.kept.items) (entries_of logs) (log_each machines election log file gives.0)
+    (logs_each machines election names files logs gives.1)
+
+-- the entries that logs keep are of the machines of the roster under which they were read
+pub logs_have_makers : (machines : List Post) (election : List ℕ) (names : List (List ℕ))
+    (files : List (Option (List ℕ))) (logs : List LogRead) → GivesLogs machines election names files (Ok logs) →
+    HaveMakers machines (entries_of logs)
+logs_have_makers machines election names files logs gives =
+    All-from_recursion (λ (sealed : SealedEntry). sealed.entry.maker < length machines) (entries_of logs)
+    (logs_each machines election names files logs gives)
+
+-- there is one log for each name
+pub a_log_each : (machines : List Post) (election : List ℕ) (names : List (List ℕ))
+    (files : List (Option (List ℕ))) (logs : List LogRead) → GivesLogs machines election names files (Ok logs) →
+    length names ≡ length logs
+a_log_each machines election [] [] [] gives = refl
+a_log_each machines election [] [] (log ∷ logs) gives = absurd gives
+a_log_each machines election [] (file ∷ files) logs gives = absurd gives
+a_log_each machines election (name ∷ names) [] logs gives = absurd gives
+a_log_each machines election (name ∷ names) (file ∷ files) [] gives = absurd gives
+a_log_each machines election (name ∷ names) (file ∷ files) (log ∷ logs) gives =
+    ap suc (a_log_each machines election names files logs gives.1)

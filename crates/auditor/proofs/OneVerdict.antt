@@ -1,0 +1,129 @@
+-- Rules have one verdict by graphs that tell the same.
+use Rattle.std.proofs.Common.{◌≡◌, ◌∙◌, ℕ, zero, suc, ◌+◌, ◌<◌, ◌≤◌, Bool, true, false, cond, List, [], ◌∷◌, length, inl, inr, refl, sym, ap, subst, arith, Option, Some}
+use Rattle.std.specs.Prelude.{◌==◌, ◌||◌, ◌⊎◌, Result, Ok, Err, slice_get, codes}
+use Rattle.std.specs.List.{AllZip, Contains, list_any}
+use Rattle.std.proofs.lemmas.Bool.{false≢true, cases_lt, cases_order}
+use Rattle.entry_format.specs.SealedEntry.{SealedEntry}
+use Rattle.entry_order.specs.declared.three.Three.{Three}
+use Rattle.entry_order.specs.declared.three.Three.TheVariants.{False, Unknown, True}
+use Rattle.entry_order.specs.Ancestors.{Descends, reaches, before, is_whole}
+use Rattle.entry_order.proofs.Lists.{Contains-head, Contains-later}
+use Rattle.entry_graph.specs.EntryGraph.{EntryGraph, parents_of, ragged_of}
+use Rattle.rule_language.specs.declared.row.Row.{Row}
+use Rattle.rule_language.specs.Trees.{Trees, RuleTree}
+use Rattle.rule_engine.specs.Verdicts.{IsVerdict, IsAnswer, is_too_wide}
+use Rattle.rule_engine.specs.declared.verdict.Verdict.{Verdict}
+use Rattle.rule_engine.specs.declared.verdict.Verdict.TheVariants.{Kept, Broken, Unsettled}
+use Rattle.rule_engine.proofs.Graphs.{same_answer}
+use Rattle.evidence.specs.Refusal.{Refusal, refused}
+use Rattle.evidence.specs.Same.{Agree, SameGraph}
+use Rattle.auditor.specs.Judged.{nodes_of, AreJudged, IsFirstTooWide}
+use Rattle.auditor.specs.Sources.{RuleSource, source_word}
+use Rattle.auditor.specs.Audits.{GivesVerdicts}
+use Rattle.auditor.proofs.OneByOne.{judged_is_narrow}
+
+none_of : (p : ℕ → Bool) (xs : List ℕ) → ((x : ℕ) → Contains xs x → p x ≡ false) → list_any p xs ≡ false
+none_of p [] none = refl
+none_of p (x ∷ xs) none = neither (p x) (list_any p xs) (none x (Contains-head x xs))
+    (none_of p xs (λ y member. none y (Contains-later x xs y member)))
+  where
+    neither : (a b : Bool) → a ≡ false → b ≡ false → (a || b) ≡ false
+    neither true b e f = absurd (false≢true (sym e))
+    neither false b e f = f
+
+-- a place isn't reached from one that isn't above it
+not_reached : (parents : ℕ → List ℕ) → Descends parents → (n y x : ℕ) → x ≤ y → reaches parents n y x ≡ false
+not_reached parents down zero y x low = refl
+not_reached parents down (suc n) y x low =
+    none_of (λ z. (z == y) || reaches parents n y z) (parents x)
+    (λ z member. neither z (down x z member) (not_reached parents down n y z (omega (arith, low, down x z member))))
+  where
+    neither : (z : ℕ) → z < x → reaches parents n y z ≡ false → ((z == y) || reaches parents n y z) ≡ false
+    neither z below e = grind (arith, e, below, low)
+
+-- so its order is known by whether that one is whole
+order_above : (parents : ℕ → List ℕ) (ragged : ℕ → Bool) → Descends parents → (y x : ℕ) → x ≤ y →
+    before parents ragged y x ≡ cond (is_whole parents ragged x x) False Unknown
+order_above parents ragged down y x low =
+    ap (λ b. cond b True (cond (is_whole parents ragged x x) False Unknown)) (not_reached parents down x y x low)
+
+-- graphs that tell the same order all places alike
+orders_agree : (graph other : EntryGraph SealedEntry) → Descends (parents_of graph.links) →
+    Descends (parents_of other.links) → SameGraph graph other → (y x : ℕ) → x < length graph.survivors →
+    before (parents_of graph.links) (ragged_of graph.links) y x
+    ≡ before (parents_of other.links) (ragged_of other.links) y x
+orders_agree graph other down down' same y x within = by_place (cases_lt y (length graph.survivors))
+  where
+    by_place : (y < length graph.survivors) ⊎ (length graph.survivors ≤ y) →
+        before (parents_of graph.links) (ragged_of graph.links) y x
+        ≡ before (parents_of other.links) (ragged_of other.links) y x
+    by_place (inl inside) = same.orders y x inside within
+    by_place (inr past) =
+        order_above (parents_of graph.links) (ragged_of graph.links) down y x (omega (arith, within, past))
+        ∙ ap (λ b. cond b False Unknown) (same.wholes x within)
+        ∙ sym (order_above (parents_of other.links) (ragged_of other.links) down' y x (omega (arith, within, past)))
+
+-- two verdicts are the same, and name the same places
+abbrev pub SameVerdict : Verdict → Verdict → Type 0
+SameVerdict Kept Kept = Unit {0}
+SameVerdict (Broken places) (Broken others) = places.items ≡ others.items
+SameVerdict Unsettled Unsettled = Unit {0}
+SameVerdict verdict other = ⊥
+
+-- a rule has one verdict
+one_verdict : (rows : List Row) (order : ℕ → ℕ → Three) (wholes : ℕ → Bool) (tree : Trees) (v w : Verdict) →
+    IsVerdict rows order wholes tree v → IsVerdict rows order wholes tree w → SameVerdict v w
+one_verdict rows order wholes tree Kept Kept a b = tt
+one_verdict rows order wholes tree Kept (Broken q) a b = let no : True ≡ False = sym a ∙ b.0 in cc
+one_verdict rows order wholes tree Kept Unsettled a b = let no : True ≡ Unknown = sym a ∙ b in cc
+one_verdict rows order wholes tree (Broken p) Kept a b = let no : False ≡ True = sym a.0 ∙ b in cc
+one_verdict rows order wholes tree (Broken p) (Broken q) a b = a.1 ∙ sym b.1
+one_verdict rows order wholes tree (Broken p) Unsettled a b = let no : False ≡ Unknown = sym a.0 ∙ b in cc
+one_verdict rows order wholes tree Unsettled Kept a b = let no : Unknown ≡ True = sym a ∙ b in cc
+one_verdict rows order wholes tree Unsettled (Broken q) a b = let no : Unknown ≡ False = sym a ∙ b.0 in cc
+one_verdict rows order wholes tree Unsettled Unsettled a b = tt
+
+-- two places at which a rule is the first that is too wide are one
+one_place : (rows : List Row) (rules : List RuleTree) (p q : ℕ) → IsFirstTooWide rows rules p →
+    IsFirstTooWide rows rules q → p ≡ q
+one_place rows rules p q a b = by_order (cases_order p q)
+  where
+    by_order : (p ≡ q) ⊎ ((p < q) ⊎ (q < p)) → p ≡ q
+    by_order (inl e) = e
+    by_order (inr (inl less)) = absurd (false≢true (sym (b.first p a.rule less a.stands) ∙ a.too_wide))
+    by_order (inr (inr more)) = absurd (false≢true (sym (a.first q b.rule more b.stands) ∙ b.too_wide))
+
+module _ (rows : List Row) (graph other : EntryGraph SealedEntry) (down : Descends (parents_of graph.links))
+    (down' : Descends (parents_of other.links)) (same : SameGraph graph other)
+    (count : length rows ≡ length graph.survivors) where
+  each_agrees : (rules : List RuleTree) (vs ws : List Verdict) → AreJudged rows (nodes_of graph) rules vs →
+      AreJudged rows (nodes_of other) rules ws → AllZip SameVerdict vs ws
+  each_agrees [] [] [] a b = tt
+  each_agrees [] [] (w ∷ ws) a b = absurd b
+  each_agrees [] (v ∷ vs) ws a b = absurd a
+  each_agrees (r ∷ rules) [] ws a b = absurd a
+  each_agrees (r ∷ rules) (v ∷ vs) [] a b = absurd b
+  each_agrees (r ∷ rules) (v ∷ vs) (w ∷ ws) a b =
+      let known = before (parents_of graph.links) (ragged_of graph.links) in
+      let wholes : ℕ → Bool = λ x. is_whole (parents_of graph.links) (ragged_of graph.links) x x in
+      let known' = before (parents_of other.links) (ragged_of other.links) in
+      let wholes' : ℕ → Bool = λ x. is_whole (parents_of other.links) (ragged_of other.links) x x in
+      let moved = same_answer rows known known' wholes wholes'
+      (λ y x within. orders_agree graph other down down' same y x (subst (λ n. x < n) count within))
+      (λ x within. same.wholes x (subst (λ n. x < n) count within)) r.body (Ok v) a.0 in
+      (one_verdict rows known' wholes' r.body v w moved.1 b.0.1, each_agrees rules vs ws a.1 b.1)
+
+  -- rules give one answer
+  pub verdicts_agree : (source : RuleSource) (rules : List RuleTree) (p q : Result (List Verdict) Refusal) →
+      GivesVerdicts source rows (nodes_of graph) rules p → GivesVerdicts source rows (nodes_of other) rules q →
+      Agree (AllZip SameVerdict) p q
+  verdicts_agree source rules (Ok vs) (Ok ws) a b = each_agrees rules vs ws a b
+  verdicts_agree source rules (Ok vs) (Err s) a (place, first, e) =
+      absurd (false≢true (sym (judged_is_narrow rows (nodes_of graph) rules vs place first.rule a first.stands)
+      ∙ first.too_wide))
+  verdicts_agree source rules (Err r) (Ok ws) (place, first, e) b =
+      absurd (false≢true (sym (judged_is_narrow rows (nodes_of other) rules ws place first.rule b first.stands)
+      ∙ first.too_wide))
+  verdicts_agree source rules (Err r) (Err s) (place, first, e) (place', first', e') =
+      e ∙ ap (λ n. refused (source_word source) n (codes "TooWide")) (one_place rows rules place place' first first')
+      ∙ sym e'

@@ -1,0 +1,57 @@
+-- Texts of pieces, one piece more.
+use Rattle.std.proofs.Common.{◌≡◌, ◌∙◌, ℕ, ◌+◌, ◌<◌, ◌≤◌, List, [], ◌∷◌, ◌++◌, length, take, get_or, map, ap, sym, append_assoc, append-nil, arith}
+use Rattle.std.specs.Prelude.{Result, Ok, Err, OnOk}
+use Rattle.std.specs.List.{flat_map, zip}
+use Rattle.std.proofs.lemmas.Grind.{flat_map-append}
+use Rattle.std.proofs.lemmas.List.{take_more, take_all, get_or-map, length-map}
+use Rattle.std.proofs.lemmas.Slice.Zip.{length-zip, get_or-zip}
+
+-- the text of the first items and of the next one is that of one item more
+pub piece_more : {A : Type 0} (f : A → List ℕ) (xs : List A) (i : ℕ) (x d : A) (start now new : List ℕ) →
+    i < length xs → x ≡ get_or xs i d → now ≡ start ++ flat_map f (take i xs) → new ≡ now ++ f x →
+    new ≡ start ++ flat_map f (take (i + 1) xs)
+piece_more {A} f xs i x d start now new within is so_far written =
+    let grown : flat_map f (take (i + 1) xs) ≡ flat_map f (take i xs) ++ f x =
+    ap (flat_map f) (take_more xs i d within) ∙ flat_map-append f (take i xs) (get_or xs i d ∷ [])
+    ∙ ap (λ l. flat_map f (take i xs) ++ l) (append-nil (f (get_or xs i d)))
+    ∙ ap (λ (y : A). flat_map f (take i xs) ++ f y) (sym is) in
+    written ∙ ap (λ t. t ++ f x) so_far ∙ append_assoc start (flat_map f (take i xs)) (f x)
+    ∙ ap (λ t. start ++ t) (sym grown)
+
+-- as many pairs as items
+length-pairs : {A B C : Type 0} (v : A → B) (xs : List A) (ys : List C) → length xs ≡ length ys →
+    length (zip (map v xs) ys) ≡ length xs
+length-pairs v xs ys same = omega (arith, length-zip (map v xs) ys, length-map xs v, same)
+
+-- the same of pairs, whose first members are what `v` makes of items
+pub pair_more : {A B C : Type 0} (v : A → B) (f : B × C → List ℕ) (xs : List A) (ys : List C) (i : ℕ) (x : A) (y : C)
+    (start now new : List ℕ) → length xs ≡ length ys → i < length xs → x ≡ get_or xs i x → y ≡ get_or ys i y →
+    now ≡ start ++ flat_map f (take i (zip (map v xs) ys)) → new ≡ now ++ f (v x, y) →
+    new ≡ start ++ flat_map f (take (i + 1) (zip (map v xs) ys))
+pair_more {A} {B} {C} v f xs ys i x y start now new same within is also so_far written =
+    piece_more f (zip (map v xs) ys) i (v x, y) (v x, y) start now new
+    (omega (arith, length-pairs v xs ys same)) at so_far written
+  where
+    at : (v x, y) ≡ get_or (zip (map v xs) ys) i (v x, y)
+    at = ap (λ (a : B). (a, y)) (ap v is ∙ sym (get_or-map v xs i x (v x) within))
+        ∙ ap (λ (b : C). (get_or (map v xs) i (v x), b)) also
+        ∙ sym (get_or-zip (map v xs) ys i (v x, y) (omega (arith, length-map xs v)) (omega arith))
+
+-- the text of all pairs
+pub pairs_all : {A B C : Type 0} (v : A → B) (f : B × C → List ℕ) (xs : List A) (ys : List C) (i : ℕ)
+    (start now : List ℕ) → length xs ≡ length ys → length xs ≤ i →
+    now ≡ start ++ flat_map f (take i (zip (map v xs) ys)) → now ≡ start ++ flat_map f (zip (map v xs) ys)
+pairs_all {A} {B} {C} v f xs ys i start now same past so_far =
+    so_far ∙ ap (λ (ps : List (B × C)). start ++ flat_map f ps)
+    (take_all i (zip (map v xs) ys) (omega (arith, length-pairs v xs ys same)))
+
+-- four texts, one added after another
+pub four_added : {T E : Type 0} (result : Result T E) (start a b c d one two three four : List ℕ) → a ≡ start ++ one →
+    b ≡ a ++ two → c ≡ b ++ three → OnOk result (d ≡ c ++ four) →
+    OnOk result (d ≡ start ++ (one ++ two ++ three ++ four))
+four_added (Err e) start a b c d one two three four p q r s = tt
+four_added (Ok x) start a b c d one two three four p q r s =
+    let ab : b ≡ start ++ (one ++ two) = q ∙ ap (λ t. t ++ two) p ∙ append_assoc start one two in
+    let abc : c ≡ start ++ (one ++ two ++ three) =
+    r ∙ ap (λ t. t ++ three) ab ∙ append_assoc start (one ++ two) three in
+    s ∙ ap (λ t. t ++ four) abc ∙ append_assoc start (one ++ two ++ three) four

@@ -1,0 +1,19 @@
+use Rattle.std.proofs.Common.{◌∙◌, ◌++◌, List, ℕ, ap, string_bytes}
+use Rattle.entry_format.specs.declared.plain.EntryFault.{EntryFault}
+use Rattle.report_lines.specs.Lines.{refused_lines, end_line}
+use Rattle.auditor.specs.ReportText.{log_line, break_line}
+use Rattle.auditor.proofs.Pieces.{four_added}
+use Rattle.auditor.proofs.lines.add_log.Goals as goal
+
+pub returns : goal.returns
+returns c =
+    let file = c.args.file.now in
+    let log = c.args.log.now in
+    four_added c.add_break.result (string_bytes c.args.lines.now) (string_bytes c.add_log_line.new.lines)
+    (string_bytes c.add_refused.new.lines) (string_bytes c.add_end.new.lines) (string_bytes c.add_break.new.lines)
+    (log_line file log) (refused_lines file log.refused.items) (end_line file log.end) (break_line file log.broke)
+    c.in_ok-add_log_line.ensures
+    (c.in_ok-add_refused.ensures
+    ∙ ap (λ (refused : List (ℕ × EntryFault)). string_bytes c.add_log_line.new.lines ++ refused_lines file refused)
+    c.as_slice.ensures.value)
+    c.in_ok-add_end.ensures c.add_break.ensures

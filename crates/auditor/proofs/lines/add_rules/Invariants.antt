@@ -1,0 +1,12 @@
+use Rattle.std.proofs.Common.{◌≡◌, ◌++◌, string_bytes, map, take}
+use Rattle.std.specs.List.{flat_map, zip}
+use Rattle.rule_language.specs.Forms.{rule_tree}
+use Rattle.auditor.specs.ReportText.{rule_line}
+use Rattle.auditor.proofs.lines.add_rules.Given as goal
+
+-- the lines of the rules so far
+abbrev pub invariant-loop-i : goal.invariant-loop-i
+invariant-loop-i l =
+    string_bytes l.lines
+    ≡ string_bytes l.fn.lines
+    ++ flat_map (rule_line l.roster.machines l.graph.survivors) (take l.i (zip (map rule_tree l.rules) l.verdicts))

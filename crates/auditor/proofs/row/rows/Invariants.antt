@@ -1,0 +1,11 @@
+use Rattle.std.proofs.Common.{◌≡◌, ◌≤◌, ◌<◌, map, take, length}
+use Rattle.std.specs.Prelude.{vec_capacity}
+use Rattle.auditor.specs.Rows.{row_of}
+use Rattle.auditor.proofs.row.rows.Given as goal
+
+-- the rows of the survivors so far, and room for the rest
+abbrev pub invariant-loop-i : goal.invariant-loop-i
+invariant-loop-i l = record {
+  rows : l.rows.items ≡ map (row_of l.roster.machines) (take l.i l.graph.survivors);
+  room : l.count ≤ vec_capacity l.rows;
+}

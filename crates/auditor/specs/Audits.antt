@@ -1,0 +1,83 @@
+-- What files give an auditor: a report, or the first refusal.
+use Rattle.std.specs.Prelude.{◌≡◌, ◌⊎◌, ℕ, List, [], ◌∷◌, ◌++◌, map, codes, Option, Result, Ok, Err}
+use Rattle.hall_outside.specs.Files.{Files}
+use Rattle.roster.specs.declared.post.Post.{Post}
+use Rattle.log_files.specs.declared.sealed_log.LogRead.{LogRead}
+use Rattle.entry_format.specs.SealedEntry.{SealedEntry}
+use Rattle.entry_graph.specs.EntryGraph.{EntryGraph}
+use Rattle.precedence.specs.Graph.{Graph}
+use Rattle.rule_language.specs.declared.row.Row.{Row}
+use Rattle.rule_language.specs.Trees.{RuleTree}
+use Rattle.rule_language.specs.Standard.{standard_rules}
+use Rattle.rule_engine.specs.declared.verdict.Verdict.{Verdict}
+use Rattle.evidence.specs.declared.roster_file.RosterRead.{RosterRead}
+use Rattle.evidence.specs.Refusal.{Refusal, refused}
+use Rattle.evidence.specs.NamedFiles.{AreFiles}
+use Rattle.evidence.specs.RosterFile.{GivesRoster}
+use Rattle.evidence.specs.Logs.{GivesLogs}
+use Rattle.evidence.specs.Graphs.{entries_of, GivesGraph}
+use Rattle.auditor.specs.Rows.{row_of}
+use Rattle.auditor.specs.Judged.{nodes_of, AreJudged, IsFirstTooWide}
+use Rattle.auditor.specs.Report.{AuditReport, report_on}
+use Rattle.auditor.specs.Sources.{RuleSource, standard, in_file, source_word, rule_files, GivesRules}
+
+-- a step, and then the next one with what it found; the first refusal ends it
+abbrev pub AndThen : {A B : Type 0} → (Result A Refusal → Type 0) → (A → Result B Refusal → Type 0)
+    → Result B Refusal → Type 0
+AndThen {A} First Next answer =
+    ((found : A) × First (Ok found) × Next found answer)
+    ⊎ ((refusal : Refusal) × First (Err refusal) × (answer ≡ Err refusal))
+
+-- what rules give over survivors: a verdict for each, or the refusal of the first that is too wide
+abbrev pub GivesVerdicts : RuleSource → List Row → Graph → List RuleTree → Result (List Verdict) Refusal → Type 0
+GivesVerdicts source rows graph rules (Ok verdicts) = AreJudged rows graph rules verdicts
+GivesVerdicts source rows graph rules (Err refusal) =
+    (place : ℕ) × IsFirstTooWide rows rules place × (refusal ≡ refused (source_word source) place (codes "TooWide"))
+
+-- what a graph gives with the machines, the rules, and the logs that it is of: the verdicts, and so the report
+abbrev pub WithGraph : List Post → RuleSource → List RuleTree → List (List ℕ) → List LogRead → EntryGraph SealedEntry
+    → Result AuditReport Refusal → Type 0
+WithGraph machines source rules names logs graph =
+    AndThen (GivesVerdicts source (map (row_of machines) graph.survivors) (nodes_of graph) rules)
+    (λ verdicts answer. answer ≡ Ok (report_on machines names logs graph rules verdicts))
+
+-- what logs give with the machines and the rules: their graph, and what it gives
+abbrev pub WithLogs : List Post → RuleSource → List RuleTree → List (List ℕ) → List LogRead
+    → Result AuditReport Refusal → Type 0
+WithLogs machines source rules names logs =
+    AndThen (GivesGraph (entries_of logs)) (WithGraph machines source rules names logs)
+
+-- what the files of logs give with the roster and the rules: the logs, and what they give
+abbrev pub WithRules : RosterRead → RuleSource → List RuleTree → List (List ℕ) → List (Option (List ℕ))
+    → Result AuditReport Refusal → Type 0
+WithRules read source rules names files =
+    AndThen (GivesLogs read.roster.machines read.election names files)
+    (WithLogs read.roster.machines source rules names)
+
+-- what the file of the rules, if there is one, and those of the logs give with a roster
+abbrev pub WithRoster : RosterRead → RuleSource → List (List ℕ) → List (Option (List ℕ))
+    → Result AuditReport Refusal → Type 0
+WithRoster read standard names files = WithRules read standard standard_rules names files
+WithRoster read (in_file name) names (file ∷ files) =
+    AndThen (GivesRules name file) (λ rules. WithRules read (in_file name) rules names files)
+WithRoster read (in_file name) names [] = λ answer. ⊥
+
+-- the files that an audit reads, in order
+abbrev pub audit_files : List ℕ → RuleSource → List (List ℕ) → List (List ℕ)
+audit_files roster source logs = roster ∷ (rule_files source ++ logs)
+
+-- what they give
+abbrev pub GivesReport : List ℕ → RuleSource → List (List ℕ) → List (Option (List ℕ))
+    → Result AuditReport Refusal → Type 0
+GivesReport roster source logs (file ∷ files) =
+    AndThen (GivesRoster roster file) (λ read. WithRoster read source logs files)
+GivesReport roster source logs [] = λ answer. ⊥
+
+-- this holds of the named files: of those that are told, or of some where none are
+abbrev pub OnFiles : List (List ℕ) → (List (Option (List ℕ)) → Type 0) → Option Files → Type 0
+OnFiles names P told = (files : List (Option (List ℕ))) × AreFiles told names files × P files
+
+-- what the named files give an auditor
+abbrev pub GivesReportIn : List ℕ → RuleSource → List (List ℕ) → Option Files → Result AuditReport Refusal → Type 0
+GivesReportIn roster source logs told answer =
+    OnFiles (audit_files roster source logs) (λ files. GivesReport roster source logs files answer) told

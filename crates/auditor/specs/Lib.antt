@@ -1,0 +1,9 @@
+pub mod Rows
+pub mod Judged
+pub mod Report
+pub mod Outcomes
+pub mod ReportText
+pub mod Sources
+pub mod Audits
+pub mod Same
+pub mod inside

@@ -1,0 +1,251 @@
+//! Audits: from the names of files to the report on what they say.
+ghost use Rattle.std.specs.Prelude.{◌≡◌, ◌≢◌, ◌≤◌, ◌++◌, Err, IfErr, IfOk, IfSome, Ok, Some, length, map, string_bytes};
+ghost use Rattle.hall_outside.specs.Files.{OnSomeFile};
+ghost use Rattle.rule_language.specs.Forms.{rule_tree};
+ghost use Rattle.rule_language.specs.Kinds.{why_word};
+ghost use Rattle.evidence.specs.Graphs.{GivesGraph, entries_of};
+ghost use Rattle.evidence.specs.Reading.{IsReadFrom, store_seen};
+ghost use Rattle.evidence.specs.Refusal.{IsAbsent, refusal_of};
+ghost use Rattle.auditor.specs.Rows.{HaveMakers};
+ghost use Rattle.auditor.specs.Report.{report_of};
+ghost use Rattle.auditor.specs.Sources.{source_of, source_word, max_rules, GivesRules, rule_files};
+ghost use Rattle.auditor.specs.Audits.{OnFiles, WithGraph, WithLogs, WithRules, WithRoster, GivesReportIn};
+
+use crate::judging::{Unjudged, judge_all};
+use crate::report::Report;
+use crate::row::rows;
+use entry_graph::Graph;
+use evidence::{AuditFault, RosterRead, file_fault, graph_of, read_logs, read_roster};
+use hall_outside::{Store, read_file};
+use log_files::LogRead;
+use precedence::Rows;
+use roster::Roster;
+use rule_language::{Rule, RuleFault, RuleWhy, read, standard};
+use std::alloc::{AllocError, Global};
+
+/// Where the rules of an audit come from.
+#[derive(Clone, Copy, Debug)]
+pub enum RulesFrom<'a> {
+    /// The standard rules.
+    Standard,
+    /// The file with this name.
+    File(&'a str),
+}
+
+impl RulesFrom<'_> {
+    /// The word that names the rules in a refusal.
+    fn word(&self) -> &str
+        ensures { result.now ≡ source_word (source_of self.now) }
+    {
+        match self {
+            RulesFrom::Standard => "standard",
+            RulesFrom::File(name) => name,
+        }
+    }
+}
+
+/// The cause's word in refusals.
+fn word_of(why: RuleWhy) -> &'static str
+    ensures { result.now ≡ why_word why }
+{
+    match why {
+        RuleWhy::Token => "Token",
+        RuleWhy::Shape => "Shape",
+        RuleWhy::UnknownKind => "UnknownKind",
+        RuleWhy::SameName => "SameName",
+        RuleWhy::Unbound => "Unbound",
+        RuleWhy::WrongField => "WrongField",
+        RuleWhy::TooDeep => "TooDeep",
+    }
+}
+
+/// The most bytes of a file of rules.
+const MAX_RULES: usize = 4_194_304;
+
+/// The rules of these bytes of the named file.
+fn rules_of(alloc: Global, name: &str, bytes: &[u8]) -> Result<Vec<Rule>, AuditFault>
+    requires { length bytes.now ≤ max_rules }
+    ensures ok { IfOk result (λ rules.
+        GivesRules name.now (Some bytes.now) (Ok (map rule_tree rules.items))) }
+    ensures err { IfErr result (λ fault. IfSome (refusal_of fault)
+        (λ refusal. GivesRules name.now (Some bytes.now) (Err refusal))) }
+    ensures only { IfErr result (λ fault. (fault ≢ AuditFault.ReadFault) × (¬ IsAbsent fault)) }
+{
+    match read(alloc, bytes) {
+        Ok(rules) => Ok(rules),
+        Err(RuleFault::At { at, why }) => {
+            Err(AuditFault::refused(alloc, name, at as u64, word_of(why)))
+        }
+        Err(RuleFault::Memory) => Err(AuditFault::Memory),
+    }
+}
+
+/// Reads the rules in the named file, of at most 4,194,304 bytes.
+fn read_rules<S: Store>(alloc: Global, store: &mut S, name: &str) -> Result<Vec<Rule>, AuditFault>
+    ensures { IsReadFrom (λ rules. map rule_tree rules.items)
+        (λ told answer. OnSomeFile told name.now (λ file. GivesRules name.now file answer))
+        (store_seen (S.files store.old) (S.answered store.old) (S.read_faults store.old)
+        (S.write_faults store.old))
+        result
+        (store_seen (S.files store.new) (S.answered store.new) (S.read_faults store.new)
+        (S.write_faults store.new)) }
+{
+    match read_file(alloc, store, name, MAX_RULES) {
+        Ok(bytes) => rules_of(alloc, name, bytes.as_slice()),
+        Err(fault) => Err(file_fault(alloc, name, fault)),
+    }
+}
+
+/// The names, copied.
+fn copies(alloc: Global, names: &[String]) -> Result<Vec<String>, AllocError>
+    ensures { IfOk result (λ copies. map string_bytes copies.items ≡ map string_bytes names.now) }
+{
+    let mut copies = Vec::new(alloc);
+    for name in names {
+        copies.push(String::from_str(alloc, name.as_str())?)?;
+    }
+    Ok(copies)
+}
+
+/// The report on this graph, which is that of the entries that the logs keep.
+fn with_graph(
+    alloc: Global,
+    roster: Roster,
+    from: RulesFrom<'_>,
+    rules: Vec<Rule>,
+    files: Vec<String>,
+    logs: Vec<LogRead>,
+    graph: Graph,
+) -> Result<Report, AuditFault>
+    requires one_each { length files.items ≡ length logs.items }
+    requires makers { HaveMakers roster.machines graph.survivors }
+    requires graphed { GivesGraph (entries_of logs.items) (Ok graph) }
+    ensures ok { IfOk result (λ report. WithGraph roster.machines (source_of from.entry)
+        (map rule_tree rules.items) (map string_bytes files.items) logs.items graph
+        (Ok (report_of report))) }
+    ensures err { IfErr result (λ fault. IfSome (refusal_of fault) (λ refusal.
+        WithGraph roster.machines (source_of from.entry) (map rule_tree rules.items)
+        (map string_bytes files.items) logs.items graph (Err refusal))) }
+    ensures only { IfErr result (λ fault. (fault ≢ AuditFault.ReadFault) × (¬ IsAbsent fault)) }
+{
+    let seen = rows(alloc, &graph, &roster)?;
+    let order = Rows::make(alloc, &graph)?;
+    match judge_all(alloc, rules.as_slice(), seen.as_slice(), &order) {
+        Ok(verdicts) => Ok(Report::new(roster, files, logs, graph, rules, verdicts)),
+        Err(Unjudged::TooWide(place)) => {
+            Err(AuditFault::refused(alloc, from.word(), place as u64, "TooWide"))
+        }
+        Err(Unjudged::Memory) => Err(AuditFault::Memory),
+    }
+}
+
+/// The report on these logs, which have these names and were read under the roster.
+fn with_logs(
+    alloc: Global,
+    roster: Roster,
+    from: RulesFrom<'_>,
+    rules: Vec<Rule>,
+    names: &[String],
+    logs: Vec<LogRead>,
+) -> Result<Report, AuditFault>
+    requires one_each { length names.now ≡ length logs.items }
+    requires makers { HaveMakers roster.machines (entries_of logs.items) }
+    ensures ok { IfOk result (λ report. WithLogs roster.machines (source_of from.entry)
+        (map rule_tree rules.items) (map string_bytes names.now) logs.items
+        (Ok (report_of report))) }
+    ensures err { IfErr result (λ fault. IfSome (refusal_of fault) (λ refusal.
+        WithLogs roster.machines (source_of from.entry) (map rule_tree rules.items)
+        (map string_bytes names.now) logs.items (Err refusal))) }
+    ensures only { IfErr result (λ fault. (fault ≢ AuditFault.ReadFault) × (¬ IsAbsent fault)) }
+{
+    let files = copies(alloc, names)?;
+    match graph_of(alloc, logs.as_slice()) {
+        Ok(graph) => with_graph(alloc, roster, from, rules, files, logs, graph),
+        Err(fault) => Err(fault),
+    }
+}
+
+/// Reads the logs, and reports on them by the rules.
+fn with_rules<S: Store>(
+    alloc: Global,
+    store: &mut S,
+    read: RosterRead,
+    from: RulesFrom<'_>,
+    rules: Vec<Rule>,
+    names: &[String],
+) -> Result<Report, AuditFault>
+    ensures { IsReadFrom report_of
+        (λ told answer. OnFiles (map string_bytes names.now) (λ files. WithRules read (source_of from.entry)
+        (map rule_tree rules.items) (map string_bytes names.now) files answer) told)
+        (store_seen (S.files store.old) (S.answered store.old) (S.read_faults store.old)
+        (S.write_faults store.old))
+        result
+        (store_seen (S.files store.new) (S.answered store.new) (S.read_faults store.new)
+        (S.write_faults store.new)) }
+{
+    match read_logs(alloc, store, names, &read.roster, &read.election) {
+        Ok(logs) => with_logs(alloc, read.roster, from, rules, names, logs),
+        Err(fault) => Err(fault),
+    }
+}
+
+/// Reads the rules and then the logs.
+fn with_roster<S: Store>(
+    alloc: Global,
+    store: &mut S,
+    read: RosterRead,
+    from: RulesFrom<'_>,
+    names: &[String],
+) -> Result<Report, AuditFault>
+    ensures { IsReadFrom report_of
+        (λ told answer. OnFiles (rule_files (source_of from.entry) ++ map string_bytes names.now)
+        (λ files. WithRoster read (source_of from.entry) (map string_bytes names.now) files answer) told)
+        (store_seen (S.files store.old) (S.answered store.old) (S.read_faults store.old)
+        (S.write_faults store.old))
+        result
+        (store_seen (S.files store.new) (S.answered store.new) (S.read_faults store.new)
+        (S.write_faults store.new)) }
+{
+    match from {
+        RulesFrom::Standard => match standard(alloc) {
+            Ok(rules) => with_rules(alloc, store, read, from, rules, names),
+            Err(_) => Err(AuditFault::Memory),
+        },
+        RulesFrom::File(name) => match read_rules(alloc, store, name) {
+            Ok(rules) => with_rules(alloc, store, read, from, rules, names),
+            Err(fault) => Err(fault),
+        },
+    }
+}
+
+/// Reads the roster, the rules and the logs, in this order, makes the graph of the entries that the
+/// logs keep, and judges the rules over it. The first refusal ends it, and no file behind it is
+/// read. No file changes.
+///
+/// # Errors
+///
+/// `Absent` with the name of a file that isn't there, where the store said so. `Refused` with the
+/// file, the place and the cause: `TooLong` of a roster or rules over 4,194,304 bytes and of a log
+/// over 67,108,864; the fault of a roster or of rules; `Header` of a log; of the file `entries` what
+/// the graph is refused for; and `TooWide`, with the place of the rule from 0 and the name of the
+/// rules' file, or `standard`. `ReadFault` where a read failed, or `Memory`.
+pub fn audit<S: Store>(
+    alloc: Global,
+    store: &mut S,
+    roster: &str,
+    rules: RulesFrom<'_>,
+    logs: &[String],
+) -> Result<Report, AuditFault>
+    ensures { IsReadFrom report_of
+        (GivesReportIn roster.now (source_of rules.entry) (map string_bytes logs.now))
+        (store_seen (S.files store.old) (S.answered store.old) (S.read_faults store.old)
+        (S.write_faults store.old))
+        result
+        (store_seen (S.files store.new) (S.answered store.new) (S.read_faults store.new)
+        (S.write_faults store.new)) }
+{
+    match read_roster(alloc, store, roster) {
+        Ok(read) => with_roster(alloc, store, read, rules, logs),
+        Err(fault) => Err(fault),
+    }
+}

@@ -1,0 +1,18 @@
+//! The auditor: what the logs that survive say of a polling place, with a verdict on each rule
+//! (Querifier, SADFE 2008).
+#![tactic(auto)]
+
+mod auditing;
+mod judging;
+mod laws;
+mod lines;
+mod outcome;
+mod report;
+mod row;
+
+pub use auditing::{RulesFrom, audit};
+pub use evidence::AuditFault;
+pub use laws::files_give_one_report;
+pub use outcome::Outcome;
+pub use report::{Report, write_report};
+pub use row::rows;
