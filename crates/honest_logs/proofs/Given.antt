@@ -1,0 +1,224 @@
+-- What is given by what is left of an honest world's logs.
+use Rattle.std.proofs.Common.{◌≡◌, ◌≢◌, ◌∙◌, ℕ, zero, suc, ◌<◌, inl, inr, Bool, true, false, List, [], ◌∷◌}
+use Rattle.std.proofs.Common.{length, map, take, Ok, Err, refl, ap, sym, subst, ◌≤◌, arith}
+use Rattle.std.specs.Prelude.{◌↔◌, if◌then◌else◌}
+use Rattle.std.specs.List.{Contains}
+use Rattle.std.proofs.lemmas.List.Elements.{All-contains, Contains-append_left, Contains-append_right}
+use Rattle.entry_order.specs.declared.event.Event.{Event}
+use Rattle.entry_order.specs.declared.event.Event.TheVariants.{Sent, Got}
+use Rattle.entry_order.specs.declared.three.Three.{Three}
+use Rattle.entry_order.specs.declared.three.Three.TheVariants.{False, Unknown, True}
+use Rattle.entry_order.specs.Ancestors.{before}
+use Rattle.entry_order.specs.HeldBefore.{HeldBefore}
+use Rattle.entry_order.specs.History.{entry_of}
+use Rattle.entry_order.specs.Honest.{AgreesWith}
+use Rattle.entry_order.specs.Naming.{Distinct}
+use Rattle.entry_order.specs.Receipt.{IsOrderly}
+use Rattle.entry_order.specs.Survivors.{IsStray, survivors}
+use Rattle.entry_order.specs.World.{World, history, sent_in}
+use Rattle.entry_order.proofs.Honest.{honest_entries_agree_in_orderly_worlds}
+use Rattle.entry_order.proofs.Lists.{Contains-none, Contains-at, Contains-head, Contains-cons_cases}
+use Rattle.entry_order.proofs.Lists.{Contains-later, Contains-map, Contains-map_cases, Contains-flat_map}
+use Rattle.entry_order.proofs.Lists.{Contains-flat_map_cases}
+use Rattle.entry_order.proofs.Orders.{sent_in_from, sent_in_cases, member_split}
+use Rattle.entry_order.proofs.Machines.{in_world}
+use Rattle.entry_order.proofs.Strays.{survivors_are_no_strays}
+use Rattle.entry_graph.specs.declared.fault.GraphFault.{GraphFault}
+use Rattle.entry_graph.specs.declared.fault.GraphFault.TheVariants.{Collision, TooMany, Memory}
+use Rattle.entry_graph.specs.Answers.{IsGraphAnswer}
+use Rattle.entry_graph.specs.EntryGraph.{EntryGraph, IsGraphOfGiven, parents_of, ragged_of}
+use Rattle.entry_graph.specs.Given.{distinct, HasNoCollision}
+use Rattle.entry_graph.proofs.DistinctFacts.{distinct_given, distinct_bears}
+use Rattle.roster.specs.declared.post.Post.{Post}
+use Rattle.entry_format.specs.Nodes.{node_of_sealed}
+use Rattle.entry_format.specs.SealedEntry.{SealedEntry}
+use Rattle.entry_format.specs.Unsealing.{Unseals}
+use Rattle.entry_format.proofs.Unsealings.{one_unsealing}
+use Rattle.polling_world.specs.Making.{election_of}
+use Rattle.log_files.specs.declared.sealed_log.Kept.{Kept}
+use Rattle.log_files.specs.declared.sealed_log.LogRead.{LogRead}
+use Rattle.log_files.specs.SealedLog.{event_of}
+use Rattle.evidence.specs.Graphs.{entries_of}
+use Rattle.honest_logs.specs.Agreement.{HaveAll, IsAllGiven, IsAllTold, IsHonestGraph, IsHonestlyGiven}
+use Rattle.honest_logs.specs.HonestWorld.{IsHonestWorld}
+use Rattle.honest_logs.proofs.Few.{few_distinct}
+use Rattle.honest_logs.specs.WhatIsLeft.{IsPrefixRead, IsReadIn, AreReadIn}
+
+-- the entry of a record's event is the record's
+entry_is : (sent : Bool) (e : SealedEntry) → entry_of (if sent then Sent e else Got e) ≡ e
+entry_is true e = refl
+entry_is false e = refl
+
+-- a list without a member is empty
+none_inside : {X : Type 0} (xs : List X) → ((x : X) → Contains xs x → ⊥) → xs ≡ []
+none_inside [] none = refl
+none_inside (x ∷ xs) none = absurd (none x (Contains-head x xs))
+
+-- what is never unknown is told exactly
+told_exactly : (told : Three) (P : Type 0) → (told ≡ True → P) → (told ≡ False → ¬ P) → told ≢ Unknown →
+    ((told ≡ True) ↔ P) × ((told ≡ False) ↔ (¬ P))
+told_exactly True P held free known = ((held, λ p. refl), (free, λ none. absurd (none (held refl))))
+told_exactly False P held free known = ((held, λ p. absurd (free refl p)), (free, λ none. refl))
+told_exactly Unknown P held free known = absurd (known refl)
+
+-- what is among the first is among all
+Contains-take : {X : Type 0} (xs : List X) (k : ℕ) (x : X) → Contains (take k xs) x → Contains xs x
+Contains-take [] zero x c = c
+Contains-take [] (suc k) x c = c
+Contains-take (y ∷ xs) zero x c = absurd (Contains-none x c)
+Contains-take (y ∷ xs) (suc k) x c =
+    elim (Contains-cons_cases y (take k xs) x c) [
+      | inl is ↦ Contains-at y xs x is
+      | inr later ↦ Contains-later y xs x (Contains-take xs k x later)
+    ]
+
+module _ (w : World SealedEntry) (orderly : IsOrderly node_of_sealed w) where
+  -- what a machine sent or got was sent
+  pub event_was_sent : (m : ℕ) (x : Event SealedEntry) → Contains (history w m) x → Contains (sent_in w) (entry_of x)
+  event_was_sent m (Sent e) c = sent_in_from w m e c
+  event_was_sent m (Got e) c = orderly.heard m e c
+
+  -- so the entry of each record that is read of a log was sent
+  record_was_sent : (m : ℕ) (bytes : List ℕ) (log : LogRead) → IsPrefixRead m (history w m) bytes log → (kept : Kept) →
+      Contains log.kept.items kept → Contains (sent_in w) kept.entry
+  record_was_sent m bytes log read kept c =
+      let there : Contains (take read.count (history w m)) (event_of kept) =
+      subst (λ (h : List (Event SealedEntry)). Contains h (event_of kept)) read.kept
+      (Contains-map event_of log.kept.items kept c) in
+      subst (λ (e : SealedEntry). Contains (sent_in w) e) (entry_is kept.sent kept.entry)
+      (event_was_sent m (event_of kept) (Contains-take (history w m) read.count (event_of kept) there))
+
+  were_sent : (logs : List LogRead) → AreReadIn w logs → (e : SealedEntry) → Contains (entries_of logs) e →
+      Contains (sent_in w) e
+  were_sent logs all e c =
+      let (log, there, inside) =
+      Contains-flat_map_cases (λ (log : LogRead). map (λ (kept : Kept). kept.entry) log.kept.items) logs e c in
+      let (kept, member, same) = Contains-map_cases (λ (kept : Kept). kept.entry) log.kept.items e inside in
+      let is = All-contains (IsReadIn w) logs log all there in
+      subst (λ (f : SealedEntry). Contains (sent_in w) f) same
+      (record_was_sent is.machine is.bytes log is.read kept member)
+
+  module _ (apart : Distinct node_of_sealed (sent_in w)) (given : List SealedEntry)
+      (sent : (e : SealedEntry) → Contains given e → Contains (sent_in w) e) where
+    no_collision : HasNoCollision node_of_sealed (λ e. e.text) given
+    no_collision e f ce cf same = ap (λ (g : SealedEntry). g.text) (apart e f (sent e ce) (sent f cf) same)
+
+    distinct_sent : (e : SealedEntry) → Contains (distinct node_of_sealed given) e → Contains (sent_in w) e
+    distinct_sent e c = sent e (distinct_given node_of_sealed given e c)
+
+    -- each given entry is one of the distinct ones
+    is_distinct : (e : SealedEntry) → Contains given e → Contains (distinct node_of_sealed given) e
+    is_distinct e c =
+        let (g, there, same) = distinct_bears node_of_sealed given e c in
+        subst (λ (f : SealedEntry). Contains (distinct node_of_sealed given) f)
+        (apart g e (distinct_sent g there) (sent e c) same) there
+
+    -- all of them survive
+    all_survive : survivors node_of_sealed (distinct node_of_sealed given) ≡ distinct node_of_sealed given
+    all_survive =
+        (honest_entries_agree_in_orderly_worlds node_of_sealed w orderly apart (distinct node_of_sealed given)
+        distinct_sent).survive
+
+    no_stray : (e : SealedEntry) → Contains (distinct node_of_sealed given) e →
+        IsStray node_of_sealed (distinct node_of_sealed given) e → ⊥
+    no_stray e c =
+        ((survivors_are_no_strays node_of_sealed (distinct node_of_sealed given) e).0
+        (subst (λ (es : List SealedEntry). Contains es e) (sym all_survive) c)).1
+
+    module _ (graph : EntryGraph SealedEntry)
+        (is : IsGraphOfGiven node_of_sealed (distinct node_of_sealed given) graph) where
+      members : (e : SealedEntry) → Contains graph.survivors e ↔ Contains given e
+      members e = (
+        λ c. distinct_given node_of_sealed given e
+            (subst (λ (es : List SealedEntry). Contains es e) all_survive ((is.members e).0 c)),
+        λ c. (is.members e).1
+            (subst (λ (es : List SealedEntry). Contains es e) (sym all_survive) (is_distinct e c)),
+      )
+
+      agrees : AgreesWith node_of_sealed (length w) w graph.survivors
+      agrees =
+          honest_entries_agree_in_orderly_worlds node_of_sealed w orderly apart graph.survivors
+          (λ e c. sent e ((members e).0 c))
+
+      -- where all that was sent is given, all is told
+      all_told : IsAllGiven w given → IsAllTold w graph
+      all_told all =
+          let known = agrees.all_known (λ e c. (members e).1 (all e c)) in
+          let arrows = is.kept.linked.arrows in
+          record {
+            no_gap = is.kept.gaps ∙ known.no_gaps;
+            order = λ y x f e at there.
+                let order = agrees.order (parents_of graph.links) (ragged_of graph.links) arrows y x f e at there in
+                told_exactly (before (parents_of graph.links) (ragged_of graph.links) y x) (HeldBefore w f e) order.0
+                order.1
+                (known.no_unknown (parents_of graph.links) (ragged_of graph.links) arrows y x f e at there);
+          }
+
+      honest_graph : IsHonestGraph w given graph
+      honest_graph =
+          record {
+            no_stray = none_inside graph.strays (λ d c.
+                let (e, there, stray, same) = (is.strays.members d).0 c in no_stray e there stray);
+            no_fork = none_inside graph.forks (λ p c.
+                let (e, f, ce, cf, differ, me, ne, mf, nf) = (is.kept.forks.members p.0 p.1).0 c in
+                differ (agrees.no_fork e f ce cf (me ∙ sym mf) (ne ∙ sym nf)));
+            members = members;
+            agrees = agrees;
+            all_told = all_told;
+          }
+
+    -- they are few and don't collide
+    module _ (few : length (sent_in w) ≤ 4096) where
+      not_refused : (fault : GraphFault SealedEntry) →
+          IsGraphAnswer node_of_sealed (λ e. e.text) given (Err fault) → fault ≡ Memory
+      not_refused (Collision e f) (earlier, later, is, before, there, same, differ) =
+          let inside : Contains given f = subst (λ (es : List SealedEntry). Contains es f) (sym is)
+          (Contains-append_right earlier (f ∷ later) f (Contains-head f later)) in
+          let first : Contains given e = subst (λ (es : List SealedEntry). Contains es e) (sym is)
+          (Contains-append_left earlier (f ∷ later) e there) in
+          absurd (differ (no_collision e f first inside same))
+      not_refused TooMany (none, many) =
+          absurd (omega (arith, many, few, few_distinct node_of_sealed given (sent_in w) distinct_sent))
+      not_refused Memory is = refl
+
+      honestly_given : IsHonestlyGiven w given
+      honestly_given = record {
+        were_sent = sent;
+        no_collision = no_collision;
+        not_refused = not_refused;
+        graph = honest_graph;
+      }
+
+-- what is read of the logs of an honest world, or of what is left of them, is honestly given
+pub left_agrees : (posts : List Post) (w : World SealedEntry) → IsHonestWorld posts w →
+    Distinct node_of_sealed (sent_in w) → (logs : List LogRead) → AreReadIn w logs →
+    IsHonestlyGiven w (entries_of logs)
+left_agrees posts w honest apart logs read =
+    honestly_given w honest.orderly apart (entries_of logs) (were_sent w honest.orderly logs read) honest.few_sent
+
+-- where all logs are there, whole, all entries are given
+pub all_given : (w : World SealedEntry) (logs : List LogRead) → HaveAll w logs → IsAllGiven w (entries_of logs)
+all_given w logs all e c =
+    let (m, there) = sent_in_cases w e c in
+    let (log, member, read) = all m (in_some_world m there) in
+    let same : map event_of log.kept.items ≡ history w m = read.kept in
+    let (kept, inside, is) = Contains-map_cases event_of log.kept.items (Sent e)
+    (subst (λ (h : List (Event SealedEntry)). Contains h (Sent e)) (sym same) there) in
+    let entry : kept.entry ≡ e = sym (entry_is kept.sent kept.entry) ∙ ap entry_of is in
+    Contains-flat_map (λ (l : LogRead). map (λ (k : Kept). k.entry) l.kept.items) logs log e member
+    (subst (λ (f : SealedEntry). Contains (map (λ (k : Kept). k.entry) log.kept.items) f) entry
+    (Contains-map (λ (k : Kept). k.entry) log.kept.items kept inside))
+  where
+    in_some_world : (m : ℕ) → Contains (history w m) (Sent e) → m < length w
+    in_some_world m there =
+        let (before, later, is) = member_split (history w m) (Sent e) there in in_world w m before (Sent e) later is
+
+-- entries of one text are one, so where nothing that was sent collides, different entries have different digests
+pub shows_distinct : (posts : List Post) (w : World SealedEntry) → IsHonestWorld posts w → (given : List SealedEntry) →
+    IsAllGiven w given → HasNoCollision node_of_sealed (λ e. e.text) given → Distinct node_of_sealed (sent_in w)
+shows_distinct posts w honest given all none e f ce cf same =
+    let text : f.text ≡ e.text = sym (none e f (all e ce) (all f cf) same) in
+    let one : Ok e ≡ Ok f =
+    one_unsealing posts (election_of posts) e.text (Ok e) (Ok f) (honest.valid e ce)
+    (subst (λ (t : List ℕ). Unseals posts (election_of posts) t (Ok f)) text (honest.valid f cf)) in
+    cc

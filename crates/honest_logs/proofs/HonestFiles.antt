@@ -1,0 +1,66 @@
+-- What the files that are left of the logs of a script's world give, under the roster and the election that were read.
+use Rattle.std.proofs.Common.{ℕ, List, Option, subst}
+use Rattle.std.specs.Prelude.{Result, Ok, Err}
+use Rattle.roster.specs.declared.post.Post.{Post}
+use Rattle.entry_format.specs.Nodes.{node_of_sealed}
+use Rattle.entry_format.specs.SealedEntry.{SealedEntry}
+use Rattle.entry_graph.specs.EntryGraph.{EntryGraph}
+use Rattle.entry_order.specs.Naming.{Distinct}
+use Rattle.entry_order.specs.World.{World, sent_in}
+use Rattle.log_files.specs.declared.sealed_log.LogRead.{LogRead}
+use Rattle.polling_world.specs.Making.{election_of}
+use Rattle.evidence.specs.Graphs.{GivesGraph, entries_of}
+use Rattle.evidence.specs.Logs.{GivesLogs}
+use Rattle.evidence.specs.Refusal.{Refusal}
+use Rattle.honest_logs.specs.HonestReading.{IsHonestlyRead}
+use Rattle.honest_logs.specs.HonestWorld.{IsHonestWorld}
+use Rattle.honest_logs.specs.LeftFiles.{AreAllFilesOf, AreFilesOf, IsOverLimit}
+use Rattle.honest_logs.specs.OfScript.{IsOfScript}
+use Rattle.honest_logs.proofs.HonestGraphs.{graph_is_given, graph_is_honest, graph_shows_distinct, of_script_election}
+use Rattle.honest_logs.proofs.HonestGraphs.{of_script_is_honest}
+use Rattle.honest_logs.proofs.LeftFileFacts.{each_is_read, files_are_over, files_are_read, files_have_all}
+
+module _ (machines : List Post) (election : List ℕ) (w : World SealedEntry) (is : IsOfScript machines election w) where
+  honest : IsHonestWorld machines w
+  honest = of_script_is_honest machines election w is
+
+  -- what is given in the election that was read is given in the roster's
+  in_its : (names : List (List ℕ)) (files : List (Option (List ℕ))) (answer : Result (List LogRead) Refusal) →
+      GivesLogs machines election names files answer → GivesLogs machines (election_of machines) names files answer
+  in_its names files answer gives =
+      subst (λ (e : List ℕ). GivesLogs machines e names files answer) (of_script_election machines election w is) gives
+
+  pub script_read : Distinct node_of_sealed (sent_in w) → (names : List (List ℕ)) (files : List (Option (List ℕ))) →
+      AreFilesOf w files → (logs : List LogRead) → GivesLogs machines election names files (Ok logs) →
+      (graph : EntryGraph SealedEntry) → GivesGraph (entries_of logs) (Ok graph) →
+      IsHonestlyRead machines election w names files logs graph
+  script_read apart names files left logs gives graph made =
+      let here = in_its names files (Ok logs) gives in
+      record {
+        gives_logs = gives;
+        gives_graph = made;
+        each = each_is_read machines w honest names files left logs here;
+        all = λ whole. files_have_all machines w honest names files whole logs here;
+        honest = graph_is_honest machines w honest apart logs
+            (files_are_read machines w honest names files left logs here) graph made;
+      }
+
+  pub script_over : (names : List (List ℕ)) (files : List (Option (List ℕ))) → AreFilesOf w files →
+      (refusal : Refusal) → GivesLogs machines election names files (Err refusal) → IsOverLimit names files refusal
+  script_over names files left refusal gives =
+      files_are_over machines w honest names files left refusal (in_its names files (Err refusal) gives)
+
+  pub script_not_refused : Distinct node_of_sealed (sent_in w) → (names : List (List ℕ))
+      (files : List (Option (List ℕ))) → AreFilesOf w files → (logs : List LogRead) →
+      GivesLogs machines election names files (Ok logs) → (refusal : Refusal) →
+      ¬ GivesGraph (entries_of logs) (Err refusal)
+  script_not_refused apart names files left logs gives =
+      graph_is_given machines w honest apart logs
+      (files_are_read machines w honest names files left logs (in_its names files (Ok logs) gives))
+
+  pub script_distinct : (names : List (List ℕ)) (files : List (Option (List ℕ))) → AreAllFilesOf w files →
+      (logs : List LogRead) → GivesLogs machines election names files (Ok logs) → (graph : EntryGraph SealedEntry) →
+      GivesGraph (entries_of logs) (Ok graph) → Distinct node_of_sealed (sent_in w)
+  script_distinct names files whole logs gives =
+      graph_shows_distinct machines w honest logs
+      (files_have_all machines w honest names files whole logs (in_its names files (Ok logs) gives))

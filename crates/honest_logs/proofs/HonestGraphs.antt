@@ -1,0 +1,82 @@
+-- The graph of what is read of an honest world's logs, and the worlds of a script whose roster was read.
+use Rattle.std.proofs.Common.{◌≡◌, ◌∙◌, ℕ, inl, inr, List, Option, Some, None, refl, ap, sym, subst}
+use Rattle.std.specs.Prelude.{Result, Ok, Err}
+use Rattle.sha2.specs.Sha256.{sha256}
+use Rattle.canonical_sexp.specs.Text.{text_of}
+use Rattle.roster.specs.declared.post.Post.{Post}
+use Rattle.roster.specs.declared.faults.RosterFault.{RosterFault}
+use Rattle.roster.specs.declared.rosters.Roster.{Roster}
+use Rattle.roster.specs.Reading.{Reads}
+use Rattle.roster.specs.RosterText.{roster_tree}
+use Rattle.entry_format.specs.Nodes.{node_of_sealed}
+use Rattle.entry_format.specs.SealedEntry.{SealedEntry}
+use Rattle.entry_graph.specs.declared.fault.GraphFault.TheVariants.{Memory}
+use Rattle.entry_graph.specs.EntryGraph.{EntryGraph}
+use Rattle.entry_order.specs.Naming.{Distinct}
+use Rattle.entry_order.specs.World.{World, sent_in}
+use Rattle.log_files.specs.declared.sealed_log.LogRead.{LogRead}
+use Rattle.polling_world.specs.Making.{election_of}
+use Rattle.evidence.specs.declared.roster_file.RosterRead.{RosterRead}
+use Rattle.evidence.specs.Graphs.{GivesGraph, entries_of, graph_refusal}
+use Rattle.evidence.specs.Refusal.{Refusal}
+use Rattle.evidence.specs.RosterFile.{GivesRoster, roster_read}
+use Rattle.honest_logs.specs.Agreement.{HaveAll, IsHonestGraph}
+use Rattle.honest_logs.specs.HonestWorld.{IsHonestWorld}
+use Rattle.honest_logs.specs.OfScript.{IsOfScript}
+use Rattle.honest_logs.specs.WhatIsLeft.{AreReadIn}
+use Rattle.honest_logs.proofs.Given.{all_given, left_agrees, shows_distinct}
+use Rattle.honest_logs.proofs.Scripts.{scripts_are_honest}
+
+pub graph_is_honest : (posts : List Post) (w : World SealedEntry) → IsHonestWorld posts w →
+    Distinct node_of_sealed (sent_in w) → (logs : List LogRead) → AreReadIn w logs →
+    (graph : EntryGraph SealedEntry) → GivesGraph (entries_of logs) (Ok graph) → IsHonestGraph w (entries_of logs) graph
+graph_is_honest posts w honest apart logs read graph gives =
+    (left_agrees posts w honest apart logs read).graph graph gives.2
+
+pub graph_is_given : (posts : List Post) (w : World SealedEntry) → IsHonestWorld posts w →
+    Distinct node_of_sealed (sent_in w) → (logs : List LogRead) → AreReadIn w logs →
+    (refusal : Refusal) → ¬ GivesGraph (entries_of logs) (Err refusal)
+graph_is_given posts w honest apart logs read refusal (fault, is, told) =
+    let memory : fault ≡ Memory = (left_agrees posts w honest apart logs read).not_refused fault is in
+    let none : None ≡ Some refusal = sym (ap graph_refusal memory) ∙ told in
+    absurd cc
+
+pub graph_shows_distinct : (posts : List Post) (w : World SealedEntry) → IsHonestWorld posts w →
+    (logs : List LogRead) → HaveAll w logs → (graph : EntryGraph SealedEntry) →
+    GivesGraph (entries_of logs) (Ok graph) → Distinct node_of_sealed (sent_in w)
+graph_shows_distinct posts w honest logs all graph gives =
+    shows_distinct posts w honest (entries_of logs) (all_given w logs all) gives.0
+
+pub of_script_is_honest : (machines : List Post) (election : List ℕ) (w : World SealedEntry) →
+    IsOfScript machines election w → IsHonestWorld machines w
+of_script_is_honest machines election w is =
+    subst (λ (posts : List Post). IsHonestWorld posts w) (sym is.roster)
+    (scripts_are_honest is.script is.lawful is.steps w is.comes)
+
+-- the election is that of the text
+text_election : (machines : List Post) (text election : List ℕ) → text ≡ text_of (roster_tree machines) →
+    election ≡ sha256 text → election ≡ election_of machines
+unfolding election_of
+text_election machines text election spelt is = is ∙ ap sha256 spelt
+
+pub of_script_election : (machines : List Post) (election : List ℕ) (w : World SealedEntry) →
+    IsOfScript machines election w → election ≡ election_of machines
+of_script_election machines election w is =
+    text_election machines (text_of (roster_tree machines)) election refl is.in_election
+
+-- a reading that is told is that of its roster
+read_election : (name bytes : List ℕ) (reading : Result Roster RosterFault) (read : RosterRead) → Reads bytes reading →
+    Ok read ≡ roster_read name bytes reading → read.election ≡ election_of read.roster.machines
+read_election name bytes (Ok roster) read reads told =
+    let same : read ≡ record { roster = roster; election = sha256 bytes } = cc in
+    let is : sha256 bytes ≡ election_of roster.machines =
+    text_election roster.machines bytes (sha256 bytes) reads.0.spelt refl in
+    subst (λ (r : RosterRead). r.election ≡ election_of r.roster.machines) (sym same) is
+read_election name bytes (Err fault) read reads told = cc
+
+pub roster_election : (name : List ℕ) (file : Option (List ℕ)) (read : RosterRead) → GivesRoster name file (Ok read) →
+    read.election ≡ election_of read.roster.machines
+roster_election name None read gives = cc
+roster_election name (Some bytes) read (inl (long, told)) = cc
+roster_election name (Some bytes) read (inr (short, (reading, reads, told))) =
+    read_election name bytes reading read reads told

@@ -1,0 +1,15 @@
+pub mod Records
+pub mod Cuts
+pub mod ReadLogs
+pub mod OneReading
+pub mod Few
+pub mod Given
+pub mod LeftInWorlds
+pub mod Stamps
+pub mod MadeValid
+pub mod Scripts
+pub mod LeftFileFacts
+pub mod HonestGraphs
+pub mod HonestFiles
+pub mod RosterTexts
+pub mod PlayedFiles

@@ -1,0 +1,99 @@
+-- The entries that a script's machines make are valid under its roster.
+use Rattle.std.proofs.Common.{◌≡◌, ℕ, ◌^◌, ◌<◌, ◌≤◌, List, ◌++◌, length, refl, arith}
+use Rattle.std.specs.Prelude.{codes}
+use Rattle.std.proofs.lemmas.List.{length-take-le}
+use Rattle.std.proofs.lemmas.Option.{slice_get_within}
+use Rattle.sha2.specs.Sha256.{sha256}
+use Rattle.sha2.proofs.Facts256.{length-sha256}
+use Rattle.canonical_sexp.specs.Text.{text_of}
+use Rattle.entry_order.specs.Ascending.{IsAscending}
+use Rattle.lms_sign.specs.Height.{IsHeight}
+use Rattle.lms_sign.specs.Secret.{public_of, signed_by}
+use Rattle.lms_sign.specs.Signs.{Signs}
+use Rattle.lms_sign.proofs.Signatures.{index-signed, signed_signs}
+use Rattle.roster.specs.declared.post.Post.{Post}
+use Rattle.entry_format.specs.declared.deed.Deed.{Deed}
+use Rattle.entry_format.specs.declared.deed.Deed.TheVariants.{Opened, Authorise, Override, Closed, Activate, Commit}
+use Rattle.entry_format.specs.declared.deed.Deed.TheVariants.{Cast, Cancel, Challenge}
+use Rattle.entry_format.specs.EntryText.{body_tree, IsDeed, IsEntry}
+use Rattle.entry_format.specs.Sealing.{IsSealed}
+use Rattle.entry_format.specs.Unsealing.{key_at, IsValid}
+use Rattle.entry_format.proofs.Keys.{signature_small, signature_some}
+use Rattle.entry_format.proofs.Limits.{signed_fits}
+use Rattle.election_script.specs.declared.script.Cast0.{Cast0}
+use Rattle.election_script.specs.Lawful.{IsDeedAmong}
+use Rattle.polling_world.specs.Configs.{Config}
+use Rattle.polling_world.specs.Keys.{machine_id}
+use Rattle.polling_world.specs.Making.{election_of, entry_with, made}
+
+-- a script's deed can be written
+pub deed_lawful : (machines : List Cast0) (deed : Deed) → length machines ≤ 16 → IsDeedAmong machines deed → IsDeed deed
+deed_lawful machines Opened few is = tt
+deed_lawful machines (Authorise booth session) few ((cast, at, role), is) =
+    (omega (arith, few, slice_get_within machines booth cast at), omega (arith, is.1))
+deed_lawful machines (Override session how) few is = omega (arith, is.1)
+deed_lawful machines Closed few is = tt
+deed_lawful machines (Activate session) few is = omega (arith, is.1)
+deed_lawful machines (Commit session ballot) few is = (omega (arith, is.0.1), is.1)
+deed_lawful machines (Cast session ballot) few is = (omega (arith, is.0.1), is.1)
+deed_lawful machines (Cancel session) few is = omega (arith, is.1)
+deed_lawful machines (Challenge session ballot) few is = (omega (arith, is.0.1), is.1)
+
+-- the lengths of digests and of identifiers
+pub length-election : (posts : List Post) → length (election_of posts) ≡ 32
+unfolding election_of
+length-election posts = length-sha256 _
+
+pub length-id : (seed name : List ℕ) → length (machine_id seed name) ≡ 16
+unfolding machine_id
+length-id seed name =
+    let hash = sha256 (codes "auditorium id" ++ seed ++ name) in
+    length-take-le 16 hash (omega (arith, length-sha256 (codes "auditorium id" ++ seed ++ name)))
+
+module _ (config : Config) (k stamp : ℕ) (names : List (List ℕ)) (deed : Deed) where
+  pub length-digest : length (made config k stamp names deed).digest ≡ 32
+  unfolding made
+  length-digest = length-sha256 _
+
+  -- what is made of a lawful entry is sealed
+  made_sealed : IsEntry (entry_with config k stamp names deed) → length names ≤ 16384 → IsAscending names →
+      IsHeight config.key.height → length config.key.id ≡ 16 → k < 2 ^ config.key.height →
+      IsSealed (made config k stamp names deed)
+  unfolding made
+  made_sealed lawful few rises height id unspent =
+      let entry = entry_with config k stamp names deed in
+      let message : List ℕ = text_of (body_tree entry) in
+      let public : List ℕ = public_of config.key in
+      let signature : List ℕ = signed_by (record config.key { next = k }) message in
+      let signs : Signs public message signature =
+      signed_signs config.key.kind config.key.height config.key.id config.key.seed k message height id unspent in
+      record {
+        spelt = record {
+          lawful = lawful;
+          within = signed_fits entry signature lawful few
+              (omega (arith, signature_small public message signature signs));
+          spelt = refl;
+        };
+        rising = rises;
+        hashed = refl;
+        index = (
+          signature_some public message signature signs,
+          index-signed config.key.kind config.key.height config.key.id config.key.seed k message lawful.number,
+        );
+        signs = signs;
+      }
+
+  -- and valid, where the maker has its key in the roster
+  pub made_valid : IsEntry (entry_with config k stamp names deed) → length names ≤ 16384 → IsAscending names →
+      IsHeight config.key.height → length config.key.id ≡ 16 → k < 2 ^ config.key.height →
+      config.number < length config.roster → public_of config.key ≡ key_at config.roster config.number →
+      IsValid config.roster (election_of config.roster) (made config k stamp names deed).text
+      (made config k stamp names deed)
+  unfolding made
+  made_valid lawful few rises height id unspent there key = record {
+    kept = made_sealed lawful few rises height id unspent;
+    of_text = refl;
+    of_election = refl;
+    maker = there;
+    key = key;
+  }

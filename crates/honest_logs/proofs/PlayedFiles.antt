@@ -1,0 +1,67 @@
+-- The logs of machines that have played are all logs of their world.
+use Rattle.std.proofs.Common.{◌≡◌, ◌∙◌, ℕ, zero, suc, inl, inr, List, [], ◌∷◌, Option, Some, None}
+use Rattle.std.proofs.Common.{refl, ap, sym, subst, arith}
+use Rattle.std.specs.Prelude.{slice_get, All, option_map}
+use Rattle.std.specs.List.{Contains}
+use Rattle.std.proofs.lemmas.List.{length-map}
+use Rattle.std.proofs.lemmas.List.Elements.{All-nil, All-cons}
+use Rattle.std.proofs.lemmas.Option.{slice_get_cases, slice_get_within, slice_get-map}
+use Rattle.entry_order.specs.declared.event.Event.{Event}
+use Rattle.entry_order.specs.World.{history}
+use Rattle.entry_order.proofs.Lists.{Contains-map}
+use Rattle.entry_format.specs.SealedEntry.{SealedEntry}
+use Rattle.log_files.specs.Written.{log_text}
+use Rattle.election_script.specs.declared.script.Script.{Script}
+use Rattle.polling_world.specs.Machines.{MachineState}
+use Rattle.polling_world.specs.Playing.{AreOf}
+use Rattle.polling_world.specs.Worlds.{machine_of, world_of}
+use Rattle.polling_world.proofs.Placing.{history_there}
+use Rattle.honest_logs.specs.LeftFiles.{AreAllFilesOf, AreFilesOf, written_logs}
+use Rattle.honest_logs.proofs.LeftFileFacts.{IsFileOf}
+use Rattle.honest_logs.proofs.ReadLogs.{there_is, whole_is_left}
+
+-- what holds at each place holds of all
+All-each : {X : Type 0} (P : X → Type 0) (xs : List X) → ((i : ℕ) (x : X) → slice_get xs i ≡ Some x → P x) → All P xs
+All-each P [] each = All-nil P
+All-each P (x ∷ xs) each = All-cons P x xs (each zero x refl) (All-each P xs (λ i y at. each (suc i) y at))
+
+abbrev file_of : MachineState → Option (List ℕ)
+file_of m = Some (log_text m.config.number m.events)
+
+module _ (script : Script) (machines : List MachineState) (are : AreOf script machines) where
+  -- the log of the machine at a place is that of the world's there
+  file_at : (place : ℕ) (m : MachineState) → slice_get machines place ≡ Some m →
+      file_of m ≡ Some (log_text place (history (world_of machines) place))
+  file_at place m at =
+      ap (λ (n : ℕ). Some (log_text n m.events)) (are.number place m at)
+      ∙ ap (λ (h : List (Event SealedEntry)). Some (log_text place h)) (sym (history_there machines place m at))
+
+  left_at : (place : ℕ) (m : MachineState) → slice_get machines place ≡ Some m → IsFileOf (world_of machines) (file_of m)
+  left_at place m at =
+      subst (IsFileOf (world_of machines)) (sym (file_at place m at))
+      (record {
+        machine = place;
+        there = (let within = slice_get_within machines place m at in
+            omega (arith, within, length-map machines machine_of));
+        left = whole_is_left place (history (world_of machines) place);
+      })
+
+  left_from : (place : ℕ) (file : Option (List ℕ)) (found : Option MachineState) → slice_get machines place ≡ found →
+      option_map file_of found ≡ Some file → IsFileOf (world_of machines) file
+  left_from place file None at is = cc
+  left_from place file (Some m) at is =
+      let same : file_of m ≡ file = cc in subst (IsFileOf (world_of machines)) same (left_at place m at)
+
+  pub written_are_left : AreFilesOf (world_of machines) (written_logs machines)
+  written_are_left =
+      All-each (IsFileOf (world_of machines)) (written_logs machines) (λ place file at.
+      left_from place file (slice_get machines place) refl (sym (slice_get-map file_of machines place) ∙ at))
+
+  pub written_are_all : AreAllFilesOf (world_of machines) (written_logs machines)
+  written_are_all place below =
+      elim (slice_get_cases machines place).1 [
+        | inl (m, within, at, same) ↦
+            subst (λ (file : Option (List ℕ)). Contains (written_logs machines) file) (file_at place m at)
+            (Contains-map file_of machines m (there_is machines place m at))
+        | inr past ↦ absurd (omega (arith, below, past.0, length-map machines machine_of))
+      ]

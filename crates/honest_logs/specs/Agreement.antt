@@ -1,0 +1,55 @@
+-- What an auditor is told of what is left of an honest place.
+use Rattle.std.specs.Prelude.{◌≡◌, ◌↔◌, ℕ, ◌<◌, List, [], length, slice_get, Some, Err}
+use Rattle.std.specs.List.{Contains}
+use Rattle.entry_format.specs.Nodes.{node_of_sealed}
+use Rattle.entry_format.specs.SealedEntry.{SealedEntry}
+use Rattle.entry_order.specs.declared.three.Three.TheVariants.{False, True}
+use Rattle.entry_order.specs.Ancestors.{before}
+use Rattle.entry_order.specs.HeldBefore.{HeldBefore}
+use Rattle.entry_order.specs.Honest.{AgreesWith}
+use Rattle.entry_order.specs.World.{World, history, sent_in}
+use Rattle.entry_graph.specs.declared.fault.GraphFault.{GraphFault}
+use Rattle.entry_graph.specs.declared.fault.GraphFault.TheVariants.{Memory}
+use Rattle.entry_graph.specs.Answers.{IsGraphAnswer}
+use Rattle.entry_graph.specs.EntryGraph.{EntryGraph, IsGraphOfGiven, parents_of, ragged_of}
+use Rattle.entry_graph.specs.Given.{distinct, HasNoCollision}
+use Rattle.log_files.specs.declared.sealed_log.LogRead.{LogRead}
+use Rattle.honest_logs.specs.WhatIsLeft.{IsWholeRead}
+
+-- each log of w is among them, whole
+abbrev pub HaveAll : World SealedEntry → List LogRead → Type 0
+HaveAll w logs =
+    (m : ℕ) → m < length w → (log : LogRead) × Contains logs log × IsWholeRead m (history w m) log
+
+-- every entry that was sent in w is given
+abbrev pub IsAllGiven : World SealedEntry → List SealedEntry → Type 0
+IsAllGiven w given = (e : SealedEntry) → Contains (sent_in w) e → Contains given e
+
+-- nothing is unknown in the graph: it has no gap, and of any two survivors the one is told to be before the other
+-- exactly where it was held before it in w, and not to be exactly where it wasn't
+pub record IsAllTold (w : World SealedEntry) (graph : EntryGraph SealedEntry) : Type 0 where
+  pub no_gap : graph.gaps ≡ []
+  pub order : (y x : ℕ) (f e : SealedEntry) →
+      slice_get graph.survivors y ≡ Some f → slice_get graph.survivors x ≡ Some e →
+      ((before (parents_of graph.links) (ragged_of graph.links) y x ≡ True) ↔ HeldBefore w f e)
+      × ((before (parents_of graph.links) (ragged_of graph.links) y x ≡ False) ↔ (¬ (HeldBefore w f e)))
+
+-- The graph of what is given accuses nobody: it has no stray and no fork, its survivors are the entries given, and they
+-- agree with w. Where all that was sent is given, all is told.
+pub record IsHonestGraph (w : World SealedEntry) (given : List SealedEntry) (graph : EntryGraph SealedEntry)
+    : Type 0 where
+  pub no_stray : graph.strays ≡ []
+  pub no_fork : graph.forks ≡ []
+  pub members : (e : SealedEntry) → Contains graph.survivors e ↔ Contains given e
+  pub agrees : AgreesWith node_of_sealed (length w) w graph.survivors
+  pub all_told : IsAllGiven w given → IsAllTold w graph
+
+-- each of the entries given was sent in w, no two of them collide, and their graph is an honest one, which isn't
+-- refused unless memory is wanting
+pub record IsHonestlyGiven (w : World SealedEntry) (given : List SealedEntry) : Type 0 where
+  pub were_sent : (e : SealedEntry) → Contains given e → Contains (sent_in w) e
+  pub no_collision : HasNoCollision node_of_sealed (λ e. e.text) given
+  pub not_refused : (fault : GraphFault SealedEntry) →
+      IsGraphAnswer node_of_sealed (λ e. e.text) given (Err fault) → fault ≡ Memory
+  pub graph : (graph : EntryGraph SealedEntry) →
+      IsGraphOfGiven node_of_sealed (distinct node_of_sealed given) graph → IsHonestGraph w given graph
