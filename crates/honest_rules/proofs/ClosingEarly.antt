@@ -1,0 +1,123 @@
+-- The supervisor closes though a session is left.
+use Rattle.std.proofs.Common.{◌≡◌, ℕ, zero, suc, List, [], ◌∷◌, inl, inr, refl, arith}
+use Rattle.entry_format.specs.declared.deed.Deed.{Deed}
+use Rattle.entry_format.specs.declared.deed.Deed.TheVariants as deed
+use Rattle.entry_format.specs.Deeds.{IsDeedOf}
+use Rattle.entry_format.specs.Nodes.{node_of_sealed}
+use Rattle.entry_format.specs.SealedEntry.{SealedEntry}
+use Rattle.entry_order.specs.declared.event.Event.{Event}
+use Rattle.entry_order.specs.declared.step.Step.{Step}
+use Rattle.entry_order.specs.declared.step.Step.TheVariants.{Act}
+use Rattle.entry_order.specs.Precedes.{Precedes}
+use Rattle.entry_order.specs.World.{World, history, sent_in}
+use Rattle.roster.specs.declared.post.Post.{Post}
+use Rattle.roster.specs.declared.post.Role.TheVariants.{Supervisor, Booth}
+use Rattle.supervisor_core.specs.declared.state.SupervisorNot.TheVariants.{SessionsLeft}
+use Rattle.polling_world.specs.declared.left.LeftWhy.TheVariants.{SupervisorNot}
+use Rattle.rule_language.specs.declared.kind.Kind.TheVariants as kind
+use Rattle.rule_language.specs.Standard.{p3}
+use Rattle.rule_engine.specs.Meaning.{Holds}
+use Rattle.rule_engine.specs.Tests.{is_kind}
+use Rattle.auditor.specs.Rows.{row_of, kind_of}
+use Rattle.honest_rules.specs.Honest.{role_at}
+use Rattle.honest_rules.specs.InSpite.{MayInSpiteOf, IsHonestBut, FailsAtSome}
+use Rattle.honest_rules.proofs.NotHeld.{none_such, not_opened, not_closed_own, not_used, not_busy, not_ended}
+use Rattle.honest_rules.proofs.SmallPlaces.{EachSent, each_sent, machine, made, place, place_orderly, place_distinct}
+
+abbrev posts : List Post
+posts = machine Supervisor ∷ machine Booth ∷ []
+
+abbrev deeds : List (List Deed)
+deeds = (deed.Opened ∷ deed.Authorise 1 7 ∷ deed.Closed ∷ []) ∷ [] ∷ []
+
+abbrev steps : List Step
+steps = Act 0 ∷ Act 0 ∷ Act 0 ∷ []
+
+abbrev w : World SealedEntry
+w = place deeds steps
+
+-- what is sent
+abbrev opened : SealedEntry
+opened = made deeds 0 0 1 []
+
+abbrev authorised : SealedEntry
+authorised = made deeds 0 1 2 (opened.digest ∷ [])
+
+abbrev closed : SealedEntry
+closed = made deeds 0 2 3 (authorised.digest ∷ [])
+
+all_sent : sent_in w ≡ opened ∷ authorised ∷ closed ∷ []
+all_sent = refl
+
+-- each is allowed, and against the closing the cause stands
+abbrev May : ℕ → List (Event SealedEntry) → SealedEntry → Type 0
+May m past e =
+    IsDeedOf (role_at posts m) e.entry.deed
+    × MayInSpiteOf (SupervisorNot SessionsLeft) (role_at posts m) m past e.entry.deed
+
+allowed : (m : ℕ) → EachSent (May m) [] (history w m)
+allowed zero =
+    let one = opened.entry ∷ [] in
+    let two = opened.entry ∷ authorised.entry ∷ [] in (
+      (tt, inl (inr (not_opened 0 [] refl, refl))),
+      (
+        (
+          tt,
+          inl (inr (
+            λ unopened. unopened (0, opened.entry, omega arith, refl, (refl, refl)),
+            inr (
+              not_closed_own 0 one refl,
+              inr (not_used 7 0 one refl, inr (not_busy 1 0 one refl, refl)),
+            ),
+          )),
+        ),
+        (
+          (
+            tt,
+            inr (inr (
+              λ unopened. unopened (0, opened.entry, omega arith, refl, (refl, refl)),
+              inr (
+                not_closed_own 0 two refl,
+                inl (
+                  (1, (7, ((1, authorised.entry, omega arith, refl, (refl, refl)), not_ended 7 two refl))),
+                  refl,
+                ),
+              ),
+            )),
+          ),
+          tt,
+        ),
+      ),
+    )
+allowed (suc zero) = tt
+allowed (suc (suc m)) = tt
+
+-- the authorising precedes the closing
+before : Precedes node_of_sealed (sent_in w) authorised closed
+before = ((1, omega arith, refl), (2, omega arith, refl), [], (0, omega arith, refl))
+
+-- and no end of the session does
+fails : ¬ (Holds node_of_sealed (row_of posts) (sent_in w) (sent_in w) p3)
+fails holds =
+    elim (holds authorised (1, omega arith, refl) refl closed (2, omega arith, refl) refl before) [
+      | inl cast ↦ none_such (λ e. is_kind kind.Cast (kind_of e.entry.deed)) (sent_in w) refl cast.0 cast.2.0 cast.1
+      | inr (inl cancel) ↦
+          none_such (λ e. is_kind kind.Cancel (kind_of e.entry.deed)) (sent_in w) refl cancel.0 cancel.2.0 cancel.1
+      | inr (inr (inl challenge)) ↦
+          none_such (λ e. is_kind kind.Challenge (kind_of e.entry.deed)) (sent_in w) refl challenge.0 challenge.2.0
+          challenge.1
+      | inr (inr (inr none)) ↦ none
+    ]
+
+pub closing_over_sessions_fails : FailsAtSome (IsHonestBut (SupervisorNot SessionsLeft)) p3
+closing_over_sessions_fails = (
+  posts,
+  w,
+  record {
+    supervisor = refl;
+    orderly = place_orderly deeds steps;
+    allowed = λ m. each_sent (May m) (history w m) (allowed m);
+  },
+  place_distinct deeds steps,
+  fails,
+)

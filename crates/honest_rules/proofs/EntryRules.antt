@@ -1,0 +1,139 @@
+-- The rules of every entry: each role its deeds, no fork, and a chain.
+use Rattle.std.proofs.Common.{◌≡◌, ℕ, zero, suc, ◌+◌, ◌<◌, true, List, ◌∷◌, ◌++◌, length, get_or, ◌⊎◌}
+use Rattle.std.proofs.Common.{inl, inr, refl, sym, ap, ◌∙◌, subst, arith, append_assoc}
+use Rattle.std.specs.Prelude.{[], IsTrue, ◌==◌, ◌&&◌}
+use Rattle.std.specs.List.{Contains}
+use Rattle.std.proofs.lemmas.Bool.{eqb-true, eq-eqb, and_from}
+use Rattle.std.proofs.lemmas.Option.{slice_get-get_or}
+use Rattle.std.proofs.lemmas.List.Elements.{Contains-append_right}
+use Rattle.entry_format.specs.declared.deed.Deed.{Deed}
+use Rattle.entry_format.specs.declared.deed.Deed.TheVariants as deed
+use Rattle.entry_format.specs.declared.deed.How.TheVariants as how
+use Rattle.entry_format.specs.Deeds.{IsDeedOf}
+use Rattle.entry_format.specs.Nodes.{node_of_sealed}
+use Rattle.entry_format.specs.SealedEntry.{SealedEntry}
+use Rattle.entry_order.specs.declared.event.Event.{Event}
+use Rattle.entry_order.specs.declared.event.Event.TheVariants.{Sent}
+use Rattle.entry_order.specs.Naming.{Distinct}
+use Rattle.entry_order.specs.History.{held, sent, entry_of}
+use Rattle.entry_order.specs.Precedes.{Precedes}
+use Rattle.entry_order.specs.World.{World, history, sent_in}
+use Rattle.entry_order.proofs.Histories.{nth_split}
+use Rattle.entry_order.proofs.Honest.{no_fork}
+use Rattle.entry_order.proofs.Lists.{Contains-head, Contains-map}
+use Rattle.entry_order.proofs.Orders.{next_of}
+use Rattle.roster.specs.declared.post.Post.{Post}
+use Rattle.roster.specs.declared.post.Role.{Role}
+use Rattle.roster.specs.declared.post.Role.TheVariants.{Supervisor, Booth}
+use Rattle.rule_language.specs.declared.kind.Kind.TheVariants as kind
+use Rattle.rule_language.specs.Trees.{Trees}
+use Rattle.rule_language.specs.Standard.{m1, k1, k2}
+use Rattle.rule_engine.specs.Meaning.{Holds, SomeHolds}
+use Rattle.rule_engine.specs.Tests.{is_kind, is_role}
+use Rattle.auditor.specs.Rows.{row_of, kind_of}
+use Rattle.honest_rules.specs.Honest.{IsHonest, role_at}
+use Rattle.honest_rules.specs.Kept.{WereSentIn}
+use Rattle.honest_rules.proofs.Pasts.{SentBy, sent_by, next_by, may, held_precedes}
+
+-- ---- each role its deeds
+
+-- the deed is of one of the supervisor's kinds, or of one of a booth's
+abbrev IsSupervisorKind : Deed → Type 0
+IsSupervisorKind d =
+    SomeHolds (IsTrue (is_kind kind.Opened (kind_of d)) ∷ IsTrue (is_kind kind.Authorise (kind_of d))
+    ∷ IsTrue (is_kind kind.Override (kind_of d)) ∷ IsTrue (is_kind kind.Forced (kind_of d))
+    ∷ IsTrue (is_kind kind.Closed (kind_of d)) ∷ [])
+
+abbrev IsBoothKind : Deed → Type 0
+IsBoothKind d =
+    SomeHolds (IsTrue (is_kind kind.Activate (kind_of d)) ∷ IsTrue (is_kind kind.Commit (kind_of d))
+    ∷ IsTrue (is_kind kind.Cast (kind_of d)) ∷ IsTrue (is_kind kind.Cancel (kind_of d))
+    ∷ IsTrue (is_kind kind.Challenge (kind_of d)) ∷ [])
+
+supervisor_kind : (d : Deed) → IsDeedOf Supervisor d → IsSupervisorKind d
+supervisor_kind deed.Opened of = inl refl
+supervisor_kind (deed.Authorise booth session) of = inr (inl refl)
+supervisor_kind (deed.Override session how.Cancel) of = inr (inr (inl refl))
+supervisor_kind (deed.Override session how.Cast) of = inr (inr (inr (inl refl)))
+supervisor_kind deed.Closed of = inr (inr (inr (inr (inl refl))))
+supervisor_kind (deed.Activate session) of = absurd of
+supervisor_kind (deed.Commit session ballot) of = absurd of
+supervisor_kind (deed.Cast session ballot) of = absurd of
+supervisor_kind (deed.Cancel session) of = absurd of
+supervisor_kind (deed.Challenge session ballot) of = absurd of
+
+booth_kind : (d : Deed) → IsDeedOf Booth d → IsBoothKind d
+booth_kind deed.Opened of = absurd of
+booth_kind (deed.Authorise booth session) of = absurd of
+booth_kind (deed.Override session how) of = absurd of
+booth_kind deed.Closed of = absurd of
+booth_kind (deed.Activate session) of = inl refl
+booth_kind (deed.Commit session ballot) of = inr (inl refl)
+booth_kind (deed.Cast session ballot) of = inr (inr (inl refl))
+booth_kind (deed.Cancel session) of = inr (inr (inr (inl refl)))
+booth_kind (deed.Challenge session ballot) of = inr (inr (inr (inr (inl refl))))
+
+-- a deed of the role is of one of the role's kinds
+kind_by_role : (role : Role) (d : Deed) → IsDeedOf role d →
+    (IsTrue (is_role Supervisor role) × (IsSupervisorKind d × Unit {0}))
+    ⊎ ((IsTrue (is_role Booth role) × (IsBoothKind d × Unit {0})) ⊎ ⊥)
+kind_by_role Supervisor d of = inl (refl, (supervisor_kind d of, tt))
+kind_by_role Booth d of = inr (inl (refl, (booth_kind d of, tt)))
+
+module _ {posts : List Post} {w : World SealedEntry} (honest : IsHonest posts w)
+    (distinct : Distinct node_of_sealed (sent_in w)) (S : List SealedEntry) (were_sent : WereSentIn w S) where
+  abbrev Rule : Trees → Type 0
+  Rule rule = Holds node_of_sealed (row_of posts) S (sent_in w) rule
+
+  -- each entry is a deed of its maker's role
+  pub rule_m1 : Rule m1
+  rule_m1 e ce ke =
+      let s = sent_by honest e (were_sent e ce) in
+      kind_by_role (role_at posts e.entry.maker) e.entry.deed (may honest e s).of_role
+
+  -- ---- no fork
+
+  -- two entries of one maker with one number are one
+  pub rule_k1 : Rule k1
+  rule_k1 e ce ke f cf kf same =
+      no_fork node_of_sealed w honest.orderly e f (were_sent e ce) (were_sent f cf)
+      (eqb-true e.entry.maker f.entry.maker same.0) (eqb-true e.entry.number f.entry.number same.1.0)
+
+  -- ---- a chain
+
+  -- the entry that its maker sent just before
+  sent_before : (e : SealedEntry) (s : SentBy w e) (n : ℕ) → e.entry.number ≡ suc n →
+      (f : SealedEntry) × Contains (held s.past) f × (f.entry.maker ≡ e.entry.maker) × (f.entry.number ≡ n)
+  sent_before e s n is =
+      let within : n < length (sent s.past) = let next = (next_by honest e s).number in omega (arith, next, is) in
+      let f : SealedEntry = get_or (sent s.past) n e in
+      let r = nth_split s.past n f (slice_get-get_or (sent s.past) n e within) in
+      let here : history w e.entry.maker ≡ r.0 ++ Sent f ∷ (r.1 ++ Sent e ∷ s.later) =
+      s.is ∙ ap (λ (p : List (Event SealedEntry)). p ++ Sent e ∷ s.later) r.2
+      ∙ append_assoc r.0 (Sent f ∷ r.1) (Sent e ∷ s.later) in
+      let next = next_of node_of_sealed w honest.orderly r.0 f (e.entry.maker, r.1 ++ Sent e ∷ s.later, here) in
+      let c : Contains s.past (Sent f) =
+      subst (λ (p : List (Event SealedEntry)). Contains p (Sent f)) (sym r.2)
+      (Contains-append_right r.0 (Sent f ∷ r.1) (Sent f) (Contains-head (Sent f) r.1)) in
+      (f, Contains-map entry_of s.past (Sent f) c, next.maker, next.number ∙ r.3)
+
+  -- each entry but the first comes after the one before
+  pub rule_k2 : Rule k2
+  rule_k2 e ce ke = by e.entry.number refl
+    where
+      by : (n : ℕ) → e.entry.number ≡ n →
+          IsTrue (e.entry.number == 0)
+          ⊎ (((f : SealedEntry) × (true ≡ true) × Precedes node_of_sealed (sent_in w) f e
+          × IsTrue ((f.entry.maker == e.entry.maker) && (f.entry.number + 1 == e.entry.number))) ⊎ ⊥)
+      by zero is = inl (eq-eqb e.entry.number 0 is)
+      by (suc n) is =
+          let s = sent_by honest e (were_sent e ce) in
+          let f = sent_before e s n is in
+          inr (inl (
+            f.0,
+            refl,
+            held_precedes honest distinct e s f.0 (were_sent e ce) f.1,
+            and_from (f.0.entry.maker == e.entry.maker) (f.0.entry.number + 1 == e.entry.number)
+                (eq-eqb f.0.entry.maker e.entry.maker f.2)
+                (eq-eqb (f.0.entry.number + 1) e.entry.number (omega (arith, f.3, is))),
+          ))

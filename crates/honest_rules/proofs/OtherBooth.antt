@@ -1,0 +1,103 @@
+-- A booth acts in a session that another booth is authorised for.
+use Rattle.std.proofs.Common.{◌≡◌, ℕ, zero, suc, Bool, List, [], ◌∷◌, inl, inr, refl, arith}
+use Rattle.std.specs.Prelude.{◌&&◌, ◌==◌}
+use Rattle.std.proofs.lemmas.Bool.{and_from}
+use Rattle.entry_format.specs.declared.deed.Deed.{Deed}
+use Rattle.entry_format.specs.declared.deed.Deed.TheVariants as deed
+use Rattle.entry_format.specs.Deeds.{IsDeedOf}
+use Rattle.entry_format.specs.Nodes.{node_of_sealed}
+use Rattle.entry_format.specs.SealedEntry.{SealedEntry}
+use Rattle.entry_order.specs.declared.event.Event.{Event}
+use Rattle.entry_order.specs.declared.step.Step.{Step}
+use Rattle.entry_order.specs.declared.step.Step.TheVariants.{Act, Hear}
+use Rattle.entry_order.specs.World.{World, history, sent_in}
+use Rattle.roster.specs.declared.post.Post.{Post}
+use Rattle.roster.specs.declared.post.Role.TheVariants.{Supervisor, Booth}
+use Rattle.booth_core.specs.declared.state.BoothNot.TheVariants.{NotAuthorised}
+use Rattle.polling_world.specs.declared.left.LeftWhy.TheVariants.{BoothNot}
+use Rattle.rule_language.specs.declared.kind.Kind.TheVariants as kind
+use Rattle.rule_language.specs.Standard.{a1}
+use Rattle.rule_engine.specs.Meaning.{Holds}
+use Rattle.rule_engine.specs.Tests.{is_kind}
+use Rattle.auditor.specs.Rows.{row_of, kind_of, booth_of}
+use Rattle.honest_rules.specs.Honest.{role_at}
+use Rattle.honest_rules.specs.InSpite.{MayInSpiteOf, IsHonestBut, FailsAtSome}
+use Rattle.honest_rules.proofs.NotHeld.{none_such, not_opened, not_closed_own, not_used, not_busy, not_named}
+use Rattle.honest_rules.proofs.SmallPlaces.{EachSent, each_sent, machine, made, place, place_orderly, place_distinct}
+
+abbrev posts : List Post
+posts = machine Supervisor ∷ machine Booth ∷ machine Booth ∷ []
+
+-- the first booth is authorised, and the second activates
+abbrev deeds : List (List Deed)
+deeds = (deed.Opened ∷ deed.Authorise 1 7 ∷ []) ∷ [] ∷ (deed.Activate 7 ∷ []) ∷ []
+
+abbrev steps : List Step
+steps = Act 0 ∷ Act 0 ∷ Hear 2 0 0 ∷ Hear 2 0 1 ∷ Act 2 ∷ []
+
+abbrev w : World SealedEntry
+w = place deeds steps
+
+-- what is sent
+abbrev opened : SealedEntry
+opened = made deeds 0 0 1 []
+
+abbrev authorised : SealedEntry
+authorised = made deeds 0 1 2 (opened.digest ∷ [])
+
+abbrev activated : SealedEntry
+activated = made deeds 2 0 3 (authorised.digest ∷ [])
+
+all_sent : sent_in w ≡ opened ∷ authorised ∷ activated ∷ []
+all_sent = refl
+
+-- each is allowed, and against the activation the cause stands
+abbrev May : ℕ → List (Event SealedEntry) → SealedEntry → Type 0
+May m past e =
+    IsDeedOf (role_at posts m) e.entry.deed
+    × MayInSpiteOf (BoothNot NotAuthorised) (role_at posts m) m past e.entry.deed
+
+allowed : (m : ℕ) → EachSent (May m) [] (history w m)
+allowed zero =
+    let one = opened.entry ∷ [] in (
+      (tt, inl (inr (not_opened 0 [] refl, refl))),
+      (
+        (
+          tt,
+          inl (inr (
+            λ unopened. unopened (0, opened.entry, omega arith, refl, (refl, refl)),
+            inr (
+              not_closed_own 0 one refl,
+              inr (not_used 7 0 one refl, inr (not_busy 1 0 one refl, refl)),
+            ),
+          )),
+        ),
+        tt,
+      ),
+    )
+allowed (suc zero) = tt
+allowed (suc (suc zero)) =
+    ((tt, inr (inl (not_named 2 7 (opened.entry ∷ authorised.entry ∷ []) refl, refl))), tt)
+allowed (suc (suc (suc m))) = tt
+
+-- no authorising names the booth that activates
+fails : ¬ (Holds node_of_sealed (row_of posts) (sent_in w) (sent_in w) a1)
+fails holds =
+    let (f, authorises, before, (_, (names, _))) = holds activated (2, omega arith, refl) refl in
+    let test : SealedEntry → Bool =
+    λ e. is_kind kind.Authorise (kind_of e.entry.deed) && (booth_of e.entry.deed == 2) in
+    none_such test (sent_in w) refl f before.0
+    (and_from (is_kind kind.Authorise (kind_of f.entry.deed)) (booth_of f.entry.deed == 2) authorises names)
+
+pub taking_another_booths_session_fails : FailsAtSome (IsHonestBut (BoothNot NotAuthorised)) a1
+taking_another_booths_session_fails = (
+  posts,
+  w,
+  record {
+    supervisor = refl;
+    orderly = place_orderly deeds steps;
+    allowed = λ m. each_sent (May m) (history w m) (allowed m);
+  },
+  place_distinct deeds steps,
+  fails,
+)

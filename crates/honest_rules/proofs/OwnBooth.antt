@@ -1,0 +1,104 @@
+-- A rule that compares the booth of the wrong entry.
+use Rattle.std.proofs.Common.{◌≡◌, ℕ, zero, suc, List, [], ◌∷◌, inr, refl, arith}
+use Rattle.entry_format.specs.declared.deed.Deed.{Deed}
+use Rattle.entry_format.specs.declared.deed.Deed.TheVariants as deed
+use Rattle.entry_format.specs.Nodes.{node_of_sealed}
+use Rattle.entry_format.specs.SealedEntry.{SealedEntry}
+use Rattle.entry_order.specs.declared.event.Event.{Event}
+use Rattle.entry_order.specs.declared.step.Step.{Step}
+use Rattle.entry_order.specs.declared.step.Step.TheVariants.{Act, Hear}
+use Rattle.entry_order.specs.World.{World, history, sent_in}
+use Rattle.roster.specs.declared.post.Post.{Post}
+use Rattle.roster.specs.declared.post.Role.TheVariants.{Supervisor, Booth}
+use Rattle.rule_engine.specs.Meaning.{Holds}
+use Rattle.auditor.specs.Rows.{row_of}
+use Rattle.honest_rules.specs.Honest.{IsHonest, MayAs, role_at}
+use Rattle.honest_rules.specs.InSpite.{FailsAtSome, own_booth}
+use Rattle.honest_rules.proofs.NotHeld.{not_opened, not_closed_own, not_used, not_busy}
+use Rattle.honest_rules.proofs.NotHeld.{not_ended_own, not_activated, not_overridden, not_closed}
+use Rattle.honest_rules.proofs.SmallPlaces.{EachSent, each_sent, machine, made, place, place_orderly, place_distinct}
+
+abbrev posts : List Post
+posts = machine Supervisor ∷ machine Booth ∷ []
+
+-- a booth is authorised and activates
+abbrev deeds : List (List Deed)
+deeds = (deed.Opened ∷ deed.Authorise 1 7 ∷ []) ∷ (deed.Activate 7 ∷ []) ∷ []
+
+abbrev steps : List Step
+steps = Act 0 ∷ Act 0 ∷ Hear 1 0 0 ∷ Hear 1 0 1 ∷ Act 1 ∷ []
+
+abbrev w : World SealedEntry
+w = place deeds steps
+
+-- what is sent
+abbrev opened : SealedEntry
+opened = made deeds 0 0 1 []
+
+abbrev authorised : SealedEntry
+authorised = made deeds 0 1 2 (opened.digest ∷ [])
+
+abbrev activated : SealedEntry
+activated = made deeds 1 0 3 (authorised.digest ∷ [])
+
+all_sent : sent_in w ≡ opened ∷ authorised ∷ activated ∷ []
+all_sent = refl
+
+-- each is allowed
+abbrev May : ℕ → List (Event SealedEntry) → SealedEntry → Type 0
+May m past e = MayAs (role_at posts m) m past e
+
+allowed : (m : ℕ) → EachSent (May m) [] (history w m)
+allowed zero =
+    let one = opened.entry ∷ [] in (
+      record { of_role = tt; no_cause = inr (not_opened 0 [] refl, refl) },
+      (
+        record {
+          of_role = tt;
+          no_cause = inr (
+            λ unopened. unopened (0, opened.entry, omega arith, refl, (refl, refl)),
+            inr (
+              not_closed_own 0 one refl,
+              inr (not_used 7 0 one refl, inr (not_busy 1 0 one refl, refl)),
+            ),
+          );
+        },
+        tt,
+      ),
+    )
+allowed (suc zero) =
+    let two = opened.entry ∷ authorised.entry ∷ [] in (
+      record {
+        of_role = tt;
+        no_cause = inr (
+          λ unnamed. unnamed (1, authorised.entry, omega arith, refl, refl),
+          inr (
+            not_ended_own 7 1 two refl,
+            inr (
+              not_activated 7 1 two refl,
+              inr (not_overridden 7 two refl, inr (not_closed two refl, refl)),
+            ),
+          ),
+        );
+      },
+      tt,
+    )
+allowed (suc (suc m)) = tt
+
+-- an activation names no booth, so that its field is 0
+fails : ¬ (Holds node_of_sealed (row_of posts) (sent_in w) (sent_in w) own_booth)
+fails holds =
+    let (f, authorises, before, (_, (names, _))) = holds activated (2, omega arith, refl) refl in cc
+
+pub looking_for_its_own_booth_fails : FailsAtSome IsHonest own_booth
+looking_for_its_own_booth_fails = (
+  posts,
+  w,
+  record {
+    supervisor = refl;
+    orderly = place_orderly deeds steps;
+    allowed = λ m. each_sent (May m) (history w m) (allowed m);
+  },
+  place_distinct deeds steps,
+  fails,
+)

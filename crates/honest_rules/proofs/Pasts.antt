@@ -1,0 +1,97 @@
+-- What machines of an honest polling place held when they sent.
+use Rattle.std.proofs.Common.{◌≡◌, ◌<◌, List, [], ◌∷◌, ◌++◌, ◌⊎◌, inl, inr, sym, ap, ◌∙◌, subst, arith}
+use Rattle.std.specs.List.{Contains}
+use Rattle.entry_format.specs.Nodes.{node_of_sealed}
+use Rattle.entry_format.specs.SealedEntry.{SealedEntry}
+use Rattle.entry_order.specs.declared.event.Event.{Event}
+use Rattle.entry_order.specs.declared.event.Event.TheVariants.{Sent}
+use Rattle.entry_order.specs.Naming.{Distinct}
+use Rattle.entry_order.specs.History.{held, entry_of, IsNext}
+use Rattle.entry_order.specs.Precedes.{Precedes, IsPath}
+use Rattle.entry_order.specs.HeldBefore.{WasSentAfter, HeldBefore.itself}
+use Rattle.entry_order.specs.World.{World, history, sent_in}
+use Rattle.entry_order.proofs.Histories.{split_two}
+use Rattle.entry_order.proofs.Lists.{Contains-map}
+use Rattle.entry_order.proofs.Orders.{was_sent, held_was_sent, next_of, held_rises, named_held, one_order}
+use Rattle.roster.specs.declared.post.Post.{Post}
+use Rattle.polling_world.specs.Rules.{IsWhole}
+use Rattle.honest_rules.specs.Honest.{IsHonest, MayAs, role_at}
+
+-- e was sent by its maker, after this past
+pub record SentBy (w : World SealedEntry) (e : SealedEntry) : Type 0 where
+  pub past : List (Event SealedEntry)
+  pub later : List (Event SealedEntry)
+  pub is : history w e.entry.maker ≡ past ++ Sent e ∷ later
+
+-- so it was sent after it
+abbrev pub after : {w : World SealedEntry} (e : SealedEntry) (s : SentBy w e) → WasSentAfter w s.past e
+after e s = (e.entry.maker, s.later, s.is)
+
+module _ {posts : List Post} {w : World SealedEntry} (honest : IsHonest posts w) where
+  -- each entry was sent by its maker
+  pub sent_by : (e : SealedEntry) → Contains (sent_in w) e → SentBy w e
+  sent_by e c =
+      let r = was_sent w e c in
+      let maker : e.entry.maker ≡ r.1.0 = (next_of node_of_sealed w honest.orderly r.0 e r.1).maker in
+      record { past = r.0; later = r.1.1; is = ap (history w) maker ∙ r.1.2 }
+
+  -- what a legal history asks of it
+  pub next_by : (e : SealedEntry) (s : SentBy w e) → IsNext node_of_sealed e.entry.maker s.past e
+  next_by e s = next_of node_of_sealed w honest.orderly s.past e (after e s)
+
+  -- its maker might send it
+  pub may : (e : SealedEntry) (s : SentBy w e) → MayAs (role_at posts e.entry.maker) e.entry.maker s.past e
+  may e s = honest.allowed e.entry.maker s.past e s.later s.is
+
+  -- what its maker held was sent
+  pub held_too : (e : SealedEntry) (s : SentBy w e) (f : SealedEntry) → Contains (held s.past) f →
+      Contains (sent_in w) f
+  held_too e s f c = held_was_sent node_of_sealed w honest.orderly s.past e (after e s) f c
+
+  -- two entries of one maker are one, or one was held when the other was sent
+  pub two_of_one : (e f : SealedEntry) (s : SentBy w e) (t : SentBy w f) → e.entry.maker ≡ f.entry.maker →
+      (e ≡ f) ⊎ (Contains (held t.past) e ⊎ Contains (held s.past) f)
+  two_of_one e f s t same =
+      let sent_same : Sent e ≡ Sent f → e ≡ f = λ u. cc in
+      elim (split_two s.past t.past (Sent e) (Sent f) s.later t.later (sym s.is ∙ ap (history w) same ∙ t.is)) [
+        | inl u ↦ inl (sent_same u)
+        | inr (inl c) ↦ inr (inl (Contains-map entry_of t.past (Sent e) c))
+        | inr (inr c) ↦ inr (inr (Contains-map entry_of s.past (Sent f) c))
+      ]
+
+  module _ (distinct : Distinct node_of_sealed (sent_in w)) where
+    -- what was held when e was sent precedes it
+    pub held_precedes : (e : SealedEntry) (s : SentBy w e) (f : SealedEntry) → Contains (sent_in w) e →
+        Contains (held s.past) f → Precedes node_of_sealed (sent_in w) f e
+    held_precedes e s f ce c =
+        (one_order node_of_sealed w honest.orderly distinct f e (held_too e s f c) ce).1 (itself s.past (after e s) c)
+
+    -- an entry of the same maker that precedes e was held when e was sent
+    pub own_held : (f e : SealedEntry) (t : SentBy w f) (s : SentBy w e) → f.entry.maker ≡ e.entry.maker →
+        Precedes node_of_sealed (sent_in w) f e → Contains (held s.past) f
+    own_held f e t s same p =
+        let before = (one_order node_of_sealed w honest.orderly distinct f e p.0 p.1).0 p in
+        let up : f.entry.stamp < e.entry.stamp = held_rises node_of_sealed w honest.orderly f e before in
+        elim (two_of_one f e t s same) [
+          | inl u ↦ absurd (let at = ap (λ (x : SealedEntry). x.entry.stamp) u in omega arith)
+          | inr (inl c) ↦ c
+          | inr (inr c) ↦ absurd (
+              let down : e.entry.stamp < f.entry.stamp =
+              held_rises node_of_sealed w honest.orderly e f (itself t.past (after f t) c) in
+              omega arith)
+        ]
+
+    -- whoever held a whole log held each entry that has a path to what it sent
+    path_held : (e : SealedEntry) (s : SentBy w e) → IsWhole s.past → (f : SealedEntry) → Contains (sent_in w) f →
+        (between : List SealedEntry) → IsPath node_of_sealed (sent_in w) f between e → Contains (held s.past) f
+    path_held e s whole f c [] path =
+        named_held node_of_sealed w honest.orderly distinct s.past e (after e s) f c path
+    path_held e s whole f c (g ∷ gs) path =
+        let last = path_held e s whole g path.0 gs path.2 in
+        let r = whole g (node_of_sealed f).digest last path.1 in
+        subst (λ (u : SealedEntry). Contains (held s.past) u) (distinct r.0 f (held_too e s r.0 r.1) c r.2) r.1
+
+    -- and so each that precedes it
+    pub whole_held : (e : SealedEntry) (s : SentBy w e) → IsWhole s.past → (f : SealedEntry) →
+        Precedes node_of_sealed (sent_in w) f e → Contains (held s.past) f
+    whole_held e s whole f p = path_held e s whole f p.0 p.2 p.3

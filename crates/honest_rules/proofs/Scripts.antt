@@ -1,0 +1,181 @@
+-- What a script's machines come to is an honest polling place.
+use Rattle.std.proofs.Common.{◌≡◌, ℕ, zero, suc, ◌+◌, List, [], ◌∷◌, ◌++◌, map, length, Option, Some, None, refl, sym}
+use Rattle.std.proofs.Common.{ap, ◌∙◌, subst, arith}
+use Rattle.std.specs.Prelude.{slice_get, All, Ok, option_map}
+use Rattle.std.specs.List.{enumerate_from}
+use Rattle.std.proofs.lemmas.Option.{slice_get-map, slice_get_within, get_or_from_slice_get}
+use Rattle.entry_format.specs.declared.deed.Deed.{Deed}
+use Rattle.entry_format.specs.declared.entry.Entry.{Entry}
+use Rattle.entry_format.specs.Deeds.{IsDeedOf}
+use Rattle.entry_format.specs.Nodes.{node_of_sealed}
+use Rattle.entry_format.specs.SealedEntry.{SealedEntry}
+use Rattle.entry_order.specs.declared.event.Event.{Event}
+use Rattle.entry_order.specs.declared.event.Event.TheVariants.{Sent}
+use Rattle.entry_order.specs.declared.step.Step.{Step}
+use Rattle.entry_order.specs.History.{sent, MayFollow}
+use Rattle.entry_order.specs.World.{World, start, history, history_of, play, IsLawful as IsLegalNext}
+use Rattle.entry_order.proofs.MadePlays.{plays_are_made}
+use Rattle.entry_order.proofs.Plays.{IsOrderly-play, IsOrderly-start}
+use Rattle.roster.specs.declared.post.Role.{Role}
+use Rattle.election_script.specs.declared.script.Cast0.{Cast0}
+use Rattle.election_script.specs.declared.script.Script.{Script}
+use Rattle.election_script.specs.Lawful.{IsLawful, IsCast, IsDeedAmong}
+use Rattle.entry_format.specs.EntryText.{IsDeedIn}
+use Rattle.polling_world.specs.Configs.{Config, config_of, script_configs}
+use Rattle.polling_world.specs.Keys.{roster_of, post_of}
+use Rattle.polling_world.specs.Rules.{RoleRefuses}
+use Rattle.polling_world.specs.Sending.{MaySend}
+use Rattle.polling_world.specs.Machines.{MachineState}
+use Rattle.polling_world.specs.Worlds.{machine_of, world_of, TellsNext, IsNextAt, IsNextOf}
+use Rattle.polling_world.proofs.MadeEntries.{entry-made, may_follow}
+use Rattle.polling_world.proofs.Rosters.{roster_has_text}
+use Rattle.auditor.specs.Rows.{role_in}
+use Rattle.honest_rules.specs.Honest.{IsHonest, MayAs, role_at}
+use Rattle.honest_rules.specs.Scripts.{AreMachinesOf, MachinesAreHonest}
+use Rattle.honest_rules.specs.Scripts.{ScriptsLeadToHonestPlaces, ScriptsKeepTheRules, ScriptsAreNeverBroken}
+use Rattle.honest_rules.specs.Scripts.{ScriptsAreKept}
+use Rattle.honest_rules.proofs.Standard.{honest_entries_keep_the_rules}
+use Rattle.honest_rules.proofs.Audits.{honest_audits_never_say_broken, honest_audits_say_kept}
+
+-- a member of which all is said
+all_at : {X : Type 0} (P : X → Type 0) (xs : List X) (k : ℕ) (x : X) → All P xs → slice_get xs k ≡ Some x → P x
+all_at P xs k x all is =
+    subst P (get_or_from_slice_get xs k x x is) (all k x (slice_get_within xs k x is))
+
+-- it is what the script gives the machine at this place
+abbrev IsConfigAt : Script → ℕ → Config → Type 0
+IsConfigAt script m config =
+    (cast : Cast0) × (slice_get script.machines m ≡ Some cast) × (config ≡ config_of script m cast)
+
+-- what the machines of a part of the script are made of, of which the first is at the place n
+config_from : (script : Script) (n : ℕ) (casts : List Cast0) (k : ℕ) (config : Config) →
+    slice_get (map (λ at. config_of script at.0 at.1) (enumerate_from n casts)) k ≡ Some config →
+    (cast : Cast0) × (slice_get casts k ≡ Some cast) × (config ≡ config_of script (n + k) cast)
+config_from script n [] k config is = cc
+config_from script n (cast ∷ casts) zero config is =
+    let same : config_of script n cast ≡ config = cc in
+    let place : n ≡ n + zero = omega arith in
+    (cast, refl, sym same ∙ ap (λ (j : ℕ). config_of script j cast) place)
+config_from script n (cast ∷ casts) (suc k) config is =
+    let r = config_from script (n + 1) casts k config is in
+    let place : (n + 1) + k ≡ n + suc k = omega arith in
+    (r.0, r.1, r.2 ∙ ap (λ (j : ℕ). config_of script j r.0) place)
+
+config_at : (script : Script) (m : ℕ) (config : Config) → slice_get (script_configs script) m ≡ Some config →
+    IsConfigAt script m config
+config_at script m config is =
+    let r = config_from script 0 script.machines m config is in
+    let place : 0 + m ≡ m = omega arith in
+    (r.0, r.1, r.2 ∙ ap (λ (j : ℕ). config_of script j r.0) place)
+
+module _ (script : Script) (lawful : IsLawful script) where
+  -- the role of a machine in the script's roster is the script's
+  role_is : (m : ℕ) (cast : Cast0) → slice_get script.machines m ≡ Some cast → role_at (roster_of script) m ≡ cast.role
+  role_is m cast is =
+      ap role_in (slice_get-map (post_of script) script.machines m ∙ ap (option_map (post_of script)) is)
+
+  -- what a machine of the script may send, its role may
+  may_as : (m : ℕ) (config : Config) → IsConfigAt script m config → (past : List (Event SealedEntry))
+      (e : SealedEntry) → MaySend config past e → MayAs (role_at (roster_of script) m) m past e
+  may_as m config (cast, at, of_script) past e may =
+      let role : config.role ≡ role_at (roster_of script) m =
+      ap (λ (c : Config). c.role) of_script ∙ sym (role_is m cast at) in
+      let number : config.number ≡ m = ap (λ (c : Config). c.number) of_script in
+      let actions : config.actions ≡ cast.actions = ap (λ (c : Config). c.actions) of_script in
+      let each = all_at (IsCast script.version script.machines) script.machines m cast lawful.machines.actions at in
+      let among = all_at
+      (λ (d : Deed). IsDeedOf cast.role d × IsDeedIn script.version d × IsDeedAmong script.machines d) cast.actions
+      (length (sent past)) may.deed each
+      (ap (λ (ds : List Deed). slice_get ds (length (sent past))) (sym actions) ∙ may.action) in
+      let says : may.deed ≡ e.entry.deed =
+      sym (ap (λ (s : SealedEntry). s.entry.deed) may.made
+      ∙ ap (λ (n : Entry). n.deed) (entry-made config _ _ _ may.deed)) in
+      record {
+        of_role = subst (λ (r : Role). IsDeedOf r e.entry.deed) (sym (role_is m cast at))
+            (subst (λ (d : Deed). IsDeedOf cast.role d) says among.0);
+        no_cause = subst (λ (r : Role). RoleRefuses r m past e.entry.deed (Ok tt)) role
+            (subst (λ (k : ℕ). RoleRefuses config.role k past e.entry.deed (Ok tt)) number
+            (subst (λ (d : Deed). RoleRefuses config.role config.number past d (Ok tt)) says may.allowed));
+      }
+
+  module _ (next : ℕ → List (Event SealedEntry) → Option SealedEntry) (tells : TellsNext (script_configs script) next)
+    where
+      -- what is sent next is of a machine of the script, which may send it
+      may_next : (m : ℕ) (h : List (Event SealedEntry)) (e : SealedEntry) → next m h ≡ Some e →
+          (config : Config) × IsConfigAt script m config × MaySend config h e
+      may_next m h e is = by (slice_get (script_configs script) m) refl (tells m h)
+        where
+          by : (o : Option Config) → slice_get (script_configs script) m ≡ o → IsNextAt o h (next m h) →
+              (config : Config) × IsConfigAt script m config × MaySend config h e
+          by None at none = let both : Some e ≡ None = sym is ∙ none in cc
+          by (Some config) at tells = (
+            config,
+            config_at script m config at,
+            subst (λ (o : Option SealedEntry). IsNextOf config h o) is tells,
+          )
+
+      legal_next : IsLegalNext node_of_sealed next
+      legal_next m h e is =
+          let (config, at, may) = may_next m h e is in
+          subst (λ (k : ℕ). MayFollow node_of_sealed k h (Sent e)) (ap (λ (c : Config). c.number) at.2)
+          (may_follow config h e may)
+
+      honest_play : (steps : List Step) →
+          IsHonest (roster_of script) (play node_of_sealed next script.log (start (length script.machines)) steps)
+      honest_play steps = record {
+        supervisor = (roster_has_text script lawful).roster.supervisor;
+        orderly = IsOrderly-play node_of_sealed next script.log legal_next (start (length script.machines)) steps
+            (IsOrderly-start node_of_sealed (length script.machines));
+        allowed = λ m past e later is.
+            let (config, at, may) = may_next m past e
+            (plays_are_made node_of_sealed next script.log (length script.machines) steps m past e later is) in
+            may_as m config at past e may;
+      }
+
+  -- what was sent by machines that are there, which could send it
+  machine_allowed : (machines : List MachineState) → AreMachinesOf script machines → (m : ℕ)
+      (past : List (Event SealedEntry)) (e : SealedEntry) (later : List (Event SealedEntry)) →
+      history (world_of machines) m ≡ past ++ Sent e ∷ later → MayAs (role_at (roster_of script) m) m past e
+  machine_allowed machines are m past e later is =
+      by (slice_get machines m) refl (sym (ap history_of (slice_get-map machine_of machines m)) ∙ is)
+    where
+      none : (p : List (Event SealedEntry)) → [] ≡ p ++ Sent e ∷ later → ⊥
+      none [] is = cc
+      none (x ∷ p) is = cc
+
+      by : (o : Option MachineState) → slice_get machines m ≡ o →
+          history_of (option_map machine_of o) ≡ past ++ Sent e ∷ later → MayAs (role_at (roster_of script) m) m past e
+      by None at is = absurd (none past is)
+      by (Some u) at is =
+          let number = are.number m u at in
+          let of = are.config m u at in
+          may_as m u.config (
+            of.0,
+            ap (slice_get script.machines) (sym number) ∙ of.1,
+            of.2 ∙ ap (λ (n : ℕ). config_of script n of.0) number,
+          ) past e (are.made m u at past e later is)
+
+-- the laws
+pub machines_are_honest : MachinesAreHonest
+machines_are_honest script machines lawful are = record {
+  supervisor = (roster_has_text script lawful).roster.supervisor;
+  orderly = are.orderly;
+  allowed = machine_allowed script lawful machines are;
+}
+
+pub scripts_lead_to_honest_places : ScriptsLeadToHonestPlaces
+scripts_lead_to_honest_places script steps w lawful (next, tells, played) =
+    subst (λ (v : World SealedEntry). IsHonest (roster_of script) v) (sym played)
+    (honest_play script lawful next tells steps)
+
+pub scripts_keep_the_rules : ScriptsKeepTheRules
+scripts_keep_the_rules script steps w lawful come =
+    honest_entries_keep_the_rules (roster_of script) w (scripts_lead_to_honest_places script steps w lawful come)
+
+pub scripts_are_never_broken : ScriptsAreNeverBroken
+scripts_are_never_broken script steps w lawful come =
+    honest_audits_never_say_broken (roster_of script) w (scripts_lead_to_honest_places script steps w lawful come)
+
+pub scripts_are_kept : ScriptsAreKept
+scripts_are_kept script steps w lawful come =
+    honest_audits_say_kept (roster_of script) w (scripts_lead_to_honest_places script steps w lawful come)

@@ -1,0 +1,242 @@
+-- The rules of what the supervisor does.
+use Rattle.std.proofs.Common.{◌≡◌, ℕ, zero, suc, ◌+◌, Bool, true, false, cond, List, [], ◌∷◌, inl, inr, refl}
+use Rattle.std.proofs.Common.{ap, ◌∙◌, arith}
+use Rattle.std.specs.Prelude.{IsTrue, ◌==◌, slice_get, Option, Some, None, count_by}
+use Rattle.std.specs.List.{Contains}
+use Rattle.std.proofs.lemmas.Bool.{eqb-true, eq-eqb}
+use Rattle.std.proofs.lemmas.List.Sums.{sum_by-cons}
+use Rattle.entry_format.specs.declared.deed.Deed.TheVariants as deed
+use Rattle.entry_format.specs.declared.deed.How.{How}
+use Rattle.entry_format.specs.declared.deed.How.TheVariants as how
+use Rattle.entry_format.specs.Nodes.{node_of_sealed}
+use Rattle.entry_format.specs.SealedEntry.{SealedEntry}
+use Rattle.entry_order.specs.Naming.{Distinct}
+use Rattle.entry_order.specs.Precedes.{Precedes}
+use Rattle.entry_order.specs.World.{World, sent_in}
+use Rattle.roster.specs.declared.post.Post.{Post}
+use Rattle.roster.specs.declared.post.Role.TheVariants.{Supervisor}
+use Rattle.roster.specs.Machines.{is_supervisor}
+use Rattle.deed_history.specs.Deeds.{Authorises, Commits, Ends}
+use Rattle.deed_history.proofs.Deciding.{is_opened, opened_decides, authorises, authorises_decides}
+use Rattle.deed_history.proofs.Deciding.{commits, commits_decides, ends, ends_decides}
+use Rattle.rule_language.specs.declared.kind.Kind.TheVariants as kind
+use Rattle.rule_language.specs.Trees.{Trees}
+use Rattle.rule_language.specs.Standard.{o1, o2, a2, p1, p2, p3, v1, v4}
+use Rattle.rule_engine.specs.Meaning.{Holds}
+use Rattle.rule_engine.specs.Tests.{is_kind}
+use Rattle.auditor.specs.Rows.{row_of, role_in, kind_of, session_of, booth_of}
+use Rattle.honest_rules.specs.Honest.{IsHonest, role_at}
+use Rattle.honest_rules.specs.Kept.{WereSentIn}
+use Rattle.honest_rules.proofs.DeedKinds.{of_kind}
+use Rattle.honest_rules.proofs.Pasts.{sent_by}
+use Rattle.honest_rules.proofs.Causes.{supervisor_row}
+use Rattle.honest_rules.proofs.Shapes.{one_alone, any_asked, own_asked, own_was_held}
+
+-- ---- one supervisor
+
+-- how many members meet a test, by the first
+module _ {X : Type 0} (p : X → Bool) where
+  counted : (x : X) (xs : List X) (b : Bool) → p x ≡ b → count_by p (x ∷ xs) ≡ cond b 1 0 + count_by p xs
+  counted x xs b is = sum_by-cons (λ y. cond (p y) 1 0) x xs ∙ ap (λ (c : Bool). cond c 1 0 + count_by p xs) is
+
+  -- where none are counted, none meets it
+  none_meets : (xs : List X) → count_by p xs ≡ 0 → (k : ℕ) (x : X) → slice_get xs k ≡ Some x → p x ≡ true → ⊥
+  none_meets [] none k x is t = cc
+  none_meets (z ∷ xs) none zero x is t =
+      let same : z ≡ x = cc in let count = counted z xs true (ap p same ∙ t) in omega arith
+  none_meets (z ∷ xs) none (suc k) x is t =
+      none_meets xs (let count = counted z xs (p z) refl in omega arith) k x is t
+
+  -- where one is counted, it stands at one place
+  one_meets : (xs : List X) → count_by p xs ≡ 1 → (i j : ℕ) (x y : X) → slice_get xs i ≡ Some x →
+      slice_get xs j ≡ Some y → p x ≡ true → p y ≡ true → i ≡ j
+  one_meets [] one i j x y is js t u = cc
+  one_meets (z ∷ xs) one zero zero x y is js t u = refl
+  one_meets (z ∷ xs) one zero (suc j) x y is js t u =
+      let same : z ≡ x = cc in
+      let count = counted z xs true (ap p same ∙ t) in absurd (none_meets xs (omega arith) j y js u)
+  one_meets (z ∷ xs) one (suc i) zero x y is js t u =
+      let same : z ≡ y = cc in
+      let count = counted z xs true (ap p same ∙ u) in absurd (none_meets xs (omega arith) i x is t)
+  one_meets (z ∷ xs) one (suc i) (suc j) x y is js t u =
+      by (p z) refl (λ rest. one_meets xs rest i j x y is js t u)
+    where
+      by : (b : Bool) → p z ≡ b → (count_by p xs ≡ 1 → i ≡ j) → suc i ≡ suc j
+      by true h deeper = let count = counted z xs true h in absurd (none_meets xs (omega arith) i x is t)
+      by false h deeper = let count = counted z xs false h in ap suc (deeper (omega arith))
+
+-- a machine with the supervisor's role is in the roster
+supervisor_there : (o : Option Post) → role_in o ≡ Supervisor →
+    (post : Post) × (o ≡ Some post) × (is_supervisor post.role ≡ true)
+supervisor_there None role = cc
+supervisor_there (Some post) role = (post, refl, ap is_supervisor role)
+
+module _ {posts : List Post} {w : World SealedEntry} (honest : IsHonest posts w) where
+  -- two machines with the supervisor's role are one
+  one_supervisor : (m n : ℕ) → role_at posts m ≡ Supervisor → role_at posts n ≡ Supervisor → m ≡ n
+  one_supervisor m n a b =
+      let p = supervisor_there (slice_get posts m) a in
+      let q = supervisor_there (slice_get posts n) b in
+      one_meets (λ (post : Post). is_supervisor post.role) posts honest.supervisor m n p.0 q.0 p.1 q.1 p.2 q.2
+
+  -- two authorisations of a session are one
+  pub one_authorisation : (e f : SealedEntry) → Contains (sent_in w) e → Contains (sent_in w) f → (b c n : ℕ) →
+      e.entry.deed ≡ deed.Authorise b n → f.entry.deed ≡ deed.Authorise c n → e ≡ f
+  one_authorisation e f ce cf b c n de df =
+      let s = sent_by honest e ce in
+      let t = sent_by honest f cf in
+      let (role, (_, (_, (unused, _)))) = supervisor_row honest e s (deed.Authorise b n) de tt in
+      let (role', (_, (_, (unused', _)))) = supervisor_row honest f t (deed.Authorise c n) df tt in
+      one_alone honest (Authorises n) e f s t (one_supervisor e.entry.maker f.entry.maker role role') (b, de) (c, df)
+      unused unused'
+
+module _ {posts : List Post} {w : World SealedEntry} (honest : IsHonest posts w)
+    (distinct : Distinct node_of_sealed (sent_in w)) (S : List SealedEntry) (were_sent : WereSentIn w S) where
+  abbrev Rule : Trees → Type 0
+  Rule rule = Holds node_of_sealed (row_of posts) S (sent_in w) rule
+
+  -- one opening
+  pub rule_o1 : Rule o1
+  rule_o1 e ce ke f cf kf =
+      let s = sent_by honest e (were_sent e ce) in
+      let t = sent_by honest f (were_sent f cf) in
+      let de = of_kind kind.Opened e.entry.deed ke in
+      let df = of_kind kind.Opened f.entry.deed kf in
+      let (role, (unopened, _)) = supervisor_row honest e s deed.Opened de tt in
+      let (role', (unopened', _)) = supervisor_row honest f t deed.Opened df tt in
+      one_alone honest (λ d. d ≡ deed.Opened) e f s t
+      (one_supervisor honest e.entry.maker f.entry.maker role role') de df unopened unopened'
+
+  -- one closing
+  pub rule_p1 : Rule p1
+  rule_p1 e ce ke f cf kf =
+      let s = sent_by honest e (were_sent e ce) in
+      let t = sent_by honest f (were_sent f cf) in
+      let de = of_kind kind.Closed e.entry.deed ke in
+      let df = of_kind kind.Closed f.entry.deed kf in
+      let (role, (_, (unclosed, _))) = supervisor_row honest e s deed.Closed de tt in
+      let (role', (_, (unclosed', _))) = supervisor_row honest f t deed.Closed df tt in
+      one_alone honest (λ d. d ≡ deed.Closed) e f s t
+      (one_supervisor honest e.entry.maker f.entry.maker role role') de df unclosed unclosed'
+
+  -- one authorising of each session
+  pub rule_a2 : Rule a2
+  rule_a2 e ce ke f cf kf same =
+      let de = of_kind kind.Authorise e.entry.deed ke in
+      let df = of_kind kind.Authorise f.entry.deed kf in
+      let sessions = eqb-true (session_of e.entry.deed) (session_of f.entry.deed) same in
+      one_authorisation honest e f (were_sent e ce) (were_sent f cf) (booth_of e.entry.deed)
+      (booth_of f.entry.deed) (session_of f.entry.deed)
+      (de ∙ ap (λ n. deed.Authorise (booth_of e.entry.deed) n) sessions) df
+
+  -- an opening before each authorising
+  pub rule_o2 : Rule o2
+  rule_o2 e ce ke =
+      let s = sent_by honest e (were_sent e ce) in
+      let de = of_kind kind.Authorise e.entry.deed ke in
+      let (_, (opened, _)) = supervisor_row honest e s _ de tt in
+      let f = own_asked honest distinct is_opened (λ d. d ≡ deed.Opened) opened_decides e s (were_sent e ce) opened in
+      (f.0, ap (λ d. is_kind kind.Opened (kind_of d)) f.3, f.1, tt)
+
+  -- an authorising of the session precedes an override of it
+  authorised_before : (e : SealedEntry) → Contains S e → (h : How) →
+      e.entry.deed ≡ deed.Override (session_of e.entry.deed) h →
+      (f : SealedEntry) × IsTrue (is_kind kind.Authorise (kind_of f.entry.deed))
+      × Precedes node_of_sealed (sent_in w) f e × IsTrue (session_of f.entry.deed == session_of e.entry.deed)
+  authorised_before e ce h de =
+      let s = sent_by honest e (were_sent e ce) in
+      let (_, (authorised, _)) = supervisor_row honest e s _ de tt in
+      let n = session_of e.entry.deed in
+      let f = own_asked honest distinct (authorises n) (Authorises n) (authorises_decides n) e s (were_sent e ce)
+      authorised in (
+        f.0,
+        ap (λ d. is_kind kind.Authorise (kind_of d)) f.3.1,
+        f.1,
+        eq-eqb (session_of f.0.entry.deed) n (ap session_of f.3.1),
+      )
+
+  -- an override that cancels is of an authorised session
+  pub rule_v1 : Rule v1
+  rule_v1 e ce ke = authorised_before e ce how.Cancel (of_kind kind.Override e.entry.deed ke)
+
+  -- one that casts is of an authorised session with a commitment
+  pub rule_v4 : Rule v4
+  rule_v4 e ce ke =
+      let s = sent_by honest e (were_sent e ce) in
+      let de = of_kind kind.Forced e.entry.deed ke in
+      let (_, (_, (_, (_, (committed, _))))) = supervisor_row honest e s _ de tt in
+      let n = session_of e.entry.deed in
+      let f = any_asked honest distinct (commits n) (Commits n) (commits_decides n) e s (were_sent e ce)
+      (λ none. committed (refl, none)) in (
+        authorised_before e ce how.Cast de,
+        (
+          (
+            f.0,
+            ap (λ d. is_kind kind.Commit (kind_of d)) f.2.1,
+            f.1,
+            eq-eqb (session_of f.0.entry.deed) n (ap session_of f.2.1),
+          ),
+          tt,
+        ),
+      )
+
+  -- no authorising after a closing
+  pub rule_p2 : Rule p2
+  rule_p2 e ce ke (f, kf, before, _) =
+      let s = sent_by honest e (were_sent e ce) in
+      let t = sent_by honest f before.0 in
+      let de = of_kind kind.Authorise e.entry.deed ke in
+      let df = of_kind kind.Closed f.entry.deed kf in
+      let (role, (_, (unclosed, _))) = supervisor_row honest e s _ de tt in
+      let (role', _) = supervisor_row honest f t deed.Closed df tt in
+      unclosed
+      (own_was_held honest distinct (λ d. d ≡ deed.Closed) f e t s
+      (one_supervisor honest f.entry.maker e.entry.maker role' role) before df)
+
+  -- what ended the session of e precedes f
+  abbrev EndedBefore : SealedEntry → SealedEntry → Type 0
+  EndedBefore e f =
+      (g : SealedEntry) × Precedes node_of_sealed (sent_in w) g f × Ends (session_of e.entry.deed) g.entry.deed
+
+  -- a session that was authorised before the closing had ended before it
+  ended_before : (e f : SealedEntry) → Contains S e → Contains S f →
+      IsTrue (is_kind kind.Authorise (kind_of e.entry.deed)) → IsTrue (is_kind kind.Closed (kind_of f.entry.deed)) →
+      Precedes node_of_sealed (sent_in w) e f → EndedBefore e f
+  ended_before e f ce cf ke kf before =
+      let s = sent_by honest e (were_sent e ce) in
+      let t = sent_by honest f (were_sent f cf) in
+      let de = of_kind kind.Authorise e.entry.deed ke in
+      let df = of_kind kind.Closed f.entry.deed kf in
+      let (role, _) = supervisor_row honest e s _ de tt in
+      let (role', (_, (_, (none_left, _)))) = supervisor_row honest f t deed.Closed df tt in
+      let n = session_of e.entry.deed in
+      let held = own_was_held honest distinct (λ d. d ≡ deed.Authorise _ n) e f s t
+      (one_supervisor honest e.entry.maker f.entry.maker role role') before de in
+      any_asked honest distinct (ends n) (Ends n) (ends_decides n) f t (were_sent f cf)
+      (λ running. none_left (_, (n, (held, running))))
+
+  -- a session that was authorised before a closing has ended before it
+  pub rule_p3 : Rule p3
+  rule_p3 e ce ke f cf kf before =
+      let g = ended_before e f ce cf ke kf before in
+      let n = session_of e.entry.deed in
+      elim g.2 [
+        | inl cast ↦ inl (
+          g.0,
+          ap (λ d. is_kind kind.Cast (kind_of d)) cast.1,
+          g.1,
+          eq-eqb (session_of g.0.entry.deed) n (ap session_of cast.1),
+        )
+        | inr (inl cancel) ↦ inr (inl (
+          g.0,
+          ap (λ d. is_kind kind.Cancel (kind_of d)) cancel,
+          g.1,
+          eq-eqb (session_of g.0.entry.deed) n (ap session_of cancel),
+        ))
+        | inr (inr challenge) ↦ inr (inr (inl (
+          g.0,
+          ap (λ d. is_kind kind.Challenge (kind_of d)) challenge.1,
+          g.1,
+          eq-eqb (session_of g.0.entry.deed) n (ap session_of challenge.1),
+        )))
+      ]

@@ -1,0 +1,18 @@
+use Rattle.honest_rules.proofs.Scripts.{scripts_lead_to_honest_places, machines_are_honest, scripts_keep_the_rules}
+use Rattle.honest_rules.proofs.Scripts.{scripts_are_never_broken, scripts_are_kept}
+use Rattle.honest_rules.proofs.laws.scripts_lead_to_honest_places.Goals as goal
+
+pub returns-clause-honest : goal.returns-clause-honest
+returns-clause-honest c = scripts_lead_to_honest_places
+
+pub returns-clause-machines : goal.returns-clause-machines
+returns-clause-machines c = machines_are_honest
+
+pub returns-clause-rules : goal.returns-clause-rules
+returns-clause-rules c = scripts_keep_the_rules
+
+pub returns-clause-never_broken : goal.returns-clause-never_broken
+returns-clause-never_broken c = scripts_are_never_broken
+
+pub returns-clause-kept : goal.returns-clause-kept
+returns-clause-kept c = scripts_are_kept

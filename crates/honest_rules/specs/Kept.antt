@@ -1,0 +1,61 @@
+-- Honest polling places are never accused: what the standard rules say of entries that they sent.
+use Rattle.std.specs.Prelude.{◌≡◌, ◌≢◌, ℕ, Bool, List, map}
+use Rattle.std.specs.List.{Contains}
+use Rattle.entry_format.specs.Nodes.{node_of_sealed}
+use Rattle.entry_format.specs.SealedEntry.{SealedEntry}
+use Rattle.entry_order.specs.declared.three.Three.TheVariants.{False, True}
+use Rattle.entry_order.specs.Naming.{Distinct}
+use Rattle.entry_order.specs.Settled.{IsGraphOf}
+use Rattle.entry_order.specs.World.{World, sent_in}
+use Rattle.roster.specs.declared.post.Post.{Post}
+use Rattle.rule_language.specs.Trees.{RuleTree}
+use Rattle.rule_language.specs.Standard.{standard_rules}
+use Rattle.rule_engine.specs.Meaning.{Holds}
+use Rattle.rule_engine.specs.Sound.{HasNoDouble}
+use Rattle.rule_engine.specs.Values.{three_in}
+use Rattle.auditor.specs.Rows.{row_of}
+use Rattle.honest_rules.specs.Honest.{IsHonest}
+
+-- each of the entries was sent in w
+abbrev pub WereSentIn : World SealedEntry → List SealedEntry → Type 0
+WereSentIn w S = (e : SealedEntry) → Contains S e → Contains (sent_in w) e
+
+-- each entry that was sent in w is one of them
+abbrev pub AreAllOf : World SealedEntry → List SealedEntry → Type 0
+AreAllOf w S = (e : SealedEntry) → Contains (sent_in w) e → Contains S e
+
+-- each standard rule holds of the entries S, in what was sent in w
+abbrev pub StandardRulesHold : List Post → World SealedEntry → List SealedEntry → Type 0
+StandardRulesHold posts w S =
+    (rule : RuleTree) → Contains standard_rules rule → Holds node_of_sealed (row_of posts) S (sent_in w) rule.body
+
+-- by any graph of the entries S, which are given once each, no standard rule is known to be broken
+abbrev pub NoneIsBroken : List Post → List SealedEntry → Type 0
+NoneIsBroken posts S =
+    HasNoDouble S → (parents : ℕ → List ℕ) (ragged : ℕ → Bool) → IsGraphOf node_of_sealed S parents ragged →
+    (rule : RuleTree) → Contains standard_rules rule → three_in (map (row_of posts) S) parents ragged rule.body ≢ False
+
+-- and each is known to be kept
+abbrev pub EachIsKept : List Post → List SealedEntry → Type 0
+EachIsKept posts S =
+    HasNoDouble S → (parents : ℕ → List ℕ) (ragged : ℕ → Bool) → IsGraphOf node_of_sealed S parents ragged →
+    (rule : RuleTree) → Contains standard_rules rule → three_in (map (row_of posts) S) parents ragged rule.body ≡ True
+
+-- of any entries that an honest polling place sent, where different entries have different digests, each standard rule
+-- holds
+abbrev pub HonestEntriesKeepTheRules : Type 0
+HonestEntriesKeepTheRules =
+    (posts : List Post) (w : World SealedEntry) → IsHonest posts w → Distinct node_of_sealed (sent_in w) →
+    (S : List SealedEntry) → WereSentIn w S → StandardRulesHold posts w S
+
+-- so no standard rule is broken, whichever of its entries are given
+abbrev pub HonestAuditsNeverSayBroken : Type 0
+HonestAuditsNeverSayBroken =
+    (posts : List Post) (w : World SealedEntry) → IsHonest posts w → Distinct node_of_sealed (sent_in w) →
+    (S : List SealedEntry) → WereSentIn w S → NoneIsBroken posts S
+
+-- and where all are given, each is kept
+abbrev pub HonestAuditsSayKept : Type 0
+HonestAuditsSayKept =
+    (posts : List Post) (w : World SealedEntry) → IsHonest posts w → Distinct node_of_sealed (sent_in w) →
+    (S : List SealedEntry) → WereSentIn w S → AreAllOf w S → EachIsKept posts S

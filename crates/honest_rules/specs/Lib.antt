@@ -1,0 +1,5 @@
+pub mod Honest
+pub mod Kept
+pub mod Scripts
+pub mod InSpite
+pub mod Unchained

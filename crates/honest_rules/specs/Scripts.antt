@@ -1,0 +1,59 @@
+-- What the machines of a script come to is an honest polling place, whatever its steps.
+use Rattle.std.specs.Prelude.{◌≡◌, ℕ, List, Some, slice_get}
+use Rattle.entry_format.specs.Nodes.{node_of_sealed}
+use Rattle.entry_format.specs.SealedEntry.{SealedEntry}
+use Rattle.entry_order.specs.declared.step.Step.{Step}
+use Rattle.entry_order.specs.Naming.{Distinct}
+use Rattle.entry_order.specs.Receipt.{IsOrderly}
+use Rattle.entry_order.specs.World.{World, sent_in}
+use Rattle.election_script.specs.declared.script.Script.{Script}
+use Rattle.election_script.specs.Lawful.{IsLawful}
+use Rattle.polling_world.specs.Configs.{IsOf}
+use Rattle.polling_world.specs.Keys.{roster_of}
+use Rattle.polling_world.specs.Machines.{MachineState}
+use Rattle.polling_world.specs.Playing.{ComesTo}
+use Rattle.polling_world.specs.Sending.{AreMade}
+use Rattle.polling_world.specs.Worlds.{world_of}
+use Rattle.honest_rules.specs.Honest.{IsHonest}
+use Rattle.honest_rules.specs.Kept.{WereSentIn, AreAllOf, StandardRulesHold, NoneIsBroken, EachIsKept}
+
+-- a lawful script, of either version, leads by any steps to a place that is honest under the script's roster
+abbrev pub ScriptsLeadToHonestPlaces : Type 0
+ScriptsLeadToHonestPlaces =
+    (script : Script) (steps : List Step) (w : World SealedEntry) → IsLawful script → ComesTo script steps w →
+    IsHonest (roster_of script) w
+
+-- these are machines of the script, each at its place, whatever stopped it; each could send what it sent when it did,
+-- and together they are orderly
+pub record AreMachinesOf (script : Script) (machines : List MachineState) : Type 0 where
+  pub number : (place : ℕ) (m : MachineState) → slice_get machines place ≡ Some m → m.config.number ≡ place
+  pub config : (place : ℕ) (m : MachineState) → slice_get machines place ≡ Some m → IsOf script m.config
+  pub made : (place : ℕ) (m : MachineState) → slice_get machines place ≡ Some m → AreMade m.config m.events
+  pub orderly : IsOrderly node_of_sealed (world_of machines)
+
+-- so they are an honest place too, which needs no list of steps
+abbrev pub MachinesAreHonest : Type 0
+MachinesAreHonest =
+    (script : Script) (machines : List MachineState) → IsLawful script → AreMachinesOf script machines →
+    IsHonest (roster_of script) (world_of machines)
+
+-- of any entries that a script's machines sent by any steps each standard rule holds
+abbrev pub ScriptsKeepTheRules : Type 0
+ScriptsKeepTheRules =
+    (script : Script) (steps : List Step) (w : World SealedEntry) → IsLawful script → ComesTo script steps w →
+    Distinct node_of_sealed (sent_in w) →
+    (S : List SealedEntry) → WereSentIn w S → StandardRulesHold (roster_of script) w S
+
+-- none is broken, whichever of them are given
+abbrev pub ScriptsAreNeverBroken : Type 0
+ScriptsAreNeverBroken =
+    (script : Script) (steps : List Step) (w : World SealedEntry) → IsLawful script → ComesTo script steps w →
+    Distinct node_of_sealed (sent_in w) →
+    (S : List SealedEntry) → WereSentIn w S → NoneIsBroken (roster_of script) S
+
+-- and where all are given, each is kept
+abbrev pub ScriptsAreKept : Type 0
+ScriptsAreKept =
+    (script : Script) (steps : List Step) (w : World SealedEntry) → IsLawful script → ComesTo script steps w →
+    Distinct node_of_sealed (sent_in w) →
+    (S : List SealedEntry) → WereSentIn w S → AreAllOf w S → EachIsKept (roster_of script) S

@@ -1,0 +1,44 @@
+//! The laws of honest polling places. Each is the contract of a function with an empty body.
+
+ghost use Rattle.honest_rules.specs.Honest.{HonestyIsOfHistories};
+ghost use Rattle.honest_rules.specs.Kept.{
+  HonestAuditsNeverSayBroken,
+  HonestAuditsSayKept,
+  HonestEntriesKeepTheRules,
+};
+ghost use Rattle.honest_rules.specs.Scripts.{
+  MachinesAreHonest,
+  ScriptsAreKept,
+  ScriptsAreNeverBroken,
+  ScriptsKeepTheRules,
+  ScriptsLeadToHonestPlaces,
+};
+
+/// Of any entries that an honest polling place sent each standard rule holds, whichever others were
+/// lost.
+pub fn honest_entries_keep_the_rules()
+    ensures { HonestEntriesKeepTheRules }
+{}
+
+/// What is known of such entries by themselves never says that a standard rule is broken, and where
+/// all entries are given it says that each is kept.
+pub fn honest_audits_say_kept()
+    ensures never_broken { HonestAuditsNeverSayBroken }
+    ensures kept { HonestAuditsSayKept }
+{}
+
+/// Whether a place is honest is told by its histories alone, and not by what has stopped.
+pub fn honesty_is_of_histories()
+    ensures { HonestyIsOfHistories }
+{}
+
+/// The machines of a script, of either version, are an honest polling place after any steps, and so
+/// the laws hold of what they sent: of the script's own steps, and of the order in which the events
+/// of threads merge. So are any of its machines that could send what they sent when they did.
+pub fn scripts_lead_to_honest_places()
+    ensures honest { ScriptsLeadToHonestPlaces }
+    ensures machines { MachinesAreHonest }
+    ensures rules { ScriptsKeepTheRules }
+    ensures never_broken { ScriptsAreNeverBroken }
+    ensures kept { ScriptsAreKept }
+{}
