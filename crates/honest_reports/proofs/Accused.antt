@@ -1,0 +1,146 @@
+-- A report on what is left of an honest place accuses nobody.
+use Rattle.std.proofs.Common.{◌≡◌, ◌∙◌, ℕ, List, ◌++◌, map, Option, refl, sym, ap, subst}
+use Rattle.std.specs.Prelude.{Ok}
+use Rattle.std.specs.List.{Contains, flat_map, zip}
+use Rattle.std.proofs.lemmas.List.Elements.{All-contains}
+use Rattle.election_script.specs.declared.script.Script.{Script}
+use Rattle.entry_format.specs.Nodes.{node_of_sealed}
+use Rattle.entry_format.specs.SealedEntry.{SealedEntry}
+use Rattle.entry_order.specs.Naming.{Distinct}
+use Rattle.entry_order.specs.World.{World, sent_in}
+use Rattle.entry_graph.specs.EntryGraph.{EntryGraph}
+use Rattle.log_files.specs.declared.sealed_log.LogRead.{LogRead}
+use Rattle.report_lines.specs.Lines.{refused_lines}
+use Rattle.rule_engine.specs.declared.verdict.Verdict.{Verdict}
+use Rattle.rule_language.specs.Trees.{RuleTree}
+use Rattle.roster.specs.declared.post.Post.{Post}
+use Rattle.evidence.specs.declared.roster_file.RosterRead.{RosterRead}
+use Rattle.evidence.specs.Graphs.{GivesGraph, entries_of}
+use Rattle.evidence.specs.Logs.{GivesLogs}
+use Rattle.evidence.specs.RosterFile.{GivesRoster}
+use Rattle.honest_logs.specs.Agreement.{IsHonestGraph}
+use Rattle.honest_logs.specs.HonestReading.{IsHonestlyRead}
+use Rattle.honest_logs.specs.LeftFiles.{AreAllFilesOf, AreFilesOf}
+use Rattle.honest_logs.specs.WhatIsLeft.{IsReadIn, AreReadIn}
+use Rattle.honest_logs.proofs.HonestFiles.{script_distinct, script_read}
+use Rattle.honest_logs.proofs.HonestGraphs.{of_script_election, of_script_is_honest}
+use Rattle.honest_logs.proofs.LeftFileFacts.{files_are_read}
+use Rattle.auditor.specs.Audits.{GivesReport, GivesVerdicts, WithGraph, WithLogs}
+use Rattle.auditor.specs.Judged.{AreJudged, nodes_of}
+use Rattle.auditor.specs.Report.{AuditReport, report_on}
+use Rattle.auditor.specs.ReportText.{break_line, fork_lines, graph_lines, rule_line, stray_lines}
+use Rattle.auditor.specs.Rows.{row_of}
+use Rattle.auditor.specs.Sources.{RuleSource}
+use Rattle.honest_reports.specs.Places.{IsRosterOf, files_read}
+use Rattle.honest_reports.specs.Refusals.{AreRulesOf}
+use Rattle.honest_reports.specs.Reports.{AccusesNobody, IsHonestReport, log_and_torn_line}
+use Rattle.honest_reports.proofs.Found.{both_found, report_read}
+use Rattle.honest_reports.proofs.Lines.{graph_innocent, logs_innocent, not_malformed}
+use Rattle.honest_reports.proofs.RosterGiven.{machines_same, of_script}
+
+-- what was found where an audit reports
+pub record IsFound (name : List ℕ) (roster : Option (List ℕ)) (source : RuleSource) (rules_file : Option (List ℕ))
+    (names : List (List ℕ)) (files : List (Option (List ℕ))) (report : AuditReport) : Type 0 where
+  pub read : RosterRead
+  pub rules : List RuleTree
+  pub logs : List LogRead
+  pub graph : EntryGraph SealedEntry
+  pub verdicts : List Verdict
+  pub given : GivesRoster name roster (Ok read)
+  pub of_source : AreRulesOf source rules_file rules
+  pub gives_logs : GivesLogs read.roster.machines read.election names files (Ok logs)
+  pub gives_graph : GivesGraph (entries_of logs) (Ok graph)
+  pub judged : AreJudged (map (row_of read.roster.machines) graph.survivors) (nodes_of graph) rules verdicts
+  pub is : report ≡ report_on read.roster.machines names logs graph rules verdicts
+
+pub found_in : (name : List ℕ) (roster : Option (List ℕ)) (source : RuleSource) (rules_file : Option (List ℕ))
+    (names : List (List ℕ)) (files : List (Option (List ℕ))) (report : AuditReport) →
+    GivesReport name source names (files_read roster source rules_file files) (Ok report) →
+    IsFound name roster source rules_file names files report
+found_in name roster source rules_file names files report gives =
+    let (read, given, rules, of_source, with_rules) =
+    report_read name roster rules_file names files source report gives in
+    let machines = read.roster.machines in
+    let (logs, gives_logs, with_logs) =
+    both_found (GivesLogs machines read.election names files) (WithLogs machines source rules names) report
+    with_rules in
+    let (graph, gives_graph, with_graph) =
+    both_found (GivesGraph (entries_of logs)) (WithGraph machines source rules names logs) report with_logs in
+    let (verdicts, judged, same) =
+    both_found (GivesVerdicts source (map (row_of machines) graph.survivors) (nodes_of graph) rules)
+    (λ verdicts answer. answer ≡ Ok (report_on machines names logs graph rules verdicts)) report with_graph in
+    record {
+      read = read;
+      rules = rules;
+      logs = logs;
+      graph = graph;
+      verdicts = verdicts;
+      given = given;
+      of_source = of_source;
+      gives_logs = gives_logs;
+      gives_graph = gives_graph;
+      judged = judged;
+      is = cc;
+    }
+
+-- logs and a graph of an honest place accuse nobody
+accuses_nobody : (w : World SealedEntry) (machines : List Post) (names : List (List ℕ)) (logs : List LogRead)
+    (graph : EntryGraph SealedEntry) (rules : List RuleTree) (verdicts : List Verdict) → AreReadIn w logs →
+    IsHonestGraph w (entries_of logs) graph → AccusesNobody (report_on machines names logs graph rules verdicts)
+accuses_nobody w machines names logs graph rules verdicts read honest =
+    let each : (log : LogRead) → Contains logs log → IsReadIn w log =
+    λ log inside. All-contains (IsReadIn w) logs log read inside in
+    record {
+      no_refused = λ file log inside. ap (refused_lines file) (each log inside).read.none_refused;
+      no_malformed = λ log inside. not_malformed _ _ log.end (each log inside).read.ends;
+      no_break = λ file log inside. ap (break_line file) (each log inside).read.no_break;
+      no_stray = ap stray_lines honest.no_stray;
+      no_fork = ap (fork_lines machines) honest.no_fork;
+      lines = let rest = flat_map (rule_line machines graph.survivors) (zip rules verdicts) in
+          ap (λ (x : List ℕ). x ++ graph_lines machines graph ++ rest) (logs_innocent w names logs read)
+          ∙ ap (λ (x : List ℕ). flat_map log_and_torn_line (zip names logs) ++ x ++ rest)
+          (graph_innocent machines graph honest.no_stray honest.no_fork);
+    }
+
+module _ (script : Script) (w : World SealedEntry) (roster : Option (List ℕ)) (is : IsRosterOf script w roster)
+    (files : List (Option (List ℕ))) (name : List ℕ) (source : RuleSource) (rules_file : Option (List ℕ))
+    (names : List (List ℕ)) (report : AuditReport) where
+  -- the digests differ where all logs are there
+  pub found_distinct : AreAllFilesOf w files → IsFound name roster source rules_file names files report →
+      Distinct node_of_sealed (sent_in w)
+  found_distinct all found =
+      script_distinct found.read.roster.machines found.read.election w
+      (of_script script w roster is name found.read found.given)
+      names files all found.logs found.gives_logs found.graph found.gives_graph
+
+  module _ (apart : Distinct node_of_sealed (sent_in w)) (left : AreFilesOf w files)
+      (found : IsFound name roster source rules_file names files report) where
+    pub found_read : IsHonestlyRead found.read.roster.machines found.read.election w names files found.logs found.graph
+    found_read =
+        script_read found.read.roster.machines found.read.election w
+        (of_script script w roster is name found.read found.given)
+        apart names files left found.logs found.gives_logs found.graph found.gives_graph
+
+    pub found_logs : AreReadIn w found.logs
+    found_logs =
+        let machines = found.read.roster.machines in
+        let of = of_script script w roster is name found.read found.given in
+        files_are_read machines w (of_script_is_honest machines found.read.election w of) names files left found.logs
+        (subst (λ (election : List ℕ). GivesLogs machines election names files (Ok found.logs))
+        (of_script_election machines found.read.election w of) found.gives_logs)
+
+    on_parts : IsHonestReport script w names files
+        (report_on found.read.roster.machines names found.logs found.graph found.rules found.verdicts)
+    on_parts = record {
+      machines = machines_same script w roster is name found.read found.given;
+      named = refl;
+      each = found_read.each;
+      logs = found_logs;
+      all = found_read.all;
+      graph = found_read.honest;
+      accuses_nobody = accuses_nobody w found.read.roster.machines names found.logs found.graph found.rules
+          found.verdicts found_logs found_read.honest;
+    }
+
+    pub report_honest : IsHonestReport script w names files report
+    report_honest = subst (λ (r : AuditReport). IsHonestReport script w names files r) (sym found.is) on_parts

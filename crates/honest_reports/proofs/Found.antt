@@ -1,0 +1,93 @@
+-- What was found where an audit reports, or is refused.
+use Rattle.std.proofs.Common.{◌≡◌, ◌⊎◌, inl, inr, ℕ, List, ◌∷◌, Option, refl, subst}
+use Rattle.std.specs.Prelude.{Result, Ok, Err}
+use Rattle.rule_language.specs.Trees.{RuleTree}
+use Rattle.rule_language.specs.Standard.{standard_rules}
+use Rattle.evidence.specs.declared.roster_file.RosterRead.{RosterRead}
+use Rattle.evidence.specs.Refusal.{Refusal}
+use Rattle.evidence.specs.RosterFile.{GivesRoster}
+use Rattle.auditor.specs.Audits.{AndThen, GivesReport, WithRoster, WithRules}
+use Rattle.auditor.specs.Report.{AuditReport}
+use Rattle.auditor.specs.Sources.{RuleSource, standard, in_file, GivesRules}
+use Rattle.honest_reports.specs.Places.{files_read}
+use Rattle.honest_reports.specs.Refusals.{AreRulesOf, IsRefusalOfRules}
+
+-- two steps found something: so did the first, and then the next
+pub both_found : {A B : Type 0} (First : Result A Refusal → Type 0) (Next : A → Result B Refusal → Type 0) (found : B) →
+    AndThen First Next (Ok found) → (a : A) × First (Ok a) × Next a (Ok found)
+both_found First Next found (inl is) = is
+both_found First Next found (inr (refusal, first, same)) = cc
+
+-- two steps are refused: the first is, or the next behind it
+pub one_refused : {A B : Type 0} (First : Result A Refusal → Type 0) (Next : A → Result B Refusal → Type 0)
+    (refusal : Refusal) → AndThen First Next (Err refusal) →
+    First (Err refusal) ⊎ ((a : A) × First (Ok a) × Next a (Err refusal))
+one_refused First Next refusal (inl is) = inr is
+one_refused First Next refusal (inr (other, first, same)) =
+    let is : other ≡ refusal = cc in inl (subst (λ (r : Refusal). First (Err r)) is first)
+
+module _ (name : List ℕ) (roster rules_file : Option (List ℕ)) (names : List (List ℕ))
+    (files : List (Option (List ℕ))) where
+  -- the roster and the rules are read, and behind them is this answer
+  abbrev pub AreRead : RuleSource → Result AuditReport Refusal → Type 0
+  AreRead source answer =
+      (read : RosterRead) × GivesRoster name roster (Ok read) × (rules : List RuleTree)
+      × AreRulesOf source rules_file rules × WithRules read source rules names files answer
+
+  pub report_read : (source : RuleSource) (report : AuditReport) →
+      GivesReport name source names (files_read roster source rules_file files) (Ok report) →
+      AreRead source (Ok report)
+  report_read standard report gives =
+      let (read, given, rest) =
+      both_found (GivesRoster name roster) (λ read. WithRoster read standard names files) report gives in
+      (read, given, standard_rules, refl, rest)
+  report_read (in_file word) report gives =
+      let (read, given, next) =
+      both_found (GivesRoster name roster) (λ read. WithRoster read (in_file word) names (rules_file ∷ files)) report
+      gives in
+      let (rules, are, rest) =
+      both_found (GivesRules word rules_file) (λ rules. WithRules read (in_file word) rules names files) report next in
+      (read, given, rules, are, rest)
+
+  -- the roster is refused, or the rules, or what is behind them
+  abbrev pub IsOneRefused : RuleSource → Refusal → Type 0
+  IsOneRefused source refusal =
+      GivesRoster name roster (Err refusal)
+      ⊎ (IsRefusalOfRules source rules_file refusal ⊎ AreRead source (Err refusal))
+
+  rules_refused : (word : List ℕ) (refusal : Refusal) (read : RosterRead) → GivesRoster name roster (Ok read) →
+      GivesRules word rules_file (Err refusal)
+      ⊎ ((rules : List RuleTree) × GivesRules word rules_file (Ok rules)
+      × WithRules read (in_file word) rules names files (Err refusal)) →
+      IsOneRefused (in_file word) refusal
+  rules_refused word refusal read given (inl refused) = inr (inl refused)
+  rules_refused word refusal read given (inr (rules, are, rest)) = inr (inr (read, given, rules, are, rest))
+
+  standard_refused : (refusal : Refusal) →
+      GivesRoster name roster (Err refusal)
+      ⊎ ((read : RosterRead) × GivesRoster name roster (Ok read)
+      × WithRules read standard standard_rules names files (Err refusal)) →
+      IsOneRefused standard refusal
+  standard_refused refusal (inl refused) = inl refused
+  standard_refused refusal (inr (read, given, rest)) = inr (inr (read, given, standard_rules, refl, rest))
+
+  file_refused : (word : List ℕ) (refusal : Refusal) →
+      GivesRoster name roster (Err refusal)
+      ⊎ ((read : RosterRead) × GivesRoster name roster (Ok read)
+      × WithRoster read (in_file word) names (rules_file ∷ files) (Err refusal)) →
+      IsOneRefused (in_file word) refusal
+  file_refused word refusal (inl refused) = inl refused
+  file_refused word refusal (inr (read, given, next)) =
+      rules_refused word refusal read given
+      (one_refused (GivesRules word rules_file) (λ rules. WithRules read (in_file word) rules names files) refusal next)
+
+  pub refusal_read : (source : RuleSource) (refusal : Refusal) →
+      GivesReport name source names (files_read roster source rules_file files) (Err refusal) →
+      IsOneRefused source refusal
+  refusal_read standard refusal gives =
+      standard_refused refusal
+      (one_refused (GivesRoster name roster) (λ read. WithRoster read standard names files) refusal gives)
+  refusal_read (in_file word) refusal gives =
+      file_refused word refusal
+      (one_refused (GivesRoster name roster) (λ read. WithRoster read (in_file word) names (rules_file ∷ files))
+      refusal gives)

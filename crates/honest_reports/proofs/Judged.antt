@@ -1,0 +1,138 @@
+-- What a report on an honest place says of the standard rules.
+use Rattle.std.proofs.Common.{◌≡◌, ◌≢◌, ◌∙◌, ℕ, ◌++◌, inl, inr, Bool, true, false, List, [], ◌∷◌, map, length}
+use Rattle.std.proofs.Common.{refl, sym, ap, subst, arith}
+use Rattle.std.specs.Prelude.{Ok, ◌||◌}
+use Rattle.std.specs.List.{AllZip, Contains, flat_map, list_any, zip}
+use Rattle.entry_format.specs.Nodes.{node_of_sealed}
+use Rattle.entry_format.specs.SealedEntry.{SealedEntry}
+use Rattle.entry_order.specs.declared.three.Three.{Three}
+use Rattle.entry_order.specs.declared.three.Three.TheVariants as known
+use Rattle.entry_order.proofs.Lists.{Contains-none, Contains-head, Contains-later, Contains-cons_cases}
+use Rattle.entry_graph.specs.EntryGraph.{EntryGraph, IsEntryGraph, parents_of, ragged_of}
+use Rattle.roster.specs.declared.post.Post.{Post}
+use Rattle.rule_language.specs.declared.row.Row.{Row}
+use Rattle.rule_language.specs.Trees.{RuleTree}
+use Rattle.rule_engine.specs.declared.verdict.Verdict.{Verdict}
+use Rattle.rule_engine.specs.declared.verdict.Verdict.TheVariants as verdict
+use Rattle.rule_engine.specs.Values.{three_in}
+use Rattle.rule_engine.specs.Verdicts.{IsJudged}
+use Rattle.rule_engine.proofs.Unknowns.{unknown_only_by_gaps}
+use Rattle.auditor.specs.declared.outcome.Outcome.TheVariants as outcome
+use Rattle.auditor.specs.Judged.{AreJudged, nodes_of}
+use Rattle.auditor.specs.Outcomes.{has_finding, is_broken, is_unsettled, outcome_by, outcome_of}
+use Rattle.auditor.specs.Report.{AuditReport}
+use Rattle.auditor.specs.ReportText.{rule_line}
+use Rattle.auditor.specs.Rows.{row_of}
+use Rattle.honest_reports.specs.Kept.{unbroken_line}
+
+-- of a list each member says what all say
+pub none_by : {A : Type 0} (test : A → Bool) (xs : List A) → ((x : A) → Contains xs x → test x ≡ false) →
+    list_any test xs ≡ false
+none_by test [] each = refl
+none_by test (x ∷ xs) each =
+    ap (λ (b : Bool). b || list_any test xs) (each x (Contains-head x xs))
+    ∙ none_by test xs (λ y inside. each y (Contains-later x xs y inside))
+
+-- a verdict that isn't on a false value isn't Broken, and one on a true value is Kept
+module _ (rows : List Row) (graph : EntryGraph SealedEntry) where
+  abbrev value_of : RuleTree → Three
+  value_of rule = three_in rows (parents_of graph.links) (ragged_of graph.links) rule.body
+
+  abbrev IsOn : RuleTree → Verdict → Type 0
+  IsOn rule answer = IsJudged rows (nodes_of graph) rule.body (Ok answer)
+
+  one_not_broken : (rule : RuleTree) (answer : Verdict) → IsOn rule answer → value_of rule ≢ known.False →
+      is_broken answer ≡ false
+  one_not_broken rule verdict.Kept on free = refl
+  one_not_broken rule (verdict.Broken places) on free = absurd (free on.1.0)
+  one_not_broken rule verdict.Unsettled on free = refl
+
+  one_kept : (rule : RuleTree) (answer : Verdict) → IsOn rule answer → value_of rule ≡ known.True →
+      answer ≡ verdict.Kept
+  one_kept rule verdict.Kept on held = refl
+  one_kept rule (verdict.Broken places) on held = let no : known.True ≡ known.False = sym held ∙ on.1.0 in cc
+  one_kept rule verdict.Unsettled on held = let no : known.True ≡ known.Unknown = sym held ∙ on.1 in cc
+
+  -- a verdict is on the value of some rule
+  of_some_rule : (rules : List RuleTree) (verdicts : List Verdict) → AllZip IsOn rules verdicts → (answer : Verdict) →
+      Contains verdicts answer → (rule : RuleTree) × Contains rules rule × IsOn rule answer
+  of_some_rule [] [] judged answer inside = absurd (Contains-none answer inside)
+  of_some_rule [] (first ∷ verdicts) judged answer inside = absurd judged
+  of_some_rule (rule ∷ rules) [] judged answer inside = absurd judged
+  of_some_rule (rule ∷ rules) (first ∷ verdicts) judged answer inside =
+      elim (Contains-cons_cases first verdicts answer inside) [
+        | inl is ↦ (rule, Contains-head rule rules, subst (IsOn rule) is judged.0)
+        | inr later ↦
+            (let (other, there, on) = of_some_rule rules verdicts judged.1 answer later in
+            (other, Contains-later rule rules other there, on))
+      ]
+
+  pub as_many : (rules : List RuleTree) (verdicts : List Verdict) → AllZip IsOn rules verdicts →
+      length verdicts ≡ length rules
+  as_many [] [] judged = refl
+  as_many [] (answer ∷ verdicts) judged = absurd judged
+  as_many (rule ∷ rules) [] judged = absurd judged
+  as_many (rule ∷ rules) (answer ∷ verdicts) judged =
+      let rest = as_many rules verdicts judged.1 in omega (arith, rest)
+
+  pub none_broken : (rules : List RuleTree) (verdicts : List Verdict) → AllZip IsOn rules verdicts →
+      ((rule : RuleTree) → Contains rules rule → value_of rule ≢ known.False) → (answer : Verdict) →
+      Contains verdicts answer → is_broken answer ≡ false
+  none_broken rules verdicts judged free answer inside =
+      let (rule, there, on) = of_some_rule rules verdicts judged answer inside in
+      one_not_broken rule answer on (free rule there)
+
+  pub all_kept : (rules : List RuleTree) (verdicts : List Verdict) → AllZip IsOn rules verdicts →
+      ((rule : RuleTree) → Contains rules rule → value_of rule ≡ known.True) →
+      verdicts ≡ map (λ (rule : RuleTree). verdict.Kept) rules
+  all_kept [] [] judged held = refl
+  all_kept [] (answer ∷ verdicts) judged held = absurd judged
+  all_kept (rule ∷ rules) [] judged held = absurd judged
+  all_kept (rule ∷ rules) (answer ∷ verdicts) judged held =
+      ap (λ (v : Verdict). v ∷ verdicts) (one_kept rule answer judged.0 (held rule (Contains-head rule rules)))
+      ∙ ap (λ (vs : List Verdict). verdict.Kept ∷ vs)
+      (all_kept rules verdicts judged.1 (λ other there. held other (Contains-later rule rules other there)))
+
+-- one is unsettled only where there is a gap
+pub unsettled_by_gap : (machines : List Post) (graph : EntryGraph SealedEntry) → IsEntryGraph node_of_sealed graph →
+    (rules : List RuleTree) (verdicts : List Verdict) →
+    AreJudged (map (row_of machines) graph.survivors) (nodes_of graph) rules verdicts →
+    Contains verdicts verdict.Unsettled → graph.gaps ≢ []
+unsettled_by_gap machines graph is rules verdicts judged inside none =
+    let (rule, there, on) =
+    of_some_rule (map (row_of machines) graph.survivors) graph rules verdicts judged verdict.Unsettled inside in
+    (unknown_only_by_gaps node_of_sealed (row_of machines) graph.survivors (parents_of graph.links)
+    (ragged_of graph.links) is.linked.arrows rule.body on.1).1 (sym is.gaps ∙ none)
+
+-- what a report comes to where no rule is broken
+not_broken_by : (unsettled found : Bool) → outcome_by false unsettled found ≢ outcome.Broken
+not_broken_by true found same = cc
+not_broken_by false true same = cc
+not_broken_by false false same = cc
+
+pub outcome_not_broken : (report : AuditReport) →
+    ((answer : Verdict) → Contains report.verdicts answer → is_broken answer ≡ false) →
+    outcome_of report ≢ outcome.Broken
+outcome_not_broken report each same =
+    not_broken_by (list_any is_unsettled report.verdicts) (has_finding report)
+    (ap (λ (b : Bool). outcome_by b (list_any is_unsettled report.verdicts) (has_finding report))
+    (sym (none_by is_broken report.verdicts each)) ∙ same)
+
+-- the line of a rule that isn't broken
+one_line : (machines : List Post) (survivors : List SealedEntry) (rule : RuleTree) (answer : Verdict) →
+    is_broken answer ≡ false → rule_line machines survivors (rule, answer) ≡ unbroken_line (rule, answer)
+one_line machines survivors rule verdict.Kept free = refl
+one_line machines survivors rule (verdict.Broken places) free = cc
+one_line machines survivors rule verdict.Unsettled free = refl
+
+pub unbroken_lines : (machines : List Post) (survivors : List SealedEntry) (rules : List RuleTree)
+    (verdicts : List Verdict) → ((answer : Verdict) → Contains verdicts answer → is_broken answer ≡ false) →
+    flat_map (rule_line machines survivors) (zip rules verdicts) ≡ flat_map unbroken_line (zip rules verdicts)
+unbroken_lines machines survivors [] verdicts free = refl
+unbroken_lines machines survivors (rule ∷ rules) [] free = refl
+unbroken_lines machines survivors (rule ∷ rules) (answer ∷ verdicts) free =
+    ap (λ (x : List ℕ). x ++ flat_map (rule_line machines survivors) (zip rules verdicts))
+    (one_line machines survivors rule answer (free answer (Contains-head answer verdicts)))
+    ∙ ap (λ (x : List ℕ). unbroken_line (rule, answer) ++ x)
+    (unbroken_lines machines survivors rules verdicts
+    (λ other there. free other (Contains-later answer verdicts other there)))

@@ -1,0 +1,8 @@
+pub mod RosterGiven
+pub mod Found
+pub mod Lines
+pub mod Accused
+pub mod Judged
+pub mod NothingFound
+pub mod StandardRules
+pub mod Refused

@@ -1,0 +1,211 @@
+-- Where each rule is kept and each log ends behind a whole record, nothing is found.
+use Rattle.std.proofs.Common.{◌≡◌, ◌∙◌, ℕ, Bool, true, false, List, [], ◌∷◌, ◌++◌, map, length, Option, Some, None}
+use Rattle.std.proofs.Common.{inl, inr, refl, ap, subst}
+use Rattle.std.specs.Prelude.{Ok, ◌||◌, not, is_some, codes, IsSomeAnd}
+use Rattle.std.specs.List.{Contains, flat_map, list_any, zip}
+use Rattle.std.proofs.lemmas.List.{append-nil}
+use Rattle.std.proofs.lemmas.List.Elements.{All-contains, All-head, All-tail}
+use Rattle.entry_format.specs.SealedEntry.{SealedEntry}
+use Rattle.entry_format.specs.declared.plain.EntryFault.{EntryFault}
+use Rattle.entry_order.specs.World.{World}
+use Rattle.entry_order.proofs.Lists.{Contains-none, Contains-head, Contains-later, Contains-cons_cases}
+use Rattle.log_files.specs.declared.plain_log.End.{End}
+use Rattle.log_files.specs.declared.plain_log.End.TheVariants.{Clean, Torn, Malformed}
+use Rattle.log_files.specs.declared.sealed_log.LogRead.{LogRead}
+use Rattle.log_files.specs.LogFile.{IsSealedLogOf}
+use Rattle.log_files.specs.SealedLog.{SaysSealed}
+use Rattle.report_lines.specs.Lines.{line, gap_lines}
+use Rattle.roster.specs.declared.post.Post.{Post}
+use Rattle.rule_language.specs.Trees.{RuleTree}
+use Rattle.rule_language.specs.Standard.{standard_rules}
+use Rattle.rule_engine.specs.declared.verdict.Verdict.{Verdict}
+use Rattle.rule_engine.specs.declared.verdict.Verdict.TheVariants as verdict
+use Rattle.polling_world.specs.Making.{election_of}
+use Rattle.evidence.specs.Graphs.{entries_of}
+use Rattle.evidence.specs.Logs.{GivesLogs}
+use Rattle.honest_logs.specs.Agreement.{IsHonestGraph}
+use Rattle.honest_logs.specs.HonestWorld.{IsHonestWorld}
+use Rattle.honest_logs.specs.WhatIsLeft.{IsReadIn, AreReadIn}
+use Rattle.honest_logs.proofs.LeftInWorlds.{whole_in}
+use Rattle.auditor.specs.declared.outcome.Outcome.{Outcome}
+use Rattle.auditor.specs.declared.outcome.Outcome.TheVariants as outcome
+use Rattle.auditor.specs.Outcomes.{graph_has_finding, has_finding, has_some, is_broken, is_clean, is_unsettled}
+use Rattle.auditor.specs.Outcomes.{log_has_finding, outcome_by, outcome_of, outcome_word}
+use Rattle.auditor.specs.Report.{AuditReport}
+use Rattle.auditor.specs.ReportText.{entries_line, log_line, main_lines, report_text, rule_line}
+use Rattle.honest_reports.specs.Kept.{EndClean, FindsNothing, kept_line, kept_text}
+use Rattle.honest_reports.specs.Places.{AreWholeFilesOf, IsWholeIn}
+use Rattle.honest_reports.specs.Reports.{entries_and_gap_lines, innocent_lines, log_and_torn_line, torn_line}
+use Rattle.honest_reports.proofs.Judged.{none_by}
+
+-- the whole log of a machine is read to its end
+module _ (posts : List Post) (w : World SealedEntry) (honest : IsHonestWorld posts w) where
+  abbrev IsWholeFile : Option (List ℕ) → Type 0
+  IsWholeFile file = IsSomeAnd file (IsWholeIn w)
+
+  one_clean : (file : Option (List ℕ)) (log : LogRead) → IsWholeFile file →
+      IsSealedLogOf posts (election_of posts) log file → log.end ≡ Clean
+  one_clean None log whole said = absurd whole
+  one_clean (Some bytes) log whole said =
+      (whole_in posts w honest whole.machine whole.there log
+      (subst (λ (bs : List ℕ). SaysSealed posts (election_of posts) bs log) whole.whole said.1)).ends
+
+  pub whole_clean : (names : List (List ℕ)) (files : List (Option (List ℕ))) → AreWholeFilesOf w files →
+      (logs : List LogRead) → GivesLogs posts (election_of posts) names files (Ok logs) → EndClean logs
+  whole_clean [] [] whole [] gives log inside = absurd (Contains-none log inside)
+  whole_clean [] [] whole (first ∷ logs) gives log inside = absurd gives
+  whole_clean [] (file ∷ files) whole logs gives log inside = absurd gives
+  whole_clean (name ∷ names) [] whole logs gives log inside = absurd gives
+  whole_clean (name ∷ names) (file ∷ files) whole [] gives log inside = absurd gives
+  whole_clean (name ∷ names) (file ∷ files) whole (first ∷ logs) gives log inside =
+      elim (Contains-cons_cases first logs log inside) [
+        | inl is ↦
+            (let clean = one_clean file first (All-head IsWholeFile file files whole) gives.0 in
+            subst (λ (l : LogRead). l.end ≡ Clean) is clean)
+        | inr later ↦
+            whole_clean names files (All-tail IsWholeFile file files whole) logs gives.1 log later
+      ]
+
+-- a log without a refused record, a break or another end has no finding
+no_log_finding : (refused : List (ℕ × EntryFault)) (end : End) (broke : Option ℕ) → refused ≡ [] → end ≡ Clean →
+    broke ≡ None → (has_some refused || (not (is_clean end) || is_some broke)) ≡ false
+no_log_finding refused end broke first second third =
+    ap (λ (r : List (ℕ × EntryFault)). has_some r || (not (is_clean end) || is_some broke)) first
+    ∙ ap (λ (e : End). has_some {A = ℕ × EntryFault} [] || (not (is_clean e) || is_some broke)) second
+    ∙ ap (λ (b : Option ℕ). has_some {A = ℕ × EntryFault} [] || (not (is_clean Clean) || is_some b)) third
+
+-- and a graph without strays, forks and gaps has none
+no_graph_finding : (strays : List (List ℕ)) (forks : List (ℕ × ℕ)) (gaps : List (List ℕ)) → strays ≡ [] →
+    forks ≡ [] → gaps ≡ [] → (has_some strays || (has_some forks || has_some gaps)) ≡ false
+no_graph_finding strays forks gaps first second third =
+    ap (λ (s : List (List ℕ)). has_some s || (has_some forks || has_some gaps)) first
+    ∙ ap (λ (f : List (ℕ × ℕ)). has_some {A = List ℕ} [] || (has_some f || has_some gaps)) second
+    ∙ ap (λ (g : List (List ℕ)). has_some {A = List ℕ} [] || (has_some {A = ℕ × ℕ} [] || has_some g)) third
+
+-- verdicts that are all Kept have no other
+kept_only : (test : Verdict → Bool) → test verdict.Kept ≡ false → (rules : List RuleTree) →
+    list_any test (map (λ (rule : RuleTree). verdict.Kept) rules) ≡ false
+kept_only test fails [] = refl
+kept_only test fails (rule ∷ rules) =
+    ap (λ (b : Bool). b || list_any test (map (λ (rule : RuleTree). verdict.Kept) rules)) fails
+    ∙ kept_only test fails rules
+
+-- the lines of rules that are kept
+kept_lines : (machines : List Post) (survivors : List SealedEntry) (rules : List RuleTree) →
+    flat_map (rule_line machines survivors) (zip rules (map (λ (rule : RuleTree). verdict.Kept) rules))
+    ≡ flat_map kept_line rules
+kept_lines machines survivors [] = refl
+kept_lines machines survivors (rule ∷ rules) =
+    ap (λ (x : List ℕ). kept_line rule ++ x) (kept_lines machines survivors rules)
+
+-- a log with a clean end has its line and no other
+abbrev line_of : List ℕ × LogRead → List ℕ
+line_of named = log_line named.0 named.1
+
+clean_lines : (files : List (List ℕ)) (logs : List LogRead) → EndClean logs →
+    flat_map log_and_torn_line (zip files logs) ≡ flat_map line_of (zip files logs)
+clean_lines [] logs clean = refl
+clean_lines (file ∷ files) [] clean = refl
+clean_lines (file ∷ files) (log ∷ logs) clean =
+    ap (λ (e : End). log_line file log ++ torn_line file e ++ flat_map log_and_torn_line (zip files logs))
+    (clean log (Contains-head log logs))
+    ∙ ap (λ (x : List ℕ). x ++ flat_map log_and_torn_line (zip files logs)) (append-nil (log_line file log))
+    ∙ ap (λ (x : List ℕ). log_line file log ++ x)
+    (clean_lines files logs (λ other there. clean other (Contains-later log logs other there)))
+
+-- what is false of two is false of each
+or_false : (a b : Bool) → (a || b) ≡ false → (a ≡ false) × (b ≡ false)
+or_false true b is = cc
+or_false false b is = (refl, is)
+
+-- what is so of no member
+no_member : {A : Type 0} (test : A → Bool) (xs : List A) → list_any test xs ≡ false → (x : A) → Contains xs x →
+    test x ≡ false
+no_member test [] none x inside = absurd (Contains-none x inside)
+no_member {A} test (y ∷ xs) none x inside =
+    let both = or_false (test y) (list_any test xs) none in
+    elim (Contains-cons_cases y xs x inside) [
+      | inl is ↦ subst (λ (z : A). test z ≡ false) is both.0
+      | inr later ↦ no_member test xs both.1 x later
+    ]
+
+end_clean : (end : End) → not (is_clean end) ≡ false → end ≡ Clean
+end_clean Clean is = refl
+end_clean (Torn at) is = cc
+end_clean (Malformed at why) is = cc
+
+module _ (report : AuditReport) (kept : report.verdicts ≡ map (λ (rule : RuleTree). verdict.Kept) standard_rules) where
+  -- where each rule is kept, it comes to what was found
+  abbrev kept_verdicts : List Verdict
+  kept_verdicts = map (λ (rule : RuleTree). verdict.Kept) standard_rules
+
+  comes_by : (found : Bool) → has_finding report ≡ found → outcome_of report ≡ outcome_by false false found
+  comes_by found is =
+      let test = has_finding report in
+      ap (λ (vs : List Verdict). outcome_by (list_any is_broken vs) (list_any is_unsettled vs) test) kept
+      ∙ ap (λ (b : Bool). outcome_by b (list_any is_unsettled kept_verdicts) test)
+      (kept_only is_broken refl standard_rules)
+      ∙ ap (λ (b : Bool). outcome_by false b test) (kept_only is_unsettled refl standard_rules)
+      ∙ ap (λ (b : Bool). outcome_by false false b) is
+
+  -- a log whose end isn't clean is found
+  pub torn_found : ¬ EndClean report.logs → outcome_of report ≡ outcome.Findings
+  torn_found torn = by (has_finding report) refl
+    where
+      by : (found : Bool) → has_finding report ≡ found → outcome_of report ≡ outcome.Findings
+      by true is = comes_by true is
+      by false is =
+          let logs = (or_false (list_any log_has_finding report.logs) (graph_has_finding report.graph) is).0 in
+          absurd (torn (λ log inside.
+          let each = no_member log_has_finding report.logs logs log inside in
+          let rest = (or_false (has_some log.refused.items) (not (is_clean log.end) || is_some log.broke) each).1 in
+          end_clean log.end (or_false (not (is_clean log.end)) (is_some log.broke) rest).0))
+
+module _ (w : World SealedEntry) (report : AuditReport) (read : AreReadIn w report.logs)
+    (honest : IsHonestGraph w (entries_of report.logs) report.graph) (rules : report.rules ≡ standard_rules)
+    (kept : report.verdicts ≡ map (λ (rule : RuleTree). verdict.Kept) standard_rules)
+    (no_gap : report.graph.gaps ≡ []) (clean : EndClean report.logs) where
+  one_quiet : (log : LogRead) → Contains report.logs log → log_has_finding log ≡ false
+  one_quiet log inside =
+      let is = (All-contains (IsReadIn w) report.logs log read inside).read in
+      no_log_finding log.refused.items log.end log.broke is.none_refused (clean log inside) is.no_break
+
+  quiet : has_finding report ≡ false
+  quiet =
+      ap (λ (b : Bool). b || graph_has_finding report.graph) (none_by log_has_finding report.logs one_quiet)
+      ∙ no_graph_finding report.graph.strays report.graph.forks report.graph.gaps honest.no_stray honest.no_fork no_gap
+
+  comes_to : outcome_of report ≡ outcome.Kept
+  comes_to = comes_by report kept false quiet
+
+  -- the lines of the entries and gaps
+  graph_text : entries_and_gap_lines report.graph ≡ entries_line (length report.graph.survivors)
+  graph_text =
+      ap (λ (gaps : List (List ℕ)). entries_line (length report.graph.survivors) ++ gap_lines gaps) no_gap
+      ∙ append-nil (entries_line (length report.graph.survivors))
+
+  -- those of the rules
+  rules_text : flat_map (rule_line report.machines report.graph.survivors) (zip report.rules report.verdicts)
+      ≡ flat_map kept_line standard_rules
+  rules_text =
+      ap (λ (rs : List RuleTree). flat_map (rule_line report.machines report.graph.survivors) (zip rs report.verdicts))
+      rules
+      ∙ ap (λ (vs : List Verdict). flat_map (rule_line report.machines report.graph.survivors) (zip standard_rules vs))
+      kept
+      ∙ kept_lines report.machines report.graph.survivors standard_rules
+
+  text : main_lines report ≡ innocent_lines report → report_text report ≡ kept_text report
+  text lines =
+      let logs = flat_map line_of (zip report.files report.logs) in
+      let entries = entries_line (length report.graph.survivors) in
+      let rest = flat_map (rule_line report.machines report.graph.survivors) (zip report.rules report.verdicts) in
+      let last : Outcome → List ℕ = λ o. line (codes "verdict " ++ outcome_word o) in
+      ap (λ (x : List ℕ). x ++ last (outcome_of report)) lines
+      ∙ ap (λ (x : List ℕ). x ++ entries_and_gap_lines report.graph ++ rest ++ last (outcome_of report))
+      (clean_lines report.files report.logs clean)
+      ∙ ap (λ (x : List ℕ). logs ++ x ++ rest ++ last (outcome_of report)) graph_text
+      ∙ ap (λ (x : List ℕ). logs ++ entries ++ x ++ last (outcome_of report)) rules_text
+      ∙ ap (λ (o : Outcome). logs ++ entries ++ flat_map kept_line standard_rules ++ last o) comes_to
+
+  pub nothing_found : main_lines report ≡ innocent_lines report → FindsNothing report
+  nothing_found lines = record { outcome = comes_to; text = text lines }

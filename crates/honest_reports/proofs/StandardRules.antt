@@ -1,0 +1,167 @@
+-- With the standard rules no report on an honest place says that one is broken, and all logs show that each is kept.
+use Rattle.std.proofs.Common.{◌≡◌, ◌≢◌, ◌∙◌, ℕ, false, List, [], map, length, Option, sym, ap, subst}
+use Rattle.std.specs.Prelude.{Ok}
+use Rattle.std.specs.List.{Contains, flat_map, zip}
+use Rattle.election_script.specs.declared.script.Script.{Script}
+use Rattle.entry_format.specs.Nodes.{node_of_sealed}
+use Rattle.entry_format.specs.SealedEntry.{SealedEntry}
+use Rattle.entry_order.specs.declared.three.Three.TheVariants as three
+use Rattle.entry_order.specs.Naming.{Distinct}
+use Rattle.entry_order.specs.World.{World, sent_in}
+use Rattle.entry_graph.specs.EntryGraph.{IsEntryGraph, parents_of, ragged_of}
+use Rattle.roster.specs.declared.post.Post.{Post}
+use Rattle.rule_language.specs.declared.row.Row.{Row}
+use Rattle.rule_language.specs.Trees.{RuleTree}
+use Rattle.rule_language.specs.Standard.{standard_rules}
+use Rattle.rule_engine.specs.declared.verdict.Verdict.{Verdict}
+use Rattle.rule_engine.specs.declared.verdict.Verdict.TheVariants as verdict
+use Rattle.rule_engine.specs.Values.{three_in}
+use Rattle.polling_world.specs.Making.{election_of}
+use Rattle.evidence.specs.Graphs.{entries_of}
+use Rattle.evidence.specs.Logs.{GivesLogs}
+use Rattle.honest_logs.specs.Agreement.{IsAllGiven}
+use Rattle.honest_logs.specs.HonestReading.{IsHonestlyRead}
+use Rattle.honest_logs.specs.HonestWorld.{IsHonestWorld}
+use Rattle.honest_logs.specs.LeftFiles.{AreAllFilesOf, AreFilesOf}
+use Rattle.honest_logs.specs.OfScript.{IsOfScript}
+use Rattle.honest_logs.proofs.Given.{all_given, left_agrees}
+use Rattle.honest_logs.proofs.HonestGraphs.{of_script_election, of_script_is_honest}
+use Rattle.honest_rules.specs.Honest.{IsHonest}
+use Rattle.honest_rules.specs.Kept.{WereSentIn}
+use Rattle.honest_rules.proofs.Audits.{honest_audits_never_say_broken, honest_audits_say_kept}
+use Rattle.auditor.specs.Outcomes.{is_broken}
+use Rattle.auditor.specs.Report.{AuditReport, report_on}
+use Rattle.auditor.specs.Rows.{row_of}
+use Rattle.auditor.specs.Sources.{standard}
+use Rattle.honest_reports.specs.Kept.{EndClean, SaysAllKept, SaysNoneBroken, unbroken_line}
+use Rattle.honest_reports.specs.Places.{AreWholeFilesOf, IsRosterOf}
+use Rattle.honest_reports.specs.Reports.{IsHonestReport}
+use Rattle.honest_reports.proofs.Accused.{IsFound, found_distinct, found_logs, found_read, report_honest}
+use Rattle.honest_reports.proofs.Judged.{all_kept, as_many, none_broken, outcome_not_broken, unbroken_lines}
+use Rattle.honest_reports.proofs.Judged.{unsettled_by_gap}
+use Rattle.honest_reports.proofs.NothingFound.{nothing_found, torn_found, whole_clean}
+use Rattle.honest_reports.proofs.RosterGiven.{is_honest, of_script}
+
+module _ (script : Script) (w : World SealedEntry) (roster : Option (List ℕ)) (is : IsRosterOf script w roster)
+    (apart : Distinct node_of_sealed (sent_in w)) (files : List (Option (List ℕ))) (left : AreFilesOf w files)
+    (name : List ℕ) (rules_file : Option (List ℕ)) (names : List (List ℕ)) (report : AuditReport)
+    (found : IsFound name roster standard rules_file names files report) where
+  abbrev machines : List Post
+  machines = found.read.roster.machines
+
+  abbrev survivors : List SealedEntry
+  survivors = found.graph.survivors
+
+  abbrev rows : List Row
+  rows = map (row_of machines) survivors
+
+  -- w is of the script, honest as a place and as a world
+  of : IsOfScript machines found.read.election w
+  of = of_script script w roster is name found.read found.given
+
+  place : IsHonest machines w
+  place = is_honest script w roster is name found.read found.given
+
+  world : IsHonestWorld machines w
+  world = of_script_is_honest machines found.read.election w of
+
+  logs_are : GivesLogs machines (election_of machines) names files (Ok found.logs)
+  logs_are =
+      subst (λ (election : List ℕ). GivesLogs machines election names files (Ok found.logs))
+      (of_script_election machines found.read.election w of) found.gives_logs
+
+  graphed : IsEntryGraph node_of_sealed found.graph
+  graphed = found.gives_graph.2.kept
+
+  honest : IsHonestReport script w names files report
+  honest = report_honest script w roster is files name standard rules_file names report apart left found
+
+  known : IsHonestlyRead machines found.read.election w names files found.logs found.graph
+  known = found_read script w roster is files name standard rules_file names report apart left found
+
+  were_sent : WereSentIn w survivors
+  were_sent e inside =
+      (left_agrees machines w world apart found.logs
+      (found_logs script w roster is files name standard rules_file names report apart left found)).were_sent e
+      ((known.honest.members e).0 inside)
+
+  standard_one : (rule : RuleTree) → Contains found.rules rule → Contains standard_rules rule
+  standard_one rule inside = subst (λ (rules : List RuleTree). Contains rules rule) found.of_source inside
+
+  -- no rule is known to be broken
+  free : (rule : RuleTree) → Contains found.rules rule →
+      three_in rows (parents_of found.graph.links) (ragged_of found.graph.links) rule.body ≢ three.False
+  free rule inside =
+      honest_audits_never_say_broken machines w place apart survivors were_sent graphed.single
+      (parents_of found.graph.links) (ragged_of found.graph.links) graphed.linked.arrows rule (standard_one rule inside)
+
+  answers_free : (answer : Verdict) → Contains found.verdicts answer → is_broken answer ≡ false
+  answers_free = none_broken rows found.graph found.rules found.verdicts found.judged free
+
+  parts_free : SaysNoneBroken (report_on machines names found.logs found.graph found.rules found.verdicts)
+  parts_free = record {
+    rules = found.of_source;
+    one_each = as_many rows found.graph found.rules found.verdicts found.judged
+        ∙ ap (λ (rules : List RuleTree). length rules) found.of_source;
+    verdicts = answers_free;
+    lines = unbroken_lines machines survivors found.rules found.verdicts answers_free
+        ∙ ap (λ (rules : List RuleTree). flat_map unbroken_line (zip rules found.verdicts)) found.of_source;
+    unsettled = unsettled_by_gap machines found.graph graphed found.rules found.verdicts found.judged;
+    outcome = outcome_not_broken
+        (report_on machines names found.logs found.graph found.rules found.verdicts) answers_free;
+  }
+
+  pub says_none_broken : SaysNoneBroken report
+  says_none_broken = subst SaysNoneBroken (sym found.is) parts_free
+
+  module _ (whole : AreAllFilesOf w files) where
+    given : IsAllGiven w (entries_of found.logs)
+    given = all_given w found.logs (known.all whole)
+
+    all_sent : (e : SealedEntry) → Contains (sent_in w) e → Contains survivors e
+    all_sent e sent = (known.honest.members e).1 (given e sent)
+
+    -- each rule is known to be kept
+    held : (rule : RuleTree) → Contains found.rules rule →
+        three_in rows (parents_of found.graph.links) (ragged_of found.graph.links) rule.body ≡ three.True
+    held rule inside =
+        honest_audits_say_kept machines w place apart survivors were_sent all_sent graphed.single
+        (parents_of found.graph.links) (ragged_of found.graph.links) graphed.linked.arrows rule
+        (standard_one rule inside)
+
+    parts_kept : report.rules ≡ standard_rules
+    parts_kept = ap (λ (r : AuditReport). r.rules) found.is ∙ found.of_source
+
+    verdicts_kept : report.verdicts ≡ map (λ (rule : RuleTree). verdict.Kept) standard_rules
+    verdicts_kept =
+        ap (λ (r : AuditReport). r.verdicts) found.is
+        ∙ all_kept rows found.graph found.rules found.verdicts found.judged held
+        ∙ ap (λ (rules : List RuleTree). map (λ (rule : RuleTree). verdict.Kept) rules) found.of_source
+
+    no_gap : report.graph.gaps ≡ []
+    no_gap = (honest.graph.all_told (all_given w report.logs (honest.all whole))).no_gap
+
+    clean : AreWholeFilesOf w files → EndClean report.logs
+    clean each =
+        subst EndClean (sym (ap (λ (r : AuditReport). r.logs) found.is))
+        (whole_clean machines w world names files each found.logs logs_are)
+
+    pub says_all_kept : SaysAllKept w files report
+    says_all_kept = record {
+      rules = parts_kept;
+      verdicts = verdicts_kept;
+      no_gap = no_gap;
+      clean = clean;
+      nothing = λ ends. nothing_found w report honest.logs honest.graph parts_kept verdicts_kept no_gap ends
+          honest.accuses_nobody.lines;
+      torn = torn_found report verdicts_kept;
+    }
+
+-- where all logs are there, digests differ
+pub all_kept_of_whole : (script : Script) (w : World SealedEntry) (roster : Option (List ℕ)) →
+    IsRosterOf script w roster → (files : List (Option (List ℕ))) → AreFilesOf w files → AreAllFilesOf w files →
+    (name : List ℕ) (rules_file : Option (List ℕ)) (names : List (List ℕ)) (report : AuditReport) →
+    IsFound name roster standard rules_file names files report → SaysAllKept w files report
+all_kept_of_whole script w roster is files left whole name rules_file names report found =
+    let apart = found_distinct script w roster is files name standard rules_file names report whole found in
+    says_all_kept script w roster is apart files left name rules_file names report found whole

@@ -1,0 +1,4 @@
+pub mod Places
+pub mod Reports
+pub mod Kept
+pub mod Refusals

@@ -1,0 +1,36 @@
+-- The files of an audit of what is left of an honest place.
+use Rattle.std.specs.Prelude.{◌≡◌, ℕ, ◌<◌, List, ◌∷◌, length, All, Option, Some, IsSomeAnd}
+use Rattle.canonical_sexp.specs.Text.{text_of}
+use Rattle.roster.specs.RosterText.{roster_tree}
+use Rattle.election_script.specs.declared.script.Script.{Script}
+use Rattle.election_script.specs.Lawful.{IsLawful}
+use Rattle.entry_format.specs.SealedEntry.{SealedEntry}
+use Rattle.entry_order.specs.declared.step.Step.{Step}
+use Rattle.entry_order.specs.World.{World, history}
+use Rattle.polling_world.specs.Keys.{roster_of}
+use Rattle.polling_world.specs.Playing.{ComesTo}
+use Rattle.log_files.specs.Written.{log_text}
+use Rattle.auditor.specs.Sources.{RuleSource, standard, in_file}
+
+-- The script is lawful, its machines come to w by some steps, and the file has the text of its roster.
+pub record IsRosterOf (script : Script) (w : World SealedEntry) (file : Option (List ℕ)) : Type 0 where
+  pub steps : List Step
+  pub lawful : IsLawful script
+  pub comes : ComesTo script steps w
+  pub text : file ≡ Some (text_of (roster_tree (roster_of script)))
+
+-- what an audit reads: the roster's file, that of the rules if they are in one, and those of the logs
+abbrev pub files_read : Option (List ℕ) → RuleSource → Option (List ℕ) → List (Option (List ℕ))
+    → List (Option (List ℕ))
+files_read roster standard rules logs = roster ∷ logs
+files_read roster (in_file name) rules logs = roster ∷ rules ∷ logs
+
+-- the bytes are the whole log of a machine of w
+pub record IsWholeIn (w : World SealedEntry) (bytes : List ℕ) : Type 0 where
+  pub machine : ℕ
+  pub there : machine < length w
+  pub whole : bytes ≡ log_text machine (history w machine)
+
+-- each of the files is there and is the whole log of a machine of w
+abbrev pub AreWholeFilesOf : World SealedEntry → List (Option (List ℕ)) → Type 0
+AreWholeFilesOf w files = All (λ file. IsSomeAnd file (IsWholeIn w)) files
