@@ -1,0 +1,4 @@
+pub mod Sent
+pub mod Ends
+pub mod Ways
+pub mod Makings

@@ -1,0 +1,111 @@
+-- What became of an entry on its way to a machine.
+use Rattle.std.proofs.Common.{◌≡◌, ℕ, ◌+◌, ◌<◌, ◌≤◌, Bool, true, false, List, [], ◌∷◌, ◌++◌, length, refl, sym, ap, ◌∙◌}
+use Rattle.std.proofs.Common.{subst, arith, ◌⊎◌, inl, inr, Option, Some, None, get_or}
+use Rattle.std.specs.Prelude.{All, AllPairs}
+use Rattle.std.specs.List.{Contains}
+use Rattle.std.proofs.lemmas.Bool.{cases_lt, true≢false}
+use Rattle.std.proofs.lemmas.List.{append-nil}
+use Rattle.std.proofs.lemmas.List.Elements.{at_from_Contains}
+use Rattle.entry_format.specs.SealedEntry.{SealedEntry}
+use Rattle.entry_order.proofs.Lists.{list_any_of}
+use Rattle.broadcast_queues.specs.Ends.{OutView}
+use Rattle.floor_losses.specs.declared.loss.Loss.{Loss}
+use Rattle.floor_losses.specs.declared.loss.LossWhy.{LossWhy}
+use Rattle.floor_losses.specs.declared.loss.LossWhy.TheVariants.{Scripted, LinkFull, ToStopped, LogFull, SameDigest}
+use Rattle.floor_losses.specs.Losses.{is_lost, is_of}
+use Rattle.floor_losses.proofs.Arriving.{itself}
+use Rattle.floor_links.specs.Sendings.{loss_of, IsWay, IsTold, IsSentOn}
+
+-- of losses by ascending receivers, two with one receiver are one
+pub once_there : (xs : List Loss) → AllPairs (λ (a b : Loss). a.to < b.to) xs → (x y : Loss) → Contains xs x →
+    Contains xs y → x.to ≡ y.to → x ≡ y
+once_there xs rises x y c d s =
+    let p = at_from_Contains xs x c in
+    let q = at_from_Contains xs y d in
+    let here : get_or xs p.0 x ≡ x = p.2 x in
+    let there : get_or xs q.0 x ≡ y = q.2 x in
+    let n = ap (λ (z : Loss). z.to) here in
+    let m = ap (λ (z : Loss). z.to) there in
+    elim (cases_lt p.0 q.0) [
+      | inl lt ↦ (let r = rises p.0 q.0 x lt q.1 in absurd (omega arith))
+      | inr le ↦ elim (cases_lt q.0 p.0) [
+        | inl lt ↦ (let r = rises q.0 p.0 x lt p.1 in absurd (omega arith))
+        | inr above ↦ (let e : p.0 ≡ q.0 = omega arith in sym here ∙ ap (λ k. get_or xs k x) e ∙ there)
+      ]
+    ]
+
+-- a loss that is told is one of the entry
+told_lost : (lost : List Loss) (e : SealedEntry) (to : ℕ) (why : LossWhy) → Contains lost (loss_of e to why) →
+    is_lost lost e.entry.maker e.entry.number to ≡ true
+told_lost lost e to why c =
+    list_any_of (is_of e.entry.maker e.entry.number to) lost (loss_of e to why) c
+    (itself (loss_of e to why) e.entry.maker e.entry.number to refl refl refl)
+
+module _ (scripted : Bool) (capacity to : ℕ) (e : SealedEntry) (old new : OutView SealedEntry) where
+  abbrev PutOrLost : List Loss → Type 0
+  PutOrLost lost =
+      ((new.put ≡ old.put ++ e ∷ []) × (is_lost lost e.entry.maker e.entry.number to ≡ false))
+      ⊎ ((new.put ≡ old.put) × (is_lost lost e.entry.maker e.entry.number to ≡ true))
+
+  by_cause : (lost : List Loss) (cause : Option LossWhy) → IsWay scripted capacity e old new cause →
+      IsTold lost e to cause → PutOrLost lost
+  by_cause lost None way told = inl (way.1.put, told)
+  by_cause lost (Some Scripted) way told =
+      inr (ap (λ (x : OutView SealedEntry). x.put) way.1, told_lost lost e to Scripted told)
+  by_cause lost (Some LinkFull) way told = inr (way.1.put, told_lost lost e to LinkFull told)
+  by_cause lost (Some ToStopped) way told = absurd way
+  by_cause lost (Some LogFull) way told = absurd way
+  by_cause lost (Some SameDigest) way told = absurd way
+
+  -- the entry was put, or it is lost and nothing was put
+  pub put_or_lost : (lost : List Loss) → IsSentOn scripted capacity to e old new lost → PutOrLost lost
+  put_or_lost lost on = by_cause lost on.cause on.way on.told
+
+  grows_by : (cause : Option LossWhy) → IsWay scripted capacity e old new cause →
+      (more : List SealedEntry) × (new.put ≡ old.put ++ more)
+  grows_by None way = (e ∷ [], way.1.put)
+  grows_by (Some Scripted) way = ([], ap (λ (x : OutView SealedEntry). x.put) way.1 ∙ sym (append-nil old.put))
+  grows_by (Some LinkFull) way = ([], way.1.put ∙ sym (append-nil old.put))
+  grows_by (Some ToStopped) way = absurd way
+  grows_by (Some LogFull) way = absurd way
+  grows_by (Some SameDigest) way = absurd way
+
+  -- what was put before is still there
+  pub put_grows : (lost : List Loss) → IsSentOn scripted capacity to e old new lost →
+      (more : List SealedEntry) × (new.put ≡ old.put ++ more)
+  put_grows lost on = grows_by on.cause on.way
+
+  found_by : (lost : List Loss) → AllPairs (λ (a b : Loss). a.to < b.to) lost → (loss : Loss) → Contains lost loss →
+      loss.from ≡ e.entry.maker → loss.number ≡ e.entry.number → loss.to ≡ to →
+      (cause : Option LossWhy) → IsWay scripted capacity e old new cause → IsTold lost e to cause →
+      IsWay scripted capacity e old new (Some loss.why)
+  found_by lost rises loss c from number there None way told =
+      let is : is_lost lost e.entry.maker e.entry.number to ≡ true =
+      list_any_of (is_of e.entry.maker e.entry.number to) lost loss c
+      (itself loss e.entry.maker e.entry.number to from number there) in
+      cc
+  found_by lost rises loss c from number there (Some why) way told =
+      let same : loss_of e to why ≡ loss = once_there lost rises (loss_of e to why) loss told c (sym there) in
+      let w : why ≡ loss.why = ap (λ (x : Loss). x.why) same in
+      subst (λ (y : LossWhy). IsWay scripted capacity e old new (Some y)) w way
+
+  -- each loss has its own cause
+  pub way_of_loss : (lost : List Loss) → AllPairs (λ (a b : Loss). a.to < b.to) lost → (loss : Loss) →
+      Contains lost loss → loss.from ≡ e.entry.maker → loss.number ≡ e.entry.number → loss.to ≡ to →
+      IsSentOn scripted capacity to e old new lost → IsWay scripted capacity e old new (Some loss.why)
+  way_of_loss lost rises loss c from number there on =
+      found_by lost rises loss c from number there on.cause on.way on.told
+
+  named_by : (lost : List Loss) (cause : Option LossWhy) → IsWay scripted capacity e old new cause →
+      IsTold lost e to cause → scripted ≡ true → Contains lost (loss_of e to Scripted)
+  named_by lost None way told is = absurd (true≢false (sym is ∙ way.0))
+  named_by lost (Some Scripted) way told is = told
+  named_by lost (Some LinkFull) way told is = absurd (true≢false (sym is ∙ way.0))
+  named_by lost (Some ToStopped) way told is = absurd way
+  named_by lost (Some LogFull) way told is = absurd way
+  named_by lost (Some SameDigest) way told is = absurd way
+
+  -- an entry that a line names is lost so
+  pub named_is_lost : (lost : List Loss) → IsSentOn scripted capacity to e old new lost → scripted ≡ true →
+      Contains lost (loss_of e to Scripted)
+  named_is_lost lost on is = named_by lost on.cause on.way on.told is

@@ -1,0 +1,4 @@
+pub mod Rows
+pub mod Sendings
+pub mod Fresh
+pub mod inside

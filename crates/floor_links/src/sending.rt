@@ -1,0 +1,111 @@
+//! What becomes of an entry that a machine sent.
+ghost use Rattle.std.specs.Prelude.{◌≡◌, ◌≢◌, ◌≤◌, ◌<◌, ◌+◌, ◌++◌, [], ℕ, List, All};
+ghost use Rattle.std.specs.Prelude.{length, slice_index_or, vec_capacity, vec_len};
+ghost use Rattle.entry_format.specs.SealedEntry.{SealedEntry};
+ghost use Rattle.broadcast_queues.specs.Ends.{IsOutOf, OutView, LinkView};
+ghost use Rattle.floor_losses.specs.declared.loss.Loss.{Loss};
+ghost use Rattle.floor_links.specs.Sendings.{is_scripted, AreCopies, IsSentBelow, IsSentTo};
+ghost use Rattle.floor_links.specs.Rows.{HaveCapacity, IsRowOf, link_at};
+
+use crate::links::Links;
+use crate::parcel::Broadcast;
+use broadcast_queues::{Link, LinkOut};
+use election_script::Lose;
+use entry_format::Sealed;
+use entry_order::Knot;
+use floor_losses::{Loss, LossWhy};
+use std::sync::Wait;
+
+// Sends one copy, or notes why it isn't sent.
+fn send_one<R: Wait>(
+    rt: &R,
+    link: &Link<Broadcast>,
+    out: &mut LinkOut<Broadcast>,
+    scripted: bool,
+    losses: &mut Vec<Loss>,
+    to: u32,
+    copy: Sealed,
+)
+    requires end { IsOutOf link.now out.old }
+    requires from { copy.entry.maker ≡ link.now.from }
+    requires small { copy.entry.number < 4096 }
+    requires greater { All (λ (before : SealedEntry).
+        before.entry.number < copy.entry.number) out.old.put }
+    requires room { vec_len losses.old < vec_capacity losses.old }
+    ensures sent { IsSentTo scripted link.now.capacity to copy
+        out.old out.new losses.old.items losses.new.items }
+    ensures capacity { vec_capacity losses.new ≡ vec_capacity losses.old }
+{
+    let (from, number) = (copy.maker(), copy.number());
+    if scripted {
+        losses.push_reserved(Loss {
+            from,
+            number,
+            to,
+            why: LossWhy::Scripted,
+        });
+        return;
+    }
+    match link.put(rt, out, Broadcast::new(copy)) {
+        Ok(()) => {}
+        Err(_back) => losses.push_reserved(Loss {
+            from,
+            number,
+            to,
+            why: LossWhy::LinkFull,
+        }),
+    }
+}
+
+/// Whether a line of the script says that the entry is lost on its way to `to`.
+pub fn is_scripted(loses: &[Lose], from: u32, number: u32, to: u32) -> bool
+    ensures { result ≡ is_scripted loses.now from number to }
+{
+    loses.iter().any(|lose| lose.from == from && lose.number == number && lose.to == to)
+}
+
+/// Sends a copy of machine `own`'s entry to each other machine, in ascending order, and notes each
+/// that is lost. It takes no memory, and may wait for the links' other ends.
+pub fn send_all<R: Wait>(
+    rt: &R,
+    links: &Links,
+    own: u32,
+    number: u32,
+    mut copies: Vec<Sealed>,
+    loses: &[Lose],
+    outs: &mut Vec<LinkOut<Broadcast>>,
+    losses: &mut Vec<Loss>,
+)
+    // The ends are those of the links in the machine's row.
+    requires own { own < vec_len outs.old }
+    requires few { vec_len outs.old ≤ 16 }
+    requires row { IsRowOf links.now own outs.old.items }
+
+    // The entry is the machine's next, and there is a copy for each receiver.
+    requires greater { (to : ℕ) (d : OutView SealedEntry) → to < vec_len outs.old → to ≢ own →
+        All (λ (before : SealedEntry). before.entry.number < number)
+        (slice_index_or outs.old.items to d).put }
+    requires copies { AreCopies own number copies.items }
+    requires many { vec_len copies + 1 ≡ vec_len outs.old }
+
+    requires room { vec_len losses.old + vec_len outs.old ≤ vec_capacity losses.old }
+    ensures sent { (e : SealedEntry) (capacity : ℕ) →
+        e.entry.maker ≡ own → e.entry.number ≡ number →
+        All (λ (x : SealedEntry). x ≡ e) copies.items →
+        HaveCapacity links.now own (vec_len outs.old) capacity →
+        (fresh : List Loss) × (losses.new.items ≡ losses.old.items ++ fresh)
+        × IsSentBelow loses.now capacity (vec_len outs.old) e outs.old.items outs.new.items fresh }
+    ensures capacity { vec_capacity losses.new ≡ vec_capacity losses.old }
+{
+    let count = outs.len();
+    for to in 0..count {
+        if to != own as usize {
+            let Some(copy) = copies.pop() else {
+                unreachable!();
+            };
+            let link = links.link(own as usize, to);
+            let scripted = is_scripted(loses, own, number, to as u32);
+            send_one(rt, link, &mut outs[to], scripted, losses, to as u32, copy);
+        }
+    }
+}

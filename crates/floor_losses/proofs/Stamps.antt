@@ -1,0 +1,84 @@
+-- In an orderly world a stamp is at most how many entries were sent.
+use Rattle.std.proofs.Common.{◌≡◌, ℕ, zero, suc, ◌≤◌, max, List, [], ◌∷◌, ◌++◌, length, map, refl, sym}
+use Rattle.std.proofs.Common.{ap, ◌∙◌, subst, arith, ◌⊎◌, inl, inr, length-append}
+use Rattle.std.specs.List.{Contains, fold}
+use Rattle.std.proofs.lemmas.Bool.{cases_eq, cases_lt}
+use Rattle.std.proofs.lemmas.List.{length-map}
+use Rattle.std.proofs.lemmas.List.Elements.{Contains-append_left, Contains-append_right, Contains-append_cases}
+use Rattle.entry_order.specs.Node.{Node}
+use Rattle.entry_order.specs.History.{held}
+use Rattle.entry_order.specs.World.{World, sent_in}
+use Rattle.entry_order.specs.Receipt.{IsOrderly}
+use Rattle.entry_order.proofs.Lists.{Contains-head, Contains-later, Contains-cons_cases, Contains-map}
+use Rattle.entry_order.proofs.Orders.{member_split, was_sent, held_was_sent, next_of}
+
+-- a list with each number from 1 to s has at least s members
+pub many : (s : ℕ) (xs : List ℕ) → ((t : ℕ) → 1 ≤ t → t ≤ s → Contains xs t) → s ≤ length xs
+many zero xs all = omega arith
+many (suc s) xs all =
+    let split = member_split xs (suc s) (all (suc s) (omega arith) (omega arith)) in
+    let rest : List ℕ = split.0 ++ split.1 in
+    let others : (t : ℕ) → 1 ≤ t → t ≤ s → Contains rest t =
+    λ t low high.
+    let there : Contains (split.0 ++ suc s ∷ split.1) t =
+    subst (λ (l : List ℕ). Contains l t) split.2 (all t low (omega arith)) in
+    elim (Contains-append_cases split.0 (suc s ∷ split.1) t there) [
+      | inl h ↦ Contains-append_left split.0 split.1 t h
+      | inr h ↦ elim (Contains-cons_cases (suc s) split.1 t h) [
+        | inl e ↦ absurd (omega arith)
+        | inr k ↦
+            Contains-append_right split.0 split.1 t k
+      ]
+    ] in
+    let fewer = many s rest others in
+    omega (arith, ap length split.2, length-append split.0 (suc s ∷ split.1), length-append split.0 split.1)
+
+module _ {T : Type 0} (node : T → Node) where
+  -- the greatest stamp is one of them, or what it began with
+  attained_from : (top : ℕ) (es : List T) → (fold (λ top e. max top (node e).stamp) top es ≡ top) ⊎
+      ((f : T) × Contains es f × ((node f).stamp ≡ fold (λ top e. max top (node e).stamp) top es))
+  attained_from top [] = inl refl
+  attained_from top (z ∷ es) =
+      elim (attained_from (max top (node z).stamp) es) [
+        | inl same ↦ elim (cases_lt top (node z).stamp) [
+          | inl lt ↦ inr (
+            z,
+            Contains-head z es,
+            (let m : max top (node z).stamp ≡ (node z).stamp = omega arith in
+                sym (same ∙ m)),
+          )
+          | inr le ↦ inl (let m : max top (node z).stamp ≡ top = omega arith in same ∙ m)
+        ]
+        | inr found ↦ inr (found.0, Contains-later z es found.0 found.1, found.2)
+      ]
+
+  module _ (w : World T) (orderly : IsOrderly node w) where
+    -- below each stamp there are all stamps
+    each_stamp : (n : ℕ) (e : T) → Contains (sent_in w) e → (node e).stamp ≤ n → (t : ℕ) → 1 ≤ t →
+        t ≤ (node e).stamp → (f : T) × Contains (sent_in w) f × ((node f).stamp ≡ t)
+    each_stamp zero e c fuel t low high = absurd (omega arith)
+    each_stamp (suc n) e c fuel t low high =
+        elim (cases_eq (node e).stamp t) [
+          | inl s ↦ (e, c, s)
+          | inr differs ↦
+              (let was = was_sent w e c in
+              let next = next_of node w orderly was.0 e was.1 in
+              elim (attained_from 0 (held was.0)) [
+                | inl none ↦ absurd (let h = next.stamp in omega arith)
+                | inr found ↦
+                    (let h = next.stamp in
+                    let lower = found.2 in
+                    each_stamp n found.0 (held_was_sent node w orderly was.0 e was.1 found.0 found.1) (omega arith) t
+                    low (omega arith))
+              ])
+        ]
+
+    -- so a stamp is at most how many were sent
+    pub stamps_are_few : (e : T) → Contains (sent_in w) e → (node e).stamp ≤ length (sent_in w)
+    stamps_are_few e c =
+        let all = many (node e).stamp (map (λ (x : T). (node x).stamp) (sent_in w))
+        (λ t low high.
+        let f = each_stamp (node e).stamp e c (omega arith) t low high in
+        subst (λ n. Contains (map (λ (x : T). (node x).stamp) (sent_in w)) n) f.2
+        (Contains-map (λ (x : T). (node x).stamp) (sent_in w) f.0 f.1)) in
+        omega (arith, length-map (sent_in w) (λ (x : T). (node x).stamp))

@@ -1,0 +1,15 @@
+//! The laws of losses. Each is the contract of a function with an empty body.
+ghost use Rattle.floor_losses.specs.Laws.{EachIsHeardOrLost, StampsAreFew};
+
+use entry_order::Knot;
+
+/// Where nothing waits, each entry was heard by each other machine or is lost on its way there,
+/// once.
+pub fn each_is_heard_or_lost<T: Knot>()
+    ensures { EachIsHeardOrLost T.node }
+{}
+
+/// In an orderly world a stamp is at most how many entries were sent.
+pub fn stamps_are_few<T: Knot>()
+    ensures { StampsAreFew T.node }
+{}

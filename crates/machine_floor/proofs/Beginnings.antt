@@ -1,0 +1,236 @@
+-- A station before anything happened is one.
+use Rattle.std.proofs.Common.{◌≡◌, ℕ, ◌<◌, List, [], ◌∷◌, length, map}
+use Rattle.std.proofs.Common.{refl}
+use Rattle.std.proofs.Common.{sym, ap, ◌∙◌, subst, arith, get_or, Option}
+use Rattle.std.specs.Prelude.{All}
+use Rattle.std.specs.List.{Contains}
+use Rattle.std.proofs.lemmas.List.{get_or-map, get_or_default, length-map}
+use Rattle.std.proofs.lemmas.Option.{slice_get_within}
+use Rattle.entry_format.specs.Nodes.{node_of_sealed}
+use Rattle.entry_format.specs.SealedEntry.{SealedEntry}
+use Rattle.entry_order.specs.declared.event.Event.{Event}
+use Rattle.entry_order.specs.declared.event.Event.TheVariants.{Got}
+use Rattle.entry_order.specs.History.{sent}
+use Rattle.entry_order.proofs.Lists.{Contains-none}
+use Rattle.election_script.specs.declared.script.Lose.{Lose}
+use Rattle.election_script.specs.declared.script.Script.{Script}
+use Rattle.election_script.specs.Lawful.{IsLawful}
+use Rattle.broadcast_queues.specs.Ends.{OutView, InView, LinkView}
+use Rattle.floor_losses.specs.declared.loss.Loss.{Loss}
+use Rattle.floor_losses.specs.Losses.{arriving, got_from}
+use Rattle.log_lock.specs.declared.story.Tick.{Tick}
+use Rattle.floor_links.specs.Fresh.{out_of, in_of, AreNewLinks}
+use Rattle.floor_links.specs.Rows.{link_at}
+use Rattle.polling_world.specs.Machines.{MachineState, IsMachine, IsFresh}
+use Rattle.machine_floor.specs.Stations.{StationState, IsStation, IsTakenWell, IsOfLinks, new_out, new_in}
+use Rattle.machine_floor.specs.Stations.{ticks_from}
+use Rattle.machine_floor.specs.Fresh.{lines_of, IsStopOf, IsNewStation}
+use Rattle.machine_floor.specs.inside.Beginning.{begun, IsBeginning}
+
+module _ (script : Script) (m : MachineState) (outs : List (OutView SealedEntry)) (inns : List (InView SealedEntry))
+    (is : IsBeginning script m outs inns) (kept : IsMachine m) where
+  none_sent : sent m.events ≡ []
+  none_sent = ap sent is.events
+
+  nothing_well : (from : ℕ) (taken : List SealedEntry) → taken ≡ [] → IsTakenWell from taken
+  nothing_well from taken e =
+      subst (IsTakenWell from) (sym e) (record {
+        makers = λ k d lt. absurd (omega arith);
+        small = λ k d lt. absurd (omega arith);
+        dense = λ k d lt. absurd (omega arith);
+      })
+
+  pub IsStation-begun : IsStation (begun script m outs inns)
+  IsStation-begun = record {
+    machine = kept;
+    going = is.going;
+    small = omega (arith, is.log, is.small);
+    place = is.place;
+    few = is.few;
+    as_many = is.as_many;
+    puts = λ to d lt differs. is.put to d lt ∙ sym (ap (arriving node_of_sealed [] m.config.number to) none_sent);
+    heard = λ from d lt differs. ap (got_from node_of_sealed from) is.events
+        ∙ sym (ap (arriving node_of_sealed [] from m.config.number) (is.taken from d lt));
+    taken = λ from d lt. nothing_well from (get_or inns from d).taken (is.taken from d lt);
+    makers = λ e c. absurd
+        (Contains-none (Got e) (subst (λ (h : List (Event SealedEntry)). Contains h (Got e)) is.events c));
+    fits = λ k d lt. absurd (omega arith);
+    once = λ i j d lt within. absurd (omega arith);
+    scripted = λ n to below within apart named. absurd (omega (arith, ap length none_sent));
+    ticks = sym (ap (ticks_from 0) is.events);
+    few_losses = omega arith;
+  }
+
+-- new ends are as they were made
+outs_new : (row : List LinkView) → map new_out (map out_of row) ≡ map out_of row
+outs_new [] = refl
+outs_new (l ∷ row) = ap (λ o. out_of l ∷ o) (outs_new row)
+
+inns_new : (links : List (List LinkView)) (at : ℕ) (l : LinkView) →
+    map new_in (map (λ row. in_of (get_or row at l)) links) ≡ map (λ row. in_of (get_or row at l)) links
+inns_new [] at l = refl
+inns_new (row ∷ links) at l = ap (λ i. in_of (get_or row at l) ∷ i) (inns_new links at l)
+
+none_put : (row : List LinkView) → All (λ (out : OutView SealedEntry). out.put ≡ []) (map out_of row)
+none_put row k d lt =
+    ap (λ (o : OutView SealedEntry). o.put)
+    (get_or-map out_of row k (record { queue = d.queue; from = 0; capacity = 0 }) d
+    (omega (arith, length-map row out_of)))
+
+none_taken : (links : List (List LinkView)) (at : ℕ) (l : LinkView) →
+    All (λ (inn : InView SealedEntry). inn.taken ≡ []) (map (λ row. in_of (get_or row at l)) links)
+none_taken links at l k d lt =
+    ap (λ (i : InView SealedEntry). i.taken)
+    (get_or-map (λ (row : List LinkView). in_of (get_or row at l)) links k [] d
+    (omega (arith, length-map links (λ (row : List LinkView). in_of (get_or row at l)))))
+
+-- a member of a list that has one
+one_of : {X : Type 0} (xs : List X) (k : ℕ) → k < length xs → X
+one_of [] k lt = absurd (omega arith)
+one_of (x ∷ xs) k lt = x
+
+module _ (script : Script) (lawful : IsLawful script) (links : List (List LinkView))
+    (outs : List (List (OutView SealedEntry))) (inns : List (List (InView SealedEntry)))
+    (are : AreNewLinks (length script.machines) script.link links outs inns) (at : ℕ) (stop : Option ℕ)
+    (m : MachineState)
+    (stops : IsStopOf script.stops at stop) (fresh : IsFresh script at stop m) where
+  pub inside : at < length script.machines
+  inside = slice_get_within script.machines at fresh.0 fresh.1
+
+  row : List LinkView
+  row = get_or links at []
+
+  pub l : LinkView
+  l = one_of (get_or links at []) at (let s = are.square at inside in let k = inside in omega arith)
+
+  abbrev pub the_outs : List (OutView SealedEntry)
+  the_outs = map out_of (get_or links at [])
+
+  abbrev pub the_inns : List (InView SealedEntry)
+  the_inns = map (λ row. in_of (get_or row at l)) links
+
+  outs_count : length the_outs ≡ length script.machines
+  outs_count = length-map (get_or links at []) out_of ∙ are.square at inside
+
+  inns_count : length the_inns ≡ length script.machines
+  inns_count = length-map links (λ (row : List LinkView). in_of (get_or row at l)) ∙ are.rows
+
+  number : m.config.number ≡ at
+  number = ap (λ (x : MachineState). x.config.number) fresh.2
+
+  pub beginning : IsBeginning script m the_outs the_inns
+  beginning = record {
+    log = ap (λ (x : MachineState). x.config.log) fresh.2;
+    small = lawful.log.1;
+    events = ap (λ (x : MachineState). x.events) fresh.2;
+    going = ap (λ (x : MachineState). x.marked) fresh.2;
+    place = (let k = inside in let n = number in let c = outs_count in omega arith);
+    few = (let k = lawful.machines.few.1 in let c = outs_count in omega arith);
+    as_many = inns_count ∙ sym outs_count;
+    put = none_put (get_or links at []);
+    taken = none_taken links at l;
+  }
+
+  abbrev pub the_station : StationState
+  the_station = begun script m the_outs the_inns
+
+  -- its ends are those of the links
+  ends : IsOfLinks links the_station
+  ends = record {
+    square = λ from lt. are.square from (omega (arith, outs_count)) ∙ sym outs_count;
+    rows = are.rows ∙ sym outs_count;
+    from = λ from to k lf lt. (are.carry from (omega (arith, outs_count)) to k
+        (let s = are.square from (let c = outs_count in omega arith) in let c = outs_count in omega arith)).0;
+    outs = λ to k d lt.
+        let there : to < length (get_or links at []) =
+        (let s = are.square at inside in let c = outs_count in omega arith) in
+        let is : get_or the_outs to d ≡ out_of (get_or (get_or links at []) to k) =
+        get_or-map out_of (get_or links at []) to k d there in
+        let P : ℕ → OutView SealedEntry → Type 0 = λ n o. (o.queue ≡ (link_at links n to k).queue)
+        × (o.from ≡ (link_at links n to k).from) in
+        subst (λ n. P n (get_or the_outs to d)) (sym number) (subst (P at) (sym is) (refl, refl));
+    capacity = λ to k lt. (are.carry m.config.number (let i = inside in let n = number in omega arith) to k
+        (let s = are.square m.config.number (let i = inside in let n = number in omega arith) in
+        let c = outs_count in omega arith)).1;
+    inns = λ from k d lt.
+        let there : from < length links = (let c = inns_count in let r = are.rows in omega arith) in
+        let is : get_or the_inns from d ≡ in_of (get_or (get_or links from []) at l) =
+        get_or-map (λ (row : List LinkView). in_of (get_or row at l)) links from [] d there in
+        let wide : at < length (get_or links from []) =
+        (let s = are.square from (let r = are.rows in omega arith) in let i = inside in omega arith) in
+        let same : get_or (get_or links from []) at l ≡ get_or (get_or links from []) at k =
+        get_or_default (get_or links from []) at l k wide in
+        let P : ℕ → InView SealedEntry → Type 0 = λ n i. (i.queue ≡ (link_at links from n k).queue)
+        × (i.from ≡ (link_at links from n k).from) in
+        subst (λ n. P n (get_or the_inns from d)) (sym number)
+        (subst (P at) (sym (is ∙ ap in_of same)) (refl, refl));
+  }
+
+  unmade : m ≡ record m { events = [] }
+  unmade = ap (λ (h : List (Event SealedEntry)). record m { events = h }) beginning.events
+
+  pub new_station : IsNewStation script links at the_station
+  new_station = record {
+    stop = stop;
+    stops = stops;
+    machine = fresh;
+    link = refl;
+    loses = ap (λ n. lines_of n script.loses) number;
+    ends = ends;
+    fresh = ap (λ (x : MachineState). record {
+      machine = x;
+      link = script.link;
+      loses = lines_of m.config.number script.loses;
+      outs = map new_out the_outs;
+      inns = map new_in the_inns;
+      losses = [];
+      ticks = [];
+    }) (sym unmade)
+        ∙ ap (λ (o : List (OutView SealedEntry)). record {
+          machine = m;
+          link = script.link;
+          loses = lines_of m.config.number script.loses;
+          outs = o;
+          inns = map new_in the_inns;
+          losses = [];
+          ticks = [];
+        }) (outs_new (get_or links at []))
+        ∙ ap (λ (i : List (InView SealedEntry)). record {
+          machine = m;
+          link = script.link;
+          loses = lines_of m.config.number script.loses;
+          outs = the_outs;
+          inns = i;
+          losses = [];
+          ticks = [];
+        }) (inns_new links at l);
+  }
+
+-- a station that is made of these parts is the one that begins
+pub begun_is : (script : Script) (m : MachineState) (outs : List (OutView SealedEntry))
+    (inns : List (InView SealedEntry))
+    (own : ℕ) (loses given : List Lose) (losses : List Loss) (ticks : List Tick) → loses ≡ lines_of own given →
+    given ≡ script.loses → own ≡ m.config.number → losses ≡ [] → ticks ≡ [] →
+    record {
+      machine = m;
+      link = script.link;
+      loses = loses;
+      outs = outs;
+      inns = inns;
+      losses = losses;
+      ticks = ticks;
+    } ≡ begun script m outs inns
+begun_is script m outs inns own loses given losses ticks l g o lost done =
+    let State : List Lose → List Loss → List Tick → StationState = λ a b c. record {
+      machine = m;
+      link = script.link;
+      loses = a;
+      outs = outs;
+      inns = inns;
+      losses = b;
+      ticks = c;
+    } in
+    ap (λ a. State a losses ticks)
+    (l ∙ ap (lines_of own) g ∙ ap (λ n. lines_of n script.loses) o)
+    ∙ ap (λ b. State (lines_of m.config.number script.loses) b ticks) lost
+    ∙ ap (λ c. State (lines_of m.config.number script.loses) [] c) done

@@ -1,0 +1,137 @@
+-- The causes of losses: they stay as a station goes on, and new losses have one.
+use Rattle.std.proofs.Common.{◌≡◌, ◌≢◌, ℕ, ◌<◌, ◌≤◌, Bool, true, false, List, [], ◌∷◌, ◌++◌, length, sym, ap}
+use Rattle.std.proofs.Common.{◌∙◌, subst, arith, Option, Some, None, get_or, length-append}
+use Rattle.std.specs.Prelude.{All, ◌||◌, nat_lt}
+use Rattle.std.specs.List.{Contains}
+use Rattle.std.proofs.lemmas.Bool.{lt-ltb, le-leb, leb-true, or_right, true≢false, not_from_true}
+use Rattle.std.proofs.lemmas.List.Elements.{filter-append, All-contains, Contains-append_left}
+use Rattle.std.proofs.lemmas.List.{map-append}
+use Rattle.std.proofs.lemmas.Option.{same_Some}
+use Rattle.entry_format.specs.SealedEntry.{SealedEntry}
+use Rattle.entry_order.specs.declared.event.Event.{Event}
+use Rattle.entry_order.specs.History.{held, entry_of}
+use Rattle.election_script.specs.declared.script.Lose.{Lose}
+use Rattle.broadcast_queues.specs.Ends.{OutView}
+use Rattle.floor_losses.specs.declared.loss.Loss.{Loss}
+use Rattle.floor_losses.specs.declared.loss.LossWhy.{LossWhy}
+use Rattle.floor_losses.specs.declared.loss.LossWhy.TheVariants.{Scripted, LinkFull, ToStopped, LogFull, SameDigest}
+use Rattle.floor_losses.proofs.Lists.{filter_all}
+use Rattle.floor_links.specs.Sendings.{is_scripted, IsWay}
+use Rattle.polling_world.specs.declared.heard.MachineHeard.{MachineHeard}
+use Rattle.polling_world.specs.declared.heard.MachineHeard.TheVariants as heard
+use Rattle.polling_world.specs.Hearing.{IsHeard}
+use Rattle.polling_world.specs.Machines.{MachineState, IsMachine, IsWithinStop, is_reached, has_stopped, with_event}
+use Rattle.polling_world.specs.Waiting.{IsGoing}
+use Rattle.machine_floor.specs.Stations.{numbered_below, IsOutCause, IsInCause}
+use Rattle.machine_floor.specs.Turns.{cause_of}
+
+abbrev pub End : Type 0
+End = OutView SealedEntry
+
+-- more entries on a link leave as many with lower numbers
+below_grows : (number : ℕ) (xs ys : List SealedEntry) →
+    length (numbered_below number xs) ≤ length (numbered_below number (xs ++ ys))
+below_grows number xs ys =
+    let e = ap length (filter-append (λ (e : SealedEntry). nat_lt e.entry.number number) xs ys) in
+    let l = length-append (numbered_below number xs) (numbered_below number ys) in
+    omega arith
+
+-- where all have lower numbers, they are as many as were put
+below_all : (number : ℕ) (xs : List SealedEntry) → All (λ (x : SealedEntry). x.entry.number < number) xs →
+    length (numbered_below number xs) ≡ length xs
+below_all number xs all =
+    ap length (filter_all (λ (e : SealedEntry). nat_lt e.entry.number number) xs
+    (λ x c. lt-ltb x.entry.number number (All-contains (λ (x : SealedEntry). x.entry.number < number) xs x all c)))
+
+-- a cause on a link out stays when more is put there
+pub out_stays : (loses : List Lose) (link : ℕ) (outs new : List End) (loss : Loss) (why : LossWhy) →
+    ((d : End) → (more : List SealedEntry) × ((get_or new loss.to d).put ≡ (get_or outs loss.to d).put ++ more)) →
+    IsOutCause loses link outs loss why → IsOutCause loses link new loss why
+out_stays loses link outs new loss Scripted grows cause = cause
+out_stays loses link outs new loss LinkFull grows cause = (
+  cause.0,
+  λ d.
+      let more = grows d in
+      let was = cause.1 d in
+      let kept = below_grows loss.number (get_or outs loss.to d).put more.0 in
+      let now = ap (λ (l : List SealedEntry). length (numbered_below loss.number l)) more.1 in
+      omega arith,
+)
+out_stays loses link outs new loss ToStopped grows cause = cause
+out_stays loses link outs new loss LogFull grows cause = cause
+out_stays loses link outs new loss SameDigest grows cause = cause
+
+-- the lines name the loss as they name its entry
+named : (loses : List Lose) (e : SealedEntry) (loss : Loss) → loss.from ≡ e.entry.maker →
+    loss.number ≡ e.entry.number →
+    is_scripted loses loss.from loss.number loss.to ≡ is_scripted loses e.entry.maker e.entry.number loss.to
+named loses e loss from number =
+    ap (λ m. is_scripted loses m loss.number loss.to) from
+    ∙ ap (λ n. is_scripted loses e.entry.maker n loss.to) number
+
+-- a new loss has the cause that its way tells
+pub out_new : (loses : List Lose) (link : ℕ) (e : SealedEntry) (outs new : List End) (loss : Loss) (why : LossWhy)
+    (some : End) → loss.from ≡ e.entry.maker → loss.number ≡ e.entry.number →
+    ((d : End) → IsWay (is_scripted loses e.entry.maker e.entry.number loss.to) link e (get_or outs loss.to d)
+    (get_or new loss.to d) (Some why)) →
+    ((d : End) → All (λ (x : SealedEntry). x.entry.number < e.entry.number) (get_or outs loss.to d).put) →
+    IsOutCause loses link new loss why
+out_new loses link e outs new loss Scripted some from number way lower =
+    named loses e loss from number ∙ (way some).0
+out_new loses link e outs new loss LinkFull some from number way lower = (
+  named loses e loss from number ∙ (way some).0,
+  λ d.
+      let full = (way d).1.full in
+      let all = below_all e.entry.number (get_or outs loss.to d).put (lower d) in
+      let put = ap (λ (l : List SealedEntry). length (numbered_below loss.number l)) (way d).1.put in
+      let at = ap (λ n. length (numbered_below n (get_or outs loss.to d).put)) number in
+      omega arith,
+)
+out_new loses link e outs new loss ToStopped some from number way lower = way some
+out_new loses link e outs new loss LogFull some from number way lower = way some
+out_new loses link e outs new loss SameDigest some from number way lower = way some
+
+-- what was held is still held
+held_more : (h : List (Event SealedEntry)) (x : Event SealedEntry) (g : SealedEntry) → Contains (held h) g →
+    Contains (held (h ++ x ∷ [])) g
+held_more h x g c =
+    subst (λ (l : List SealedEntry). Contains l g) (sym (map-append entry_of h (x ∷ [])))
+    (Contains-append_left (held h) (held (x ∷ [])) g c)
+
+-- a machine that goes on isn't where it is to stop
+going_on : (m : MachineState) → IsGoing m → m.stop ≢ Some (length m.events)
+going_on m going at =
+    let n : ℕ = length m.events in
+    let reached : is_reached m.stop n ≡ true = ap (λ o. is_reached o n) at ∙ le-leb n n (omega arith) in
+    let has : has_stopped m ≡ true = or_right m.marked (is_reached m.stop n) reached in
+    true≢false (sym going ∙ not_from_true (has_stopped m) has)
+
+-- a cause on a link in stays when the machine goes on
+pub in_stays : (m : MachineState) (x : Event SealedEntry) (y : SealedEntry) (why : LossWhy) → IsGoing m →
+    length m.events < m.config.log → IsInCause m y why → IsInCause (with_event x m) y why
+in_stays m x y Scripted going room cause = cause
+in_stays m x y LinkFull going room cause = cause
+in_stays m x y ToStopped going room cause = absurd (going_on m going cause)
+in_stays m x y LogFull going room cause = absurd (omega arith)
+in_stays m x y SameDigest going room cause = (cause.0, held_more m.events x cause.0 cause.1, cause.2)
+
+stop_at : (stop : Option ℕ) (n : ℕ) → is_reached stop n ≡ true → IsWithinStop stop n → stop ≡ Some n
+stop_at None n reached within = absurd (true≢false (sym reached))
+stop_at (Some k) n reached within = ap (λ i. Some i) (let l = leb-true k n reached in omega arith)
+
+unmarked : (marked reached : Bool) → marked ≡ false → (marked || reached) ≡ true → reached ≡ true
+unmarked marked reached is has = sym (ap (λ b. b || reached) is) ∙ has
+
+-- what isn't heard has its cause
+pub in_new : (m : MachineState) (x : SealedEntry) (answer : MachineHeard) (why : LossWhy) → IsMachine m →
+    m.marked ≡ false → IsHeard m x answer → cause_of answer ≡ Some why → IsInCause m x why
+in_new m x heard.Taken why is marked h some = cc
+in_new m x (heard.Stopped back) why is marked h some =
+    let n : ℕ = length m.events in
+    let at : m.stop ≡ Some n = stop_at m.stop n (unmarked m.marked (is_reached m.stop n) marked h.0) is.stop in
+    subst (λ (w : LossWhy). IsInCause m x w) (same_Some ToStopped why some) at
+in_new m x (heard.Own back) why is marked h some = cc
+in_new m x (heard.Already back) why is marked h some =
+    subst (λ (w : LossWhy). IsInCause m x w) (same_Some SameDigest why some) h.1.2
+in_new m x (heard.Full back) why is marked h some =
+    subst (λ (w : LossWhy). IsInCause m x w) (same_Some LogFull why some) h.1.3

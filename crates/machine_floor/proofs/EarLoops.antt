@@ -1,0 +1,66 @@
+-- One look at a link after another.
+use mir.Val.{bool_byte}
+use Rattle.std.proofs.Common.{suc, cond, ◌+◌, ◌≤◌, ◌≡◌, ℕ, Bool, true, false, List, [], ◌∷◌, ◌++◌, length, sym, ap, ◌∙◌, subst}
+use Rattle.std.proofs.Common.{refl}
+use Rattle.std.proofs.Common.{arith, Option, Some, None, append_assoc}
+use Rattle.std.specs.Prelude.{All}
+use Rattle.std.proofs.lemmas.List.{append-nil}
+use Rattle.std.proofs.lemmas.List.Elements.{All-push}
+use Rattle.entry_format.specs.SealedEntry.{SealedEntry}
+use Rattle.log_lock.specs.declared.story.Tick.{Tick}
+use Rattle.floor_losses.specs.declared.loss.LossWhy.{LossWhy}
+use Rattle.machine_floor.specs.Stations.{StationState, made_of}
+use Rattle.machine_floor.specs.Turns.{cause_of, IsFate, EarDid, IsLook, HasLooked}
+
+-- since the turn began, the station is as it was made and has more ticks of pass 1
+pub record HasHeard (first now : StationState) : Type 0 where
+  pub made : made_of now ≡ made_of first
+  pub more : List Tick
+  pub ticks : now.ticks ≡ first.ticks ++ more
+  pub passes : All (λ (t : Tick). t.pass ≡ 1) more
+
+pub heard_none : (first : StationState) → HasHeard first first
+heard_none first = record {
+  made = refl;
+  more = [];
+  ticks = sym (append-nil first.ticks);
+  passes = λ k d lt. absurd (omega arith);
+}
+
+fate_ticks : (first old new : StationState) (x : SealedEntry) (from : ℕ) (cause : Option LossWhy) →
+    made_of new ≡ made_of old → IsFate x from cause old new → HasHeard first old → HasHeard first new
+fate_ticks first old new x from None made fate h =
+    let tick : Tick = record { pass = 1; what = length old.machine.events } in
+    record {
+      made = made ∙ h.made;
+      more = h.more ++ tick ∷ [];
+      ticks = fate.2 ∙ ap (λ l. l ++ tick ∷ []) h.ticks ∙ append_assoc first.ticks h.more (tick ∷ []);
+      passes = All-push (λ (t : Tick). t.pass ≡ 1) h.more tick h.passes refl;
+    }
+fate_ticks first old new x from (Some why) made fate h =
+    record { made = made ∙ h.made; more = h.more; ticks = fate.1 ∙ h.ticks; passes = h.passes }
+
+pub heard_more : (first old new : StationState) (from : ℕ) (took : Bool) → HasHeard first old →
+    EarDid from took old new → HasHeard first new
+heard_more first old new from true h did =
+    fate_ticks first old new did.entry from (cause_of did.answer) did.made did.fate h
+heard_more first old new from false h did =
+    let changed = ap (λ (s : StationState). s.ticks) did.changed in
+    record { made = did.made ∙ h.made; more = h.more; ticks = changed ∙ h.ticks; passes = h.passes }
+
+-- one look more
+pub looked_more : (own from : ℕ) (first old now : StationState) (before after : ℕ) →
+    HasLooked own from first old before → IsLook own from old before now after →
+    HasLooked own (from + 1) first now after
+looked_more own from first old now before after looked look =
+    let next : suc from ≡ from + 1 = omega arith in
+    subst (λ n. HasLooked own n first now after) next (old, before, looked, look)
+
+-- a look counts one entry or none
+pub one_or_none : (took : Bool) → bool_byte took ≡ cond took 1 0
+one_or_none true = refl
+one_or_none false = refl
+
+pub at_most_one : (took : Bool) → bool_byte took ≤ 1
+at_most_one true = omega arith
+at_most_one false = omega arith

@@ -1,0 +1,300 @@
+-- What a look at a link asks and gives.
+use Rattle.std.proofs.Common.{◌≡◌, ◌≢◌, ℕ, ◌<◌, ◌≤◌, List, [], ◌∷◌, ◌++◌, length, map, refl, sym, ap, ◌∙◌}
+use Rattle.std.proofs.Common.{subst, arith, get_or, set, get_or-set_same, get_or-set_other, Option, Some, None}
+use Rattle.std.proofs.Common.{inl, inr}
+use Rattle.std.specs.Prelude.{All}
+use Rattle.std.specs.List.{Contains}
+use Rattle.std.proofs.Math.ListN.{length-set}
+use Rattle.std.proofs.lemmas.Bool.{cases_eq}
+use Rattle.std.proofs.lemmas.List.{get_or_default}
+use Rattle.std.proofs.lemmas.List.Sums.{sum_by-le, sum_by-set}
+use Rattle.entry_format.specs.Nodes.{node_of_sealed}
+use Rattle.floor_losses.specs.Losses.{arriving}
+use Rattle.entry_format.specs.SealedEntry.{SealedEntry}
+use Rattle.entry_order.specs.declared.event.Event.TheVariants.{Got}
+use Rattle.log_lock.specs.declared.story.Tick.{Tick}
+use Rattle.broadcast_queues.specs.Ends.{LinkView, IsInOf, FoundLinkEmpty}
+use Rattle.floor_losses.specs.declared.loss.Loss.{Loss}
+use Rattle.floor_losses.specs.declared.loss.LossWhy.{LossWhy}
+use Rattle.polling_world.specs.declared.heard.MachineHeard.{MachineHeard}
+use Rattle.polling_world.specs.declared.heard.MachineHeard.TheVariants as heard
+use Rattle.polling_world.specs.Hearing.{IsHeard, machine_after}
+use Rattle.polling_world.specs.Machines.{MachineState, IsMachine, with_event}
+use Rattle.machine_floor.specs.Stations.{StationState, IsStation, IsTakenWell, new_in}
+use Rattle.machine_floor.specs.Turns.{cause_of, IsFate, EarTook, EarFoundNone}
+use Rattle.machine_floor.proofs.HandTurns.{few_sent, ticks_as_many}
+use Rattle.machine_floor.proofs.Ears.{Inn, Took, few_taken, taken_after, sum_after, maker_is}
+use Rattle.machine_floor.proofs.Ears.{IsStation-heard, IsStation-lost}
+use Rattle.polling_world.specs.Waiting.{IsGoing}
+use Rattle.machine_floor.proofs.Causes.{in_new}
+use Rattle.machine_floor.proofs.Made.{inns_same, made_same}
+
+module _ (old : StationState) (from : ℕ) (end : Inn) (x : SealedEntry) (is : IsStation old)
+    (within : from < length old.inns) (other : from ≢ old.machine.config.number)
+    (took : (d : Inn) → Took (get_or old.inns from d) x end) (small : x.entry.number < 4096) (of : end.from ≡ from)
+    (same_from : (d : Inn) → (get_or old.inns from d).from ≡ from)
+    (queue : (d : Inn) → end.queue ≡ (get_or old.inns from d).queue) where
+  -- where there is no cause, the entry was taken
+  heard_done : (answer : MachineHeard) (new : MachineState) → IsHeard old.machine x answer →
+      new ≡ machine_after answer x old.machine → cause_of answer ≡ None →
+      (new ≡ with_event (Got x) old.machine) × (length old.machine.events < old.machine.config.log) ×
+      IsGoing old.machine
+  heard_done heard.Taken new h e none = (e, h.1.2, h.0)
+  heard_done (heard.Stopped back) new h e none = cc
+  heard_done (heard.Own back) new h e none =
+      absurd (other (sym (maker_is old from end x is within other took small of same_from) ∙ h.1.1))
+  heard_done (heard.Already back) new h e none = cc
+  heard_done (heard.Full back) new h e none = cc
+
+  -- where there is one, nothing changed
+  lost_done : (answer : MachineHeard) (new : MachineState) (why : LossWhy) →
+      new ≡ machine_after answer x old.machine → cause_of answer ≡ Some why → new ≡ old.machine
+  lost_done heard.Taken new why e some = cc
+  lost_done (heard.Stopped back) new why e some = e
+  lost_done (heard.Own back) new why e some = cc
+  lost_done (heard.Already back) new why e some = e
+  lost_done (heard.Full back) new why e some = e
+
+  inns_are : List Inn
+  inns_are = set old.inns from end
+
+  pub room_for_loss : length old.losses < 131072
+  room_for_loss =
+      let each : All (λ (i : Inn). length i.taken ≤ 4096) (set old.inns from end) =
+      λ k d lt. few_taken k (get_or (set old.inns from end) k d).taken
+      (taken_after old from end x is within other took small of same_from k d lt) in
+      let sum = sum_by-le (λ (i : Inn). length i.taken) 4096 (set old.inns from end) each in
+      let more = sum_after old from end x is within other took small of same_from in
+      let w = is.machine.within in let s = is.small in let f = few_sent old.machine.events in let l = is.few_losses in
+      let o = is.few in let m = is.as_many in
+      omega (arith, length-set old.inns from end)
+
+  made_inns : map new_in (set old.inns from end) ≡ map new_in old.inns
+  made_inns = inns_same old.inns from end (λ d. (queue d, of ∙ sym (same_from d)))
+
+  module _ (answer : MachineHeard) (new : MachineState) (answers : IsHeard old.machine x answer) (after : new
+      ≡ machine_after answer x old.machine) (kept : IsMachine new) where
+    pub room_for_heard : cause_of answer ≡ None → length old.ticks < old.machine.config.log
+    room_for_heard none = let h = heard_done answer new answers after none in let t = ticks_as_many old is in
+        let r = h.1 in omega arith
+
+    -- heard
+    module _ (none : cause_of answer ≡ None) (ticks : List Tick) (ticked : ticks ≡ old.ticks
+        ++ record { pass = 1; what = length old.ticks } ∷ []) where
+      abbrev pub heard_one : StationState
+      heard_one = record {
+        machine = new;
+        link = old.link;
+        loses = old.loses;
+        outs = old.outs;
+        inns = set old.inns from end;
+        losses = old.losses;
+        ticks = ticks;
+      }
+
+      ticks_are : ticks ≡ old.ticks ++ record { pass = 1; what = length old.machine.events } ∷ []
+      ticks_are = ticked ∙ ap (λ n. old.ticks ++ record { pass = 1; what = n } ∷ []) (ticks_as_many old is)
+
+      pub station_heard : IsStation heard_one
+      station_heard =
+          let done = heard_done answer new answers after none in
+          let is_new = done.0 in
+          let base = IsStation-heard old from end x is within other took small of same_from
+          (subst IsMachine is_new kept) done.2 done.1 in
+          let P : MachineState → List Tick →
+          Type 0 = λ m t. IsStation (record {
+            machine = m;
+            link = old.link;
+            loses = old.loses;
+            outs = old.outs;
+            inns = set old.inns from end;
+            losses = old.losses;
+            ticks = t;
+          }) in
+          subst (λ m. P m ticks) (sym is_new) (subst (λ t. P (with_event (Got x) old.machine) t) (sym ticks_are) base)
+
+      pub ear_heard : EarTook from old heard_one
+      ear_heard =
+          let is_new = (heard_done answer new answers after none).0 in
+          record {
+            entry = x;
+            end = end;
+            took = took;
+            inns = refl;
+            maker = maker_is old from end x is within other took small of same_from;
+            answer = answer;
+            heard = answers;
+            fate = subst (λ (o : Option LossWhy). IsFate x from o old heard_one) (sym none) (is_new, refl, ticks_are);
+            outs = refl;
+            made = made_same old new old.outs (set old.inns from end) old.losses ticks
+                (ap (λ (m : MachineState). record m { events = [] }) is_new) refl made_inns;
+          }
+
+    -- lost
+    module _ (why : LossWhy) (some : cause_of answer ≡ Some why) (losses : List Loss) (added : losses ≡ old.losses
+        ++ record { from = from; number = x.entry.number; to = old.machine.config.number; why = why } ∷ []) where
+      abbrev pub lost_one : StationState
+      lost_one = record {
+        machine = new;
+        link = old.link;
+        loses = old.loses;
+        outs = old.outs;
+        inns = set old.inns from end;
+        losses = losses;
+        ticks = old.ticks;
+      }
+
+      pub station_lost : IsStation lost_one
+      station_lost =
+          let is_new = lost_done answer new why after some in
+          let base = IsStation-lost old from end x is within other took small of same_from why
+          (in_new old.machine x answer why is.machine is.going answers some) in
+          let P : MachineState → List Loss →
+          Type 0 = λ m l. IsStation (record {
+            machine = m;
+            link = old.link;
+            loses = old.loses;
+            outs = old.outs;
+            inns = set old.inns from end;
+            losses = l;
+            ticks = old.ticks;
+          }) in
+          subst (λ m. P m losses) (sym is_new) (subst (λ l. P old.machine l) (sym added) base)
+
+      pub ear_lost : EarTook from old lost_one
+      ear_lost =
+          let is_new = lost_done answer new why after some in
+          record {
+            entry = x;
+            end = end;
+            took = took;
+            inns = refl;
+            maker = maker_is old from end x is within other took small of same_from;
+            answer = answer;
+            heard = answers;
+            fate = subst (λ (o : Option LossWhy). IsFate x from o old lost_one) (sym some) (is_new, refl, added);
+            outs = refl;
+            made = made_same old new old.outs (set old.inns from end) losses old.ticks
+                (ap (λ (m : MachineState). record m { events = [] }) is_new) refl made_inns;
+          }
+
+-- what is known where an entry was taken
+pub record Looked (old : StationState) (from : ℕ) (end : Inn) (x : SealedEntry) : Type 0 where
+  pub is : IsStation old
+  pub within : from < length old.inns
+  pub other : from ≢ old.machine.config.number
+  pub took : (d : Inn) → Took (get_or old.inns from d) x end
+  pub small : x.entry.number < 4096
+  pub of : end.from ≡ from
+  pub same_from : (d : Inn) → (get_or old.inns from d).from ≡ from
+  pub queue : (d : Inn) → end.queue ≡ (get_or old.inns from d).queue
+
+pub look : (now old : StationState) (from : ℕ) (link : LinkView) (before end : Inn) (x : SealedEntry) → old ≡ now →
+    IsStation old → from < length now.inns → from ≢ now.machine.config.number →
+    ((d : Inn) → IsInOf link (get_or now.inns from d)) → link.from ≡ from → before ≡ get_or old.inns from before →
+    Took before x end → IsInOf link end → x.entry.number < 4096 → Looked old from end x
+look now old from link before end x same is within other ends sender read took kept small =
+    let inside : from < length old.inns = subst (λ (s : StationState). from < length s.inns) (sym same) within in
+    let ends_old = subst (λ (s : StationState). (d : Inn) → IsInOf link (get_or s.inns from d)) (sym same) ends in
+    record {
+      is = is;
+      within = inside;
+      other = subst (λ (s : StationState). from ≢ s.machine.config.number) (sym same) other;
+      took = λ d. subst (λ (i : Inn). Took i x end) (read ∙ get_or_default old.inns from before d inside) took;
+      small = small;
+      of = kept.1 ∙ sender;
+      same_from = λ d. (ends_old d).1 ∙ sender;
+      queue = λ d. kept.0 ∙ sym (ends_old d).0;
+    }
+
+-- the link was found empty
+module _ (old : StationState) (from : ℕ) (end : Inn) (is : IsStation old) (within : from < length old.inns)
+    (empty : (d : Inn) → FoundLinkEmpty (get_or old.inns from d) end) where
+  same_taken : (k : ℕ) (d : Inn) → (get_or (set old.inns from end) k d).taken ≡ (get_or old.inns k d).taken
+  same_taken k d =
+      elim (cases_eq k from) [
+        | inl s ↦ ap (λ n. (get_or (set old.inns from end) n d).taken) s
+            ∙ ap (λ (i : Inn). i.taken) (get_or-set_same old.inns from end d within) ∙ (empty d).taken
+            ∙ ap (λ n. (get_or old.inns n d).taken) (sym s)
+        | inr n ↦ ap (λ (i : Inn). i.taken) (get_or-set_other old.inns from k end d n)
+      ]
+
+  abbrev pub bare_one : StationState
+  bare_one = record {
+    machine = old.machine;
+    link = old.link;
+    loses = old.loses;
+    outs = old.outs;
+    inns = set old.inns from end;
+    losses = old.losses;
+    ticks = old.ticks;
+  }
+
+  pub station_bare : IsStation bare_one
+  station_bare = record {
+    machine = is.machine;
+    going = is.going;
+    small = is.small;
+    place = is.place;
+    few = is.few;
+    as_many = length-set old.inns from end ∙ is.as_many;
+    puts = is.puts;
+    heard = λ k d lt differs. is.heard k d (omega (arith, length-set old.inns from end)) differs
+        ∙ ap (arriving node_of_sealed old.losses k old.machine.config.number) (sym (same_taken k d));
+    taken = λ k d lt. subst (IsTakenWell k) (sym (same_taken k d))
+        (is.taken k d (omega (arith, length-set old.inns from end)));
+    makers = is.makers;
+    fits = λ j loss lt. elim (is.fits j loss lt) [
+      | inl hand ↦ inl hand
+      | inr ear ↦ inr (
+        ear.0,
+        ear.1,
+        ear.2,
+        λ d. let y = ear.3 d in (
+          y.0,
+          subst (λ (l : List SealedEntry). Contains l y.0) (sym (same_taken (get_or old.losses j loss).from d))
+              y.1,
+          y.2,
+          y.3,
+        ),
+      )
+    ];
+    once = is.once;
+    scripted = is.scripted;
+    ticks = is.ticks;
+    few_losses = (let s = sum_by-set (λ (i : Inn). length i.taken) old.inns from end end within in
+        let e = ap length (empty end).taken in let f = is.few_losses in omega arith);
+  }
+
+  pub ear_bare : (queue : (d : Inn) → end.queue ≡ (get_or old.inns from d).queue) (sender : (d : Inn) →
+      end.from ≡ (get_or old.inns from d).from) → EarFoundNone from old bare_one
+  ear_bare queue sender = record {
+    end = end;
+    empty = empty;
+    changed = refl;
+    made = made_same old old.machine old.outs (set old.inns from end) old.losses old.ticks refl refl
+        (inns_same old.inns from end (λ d. (queue d, sender d)));
+  }
+
+-- hearing doesn't change what a machine is made of
+pub same_config : (answer : MachineHeard) (x : SealedEntry) (m new : MachineState) → new ≡ machine_after answer x m →
+    new.config ≡ m.config
+same_config heard.Taken x m new e = ap (λ (s : MachineState). s.config) e
+same_config (heard.Stopped back) x m new e = ap (λ (s : MachineState). s.config) e
+same_config (heard.Own back) x m new e = ap (λ (s : MachineState). s.config) e
+same_config (heard.Already back) x m new e = ap (λ (s : MachineState). s.config) e
+same_config (heard.Full back) x m new e = ap (λ (s : MachineState). s.config) e
+
+-- the loss that was pushed is this one
+pub loss_is : (losses after : List Loss) (f n t : ℕ) (why : LossWhy) (from number to : ℕ) → f ≡ from → n ≡ number →
+    t ≡ to →
+    after ≡ losses ++ record { from = f; number = n; to = t; why = why } ∷ [] →
+    after ≡ losses ++ record { from = from; number = number; to = to; why = why } ∷ []
+loss_is losses after f n t why from number to a b d e =
+    e ∙ ap (λ k. losses ++ record { from = k; number = n; to = t; why = why } ∷ []) a
+    ∙ ap (λ k. losses ++ record { from = from; number = k; to = t; why = why } ∷ []) b
+    ∙ ap (λ k. losses ++ record { from = from; number = number; to = k; why = why } ∷ []) d
+
+pub maker_of : (old : StationState) (from : ℕ) (end : Inn) (x : SealedEntry) → Looked old from end x →
+    x.entry.maker ≡ from
+maker_of old from end x l = (l.took end).from ∙ l.same_from end

@@ -1,0 +1,158 @@
+-- The stations of the first machines of a script, and what is left for the others.
+use Rattle.std.proofs.Common.{◌≡◌, ℕ, zero, suc, ◌<◌, ◌≤◌, List, [], ◌∷◌, ◌++◌, length, map, drop, refl, sym, ap}
+use Rattle.std.proofs.Common.{◌∙◌}
+use Rattle.std.proofs.Common.{subst, arith, get_or, Option, Some, inl, inr, length-append, add-one}
+use Rattle.std.specs.Prelude.{All, slice_get}
+use Rattle.std.proofs.lemmas.Option.{slice_get_within}
+use Rattle.election_script.specs.declared.script.Script.{Script}
+use Rattle.election_script.specs.Lawful.{IsLawful}
+use Rattle.lms_sign.specs.Secret.{Secret}
+use Rattle.broadcast_queues.specs.Ends.{LinkView}
+use Rattle.floor_links.specs.Fresh.{AreNewLinks}
+use Rattle.floor_links.proofs.Makings.{Outs, Inns}
+use Rattle.polling_world.specs.Keys.{key_of, IsKeyOf}
+use Rattle.polling_world.specs.Machines.{MachineState, IsFresh}
+use Rattle.polling_world.proofs.WorldMaking.{rest_step, rest_none, push_cases}
+use Rattle.machine_floor.specs.Stations.{StationState, IsOfLinks, made_of}
+use Rattle.machine_floor.specs.Fresh.{IsStopOf, IsNewStation, AreNewStations}
+use Rattle.machine_floor.specs.inside.Beginning.{begun, IsBeginning}
+use Rattle.machine_floor.proofs.Beginnings.{beginning, new_station, the_outs, the_inns, inside, l}
+
+-- what stands first in the rest of a list
+drop_step : {X : Type 0} (xs : List X) (n : ℕ) (y : X) (ys : List X) → drop n xs ≡ y ∷ ys →
+    ((d : X) → get_or xs n d ≡ y) × (drop (suc n) xs ≡ ys)
+drop_step [] zero y ys e = cc
+drop_step [] (suc n) y ys e = cc
+drop_step (x ∷ xs) zero y ys e = (λ d. cc, cc)
+drop_step (x ∷ xs) (suc n) y ys e = drop_step xs n y ys e
+
+drop_none : {X : Type 0} (xs : List X) (n : ℕ) → drop n xs ≡ [] → length xs ≤ n
+drop_none [] n e = omega arith
+drop_none (x ∷ xs) zero e = cc
+drop_none (x ∷ xs) (suc n) e = let rest = drop_none xs n e in omega (arith, rest)
+
+pub record AreFirst (script : Script) (links : List (List LinkView)) (outs : List Outs) (inns : List Inns)
+    (stations : List StationState) (keys : List Secret) (outs_left : List Outs) (inns_left : List Inns) : Type 0 where
+  pub within : length stations ≤ length script.machines
+  pub rest : map (key_of script) (drop (length stations) script.machines) ≡ keys
+  pub puts : drop (length stations) outs ≡ outs_left
+  pub takes : drop (length stations) inns ≡ inns_left
+  pub each : (at : ℕ) (s : StationState) → slice_get stations at ≡ Some s → IsNewStation script links at s
+
+module _ (script : Script) (links : List (List LinkView)) (outs : List Outs) (inns : List Inns)
+    (stations : List StationState) (keys more : List Secret) (outs_left : List Outs) (inns_left : List Inns)
+    (key : Secret) (at : ℕ) (first : AreFirst script links outs inns stations keys outs_left inns_left)
+    (next : keys ≡ key ∷ more) (here : at ≡ length stations) where
+  -- the next key is that of the next machine
+  pub next_key : IsKeyOf script at key
+  next_key =
+      let r = rest_step (key_of script) script.machines (length stations) key more (first.rest ∙ next) in
+      (r.0, ap (slice_get script.machines) here ∙ r.1, r.2)
+
+  pub next_within : at < length script.machines
+  next_within = slice_get_within script.machines at next_key.0 next_key.1
+
+  module _ (lawful : IsLawful script) (are : AreNewLinks (length script.machines) script.link links outs inns) where
+    -- ends are left for it
+    pub outs_there : outs_left ≡ [] → ⊥
+    outs_there none =
+        let past = drop_none outs (length stations) (first.puts ∙ none) in
+        let w = next_within in let c = are.puts_count in omega arith
+
+    pub inns_there : inns_left ≡ [] → ⊥
+    inns_there none =
+        let past = drop_none inns (length stations) (first.takes ∙ none) in
+        let w = next_within in let c = are.takes_count in omega arith
+
+    module _ (out : Outs) (outs_more : List Outs) (inn : Inns) (inns_more : List Inns)
+        (out_next : outs_left ≡ out ∷ outs_more) (inn_next : inns_left ≡ inn ∷ inns_more)
+        (stop : Option ℕ) (m : MachineState) (stops : IsStopOf script.stops at stop) (fresh : IsFresh script at stop m)
+      where
+        out_is : out ≡ the_outs script lawful links outs inns are at stop m stops fresh
+        out_is = sym ((drop_step outs (length stations) out outs_more (first.puts ∙ out_next)).0 [])
+            ∙ ap (λ n. get_or outs n []) (sym here)
+            ∙ are.puts at [] (inside script lawful links outs inns are at stop m stops fresh)
+
+        inn_is : inn ≡ the_inns script lawful links outs inns are at stop m stops fresh
+        inn_is = sym ((drop_step inns (length stations) inn inns_more (first.takes ∙ inn_next)).0 [])
+            ∙ ap (λ n. get_or inns n []) (sym here)
+            ∙ are.takes at [] (l script lawful links outs inns are at stop m stops fresh)
+            (inside script lawful links outs inns are at stop m stops fresh)
+
+        -- so its station can begin
+        pub may_begin : IsBeginning script m out inn
+        may_begin =
+            subst (λ o. IsBeginning script m o inn) (sym out_is)
+            (subst (λ i. IsBeginning script m (the_outs script lawful links outs inns are at stop m stops fresh) i)
+            (sym inn_is) (beginning script lawful links outs inns are at stop m stops fresh))
+
+        begins : IsNewStation script links at (begun script m out inn)
+        begins =
+            subst (λ o. IsNewStation script links at (begun script m o inn)) (sym out_is)
+            (subst (λ i. IsNewStation script links at
+            (begun script m (the_outs script lawful links outs inns are at stop m stops fresh) i))
+            (sym inn_is) (new_station script lawful links outs inns are at stop m stops fresh))
+
+        -- with it they are the first ones
+        pub one_more : (s : StationState) (new : List StationState) → s ≡ begun script m out inn →
+            new ≡ stations ++ s ∷ [] → AreFirst script links outs inns new more outs_more inns_more
+        one_more s new begin is =
+            let r = rest_step (key_of script) script.machines (length stations) key more (first.rest ∙ next) in
+            let o = drop_step outs (length stations) out outs_more (first.puts ∙ out_next) in
+            let i = drop_step inns (length stations) inn inns_more (first.takes ∙ inn_next) in
+            let count : length new ≡ suc (length stations) =
+            ap length is ∙ length-append stations (s ∷ []) ∙ add-one (length stations) in
+            record {
+              within = let w = next_within in omega (arith, w, count);
+              rest = ap (λ (n : ℕ). map (key_of script) (drop n script.machines)) count ∙ r.3;
+              puts = ap (λ (n : ℕ). drop n outs) count ∙ o.1;
+              takes = ap (λ (n : ℕ). drop n inns) count ∙ i.1;
+              each = λ place u stands. elim (push_cases stations s u place
+                  (ap (λ (us : List StationState). slice_get us place) (sym is) ∙ stands)) [
+                    | inl t ↦ first.each place u t
+                    | inr t ↦ subst (λ (v : StationState). IsNewStation script links place v) (sym (t.1 ∙ begin))
+                        (subst (λ (n : ℕ). IsNewStation script links n (begun script m out inn)) (here ∙ sym t.0)
+                        begins)
+                  ];
+            }
+
+-- before the first
+pub first_none : (script : Script) (links : List (List LinkView)) (outs : List Outs) (inns : List Inns)
+    (keys : List Secret) → keys ≡ map (key_of script) script.machines →
+    AreFirst script links outs inns [] keys outs inns
+first_none script links outs inns keys is = record {
+  within = omega arith;
+  rest = sym is;
+  puts = refl;
+  takes = refl;
+  each = λ at s stands. cc;
+}
+
+-- once no key is left they are all
+pub all_new : (script : Script) (links : List (List LinkView)) (outs : List Outs) (inns : List Inns)
+    (stations : List StationState) (keys : List Secret) (outs_left : List Outs) (inns_left : List Inns) →
+    AreFirst script links outs inns stations keys outs_left inns_left → length keys ≡ 0 →
+    AreNewStations script links stations
+all_new script links outs inns stations (key ∷ keys) outs_left inns_left first none = absurd (omega arith)
+all_new script links outs inns stations [] outs_left inns_left first none = record {
+  count = let past = rest_none (key_of script) script.machines (length stations) first.rest in
+      let within = first.within in omega (arith, past, within);
+  each = first.each;
+}
+
+there_at : {X : Type 0} (xs : List X) (k : ℕ) (d : X) → k < length xs → slice_get xs k ≡ Some (get_or xs k d)
+there_at [] k d lt = absurd (omega arith)
+there_at (x ∷ xs) zero d lt = refl
+there_at (x ∷ xs) (suc k) d lt = there_at xs k d (omega arith)
+
+-- new stations can be worked: their ends are those of the links, and they have no tick yet
+pub all_workable : (script : Script) (links : List (List LinkView)) (stations : List StationState) →
+    AreNewStations script links stations →
+    (All (λ (s : StationState). IsOfLinks links (made_of s)) stations) ×
+    All (λ (s : StationState). s.ticks ≡ []) stations
+all_workable script links stations are = (
+  λ k d lt. let new = are.each k (get_or stations k d) (there_at stations k d lt) in
+      subst (IsOfLinks links) (sym new.fresh) new.ends,
+  λ k d lt. let new = are.each k (get_or stations k d) (there_at stations k d lt) in
+      sym (ap (λ (s : StationState). s.ticks) new.fresh),
+)

@@ -1,0 +1,188 @@
+-- A station after its hand's turn.
+use Rattle.std.proofs.Common.{◌≡◌, ◌≢◌, ℕ, ◌+◌, ◌<◌, true, false, List, [], ◌∷◌, ◌++◌, length}
+use Rattle.std.proofs.Common.{Some, refl, sym, ap, ◌∙◌, subst, arith, ◌⊎◌, inl, inr, get_or, length-append}
+use Rattle.std.specs.Prelude.{All}
+use Rattle.std.specs.List.{Contains}
+use Rattle.std.proofs.lemmas.Bool.{cases_lt}
+use Rattle.std.proofs.lemmas.List.Elements.{All-append, All-weaker, All-filter, All-contains_itself}
+use Rattle.std.proofs.lemmas.List.Elements.{Contains-push_cases}
+use Rattle.std.proofs.lemmas.List.Elements.{Contains-append_left, Contains-append_right, Contains-get_or}
+use Rattle.entry_format.specs.Nodes.{node_of_sealed}
+use Rattle.entry_format.specs.SealedEntry.{SealedEntry}
+use Rattle.entry_order.specs.declared.event.Event.{Event}
+use Rattle.entry_order.specs.declared.event.Event.TheVariants.{Sent, Got}
+use Rattle.entry_order.specs.History.{sent}
+use Rattle.broadcast_queues.specs.Ends.{OutView}
+use Rattle.floor_losses.specs.declared.loss.Loss.{Loss}
+use Rattle.floor_losses.specs.declared.loss.LossWhy.TheVariants.{Scripted}
+use Rattle.floor_losses.specs.Losses.{arriving, is_lost}
+use Rattle.floor_losses.proofs.Arriving.{other_from, other_number, other_to}
+use Rattle.floor_losses.proofs.Once.{once_append}
+use Rattle.floor_links.specs.Sendings.{is_scripted, loss_of, IsWay, IsSentBelow}
+use Rattle.floor_links.proofs.Ways.{put_or_lost, put_grows, way_of_loss, named_is_lost}
+use Rattle.floor_links.proofs.Ends.{puts_more, other_way, got_from-sent, sent-push}
+use Rattle.polling_world.specs.Machines.{IsMachine, with_event}
+use Rattle.machine_floor.specs.Stations.{StationState, IsStation, IsOfHand, IsOfEar, ticks_from}
+use Rattle.polling_world.specs.Waiting.{IsGoing}
+use Rattle.machine_floor.proofs.Causes.{End, out_stays, out_new, in_stays}
+use Rattle.machine_floor.proofs.Numbers.{numbers_below, ticks_push}
+
+-- a member of a list that has one
+some_of : {X : Type 0} (xs : List X) (k : ℕ) → k < length xs → X
+some_of [] k lt = absurd (omega arith)
+some_of (x ∷ xs) k lt = x
+
+module _ (old : StationState) (e : SealedEntry) (outs : List (OutView SealedEntry)) (lost : List Loss)
+    (is : IsStation old) (maker : e.entry.maker ≡ old.machine.config.number) (number : e.entry.number
+    ≡ length (sent old.machine.events))
+    (sends : IsSentBelow old.loses old.link (length old.outs) e old.outs outs lost)
+    (kept : IsMachine (with_event (Sent e) old.machine))
+    (goes : IsGoing old.machine) (room : length old.machine.events < old.machine.config.log)
+  where
+    abbrev pub after_hand : StationState
+    after_hand = record {
+      machine = with_event (Sent e) old.machine;
+      link = old.link;
+      loses = old.loses;
+      outs = outs;
+      inns = old.inns;
+      losses = old.losses ++ lost;
+      ticks = old.ticks ++ record { pass = 0; what = length old.machine.events } ∷ [];
+    }
+
+    some : End
+    some = some_of old.outs old.machine.config.number is.place
+
+    -- the entries that were put before have lower numbers
+    lower : (to : ℕ) → to < length old.outs → to ≢ old.machine.config.number → (d : End) →
+        All (λ (x : SealedEntry). x.entry.number < e.entry.number) (get_or old.outs to d).put
+    lower to lt differs d =
+        subst (All (λ (x : SealedEntry). x.entry.number < e.entry.number)) (sym (is.puts to d lt differs))
+        (All-filter _ (λ (x : SealedEntry). x.entry.number < e.entry.number) (sent old.machine.events)
+        (All-weaker (Contains (sent old.machine.events)) (λ (x : SealedEntry). x.entry.number < e.entry.number)
+        (λ x c. let n = numbers_below old.machine.config.number old.machine.events is.machine.legal x c in
+        omega (arith, number)) (sent old.machine.events) (All-contains_itself (sent old.machine.events))))
+
+    -- what was put before is still there
+    grows : (to : ℕ) → to < length old.outs → to ≢ old.machine.config.number → (d : End) →
+        (more : List SealedEntry) × ((get_or outs to d).put ≡ (get_or old.outs to d).put ++ more)
+    grows to lt differs d =
+        put_grows (is_scripted old.loses e.entry.maker e.entry.number to) old.link to e (get_or old.outs to d)
+        (get_or outs to d) lost (sends.done to d lt (λ s. differs (s ∙ maker)))
+
+    -- each loss has the cause that its way tells
+    way_to : (j : ℕ) (loss : Loss) → j < length lost → (d : End) →
+        let one : Loss = get_or lost j loss in
+        IsWay (is_scripted old.loses e.entry.maker e.entry.number one.to) old.link e (get_or old.outs one.to d)
+        (get_or outs one.to d) (Some one.why)
+    way_to j loss below d =
+        let one : Loss = get_or lost j loss in
+        let l = sends.losses j loss below in
+        way_of_loss (is_scripted old.loses e.entry.maker e.entry.number one.to) old.link one.to e
+        (get_or old.outs one.to d) (get_or outs one.to d) lost sends.rising one (Contains-get_or lost j loss below)
+        l.0 l.1 refl (sends.done one.to d l.2 l.3)
+
+    pub IsStation-hand : IsStation after_hand
+    IsStation-hand =
+        let own : ℕ = old.machine.config.number in
+        let h : List (Event SealedEntry) = old.machine.events in
+        let k : ℕ = length (sent h) in
+        let at : ℕ → ℕ → Loss = λ n to. record { from = own; number = n; to = to; why = Scripted } in
+        let one_more : sent (h ++ Sent e ∷ []) ≡ sent h ++ e ∷ [] = sent-push h e in
+        let count : length (sent (h ++ Sent e ∷ [])) ≡ k + 1 = ap length one_more ∙ length-append (sent h) (e ∷ []) in
+        record {
+          machine = kept;
+          going = is.going;
+          small = is.small;
+          place = omega (arith, is.place, sends.count);
+          few = omega (arith, is.few, sends.count);
+          as_many = is.as_many ∙ sym sends.count;
+          puts = λ to d lt differs.
+              subst (λ (es : List SealedEntry). (get_or outs to d).put
+              ≡ arriving node_of_sealed (old.losses ++ lost) own to es) (sym one_more)
+              (puts_more old.losses lost own to k (sent h) e (get_or old.outs to d).put (get_or outs to d).put number
+              (numbers_below own h is.machine.legal)
+              (λ j loss below from. elim (is.fits j loss below) [ inl hand ↦ hand.1 | inr ear ↦ absurd (ear.2 from) ])
+              (λ j loss below. (sends.losses j loss below).1 ∙ number)
+              (is.puts to d (omega (arith, sends.count)) differs)
+              (subst (λ (n : ℕ). (((get_or outs to d).put ≡ (get_or old.outs to d).put ++ e ∷ []) ×
+              (is_lost lost own n to ≡ false)) ⊎
+              (((get_or outs to d).put ≡ (get_or old.outs to d).put) × (is_lost lost own n to ≡ true))) number
+              (subst (λ (n : ℕ). (((get_or outs to d).put ≡ (get_or old.outs to d).put ++ e ∷ []) ×
+              (is_lost lost n e.entry.number to ≡ false)) ⊎
+              (((get_or outs to d).put ≡ (get_or old.outs to d).put) × (is_lost lost n e.entry.number to ≡ true)))
+              maker
+              (put_or_lost (is_scripted old.loses e.entry.maker e.entry.number to) old.link to e (get_or old.outs to d)
+              (get_or outs to d) lost (sends.done to d (omega (arith, sends.count)) (λ s. differs (s ∙ maker)))))));
+          heard = λ from d lt differs.
+              got_from-sent h e from ∙ is.heard from d lt differs
+              ∙ sym (other_way old.losses lost from own (get_or old.inns from d).taken
+              (λ j loss below. inr (λ s. (sends.losses j loss below).3 (s ∙ sym maker))));
+          taken = is.taken;
+          makers = λ x c.
+              elim (Contains-push_cases h (Sent e) (Got x) c) [
+                | inl there ↦
+                    (let m = is.makers x there in omega (arith, sends.count))
+                | inr s ↦
+                    (let q : Sent e ≡ Got x = s in cc)
+              ];
+          fits = All-append (λ (loss : Loss). IsOfHand after_hand loss ⊎ IsOfEar after_hand loss) old.losses lost
+              (λ j loss below. let one = get_or old.losses j loss in elim (is.fits j loss below) [
+                | inl hand ↦ inl (
+                  hand.0,
+                  (let n = hand.1 in omega (arith, count)),
+                  (let n = hand.2 in omega (arith, sends.count)),
+                  hand.3,
+                  out_stays old.loses old.link old.outs outs one one.why (grows one.to hand.2 hand.3) hand.4,
+                )
+                | inr ear ↦ inr (
+                  ear.0,
+                  (let n = ear.1 in omega (arith, sends.count)),
+                  ear.2,
+                  λ d. let y = ear.3 d in
+                      (y.0, y.1, y.2, in_stays old.machine (Sent e) y.0 one.why goes room y.3),
+                )
+              ])
+              (λ j loss below. let l = sends.losses j loss below in let one = get_or lost j loss in
+              let apart : one.to ≢ own = λ s. l.3 (s ∙ sym maker) in
+              inl (
+                l.0 ∙ maker,
+                (let n = l.1 in omega (arith, count, number)),
+                (let n = l.2 in omega (arith, sends.count)),
+                apart,
+                out_new old.loses old.link e old.outs outs one one.why some l.0 l.1 (way_to j loss below)
+                    (lower one.to l.2 apart),
+              ));
+          once = once_append old.losses lost is.once
+              (λ i j d lt within. let a = get_or lost i d in let b = get_or lost j d in
+              other_to b a.from a.number a.to (λ s. let r = sends.rising i j d lt within in absurd (omega arith)))
+              (λ i j d below within.
+              let a = get_or old.losses i d in let b = get_or lost j d in let l = sends.losses j d within in
+              elim (is.fits i d below) [
+                | inl hand ↦ other_number b a.from a.number a.to (λ s. let n = hand.1 in let m = l.1 in
+                    absurd (omega (arith, number)))
+                | inr ear ↦ other_from b a.from a.number a.to (λ s. ear.2 (sym s ∙ l.0 ∙ maker))
+              ]);
+          scripted = λ n to below within apart named.
+              elim (cases_lt n k) [
+                | inl before ↦ Contains-append_left old.losses lost (at n to)
+                    (is.scripted n to before (omega (arith, sends.count)) apart named)
+                | inr here ↦ (let same : n ≡ k = omega (arith, count) in
+                    let d : End = some in
+                    let its : is_scripted old.loses e.entry.maker e.entry.number to ≡ true =
+                    ap (λ m. is_scripted old.loses m e.entry.number to) maker
+                    ∙ ap (λ m. is_scripted old.loses own m to) (number ∙ sym same) ∙ named in
+                    let told : Contains lost (loss_of e to Scripted) =
+                    named_is_lost (is_scripted old.loses e.entry.maker e.entry.number to) old.link to e
+                    (get_or old.outs to d) (get_or outs to d) lost
+                    (sends.done to d (omega (arith, sends.count)) (λ s. apart (s ∙ maker))) its in
+                    Contains-append_right old.losses lost (at n to)
+                    (subst (λ (loss : Loss). Contains lost loss)
+                    (ap (λ m. record { from = m; number = e.entry.number; to = to; why = Scripted }) maker
+                    ∙ ap (λ m. record { from = own; number = m; to = to; why = Scripted }) (number ∙ sym same)) told))
+              ];
+          ticks = ap (λ l. l ++ record { pass = 0; what = length h } ∷ []) is.ticks
+              ∙ sym (ticks_push 0 h (Sent e)
+              ∙ ap (λ n. ticks_from 0 h ++ record { pass = 0; what = n } ∷ []) (omega arith));
+          few_losses = omega (arith, length-append old.losses lost, is.few_losses, sends.few, is.few, count);
+        }

@@ -1,0 +1,14 @@
+pub mod Numbers
+pub mod Causes
+pub mod Hands
+pub mod Ears
+pub mod Made
+pub mod Linked
+pub mod EarLoops
+pub mod Works
+pub mod HandTurns
+pub mod EarTurns
+pub mod Gathers
+pub mod Merging
+pub mod Beginnings
+pub mod FirstStations

@@ -1,0 +1,154 @@
+use Rattle.std.proofs.Common.{◌≡◌, List, [], ◌∷◌, length, Vec, Global, refl, sym, ap, ◌∙◌, subst}
+use Rattle.std.proofs.Common.{arith}
+use Rattle.std.specs.Vec.Iter.{into_iter_items}
+use Rattle.broadcast_queues.specs.Ends.{LinkView, OutView, InView}
+use Rattle.election_script.specs.declared.script.Cast0.{Cast0}
+use Rattle.election_script.specs.declared.script.Script.{Script}
+use Rattle.entry_format.specs.SealedEntry.{SealedEntry}
+use Rattle.floor_links.specs.Fresh.{AreNewLinks}
+use Rattle.floor_links.proofs.Makings.{lists_of}
+use Rattle.machine_floor.specs.Fresh.{IsStopOf}
+use Rattle.machine_floor.proofs.FirstStations.{AreFirst, first_none, next_key, next_within, outs_there, inns_there}
+use Rattle.machine_floor.proofs.FirstStations.{may_begin, one_more, all_new, all_workable}
+use Rattle.machine_floor.proofs.making.stations.Goals as goal
+
+pub loop-key-init : goal.loop-key-init
+loop-key-init c = λ links are.
+    let script = c.args.script.now in
+    subst (λ a. AreFirst script links (lists_of (into_iter_items c.into_iter-outs.result))
+    (lists_of (into_iter_items c.into_iter-inns.result)) a (into_iter_items c.into_iter-key-iterator.result)
+    (lists_of (into_iter_items c.into_iter-outs.result)) (lists_of (into_iter_items c.into_iter-inns.result)))
+    (sym c.new-all.ensures.items)
+    (first_none script links (lists_of (into_iter_items c.into_iter-outs.result))
+    (lists_of (into_iter_items c.into_iter-inns.result)) (into_iter_items c.into_iter-key-iterator.result)
+    (c.into_iter-key-iterator.ensures.into_iter_gives.0 ∙ c.in_ok-keys.ensures))
+
+none_in : {X : Type 0} (xs : List X) → length xs ≡ 0 → xs ≡ []
+none_in [] e = refl
+none_in (x ∷ xs) e = absurd (omega arith)
+
+-- the links that were made are those of the ends that are left to be given
+given : (casts : List Cast0) (script : Script) (links : List (List LinkView))
+    (outs : Vec (Vec (OutView SealedEntry) Global) Global) (inns : Vec (Vec (InView SealedEntry) Global) Global)
+    (puts : List (Vec (OutView SealedEntry) Global)) (takes : List (Vec (InView SealedEntry) Global)) →
+    casts ≡ script.machines → puts ≡ outs.items → takes ≡ inns.items →
+    AreNewLinks (length casts) script.link links (lists_of outs.items) (lists_of inns.items) →
+    AreNewLinks (length script.machines) script.link links (lists_of puts) (lists_of takes)
+given casts script links outs inns puts takes same p t are =
+    subst (λ n. AreNewLinks n script.link links (lists_of puts) (lists_of takes)) (ap length same)
+    (subst (λ l. AreNewLinks (length casts) script.link links l (lists_of takes)) (sym (ap lists_of p))
+    (subst (λ l. AreNewLinks (length casts) script.link links (lists_of outs.items) l) (sym (ap lists_of t)) are))
+
+pub overflow_cast-at : goal.overflow_cast-at
+overflow_cast-at c =
+    let links = c.in_ok-links.field-0.links in
+    let are = given c.as_slice-count.result.now c.args.script.now links c.in_ok-links.field-0.outs
+    c.in_ok-links.field-0.inns _ _ c.as_slice-count.ensures c.into_iter-outs.ensures.rest
+    c.into_iter-inns.ensures.rest c.in_ok-links.ensures in
+    let at = c.len-at.ensures ∙ c.loop-key.all.ok.0 in
+    let first = c.loop-key.invariant links are in
+    let within = next_within c.args.script.now links _ _ c.loop-key.all.items _ _ _ _ c.in-Some.key c.len-at.result
+    first
+    c.in-Some.ensures.steps.0 at in
+    let few = c.requires.machines.few.1 in
+    omega arith
+
+pub make-requires-clause-at : goal.make-requires-clause-at
+make-requires-clause-at c =
+    let links = c.in_ok-links.field-0.links in
+    let are = given c.as_slice-count.result.now c.args.script.now links c.in_ok-links.field-0.outs
+    c.in_ok-links.field-0.inns _ _ c.as_slice-count.ensures c.into_iter-outs.ensures.rest
+    c.into_iter-inns.ensures.rest c.in_ok-links.ensures in
+    let at = c.len-at.ensures ∙ c.loop-key.all.ok.0 in
+    let first = c.loop-key.invariant links are in
+    next_within c.args.script.now links _ _ c.loop-key.all.items _ _ _ _ c.in-Some.key c.len-at.result first
+    c.in-Some.ensures.steps.0 at
+
+pub make-requires-clause-key : goal.make-requires-clause-key
+make-requires-clause-key c =
+    let links = c.in_ok-links.field-0.links in
+    let are = given c.as_slice-count.result.now c.args.script.now links c.in_ok-links.field-0.outs
+    c.in_ok-links.field-0.inns _ _ c.as_slice-count.ensures c.into_iter-outs.ensures.rest
+    c.into_iter-inns.ensures.rest c.in_ok-links.ensures in
+    let at = c.len-at.ensures ∙ c.loop-key.all.ok.0 in
+    let first = c.loop-key.invariant links are in
+    next_key c.args.script.now links _ _ c.loop-key.all.items _ _ _ _ c.in-Some.key c.len-at.result first
+    c.in-Some.ensures.steps.0 at
+
+pub unreachable-requires : goal.unreachable-requires
+unreachable-requires c =
+    let links = c.in_ok-links.field-0.links in
+    let are = given c.as_slice-count.result.now c.args.script.now links c.in_ok-links.field-0.outs
+    c.in_ok-links.field-0.inns _ _ c.as_slice-count.ensures c.into_iter-outs.ensures.rest
+    c.into_iter-inns.ensures.rest c.in_ok-links.ensures in
+    let at = c.len-at.ensures ∙ c.loop-key.all.ok.0 in
+    let first = c.loop-key.invariant links are in
+    outs_there c.args.script.now links _ _ c.loop-key.all.items _ _ _ _ c.in-Some.key c.len-at.result first
+    c.in-Some.ensures.steps.0 at c.requires are
+    (ap lists_of (none_in (into_iter_items c.loop-key.outs) (omega (arith, c.in_default.ensures.cases))))
+
+pub unreachable-requires-in_default-next : goal.unreachable-requires-in_default-next
+unreachable-requires-in_default-next c =
+    let links = c.in_ok-links.field-0.links in
+    let are = given c.as_slice-count.result.now c.args.script.now links c.in_ok-links.field-0.outs
+    c.in_ok-links.field-0.inns _ _ c.as_slice-count.ensures c.into_iter-outs.ensures.rest
+    c.into_iter-inns.ensures.rest c.in_ok-links.ensures in
+    let at = c.len-at.ensures ∙ c.loop-key.all.ok.0 in
+    let first = c.loop-key.invariant links are in
+    inns_there c.args.script.now links _ _ c.loop-key.all.items _ _ _ _ c.in-Some.key c.len-at.result first
+    c.in-Some.ensures.steps.0 at c.requires are
+    (ap lists_of (none_in (into_iter_items c.loop-key.inns) (omega (arith, c.in_default-next.ensures.cases))))
+
+pub new-requires : goal.new-requires
+new-requires c =
+    let links = c.in_ok-links.field-0.links in
+    let are = given c.as_slice-count.result.now c.args.script.now links c.in_ok-links.field-0.outs
+    c.in_ok-links.field-0.inns _ _ c.as_slice-count.ensures c.into_iter-outs.ensures.rest
+    c.into_iter-inns.ensures.rest c.in_ok-links.ensures in
+    let at = c.len-at.ensures ∙ c.loop-key.all.ok.0 in
+    let first = c.loop-key.invariant links are in
+    may_begin c.args.script.now links _ _ c.loop-key.all.items _ _ _ _ c.in-Some.key c.len-at.result first
+    c.in-Some.ensures.steps.0 at c.requires are c.in-Some-next.ends_out.items _ c.in-Some-next-2.ends_in.items _
+    (ap lists_of c.in-Some-next.ensures.items) (ap lists_of c.in-Some-next-2.ensures.items) _
+    c.in_ok-machine.machine (subst (λ l. IsStopOf l c.len-at.result c.stop_of-stop_at.result) c.as_slice.ensures
+    c.stop_of-stop_at.ensures) c.in_ok-machine.ensures
+
+pub loop-key-preserved : goal.loop-key-preserved
+loop-key-preserved c = λ links are.
+    let at = c.len-at.ensures ∙ c.loop-key.all.ok.0 in
+    let first = c.loop-key.invariant links are in
+    one_more c.args.script.now links _ _ c.loop-key.all.items _ _ _ _ c.in-Some.key c.len-at.result first
+    c.in-Some.ensures.steps.0 at c.requires are c.in-Some-next.ends_out.items _ c.in-Some-next-2.ends_in.items _
+    (ap lists_of c.in-Some-next.ensures.items) (ap lists_of c.in-Some-next-2.ensures.items) _
+    c.in_ok-machine.machine (subst (λ l. IsStopOf l c.len-at.result c.stop_of-stop_at.result) c.as_slice.ensures
+    c.stop_of-stop_at.ensures) c.in_ok-machine.ensures c.in_ok-new.field-0 c.push.new.self.items c.in_ok-new.ensures
+    c.in_ok-push.ensures.items
+
+pub returns-clause-new : goal.returns-clause-new
+returns-clause-new c =
+    let links = c.in_ok-links.field-0.links in
+    let are = given c.as_slice-count.result.now c.args.script.now links c.in_ok-links.field-0.outs
+    c.in_ok-links.field-0.inns _ _ c.as_slice-count.ensures c.into_iter-outs.ensures.rest
+    c.into_iter-inns.ensures.rest c.in_ok-links.ensures in
+    all_new c.args.script.now links _ _ c.loop-key.all.items _ _ _ (c.loop-key.invariant links are)
+    (omega (arith, c.in-None.ensures.steps.0))
+
+pub returns-clause-links : goal.returns-clause-links
+returns-clause-links c =
+    let links = c.in_ok-links.field-0.links in
+    let are = given c.as_slice-count.result.now c.args.script.now links c.in_ok-links.field-0.outs
+    c.in_ok-links.field-0.inns _ _ c.as_slice-count.ensures c.into_iter-outs.ensures.rest
+    c.into_iter-inns.ensures.rest c.in_ok-links.ensures in
+    (all_workable c.args.script.now links c.loop-key.all.items
+    (all_new c.args.script.now links _ _ c.loop-key.all.items _ _ _
+    (c.loop-key.invariant links are) (omega (arith, c.in-None.ensures.steps.0)))).0
+
+pub returns-clause-first : goal.returns-clause-first
+returns-clause-first c =
+    let links = c.in_ok-links.field-0.links in
+    let are = given c.as_slice-count.result.now c.args.script.now links c.in_ok-links.field-0.outs
+    c.in_ok-links.field-0.inns _ _ c.as_slice-count.ensures c.into_iter-outs.ensures.rest
+    c.into_iter-inns.ensures.rest c.in_ok-links.ensures in
+    (all_workable c.args.script.now links c.loop-key.all.items
+    (all_new c.args.script.now links _ _ c.loop-key.all.items _ _ _
+    (c.loop-key.invariant links are) (omega (arith, c.in-None.ensures.steps.0)))).1

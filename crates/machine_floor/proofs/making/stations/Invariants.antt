@@ -1,0 +1,16 @@
+use Rattle.std.proofs.Common.{List, length}
+use Rattle.std.specs.Vec.Iter.{into_iter_items}
+use Rattle.broadcast_queues.specs.Ends.{LinkView}
+use Rattle.floor_links.specs.Fresh.{AreNewLinks}
+use Rattle.floor_links.proofs.Makings.{lists_of}
+use Rattle.machine_floor.proofs.FirstStations.{AreFirst}
+use Rattle.machine_floor.proofs.making.stations.Given as goal
+
+-- the stations of the first machines over these links, and what is left for the others
+abbrev pub invariant-loop-key : goal.invariant-loop-key
+invariant-loop-key l =
+    let outs = lists_of (into_iter_items l.initial.outs) in
+    let inns = lists_of (into_iter_items l.initial.inns) in
+    (links : List (List LinkView)) → AreNewLinks (length l.script.machines) l.script.link links outs inns →
+    AreFirst l.script links outs inns l.all.items (into_iter_items l.key-iterator)
+    (lists_of (into_iter_items l.outs)) (lists_of (into_iter_items l.inns))

@@ -1,0 +1,14 @@
+use Rattle.std.proofs.Common.{◌≡◌, ℕ, ◌+◌, ◌<◌, get_or, vec_items, vec_len, Ok}
+use Rattle.std.specs.Vec.Iter.{into_iter_items, into_iter_len}
+use Rattle.machine_floor.specs.Stations.{StationState, made_of}
+use Rattle.machine_floor.proofs.work.work_all.Given as goal
+
+-- those that came out already are as they were made, and the rest, where they come out
+abbrev pub invariant-loop-station : goal.invariant-loop-station
+invariant-loop-station g l =
+    let done = vec_len l.after in let rest = l.station-iterator in
+    (done + into_iter_len rest ≡ vec_len l.fn.stations)
+    × ((k : ℕ) (d : _) (s : StationState) → k < into_iter_len rest → get_or (into_iter_items rest) k d ≡ Ok s →
+    (e : StationState) → made_of s ≡ made_of (get_or l.fn.stations.items (done + k) e))
+    × ((k : ℕ) (d e : StationState) → k < done →
+    made_of (get_or (vec_items l.after) k d) ≡ made_of (get_or l.fn.stations.items k e))

@@ -1,0 +1,33 @@
+-- A station before anything happened.
+use Rattle.std.specs.Prelude.{◌≡◌, ◌<◌, ◌≤◌, false, List, [], length, All}
+use Rattle.entry_format.specs.SealedEntry.{SealedEntry}
+use Rattle.election_script.specs.declared.script.Script.{Script}
+use Rattle.broadcast_queues.specs.Ends.{OutView, InView}
+use Rattle.polling_world.specs.Machines.{MachineState}
+use Rattle.machine_floor.specs.Stations.{StationState}
+use Rattle.machine_floor.specs.Fresh.{lines_of}
+
+-- the station of a machine, with these ends of its links
+abbrev pub begun : Script → MachineState → List (OutView SealedEntry) → List (InView SealedEntry) → StationState
+begun script machine outs inns = record {
+  machine = machine;
+  link = script.link;
+  loses = lines_of machine.config.number script.loses;
+  outs = outs;
+  inns = inns;
+  losses = [];
+  ticks = [];
+}
+
+-- what makes it one: nothing happened, and there is an end to and from each machine
+pub record IsBeginning (script : Script) (machine : MachineState) (outs : List (OutView SealedEntry))
+    (inns : List (InView SealedEntry)) : Type 0 where
+  pub log : machine.config.log ≡ script.log
+  pub small : script.log ≤ 4096
+  pub events : machine.events ≡ []
+  pub going : machine.marked ≡ false
+  pub place : machine.config.number < length outs
+  pub few : length outs ≤ 16
+  pub as_many : length inns ≡ length outs
+  pub put : All (λ out. out.put ≡ []) outs
+  pub taken : All (λ inn. inn.taken ≡ []) inns

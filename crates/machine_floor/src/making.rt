@@ -1,0 +1,55 @@
+//! The stations of a script.
+ghost use Rattle.std.specs.Prelude.{◌≡◌, [], All, IfOk};
+ghost use Rattle.election_script.specs.Lawful.{IsLawful};
+ghost use Rattle.machine_floor.specs.Fresh.{AreNewStations, IsStopOf};
+ghost use Rattle.machine_floor.specs.Stations.{IsOfLinks, made_of};
+
+use crate::station::Station;
+use election_script::{Script, StopAt};
+use floor_links::{Links, NewLinks, make_links};
+use polling_world::{Machine, Memory, keys_of, roster_of};
+use std::alloc::Global;
+
+/// One station for each machine of the script, in its order, and the links between them. All memory
+/// that turns need beside that for entries is taken here. Making the machines' keys takes a while.
+pub fn stations(alloc: Global, script: &Script) -> Result<(Vec<Station>, Links), Memory>
+    requires { IsLawful script.now }
+    ensures new { IfOk result (λ made. AreNewStations script.now made.1 made.0.items) }
+
+    // So they can be worked.
+    ensures links { IfOk result (λ made. All (λ s. IsOfLinks made.1 (made_of s)) made.0.items) }
+    ensures first { IfOk result (λ made. All (λ s. s.ticks ≡ []) made.0.items) }
+{
+    let keys = keys_of(alloc, script)?;
+    let roster = roster_of(alloc, script, &keys)?;
+    let count = script.machines.as_slice().len();
+    let NewLinks { links, outs, inns } = make_links(alloc, count, script.link as usize)?;
+    let mut outs = outs.into_iter();
+    let mut inns = inns.into_iter();
+    let mut all = Vec::new(alloc);
+    for key in keys {
+        let at = all.len() as u32;
+        let stop_at = stop_of(script.stops.as_slice(), at);
+        let machine = Machine::make(alloc, script, &roster, at, key, stop_at)?;
+        let Some(ends_out) = outs.next() else {
+            unreachable!();
+        };
+        let Some(ends_in) = inns.next() else {
+            unreachable!();
+        };
+        all.push(Station::new(alloc, script, machine, ends_out, ends_in)?)?;
+    }
+    Ok((all, links))
+}
+
+// The number of events at which the machine stops, if a line says so.
+fn stop_of(stops: &[StopAt], machine: u32) -> Option<u32>
+    ensures { IsStopOf stops.now machine result }
+{
+    for stop in stops {
+        if stop.machine == machine {
+            return Some(stop.events);
+        }
+    }
+    None
+}
