@@ -1,0 +1,164 @@
+-- What stays true of machines when one of them has one event more.
+use Rattle.std.proofs.Common.{◌≡◌, ◌≢◌, ◌∙◌, ℕ, ◌<◌, ◌≤◌, inl, inr, true, List, [], ◌∷◌, ◌++◌}
+use Rattle.std.proofs.Common.{length, Some, sym, ap, subst, arith, length-append}
+use Rattle.std.specs.Prelude.{slice_get, slice_set, All}
+use Rattle.std.specs.List.{Contains}
+use Rattle.std.proofs.lemmas.Bool.{cases_eq, le-leb, or_right, true≢false, not_from_true}
+use Rattle.std.proofs.lemmas.List.{append_assoc, map-append}
+use Rattle.std.proofs.lemmas.List.Elements.{All-weaker, Contains-append_left}
+use Rattle.entry_format.specs.Nodes.{node_of_sealed}
+use Rattle.entry_format.specs.SealedEntry.{SealedEntry}
+use Rattle.entry_order.specs.declared.event.Event.{Event}
+use Rattle.entry_order.specs.declared.event.Event.TheVariants.{Sent}
+use Rattle.entry_order.specs.History.{MayFollow, entry_of, held, sent}
+use Rattle.entry_order.specs.Naming.{IsBorneIn}
+use Rattle.entry_order.specs.World.{history}
+use Rattle.entry_order.proofs.Histories.{sent-append}
+use Rattle.election_script.specs.declared.script.Lose.{Lose}
+use Rattle.floor_losses.specs.declared.loss.Loss.{Loss}
+use Rattle.floor_losses.specs.declared.loss.LossWhy.{LossWhy}
+use Rattle.floor_losses.specs.declared.loss.LossWhy.TheVariants.{Scripted, LinkFull, ToStopped, LogFull, SameDigest}
+use Rattle.polling_world.specs.Machines.{MachineState, has_stopped, is_reached, with_event}
+use Rattle.polling_world.specs.Sending.{MaySend}
+use Rattle.polling_world.specs.Waiting.{IsGoing}
+use Rattle.polling_world.specs.Worlds.{world_of}
+use Rattle.polling_world.proofs.Placing.{set_cases, set_get, one_there}
+use Rattle.floor_sweep.specs.Places.{IsAt, ArePlaced, AreOfSent, HasGrown, HaveGrown, count_sent}
+use Rattle.floor_sweep.specs.Swept.{HoldsSame, IsCause, IsLicensed}
+use Rattle.floor_sweep.proofs.Places.{IsMachine-event, get_others, history_more, length_set}
+
+-- what was held is still held
+held_more : (h : List (Event SealedEntry)) (x : Event SealedEntry) (d : List ℕ) →
+    IsBorneIn node_of_sealed (held h) d → IsBorneIn node_of_sealed (held (h ++ x ∷ [])) d
+held_more h x d borne = (
+  borne.0,
+  subst (λ (l : List SealedEntry). Contains l borne.0) (sym (map-append entry_of h (x ∷ [])))
+      (Contains-append_left (held h) (held (x ∷ [])) borne.0 borne.1),
+  borne.2,
+)
+
+-- a machine that goes on isn't where it is to stop
+going_on : (m : MachineState) → IsGoing m → m.stop ≢ Some (length m.events)
+going_on m going at =
+    let n : ℕ = length m.events in
+    let reached : is_reached m.stop n ≡ true = ap (λ o. is_reached o n) at ∙ le-leb n n (omega arith) in
+    let has : has_stopped m ≡ true = or_right m.marked (is_reached m.stop n) reached in
+    true≢false (sym going ∙ not_from_true (has_stopped m) has)
+
+module _ (ms : List MachineState) (at : ℕ) (m : MachineState) (x : Event SealedEntry)
+    (stood : slice_get ms at ≡ Some m) (going : IsGoing m) (room : length m.events < m.config.log) where
+  abbrev after : List MachineState
+  after = slice_set ms at (with_event x m)
+
+  -- each machine has its place
+  pub placed_event : MayFollow node_of_sealed m.config.number m.events x →
+      ((e : SealedEntry) → x ≡ Sent e → MaySend m.config m.events e) → ArePlaced ms → ArePlaced after
+  placed_event may send placed place n is =
+      elim (set_cases ms at place m (with_event x m) n stood is) [
+        | inl s ↦ (let was = placed at m stood in
+            subst (λ (u : MachineState). IsAt place u) s.1
+            (record {
+              number = was.number ∙ sym s.0;
+              machine = IsMachine-event m x was.machine going room may send;
+              unmarked = was.unmarked;
+            }))
+        | inr s ↦ placed place n s
+      ]
+
+  -- each has grown
+  pub grown_event : (old : List MachineState) → HaveGrown old ms → HaveGrown old after
+  grown_event old grown = record {
+    count = length_set ms at (with_event x m) ∙ grown.count;
+    each = λ place a n was is.
+        elim (set_cases ms at place m (with_event x m) n stood is) [
+          | inl s ↦ (let g = grown.each place a m was (ap (slice_get ms) s.0 ∙ stood) in
+              subst (λ (u : MachineState). HasGrown a u) s.1
+              (record {
+                config = g.config;
+                stop = g.stop;
+                later = g.later ++ x ∷ [];
+                events = ap (λ (h : List (Event SealedEntry)). h ++ x ∷ []) g.events
+                    ∙ append_assoc a.events g.later (x ∷ []);
+              }))
+          | inr s ↦ grown.each place a n was s
+        ];
+  }
+
+  -- each sent what it had sent
+  pub sent_event : (k : ℕ) (e : SealedEntry) → Contains (sent (history (world_of ms) k)) e →
+      Contains (sent (history (world_of after) k)) e
+  sent_event k e c =
+      let more = history_more ms at m x stood k in
+      subst (λ (l : List SealedEntry). Contains l e)
+      (sym (ap sent more.1 ∙ sent-append (history (world_of ms) k) more.0))
+      (Contains-append_left (sent (history (world_of ms) k)) (sent more.0) e c)
+
+  pub count_event : (k : ℕ) → count_sent ms k ≤ count_sent after k
+  count_event k =
+      let more = history_more ms at m x stood k in
+      let n = ap length (ap sent more.1 ∙ sent-append (history (world_of ms) k) more.0) in
+      let l = length-append (sent (history (world_of ms) k)) (sent more.0) in
+      omega arith
+
+  pub of_sent_event : (losses : List Loss) → AreOfSent ms losses → AreOfSent after losses
+  of_sent_event losses of =
+      All-weaker (λ (l : Loss). l.number < count_sent ms l.from) (λ (l : Loss). l.number < count_sent after l.from)
+      (λ l lt. let c = count_event l.from in omega arith) losses of
+
+  -- the machine that a loss names is there, and is the same unless it is the one with the event
+  there : (k : ℕ) (n : MachineState) → slice_get ms k ≡ Some n → k ≢ at → slice_get after k ≡ Some n
+  there k n is differs = get_others ms at k (with_event x m) differs ∙ is
+
+  same_event : (from number : ℕ) (n u : MachineState) →
+      ((d : List ℕ) → IsBorneIn node_of_sealed (held n.events) d → IsBorneIn node_of_sealed (held u.events) d) →
+      HoldsSame ms from number n → HoldsSame after from number u
+  same_event from number n u holds same =
+      (same.0, sent_event from same.0 same.1, same.2, holds (node_of_sealed same.0).digest same.3)
+
+  -- a cause stays
+  cause_event : (loses : List Lose) (loss : Loss) (why : LossWhy) → IsCause loses ms loss why →
+      IsCause loses after loss why
+  cause_event loses loss Scripted cause = cause
+  cause_event loses loss LinkFull cause = cause
+  cause_event loses loss ToStopped cause =
+      elim (cases_eq loss.to at) [
+        | inl s ↦ (let one = one_there ms at cause.0 m (ap (slice_get ms) (sym s) ∙ cause.1) stood in
+            absurd (going_on m going (subst (λ (u : MachineState). u.stop ≡ Some (length u.events)) one cause.2)))
+        | inr n ↦ (cause.0, there loss.to cause.0 cause.1 n, cause.2)
+      ]
+  cause_event loses loss LogFull cause =
+      elim (cases_eq loss.to at) [
+        | inl s ↦ (let one = one_there ms at cause.0 m (ap (slice_get ms) (sym s) ∙ cause.1) stood in
+            let full = subst (λ (u : MachineState). length u.events ≡ u.config.log) one cause.2 in
+            absurd (omega arith))
+        | inr n ↦ (cause.0, there loss.to cause.0 cause.1 n, cause.2)
+      ]
+  cause_event loses loss SameDigest cause =
+      elim (cases_eq loss.to at) [
+        | inl s ↦ (let one = one_there ms at cause.0 m (ap (slice_get ms) (sym s) ∙ cause.1) stood in (
+          with_event x m,
+          ap (slice_get after) s ∙ set_get ms at m (with_event x m) stood,
+          same_event loss.from loss.number m (with_event x m) (λ d b. held_more m.events x d b)
+              (subst (λ (u : MachineState). HoldsSame ms loss.from loss.number u) one cause.2),
+        ))
+        | inr n ↦ (
+          cause.0,
+          there loss.to cause.0 cause.1 n,
+          same_event loss.from loss.number cause.0 cause.0 (λ d b. b) cause.2,
+        )
+      ]
+
+  -- what is licensed stays so
+  pub licensed_event : (loses : List Lose) (losses : List Loss) → All (IsLicensed loses ms) losses →
+      All (IsLicensed loses after) losses
+  licensed_event loses losses all =
+      All-weaker (IsLicensed loses ms) (IsLicensed loses after)
+      (λ l is. let c = count_event l.from in let n = length_set ms at (with_event x m) in
+      let a = is.from in let b = is.to in let k = is.number in
+      record {
+        from = omega arith;
+        to = omega arith;
+        other = is.other;
+        number = omega arith;
+        cause = cause_event loses l l.why is.cause;
+      }) losses all

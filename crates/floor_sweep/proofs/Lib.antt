@@ -1,0 +1,11 @@
+pub mod Numbers
+pub mod Places
+pub mod Events
+pub mod Handed
+pub mod Waits
+pub mod Left
+pub mod Outs
+pub mod Acts
+pub mod Turns
+pub mod Ends
+pub mod News

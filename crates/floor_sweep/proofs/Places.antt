@@ -1,0 +1,127 @@
+-- Machines in their places, one of which has one event more.
+use Rattle.std.proofs.Common.{◌≡◌, ◌≢◌, ◌∙◌, ℕ, zero, suc, ◌+◌, ◌<◌, inl, inr, Bool, true, false, List, [], ◌∷◌, ◌++◌}
+use Rattle.std.proofs.Common.{length, Some, None, Option, refl, sym, ap, subst, arith, length-append}
+use Rattle.std.specs.Prelude.{slice_get, slice_set, IsTrue, not, ◌||◌}
+use Rattle.std.proofs.lemmas.Bool.{leb-false, cases_eq}
+use Rattle.std.proofs.lemmas.List.{append-nil}
+use Rattle.entry_format.specs.Nodes.{node_of_sealed}
+use Rattle.entry_format.specs.SealedEntry.{SealedEntry}
+use Rattle.entry_order.specs.declared.event.Event.{Event}
+use Rattle.entry_order.specs.declared.event.Event.TheVariants.{Sent}
+use Rattle.entry_order.specs.History.{MayFollow}
+use Rattle.entry_order.specs.World.{history, with_machine, append}
+use Rattle.entry_order.proofs.Histories.{IsLegal-push}
+use Rattle.floor_losses.proofs.Sweeps.{history_here, history_other}
+use Rattle.polling_world.specs.Machines.{MachineState, IsMachine, IsWithinStop, is_reached, with_event}
+use Rattle.polling_world.specs.Sending.{MaySend}
+use Rattle.polling_world.specs.Waiting.{IsGoing}
+use Rattle.polling_world.specs.Worlds.{world_of}
+use Rattle.polling_world.proofs.Histories.{AreMade-push}
+use Rattle.polling_world.proofs.Placing.{history_there, set_get}
+
+abbrev pub Step : Type 0
+Step = Event SealedEntry
+
+-- a number that isn't reached allows one event more
+one_more : (stop : Option ℕ) (count : ℕ) → is_reached stop count ≡ false → IsWithinStop stop (count + 1)
+one_more None count going = tt
+one_more (Some stop) count going = omega (arith, leb-false stop count going)
+
+or_false : (a b : Bool) → IsTrue (not (a || b)) → b ≡ false
+or_false true b going = cc
+or_false false true going = cc
+or_false false false going = refl
+
+-- a machine with one event more, which may follow and, if it is sent, may be sent
+pub IsMachine-event : (m : MachineState) (x : Step) → IsMachine m → IsGoing m →
+    length m.events < m.config.log → MayFollow node_of_sealed m.config.number m.events x →
+    ((e : SealedEntry) → x ≡ Sent e → MaySend m.config m.events e) → IsMachine (with_event x m)
+IsMachine-event m x machine going room may send =
+    let longer : length (m.events ++ x ∷ []) ≡ length m.events + 1 = length-append m.events (x ∷ []) in
+    record {
+      version = machine.version;
+      roster = machine.roster;
+      place = machine.place;
+      public = machine.public;
+      actions = machine.actions;
+      legal = IsLegal-push node_of_sealed m.config.number m.events x machine.legal may;
+      within = omega (arith, longer, room);
+      sent = AreMade-push m.config m.events x machine.sent send;
+      stop = subst (λ n. IsWithinStop m.stop n) (sym longer)
+          (one_more m.stop (length m.events) (or_false m.marked (is_reached m.stop (length m.events)) going));
+    }
+
+-- the history of the machine that was put in a place
+pub history_set : (ms : List MachineState) (at : ℕ) (m n : MachineState) → slice_get ms at ≡ Some m →
+    history (world_of (slice_set ms at n)) at ≡ n.events
+history_set ms at m n is = history_there (slice_set ms at n) at n (set_get ms at m n is)
+
+-- and of the others
+pub history_others : (ms : List MachineState) (at k : ℕ) (n : MachineState) → k ≢ at →
+    history (world_of (slice_set ms at n)) k ≡ history (world_of ms) k
+history_others [] at k n differs = refl
+history_others (m ∷ ms) zero zero n differs = absurd (differs refl)
+history_others (m ∷ ms) zero (suc k) n differs = refl
+history_others (m ∷ ms) (suc at) zero n differs = refl
+history_others (m ∷ ms) (suc at) (suc k) n differs = history_others ms at k n (λ s. differs (ap suc s))
+
+pub length_set : (ms : List MachineState) (at : ℕ) (n : MachineState) → length (slice_set ms at n) ≡ length ms
+length_set [] at n = refl
+length_set (m ∷ ms) zero n = refl
+length_set (m ∷ ms) (suc at) n = ap suc (length_set ms at n)
+
+pub length_world : (ms : List MachineState) → length (world_of ms) ≡ length ms
+length_world [] = refl
+length_world (m ∷ ms) = ap suc (length_world ms)
+
+pub get_others : (ms : List MachineState) (at k : ℕ) (n : MachineState) → k ≢ at →
+    slice_get (slice_set ms at n) k ≡ slice_get ms k
+get_others [] at k n differs = refl
+get_others (m ∷ ms) zero zero n differs = absurd (differs refl)
+get_others (m ∷ ms) zero (suc k) n differs = refl
+get_others (m ∷ ms) (suc at) zero n differs = refl
+get_others (m ∷ ms) (suc at) (suc k) n differs = get_others ms at k n (λ s. differs (ap suc s))
+
+pub within_get : (ms : List MachineState) (at : ℕ) (m : MachineState) → slice_get ms at ≡ Some m → at < length ms
+within_get [] at m is = cc
+within_get (n ∷ ms) zero m is = omega arith
+within_get (n ∷ ms) (suc at) m is = let h = within_get ms at m is in omega arith
+
+pub get_within : (ms : List MachineState) (at : ℕ) → at < length ms → (m : MachineState) × (slice_get ms at ≡ Some m)
+get_within [] at lt = absurd (omega arith)
+get_within (m ∷ ms) zero lt = (m, refl)
+get_within (m ∷ ms) (suc at) lt = get_within ms at (omega arith)
+
+module _ (ms : List MachineState) (at : ℕ) (m : MachineState) (x : Step) (stood : slice_get ms at ≡ Some m) where
+  abbrev after : List MachineState
+  after = slice_set ms at (with_event x m)
+
+  -- the histories are those of the world in which the machine has one event more
+  pub history_event : (k : ℕ) →
+      history (world_of after) k ≡ history (with_machine at (append x) (world_of ms)) k
+  history_event k =
+      let within : at < length (world_of ms) = let h = within_get ms at m stood in omega (arith, length_world ms) in
+      elim (cases_eq k at) [
+        | inl s ↦ ap (history (world_of after)) s ∙ history_set ms at m (with_event x m) stood
+            ∙ ap (λ (h : List Step). h ++ x ∷ []) (sym (history_there ms at m stood))
+            ∙ sym (history_here node_of_sealed (world_of ms) at x within)
+            ∙ ap (history (with_machine at (append x) (world_of ms))) (sym s)
+        | inr n ↦ history_others ms at k (with_event x m) n ∙ sym (history_other node_of_sealed (world_of ms) at k x n)
+      ]
+
+  -- each history has what it had
+  pub history_more : (k : ℕ) → (later : List Step) × (history (world_of after) k ≡ history (world_of ms) k ++ later)
+  history_more k =
+      elim (cases_eq k at) [
+        | inl s ↦ (
+          x ∷ [],
+          ap (history (world_of after)) s ∙ history_set ms at m (with_event x m) stood
+              ∙ ap (λ (h : List Step). h ++ x ∷ []) (sym (history_there ms at m stood))
+              ∙ ap (λ n. history (world_of ms) n ++ x ∷ []) (sym s),
+        )
+        | inr n ↦ (
+          [],
+          history_others ms at k (with_event x m) n
+              ∙ sym (append-nil (history (world_of ms) k)),
+        )
+      ]

@@ -1,0 +1,154 @@
+-- A round over the machines, and what is known of a machine that didn't act in it.
+use Rattle.std.proofs.Common.{◌≡◌, ◌∙◌, ℕ, ◌+◌, ◌<◌, ◌≤◌, inl, inr, Bool, true, false, List, [], length, Some}
+use Rattle.std.proofs.Common.{refl, sym, ap, subst, arith}
+use Rattle.std.specs.Prelude.{◌||◌, slice_get}
+use Rattle.std.proofs.lemmas.Bool.{cases_Bool, cases_lt, true≢false}
+use Rattle.std.proofs.lemmas.List.{append-nil}
+use Rattle.std.proofs.lemmas.List.Elements.{All-nil}
+use Rattle.entry_format.specs.Nodes.{node_of_sealed}
+use Rattle.entry_order.specs.World.{history}
+use Rattle.election_script.specs.declared.script.Lose.{Lose}
+use Rattle.floor_losses.specs.declared.loss.Loss.{Loss}
+use Rattle.floor_losses.specs.Balance.{IsBalanced}
+use Rattle.floor_losses.specs.Losses.{AreOnce}
+use Rattle.polling_world.specs.declared.acted.Acted.{Acted}
+use Rattle.polling_world.specs.declared.acted.Acted.TheVariants as acted
+use Rattle.polling_world.specs.declared.left.LeftWhy.TheVariants as why
+use Rattle.polling_world.specs.Acting.{IsActed}
+use Rattle.polling_world.specs.Machines.{MachineState}
+use Rattle.polling_world.specs.Worlds.{world_of}
+use Rattle.polling_world.proofs.Placing.{one_there}
+use Rattle.floor_sweep.specs.Places.{ArePlaced, AreOfSent, HasGrown, IsAt}
+use Rattle.floor_sweep.specs.Swept.{IsLicensed}
+use Rattle.floor_sweep.specs.Wholes.{IsWholeRun}
+use Rattle.floor_sweep.specs.inside.Fates.{AreNumbered}
+use Rattle.floor_sweep.specs.inside.Steps.{AreStillBelow, IsStillAt, IsSwept, Waits, actions_left, did, no_waits}
+use Rattle.floor_sweep.proofs.Handed.{stopped_there}
+
+-- the machines below `at` acted, or none of them could
+pub record Rounding (loses : List Lose) (count : ℕ) (ms0 : List MachineState) (losses0 : List Loss) (at : ℕ)
+    (some : Bool) (ms : List MachineState) (losses : List Loss) : Type 0 where
+  pub as_many : length ms ≡ count
+  pub few : count ≤ 16
+  pub numbers : AreNumbered ms
+  pub swept : (old : List MachineState) (before : List Loss) → IsSwept loses old before no_waits ms0 losses0 →
+      IsSwept loses old before no_waits ms losses
+  pub acted : some ≡ true → actions_left ms < actions_left ms0
+  pub none : some ≡ false → AreStillBelow at ms × (ms ≡ ms0)
+
+-- both or neither
+either_false : (a b : Bool) → (a || b) ≡ false → (a ≡ false) × (b ≡ false)
+either_false true b neither = cc
+either_false false b neither = (refl, neither)
+
+module _ (loses : List Lose) (count : ℕ) (ms0 : List MachineState) (losses0 : List Loss) where
+  pub rounding_none : length ms0 ≡ count → count ≤ 16 → AreNumbered ms0 →
+      Rounding loses count ms0 losses0 0 false ms0 losses0
+  rounding_none as_many few numbers = record {
+    as_many = as_many;
+    few = few;
+    numbers = numbers;
+    swept = λ old before s. s;
+    acted = λ now. absurd (true≢false (sym now));
+    none = λ isnt. ((λ place lt. absurd (omega arith)), refl);
+  }
+
+  module _ (at : ℕ) (some : Bool) (ms : List MachineState) (losses : List Loss)
+      (is : Rounding loses count ms0 losses0 at some ms losses) where
+    -- no more actions are left than before
+    fewer : actions_left ms ≤ actions_left ms0
+    fewer =
+        elim (cases_Bool some) [
+          | inl now ↦ (let l = is.acted now in omega arith)
+          | inr isnt ↦ (let s = ap actions_left (is.none isnt).1 in omega arith)
+        ]
+
+    -- a machine acts once more
+    pub rounding_again : (new : List MachineState) (more : List Loss) →
+        ((old : List MachineState) (before : List Loss) → IsSwept loses old before no_waits ms losses →
+        IsSwept loses old before no_waits new more) →
+        actions_left new < actions_left ms → length new ≡ length ms → AreNumbered new →
+        Rounding loses count ms0 losses0 at true new more
+    rounding_again new more swept less many numbers = record {
+      as_many = many ∙ is.as_many;
+      few = is.few;
+      numbers = numbers;
+      swept = λ old before s. swept old before (is.swept old before s);
+      acted = λ true_is. let f = fewer in omega arith;
+      none = λ isnt. absurd (true≢false isnt);
+    }
+
+    -- the next machine acts, or can't
+    pub rounding_more : (now : Bool) (new : List MachineState) (more : List Loss) →
+        ((old : List MachineState) (before : List Loss) → IsSwept loses old before no_waits ms losses →
+        IsSwept loses old before no_waits new more) →
+        (now ≡ true → actions_left new < actions_left ms) →
+        (now ≡ false → IsStillAt ms at × (new ≡ ms)) → length new ≡ length ms → AreNumbered new →
+        Rounding loses count ms0 losses0 (at + 1) (some || now) new more
+    rounding_more now new more swept less none many numbers = record {
+      as_many = many ∙ is.as_many;
+      few = is.few;
+      numbers = numbers;
+      swept = λ old before s. swept old before (is.swept old before s);
+      acted = λ either.
+          elim (cases_Bool now) [
+            | inl acts ↦ (let l = less acts in let f = fewer in omega arith)
+            | inr stays ↦ elim (cases_Bool some) [
+              | inl was ↦ (let l = is.acted was in let s = ap actions_left (none stays).1 in omega arith)
+              | inr wasnt ↦ absurd (true≢false (sym either ∙ ap (λ b. b || now) wasnt ∙ stays))
+            ]
+          ];
+      none = λ neither.
+          let both = either_false some now neither in
+          let same = (none both.1).1 in
+          let was = is.none both.0 in (
+            (λ place lt. subst (λ (l : List MachineState). IsStillAt l place) (sym same)
+                (elim (cases_lt place at) [
+                  | inl low ↦ was.0 place low
+                  | inr high ↦ (let here : at ≡ place = omega arith in subst (IsStillAt ms) here (none both.1).0)
+                ])),
+            same ∙ was.1,
+          );
+    }
+
+-- a machine that was to act, and didn't, has a cause for it
+still_whole : (place : ℕ) (m : MachineState) (receivers : ℕ) (answer : Acted) → IsAt place m →
+    IsActed m receivers answer m → did answer ≡ false → IsWholeRun m
+still_whole place m receivers (acted.Did number copies) at is isnt = absurd (true≢false isnt)
+still_whole place m receivers acted.Stopped at is isnt = inr (inl (stopped_there m at.machine at.unmarked is.0))
+still_whole place m receivers acted.NoMore at is isnt = inl is.1
+still_whole place m receivers (acted.SupervisorNot cause) at is isnt =
+    inr (inr (inl (is.0.0, is.0.1, (why.SupervisorNot cause, is.0.2.1))))
+still_whole place m receivers (acted.BoothNot cause) at is isnt =
+    inr (inr (inl (is.0.0, is.0.1, (why.BoothNot cause, is.0.2.1))))
+still_whole place m receivers acted.Full at is isnt = inr (inr (inr (inl is.0.2.2)))
+still_whole place m receivers acted.StampSpent at is isnt = inr (inr (inr (inr (inl is.0.2.3))))
+still_whole place m receivers acted.Spent at is isnt = inr (inr (inr (inr (inr (inl is.0.2.4)))))
+still_whole place m receivers acted.SameDigest at is isnt =
+    inr (inr (inr (inr (inr (inr (is.0.deed, is.0.action, is.0.held))))))
+
+pub all_whole : (ms : List MachineState) → ArePlaced ms → AreStillBelow (length ms) ms →
+    (place : ℕ) (m : MachineState) → place < length ms → slice_get ms place ≡ Some m → IsWholeRun m
+all_whole ms placed still place m lt is =
+    let s = still place lt m is in still_whole place m s.0 s.1 (placed place m is) s.2 s.3
+
+-- before anything is done
+pub swept_none : (loses : List Lose) (ms : List MachineState) (losses : List Loss) (waits : Waits) → ArePlaced ms →
+    IsBalanced node_of_sealed (length ms) (history (world_of ms)) losses waits → AreOnce losses →
+    AreOfSent ms losses → IsSwept loses ms losses waits ms losses
+swept_none loses ms losses waits placed balanced once of = record {
+  grown = record {
+    count = refl;
+    each = λ place m n was is.
+        subst (HasGrown m) (one_there ms place m n was is)
+        (record { config = refl; stop = refl; later = []; events = sym (append-nil m.events) });
+  };
+  placed = placed;
+  balanced = balanced;
+  lost = [];
+  losses = sym (append-nil losses);
+  licensed = All-nil (IsLicensed loses ms);
+  once = once;
+  of_sent = of;
+  scripted = λ c number d lc ld differs low high named. absurd (omega arith);
+}

@@ -1,0 +1,5 @@
+pub mod Waits
+pub mod Places
+pub mod Swept
+pub mod Wholes
+pub mod inside

@@ -1,0 +1,13 @@
+//! What is left of a run in threads is done on one thread: machines hear what still waits for them,
+//! and act until none can.
+#![tactic(auto)]
+
+mod handing;
+mod rounds;
+mod sweeping;
+
+pub use handing::is_scripted;
+pub use sweeping::{Memory, Waiting, sweep};
+
+#[cfg(test)]
+mod tests;
