@@ -1,6 +1,6 @@
 -- Words and files have at most one answer.
-use Rattle.std.proofs.Common.{◌≡◌, ◌∙◌, ℕ, ◌<◌, ◌≤◌, ◌⊎◌, inl, inr, List, ◌++◌, [], ◌∷◌, refl, Option, Some, None, length, ap, sym, subst, arith}
-use Rattle.std.specs.Prelude.{codes}
+use Rattle.std.proofs.Common.{◌≡◌, ◌∙◌, ℕ, ◌<◌, ◌≤◌, ◌⊎◌, inl, inr, List, ◌++◌, [], ◌∷◌, Option, Some, None, length, get_or, ap, sym, subst, arith}
+use Rattle.std.specs.Prelude.{codes, Result, Ok, Err}
 use Rattle.entry_order.specs.Survivors.{gaps as gaps_of}
 use Rattle.entry_format.specs.Nodes.{node_of}
 use Rattle.entry_format.specs.declared.plain.Plain.{Plain}
@@ -12,11 +12,24 @@ use Rattle.log_files.specs.declared.plain_log.LogFault.TheVariants.{Absent, TooL
 use Rattle.log_files.specs.LogText.{HasHeader, Says}
 use Rattle.log_files.specs.LogFile.{max_bytes, IsRefused}
 use Rattle.hall_outside.specs.Files.{Files}
-use Rattle.auditorium_core.specs.Words.{Command, gaps, play, words_of, files_of, Means}
-use Rattle.auditorium_core.specs.Lines.{Answer, absent_answer, refused_answer}
-use Rattle.auditorium_core.specs.Gaps.{refused_lines, end_line, gap_lines, log_lines, findings_answer, IsRefusal, IsGapsAnswer}
-use Rattle.auditorium_core.specs.Answer.{IsAnswer, AreFiles, IsAnswerTo, Answers}
+use Rattle.report_lines.specs.Lines.{refused_lines, end_line, gap_lines}
+use Rattle.evidence.specs.Refusal.{Refusal}
+use Rattle.evidence.specs.Same.{Agree}
+use Rattle.auditor.specs.declared.outcome.Outcome.{Outcome}
+use Rattle.auditor.specs.Report.{AuditReport}
+use Rattle.auditor.specs.Outcomes.{outcome_of}
+use Rattle.auditor.specs.ReportText.{report_text}
+use Rattle.auditor.specs.Same.{SameReport}
+use Rattle.auditor.specs.Sources.{RuleSource}
+use Rattle.auditor.specs.Audits.{GivesReport}
+use Rattle.auditorium_core.specs.Audit.{status_by, report_answer, IsAuditOver}
+use Rattle.auditorium_core.specs.Words.{Command, gaps, play, order, audit, source_named, words_of, files_of, Means}
+use Rattle.auditorium_core.specs.Lines.{Answer, absent_answer, refused_answer, refusal_answer}
+use Rattle.auditorium_core.specs.Gaps.{log_lines, findings_answer, IsRefusal, IsGapsAnswer}
+use Rattle.auditorium_core.specs.Answer.{IsAnswer, IsAnswerTo, Answers}
+use Rattle.evidence.proofs.OneLogs.{same_files}
 use Rattle.auditorium_core.proofs.OnePlayAnswer.{PlayOne, same_play}
+use Rattle.auditorium_core.proofs.OneOrderAnswer.{OrderOne, same_order}
 
 -- bytes say at most one log, and only where they have a header
 pub record SayOne : Type 0 where
@@ -108,39 +121,94 @@ same_command words (play script prefix) (gaps y) m n =
 same_command words (play script prefix) (play other start) m n =
     let e : words_of (play script prefix) ≡ words_of (play other start) = sym m.spelt ∙ n.spelt in
     cc
+same_command words (gaps x) (order r u v logs) m n =
+    let e : words_of (gaps x) ≡ words_of (order r u v logs) = sym m.spelt ∙ n.spelt in
+    cc
+same_command words (order r u v logs) (gaps x) m n =
+    let e : words_of (order r u v logs) ≡ words_of (gaps x) = sym m.spelt ∙ n.spelt in
+    cc
+same_command words (play script prefix) (order r u v logs) m n =
+    let e : words_of (play script prefix) ≡ words_of (order r u v logs) = sym m.spelt ∙ n.spelt in
+    cc
+same_command words (order r u v logs) (play script prefix) m n =
+    let e : words_of (order r u v logs) ≡ words_of (play script prefix) = sym m.spelt ∙ n.spelt in
+    cc
+same_command words (order r u v logs) (order s w z others) m n =
+    let e : words_of (order r u v logs) ≡ words_of (order s w z others) = sym m.spelt ∙ n.spelt in
+    cc
+same_command words (audit r u logs) (gaps x) m n =
+    let e : words_of (audit r u logs) ≡ words_of (gaps x) = sym m.spelt ∙ n.spelt in
+    cc
+same_command words (gaps x) (audit r u logs) m n =
+    let e : words_of (gaps x) ≡ words_of (audit r u logs) = sym m.spelt ∙ n.spelt in
+    cc
+same_command words (audit r u logs) (play script prefix) m n =
+    let e : words_of (audit r u logs) ≡ words_of (play script prefix) = sym m.spelt ∙ n.spelt in
+    cc
+same_command words (play script prefix) (audit r u logs) m n =
+    let e : words_of (play script prefix) ≡ words_of (audit r u logs) = sym m.spelt ∙ n.spelt in
+    cc
+same_command words (audit r u logs) (order s w z others) m n =
+    let e : words_of (audit r u logs) ≡ words_of (order s w z others) = sym m.spelt ∙ n.spelt in
+    let first : 97 ≡ 111 = ap (λ (ws : List (List ℕ)). get_or (get_or ws 0 []) 0 0) e in
+    absurd (omega (arith, first))
+same_command words (order s w z others) (audit r u logs) m n =
+    let e : words_of (order s w z others) ≡ words_of (audit r u logs) = sym m.spelt ∙ n.spelt in
+    let first : 111 ≡ 97 = ap (λ (ws : List (List ℕ)). get_or (get_or ws 0 []) 0 0) e in
+    absurd (omega (arith, first))
+same_command words (audit r u logs) (audit s w others) m n =
+    let e : words_of (audit r u logs) ≡ words_of (audit s w others) = sym m.spelt ∙ n.spelt in
+    cc
 
-same_answer : SayOne → PlayOne → (command : Command) (files : List (Option (List ℕ))) (a b : Answer)
+-- files give at most one report
+abbrev pub ReportOne : Type 0
+ReportOne =
+    (roster : List ℕ) (source : RuleSource) (logs : List (List ℕ)) (files : List (Option (List ℕ)))
+    (answer other : Result AuditReport Refusal) → GivesReport roster source logs files answer →
+    GivesReport roster source logs files other → Agree SameReport answer other
+
+-- a report has one answer
+same_told : (report other : AuditReport) → SameReport report other → report_answer report ≡ report_answer other
+same_told report other same =
+    ap (λ (o : Outcome). record { status = status_by o; files = []; output = report_text report }) same.outcome
+    ∙ ap (λ (t : List ℕ). record { status = status_by (outcome_of other); files = []; output = t }) same.text
+
+same_audit : ReportOne → (roster rules : List ℕ) (logs : List (List ℕ)) (files : List (Option (List ℕ)))
+    (a b : Answer) → IsAuditOver roster rules logs files a → IsAuditOver roster rules logs files b → a ≡ b
+same_audit one roster rules logs files a b (inl (r, gives, e)) (inl (s, also, f)) =
+    e ∙ ap refusal_answer (one roster (source_named rules) logs files (Err r) (Err s) gives also) ∙ sym f
+same_audit one roster rules logs files a b (inl (r, gives, e)) (inr (report, also, f)) =
+    absurd (one roster (source_named rules) logs files (Err r) (Ok report) gives also)
+same_audit one roster rules logs files a b (inr (report, gives, e)) (inl (s, also, f)) =
+    absurd (one roster (source_named rules) logs files (Ok report) (Err s) gives also)
+same_audit one roster rules logs files a b (inr (report, gives, e)) (inr (other, also, f)) =
+    e.told ∙ same_told report other (one roster (source_named rules) logs files (Ok report) (Ok other) gives also)
+    ∙ sym f.told
+
+same_answer : SayOne → PlayOne → OrderOne → ReportOne → (command : Command) (files : List (Option (List ℕ))) (a b : Answer)
     → IsAnswer command files a → IsAnswer command files b → a ≡ b
-same_answer one way (gaps log) [] a b x y = absurd x
-same_answer one way (gaps log) (file ∷ []) a b x y = same_gaps one log file a b x y
-same_answer one way (gaps log) (file ∷ next ∷ files) a b x y = absurd x
-same_answer one way (play script prefix) [] a b x y = absurd x
-same_answer one way (play script prefix) (file ∷ []) a b x y = same_play way script prefix file a b x y
-same_answer one way (play script prefix) (file ∷ next ∷ files) a b x y = absurd x
+same_answer one way orders reports (gaps log) [] a b x y = absurd x
+same_answer one way orders reports (gaps log) (file ∷ []) a b x y = same_gaps one log file a b x y
+same_answer one way orders reports (gaps log) (file ∷ next ∷ files) a b x y = absurd x
+same_answer one way orders reports (play script prefix) [] a b x y = absurd x
+same_answer one way orders reports (play script prefix) (file ∷ []) a b x y = same_play way script prefix file a b x y
+same_answer one way orders reports (play script prefix) (file ∷ next ∷ files) a b x y = absurd x
+same_answer one way orders reports (order roster u v logs) [] a b x y = absurd x
+same_answer one way orders reports (order roster u v logs) (file ∷ files) a b x y = same_order orders roster u v logs file files a b x y
+same_answer one way orders reports (audit roster rules logs) files a b x y = same_audit reports roster rules logs files a b x.right y.right
 
--- the files that are told are these alone
-same_files : (told : Files) (names : List (List ℕ)) (files others : List (Option (List ℕ)))
-    → AreFiles (Some told) names files → AreFiles (Some told) names others → files ≡ others
-same_files told [] [] [] x y = refl
-same_files told [] [] (other ∷ others) x y = absurd y
-same_files told [] (file ∷ files) others x y = absurd x
-same_files told (name ∷ names) [] others x y = absurd x
-same_files told (name ∷ names) (file ∷ files) [] x y = absurd y
-same_files told (name ∷ names) (file ∷ files) (other ∷ others) x y =
-    ap (λ f. f ∷ files) (sym x.0 ∙ y.0) ∙ ap (λ fs. other ∷ fs) (same_files told names files others x.1 y.1)
-
-same_answer_to : SayOne → PlayOne → (command : Command) (told : Files) (a b : Answer)
+same_answer_to : SayOne → PlayOne → OrderOne → ReportOne → (command : Command) (told : Files) (a b : Answer)
     → IsAnswerTo command (Some told) a → IsAnswerTo command (Some told) b → a ≡ b
-same_answer_to one way command told a b (files, are, is) (others, are', is') =
+same_answer_to one way orders reports command told a b (files, are, is) (others, are', is') =
     let P : List (Option (List ℕ)) → Type 0 = λ fs. IsAnswer command fs b in
-    same_answer one way command files a b is
+    same_answer one way orders reports command files a b is
     (subst P (same_files told (files_of command) others files are' are) is')
 
-pub one_answer : SayOne → PlayOne → (words : List (List ℕ)) (files : Files) (a b : Answer)
+pub one_answer : SayOne → PlayOne → OrderOne → ReportOne → (words : List (List ℕ)) (files : Files) (a b : Answer)
     → Answers words (Some files) a → Answers words (Some files) b → a ≡ b
-one_answer one way words files a b (inl (command, means, is)) (inl (other, means', is')) =
+one_answer one way orders reports words files a b (inl (command, means, is)) (inl (other, means', is')) =
     let P : Command → Type 0 = λ c. IsAnswerTo c (Some files) b in
-    same_answer_to one way command files a b is (subst P (same_command words other command means' means) is')
-one_answer one way words files a b (inl (command, means, is)) (inr (bad, f)) = absurd (bad (command, means))
-one_answer one way words files a b (inr (bad, e)) (inl (command, means, is)) = absurd (bad (command, means))
-one_answer one way words files a b (inr (bad, e)) (inr (bad', f)) = e ∙ sym f
+    same_answer_to one way orders reports command files a b is (subst P (same_command words other command means' means) is')
+one_answer one way orders reports words files a b (inl (command, means, is)) (inr (bad, f)) = absurd (bad (command, means))
+one_answer one way orders reports words files a b (inr (bad, e)) (inl (command, means, is)) = absurd (bad (command, means))
+one_answer one way orders reports words files a b (inr (bad, e)) (inr (bad', f)) = e ∙ sym f

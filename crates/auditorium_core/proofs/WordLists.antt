@@ -1,5 +1,5 @@
 -- The words as lists of bytes.
-use Rattle.std.proofs.Common.{◌≡◌, ◌∙◌, ℕ, ◌<◌, ◌≤◌, List, [], ◌∷◌, length, map, get_or, String, Global, string_bytes, ap, sym, subst, arith}
+use Rattle.std.proofs.Common.{◌≡◌, ◌∙◌, ℕ, ◌<◌, ◌≤◌, List, [], ◌∷◌, length, map, drop, get_or, String, Global, string_bytes, ap, sym, subst, arith}
 use Rattle.std.specs.Prelude.{All}
 use Rattle.std.proofs.lemmas.List.{get_or-map, length-map}
 use Rattle.auditorium_core.specs.Words.{IsWord}
@@ -52,3 +52,31 @@ three_words (v ∷ w ∷ u ∷ []) a b c low high x y z = ap (λ s. string_bytes
     ∙ ap (λ s. string_bytes a ∷ string_bytes s ∷ string_bytes u ∷ []) (sym y)
     ∙ ap (λ s. string_bytes a ∷ string_bytes b ∷ string_bytes s ∷ []) (sym z)
 three_words (v ∷ w ∷ u ∷ t ∷ more) a b c low high x y z = absurd (omega arith)
+
+-- four words and more
+pub four_words : (words : List (String Global)) (a b c d : String Global) → 4 ≤ length words
+    → a ≡ get_or words 0 a → b ≡ get_or words 1 b → c ≡ get_or words 2 c → d ≡ get_or words 3 d
+    → map string_bytes words ≡ string_bytes a ∷ string_bytes b ∷ string_bytes c ∷ string_bytes d ∷ map string_bytes (drop 4 words)
+four_words [] a b c d low x y z u = absurd (omega arith)
+four_words (v ∷ []) a b c d low x y z u = absurd (omega arith)
+four_words (v ∷ w ∷ []) a b c d low x y z u = absurd (omega arith)
+four_words (v ∷ w ∷ s ∷ []) a b c d low x y z u = absurd (omega arith)
+four_words (v ∷ w ∷ s ∷ t ∷ more) a b c d low x y z u =
+    let rest = map string_bytes more in
+    ap (λ k. string_bytes k ∷ string_bytes w ∷ string_bytes s ∷ string_bytes t ∷ rest) (sym x)
+    ∙ ap (λ k. string_bytes a ∷ string_bytes k ∷ string_bytes s ∷ string_bytes t ∷ rest) (sym y)
+    ∙ ap (λ k. string_bytes a ∷ string_bytes b ∷ string_bytes k ∷ string_bytes t ∷ rest) (sym z)
+    ∙ ap (λ k. string_bytes a ∷ string_bytes b ∷ string_bytes c ∷ string_bytes k ∷ rest) (sym u)
+
+-- three words and more
+pub three_first : (words : List (String Global)) (a b c : String Global) → 3 ≤ length words
+    → a ≡ get_or words 0 a → b ≡ get_or words 1 b → c ≡ get_or words 2 c
+    → map string_bytes words ≡ string_bytes a ∷ string_bytes b ∷ string_bytes c ∷ map string_bytes (drop 3 words)
+three_first [] a b c low x y z = absurd (omega arith)
+three_first (v ∷ []) a b c low x y z = absurd (omega arith)
+three_first (v ∷ w ∷ []) a b c low x y z = absurd (omega arith)
+three_first (v ∷ w ∷ s ∷ more) a b c low x y z =
+    let rest = map string_bytes more in
+    ap (λ k. string_bytes k ∷ string_bytes w ∷ string_bytes s ∷ rest) (sym x)
+    ∙ ap (λ k. string_bytes a ∷ string_bytes k ∷ string_bytes s ∷ rest) (sym y)
+    ∙ ap (λ k. string_bytes a ∷ string_bytes b ∷ string_bytes k ∷ rest) (sym z)

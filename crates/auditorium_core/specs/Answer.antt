@@ -1,26 +1,24 @@
 -- What words and files give: a status, the files to be written in order, and the output.
-use Rattle.std.specs.Prelude.{◌≡◌, ◌≢◌, ◌↔◌, ℕ, List, [], ◌∷◌, Option, ◌⊎◌}
+use Rattle.std.specs.Prelude.{◌≡◌, ◌↔◌, ℕ, List, [], ◌∷◌, Option, ◌⊎◌}
 use Rattle.hall_outside.specs.Counts.{ComesExactly}
-use Rattle.hall_outside.specs.Files.{Files, OnFile}
+use Rattle.hall_outside.specs.Files.{Files}
+use Rattle.evidence.specs.NamedFiles.{AreFiles}
 use Rattle.auditorium_core.specs.declared.status.Status.{Status}
 use Rattle.auditorium_core.specs.declared.status.Status.TheVariants as status
-use Rattle.auditorium_core.specs.Words.{Command, gaps, play, files_of, Means, AreGood}
+use Rattle.auditorium_core.specs.Words.{Command, gaps, play, order, audit, files_of, Means, AreGood}
 use Rattle.auditorium_core.specs.Lines.{Answer, usage_answer}
 use Rattle.auditorium_core.specs.Gaps.{IsGapsAnswer}
 use Rattle.auditorium_core.specs.Play.{IsPlayAnswer}
+use Rattle.auditorium_core.specs.Order.{IsOrderAnswer}
+use Rattle.auditorium_core.specs.HonestAudit.{IsAuditAnswer}
 
 -- what a command gives for the files that it reads, each of which may be absent
 abbrev pub IsAnswer : Command → List (Option (List ℕ)) → Answer → Type 0
 IsAnswer (gaps log) (file ∷ []) answer = IsGapsAnswer log file answer
 IsAnswer (play script prefix) (file ∷ []) answer = IsPlayAnswer script prefix file answer
+IsAnswer (order roster x y logs) (file ∷ files) answer = IsOrderAnswer roster x y logs file files answer
+IsAnswer (audit roster rules logs) files answer = IsAuditAnswer roster rules logs files answer
 IsAnswer command others answer = ⊥
-
--- these are the named files, each of which may be absent: those that are told, or some where none are
-abbrev pub AreFiles : Option Files → List (List ℕ) → List (Option (List ℕ)) → Type 0
-AreFiles told [] [] = Unit {0}
-AreFiles told (name ∷ names) (file ∷ files) = OnFile told name (λ this. this ≡ file) × AreFiles told names files
-AreFiles told [] (file ∷ files) = ⊥
-AreFiles told (name ∷ names) [] = ⊥
 
 -- what a command gives, over these files or, where none are told, over some
 abbrev pub IsAnswerTo : Command → Option Files → Answer → Type 0
@@ -44,13 +42,17 @@ abbrev pub IsOfAnswers : Status → Type 0
 IsOfAnswers status.ReadFault = ⊥
 IsOfAnswers status.WriteFault = ⊥
 IsOfAnswers status.Memory = ⊥
-IsOfAnswers status.Unsettled = ⊥
-IsOfAnswers status.Broken = ⊥
 IsOfAnswers other = Unit {0}
+
+-- the words are those of an audit
+abbrev pub IsAudit : List (List ℕ) → Type 0
+IsAudit words = (roster rules : List ℕ) × (logs : List (List ℕ)) × Means words (audit roster rules logs)
 
 -- what the status of an answer says of the words
 pub record HasItsWords (words : List (List ℕ)) (answer : Answer) : Type 0 where
   pub some : IsOfAnswers answer.status
   pub usage : (answer.status ≡ status.Usage) ↔ ¬ AreGood words
-  pub findings : answer.status ≡ status.Findings → (log : List ℕ) × Means words (gaps log)
+  pub findings : answer.status ≡ status.Findings → ((log : List ℕ) × Means words (gaps log)) ⊎ IsAudit words
+  pub unsettled : answer.status ≡ status.Unsettled → IsAudit words
+  pub broken : answer.status ≡ status.Broken → IsAudit words
   pub undone : answer.status ≡ status.Undone → (script prefix : List ℕ) × Means words (play script prefix)

@@ -1,8 +1,13 @@
 pub mod ExitStatus
+pub mod EntryWords
 pub mod Words
 pub mod Lines
 pub mod Gaps
 pub mod Play
+pub mod Honest
+pub mod Order
+pub mod Audit
+pub mod HonestAudit
 pub mod Answer
 pub mod Outcome
 pub mod Meaning

@@ -1,6 +1,9 @@
--- Answers that write no file, and lines of output.
-use Rattle.std.specs.Prelude.{ℕ, List, [], ◌∷◌, ◌++◌, codes}
-use Rattle.std.specs.Fmt.{decimal}
+-- Answers that write no file.
+use Rattle.std.specs.Prelude.{ℕ, List, [], ◌++◌, codes}
+use Rattle.evidence.specs.Refusal.{Refusal, absent, refused}
+use Rattle.report_lines.specs.Lines.{line, refused_line}
+use Rattle.auditorium_core.specs.declared.order_word.OrderWord.{OrderWord}
+use Rattle.auditorium_core.specs.declared.order_word.OrderWord.TheVariants.{Same, Before, After, Apart, Unknown}
 use Rattle.auditorium_core.specs.declared.status.Status.{Status}
 use Rattle.auditorium_core.specs.declared.status.Status.TheVariants as status
 
@@ -9,10 +12,6 @@ pub record Answer : Type 0 where
   pub status : Status
   pub files : List (List ℕ × List ℕ)
   pub output : List ℕ
-
--- a line: it ends with a newline
-abbrev pub line : List ℕ → List ℕ
-line text = text ++ 10 ∷ []
 
 -- an answer whose output is this one line
 abbrev pub line_answer : Status → List ℕ → Answer
@@ -26,11 +25,23 @@ usage_answer = line_answer status.Usage (codes "usage")
 abbrev pub absent_answer : List ℕ → Answer
 absent_answer name = line_answer status.Absent (codes "absent " ++ name)
 
--- the line of a refusal: the file, the place in it, and the cause
-abbrev pub refused_line : List ℕ → ℕ → List ℕ → List ℕ
-refused_line name place cause =
-    codes "refused " ++ name ++ codes " " ++ decimal place ++ codes " " ++ cause
-
 -- the named file is refused
 abbrev pub refused_answer : List ℕ → ℕ → List ℕ → Answer
 refused_answer name place cause = line_answer status.Refused (refused_line name place cause)
+
+-- what an audit goes on is refused
+abbrev pub refusal_answer : Refusal → Answer
+refusal_answer (absent file) = absent_answer file
+refusal_answer (refused file place cause) = refused_answer file place cause
+
+-- a word that means no survivor is refused
+abbrev pub no_entry : List ℕ → Answer
+no_entry word = refused_answer word 0 (codes "NoEntry")
+
+-- how an order is printed
+abbrev pub order_word : OrderWord → List ℕ
+order_word Same = codes "same"
+order_word Before = codes "before"
+order_word After = codes "after"
+order_word Apart = codes "apart"
+order_word Unknown = codes "unknown"

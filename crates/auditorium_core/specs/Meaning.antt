@@ -1,11 +1,13 @@
 -- What a request of the source says of the words.
-use Rattle.std.specs.Prelude.{ℕ, List}
+use Rattle.std.specs.Prelude.{ℕ, List, map, string_bytes}
 use Rattle.auditorium_core.specs.declared.words.Request.{Request}
-use Rattle.auditorium_core.specs.declared.words.Request.TheVariants.{Usage, Gaps, Play}
-use Rattle.auditorium_core.specs.Words.{gaps, play, Means, AreGood}
+use Rattle.auditorium_core.specs.declared.words.Request.TheVariants.{Usage, Gaps, Play, Order, Audit}
+use Rattle.auditorium_core.specs.Words.{gaps, play, order, audit, Means, AreGood}
 
 -- the words are those of the command, or they aren't good
 abbrev pub Asks : List (List ℕ) → Request → Type 0
 Asks words Usage = ¬ AreGood words
 Asks words (Gaps log) = Means words (gaps log.now)
 Asks words (Play script prefix) = Means words (play script.now prefix.now)
+Asks words (Audit roster rules logs) = Means words (audit roster.now rules.now (map string_bytes logs.now))
+Asks words (Order roster x y logs) = Means words (order roster.now x.now y.now (map string_bytes logs.now))

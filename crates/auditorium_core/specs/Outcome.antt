@@ -2,20 +2,13 @@
 use Rattle.std.specs.Prelude.{◌≡◌, ℕ, List, [], ◌∷◌, Option, ◌⊎◌, Bool, true, false, Result}
 use Rattle.hall_outside.specs.Counts.{HasRisen}
 use Rattle.hall_outside.specs.Files.{Files, with_file, SetsPrefix}
-use Rattle.hall_outside.specs.Reading.{Answered}
 use Rattle.hall_outside.specs.Writing.{appended, AppendsPrefix, OffersAll, Puts}
 use Rattle.hall_outside.specs.declared.stores.Failed.{Failed}
+use Rattle.evidence.specs.Reading.{StoreSeen}
 use Rattle.auditorium_core.specs.declared.status.Status.{Status}
 use Rattle.auditorium_core.specs.declared.status.Status.TheVariants.{ReadFault, WriteFault, Memory}
 use Rattle.auditorium_core.specs.Lines.{Answer}
 use Rattle.auditorium_core.specs.Answer.{IsAnswerOf}
-
--- what can be seen of a store: the files, where they are told, and the counts
-pub record StoreSeen : Type 0 where
-  pub files : Option Files
-  pub answered : Answered
-  pub read_faults : ℕ
-  pub write_faults : ℕ
 
 -- what can be seen of a store and a sink: of the sink the output, where it is told, and the count
 pub record Outside : Type 0 where
@@ -24,14 +17,6 @@ pub record Outside : Type 0 where
   pub output_faults : ℕ
 
 -- the same, part by part
-abbrev pub store_seen : Option Files → Answered → ℕ → ℕ → StoreSeen
-store_seen files answered read_faults write_faults = record {
-  files = files;
-  answered = answered;
-  read_faults = read_faults;
-  write_faults = write_faults;
-}
-
 abbrev pub outside : StoreSeen → Option (List ℕ) → ℕ → Outside
 outside store output output_faults = record { store = store; output = output; output_faults = output_faults }
 

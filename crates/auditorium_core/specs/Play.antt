@@ -23,7 +23,8 @@ use Rattle.polling_world.specs.Worlds.{world_of}
 use Rattle.polling_world.specs.Waiting.{IsLeft}
 use Rattle.auditorium_core.specs.declared.status.Status.{Status}
 use Rattle.auditorium_core.specs.declared.status.Status.TheVariants.{Done, Undone, Refused}
-use Rattle.auditorium_core.specs.Lines.{Answer, line, absent_answer, refused_answer}
+use Rattle.report_lines.specs.Lines.{line}
+use Rattle.auditorium_core.specs.Lines.{Answer, absent_answer, refused_answer}
 use Rattle.election_script.specs.CauseWords.{script_why_word}
 use Rattle.polling_world.specs.CauseWords.{left_why_word}
 

@@ -1,5 +1,9 @@
 -- Which words of the command line are good, and what each command's words are.
-use Rattle.std.specs.Prelude.{◌≡◌, ◌≢◌, ℕ, ◌<◌, ◌≤◌, List, [], ◌∷◌, length, slice_get, Some, All, codes}
+use Rattle.std.specs.Prelude.{◌≡◌, ◌≢◌, ℕ, ◌<◌, ◌≤◌, List, [], ◌∷◌, length, slice_get, Some, All, codes, if◌then◌else◌, ⊤}
+use Rattle.std.specs.Str.{bytes_eq}
+use Rattle.auditor.specs.Sources.{RuleSource, standard, in_file}
+use Rattle.auditor.specs.Audits.{audit_files}
+use Rattle.auditorium_core.specs.EntryWords.{IsEntryWord}
 
 -- what good words ask for
 pub data Command : Type 0 where
@@ -7,16 +11,28 @@ pub data Command : Type 0 where
   gaps : (log : List ℕ) → Command
   -- a script played on one thread, and what the names of its files begin with
   play : (script prefix : List ℕ) → Command
+  -- how two entries stand to each other, by a roster and logs
+  order : (roster x y : List ℕ) (logs : List (List ℕ)) → Command
+  -- the report by a roster, rules and logs; the word `standard` names rules that no file has
+  audit : (roster rules : List ℕ) (logs : List (List ℕ)) → Command
+
+-- the rules that a word names: the standard ones, or those in a file
+abbrev pub source_named : List ℕ → RuleSource
+source_named word = if bytes_eq word (codes "standard") then standard else in_file word
 
 -- the words of a command
 abbrev pub words_of : Command → List (List ℕ)
 words_of (gaps log) = codes "gaps" ∷ log ∷ []
 words_of (play script prefix) = codes "play" ∷ script ∷ prefix ∷ []
+words_of (order roster x y logs) = codes "order" ∷ roster ∷ x ∷ y ∷ logs
+words_of (audit roster rules logs) = codes "audit" ∷ roster ∷ rules ∷ logs
 
 -- the files that a command reads, in order
 abbrev pub files_of : Command → List (List ℕ)
 files_of (gaps log) = log ∷ []
 files_of (play script prefix) = script ∷ []
+files_of (order roster x y logs) = roster ∷ logs
+files_of (audit roster rules logs) = audit_files roster (source_named rules) logs
 
 -- the form of a word: 1 to 1,024 bytes, each from `!` to `~`, of which the first isn't `-`
 pub record IsWord (word : List ℕ) : Type 0 where
@@ -25,10 +41,29 @@ pub record IsWord (word : List ℕ) : Type 0 where
   pub printing : All (λ byte. (33 ≤ byte) × (byte ≤ 126)) word
   pub no_option : slice_get word 0 ≢ Some 45
 
+-- two words for entries, and 1 to 16 logs
+pub record AreOrdered (x y : List ℕ) (logs : List (List ℕ)) : Type 0 where
+  pub first : IsEntryWord x
+  pub second : IsEntryWord y
+  pub some : 0 < length logs
+  pub at_most : length logs ≤ 16
+
+-- 1 to 16 logs
+pub record AreLogs (logs : List (List ℕ)) : Type 0 where
+  pub some : 0 < length logs
+  pub at_most : length logs ≤ 16
+
+-- what a command asks of its words beside the form of each
+abbrev pub HasParts : Command → Type 0
+HasParts (order roster x y logs) = AreOrdered x y logs
+HasParts (audit roster rules logs) = AreLogs logs
+HasParts other = ⊤
+
 -- the words are this command's, and each has the form of a word
 pub record Means (words : List (List ℕ)) (command : Command) : Type 0 where
   pub form : All IsWord words
   pub spelt : words ≡ words_of command
+  pub parts : HasParts command
 
 -- the words are good: they are some command's
 abbrev pub AreGood : List (List ℕ) → Type 0

@@ -1,10 +1,14 @@
 // Answers: what is to be written, and how the program ends then.
-ghost use Rattle.std.specs.Prelude.{◌≡◌, ◌++◌, IfOk, string_bytes};
+ghost use Rattle.std.specs.Prelude.{◌≡◌, ◌++◌, [], IfErr, IfOk, IsSomeAnd, string_bytes};
+ghost use Rattle.evidence.specs.Refusal.{refusal_of};
+ghost use Rattle.auditorium_core.specs.declared.status.Status.TheVariants.{Done};
 ghost use Rattle.auditorium_core.specs.Lines.{usage_answer, absent_answer, refused_answer};
+ghost use Rattle.auditorium_core.specs.Lines.{line_answer, refusal_answer};
 ghost use Rattle.auditorium_core.specs.Gaps.{findings_answer};
 ghost use Rattle.auditorium_core.specs.Play.{status_of_undone};
 
 use crate::status::Status;
+use evidence::AuditFault;
 use std::alloc::{AllocError, Global};
 use std::marker::Model;
 
@@ -137,6 +141,45 @@ impl Answer {
             files: Vec::new(alloc),
             output: format!(in alloc; "refused {name} {place} {cause}\n")?.into_bytes(),
         })
+    }
+
+    /// The answer with this status and output, which writes no file.
+    pub fn of_text(alloc: Global, status: Status, output: Vec<u8>) -> Answer
+        ensures { result ≡ record { status = status; files = []; output = output.items } }
+    {
+        Answer {
+            status,
+            files: Vec::new(alloc),
+            output,
+        }
+    }
+
+    /// The answer of this one line.
+    pub fn line(alloc: Global, text: &str) -> Result<Answer, AllocError>
+        ensures { IfOk result (λ answer. answer ≡ line_answer Done text.now) }
+    {
+        Ok(Answer {
+            status: Status::Done,
+            files: Vec::new(alloc),
+            output: format!(in alloc; "{text}\n")?.into_bytes(),
+        })
+    }
+
+    /// The answer where what an audit goes on is refused; a failed read and want of memory have none.
+    pub fn of_fault(alloc: Global, fault: &AuditFault) -> Result<Answer, Fault>
+        ensures ok { IfOk result (λ answer. IsSomeAnd (refusal_of fault.now)
+            (λ refusal. answer ≡ refusal_answer refusal)) }
+        ensures err { IfErr result (λ why. why ≡ Fault.ReadFault →
+            fault.now ≡ AuditFault.ReadFault) }
+    {
+        match fault {
+            AuditFault::Absent(file) => Ok(Answer::absent(alloc, file.as_str())?),
+            AuditFault::Refused { file, place, cause } => {
+                Ok(Answer::refused(alloc, file.as_str(), *place, cause.as_str())?)
+            }
+            AuditFault::ReadFault => Err(Fault::ReadFault),
+            AuditFault::Memory => Err(Fault::Memory),
+        }
     }
 
     /// How the program ends once the answer is written.

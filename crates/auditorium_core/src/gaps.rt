@@ -1,17 +1,16 @@
 // The command `gaps`: what one log says, without its signatures.
-ghost use Rattle.std.specs.Prelude.{◌≡◌, ◌++◌, IfOk, OnOk, string_bytes};
+ghost use Rattle.std.specs.Prelude.{◌≡◌, IfOk, string_bytes};
 ghost use Rattle.auditorium_core.specs.Answer.{IsAnswerTo};
-ghost use Rattle.auditorium_core.specs.Gaps.{refused_lines, end_line, gap_lines, log_lines};
-ghost use Rattle.auditorium_core.specs.Outcome.{store_seen};
+ghost use Rattle.auditorium_core.specs.Gaps.{log_lines};
+ghost use Rattle.evidence.specs.Reading.{store_seen};
 ghost use Rattle.auditorium_core.specs.Words.{gaps};
 ghost use Rattle.auditorium_core.specs.inside.Promise.{IsAnswered};
 
 use crate::answer::{Answer, Fault};
-use entry_format::EntryFault;
 use hall_outside::Store;
-use log_files::{End, LogFault, PlainLog, read_plain_log};
+use log_files::{LogFault, PlainLog, read_plain_log};
+use report_lines::{add_end, add_gaps, add_refused};
 use std::alloc::{AllocError, Global};
-use std::fmt::Write;
 
 /// The answer of `gaps` for the log in this file.
 pub(crate) fn gaps<S: Store>(alloc: Global, store: &mut S, log: &str) -> Result<Answer, Fault>
@@ -42,47 +41,4 @@ fn lines_of(alloc: Global, name: &str, log: &PlainLog) -> Result<String, AllocEr
     let gaps = entry_gaps::gaps(alloc, log.kept.as_slice())?;
     add_gaps(alloc, &mut lines, gaps.as_slice())?;
     Ok(lines)
-}
-
-/// Adds a line for each refused record.
-fn add_refused(
-    lines: &mut String,
-    name: &str,
-    refused: &[(u32, EntryFault)],
-) -> Result<(), AllocError>
-    ensures { OnOk result (string_bytes lines.new
-        ≡ string_bytes lines.old ++ refused_lines name.now refused.now) }
-{
-    for (place, fault) in refused {
-        let cause = fault.word();
-        write!(lines, "refused {name} {place} {cause}\n")?;
-    }
-    Ok(())
-}
-
-/// Adds a line for an end that isn't clean.
-fn add_end(lines: &mut String, name: &str, end: End) -> Result<(), AllocError>
-    ensures { OnOk result
-        (string_bytes lines.new ≡ string_bytes lines.old ++ end_line name.now end) }
-{
-    match end {
-        End::Clean => Ok(()),
-        End::Torn(at) => write!(lines, "torn {name} {at}\n"),
-        End::Malformed(at, why) => {
-            let cause = why.word();
-            write!(lines, "malformed {name} {at} {cause}\n")
-        }
-    }
-}
-
-/// Adds a line for each gap.
-fn add_gaps(alloc: Global, lines: &mut String, digests: &[[u8; 32]]) -> Result<(), AllocError>
-    ensures { OnOk result
-        (string_bytes lines.new ≡ string_bytes lines.old ++ gap_lines digests.now) }
-{
-    for digest in digests {
-        let digits = hex::encode(alloc, *digest)?;
-        write!(lines, "gap {digits}\n")?;
-    }
-    Ok(())
 }

@@ -4,7 +4,12 @@ ghost use Rattle.hall_outside.specs.Files.{Files};
 ghost use Rattle.auditorium_core.specs.Lines.{Answer};
 ghost use Rattle.auditorium_core.specs.Answer.{Answers, HasItsWords};
 
+use auditor::files_give_one_report;
 use election_script::one_reading_is_right;
+use evidence::{
+    entries_give_one_graph, log_files_give_one_answer, roster_files_give_one_answer,
+    survivors_are_sound,
+};
 use log_files::bytes_say_one_log;
 use polling_world::{scripts_are_played_in_one_way, what_is_left_is_told_in_one_way};
 
@@ -17,6 +22,11 @@ pub fn one_answer_is_right()
     one_reading_is_right();
     scripts_are_played_in_one_way();
     what_is_left_is_told_in_one_way();
+    roster_files_give_one_answer();
+    log_files_give_one_answer();
+    entries_give_one_graph();
+    survivors_are_sound();
+    files_give_one_report();
 }
 
 /// Over any files, the status of an answer says of which words it is the answer. It does nothing.

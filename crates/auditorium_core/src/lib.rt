@@ -5,8 +5,13 @@
 #![tactic(auto)]
 
 mod answer;
+mod audit;
+mod entry_word;
 mod gaps;
+mod honest;
 mod laws;
+mod order;
+mod order_word;
 mod play;
 mod program;
 mod status;
@@ -17,6 +22,10 @@ pub use laws::{one_answer_is_right, statuses_have_their_words};
 pub use program::auditorium_still;
 pub use status::Status;
 
+#[cfg(test)]
+mod audit_tests;
+#[cfg(test)]
+mod order_tests;
 #[cfg(test)]
 mod play_tests;
 #[cfg(test)]

@@ -3,7 +3,7 @@ ghost use Rattle.std.specs.Prelude.{◌≡◌, ◌≤◌, ◌++◌, map, length,
 ghost use Rattle.roster.specs.Machines.{HaveText};
 ghost use Rattle.election_script.specs.Lawful.{IsLawful};
 ghost use Rattle.auditorium_core.specs.Answer.{IsAnswerTo};
-ghost use Rattle.auditorium_core.specs.Outcome.{store_seen};
+ghost use Rattle.evidence.specs.Reading.{store_seen};
 ghost use Rattle.auditorium_core.specs.Words.{play};
 ghost use Rattle.auditorium_core.specs.inside.Promise.{IsAnswered};
 ghost use Rattle.auditorium_core.specs.Play.{roster_file, log_file, machine_line, machine_lines, undone_line, SayUndone};

@@ -1,11 +1,14 @@
 // From the words of the command line to the bytes that go out.
 ghost use Rattle.std.specs.Prelude.{◌≡◌, map, string_bytes};
 ghost use Rattle.auditorium_core.specs.Answer.{Answers};
-ghost use Rattle.auditorium_core.specs.Outcome.{store_seen, outside, IsWrittenBy, HasDone};
+ghost use Rattle.evidence.specs.Reading.{store_seen};
+ghost use Rattle.auditorium_core.specs.Outcome.{outside, IsWrittenBy, HasDone};
 ghost use Rattle.auditorium_core.specs.inside.Promise.{IsAnswered};
 
 use crate::answer::{Answer, Fault};
+use crate::audit::audit;
 use crate::gaps::gaps;
+use crate::order::order;
 use crate::play::play;
 use crate::status::Status;
 use crate::words::{Request, request_of};
@@ -53,5 +56,7 @@ fn answer_of<S: Store>(alloc: Global, words: &[String], store: &mut S) -> Result
         Request::Usage => Ok(Answer::usage(alloc)?),
         Request::Gaps(log) => gaps(alloc, store, log),
         Request::Play(script, prefix) => play(alloc, store, script, prefix),
+        Request::Order(roster, x, y, logs) => order(alloc, store, roster, x, y, logs),
+        Request::Audit(roster, rules, logs) => audit(alloc, store, roster, rules, logs),
     }
 }

@@ -1,7 +1,9 @@
 // The words of the command line.
-ghost use Rattle.std.specs.Prelude.{◌↔◌, map, string_bytes, IsTrue, All};
-ghost use Rattle.auditorium_core.specs.Words.{IsWord};
+ghost use Rattle.std.specs.Prelude.{◌↔◌, ℕ, List, map, string_bytes, IsTrue, All};
+ghost use Rattle.auditorium_core.specs.Words.{IsWord, AreOrdered, AreLogs, Means, gaps, play, order};
 ghost use Rattle.auditorium_core.specs.Meaning.{Asks};
+
+use crate::entry_word::is_entry_word;
 
 /// What the words ask for.
 #[derive(Clone, Copy)]
@@ -12,6 +14,12 @@ pub(crate) enum Request<'a> {
     Gaps(&'a str),
     /// A play of the script in the first file, into files whose names begin with the second word.
     Play(&'a str, &'a str),
+    /// How the entries of the second word and the third stand to each other, by the roster in the
+    /// first file and the logs in the others.
+    Order(&'a str, &'a str, &'a str, &'a [String]),
+    /// The report by the roster in the first file, the rules that the second word names, and the logs
+    /// in the other files.
+    Audit(&'a str, &'a str, &'a [String]),
 }
 
 /// What the words ask for.
@@ -26,8 +34,57 @@ pub(crate) fn request_of(words: &[String]) -> Request<'_>
         [command, script, prefix] if command.as_str() == "play" => {
             Request::Play(script.as_str(), prefix.as_str())
         }
+        _ => order_of(words),
+    }
+}
+
+/// What the words ask for, which have the form of words and are of no other command.
+fn order_of(words: &[String]) -> Request<'_>
+    requires form { All IsWord (map string_bytes words.now) }
+    requires others { (log : List ℕ) → ¬ Means (map string_bytes words.now) (gaps log) }
+    requires no_play { (script prefix : List ℕ) →
+        ¬ Means (map string_bytes words.now) (play script prefix) }
+    ensures { Asks (map string_bytes words.now) result }
+{
+    match words {
+        [command, roster, x, y, logs @ ..]
+            if command.as_str() == "order" && are_ordered(x.as_str(), y.as_str(), logs) => {
+            Request::Order(roster.as_str(), x.as_str(), y.as_str(), logs)
+        }
+        _ => audit_of(words),
+    }
+}
+
+/// What the words ask for, likewise.
+fn audit_of(words: &[String]) -> Request<'_>
+    requires form { All IsWord (map string_bytes words.now) }
+    requires others { (log : List ℕ) → ¬ Means (map string_bytes words.now) (gaps log) }
+    requires no_play { (script prefix : List ℕ) →
+        ¬ Means (map string_bytes words.now) (play script prefix) }
+    requires no_order { (roster x y : List ℕ) (logs : List (List ℕ)) →
+        ¬ Means (map string_bytes words.now) (order roster x y logs) }
+    ensures { Asks (map string_bytes words.now) result }
+{
+    match words {
+        [command, roster, rules, logs @ ..] if command.as_str() == "audit" && are_logs(logs) => {
+            Request::Audit(roster.as_str(), rules.as_str(), logs)
+        }
         _ => Request::Usage,
     }
+}
+
+/// Whether there are 1 to 16 logs.
+fn are_logs(logs: &[String]) -> bool
+    ensures { IsTrue result ↔ AreLogs (map string_bytes logs.now) }
+{
+    !logs.is_empty() && logs.len() <= 16
+}
+
+/// Whether these are words for entries, and there are 1 to 16 logs.
+fn are_ordered(x: &str, y: &str, logs: &[String]) -> bool
+    ensures { IsTrue result ↔ AreOrdered x.now y.now (map string_bytes logs.now) }
+{
+    is_entry_word(x) && is_entry_word(y) && !logs.is_empty() && logs.len() <= 16
 }
 
 /// Whether each of the words has the form of a word.

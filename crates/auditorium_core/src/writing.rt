@@ -1,7 +1,8 @@
 // From an answer to the bytes that go out.
 ghost use Rattle.std.specs.Prelude.{◌≡◌, is_ok, IsErr, OnOk, OnErr};
 ghost use Rattle.hall_outside.specs.Counts.{HasCause};
-ghost use Rattle.auditorium_core.specs.Outcome.{store_seen, outside, with_files, SetsSome};
+ghost use Rattle.evidence.specs.Reading.{store_seen};
+ghost use Rattle.auditorium_core.specs.Outcome.{outside, with_files, SetsSome};
 ghost use Rattle.auditorium_core.specs.Outcome.{PutsAll, IsWrittenBy, IsWritten, IsCutShort};
 
 use crate::answer::{Answer, OutputFile};

@@ -6,7 +6,7 @@ use Rattle.auditorium_core.specs.declared.answer.Fault.{Fault}
 use Rattle.auditorium_core.specs.declared.answer.Fault.TheVariants.{ReadFault}
 use Rattle.auditorium_core.specs.declared.status.Status.TheVariants.{Absent}
 use Rattle.auditorium_core.specs.Lines.{Answer}
-use Rattle.auditorium_core.specs.Outcome.{StoreSeen}
+use Rattle.evidence.specs.Reading.{StoreSeen}
 
 -- The answer is right for the files. Absent comes exactly where the store said so in the call, a failed read only where
 -- a read failed in it, and no file changes.

@@ -11,3 +11,11 @@ returns c =
       played = c.scripts_are_played_in_one_way.ensures;
       left = c.what_is_left_is_told_in_one_way.ensures;
     })
+    (record {
+      roster = c.roster_files_give_one_answer.ensures;
+      logs = c.log_files_give_one_answer.ensures;
+      graph = c.entries_give_one_graph.ensures;
+      digests = c.survivors_are_sound.ensures.distinct;
+      no_cycle = c.survivors_are_sound.ensures.no_cycle;
+    })
+    c.files_give_one_report.ensures

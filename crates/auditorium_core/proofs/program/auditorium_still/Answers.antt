@@ -1,6 +1,7 @@
 use Rattle.std.proofs.Common.{◌≡◌, Bool, map, string_bytes}
 use Rattle.auditorium_core.specs.Lines.{Answer}
-use Rattle.auditorium_core.specs.Outcome.{store_seen, outside, IsWrittenBy}
+use Rattle.evidence.specs.Reading.{store_seen}
+use Rattle.auditorium_core.specs.Outcome.{outside, IsWrittenBy}
 use Rattle.auditorium_core.proofs.Statuses.{is_done}
 use Rattle.auditorium_core.proofs.program.auditorium_still.Goals as goal
 

@@ -19,6 +19,7 @@ returns-in-len2 c =
           c.command-item.is c.log-item.is
           ∙ ap (λ w. w ∷ string_bytes c.log-item.result ∷ []) (sym c.as_str.ensures.value ∙ first)
           ∙ ap (λ w. codes "gaps" ∷ w ∷ []) (sym c.as_str-in-len2.ensures.value);
+      parts = tt;
     }
 
 pub returns-in-len3 : goal.returns-in-len3
@@ -35,4 +36,5 @@ returns-in-len3 c =
           (sym word.ensures.value ∙ first)
           ∙ ap (λ w. codes "play" ∷ w ∷ string_bytes c.prefix-item.result ∷ []) (sym c.as_str-in-len3.ensures.value)
           ∙ ap (λ w. codes "play" ∷ c.as_str-in-len3.result.now ∷ w ∷ []) (sym c.as_str-in-len3-2.ensures.value);
+      parts = tt;
     }

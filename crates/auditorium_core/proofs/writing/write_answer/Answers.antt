@@ -1,5 +1,6 @@
 use Rattle.std.proofs.Common.{rules}
-use Rattle.auditorium_core.specs.Outcome.{store_seen, outside}
+use Rattle.evidence.specs.Reading.{store_seen}
+use Rattle.auditorium_core.specs.Outcome.{outside}
 use Rattle.auditorium_core.proofs.Cuts.{output_cut}
 use Rattle.auditorium_core.proofs.writing.write_answer.Goals as goal
 

@@ -1,0 +1,179 @@
+-- Files have at most one answer to `order`.
+use Rattle.std.proofs.Common.{◌≡◌, ◌≢◌, ◌∙◌, ℕ, inl, inr, List, [], ◌∷◌, ◌++◌, Option, refl, ap, sym, subst}
+use Rattle.std.specs.Prelude.{Result, Ok, Err}
+use Rattle.std.specs.List.{Contains}
+use Rattle.std.specs.Cmp.Lexicographic.{slice_cmp}
+use Rattle.std.specs.Ordering.{nat_cmp, ordering_reverse}
+use Rattle.std.specs.declared.cmp.Ordering.{Ordering}
+use Rattle.std.specs.declared.cmp.Ordering.TheVariants.{Less, Equal, Greater}
+use Rattle.std.proofs.lemmas.Cmp.{nat_list_cmp_total}
+use Rattle.std.proofs.lemmas.Map.Lookups.{exact_bytes}
+use Rattle.entry_order.specs.Naming.{Distinct}
+use Rattle.entry_order.specs.Precedes.{IsPath, Precedes}
+use Rattle.roster.specs.declared.post.Post.{Post}
+use Rattle.entry_format.specs.SealedEntry.{SealedEntry}
+use Rattle.entry_format.specs.Nodes.{node_of_sealed}
+use Rattle.log_files.specs.declared.sealed_log.LogRead.{LogRead}
+use Rattle.entry_graph.specs.EntryGraph.{EntryGraph}
+use Rattle.evidence.specs.declared.roster_file.RosterRead.{RosterRead}
+use Rattle.evidence.specs.Refusal.{Refusal}
+use Rattle.evidence.specs.RosterFile.{GivesRoster}
+use Rattle.evidence.specs.Logs.{GivesLogs}
+use Rattle.evidence.specs.Graphs.{entries_of, GivesGraph}
+use Rattle.evidence.specs.Same.{Agree, SameLogs, SameGraph}
+use Rattle.evidence.proofs.OneLogs.{same_entries}
+use Rattle.auditorium_core.specs.declared.order_word.OrderWord.{OrderWord}
+use Rattle.auditorium_core.specs.declared.order_word.OrderWord.TheVariants as says
+use Rattle.auditorium_core.specs.declared.status.Status.TheVariants.{Done}
+use Rattle.auditorium_core.specs.Lines.{Answer, line_answer, order_word, refusal_answer}
+use Rattle.auditorium_core.specs.EntryWords.{EntryName, by_digest, by_number, IsNamedBy, MeansEntry}
+use Rattle.auditorium_core.specs.Order.{IsBefore, IsWordOf, OrRefused, IsOrderAmong, IsOrderOver, IsOrderUnder, IsOrderAnswer}
+use Rattle.auditorium_core.proofs.EntryTexts.{one_name}
+
+-- files give one roster and one list of logs, entries give one graph, and its survivors are sound
+pub record OrderOne : Type 0 where
+  pub roster : (name : List ℕ) (file : Option (List ℕ)) (answer other : Result RosterRead Refusal)
+      → GivesRoster name file answer → GivesRoster name file other → answer ≡ other
+  pub logs : (machines : List Post) (election : List ℕ) (names : List (List ℕ)) (files : List (Option (List ℕ)))
+      (answer other : Result (List LogRead) Refusal) → GivesLogs machines election names files answer
+      → GivesLogs machines election names files other → Agree SameLogs answer other
+  pub graph : (given : List SealedEntry) (answer other : Result (EntryGraph SealedEntry) Refusal)
+      → GivesGraph given answer → GivesGraph given other → Agree SameGraph answer other
+  pub digests : (given : List SealedEntry) (graph : EntryGraph SealedEntry) → GivesGraph given (Ok graph)
+      → Distinct node_of_sealed graph.survivors
+  pub no_cycle : (given : List SealedEntry) (graph : EntryGraph SealedEntry) (e : SealedEntry)
+      → GivesGraph given (Ok graph) → ¬ Precedes node_of_sealed graph.survivors e e
+
+-- a path goes on
+path_on : (S : List SealedEntry) (f : SealedEntry) (bs : List SealedEntry) (g : SealedEntry) (cs : List SealedEntry)
+    (e : SealedEntry) → IsPath node_of_sealed S f bs g → Contains S g → IsPath node_of_sealed S g cs e →
+    IsPath node_of_sealed S f (bs ++ g ∷ cs) e
+path_on S f [] g cs e names has rest = (has, names, rest)
+path_on S f (b ∷ bs) g cs e path has rest = (path.0, path.1, path_on S b bs g cs e path.2 has rest)
+
+-- neither of two digests is lower only where they are one
+same_digest : (d c : List ℕ) → slice_cmp nat_cmp d c ≢ Less → slice_cmp nat_cmp c d ≢ Less → d ≡ c
+same_digest d c not_lower not_higher = by (slice_cmp nat_cmp d c) refl
+  where
+    by : (o : Ordering) → slice_cmp nat_cmp d c ≡ o → d ≡ c
+    by Less e = absurd (not_lower e)
+    by Equal e = exact_bytes d c e
+    by Greater e = absurd (not_higher (nat_list_cmp_total.antisymm c d ∙ ap ordering_reverse e))
+
+module _ (machines : List Post) (S : List SealedEntry) (digests : Distinct node_of_sealed S) where
+  -- a name is of one entry
+  same_named : (name : EntryName) (e f : SealedEntry) → IsNamedBy machines S name e → IsNamedBy machines S name f → e ≡ f
+  same_named (by_digest d) e f x y = digests e f x.0 y.0 (x.1 ∙ sym y.1)
+  same_named (by_number m n) e f x y =
+      digests e f x.0 y.0 (same_digest e.digest f.digest (y.2 e x.0 x.1) (x.2 f y.0 y.1))
+
+  -- a word means one entry
+  same_meant : (word : List ℕ) (e f : SealedEntry) → MeansEntry machines S word e → MeansEntry machines S word f → e ≡ f
+  same_meant word e f (name, spelt, named) (other, spelt', named') =
+      same_named name e f named
+      (subst (λ n. IsNamedBy machines S n f) (sym (one_name word name other spelt spelt')) named')
+
+module _ (S : List SealedEntry) (no_cycle : (e : SealedEntry) → ¬ Precedes node_of_sealed S e e) where
+  -- no two entries are before each other
+  not_both : (e f : SealedEntry) → IsBefore S e f → IsBefore S f e → ⊥
+  not_both e f (has_e, has_f, bs, path) (also_f, also_e, cs, rest) =
+      no_cycle e (has_e, has_e, bs ++ f ∷ cs, path_on S e bs f cs e path has_f rest)
+
+  not_itself : (e f : SealedEntry) → e ≡ f → IsBefore S e f → ⊥
+  not_itself e f same before = no_cycle e (subst (λ g. IsBefore S e g) (sym same) before)
+
+  not_itself_after : (e f : SealedEntry) → e ≡ f → IsBefore S f e → ⊥
+  not_itself_after e f same before = no_cycle e (subst (λ g. IsBefore S g e) (sym same) before)
+
+  -- of two entries one word is right
+  same_word : (e f : SealedEntry) (word other : OrderWord) → IsWordOf S e f word → IsWordOf S e f other → word ≡ other
+  same_word e f says.Same says.Same x y = refl
+  same_word e f says.Same says.Before x y = absurd (not_itself e f x y)
+  same_word e f says.Same says.After x y = absurd (not_itself_after e f x y)
+  same_word e f says.Same says.Apart x y = absurd (y.0.differ x)
+  same_word e f says.Same says.Unknown x y = absurd (y.0.differ x)
+  same_word e f says.Before says.Same x y = absurd (not_itself e f y x)
+  same_word e f says.Before says.Before x y = refl
+  same_word e f says.Before says.After x y = absurd (not_both e f x y)
+  same_word e f says.Before says.Apart x y = absurd (y.0.not_before x)
+  same_word e f says.Before says.Unknown x y = absurd (y.0.not_before x)
+  same_word e f says.After says.Same x y = absurd (not_itself_after e f y x)
+  same_word e f says.After says.Before x y = absurd (not_both e f y x)
+  same_word e f says.After says.After x y = refl
+  same_word e f says.After says.Apart x y = absurd (y.0.not_after x)
+  same_word e f says.After says.Unknown x y = absurd (y.0.not_after x)
+  same_word e f says.Apart says.Same x y = absurd (x.0.differ y)
+  same_word e f says.Apart says.Before x y = absurd (x.0.not_before y)
+  same_word e f says.Apart says.After x y = absurd (x.0.not_after y)
+  same_word e f says.Apart says.Apart x y = refl
+  same_word e f says.Apart says.Unknown x y = absurd (y.1 x.1)
+  same_word e f says.Unknown says.Same x y = absurd (x.0.differ y)
+  same_word e f says.Unknown says.Before x y = absurd (x.0.not_before y)
+  same_word e f says.Unknown says.After x y = absurd (x.0.not_after y)
+  same_word e f says.Unknown says.Apart x y = absurd (x.1 y.1)
+  same_word e f says.Unknown says.Unknown x y = refl
+
+  same_among : (machines : List Post) (u v : List ℕ) (a b : Answer) → Distinct node_of_sealed S →
+      IsOrderAmong machines S u v a → IsOrderAmong machines S u v b → a ≡ b
+  same_among machines u v a b digests (inl (none, e)) (inl (none', e')) = e ∙ sym e'
+  same_among machines u v a b digests (inl (none, e)) (inr (entry, means, is)) = absurd (none entry means)
+  same_among machines u v a b digests (inr (entry, means, is)) (inl (none, e)) = absurd (none entry means)
+  same_among machines u v a b digests (inr (e, means, inl (none, p))) (inr (f, means', inl (none', q))) = p ∙ sym q
+  same_among machines u v a b digests (inr (e, means, inl (none, p))) (inr (f, means', inr (g, meant, q))) =
+      absurd (none g meant)
+  same_among machines u v a b digests (inr (e, means, inr (g, meant, p))) (inr (f, means', inl (none, q))) =
+      absurd (none g meant)
+  same_among machines u v a b digests (inr (e, means, inr (g, meant, p))) (inr (f, means', inr (h, meant', q))) =
+      let first : f ≡ e = same_meant machines S digests u f e means' means in
+      let second : h ≡ g = same_meant machines S digests v h g meant' meant in
+      let other : IsWordOf S e g q.word =
+      subst (λ z. IsWordOf S e z q.word) second (subst (λ z. IsWordOf S z h q.word) first q.right) in
+      let word : p.word ≡ q.word = same_word e g p.word q.word p.right other in
+      p.told ∙ ap (λ w. line_answer Done (order_word w)) word ∙ sym q.told
+
+-- what is read in one way has one answer, where what is found has
+same_or : {T : Type 0} (Same : T → T → Type 0) (Gives : Result T Refusal → Type 0) (IsFor : T → Answer → Type 0)
+    (a b : Answer) → ((p q : Result T Refusal) → Gives p → Gives q → Agree Same p q) →
+    ((f g : T) → Gives (Ok f) → Same f g → IsFor f a → IsFor g b → a ≡ b) → OrRefused Gives IsFor a →
+    OrRefused Gives IsFor b → a ≡ b
+same_or Same Gives IsFor a b one next (inl (r, gives, e)) (inl (s, gives', e')) =
+    e ∙ ap refusal_answer (one (Err r) (Err s) gives gives') ∙ sym e'
+same_or Same Gives IsFor a b one next (inl (r, gives, e)) (inr (g, gives', is)) = absurd (one (Err r) (Ok g) gives gives')
+same_or Same Gives IsFor a b one next (inr (f, gives, is)) (inl (s, gives', e)) = absurd (one (Ok f) (Err s) gives gives')
+same_or Same Gives IsFor a b one next (inr (f, gives, is)) (inr (g, gives', is')) =
+    next f g gives (one (Ok f) (Ok g) gives gives') is is'
+
+same_over : OrderOne → (machines : List Post) (u v : List ℕ) (given : List SealedEntry) (a b : Answer) →
+    IsOrderOver machines u v given a → IsOrderOver machines u v given b → a ≡ b
+same_over one machines u v given a b =
+    same_or SameGraph (GivesGraph given) (λ (graph : EntryGraph SealedEntry). IsOrderAmong machines graph.survivors u v)
+    a b (one.graph given)
+    (λ f g gives same x y. same_among f.survivors (λ e. one.no_cycle given f e gives) machines u v a b
+    (one.digests given f gives) x
+    (subst (λ S. IsOrderAmong machines S u v b) (sym same.survivors) y))
+
+same_under : OrderOne → (read : RosterRead) (u v : List ℕ) (logs : List (List ℕ)) (files : List (Option (List ℕ)))
+    (a b : Answer) → IsOrderUnder read u v logs files a → IsOrderUnder read u v logs files b → a ≡ b
+same_under one read u v logs files a b first second =
+    same_or SameLogs (GivesLogs read.roster.machines read.election logs files)
+    (λ (found : List LogRead). IsOrderOver read.roster.machines u v (entries_of found)) a b
+    (one.logs read.roster.machines read.election logs files)
+    (λ f g gives same x y. same_over one read.roster.machines u v (entries_of f) a b x
+    (subst (λ es. IsOrderOver read.roster.machines u v es b) (sym (same_entries f g same)) y)) first.right second.right
+
+-- two equal answers agree
+agree_equal : {T : Type 0} (p q : Result T Refusal) → p ≡ q → Agree (λ (f g : T). f ≡ g) p q
+agree_equal (Ok f) (Ok g) e = cc
+agree_equal (Ok f) (Err s) e = cc
+agree_equal (Err r) (Ok g) e = cc
+agree_equal (Err r) (Err s) e = cc
+
+pub same_order : OrderOne → (roster u v : List ℕ) (logs : List (List ℕ)) (file : Option (List ℕ))
+    (files : List (Option (List ℕ))) (a b : Answer) → IsOrderAnswer roster u v logs file files a →
+    IsOrderAnswer roster u v logs file files b → a ≡ b
+same_order one roster u v logs file files a b =
+    same_or (λ (f g : RosterRead). f ≡ g) (GivesRoster roster file)
+    (λ (read : RosterRead). IsOrderUnder read u v logs files) a b
+    (λ p q x y. agree_equal p q (one.roster roster file p q x y))
+    (λ f g gives same x y. same_under one f u v logs files a b x
+    (subst (λ r. IsOrderUnder r u v logs files b) (sym same) y))

@@ -1,0 +1,68 @@
+-- What the word says of two survivors, and what it promises.
+use Rattle.std.proofs.Common.{◌≡◌, ◌≢◌, ◌∙◌, ℕ, List, Some, refl, sym, Bool, true, false}
+use Rattle.std.specs.Prelude.{slice_get, if◌then◌else◌, ◌↔◌}
+use Rattle.std.specs.List.{Contains}
+use Rattle.entry_order.specs.declared.three.Three.{Three}
+use Rattle.entry_order.specs.declared.three.Three.TheVariants.{False, Unknown, True}
+use Rattle.entry_order.specs.Ancestors.{reaches, is_whole, before}
+use Rattle.entry_order.specs.Settled.{IsWhole, IsGraphOf, GraphsAreExact, PathsAreSettled}
+use Rattle.entry_format.specs.SealedEntry.{SealedEntry}
+use Rattle.entry_format.specs.Nodes.{node_of_sealed}
+use Rattle.auditorium_core.specs.declared.order_word.OrderWord.{OrderWord}
+use Rattle.auditorium_core.specs.declared.order_word.OrderWord.TheVariants as says
+use Rattle.auditorium_core.specs.Order.{IsBefore, IsWordOf, IsSettled}
+use Rattle.auditorium_core.specs.inside.EntryNames.{word_by}
+
+-- what is said of e before f
+abbrev pub SaysBefore : List SealedEntry → SealedEntry → SealedEntry → Three → Type 0
+SaysBefore S e f True = IsBefore S e f
+SaysBefore S e f False = (IsBefore S e f → ⊥) × IsWhole node_of_sealed S f
+SaysBefore S e f Unknown = (IsBefore S e f → ⊥) × (IsWhole node_of_sealed S f → ⊥)
+
+-- what the graph says is so
+pub graph_says : GraphsAreExact node_of_sealed → (S : List SealedEntry) (parents : ℕ → List ℕ) (ragged : ℕ → Bool) →
+    IsGraphOf node_of_sealed S parents ragged → (y x : ℕ) (e f : SealedEntry) → slice_get S y ≡ Some e →
+    slice_get S x ≡ Some f → SaysBefore S e f (before parents ragged y x)
+graph_says exact S parents ragged graph y x e f at_y at_x =
+    by (reaches parents x y x) (is_whole parents ragged x x) refl refl
+  where
+    known : ((reaches parents x y x ≡ true) ↔ IsBefore S e f)
+        × ((is_whole parents ragged x x ≡ true) ↔ IsWhole node_of_sealed S f)
+    known = exact S parents ragged graph y x e f at_y at_x
+
+    by : (r w : Bool) → reaches parents x y x ≡ r → is_whole parents ragged x x ≡ w →
+        SaysBefore S e f (if r then True else if w then False else Unknown)
+    by true w p q = known.0.0 p
+    by false true p q = (λ path. let no : true ≡ false = sym (known.0.1 path) ∙ p in cc, known.1.0 q)
+    by false false p q = (
+      λ path. let no : true ≡ false = sym (known.0.1 path) ∙ p in cc,
+      λ whole. let no : true ≡ false = sym (known.1.1 whole) ∙ q in cc,
+    )
+
+-- the word by what is said this way and that way
+pub word_is_right : (S : List SealedEntry) (e f : SealedEntry) (this that : Three) → e ≢ f → SaysBefore S e f this →
+    SaysBefore S f e that → IsWordOf S e f (word_by this that)
+word_is_right S e f True that differ here there = here
+word_is_right S e f False True differ here there = there
+word_is_right S e f Unknown True differ here there = there
+word_is_right S e f False False differ here there =
+    (record { differ = differ; not_before = here.0; not_after = there.0 }, (there.1, here.1))
+word_is_right S e f False Unknown differ here there =
+    (record { differ = differ; not_before = here.0; not_after = there.0 }, λ whole. there.1 whole.0)
+word_is_right S e f Unknown False differ here there =
+    (record { differ = differ; not_before = here.0; not_after = there.0 }, λ whole. here.1 whole.1)
+word_is_right S e f Unknown Unknown differ here there =
+    (record { differ = differ; not_before = here.0; not_after = there.0 }, λ whole. here.1 whole.1)
+
+-- a right word promises what it says of every completion
+pub word_is_settled : PathsAreSettled node_of_sealed → (machines : ℕ) (S : List SealedEntry) (e f : SealedEntry)
+    (word : OrderWord) → Contains S e → Contains S f → IsWordOf S e f word → IsSettled machines S e f word
+word_is_settled paths machines S e f says.Same has_e has_f right = right
+word_is_settled paths machines S e f says.Before has_e has_f right = λ G all. (paths machines S G all e f).0 right
+word_is_settled paths machines S e f says.After has_e has_f right = λ G all. (paths machines S G all f e).0 right
+word_is_settled paths machines S e f says.Apart has_e has_f right = λ G all. record {
+  differ = right.0.differ;
+  not_before = λ path. right.0.not_before ((paths machines S G all e f).1 has_f right.1.1 path);
+  not_after = λ path. right.0.not_after ((paths machines S G all f e).1 has_e right.1.0 path);
+}
+word_is_settled paths machines S e f says.Unknown has_e has_f right = right.1

@@ -1,0 +1,19 @@
+use Rattle.std.proofs.Common.{◌∙◌, ◌+◌, sym, subst}
+use Rattle.std.specs.Fmt.{decimal}
+use Rattle.std.proofs.lemmas.Bool.{false≢true}
+use Rattle.std.proofs.lemmas.List.{take_rest}
+use Rattle.roster.specs.Machines.{IsName}
+use Rattle.auditorium_core.proofs.EntryTexts.{dot_splits}
+use Rattle.auditorium_core.proofs.entry_word.read_number.Goals as goal
+
+-- the text behind the dot would be a number
+pub returns-in_default-clause-none : goal.returns-in_default-clause-none
+returns-in_default-clause-none c machine number (is, fits, spelt) =
+    let parts = dot_splits c.args.word.now c.in_ok-dot.dot machine (decimal number) c.in_ok-dot.ensures is spelt in
+    c.in_default.ensures number (fits, take_rest c.args.word.now (c.in_ok-dot.dot + 1) ∙ parts.1)
+
+-- the text before the dot would be a name
+pub returns-then-not-is_name-clause-none : goal.returns-then-not-is_name-clause-none
+returns-then-not-is_name-clause-none c machine number (is, fits, spelt) =
+    let parts = dot_splits c.args.word.now c.in_ok-dot.dot machine (decimal number) c.in_ok-dot.ensures is spelt in
+    false≢true (c.if-not-is_name.ensures.1 (subst IsName (sym parts.0) is))

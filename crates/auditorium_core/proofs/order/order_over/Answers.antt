@@ -1,0 +1,12 @@
+use Rattle.entry_format.specs.SealedEntry.{SealedEntry}
+use Rattle.entry_graph.specs.EntryGraph.{EntryGraph}
+use Rattle.evidence.specs.Graphs.{entries_of, GivesGraph}
+use Rattle.auditorium_core.specs.Order.{IsOrderAmong}
+use Rattle.auditorium_core.proofs.Faults.{refused_or}
+use Rattle.auditorium_core.proofs.order.order_over.Goals as goal
+
+pub returns-in-Err-clause-told : goal.returns-in-Err-clause-told
+returns-in-Err-clause-told c =
+    refused_or (GivesGraph (entries_of c.args.logs.items))
+    (λ (graph : EntryGraph SealedEntry). IsOrderAmong c.args.roster.now.machines graph.survivors c.args.x.now c.args.y.now)
+    c.in-Err.fault c.of_fault.result c.of_fault.ensures.ok c.in-Err.ensures.err

@@ -1,0 +1,83 @@
+-- What `audit` says where the logs' files are left of an honest place.
+use Rattle.std.specs.Prelude.{◌≡◌, ◌≢◌, ◌⊎◌, ℕ, List, [], Option, ⊤}
+use Rattle.entry_format.specs.Nodes.{node_of_sealed}
+use Rattle.entry_format.specs.SealedEntry.{SealedEntry}
+use Rattle.entry_order.specs.Naming.{Distinct}
+use Rattle.entry_order.specs.World.{World, sent_in}
+use Rattle.election_script.specs.declared.script.Script.{Script}
+use Rattle.evidence.specs.Refusal.{Refusal}
+use Rattle.honest_logs.specs.LeftFiles.{AreAllFilesOf, AreFilesOf}
+use Rattle.auditor.specs.Report.{AuditReport}
+use Rattle.auditor.specs.Sources.{RuleSource, standard}
+use Rattle.honest_reports.specs.Kept.{SaysAllKept, SaysNoneBroken, kept_text}
+use Rattle.honest_reports.specs.Places.{AreWholeFilesOf, IsRosterOf, files_read}
+use Rattle.honest_reports.specs.Refusals.{IsHonestRefusal}
+use Rattle.honest_reports.specs.Reports.{IsHonestReport}
+use Rattle.auditorium_core.specs.declared.status.Status.{Status}
+use Rattle.auditorium_core.specs.declared.status.Status.TheVariants as status
+use Rattle.auditorium_core.specs.Words.{source_named}
+use Rattle.auditorium_core.specs.Lines.{Answer, refusal_answer}
+use Rattle.auditorium_core.specs.Audit.{IsAuditOver, report_answer}
+
+-- the status is that of a report, and of no refusal
+abbrev pub IsOfReport : Status → Type 0
+IsOfReport status.Done = ⊤
+IsOfReport status.Findings = ⊤
+IsOfReport status.Unsettled = ⊤
+IsOfReport status.Broken = ⊤
+IsOfReport other = ⊥
+
+-- The answer is that of a report on the script's machines and on these files, in which no line accuses anybody: none is
+-- of a refused record, of a malformed end, of a break, of a stray or of a fork. With the standard rules neither the
+-- report nor the status says that one is broken, and where the whole logs of w are all among the files, the report says
+-- that each is kept.
+pub record TellsHonestReport (script : Script) (w : World SealedEntry) (source : RuleSource) (names : List (List ℕ))
+    (files : List (Option (List ℕ))) (answer : Answer) : Type 0 where
+  pub report : AuditReport
+  pub told : answer ≡ report_answer report
+  pub honest : IsHonestReport script w names files report
+  pub none_broken : source ≡ standard → SaysNoneBroken report
+  pub not_broken : source ≡ standard → answer.status ≢ status.Broken
+  pub all_kept : source ≡ standard → AreAllFilesOf w files → SaysAllKept w files report
+
+-- What is answered over such files: a refusal, because of the file of the rules, because a log's file is over its limit
+-- or because a rule is too wide; or a report that accuses nobody.
+abbrev pub IsHonestAudit : Script → World SealedEntry → RuleSource → Option (List ℕ) → List (List ℕ) →
+    List (Option (List ℕ)) → Answer → Type 0
+IsHonestAudit script w source rules_file names files answer =
+    ((refusal : Refusal) × IsHonestRefusal script w source rules_file names files refusal
+    × (answer ≡ refusal_answer refusal))
+    ⊎ TellsHonestReport script w source names files answer
+
+-- The answer is that of such a report which finds nothing: the status is Done, and the output says of each standard
+-- rule that it is kept.
+pub record TellsAllKept (script : Script) (w : World SealedEntry) (names : List (List ℕ))
+    (files : List (Option (List ℕ))) (answer : Answer) : Type 0 where
+  pub report : AuditReport
+  pub honest : IsHonestReport script w names files report
+  pub told : answer ≡ record { status = status.Done; files = []; output = kept_text report }
+
+-- The answer is an honest one where different entries of w have different digests. A report over all logs of w, whole,
+-- shows that they have. By the standard rules, and where each of the files is a whole log, it finds nothing.
+pub record IsAuditOfPlace (script : Script) (w : World SealedEntry) (source : RuleSource)
+    (rules_file : Option (List ℕ)) (names : List (List ℕ)) (files : List (Option (List ℕ))) (answer : Answer)
+    : Type 0 where
+  pub honest : Distinct node_of_sealed (sent_in w) → IsHonestAudit script w source rules_file names files answer
+  pub shown : AreAllFilesOf w files → IsOfReport answer.status → Distinct node_of_sealed (sent_in w)
+  pub kept : source ≡ standard → AreAllFilesOf w files → AreWholeFilesOf w files → IsOfReport answer.status →
+      TellsAllKept script w names files answer
+
+-- So it is with each world w of a script, where the files are that of the script's roster, that of the rules, if they
+-- are in one, and those that are left of the logs of w.
+abbrev pub IsAuditOfPlaces : RuleSource → List (List ℕ) → List (Option (List ℕ)) → Answer → Type 0
+IsAuditOfPlaces source names files answer =
+    (script : Script) (w : World SealedEntry) (roster_file : Option (List ℕ)) → IsRosterOf script w roster_file →
+    (log_files : List (Option (List ℕ))) → AreFilesOf w log_files → (rules_file : Option (List ℕ)) →
+    files ≡ files_read roster_file source rules_file log_files →
+    IsAuditOfPlace script w source rules_file names log_files answer
+
+-- the answer for these files, and what it says where those of the logs are left of an honest place
+pub record IsAuditAnswer (roster rules : List ℕ) (logs : List (List ℕ)) (files : List (Option (List ℕ)))
+    (answer : Answer) : Type 0 where
+  pub right : IsAuditOver roster rules logs files answer
+  pub honest : IsAuditOfPlaces (source_named rules) logs files answer

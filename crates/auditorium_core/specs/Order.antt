@@ -1,0 +1,96 @@
+-- What `order` gives for a roster, two words for entries, and logs.
+use Rattle.std.specs.Prelude.{◌≡◌, ◌≢◌, ◌⊎◌, ℕ, List, length, Option, Result, Ok, Err}
+use Rattle.entry_order.specs.Precedes.{Precedes}
+use Rattle.entry_order.specs.Settled.{IsWhole}
+use Rattle.entry_order.specs.Completion.{Completion}
+use Rattle.roster.specs.declared.post.Post.{Post}
+use Rattle.entry_format.specs.SealedEntry.{SealedEntry}
+use Rattle.entry_format.specs.Nodes.{node_of_sealed}
+use Rattle.log_files.specs.declared.sealed_log.LogRead.{LogRead}
+use Rattle.entry_graph.specs.EntryGraph.{EntryGraph}
+use Rattle.evidence.specs.declared.roster_file.RosterRead.{RosterRead}
+use Rattle.evidence.specs.Refusal.{Refusal}
+use Rattle.evidence.specs.RosterFile.{GivesRoster}
+use Rattle.evidence.specs.Logs.{GivesLogs}
+use Rattle.evidence.specs.Graphs.{entries_of, GivesGraph}
+use Rattle.auditorium_core.specs.declared.order_word.OrderWord.{OrderWord}
+use Rattle.auditorium_core.specs.declared.order_word.OrderWord.TheVariants.{Same, Before, After, Apart, Unknown}
+use Rattle.auditorium_core.specs.declared.status.Status.TheVariants.{Done}
+use Rattle.auditorium_core.specs.Lines.{Answer, line_answer, no_entry, order_word, refusal_answer}
+use Rattle.auditorium_core.specs.EntryWords.{MeansEntry, MeansNone}
+use Rattle.auditorium_core.specs.Honest.{IsOrderOfPlaces}
+
+-- e before f in G, by a path of names
+abbrev pub IsBefore : List SealedEntry → SealedEntry → SealedEntry → Type 0
+IsBefore G e f = Precedes node_of_sealed G e f
+
+-- two different entries, neither of which is before the other in G
+pub record AreApart (G : List SealedEntry) (e f : SealedEntry) : Type 0 where
+  pub differ : e ≢ f
+  pub not_before : ¬ IsBefore G e f
+  pub not_after : ¬ IsBefore G f e
+
+-- neither e nor f, nor an ancestor of them among S, names an entry that S lacks
+abbrev pub AreWhole : List SealedEntry → SealedEntry → SealedEntry → Type 0
+AreWhole S e f = IsWhole node_of_sealed S e × IsWhole node_of_sealed S f
+
+-- what the word says of e and f among the survivors S
+abbrev pub IsWordOf : List SealedEntry → SealedEntry → SealedEntry → OrderWord → Type 0
+IsWordOf S e f Same = e ≡ f
+IsWordOf S e f Before = IsBefore S e f
+IsWordOf S e f After = IsBefore S f e
+IsWordOf S e f Apart = AreApart S e f × AreWhole S e f
+IsWordOf S e f Unknown = AreApart S e f × (¬ AreWhole S e f)
+
+-- What the word promises of all that the entries may have been of which S survives: `before` and `after` hold in each
+-- completion, of `apart` neither holds in any, and `unknown` is told only where one of the two isn't whole.
+abbrev pub IsSettled : ℕ → List SealedEntry → SealedEntry → SealedEntry → OrderWord → Type 0
+IsSettled machines S e f Same = e ≡ f
+IsSettled machines S e f Before = (G : List SealedEntry) → Completion node_of_sealed machines S G → IsBefore G e f
+IsSettled machines S e f After = (G : List SealedEntry) → Completion node_of_sealed machines S G → IsBefore G f e
+IsSettled machines S e f Apart = (G : List SealedEntry) → Completion node_of_sealed machines S G → AreApart G e f
+IsSettled machines S e f Unknown = ¬ AreWhole S e f
+
+-- the answer of two survivors
+pub record IsOrderOf (machines : List Post) (S : List SealedEntry) (e f : SealedEntry) (answer : Answer) : Type 0 where
+  pub word : OrderWord
+  pub right : IsWordOf S e f word
+  pub settled : IsSettled (length machines) S e f word
+  pub told : answer ≡ line_answer Done (order_word word)
+
+-- the answer of two words among the survivors S
+abbrev pub IsOrderAmong : List Post → List SealedEntry → List ℕ → List ℕ → Answer → Type 0
+IsOrderAmong machines S x y answer =
+    (MeansNone machines S x × (answer ≡ no_entry x))
+    ⊎ ((e : SealedEntry) × MeansEntry machines S x e
+    × ((MeansNone machines S y × (answer ≡ no_entry y))
+    ⊎ ((f : SealedEntry) × MeansEntry machines S y f × IsOrderOf machines S e f answer)))
+
+-- the answer where something is read: its refusal, or what holds of the answer for what is found
+abbrev pub OrRefused : {T : Type 0} → (Result T Refusal → Type 0) → (T → Answer → Type 0) → Answer → Type 0
+OrRefused {T} Gives IsFor answer =
+    ((refusal : Refusal) × Gives (Err refusal) × (answer ≡ refusal_answer refusal))
+    ⊎ ((found : T) × Gives (Ok found) × IsFor found answer)
+
+-- the answer over given entries
+abbrev pub IsOrderOver : List Post → List ℕ → List ℕ → List SealedEntry → Answer → Type 0
+IsOrderOver machines x y given answer =
+    OrRefused (GivesGraph given) (λ (graph : EntryGraph SealedEntry). IsOrderAmong machines graph.survivors x y) answer
+
+-- the answer under a roster, for the logs' files
+abbrev pub IsOrderOverLogs : RosterRead → List ℕ → List ℕ → List (List ℕ) → List (Option (List ℕ)) → Answer → Type 0
+IsOrderOverLogs read x y logs files answer =
+    OrRefused (GivesLogs read.roster.machines read.election logs files)
+    (λ (found : List LogRead). IsOrderOver read.roster.machines x y (entries_of found)) answer
+
+-- the same, and what it says where the files are left of an honest place
+pub record IsOrderUnder (read : RosterRead) (x y : List ℕ) (logs : List (List ℕ)) (files : List (Option (List ℕ)))
+    (answer : Answer) : Type 0 where
+  pub right : IsOrderOverLogs read x y logs files answer
+  pub honest : IsOrderOfPlaces read.roster.machines read.election x y logs files answer
+
+-- the answer for the roster's file and the logs' files, each of which may be absent
+abbrev pub IsOrderAnswer : List ℕ → List ℕ → List ℕ → List (List ℕ) → Option (List ℕ) → List (Option (List ℕ)) →
+    Answer → Type 0
+IsOrderAnswer roster x y logs file files answer =
+    OrRefused (GivesRoster roster file) (λ (read : RosterRead). IsOrderUnder read x y logs files) answer

@@ -1,0 +1,77 @@
+// The command `audit`: the report on a polling place from whatever logs survive.
+ghost use Rattle.std.specs.Prelude.{◌≡◌, ◌≢◌, map, IfOk, IfErr, string_bytes};
+ghost use Rattle.evidence.specs.Reading.{store_seen};
+ghost use Rattle.auditor.specs.Report.{report_of};
+ghost use Rattle.auditor.specs.Sources.{source_of};
+ghost use Rattle.auditorium_core.specs.Answer.{IsAnswerTo};
+ghost use Rattle.auditorium_core.specs.Audit.{status_by, IsAuditOf};
+ghost use Rattle.auditorium_core.specs.Words.{audit, source_named};
+ghost use Rattle.auditorium_core.specs.inside.Promise.{IsAnswered};
+
+use crate::answer::{Answer, Fault};
+use crate::honest::audits_are_honest;
+use crate::status::Status;
+use auditor::{Outcome, Report, RulesFrom, write_report};
+use entry_format::Sealed;
+use entry_order::gaps_are_unique;
+use hall_outside::Store;
+use rule_engine::rules_are_settled;
+use std::alloc::{AllocError, Global};
+
+/// The rules that a word of the command line names.
+fn rules_from(word: &str) -> RulesFrom<'_>
+    ensures { source_of result ≡ source_named word.now }
+{
+    if word == "standard" {
+        RulesFrom::Standard
+    } else {
+        RulesFrom::File(word)
+    }
+}
+
+/// The status of what a report comes to.
+fn status_by(outcome: Outcome) -> Status
+    ensures { result ≡ status_by outcome }
+{
+    match outcome {
+        Outcome::Kept => Status::Done,
+        Outcome::Findings => Status::Findings,
+        Outcome::Unsettled => Status::Unsettled,
+        Outcome::Broken => Status::Broken,
+    }
+}
+
+/// The answer of a report.
+fn answer_of(alloc: Global, report: &Report) -> Result<Answer, AllocError>
+    ensures told { IfOk result (IsAuditOf (report_of report.now)) }
+    ensures status { IfOk result (λ answer. answer.status ≢ Status.Absent) }
+{
+    let text = write_report(alloc, report)?;
+    let outcome = report.outcome();
+    rules_are_settled::<Sealed>();
+    gaps_are_unique::<Sealed>();
+    Ok(Answer::of_text(alloc, status_by(outcome), text))
+}
+
+/// The answer of `audit` for the roster, the rules and the logs in these files.
+pub(crate) fn audit<S: Store>(
+    alloc: Global,
+    store: &mut S,
+    roster: &str,
+    rules: &str,
+    logs: &[String],
+) -> Result<Answer, Fault>
+    ensures { IsAnswered (IsAnswerTo
+        (audit roster.now rules.now (map string_bytes logs.now)))
+        (store_seen (S.files store.old) (S.answered store.old) (S.read_faults store.old)
+        (S.write_faults store.old))
+        result
+        (store_seen (S.files store.new) (S.answered store.new) (S.read_faults store.new)
+        (S.write_faults store.new)) }
+{
+    audits_are_honest();
+    match auditor::audit(alloc, store, roster, rules_from(rules), logs) {
+        Ok(report) => Ok(answer_of(alloc, &report)?),
+        Err(fault) => Answer::of_fault(alloc, &fault),
+    }
+}

@@ -1,0 +1,221 @@
+//! The command `audit`. The lines are those of the worked rows, and were computed by a separate plain
+//! program.
+use super::*;
+use hall_outside::{MemorySink, MemoryStore};
+use std::alloc::Global;
+use std::test::Fail;
+
+/// A session of a supervisor and a booth, all of which both hear.
+const TWO: &str = "seed 0102\nkey w4 h5\nlog 64\nlink 64\nmachine sv supervisor\nmachine b1 booth\n\
+    do sv open\ndo sv authorise b1 1\ndo sv close\ndo b1 activate 1\n\
+    do b1 commit 1 0707070707070707070707070707070707070707070707070707070707070707\n\
+    do b1 cast 1 0707070707070707070707070707070707070707070707070707070707070707\n\
+    step act sv\nstep act sv\nstep hear b1 sv 0\nstep hear b1 sv 1\n\
+    step act b1\nstep act b1\nstep act b1\n\
+    step hear sv b1 0\nstep hear sv b1 1\nstep hear sv b1 2\nstep act sv\nstep hear b1 sv 2\n";
+
+/// The same machines, of which the supervisor authorises another session.
+const FORK: &str =
+    "seed 0102\nkey w4 h5\nlog 64\nlink 64\nmachine sv supervisor\nmachine b1 booth\n\
+    do sv open\ndo sv authorise b1 2\nstep act sv\nstep act sv\n";
+
+/// The same machines with other keys.
+const OTHER: &str =
+    "seed 0103\nkey w4 h5\nlog 64\nlink 64\nmachine sv supervisor\nmachine b1 booth\n";
+
+/// Sessions at two booths, of which the second hears the later of the first one's two entries.
+const THREE: &str = "seed 0102\nkey w4 h5\nlog 64\nlink 64\n\
+    machine sv supervisor\nmachine b1 booth\nmachine b2 booth\n\
+    do sv open\ndo sv authorise b1 1\ndo sv authorise b2 2\ndo b1 activate 1\n\
+    do b1 commit 1 0707070707070707070707070707070707070707070707070707070707070707\n\
+    do b2 activate 2\n\
+    step act sv\nstep act sv\nstep act sv\n\
+    step hear b1 sv 0\nstep hear b1 sv 1\nstep hear b1 sv 2\n\
+    step hear b2 sv 0\nstep hear b2 sv 1\nstep hear b2 sv 2\n\
+    step act b1\nstep act b1\nstep hear b2 b1 1\nstep act b2\n";
+
+/// The files with these bytes are there beside those of the plays.
+const FILES: &[(&str, &str)] = &[
+    (
+        "own",
+        "(rule A1 (every x opened true))(rule N (some x cast true))\n",
+    ),
+    ("free", "(rule A1 (every x opened (same x y)))\n"),
+];
+
+/// The program's status for words that stand in one text.
+fn answer(
+    alloc: Global,
+    words: &str,
+    store: &mut MemoryStore,
+    out: &mut MemorySink,
+) -> Result<Status, Fail> {
+    let mut list = Vec::new(alloc);
+    for word in words.split(' ') {
+        list.push(String::from_str(alloc, word)?)?;
+    }
+    Ok(auditorium_still(alloc, list.as_slice(), store, out))
+}
+
+/// Plays the script into files whose names begin so.
+fn play(alloc: Global, script: &str, prefix: &str, store: &mut MemoryStore) -> Result<(), Fail> {
+    store.place(alloc, "script", script.as_bytes())?;
+    let words = format!(in alloc; "play script {prefix}")?;
+    let mut out = MemorySink::make(alloc, 1000, Vec::new(alloc));
+    answer(alloc, words.as_str(), store, &mut out)?;
+    Ok(())
+}
+
+/// Puts the first bytes of a log into a file, with the lowest bit of one of them changed.
+fn cut(
+    alloc: Global,
+    length: usize,
+    flipped: usize,
+    name: &str,
+    store: &mut MemoryStore,
+) -> Result<(), Fail> {
+    let mut bytes = Vec::new(alloc);
+    if let Some(log) = store.file("p.sv.log") {
+        bytes.extend_from_slice(&log[..length.min(log.len())])?;
+    }
+    if let Some(byte) = bytes.get_mut(flipped) {
+        *byte ^= 1;
+    }
+    Ok(store.place(alloc, name, &bytes)?)
+}
+
+/// A store with the files of all plays, and with cut and changed logs.
+fn hall(alloc: Global) -> Result<MemoryStore, Fail> {
+    let mut store = MemoryStore::make(alloc, Vec::new(alloc), Vec::new(alloc));
+    play(alloc, TWO, "p", &mut store)?;
+    play(alloc, FORK, "f", &mut store)?;
+    play(alloc, OTHER, "o", &mut store)?;
+    play(alloc, THREE, "q", &mut store)?;
+    cut(alloc, 14906, 20000, "torn.log", &mut store)?;
+    cut(alloc, 12433, 20000, "ends.log", &mut store)?;
+    cut(alloc, 20000, 12430, "bit.log", &mut store)?;
+    for (name, bytes) in FILES {
+        store.place(alloc, name, bytes.as_bytes())?;
+    }
+    Ok(store)
+}
+
+/// Words with the status, and the output without the lines of kept rules.
+const AUDITS: &[(&str, Status, &str)] = &[
+    (
+        "audit p.roster standard p.sv.log p.b1.log",
+        Status::Done,
+        "log p.sv.log owner 0 kept 6 refused 0\nlog p.b1.log owner 1 kept 6 refused 0\n\
+            entries 6\nverdict kept\n",
+    ),
+    (
+        "audit p.roster standard torn.log",
+        Status::Findings,
+        "log torn.log owner 0 kept 5 refused 0\ntorn torn.log 12433\nentries 5\nverdict findings\n",
+    ),
+    (
+        "audit p.roster standard ends.log",
+        Status::Done,
+        "log ends.log owner 0 kept 5 refused 0\nentries 5\nverdict kept\n",
+    ),
+    (
+        "audit q.roster standard q.sv.log q.b2.log",
+        Status::Unsettled,
+        "log q.sv.log owner 0 kept 3 refused 0\nlog q.b2.log owner 2 kept 5 refused 0\nentries 5\n\
+            gap 628e5112466668856b29d6f9c7f3a840b204acd10ffed85a3d7a2d45388d2659\n\
+            unsettled C1\nunsettled K2\nverdict unsettled\n",
+    ),
+    (
+        "audit p.roster standard bit.log",
+        Status::Unsettled,
+        "log bit.log owner 0 kept 5 refused 1\nrefused bit.log 4 BadSignature\nbreak bit.log 5\n\
+            entries 5\ngap a9e840a06e82e5098f5c05488b689762452fd14724bf4c8277b7a748e62c4bf9\n\
+            unsettled P3\nunsettled K2\nverdict unsettled\n",
+    ),
+    (
+        "audit o.roster standard p.sv.log",
+        Status::Findings,
+        "log p.sv.log owner 0 kept 0 refused 6\nrefused p.sv.log 0 OtherElection\n\
+            refused p.sv.log 1 OtherElection\nrefused p.sv.log 2 OtherElection\n\
+            refused p.sv.log 3 OtherElection\nrefused p.sv.log 4 OtherElection\n\
+            refused p.sv.log 5 OtherElection\nentries 0\nverdict findings\n",
+    ),
+    (
+        "audit p.roster standard p.sv.log p.b1.log p.sv.log p.sv.log",
+        Status::Done,
+        "log p.sv.log owner 0 kept 6 refused 0\nlog p.b1.log owner 1 kept 6 refused 0\n\
+            log p.sv.log owner 0 kept 6 refused 0\nlog p.sv.log owner 0 kept 6 refused 0\n\
+            entries 6\nverdict kept\n",
+    ),
+    (
+        "audit p.roster standard p.sv.log f.sv.log",
+        Status::Broken,
+        "log p.sv.log owner 0 kept 6 refused 0\nlog f.sv.log owner 0 kept 2 refused 0\nentries 7\n\
+            fork sv 1\nbroken K1 \
+            sv.1:db93dda5af4824d79ddcc1885c59bc8db561b03bb1aeab96a69b225ed492701f \
+            sv.1:fdb9c3ad202b5b2d4c066def07dc18849ac022bfdf7567c18330b1d1178676b9\n\
+            verdict broken\n",
+    ),
+    (
+        "audit q.roster own q.b2.log",
+        Status::Broken,
+        "log q.b2.log owner 2 kept 5 refused 0\nentries 5\n\
+            gap 628e5112466668856b29d6f9c7f3a840b204acd10ffed85a3d7a2d45388d2659\n\
+            broken N\nverdict broken\n",
+    ),
+    // The first refusal ends it, in the order of the words.
+    (
+        "audit p.roster free p.sv.log",
+        Status::Refused,
+        "refused free 33 Unbound\n",
+    ),
+    (
+        "audit p.sv.log free none",
+        Status::Refused,
+        "refused p.sv.log 13 NotCanonical\n",
+    ),
+    ("audit p.roster none gone", Status::Absent, "absent none\n"),
+    (
+        "audit p.roster standard p.roster gone",
+        Status::Refused,
+        "refused p.roster 0 Header\n",
+    ),
+    (
+        "audit p.roster standard gone",
+        Status::Absent,
+        "absent gone\n",
+    ),
+    ("audit p.roster standard", Status::Usage, "usage\n"),
+    (
+        "audit a b c c c c c c c c c c c c c c c c c",
+        Status::Usage,
+        "usage\n",
+    ),
+];
+
+/// The lines, without those of kept rules.
+fn without_kept(alloc: Global, bytes: &[u8]) -> Result<String, Fail> {
+    let text = String::from_utf8_lossy(alloc, bytes)?;
+    let mut lines = String::new(alloc);
+    for line in text.as_str().split('\n') {
+        if !line.is_empty() && !line.starts_with("kept ") {
+            lines.push_str(line)?;
+            lines.push_str("\n")?;
+        }
+    }
+    Ok(lines)
+}
+
+#[test]
+fn each_audit_has_its_lines_and_status(rt: HostRuntime) -> Result<(), Fail> {
+    let alloc = rt.alloc();
+    let mut store = hall(alloc)?;
+    for (words, status, lines) in AUDITS {
+        let mut out = MemorySink::make(alloc, 1000, Vec::new(alloc));
+        let answered = answer(alloc, words, &mut store, &mut out)?;
+        assert_eq!(rt; answered, *status, "{words}");
+        let found = without_kept(alloc, out.bytes())?;
+        assert!(rt; found.as_str() == *lines, "{words}");
+    }
+    Ok(())
+}

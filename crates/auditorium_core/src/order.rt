@@ -1,0 +1,201 @@
+// The command `order`: how two entries stand to each other, whatever was lost.
+ghost use Rattle.std.specs.Prelude.{◌≡◌, ◌≢◌, ◌<◌, ◌↔◌, map, length, IfOk, IfErr, IfSome, IsTrue, Some, slice_get, string_bytes};
+ghost use Rattle.roster.specs.declared.post.Post.{Post};
+ghost use Rattle.entry_format.specs.Nodes.{node_of_sealed};
+ghost use Rattle.entry_graph.specs.EntryGraph.{IsEntryGraph};
+ghost use Rattle.evidence.specs.Reading.{store_seen};
+ghost use Rattle.evidence.specs.Graphs.{entries_of};
+ghost use Rattle.auditorium_core.specs.Answer.{IsAnswerTo};
+ghost use Rattle.auditorium_core.specs.Words.{order};
+ghost use Rattle.auditorium_core.specs.EntryWords.{IsNamedBy, IsNumbered, MeansEntry, by_number};
+ghost use Rattle.auditorium_core.specs.Order.{IsOrderAmong, IsOrderOver};
+ghost use Rattle.auditorium_core.specs.inside.EntryNames.{IsLowerAt, IsPlaceOf, IsWordAt, word_by};
+ghost use Rattle.auditorium_core.specs.inside.Promise.{IsAnswered};
+
+use crate::answer::{Answer, Fault};
+use crate::entry_word::{Read, read_word};
+use crate::honest::orders_are_honest;
+use crate::order_word::OrderWord;
+use crate::status::Status;
+use entry_format::Sealed;
+use entry_graph::Graph;
+use entry_order::{Knot, Three, order_is_settled};
+use evidence::{graph_from, read_logs, read_roster};
+use hall_outside::Store;
+use log_files::LogRead;
+use precedence::{Arrows, Rows};
+use roster::Roster;
+use std::alloc::{AllocError, Global};
+
+/// The answer of `order` for two words for entries, by the roster and the logs in these files.
+pub(crate) fn order<S: Store>(
+    alloc: Global,
+    store: &mut S,
+    roster: &str,
+    x: &str,
+    y: &str,
+    logs: &[String],
+) -> Result<Answer, Fault>
+    ensures { IsAnswered (IsAnswerTo
+        (order roster.now x.now y.now (map string_bytes logs.now)))
+        (store_seen (S.files store.old) (S.answered store.old) (S.read_faults store.old)
+        (S.write_faults store.old))
+        result
+        (store_seen (S.files store.new) (S.answered store.new) (S.read_faults store.new)
+        (S.write_faults store.new)) }
+{
+    let read = match read_roster(alloc, store, roster) {
+        Ok(read) => read,
+        Err(fault) => return Answer::of_fault(alloc, &fault),
+    };
+    orders_are_honest();
+    match read_logs(alloc, store, logs, &read.roster, &read.election) {
+        Ok(logs) => order_over(alloc, &read.roster, x, y, logs),
+        Err(fault) => Answer::of_fault(alloc, &fault),
+    }
+}
+
+/// The answer over the entries that the logs keep.
+fn order_over(
+    alloc: Global,
+    roster: &Roster,
+    x: &str,
+    y: &str,
+    logs: Vec<LogRead>,
+) -> Result<Answer, Fault>
+    ensures told { IfOk result (IsOrderOver roster.now.machines x.now y.now (entries_of logs.items)) }
+    ensures status { IfOk result (λ answer. answer.status ≢ Status.Absent) }
+    ensures fault { IfErr result (λ fault. fault ≡ Fault.Memory) }
+{
+    match graph_from(alloc, logs) {
+        Ok(graph) => Ok(order_among(alloc, roster, x, y, &graph)?),
+        Err(fault) => Answer::of_fault(alloc, &fault),
+    }
+}
+
+/// The answer among the survivors of the graph.
+fn order_among(
+    alloc: Global,
+    roster: &Roster,
+    x: &str,
+    y: &str,
+    graph: &Graph,
+) -> Result<Answer, AllocError>
+    requires { IsEntryGraph node_of_sealed graph.now }
+    ensures told { IfOk result
+        (IsOrderAmong roster.now.machines graph.now.survivors x.now y.now) }
+    ensures status { IfOk result (λ answer. answer.status ≢ Status.Absent) }
+{
+    let Some(first) = place_of(roster, graph, x) else {
+        return Answer::refused(alloc, x, 0, "NoEntry");
+    };
+    let Some(second) = place_of(roster, graph, y) else {
+        return Answer::refused(alloc, y, 0, "NoEntry");
+    };
+    let word = word_at(alloc, graph, first, second)?;
+    order_is_settled::<Sealed>();
+    Answer::line(alloc, word.word())
+}
+
+/// The place of the survivor that the word means.
+fn place_of(roster: &Roster, graph: &Graph, word: &str) -> Option<usize>
+    ensures { IsPlaceOf (MeansEntry roster.now.machines graph.now.survivors word.now)
+        graph.now.survivors result }
+{
+    match read_word(word.as_bytes()) {
+        Some(Read::Digest(digest)) => place_of_digest(graph, &digest),
+        Some(Read::Number(machine, number)) => place_of_number(roster, graph, machine, number),
+        None => None,
+    }
+}
+
+/// The place of the survivor that has the digest.
+fn place_of_digest(graph: &Graph, digest: &[u8; 32]) -> Option<usize>
+    ensures { IsPlaceOf (λ e. e.digest ≡ digest.now) graph.now.survivors result }
+{
+    for at in 0..graph.count() {
+        if graph.node(at).digest() == digest {
+            return Some(at);
+        }
+    }
+    None
+}
+
+/// The place of the survivor that the machine of this name sent under this number; of several that
+/// with the least digest.
+fn place_of_number(roster: &Roster, graph: &Graph, machine: &[u8], number: u32) -> Option<usize>
+    ensures { IsPlaceOf
+        (IsNamedBy roster.now.machines graph.now.survivors (by_number machine.now number))
+        graph.now.survivors result }
+{
+    let mut least: Option<usize> = None;
+    for at in 0..graph.count() {
+        if is_numbered(roster, graph.node(at), machine, number) && is_lower(graph, at, least) {
+            least = Some(at);
+        }
+    }
+    least
+}
+
+/// Whether the survivor at this place has a lower digest than that at the other, if there is one.
+fn is_lower(graph: &Graph, at: usize, other: Option<usize>) -> bool
+    requires at { at < length graph.now.survivors }
+    requires other { IfSome other (λ place. place < length graph.now.survivors) }
+    ensures { IsTrue result ↔ IsLowerAt graph.now.survivors at other }
+{
+    match other {
+        Some(other) => {
+            let digest = graph.node(other).digest();
+            graph.node(at).digest().cmp(digest).is_lt()
+        }
+        None => true,
+    }
+}
+
+/// Whether the machine of this name sent the entry under this number.
+fn is_numbered(roster: &Roster, entry: &Sealed, machine: &[u8], number: u32) -> bool
+    ensures { IsTrue result ↔ IsNumbered roster.now.machines machine.now number entry.now }
+{
+    has_name(roster, entry.maker() as usize, machine) && entry.number() == number
+}
+
+/// Whether the machine at this place has this name.
+fn has_name(roster: &Roster, place: usize, machine: &[u8]) -> bool
+    ensures { IsTrue result ↔ ((post : Post) × (slice_get roster.now.machines place ≡ Some post)
+        × (post.name ≡ machine.now)) }
+{
+    let posts = roster.machines.as_slice();
+    place < posts.len() && posts[place].name.as_str().as_bytes() == machine
+}
+
+/// How the survivor at the first place stands to that at the second.
+fn word_at(
+    alloc: Global,
+    graph: &Graph,
+    first: usize,
+    second: usize,
+) -> Result<OrderWord, AllocError>
+    requires kept { IsEntryGraph node_of_sealed graph.now }
+    requires first { first < length graph.now.survivors }
+    requires second { second < length graph.now.survivors }
+    ensures { IfOk result (IsWordAt graph.now.survivors first second) }
+{
+    if first == second {
+        return Ok(OrderWord::Same);
+    }
+    let rows = Rows::make(alloc, graph)?;
+    order_is_settled::<Sealed>();
+    Ok(word_by(rows.before(first, second), rows.before(second, first)))
+}
+
+/// The word by what is known of the order of two different entries, this way and that way.
+fn word_by(this: Three, that: Three) -> OrderWord
+    ensures { result ≡ word_by this that }
+{
+    match (this, that) {
+        (Three::True, _) => OrderWord::Before,
+        (_, Three::True) => OrderWord::After,
+        (Three::False, Three::False) => OrderWord::Apart,
+        _ => OrderWord::Unknown,
+    }
+}

@@ -1,0 +1,30 @@
+// How two entries stand to each other.
+ghost use Rattle.std.specs.Prelude.{◌≡◌};
+ghost use Rattle.auditorium_core.specs.Lines.{order_word};
+
+/// How one entry stands to another, as far as it is known.
+#[derive(Clone, Copy, Debug, PartialEq, Eq)]
+pub(crate) enum OrderWord {
+    /// They are one.
+    Same,
+    Before,
+    After,
+    /// Neither is before the other.
+    Apart,
+    Unknown,
+}
+
+impl OrderWord {
+    /// The word as it is printed.
+    pub fn word(self) -> &'static str
+        ensures { result.now ≡ order_word self }
+    {
+        match self {
+            OrderWord::Same => "same",
+            OrderWord::Before => "before",
+            OrderWord::After => "after",
+            OrderWord::Apart => "apart",
+            OrderWord::Unknown => "unknown",
+        }
+    }
+}
