@@ -71,13 +71,49 @@ fn plays(alloc: Global) -> Result<MemoryStore, Fail> {
 }
 
 /// Words behind `order`, with the status and the line that are told. The digests are those of b1's
-/// first entry, and of the two that sv sent under the number 1.
+/// first entry, and of the two that sv sent under the number 1. Over all logs of `q` each pair is
+/// told as its machines held it.
 const ROWS: &str = "p.roster b1.0 b2.0 p.b1.log p.b2.log = 0 before
 p.roster b2.0 b1.0 p.b1.log p.b2.log = 0 after
 p.roster sv.1 sv.0 p.sv.log = 0 after
 p.roster sv.0 sv.1 p.sv.log p.sv.log = 0 before
 p.roster sv.0 sv.0 p.sv.log = 0 same
+q.roster sv.0 sv.0 q.sv.log q.b1.log q.b2.log = 0 same
+q.roster sv.0 sv.1 q.sv.log q.b1.log q.b2.log = 0 before
+q.roster sv.0 sv.2 q.sv.log q.b1.log q.b2.log = 0 before
+q.roster sv.0 b1.0 q.sv.log q.b1.log q.b2.log = 0 before
+q.roster sv.0 b1.1 q.sv.log q.b1.log q.b2.log = 0 before
+q.roster sv.0 b2.0 q.sv.log q.b1.log q.b2.log = 0 before
+q.roster sv.1 sv.0 q.sv.log q.b1.log q.b2.log = 0 after
+q.roster sv.1 sv.1 q.sv.log q.b1.log q.b2.log = 0 same
+q.roster sv.1 sv.2 q.sv.log q.b1.log q.b2.log = 0 before
+q.roster sv.1 b1.0 q.sv.log q.b1.log q.b2.log = 0 before
+q.roster sv.1 b1.1 q.sv.log q.b1.log q.b2.log = 0 before
+q.roster sv.1 b2.0 q.sv.log q.b1.log q.b2.log = 0 before
+q.roster sv.2 sv.0 q.sv.log q.b1.log q.b2.log = 0 after
+q.roster sv.2 sv.1 q.sv.log q.b1.log q.b2.log = 0 after
+q.roster sv.2 sv.2 q.sv.log q.b1.log q.b2.log = 0 same
+q.roster sv.2 b1.0 q.sv.log q.b1.log q.b2.log = 0 before
+q.roster sv.2 b1.1 q.sv.log q.b1.log q.b2.log = 0 before
+q.roster sv.2 b2.0 q.sv.log q.b1.log q.b2.log = 0 before
+q.roster b1.0 sv.0 q.sv.log q.b1.log q.b2.log = 0 after
+q.roster b1.0 sv.1 q.sv.log q.b1.log q.b2.log = 0 after
+q.roster b1.0 sv.2 q.sv.log q.b1.log q.b2.log = 0 after
+q.roster b1.0 b1.0 q.sv.log q.b1.log q.b2.log = 0 same
+q.roster b1.0 b1.1 q.sv.log q.b1.log q.b2.log = 0 before
+q.roster b1.0 b2.0 q.sv.log q.b1.log q.b2.log = 0 apart
+q.roster b1.1 sv.0 q.sv.log q.b1.log q.b2.log = 0 after
+q.roster b1.1 sv.1 q.sv.log q.b1.log q.b2.log = 0 after
+q.roster b1.1 sv.2 q.sv.log q.b1.log q.b2.log = 0 after
+q.roster b1.1 b1.0 q.sv.log q.b1.log q.b2.log = 0 after
+q.roster b1.1 b1.1 q.sv.log q.b1.log q.b2.log = 0 same
 q.roster b1.1 b2.0 q.sv.log q.b1.log q.b2.log = 0 apart
+q.roster b2.0 sv.0 q.sv.log q.b1.log q.b2.log = 0 after
+q.roster b2.0 sv.1 q.sv.log q.b1.log q.b2.log = 0 after
+q.roster b2.0 sv.2 q.sv.log q.b1.log q.b2.log = 0 after
+q.roster b2.0 b1.0 q.sv.log q.b1.log q.b2.log = 0 apart
+q.roster b2.0 b1.1 q.sv.log q.b1.log q.b2.log = 0 apart
+q.roster b2.0 b2.0 q.sv.log q.b1.log q.b2.log = 0 same
 p.roster sv.1 b1.1 p.sv.log p.b2.log = 0 unknown
 p.roster b1.1 sv.1 p.sv.log p.b2.log = 0 unknown
 p.roster sv.2 b1.1 p.sv.log cut = 0 unknown
