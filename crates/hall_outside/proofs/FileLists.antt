@@ -16,12 +16,15 @@ use Rattle.hall_outside.specs.Reading.{IsPartFrom, IsTaken}
 use Rattle.hall_outside.specs.MemoryStore.{content_of}
 use Rattle.hall_outside.specs.StoreView.{pair_of, stored, IsPlaceOf}
 
+-- names that are found equal are the same
 pub same_name : (a b : List ℕ) → bytes_eq a b ≡ true → a ≡ b
 same_name a b h = (bytes_eq-Decides a b).0 h
 
+-- a name is found equal to itself
 pub eq_self : (a : List ℕ) → bytes_eq a a ≡ true
 eq_self a = (bytes_eq-Decides a a).1 refl
 
+-- where a file has the name, another name isn't its own
 other_name : (a other name : List ℕ) → bytes_eq a name ≡ true → other ≢ name → bytes_eq a other ≡ false
 other_name a other name h ne = elim (bytes_eq a other) as (λ b. bytes_eq a other ≡ b → bytes_eq a other ≡ false) [
   | true ↦ λ e. absurd (ne (sym (same_name a other e) ∙ same_name a name h))
@@ -37,6 +40,7 @@ is_set old new name bytes here others = fun_ext (λ other.
       | false ↦ λ e. others other (λ same. false≢true (sym e ∙ (bytes_eq-Decides other name).1 same))
     ] refl)
 
+-- the files from a place on are the one there and those behind it
 at_drop : (files : List File) (i : ℕ) (d : File) → i < length files → drop i files ≡ get_or files i d
     ∷ drop (i + 1) files
 at_drop files i d h = drop-cons files i d h ∙ ap (λ k. get_or files i d ∷ drop k files) (sym (add-one i))
@@ -82,6 +86,7 @@ within [] name i h = absurd h
 within (file ∷ files) name zero h = omega arith
 within (file ∷ files) name (suc i) h = omega (arith, within files name i h.1)
 
+-- the content of a named file is that at its place
 pub content_at : (files : List (List ℕ × List ℕ)) (name : List ℕ) (i : ℕ) (d : List ℕ × List ℕ)
     → IsPlaceOf files name i → content_of files name ≡ Some (get_or files i d).1
 content_at [] name i d h = absurd h
@@ -98,6 +103,7 @@ set_at (file ∷ files) name bytes zero pair h n e = ap (λ b. cond b (Some pair
 set_at (file ∷ files) name bytes (suc i) pair h n e = ap
     (λ b. cond b (Some file.1) (content_of (set files i pair) name)) h.0 ∙ set_at files name bytes i pair h.1 n e
 
+-- the other files stay as they are
 others_at : (files : List (List ℕ × List ℕ)) (name other : List ℕ) (i : ℕ) (pair : List ℕ × List ℕ)
     → IsPlaceOf files name i → bytes_eq pair.0 name ≡ true → other ≢ name
     → content_of (set files i pair) other ≡ content_of files other
@@ -108,6 +114,7 @@ others_at (file ∷ files) name other zero pair h n ne =
 others_at (file ∷ files) name other (suc i) pair h n ne = ap (cond (bytes_eq file.0 other) (Some file.1))
     (others_at files name other i pair h.1 n ne)
 
+-- so another content at its place sets the named file
 pub sets_at : (files : List (List ℕ × List ℕ)) (name bytes : List ℕ) (i : ℕ) (pair : List ℕ × List ℕ)
     → IsPlaceOf files name i → bytes_eq pair.0 name ≡ true → pair.1 ≡ bytes
     → content_of (set files i pair) ≡ file_set (content_of files) name bytes
@@ -126,28 +133,33 @@ added_at (file ∷ files) name bytes h = elim (bytes_eq file.0 name) as
       | false ↦ λ e. added_at files name bytes e
     ] h
 
+-- a file more leaves the other files as they are
 added_others : (files : List (List ℕ × List ℕ)) (name bytes other : List ℕ) → other ≢ name
     → content_of (files ++ (name, bytes) ∷ []) other ≡ content_of files other
 added_others [] name bytes other ne = ap (λ b. cond b (Some bytes) None) (other_name name other name (eq_self name) ne)
 added_others (file ∷ files) name bytes other ne = ap (cond (bytes_eq file.0 other) (Some file.1))
     (added_others files name bytes other ne)
 
+-- so a file more sets the named file
 pub adds : (files : List (List ℕ × List ℕ)) (name bytes : List ℕ) → content_of files name ≡ None
     → content_of (files ++ (name, bytes) ∷ []) ≡ file_set (content_of files) name bytes
 adds files name bytes h =
     is_set (content_of files) (content_of (files ++ (name, bytes) ∷ [])) name bytes (added_at files name bytes h)
     (λ other ne. added_others files name bytes other ne)
 
+-- the stored pairs are as many as the files
 pub length-stored : (files : List File) → length (stored files) ≡ length files
 length-stored [] = refl
 length-stored (file ∷ files) = omega (arith, length-stored files)
 
+-- the pair at a place is that of the file there
 pub get_or-stored : (files : List File) (i : ℕ) (file : File)
     → get_or (stored files) i (pair_of file) ≡ pair_of (get_or files i file)
 get_or-stored [] i file = refl
 get_or-stored (first ∷ files) zero file = refl
 get_or-stored (first ∷ files) (suc i) file = get_or-stored files i file
 
+-- the file at a place of the name has the name
 pub name_at : (files : List (List ℕ × List ℕ)) (name : List ℕ) (i : ℕ) (d : List ℕ × List ℕ) → IsPlaceOf files name i
     → bytes_eq (get_or files i d).0 name ≡ true
 name_at [] name i d h = absurd h
@@ -174,6 +186,7 @@ file_set_at files name bytes i old new h is same e =
     ∙ name_at (stored files) name i (pair_of old) h in
     subst P (sym (map-set pair_of files i new)) (sets_at (stored files) name bytes i (pair_of new) h named e)
 
+-- a file that is put behind the others is set
 pub file_added : (files : List File) (new : File) (name bytes : List ℕ) → content_of (stored files) name ≡ None
     → (pair_of new).0 ≡ name → new.bytes.items ≡ bytes
     → content_of (stored (files ++ new ∷ [])) ≡ file_set (content_of (stored files)) name bytes
@@ -194,9 +207,11 @@ pub place_in : (a b : List File) (name : List ℕ) (i : ℕ) → a ≡ b → IsP
     → IsPlaceOf (stored b) name i
 place_in a b name i e h = let P : List File → Type 0 = λ fs. IsPlaceOf (stored fs) name i in subst P e h
 
+-- what holds of a value holds where that value is found
 pub some_and : (o : Option (List ℕ)) (x : List ℕ) (P : List ℕ → Type 0) → o ≡ Some x → P x → IsSomeAnd o P
 some_and o x P e h = let Q : Option (List ℕ) → Type 0 = λ p. IsSomeAnd p P in subst Q (sym e) h
 
+-- a piece that is put behind a file's bytes is appended to the file
 pub appended_at : (files : List File) (name piece : List ℕ) (i : ℕ) (old new : File)
     → IsPlaceOf (stored files) name i → old ≡ get_or files i old
     → (pair_of new).0 ≡ (pair_of old).0 → new.bytes.items ≡ old.bytes.items ++ piece

@@ -24,10 +24,12 @@ appended_more (Some before) mid new bytes piece at n p m e =
     ∙ ap Some (append_assoc before (take at bytes) (take n piece)
     ∙ ap (λ q. before ++ q) (front_grows bytes piece at n p))
 
+-- nothing appended changes nothing
 pub appended_none : (written : Option (List ℕ)) → written ≡ appended written []
 appended_none None = refl
 appended_none (Some before) = ap Some (sym (append-nil before))
 
+-- a name is found equal to itself
 eq_self : (a : List ℕ) → bytes_eq a a ≡ true
 eq_self a = (bytes_eq-Decides a a).1 refl
 
@@ -40,6 +42,7 @@ set_again files name first last other = elim (bytes_eq other name) as
       | false ↦ refl
     ]
 
+-- a piece behind a file that was just set is part of what was set
 appended_set : (files : Files) (name bytes piece : List ℕ)
     → file_appended (file_set files name bytes) name piece ≡ file_set files name (bytes ++ piece)
 appended_set files name bytes piece =
@@ -47,6 +50,7 @@ appended_set files name bytes piece =
     (eq_self name)
     ∙ fun_ext (set_again files name bytes (bytes ++ piece))
 
+-- the next part of the bytes, appended, leaves the file set to as many more of them
 pub put_more : (files mid new : Option Files) (name bytes piece : List ℕ) (at n : ℕ) → piece ≡ drop at bytes
     → mid ≡ with_file files name (take at bytes) → new ≡ with_appended mid name (take n piece)
     → new ≡ with_file files name (take (at + n) bytes)
@@ -56,11 +60,13 @@ put_more (Some files) mid new name bytes piece at n p m e =
     ∙ ap Some (appended_set files name (take at bytes) (take n piece)
     ∙ ap (file_set files name) (front_grows bytes piece at n p))
 
+-- a file that was set is there
 there_now : (files : Option Files) (name bytes : List ℕ) → OnFile (with_file files name bytes) name IsSome
 there_now None name bytes = tt
 there_now (Some files) name bytes = let Q : Bool
     → Type 0 = λ b. IsSome (cond b (Some bytes) (files name)) in subst Q (sym (eq_self name)) refl
 
+-- so it is there afterwards
 pub put_there : (files now : Option Files) (name bytes : List ℕ) → now ≡ with_file files name bytes
     → OnFile now name IsSome
 put_there files now name bytes e = let P : Option Files

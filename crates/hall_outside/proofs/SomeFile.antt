@@ -6,7 +6,8 @@ use Rattle.hall_outside.specs.declared.reading.FileFault.{FileFault}
 use Rattle.hall_outside.specs.declared.reading.FileFault.TheVariants.{Absent, TooLong, ReadFault, Memory}
 
 -- what holds of the file that is told, and of one where none is
-pub some_file : (files : Option Files) (name : List ℕ) (P : Option (List ℕ) → Type 0) (file : Option (List ℕ)) → P file →
+pub some_file : (files : Option Files) (name : List ℕ) (P : Option (List ℕ) → Type 0) (file : Option (List ℕ))
+    → P file →
     OnFile files name P → OnSomeFile files name P
 some_file None name P file holds told = (file, tt, holds)
 some_file (Some files) name P file holds told = (files name, refl, told)
@@ -21,6 +22,7 @@ abbrev noughts : ℕ → List ℕ
 noughts zero = []
 noughts (suc n) = 0 ∷ noughts n
 
+-- so many noughts are so many bytes
 length_noughts : (n : ℕ) → length (noughts n) ≡ n
 length_noughts zero = refl
 length_noughts (suc n) = let rest = length_noughts n in omega (arith, rest)
@@ -32,6 +34,7 @@ refused_file limit TooLong = Some (noughts (limit + 1))
 refused_file limit ReadFault = None
 refused_file limit Memory = None
 
+-- that file is refused for this fault
 pub is_refused_file : (limit : ℕ) (fault : FileFault) → IsRefused limit fault (refused_file limit fault)
 is_refused_file limit Absent = refl
 is_refused_file limit TooLong = let long = length_noughts (limit + 1) in omega (arith, long)

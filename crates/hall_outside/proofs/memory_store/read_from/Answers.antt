@@ -27,7 +27,8 @@ returns-clause-taken c =
     (content_is c.args.files.now c.args.name.now c.in-Some.place c.index-files-place.result c.in-Some.ensures.found
     c.index-files-place.is)
     (omega (arith, ap length same))
-    (omega (arith, c.min-count.ensures, ap length rest, length-drop c.args.at bytes, ap length same)) c.requires.some c.requires.fits
+    (omega (arith, c.min-count.ensures, ap length rest, length-drop c.args.at bytes, ap length same)) c.requires.some
+    c.requires.fits
     (c.copy_from_slice.ensures.after ∙ ap (take c.min-count.result) (rest ∙ ap (drop c.args.at) same))
 
 pub returns-then-at-bytes-clause-most : goal.returns-then-at-bytes-clause-most

@@ -40,7 +40,8 @@ loop-piece-preserved g c =
     let whole : length filled ≡ c.loop-piece.piece.len = omega
     (arith, ap length c.as_mut_slice.ensures.value, c.loop-piece.piece.ok.0) in
     let part : take count c.deref.result.now ≡ take count filled =
-    ap (take count) (c.deref.ensures.value ∙ written_back c.loop-piece.piece.items filled c.loop-piece.piece.len whole) in
+    ap (take count) (c.deref.ensures.value
+    ∙ written_back c.loop-piece.piece.items filled c.loop-piece.piece.len whole) in
     let fits : count ≤ length filled = omega (
       arith,
       c.read_at.auto.into,
@@ -82,7 +83,8 @@ pub returns-in-Ok-Absent-clause-pieces : goal.returns-in-Ok-Absent-clause-pieces
 returns-in-Ok-Absent-clause-pieces g c not_memory =
     c.loop-piece.invariant.pieces c.read_at.new.self
     (last_read (g.S.Store.reads c.args.name.now) c.args.limit c.loop-piece.done c.loop-piece.done
-    (length c.as_mut_slice.result.now) c.loop-piece.store c.read_at.new.self (Ok c.in-Ok-Absent.field-0) (Ok Absent) refl
+    (length c.as_mut_slice.result.now) c.loop-piece.store c.read_at.new.self (Ok c.in-Ok-Absent.field-0)
+    (Ok Absent) refl
     (omega (arith, ap length c.as_mut_slice.ensures.value, c.loop-piece.piece.ok.0, c.loop-piece.invariant.piece))
     c.in-Ok-Absent.ensures.step (ap (λ (t : Taken). Ok t) c.in-Ok-Absent.field-0-is) tt)
 
