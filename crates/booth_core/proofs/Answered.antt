@@ -27,51 +27,62 @@ use Rattle.booth_core.specs.Table.{causes_of, Refuses}
 abbrev is_authorised : ℕ → List Entry → ℕ → Bool
 is_authorised owner entries session = list_any (λ entry. authorises_booth owner session entry.deed) entries
 
+-- it is so exactly where the booth is authorised for the session
 authorised_is : (owner : ℕ) (entries : List Entry) (session : ℕ)
     → Decides (is_authorised owner entries session) (IsAuthorised owner entries session)
 authorised_is owner entries session =
     holds_decides (authorises_booth owner session) (λ deed. deed ≡ Authorise owner session)
     (authorises_booth_decides owner session) entries
 
+-- whether the session is overridden
 abbrev is_overridden : List Entry → ℕ → Bool
 is_overridden entries session = list_any (λ entry. overrides session entry.deed) entries
 
+-- it is so exactly where the session is overridden
 overridden_is : (entries : List Entry) (session : ℕ)
     → Decides (is_overridden entries session) (IsOverridden entries session)
 overridden_is entries session =
     holds_decides (overrides session) (Overrides session) (overrides_decides session) entries
 
+-- whether it is overridden with this word
 abbrev is_overridden_to : How → List Entry → ℕ → Bool
 is_overridden_to how entries session = list_any (λ entry. overrides_by session how entry.deed) entries
 
+-- it is so exactly where an override says this word
 overridden_to_is : (how : How) (entries : List Entry) (session : ℕ)
     → Decides (is_overridden_to how entries session) (IsOverriddenTo how entries session)
 overridden_to_is how entries session =
     holds_decides (overrides_by session how) (λ deed. deed ≡ Override session how) (overrides_by_decides session how)
     entries
 
+-- whether the polling place is closed
 abbrev has_closed : List Entry → Bool
 has_closed entries = list_any (λ entry. is_closed entry.deed) entries
 
+-- it is so exactly where it is closed
 closed_is : (entries : List Entry) → Decides (has_closed entries) (IsClosed entries)
 closed_is entries = holds_decides is_closed (λ deed. deed ≡ Closed) closed_decides entries
 
+-- a test decides whether the booth has activated the session
 activated_is : (owner : ℕ) (entries : List Entry) (session : ℕ)
     → Decides (holds_own owner (activates session) entries) (HasActivated owner entries session)
 activated_is owner entries session =
     own_decides owner (activates session) (λ deed. deed ≡ Activate session) (activates_decides session) entries
 
+-- a test decides whether the booth has committed in the session
 committed_is : (owner : ℕ) (entries : List Entry) (session : ℕ)
     → Decides (holds_own owner (commits session) entries) (HasCommitted owner entries session)
 committed_is owner entries session =
     own_decides owner (commits session) (Commits session) (commits_decides session) entries
 
+-- a test decides whether it has committed to this ballot
 committed_to_is : (owner : ℕ) (entries : List Entry) (session : ℕ) (ballot : List ℕ)
     → Decides (holds_own owner (commits_to session ballot) entries) (HasCommittedTo owner entries session ballot)
 committed_to_is owner entries session ballot =
     own_decides owner (commits_to session ballot) (λ deed. deed ≡ Commit session ballot)
     (commits_to_decides session ballot) entries
 
+-- a test decides whether the booth has ended the session
 ended_is : (owner : ℕ) (entries : List Entry) (session : ℕ)
     → Decides (holds_own owner (ends session) entries) (HasEndedOwn owner entries session)
 ended_is owner entries session = own_decides owner (ends session) (Ends session) (ends_decides session) entries
@@ -113,6 +124,7 @@ tests owner entries whole (Cancel session) =
     ∷ []
 tests owner entries whole _ = []
 
+-- each test decides the cause of its place in the row
 are_tests : (owner : ℕ) (entries : List Entry) (IsWhole : Type 0) (whole : Bool) (deed : Deed) → Decides whole IsWhole
     → AreTestsOf (tests owner entries whole deed) (causes_of owner entries IsWhole deed)
 are_tests owner entries IsWhole whole (Activate session) is = (

@@ -17,12 +17,18 @@ use Rattle.booth_core.specs.State.{StandsFor}
 
 -- what the entry isn't: none of the deeds on which the booth's state depends
 pub record IsOther (owner : ℕ) (entry : Entry) : Type 0 where
+  -- it isn't a closing
   pub closed : entry.deed ≡ Closed → ⊥
+  -- nor an authorising of this booth
   pub authorised : (session : ℕ) → entry.deed ≡ Authorise owner session → ⊥
+  -- nor an override
   pub overridden : (session : ℕ) (how : How) → entry.deed ≡ Override session how → ⊥
+  -- nor the booth's own activation
   pub activated : (session : ℕ) → IsOwnSuch owner (λ deed. deed ≡ Activate session) entry → ⊥
+  -- nor its own commitment
   pub committed : (session : ℕ) (ballot : List ℕ) →
       IsOwnSuch owner (λ deed. deed ≡ Commit session ballot) entry → ⊥
+  -- nor its own end of a session
   pub ended : (session : ℕ) → IsOwnSuch owner (Ends session) entry → ⊥
 
 -- another entry leaves the marks and lists as they were
@@ -79,7 +85,8 @@ noted_to_cancel notes spare owner entries entry session stands is = record {
       (λ such. cc);
   authorised = λ s. stays (IsSuchEntry (λ deed. deed ≡ Authorise owner s)) entries entry (stands.authorised s)
       (λ such. cc);
-  to_cancel = λ s. is_added (IsSuchEntry (λ deed. deed ≡ Override s word.Cancel)) entries entry notes.to_cancel session s
+  to_cancel = λ s. is_added (IsSuchEntry (λ deed. deed ≡ Override s word.Cancel)) entries entry
+      notes.to_cancel session s
       (stands.to_cancel s) (λ same. cc, λ such. cc (such));
   to_cast = λ s. stays (IsSuchEntry (λ deed. deed ≡ Override s word.Cast)) entries entry (stands.to_cast s)
       (λ such. cc);
@@ -158,9 +165,11 @@ noted_activated notes spare owner entries entry session stands is own = record {
       (λ such. no_end entry.deed s (λ ballot e. cc) (λ e. cc) (λ ballot e. cc) such.1);
 }
 
+-- a commitment to a ballot in a session
 abbrev to : ℕ → List ℕ → Commitment
 to session ballot = record { session = session; ballot = ballot }
 
+-- an own commitment is to this ballot in this session exactly where the noted one is
 commits : {owner : ℕ} (entry : Entry) (session s : ℕ) (ballot x : List ℕ) → entry.deed ≡ Commit session ballot →
     entry.maker ≡ owner → (to session ballot ≡ to s x) ↔ IsOwnSuch owner (λ deed. deed ≡ Commit s x) entry
 commits entry session s ballot x is own = (
@@ -237,6 +246,7 @@ CountsIfOwn (Cast session ballot) = Unit {0}
 CountsIfOwn (Cancel session) = Unit {0}
 CountsIfOwn (Challenge session ballot) = Unit {0}
 
+-- what counts only as the booth's own counts for nothing as another's
 pub other_of_another : (owner : ℕ) (entry : Entry) (deed : Deed) → entry.deed ≡ deed → CountsIfOwn deed →
     (entry.maker ≡ owner → ⊥) → IsOther owner entry
 other_of_another owner entry deed is counts other = record {
@@ -248,6 +258,7 @@ other_of_another owner entry deed is counts other = record {
   ended = λ session such. other such.0;
 }
 
+-- an opening changes nothing
 pub other_opened : (owner : ℕ) (entry : Entry) → entry.deed ≡ Opened → IsOther owner entry
 other_opened owner entry is = record {
   closed = λ e. cc;
@@ -258,6 +269,7 @@ other_opened owner entry is = record {
   ended = λ session such. no_end entry.deed session (λ ballot e. cc) (λ e. cc) (λ ballot e. cc) such.1;
 }
 
+-- nor does an authorising of another booth
 pub other_booth : (owner : ℕ) (entry : Entry) (booth session : ℕ) → entry.deed ≡ Authorise booth session →
     (booth ≡ owner → ⊥) → IsOther owner entry
 other_booth owner entry booth session is other = record {

@@ -16,9 +16,11 @@ use Rattle.booth_core.specs.Causes.{IsOverridden, IsOverriddenTo, HasEndedOwn}
 use Rattle.booth_core.specs.Table.{causes_of}
 use Rattle.booth_core.specs.VersionOne.{HasEndedInVersion1, IsOverriddenInVersion1, causes_in_version_1}
 
+-- the entries have deeds of version 1 alone
 abbrev AreOfVersion1 : List Entry → Type 0
 AreOfVersion1 entries = All (λ entry. IsDeedIn 1 entry.deed) entries
 
+-- the booth has ended a session by the table exactly where it has by that of version 1
 ended_alike : (owner : ℕ) (entries : List Entry) (session : ℕ) → AreOfVersion1 entries →
     HasEndedOwn owner entries session ↔ HasEndedInVersion1 owner entries session
 ended_alike owner entries session all =
@@ -29,6 +31,7 @@ ended_alike owner entries session all =
       λ such. (such.0, (ends_alike entry.deed session one).1 such.1),
     ))
 
+-- a session is overridden by the table exactly where it is by that of version 1
 overridden_alike : (entries : List Entry) (session : ℕ) → AreOfVersion1 entries →
     IsOverridden entries session ↔ IsOverriddenInVersion1 entries session
 overridden_alike entries session all =
@@ -43,6 +46,7 @@ none_casts entries session all any =
     let one : IsDeedIn 1 any.1.deed = subst (λ entry. IsDeedIn 1 entry.deed) any.3 (all any.0 any.1 any.2) in
     no_cast_override any.1.deed session one any.4
 
+-- the causes of a deed are those of version 1, beside such as don't apply
 pub rows_alike : (owner : ℕ) (entries : List Entry) (IsWhole : Type 0) (deed : Deed) → AreOfVersion1 entries →
     IsDeedIn 1 deed → IsAlike (causes_of owner entries IsWhole deed) (causes_in_version_1 owner entries IsWhole deed)
 rows_alike owner entries IsWhole (Activate session) all one = (
@@ -84,6 +88,7 @@ rows_alike owner entries IsWhole (Authorise booth session) all one = tt
 rows_alike owner entries IsWhole (Override session how) all one = tt
 rows_alike owner entries IsWhole Closed all one = tt
 
+-- in version 1 no cancelling is refused because casting was asked for
 pub no_cast_forced : (owner : ℕ) (entries : List Entry) (IsWhole : Type 0) (deed : Deed) →
     IsNoneOf (causes_in_version_1 owner entries IsWhole deed) CastForced
 no_cast_forced owner entries IsWhole (Activate session) = (λ e. cc, (λ e. cc, (λ e. cc, (λ e. cc, (λ e. cc, tt)))))

@@ -24,6 +24,7 @@ by_word : (entries : List Entry) (session : ℕ) (how : How) → IsOverriddenTo 
     IsOverridden entries session
 by_word entries session how any = (any.0, any.1, any.2, any.3, (how, any.4))
 
+-- an override of the session is one to cancel or one to cast
 one_word : (entries : List Entry) (session : ℕ) (entry : Entry) (how : How) → entry.deed ≡ Override session how →
     Contains entries entry →
     IsOverriddenTo word.Cancel entries session ⊎ IsOverriddenTo word.Cast entries session
@@ -50,6 +51,7 @@ overridden_second notes owner entries session cancels casts stands c f untold = 
   ],
 )
 
+-- the first cause that the notes tell against an activation is the first that applies
 pub activate_row : (notes : Notes) (owner : ℕ) (entries : List Entry) (IsWhole : Type 0) (session : ℕ)
     (authorised ended activated overridden : Bool) (answer : Result (Unit {0}) BoothNot) →
     StandsFor notes owner entries → IsTrue authorised ↔ Contains notes.authorised session →
@@ -79,6 +81,7 @@ activate_row notes owner entries IsWhole session authorised ended activated over
       ),
     )
 
+-- the first cause that the notes tell against a commitment is the first that applies
 pub commit_row : (notes : Notes) (owner : ℕ) (entries : List Entry) (IsWhole : Type 0) (session : ℕ) (ballot : List ℕ)
     (activated ended committed overridden : Bool) (answer : Result (Unit {0}) BoothNot) →
     StandsFor notes owner entries → IsTrue activated ↔ Contains notes.activated session →
@@ -115,6 +118,7 @@ commit_row notes owner entries IsWhole session ballot activated ended committed 
       ),
     )
 
+-- the first cause that the notes tell against a ballot is the first that applies
 pub cast_row : (notes : Notes) (owner : ℕ) (entries : List Entry) (session : ℕ) (ballot : List ℕ)
     (committed ended overridden whole : Bool) (answer : Result (Unit {0}) BoothNot) →
     StandsFor notes owner entries → IsTrue committed ↔ Contains notes.committed (to ballot session) →
@@ -139,6 +143,7 @@ cast_row notes owner entries session ballot committed ended overridden whole ans
       ),
     )
 
+-- the first cause that the notes tell against a challenge is the first that applies
 pub challenge_row : (notes : Notes) (owner : ℕ) (entries : List Entry) (session : ℕ) (ballot : List ℕ)
     (committed ended overridden whole : Bool) (answer : Result (Unit {0}) BoothNot) →
     StandsFor notes owner entries → IsTrue committed ↔ Contains notes.committed (to ballot session) →
@@ -163,11 +168,13 @@ challenge_row notes owner entries session ballot committed ended overridden whol
       ),
     )
 
+-- the first cause that the notes tell against a cancelling is the first that applies
 pub cancel_row : (notes : Notes) (owner : ℕ) (entries : List Entry) (IsWhole : Type 0) (session : ℕ)
     (authorised ended forced : Bool) (answer : Result (Unit {0}) BoothNot) → StandsFor notes owner entries →
     IsTrue authorised ↔ Contains notes.authorised session → IsTrue ended ↔ Contains notes.ended session →
     IsTrue forced ↔ Contains notes.to_cast session →
-    IsFirstOf (tests_of ((not authorised, cause.NotAuthorised) ∷ (ended, cause.Ended) ∷ (forced, cause.CastForced) ∷ [])) answer →
+    IsFirstOf (tests_of ((not authorised, cause.NotAuthorised) ∷ (ended, cause.Ended) ∷ (forced, cause.CastForced)
+    ∷ [])) answer →
     Refuses owner entries IsWhole (Cancel session) answer
 cancel_row notes owner entries IsWhole session authorised ended forced answer stands a e f =
     first_by_tests ((not authorised, cause.NotAuthorised) ∷ (ended, cause.Ended) ∷ (forced, cause.CastForced) ∷ [])

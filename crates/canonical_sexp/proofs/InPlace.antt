@@ -57,9 +57,13 @@ more_deep d e (list_then inner rest) le h = (
 pub record HasFirst (row : Forest) : Type 0 where
   pub tree : Sexp
   pub rest : Forest
+  -- the row is this tree and the others
   pub is : row ≡ in_front tree rest
+  -- its texts are this tree's and the others'
   pub text : texts_of row ≡ text_of tree ++ texts_of rest
+  -- the tree is within the limits
   pub fits : Fits tree
+  -- and so are the others
   pub rest_fits : Fits (Branch rest)
 
 -- a row with a text has a first member
@@ -121,6 +125,7 @@ pub none_if_cut : (bytes : List ℕ) (row : Forest) → Fits (Branch row) → by
 none_if_cut bytes row fits e cut =
     none_left bytes row fits e (λ tree rest tree_fits is. cut_has_none bytes tree rest tree_fits is cut)
 
+-- nor is one left where a byte is bad
 pub none_if_bad : (bytes : List ℕ) (row : Forest) (at : ℕ) → Fits (Branch row) → bytes ≡ texts_of row →
     IsFirstBad bytes at → row ≡ no_trees
 none_if_bad bytes row at fits e bad =
@@ -191,6 +196,7 @@ not_cut bytes octets value small e few digits =
     cut_has_none bytes (Atom octets) [] small (e ∙ sym (append-nil (atom_text octets)))
     (atom_is_cut at_start bytes tt (omega arith) (cut_in_length bytes value few digits))
 
+-- nor does one with a bad byte behind its digits
 pub not_bad : (bytes octets : List ℕ) (at value : ℕ) (why : Why) → length octets ≤ 262144 →
     bytes ≡ atom_text octets → at < length bytes → value ≤ 262144 → take at bytes ≡ decimal value →
     length_fault value (slice_index bytes at) ≡ Some why → ⊥

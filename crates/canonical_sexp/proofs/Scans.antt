@@ -22,10 +22,15 @@ use Rattle.canonical_sexp.proofs.Steps.{AreRead, step_open, step_close, step_ato
 pub record AreScanned (bytes : List ℕ) (at : ℕ) (counts : List ℕ) (depth members : ℕ) : Type 0 where
   pub outer : List Forest
   pub current : Forest
+  -- the bytes up to the place are theirs
   pub so_far : AreRead bytes at outer current
+  -- so many lists are around the innermost
   pub depth_is : depth ≡ length outer
+  -- the counts are those of the lists around
   pub counts_are : take depth counts ≡ map count_of outer
+  -- the innermost has so many members
   pub members_is : members ≡ count_of current
+  -- there is room for eight counts
   pub size : length counts ≡ 8
 
 -- one list more that is open
@@ -71,10 +76,15 @@ pub record HasAround (bytes : List ℕ) (at : ℕ) (counts : List ℕ) (depth me
   pub outer : List Forest
   pub around : Forest
   pub current : Forest
+  -- the bytes up to the place are theirs
   pub so_far : AreRead bytes at (outer ++ around ∷ []) current
+  -- so many lists are around that one
   pub depth_is : depth - 1 ≡ length outer
+  -- the counts before the last are those of the lists around it
   pub counts_are : take (depth - 1) counts ≡ map count_of outer
+  -- the last count is its own
   pub count_is : get_or counts (depth - 1) 0 ≡ count_of around
+  -- it has room for a member more
   pub room : count_of around < 16384
 
 -- the count that was kept last is that of the list around the innermost

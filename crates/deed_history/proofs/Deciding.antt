@@ -17,6 +17,7 @@ use Rattle.deed_history.specs.Deeds.{Authorises, Overrides, Commits, Ends}
 use Rattle.deed_history.specs.Held.{Holds, HoldsOwn, HasEnded}
 use Rattle.first_cause.specs.Causes.{IsFirstOf, tests_of}
 
+-- where a test decides a sentence of each member, one decides whether it holds of any
 pub any_decides : {X : Type 0} (p : X → Bool) (P : X → Type 0) → ((x : X) → Decides (p x) (P x)) → (xs : List X)
     → Decides (list_any p xs) (Any P xs)
 any_decides p P each xs = (
@@ -36,6 +37,7 @@ holds_decides p P each entries =
 abbrev pub holds_own : ℕ → (Deed → Bool) → List Entry → Bool
 holds_own owner p entries = list_any (λ entry. (entry.maker == owner) && p entry.deed) entries
 
+-- where a test of deeds decides a sentence, one decides whether an own entry with such a deed is held
 pub own_decides : (owner : ℕ) (p : Deed → Bool) (P : Deed → Type 0) → ((deed : Deed) → Decides (p deed) (P deed))
     → (entries : List Entry) → Decides (holds_own owner p entries) (HoldsOwn owner entries P)
 own_decides owner p P each entries =
@@ -50,36 +52,44 @@ number_and_digest : (session s : ℕ) (ballot x : List ℕ)
 number_and_digest session s ballot x =
     Decides-and (session == s) (bytes_eq ballot x) (Decides-eqb session s) (bytes_eq-Decides ballot x)
 
+-- whether the deed is an opening
 abbrev pub is_opened : Deed → Bool
 is_opened Opened = true
 is_opened _ = false
 
+-- it is so exactly for that deed
 pub opened_decides : (deed : Deed) → Decides (is_opened deed) (deed ≡ Opened)
 opened_decides Opened = (λ yes. refl, λ is. refl)
 opened_decides _ = (λ yes. cc, λ is. cc)
 
+-- whether the deed is a closing
 abbrev pub is_closed : Deed → Bool
 is_closed Closed = true
 is_closed _ = false
 
+-- it is so exactly for that deed
 pub closed_decides : (deed : Deed) → Decides (is_closed deed) (deed ≡ Closed)
 closed_decides Closed = (λ yes. refl, λ is. refl)
 closed_decides _ = (λ yes. cc, λ is. cc)
 
+-- whether the deed authorises the session, at whichever booth
 abbrev pub authorises : ℕ → Deed → Bool
 authorises session (Authorise booth s) = s == session
 authorises session _ = false
 
+-- it is so exactly for such deeds
 pub authorises_decides : (session : ℕ) (deed : Deed) → Decides (authorises session deed) (Authorises session deed)
 authorises_decides session (Authorise booth s) =
     let same = Decides-eqb s session in
     (λ yes. (booth, ap (λ n. Authorise booth n) (same.0 yes)), λ is. same.1 (cc (is.1)))
 authorises_decides session _ = (λ yes. cc, λ is. cc (is.1))
 
+-- whether the deed authorises the session at this booth
 abbrev pub authorises_booth : ℕ → ℕ → Deed → Bool
 authorises_booth booth session (Authorise b s) = (b == booth) && (s == session)
 authorises_booth booth session _ = false
 
+-- it is so exactly for that deed
 pub authorises_booth_decides : (booth session : ℕ) (deed : Deed)
     → Decides (authorises_booth booth session deed) (deed ≡ Authorise booth session)
 authorises_booth_decides booth session (Authorise b s) =
@@ -87,10 +97,12 @@ authorises_booth_decides booth session (Authorise b s) =
     (λ yes. let both = same.0 yes in cc (both.0, both.1), λ is. same.1 (cc, cc))
 authorises_booth_decides booth session _ = (λ yes. cc, λ is. cc)
 
+-- whether the deed overrides the session, with whichever word
 abbrev pub overrides : ℕ → Deed → Bool
 overrides session (Override s how) = s == session
 overrides session _ = false
 
+-- it is so exactly for such deeds
 pub overrides_decides : (session : ℕ) (deed : Deed) → Decides (overrides session deed) (Overrides session deed)
 overrides_decides session (Override s how) =
     let same = Decides-eqb s session in
@@ -104,16 +116,19 @@ is_word word.Cancel word.Cast = false
 is_word word.Cast word.Cancel = false
 is_word word.Cast word.Cast = true
 
+-- the test decides whether they are one
 pub word_decides : (one other : How) → Decides (is_word one other) (one ≡ other)
 word_decides word.Cancel word.Cancel = (λ yes. refl, λ is. refl)
 word_decides word.Cancel word.Cast = (λ yes. cc, λ is. cc)
 word_decides word.Cast word.Cancel = (λ yes. cc, λ is. cc)
 word_decides word.Cast word.Cast = (λ yes. refl, λ is. refl)
 
+-- whether the deed overrides the session with this word
 abbrev pub overrides_by : ℕ → How → Deed → Bool
 overrides_by session how (Override s h) = (s == session) && is_word h how
 overrides_by session how _ = false
 
+-- it is so exactly for that deed
 pub overrides_by_decides : (session : ℕ) (how : How) (deed : Deed)
     → Decides (overrides_by session how deed) (deed ≡ Override session how)
 overrides_by_decides session how (Override s h) =
@@ -121,30 +136,36 @@ overrides_by_decides session how (Override s h) =
     (λ yes. let both = same.0 yes in cc (both.0, both.1), λ is. same.1 (cc, cc))
 overrides_by_decides session how _ = (λ yes. cc, λ is. cc)
 
+-- whether the deed activates the session
 abbrev pub activates : ℕ → Deed → Bool
 activates session (Activate s) = s == session
 activates session _ = false
 
+-- it is so exactly for that deed
 pub activates_decides : (session : ℕ) (deed : Deed) → Decides (activates session deed) (deed ≡ Activate session)
 activates_decides session (Activate s) =
     let same = Decides-eqb s session in
     (λ yes. ap Activate (same.0 yes), λ is. same.1 (cc))
 activates_decides session _ = (λ yes. cc, λ is. cc)
 
+-- whether the deed commits to a ballot in the session
 abbrev pub commits : ℕ → Deed → Bool
 commits session (Commit s ballot) = s == session
 commits session _ = false
 
+-- it is so exactly for such deeds
 pub commits_decides : (session : ℕ) (deed : Deed) → Decides (commits session deed) (Commits session deed)
 commits_decides session (Commit s ballot) =
     let same = Decides-eqb s session in
     (λ yes. (ballot, ap (λ n. Commit n ballot) (same.0 yes)), λ is. same.1 (cc (is.1)))
 commits_decides session _ = (λ yes. cc, λ is. cc (is.1))
 
+-- whether the deed commits to this ballot in the session
 abbrev pub commits_to : ℕ → List ℕ → Deed → Bool
 commits_to session ballot (Commit s x) = (s == session) && bytes_eq x ballot
 commits_to session ballot _ = false
 
+-- it is so exactly for that deed
 pub commits_to_decides : (session : ℕ) (ballot : List ℕ) (deed : Deed)
     → Decides (commits_to session ballot deed) (deed ≡ Commit session ballot)
 commits_to_decides session ballot (Commit s x) =
@@ -152,12 +173,14 @@ commits_to_decides session ballot (Commit s x) =
     (λ yes. let both = same.0 yes in cc (both.0, both.1), λ is. same.1 (cc, cc))
 commits_to_decides session ballot _ = (λ yes. cc, λ is. cc)
 
+-- whether the deed ends the session
 abbrev pub ends : ℕ → Deed → Bool
 ends session (Cast s ballot) = s == session
 ends session (Cancel s) = s == session
 ends session (Challenge s ballot) = s == session
 ends session _ = false
 
+-- it is so exactly for a Cast, a Cancel and a Challenge of the session
 pub ends_decides : (session : ℕ) (deed : Deed) → Decides (ends session deed) (Ends session deed)
 ends_decides session (Cast s ballot) =
     let same = Decides-eqb s session in (
@@ -191,10 +214,13 @@ ends_decides session _ = (
   ],
 )
 
+-- whether some entry ends the session
 abbrev pub has_ended : List Entry → ℕ → Bool
 has_ended entries session = list_any (λ entry. ends session entry.deed) entries
 
-pub ended_decides : (entries : List Entry) (session : ℕ) → Decides (has_ended entries session) (HasEnded entries session)
+-- it is so exactly where the session has ended
+pub ended_decides : (entries : List Entry) (session : ℕ)
+    → Decides (has_ended entries session) (HasEnded entries session)
 ended_decides entries session = holds_decides (ends session) (Ends session) (ends_decides session) entries
 
 -- of each row of tests one answer is the first

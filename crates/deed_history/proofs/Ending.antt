@@ -24,6 +24,7 @@ cast_ends entry session ballot is s = (
   ],
 )
 
+-- so does a Cancel
 pub cancel_ends : (entry : Entry) (session : ℕ) → entry.deed ≡ Cancel session → (s : ℕ) →
     (session ≡ s) ↔ Ends s entry.deed
 cancel_ends entry session is s = (
@@ -34,6 +35,7 @@ cancel_ends entry session is s = (
   ],
 )
 
+-- and a Challenge
 pub challenge_ends : (entry : Entry) (session : ℕ) (ballot : List ℕ) → entry.deed ≡ Challenge session ballot →
     (s : ℕ) → (session ≡ s) ↔ Ends s entry.deed
 challenge_ends entry session ballot is s = (

@@ -14,11 +14,13 @@ IsOwnSuch owner IsSuch entry = (entry.maker ≡ owner) × IsSuch entry.deed
 abbrev pub IsSuchEntry : (Deed → Type 0) → Entry → Type 0
 IsSuchEntry IsSuch entry = IsSuch entry.deed
 
+-- what holds of one of the entries holds of one with another behind them
 pub any_kept : {X : Type 0} (P : X → Type 0) (xs : List X) (x : X) → Any P xs → Any P (xs ++ x ∷ [])
 any_kept P xs x (k, y, within, is, holds) =
     let at : Contains (xs ++ x ∷ []) y = Contains-append_left xs (x ∷ []) y (k, within, is) in
     (at.0, y, at.1, at.2, holds)
 
+-- what holds of one of them with another behind holds of one of them or of that
 pub any_cases : {X : Type 0} (P : X → Type 0) (xs : List X) (x : X) → Any P (xs ++ x ∷ []) → Any P xs ⊎ P x
 any_cases P xs x (k, y, within, is, holds) =
     elim (Contains-push_cases xs x y (k, within, is)) [

@@ -19,9 +19,11 @@ is_member xs x = (
   λ at. list_any-from_Any (λ y. nat_eq y x) xs (at.0, x, at.1, at.2, eq-eqb x x refl),
 )
 
+-- the first member is one of the list
 first_in : {X : Type 0} (y : X) (xs : List X) → Contains (y ∷ xs) y
 first_in y xs = (0, omega arith, refl)
 
+-- a member is the first or one of the others
 in_cons : {X : Type 0} (y : X) (xs : List X) (x : X) → Contains (y ∷ xs) x → (y ≡ x) ⊎ Contains xs x
 in_cons y xs x at = elim (Contains-append_cases (y ∷ []) xs x at) [
   | inl first ↦ elim (Contains-push_cases [] y x first) [ inl none ↦ absurd (omega arith) | inr same ↦ inl same ]
@@ -47,6 +49,7 @@ is_kept_by p y xs x false is rest = (
   λ at. elim (in_cons y xs x at.0) [ inl same ↦ absurd (cc (at.1)) | inr later ↦ rest.1 (later, at.1) ],
 )
 
+-- a member of the filtered list is one of the list that passes
 pub is_kept : {X : Type 0} (p : X → Bool) (xs : List X) (x : X) →
     Contains (filter p xs) x ↔ (Contains xs x × (p x ≡ true))
 is_kept p [] x = (λ at. absurd (omega arith), λ at. at.0)

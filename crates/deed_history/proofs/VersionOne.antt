@@ -18,6 +18,7 @@ any_alike R P Q xs all alike = (
   λ any. (any.0, any.1, any.2, any.3, (alike any.1 (subst R any.3 (all any.0 any.1 any.2))).1 any.4),
 )
 
+-- what is 1 isn't 2
 not_2 : (n : ℕ) → n ≡ 1 → n ≡ 2 → ⊥
 not_2 n one two = omega arith
 
@@ -25,9 +26,11 @@ not_2 n one two = omega arith
 pub no_challenge : (deed : Deed) (session : ℕ) (ballot : List ℕ) → IsDeedIn 1 deed → deed ≡ Challenge session ballot → ⊥
 no_challenge deed session ballot in_version is = not_2 1 refl (subst (IsDeedIn 1) is in_version)
 
+-- no override of version 1 says cast
 pub no_cast_override : (deed : Deed) (session : ℕ) → IsDeedIn 1 deed → deed ≡ Override session word.Cast → ⊥
 no_cast_override deed session in_version is = not_2 1 refl (subst (IsDeedIn 1) is in_version)
 
+-- a deed of version 1 ends a session exactly where the table of version 1 says so
 pub ends_alike : (deed : Deed) (session : ℕ) → IsDeedIn 1 deed → Ends session deed ↔ EndsInVersion1 session deed
 ends_alike deed session in_version = (
   λ ends. elim ends [
@@ -40,11 +43,13 @@ ends_alike deed session in_version = (
   λ ends. elim ends [ inl cast ↦ inl cast | inr cancel ↦ inr (inl cancel) ],
 )
 
+-- an override of version 1 says cancel
 says_cancel : (deed : Deed) (session : ℕ) (how : How) → IsDeedIn 1 deed → deed ≡ Override session how →
     deed ≡ Override session word.Cancel
 says_cancel deed session word.Cancel in_version is = is
 says_cancel deed session word.Cast in_version is = absurd (no_cast_override deed session in_version is)
 
+-- so to override is to override by cancelling
 pub overrides_alike : (deed : Deed) (session : ℕ) → IsDeedIn 1 deed →
     Overrides session deed ↔ (deed ≡ Override session word.Cancel)
 overrides_alike deed session in_version =
@@ -57,6 +62,7 @@ IsAlike [] (other ∷ others) = ⊥
 IsAlike (cause ∷ row) [] = (cause.0 → ⊥) × IsAlike row []
 IsAlike (cause ∷ row) (other ∷ others) = (cause.0 ↔ other.0) × (cause.1 ≡ other.1) × IsAlike row others
 
+-- the first cause of the one row is the first of the other
 first_to : {Cause : Type 0} (row others : List (Type 0 × Cause)) (answer : Result (Unit {0}) Cause) →
     IsAlike row others → IsFirstOf row answer → IsFirstOf others answer
 first_to [] [] answer alike first = first
@@ -67,6 +73,7 @@ first_to (cause ∷ row) (other ∷ others) answer alike (inl here) = inl (alike
 first_to (cause ∷ row) (other ∷ others) answer alike (inr later) =
     inr (λ applies. later.0 (alike.0.1 applies), first_to row others answer alike.2 later.1)
 
+-- and the other way round
 first_from : {Cause : Type 0} (row others : List (Type 0 × Cause)) (answer : Result (Unit {0}) Cause) →
     IsAlike row others → IsFirstOf others answer → IsFirstOf row answer
 first_from [] [] answer alike first = first
@@ -77,6 +84,7 @@ first_from (cause ∷ row) (other ∷ others) answer alike (inl here) =
 first_from (cause ∷ row) (other ∷ others) answer alike (inr later) =
     inr (λ applies. later.0 (alike.0.0 applies), first_from row others answer alike.2 later.1)
 
+-- so both rows have the same first cause
 pub first_alike : {Cause : Type 0} (row others : List (Type 0 × Cause)) (answer : Result (Unit {0}) Cause) →
     IsAlike row others → IsFirstOf row answer ↔ IsFirstOf others answer
 first_alike row others answer alike = (first_to row others answer alike, first_from row others answer alike)
@@ -86,6 +94,7 @@ abbrev pub IsNoneOf : {Cause : Type 0} → List (Type 0 × Cause) → Cause → 
 IsNoneOf [] cause = Unit {0}
 IsNoneOf (other ∷ others) cause = (cause ≡ other.1 → ⊥) × IsNoneOf others cause
 
+-- a cause that a row doesn't have is never its first
 pub never_told : {Cause : Type 0} (row : List (Type 0 × Cause)) (cause : Cause) → IsNoneOf row cause →
     IsFirstOf row (Err cause) → ⊥
 never_told [] cause none first = cc

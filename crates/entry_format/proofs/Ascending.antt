@@ -33,6 +33,7 @@ ascends (d ∷ e ∷ ds) rises =
     (λ (k : ℕ) (within : suc k < length (e ∷ ds)). rises (suc k) (omega arith)) in
     (later_is_above d e ds (rises 0 (omega arith)) rest, rest)
 
+-- in ascending digests each is below the one behind it
 pub ascends_at : (ds : List (List ℕ)) (k : ℕ) → IsAscending ds → suc k < length ds →
     slice_cmp nat_cmp (get_or ds k []) (get_or ds (suc k) []) ≡ Less
 ascends_at [] k h within = absurd (omega arith)

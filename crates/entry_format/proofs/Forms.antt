@@ -79,6 +79,7 @@ only_not_canonical text WrongIndex h not = absurd h
 only_not_canonical text BadSignature h not = absurd h
 only_not_canonical text Memory h not = absurd h
 
+-- a canonical text without the form has that fault alone
 only_wrong_shape : (text : List ℕ) (fault : EntryFault) → IsFormFault text fault → IsCanonical text →
     (HasForm text → ⊥) → fault ≡ WrongShape
 only_wrong_shape text NotCanonical h is not = absurd (h is)
@@ -90,6 +91,7 @@ only_wrong_shape text WrongIndex h is not = absurd h
 only_wrong_shape text BadSignature h is not = absurd h
 only_wrong_shape text Memory h is not = absurd h
 
+-- a text with the form can only have names that don't rise
 only_not_rising : (text : List ℕ) (fault : EntryFault) → IsFormFault text fault → HasForm text → fault ≡ NamesNotRising
 only_not_rising text NotCanonical h form = absurd (h (is_canonical text form))
 only_not_rising text WrongShape h form = absurd (h.1 form)
@@ -112,6 +114,7 @@ one_fault text fault WrongIndex h k = absurd k
 one_fault text fault BadSignature h k = absurd k
 one_fault text fault Memory h k = absurd k
 
+-- an entry with its signature, as it is read
 abbrev plain_with : Entry → List ℕ → Plain
 plain_with entry digest = record { entry = entry; digest = digest }
 

@@ -12,6 +12,7 @@ use Rattle.lms_sign.specs.Signs.{HasTypes, Signs}
 use Rattle.roster.specs.declared.post.Post.{Post}
 use Rattle.entry_format.specs.Unsealing.{key_at}
 
+-- the answer for what is no key
 abbrev refused : KeyFault → Result (List ℕ) KeyFault
 refused fault = Err fault
 
@@ -45,6 +46,7 @@ one_time_short W2 = omega arith
 one_time_short W4 = omega arith
 one_time_short W8 = omega arith
 
+-- a signature under a tree of 5 or 10 levels has at most 8,844 octets
 length_small : (n one_time h : ℕ) → one_time ≤ 8516 → n ≡ 4 + one_time + 4 + 32 * h → (h ≡ 5) ⊎ (h ≡ 10) → n ≤ 8844
 length_small n one_time h short is (inl five) = omega arith
 length_small n one_time h short is (inr ten) = omega arith
@@ -55,6 +57,7 @@ signature_small key message signature signs =
     length_small (length signature) (signature_len signs.kind) signs.height (one_time_short signs.kind)
     signs.signs.size signs.types.height
 
+-- a signature has at least the four octets of its index
 pub signature_some : (key message signature : List ℕ) → Signs key message signature → 4 ≤ length signature
 signature_some key message signature signs =
     let size : length signature ≡ 4 + signature_len signs.kind + 4 + 32 * signs.height = signs.signs.size in

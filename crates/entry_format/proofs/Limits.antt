@@ -42,6 +42,7 @@ body_fits entry signature h = (omega arith, h.2.1.1, deeper 6 7 (members_in (bod
 short : (n : ℕ) → n < 2 ^ 32 → length (decimal n) ≤ 262144
 short n small = omega (arith, length-decimal-le_20 n (omega arith))
 
+-- a digest is short enough for an atom
 octets_short : (digest : List ℕ) → IsDigest digest → length digest ≤ 262144
 octets_short digest is = omega arith
 
@@ -55,6 +56,7 @@ override_within false session how.Cancel h =
 override_within false session how.Cast h =
     (omega arith, omega arith, (omega arith, (short session h, (omega arith, tt))))
 
+-- the tree of any deed is within the limits
 deed_within : (version : ℕ) (deed : Deed) → IsDeed deed → IsWithin 6 (deed_tree version deed)
 deed_within version Opened h = (omega arith, omega arith, (omega arith, tt))
 deed_within version (Authorise booth session) h =
@@ -70,6 +72,7 @@ deed_within version (Cancel session) h = (omega arith, omega arith, (omega arith
 deed_within version (Challenge session ballot) h =
     (omega arith, omega arith, (omega arith, (short session h.0, (octets_short ballot h.1, tt))))
 
+-- the list of an entry's names is within the limits
 names_within : (names : List (List ℕ)) → All IsDigest names → AreWithin 5 (forest_of (map Atom names))
 names_within [] all = tt
 names_within (name ∷ names) all =

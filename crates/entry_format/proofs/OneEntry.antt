@@ -101,7 +101,9 @@ is_later : (version session : ℕ) (part : How) → IsDeedIn version (Override s
 is_later version session how.Cancel has is = absurd cc
 is_later version session how.Cast has is = ap (λ v. v == 1) has
 
-deed_back : (version : ℕ) (deed : Deed) → IsDeed deed → IsDeedIn version deed → deed_from (deed_tree version deed) ≡ deed
+-- a deed comes back from its tree
+deed_back : (version : ℕ) (deed : Deed) → IsDeed deed → IsDeedIn version deed
+    → deed_from (deed_tree version deed) ≡ deed
 deed_back version Opened h has = refl
 deed_back version (Authorise booth session) h has =
     ap (λ b. Authorise b (number_from 0 (decimal session))) (number_back booth h.0)
@@ -118,7 +120,8 @@ deed_back version (Challenge session ballot) h has = ap (λ s. Challenge s ballo
 -- a deed has one tree
 one_deed : (v w : ℕ) (deed other : Deed) → IsDeed deed → IsDeedIn v deed → IsDeed other → IsDeedIn w other →
     deed_tree v deed ≡ deed_tree w other → deed ≡ other
-one_deed v w deed other h has k likewise e = sym (deed_back v deed h has) ∙ ap deed_from e ∙ deed_back w other k likewise
+one_deed v w deed other h has k likewise e = sym (deed_back v deed h has) ∙ ap deed_from e
+    ∙ deed_back w other k likewise
 
 -- lists with the same members
 pub same_members : (trees others : List Sexp) → list_of trees ≡ list_of others → trees ≡ others
@@ -180,6 +183,7 @@ one_body entry other h k e =
     (one_number entry.stamp other.stamp h.stamp k.stamp stamp) (one_names entry.names other.names names)
     (one_deed entry.version other.version entry.deed other.deed h.deed h.of_version k.deed k.of_version deed)
 
+-- the members of a signed entry: the word, the body and the signature
 abbrev signed_members : Sexp → List ℕ → List Sexp
 signed_members body signature = Atom (codes "sealed") ∷ body ∷ Atom signature ∷ []
 

@@ -56,12 +56,15 @@ pub how_no_digest : (how : How) (digest : List ℕ) → IsDigest digest → dige
 how_no_digest how.Cancel digest is e = omega (arith, ap length e)
 how_no_digest how.Cast digest is e = omega (arith, ap length e)
 
+-- nor is it a number in decimal
 pub how_no_number : (how : How) (number : ℕ) → number < 2 ^ 32 → decimal number ≡ how_word how → ⊥
-how_no_number how.Cancel number small e = let are = subst AreDigits e (decimal_digits number (omega arith)) in omega arith
+how_no_number how.Cancel number small e = let are = subst AreDigits e (decimal_digits number (omega arith)) in
+    omega arith
 how_no_number how.Cast number small e = let are = subst AreDigits e (decimal_digits number (omega arith)) in omega arith
 
 -- an override's tree has no second number
-override_no_number : (is_first : Bool) (part : How) (word second : List ℕ) (first session number : ℕ) → number < 2 ^ 32 →
+override_no_number : (is_first : Bool) (part : How) (word second : List ℕ) (first session number : ℕ)
+    → number < 2 ^ 32 →
     second ≡ decimal number →
     list_of (Atom word ∷ number_atom first ∷ Atom second ∷ [])
     ≡ list_of (Atom (codes "override") ∷ number_atom session
@@ -135,6 +138,7 @@ head_in entry = record {
   stamp = entry.stamp;
 }
 
+-- what stands in a body behind its head: the names and the deed
 abbrev pub behind_head : Entry → Forest
 behind_head entry = forest_of (list_of (map Atom entry.names) ∷ deed_tree entry.version entry.deed ∷ [])
 

@@ -23,6 +23,7 @@ below le lt = omega arith
 
 -- the first fault of an entry that is of another election, of an unknown maker, of another index, and badly signed
 module _ (machines : List Post) (election : List ℕ) (entry : Entry) (signature : List ℕ) where
+  -- an entry of another election has that fault alone
   only_other_election : (fault : EntryFault) → IsEntryFault machines election entry signature fault →
       (entry.election ≢ election) → fault ≡ OtherElection
   only_other_election NotCanonical h other = absurd h
@@ -34,6 +35,7 @@ module _ (machines : List Post) (election : List ℕ) (entry : Entry) (signature
   only_other_election BadSignature h other = absurd (other h.0)
   only_other_election Memory h other = absurd h
 
+  -- one of this election whose maker isn't in the roster has that fault alone
   only_unknown_maker : (fault : EntryFault) → IsEntryFault machines election entry signature fault →
       (entry.election ≡ election) → (length machines ≤ entry.maker) → fault ≡ UnknownMaker
   only_unknown_maker NotCanonical h same unknown = absurd h
@@ -45,6 +47,7 @@ module _ (machines : List Post) (election : List ℕ) (entry : Entry) (signature
   only_unknown_maker BadSignature h same unknown = absurd (below unknown h.1)
   only_unknown_maker Memory h same unknown = absurd h
 
+  -- one of a known maker whose signature has another index has that fault alone
   only_wrong_index : (fault : EntryFault) → IsEntryFault machines election entry signature fault →
       (entry.election ≡ election) → (entry.maker < length machines) → (HasIndex signature entry.number → ⊥) →
       fault ≡ WrongIndex
@@ -57,6 +60,7 @@ module _ (machines : List Post) (election : List ℕ) (entry : Entry) (signature
   only_wrong_index BadSignature h same known wrong = absurd (wrong h.2)
   only_wrong_index Memory h same known wrong = absurd h
 
+  -- one with the right index can only be badly signed
   only_bad_signature : (fault : EntryFault) → IsEntryFault machines election entry signature fault →
       (entry.election ≡ election) → (entry.maker < length machines) → HasIndex signature entry.number →
       fault ≡ BadSignature
@@ -141,6 +145,7 @@ one_fault_of_text machines election text fault other (inr (entry, signature, for
     one_entry_fault machines election entry signature fault other bad
     (same_fault machines election entry2 entry signature2 signature other same bad2)
 
+-- a sealed entry of these parts
 abbrev sealed_with : Entry → List ℕ → List ℕ → List ℕ → List ℕ → SealedEntry
 sealed_with entry signature text digest key =
     record { entry = entry; signature = signature; text = text; digest = digest; key = key }

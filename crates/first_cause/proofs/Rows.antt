@@ -15,6 +15,7 @@ rest_from : {Cause : Type 0} (row : List (Bool × Cause)) (i : ℕ) (test : Bool
     test ≡ get_or row i test → test ∷ drop (i + 1) row ≡ drop i row
 rest_from row i test within is = ap (λ t. t ∷ drop (i + 1) row) is ∙ sym (drop_more row i test within)
 
+-- a test that fails leaves the rest of the row to decide
 pub decided_more : {Cause : Type 0} (row : List (Bool × Cause)) (i : ℕ) (test : Bool × Cause) → i < length row →
     test ≡ get_or row i test → test.0 ≡ false → IsDecidedFrom row i → IsDecidedFrom row (i + 1)
 decided_more {Cause} row i test within is untrue before = λ answer after.
@@ -22,6 +23,7 @@ decided_more {Cause} row i test within is untrue before = λ answer after.
     let P : List (Bool × Cause) → Type 0 = λ rest. IsFirstOf (tests_of rest) answer in
     before answer (subst P (rest_from row i test within is) (inr (not_true, after)))
 
+-- a test that holds behind such ones tells the first cause
 pub decided_here : {Cause : Type 0} (row : List (Bool × Cause)) (i : ℕ) (test : Bool × Cause) → i < length row →
     test ≡ get_or row i test → test.0 ≡ true → IsDecidedFrom row i → IsFirstOf (tests_of row) (Err test.1)
 decided_here {Cause} row i test within is holds before =
@@ -29,6 +31,7 @@ decided_here {Cause} row i test within is holds before =
     let P : List (Bool × Cause) → Type 0 = λ rest. IsFirstOf (tests_of rest) answer in
     before answer (subst P (rest_from row i test within is) (inl (holds, refl)))
 
+-- where no test of the row holds there is no cause
 pub decided_whole : {Cause : Type 0} (row : List (Bool × Cause)) (i : ℕ) → length row ≤ i → IsDecidedFrom row i →
     IsFirstOf (tests_of row) (Ok tt)
 decided_whole {Cause} row i over before =

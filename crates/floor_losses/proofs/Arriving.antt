@@ -20,10 +20,12 @@ other_number loss from number to differs =
     and_right (loss.from == from) ((loss.number == number) && (loss.to == to))
     (and_left (loss.number == number) (loss.to == to) (ne_eqb loss.number number differs))
 
+-- so is a loss of another maker
 pub other_from : (loss : Loss) (from number to : ℕ) → loss.from ≢ from → is_of from number to loss ≡ false
 other_from loss from number to differs =
     and_left (loss.from == from) ((loss.number == number) && (loss.to == to)) (ne_eqb loss.from from differs)
 
+-- and one on the way to another machine
 pub other_to : (loss : Loss) (from number to : ℕ) → loss.to ≢ to → is_of from number to loss ≡ false
 other_to loss from number to differs =
     and_right (loss.from == from) ((loss.number == number) && (loss.to == to))
@@ -52,6 +54,7 @@ lost_push losses loss from number to other =
     ∙ ap (λ b. is_lost losses from number to || (b || false)) other
     ∙ elim (is_lost losses from number to) as (λ b. (b || (false || false)) ≡ b) [ true ↦ refl | false ↦ refl ]
 
+-- a loss of this entry on this way makes it lost
 pub lost_now : (losses : List Loss) (loss : Loss) (from number to : ℕ) → is_of from number to loss ≡ true →
     is_lost (losses ++ loss ∷ []) from number to ≡ true
 lost_now losses loss from number to is =
@@ -73,6 +76,7 @@ module _ {T : Type 0} (node : T → Node) where
       filter-append (λ e. not (is_lost losses from (node e).number to)) es (e ∷ [])
       ∙ ap (λ b. arriving node losses from to es ++ cond (not b) (e ∷ []) []) here
 
+  -- an entry more that is lost doesn't arrive
   pub arriving_lost : (losses : List Loss) (from to : ℕ) (es : List T) (e : T) →
       is_lost losses from (node e).number to ≡ true →
       arriving node losses from to (es ++ e ∷ []) ≡ arriving node losses from to es

@@ -14,6 +14,7 @@ use Rattle.entry_order.specs.History.{sent}
 use Rattle.entry_order.specs.World.{history}
 use Rattle.floor_losses.specs.Losses.{got_from}
 
+-- what differs from another loss the other differs from
 pub differ_sym : (a b : Loss) → Differ a b → Differ b a
 differ_sym a b apart =
     elim (cases_Bool (is_of b.from b.number b.to a)) [
@@ -46,6 +47,7 @@ once_append xs ys first second across i j d lt within =
           ])
     ]
 
+-- where all other losses differ from one of this entry, no other is of it
 none_left : (x : Loss) (xs : List Loss) (from number to : ℕ) → is_of from number to x ≡ true →
     ((j : ℕ) (d : Loss) → j < length xs → Differ x (get_or xs j d)) → times_lost xs from number to ≡ 0
 none_left x [] from number to is apart = refl

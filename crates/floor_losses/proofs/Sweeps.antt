@@ -24,6 +24,7 @@ use Rattle.floor_losses.proofs.Arriving.{other_from, other_to, lost_push, arrivi
 holds_read : {X : Type 0} (xs : List X) (k : ℕ) (x : X) → HoldsAt (λ y. y ≡ x) xs k → get_or xs k x ≡ x
 holds_read xs k x h = h x
 
+-- one and a number is the next number
 one_plus : (n : ℕ) → 1 + n ≡ suc n
 one_plus n = omega arith
 
@@ -45,6 +46,7 @@ module _ {T : Type 0} (node : T → Node) where
       let m = ap (λ (y : T). (node y).number) here in
       absurd (omega arith)
 
+  -- so what stands behind it is another entry
   pub behind_greater : (heard rest : List T) (e : T) → AreRising (heard ++ e ∷ rest) → (x : T) → Contains rest x →
       (node x).number ≢ (node e).number
   behind_greater heard rest e rises x c s =
@@ -69,25 +71,30 @@ module _ {T : Type 0} (node : T → Node) where
         | inr none ↦ (let n = none.0 in absurd (omega arith))
       ]
 
+  -- the other histories stay as they are
   pub history_other : (w : World T) (m n : ℕ) (x : Event T) → n ≢ m →
       history (with_machine m (append x) w) n ≡ history w n
   history_other w m n x differs = ap history_of (get_other m n (append x) w differs)
 
+  -- what is got comes behind what was got before
   got-push : (h : List (Event T)) (x : T) → got (h ++ Got x ∷ []) ≡ got h ++ x ∷ []
   got-push [] x = refl
   got-push (Sent e ∷ h) x = got-push h x
   got-push (Got e ∷ h) x = ap (λ l. e ∷ l) (got-push h x)
 
+  -- what was sent isn't got
   got-sent : (h : List (Event T)) (x : T) → got (h ++ Sent x ∷ []) ≡ got h
   got-sent [] x = refl
   got-sent (Sent e ∷ h) x = got-sent h x
   got-sent (Got e ∷ h) x = ap (λ l. e ∷ l) (got-sent h x)
 
+  -- what is sent comes behind what was sent before
   sent-push : (h : List (Event T)) (x : T) → sent (h ++ Sent x ∷ []) ≡ sent h ++ x ∷ []
   sent-push [] x = refl
   sent-push (Sent e ∷ h) x = ap (λ l. e ∷ l) (sent-push h x)
   sent-push (Got e ∷ h) x = sent-push h x
 
+  -- what was got isn't sent
   sent-got : (h : List (Event T)) (x : T) → sent (h ++ Got x ∷ []) ≡ sent h
   sent-got [] x = refl
   sent-got (Sent e ∷ h) x = ap (λ l. e ∷ l) (sent-got h x)

@@ -8,6 +8,7 @@ use Rattle.hex.specs.Hex.{decode_sized, decode_of, encode_lower, lower_digits}
 use Rattle.hex.proofs.HexLemmas.{length-encode_with, decode_of-encode_lower, decode_sized-twice}
 use Rattle.hall_text.specs.Words.{IsDigestText}
 
+-- the text of a digest is 64 digits that are decoded as its 32 bytes
 pub digest_decodes : (word digest : List ℕ) → IsDigestText word digest → decode_sized word 32 ≡ Ok digest
 digest_decodes word digest is =
     let size : length (encode_lower digest) ≡ 2 * length digest = length-encode_with lower_digits digest in

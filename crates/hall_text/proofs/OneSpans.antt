@@ -11,9 +11,11 @@ use Rattle.hall_text.specs.Spans.{AreAll}
 abbrev pub StandsBefore : Span → Span → Type 0
 StandsBefore a b = a.start < b.start
 
+-- the first span is among them
 pub first_among : (s : Span) (spans : List Span) → Contains (s ∷ spans) s
 first_among s spans = Contains-append_left (s ∷ []) spans s (Contains-push [] s)
 
+-- a span of the list is the first or one of the others
 pub behind_first : (a s : Span) (spans : List Span) → Contains (a ∷ spans) s → (a ≡ s) ⊎ Contains spans s
 behind_first a s spans among =
     ⊎_elim (λ (h : Contains (a ∷ []) s).
@@ -22,9 +24,11 @@ behind_first a s spans among =
     (λ (h : Contains spans s). inr h)
     (Contains-append_cases (a ∷ []) spans s among)
 
+-- without the first, spans in order are in order
 pub tail_ordered : (a : Span) (spans : List Span) → AllPairs StandsBefore (a ∷ spans) → AllPairs StandsBefore spans
 tail_ordered a spans ordered i j d lt within = ordered (suc i) (suc j) d (omega arith) (omega arith)
 
+-- the first of spans in order begins before the others
 pub first_is_before : (a s : Span) (spans : List Span) → AllPairs StandsBefore (a ∷ spans) → Contains spans s
     → a.start < s.start
 first_is_before a s spans ordered among =

@@ -20,10 +20,13 @@ same_spans P Q spans same all = record {
 pub one_span_more : (P Q : Span → Type 0) (spans : List Span) (new : Span) → AreAll P spans
     → ((s : Span) → P s → s.start < new.start) → ((s : Span) → Q s ↔ (P s ⊎ (new ≡ s))) → AreAll Q (spans ++ new ∷ [])
 one_span_more P Q spans new all later same = record {
-  ordered = all_pairs_push (λ (a b : Span). a.start < b.start) spans new all.ordered (λ k d within. later (get_or spans k d) ((all.exactly (get_or spans k d)).0 (Contains-get_or spans k d within)));
+  ordered = all_pairs_push (λ (a b : Span). a.start < b.start) spans new all.ordered
+      (λ k d within. later (get_or spans k d) ((all.exactly (get_or spans k d)).0 (Contains-get_or spans k d within)));
   exactly = λ s. (
-    λ among. (same s).1 (⊎_elim (λ (old : Contains spans s). inl ((all.exactly s).0 old)) (λ (is : new ≡ s). inr is) (Contains-push_cases spans new s among)),
-    λ is. ⊎_elim (λ (old : P s). Contains-append_left spans (new ∷ []) s ((all.exactly s).1 old)) (λ (e : new ≡ s). subst (λ x. Contains (spans ++ new ∷ []) x) e (Contains-push spans new)) ((same s).0 is),
+    λ among. (same s).1 (⊎_elim (λ (old : Contains spans s). inl ((all.exactly s).0 old)) (λ (is : new ≡ s). inr is)
+        (Contains-push_cases spans new s among)),
+    λ is. ⊎_elim (λ (old : P s). Contains-append_left spans (new ∷ []) s ((all.exactly s).1 old))
+        (λ (e : new ≡ s). subst (λ x. Contains (spans ++ new ∷ []) x) e (Contains-push spans new)) ((same s).0 is),
   );
 }
 

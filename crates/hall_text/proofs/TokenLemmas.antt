@@ -15,29 +15,42 @@ module _ (text : List ℕ) where
   abbrev pub IsTokenBefore : ℕ → Span → Type 0
   IsTokenBefore at s = IsToken text s × (s.start < at)
 
+  -- a token has a byte at least, and ends within the text
   pub some_bytes : (s : Span) → IsToken text s → (s.start < s.end) × (s.end ≤ length text)
-  some_bytes s token = ⊎_elim (λ (w : IsWord text s). (w.some, w.inside)) (λ (a : IsAlone text s). (omega (arith, a.one), a.inside)) token
+  some_bytes s token = ⊎_elim (λ (w : IsWord text s). (w.some, w.inside))
+      (λ (a : IsAlone text s). (omega (arith, a.one), a.inside)) token
 
   -- two tokens that begin at one place are one
-  pub same_end : (s : Span) (start end : ℕ) → IsToken text s → s.start ≡ start → IsToken text (record { start = start; end = end }) → record { start = start; end = end } ≡ s
+  pub same_end : (s : Span) (start end : ℕ) → IsToken text s → s.start ≡ start
+      → IsToken text (record { start = start; end = end }) → record { start = start; end = end } ≡ s
   same_end s start end token begins other =
       let new : Span = record { start = start; end = end } in
       let ends : end ≡ s.end =
       ⊎_elim
       (λ (w : IsWord text s). ⊎_elim
       (λ (v : IsWord text new).
-      ⊎_elim (λ (lt : s.end < end). absurd (w.ends (let i : end ≤ length text = v.inside in omega arith) (v.bytes s.end (let o : s.start < s.end = w.some in omega arith) lt)))
-      (λ (ge : end ≤ s.end). ⊎_elim (λ (gt : end < s.end). absurd (v.ends (let i : s.end ≤ length text = w.inside in omega arith) (w.bytes end (let o : start < end = v.some in omega arith) gt)))
+      ⊎_elim (λ (lt : s.end < end). absurd
+      (w.ends (let i : end ≤ length text = v.inside in omega arith)
+      (v.bytes s.end (let o : s.start < s.end = w.some in omega arith) lt)))
+      (λ (ge : end ≤ s.end). ⊎_elim (λ (gt : end < s.end). absurd
+      (v.ends (let i : s.end ≤ length text = w.inside in omega arith)
+      (w.bytes end (let o : start < end = v.some in omega arith) gt)))
       (λ (le : s.end ≤ end). omega arith) (cases_lt end s.end)) (cases_lt s.end end))
-      (λ (a : IsAlone text new). absurd (no_word_byte (get_or text start 0) (w.bytes start (omega arith) (let o : s.start < s.end = w.some in omega arith)) a.byte)) other)
+      (λ (a : IsAlone text new). absurd
+      (no_word_byte (get_or text start 0)
+      (w.bytes start (omega arith) (let o : s.start < s.end = w.some in omega arith)) a.byte)) other)
       (λ (b : IsAlone text s). ⊎_elim
-      (λ (v : IsWord text new). absurd (no_word_byte (get_or text s.start 0) (v.bytes s.start (omega arith) (let o : start < end = v.some in omega arith)) b.byte))
-      (λ (a : IsAlone text new). let x : end ≡ start + 1 = a.one in let y : s.end ≡ s.start + 1 = b.one in omega arith) other)
+      (λ (v : IsWord text new). absurd
+      (no_word_byte (get_or text s.start 0)
+      (v.bytes s.start (omega arith) (let o : start < end = v.some in omega arith)) b.byte))
+      (λ (a : IsAlone text new). let x : end ≡ start + 1 = a.one in let y : s.end ≡ s.start + 1 = b.one in
+      omega arith) other)
       token in
       grind arith
 
   -- no token begins inside another
-  none_inside : (start end : ℕ) (s : Span) → IsToken text (record { start = start; end = end }) → IsToken text s → start < s.start → s.start < end → ⊥
+  none_inside : (start end : ℕ) (s : Span) → IsToken text (record { start = start; end = end }) → IsToken text s
+      → start < s.start → s.start < end → ⊥
   none_inside start end s outer token from to =
       let new : Span = record { start = start; end = end } in
       ⊎_elim
@@ -46,11 +59,13 @@ module _ (text : List ℕ) where
       (λ (a : IsAlone text s). no_word_byte (get_or text s.start 0) (v.bytes s.start (omega arith) to) a.byte) token)
       (λ (b : IsAlone text new). let one : end ≡ start + 1 = b.one in omega arith) outer
 
+  -- before the first place no token begins
   pub none_before_first : AreAll (IsTokenBefore 0) []
   none_before_first = no_spans (IsTokenBefore 0) (λ s is. let lt : s.start < 0 = is.1 in absurd (omega arith))
 
   -- one token more
-  pub token_more : (spans : List Span) (at end : ℕ) → AreAll (IsTokenBefore at) spans → at < end → IsToken text (record { start = at; end = end })
+  pub token_more : (spans : List Span) (at end : ℕ) → AreAll (IsTokenBefore at) spans → at < end
+      → IsToken text (record { start = at; end = end })
       → AreAll (IsTokenBefore end) (spans ++ record { start = at; end = end } ∷ [])
   token_more spans at end all some new_token =
       let new : Span = record { start = at; end = end } in
@@ -67,7 +82,8 @@ module _ (text : List ℕ) where
       ))
 
   -- no token begins at the place
-  pub none_there : (spans : List Span) (at : ℕ) → AreAll (IsTokenBefore at) spans → ¬ (BeginsToken text at) → AreAll (IsTokenBefore (at + 1)) spans
+  pub none_there : (spans : List Span) (at : ℕ) → AreAll (IsTokenBefore at) spans → ¬ (BeginsToken text at)
+      → AreAll (IsTokenBefore (at + 1)) spans
   none_there spans at all none =
       same_spans (IsTokenBefore at) (IsTokenBefore (at + 1)) spans
       (λ s. (
@@ -84,8 +100,10 @@ module _ (text : List ℕ) where
       ))
       all
     where
+      -- where a token stands, its first byte begins one
       begins : (s : Span) → IsToken text s → BeginsToken text s.start
-      begins s token = ⊎_elim (λ (w : IsWord text s). inl (w.bytes s.start (omega arith) w.some)) (λ (a : IsAlone text s). inr a.byte) token
+      begins s token = ⊎_elim (λ (w : IsWord text s). inl (w.bytes s.start (omega arith) w.some))
+          (λ (a : IsAlone text s). inr a.byte) token
 
   -- behind a token, and behind a byte of none, no word goes on
   pub between_behind : (at end : ℕ) → at < end → IsToken text (record { start = at; end = end }) → IsBetween text end
@@ -95,12 +113,18 @@ module _ (text : List ℕ) where
       (λ (a : IsAlone text new). let one : end ≡ at + 1 = a.one in let before : end - 1 ≡ at = omega arith in
       λ word. no_word_byte (get_or text at 0) (subst (λ k. IsWordByte (get_or text k 0)) before word) a.byte) token
 
+  -- behind a byte that begins no token no word goes on
   pub between_none : (at : ℕ) → ¬ (BeginsToken text at) → IsBetween text (at + 1)
-  between_none at none positive within byte word = let before : at + 1 - 1 ≡ at = omega arith in none (inl (subst (λ k. IsWordByte (get_or text k 0)) before word))
+  between_none at none positive within byte word = let before : at + 1 - 1 ≡ at = omega arith in
+      none (inl (subst (λ k. IsWordByte (get_or text k 0)) before word))
 
   -- at the end all tokens begin before the place
-  pub all_tokens : (spans : List Span) (at : ℕ) → AreAll (IsTokenBefore at) spans → length text ≤ at → AreAll (IsToken text) spans
+  pub all_tokens : (spans : List Span) (at : ℕ) → AreAll (IsTokenBefore at) spans → length text ≤ at
+      → AreAll (IsToken text) spans
   all_tokens spans at all end =
       same_spans (IsTokenBefore at) (IsToken text) spans
-      (λ s. ((λ (is : IsTokenBefore at s). is.0), (λ (token : IsToken text s). (token, (let some = some_bytes s token in omega (arith, some.0, some.1))))))
+      (λ s. (
+        (λ (is : IsTokenBefore at s). is.0),
+        (λ (token : IsToken text s). (token, (let some = some_bytes s token in omega (arith, some.0, some.1)))),
+      ))
       all

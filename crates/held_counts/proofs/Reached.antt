@@ -28,9 +28,11 @@ use Rattle.held_counts.specs.Counts.{raised, taken_in, spread_one, spread, sprea
 -- ---- one count raised
 
 module _ (c : List ℕ) (m n : ℕ) where
+  -- a raised list of counts is as it was, or one count that was at most the number is now above it
   raised_cases : (raised c m n ≡ c) ⊎ ((m < length c) × (slice_index c m ≤ n) × (raised c m n ≡ slice_set c m (n + 1)))
   raised_cases = by (nat_lt m (length c) && nat_le (slice_index c m) n) refl
     where
+      -- the same by whether there is such a count, and it is at most the number
       by : (b : Bool) → (nat_lt m (length c) && nat_le (slice_index c m) n) ≡ b →
           (cond b (slice_set c m (n + 1)) c ≡ c) ⊎
           ((m < length c) × (slice_index c m ≤ n) × (cond b (slice_set c m (n + 1)) c ≡ slice_set c m (n + 1)))
@@ -39,9 +41,11 @@ module _ (c : List ℕ) (m n : ℕ) where
           let p = and_parts (nat_lt m (length c)) (nat_le (slice_index c m) n) e in
           inr (ltb-true m (length c) p.0, leb-true (slice_index c m) n p.1, refl)
 
+  -- raising a count leaves as many
   raised_length : length (raised c m n) ≡ length c
   raised_length = elim raised_cases [ inl e ↦ ap length e | inr r ↦ ap length r.2 ∙ length-set c m (n + 1) ]
 
+  -- no count gets less
   raised_keeps : (a : ℕ) → slice_index c a ≤ slice_index (raised c m n) a
   raised_keeps a =
       elim raised_cases [
@@ -50,6 +54,7 @@ module _ (c : List ℕ) (m n : ℕ) where
             (cases_eq a m) [ inl e ↦ at r.0 r.1 r.2 e | inr e ↦ other r.2 e ]
       ]
     where
+      -- the raised count is greater than it was
       at : m < length c → slice_index c m ≤ n → raised c m n ≡ slice_set c m (n + 1) → a ≡ m →
           slice_index c a ≤ slice_index (raised c m n) a
       at l le is e =
@@ -58,12 +63,15 @@ module _ (c : List ℕ) (m n : ℕ) where
           let u = ap (slice_index c) e in
           omega arith
 
+      -- the other counts stay
       other : raised c m n ≡ slice_set c m (n + 1) → (a ≡ m → ⊥) → slice_index c a ≤ slice_index (raised c m n) a
       other is e = let s = ap (λ d. slice_index d a) is ∙ get_or-set_other c m a (n + 1) 0 e in omega arith
 
+  -- the raised count is above the number
   raised_covers : m < length c → n < slice_index (raised c m n) m
   raised_covers l = by (nat_le (slice_index c m) n) refl
     where
+      -- the same by whether the count was at most the number
       by : (b : Bool) → nat_le (slice_index c m) n ≡ b → n < slice_index (raised c m n) m
       by true e =
           let both : (nat_lt m (length c) && nat_le (slice_index c m) n) ≡ true =
@@ -73,6 +81,7 @@ module _ (c : List ℕ) (m n : ℕ) where
           omega arith
       by false e = let low = leb-false (slice_index c m) n e in let node = raised_keeps m in omega arith
 
+  -- what is below a count now was so before, or is at most the number that was counted
   raised_from : (a i : ℕ) → i < slice_index (raised c m n) a → (i < slice_index c a) ⊎ ((a ≡ m) × (i ≤ n))
   raised_from a i l =
       elim raised_cases [
@@ -81,17 +90,20 @@ module _ (c : List ℕ) (m n : ℕ) where
             (cases_eq a m) [ inl e ↦ inr (e, at r.0 r.2 e) | inr e ↦ inl (other r.2 e) ]
       ]
     where
+      -- below the raised count is what is at most the number
       at : m < length c → raised c m n ≡ slice_set c m (n + 1) → a ≡ m → i ≤ n
       at inside is e =
           let s = ap (λ d. slice_index d a) is ∙ ap (slice_index (slice_set c m (n + 1))) e
           ∙ get_or-set_same c m (n + 1) 0 inside in
           omega arith
 
+      -- below the other counts is what was below them
       other : raised c m n ≡ slice_set c m (n + 1) → (a ≡ m → ⊥) → i < slice_index c a
       other is e = let s = ap (λ d. slice_index d a) is ∙ get_or-set_other c m a (n + 1) 0 e in omega arith
 
 -- ---- places among what was sent
 
+-- before a list's end something stands
 some_at : {X : Type 0} (xs : List X) (i : ℕ) → i < length xs → (x : X) × (slice_get xs i ≡ Some x)
 some_at [] i l = absurd (omega arith)
 some_at (x ∷ xs) zero l = (x, refl)
@@ -140,22 +152,26 @@ module _ {T : Type 0} where
 -- ---- a past taken in
 
 module _ {T : Type 0} (node : T → Node) where
+  -- the counts with all events of a past
   abbrev take_all : List (Event T) → List ℕ → List ℕ
   take_all [] c = c
   take_all (x ∷ p) c = take_all p (raised c (node (entry_of x)).maker (node (entry_of x)).number)
 
+  -- what is taken in up to an entry that was sent is its past
   taken_in_is : (p : List (Event T)) (e : T) (l : List (Event T)) (c : List ℕ) →
       taken_in node (p ++ Sent e ∷ l) (length (sent p)) c ≡ take_all p c
   taken_in_is [] e l c = refl
   taken_in_is (Sent g ∷ p) e l c = taken_in_is p e l (raised c (node g).maker (node g).number)
   taken_in_is (Got g ∷ p) e l c = taken_in_is p e l (raised c (node g).maker (node g).number)
 
+  -- a past leaves as many counts
   take_all_length : (p : List (Event T)) (c : List ℕ) → length (take_all p c) ≡ length c
   take_all_length [] c = refl
   take_all_length (x ∷ p) c =
       take_all_length p (raised c (node (entry_of x)).maker (node (entry_of x)).number)
       ∙ raised_length c (node (entry_of x)).maker (node (entry_of x)).number
 
+  -- no count gets less by it
   take_all_keeps : (p : List (Event T)) (c : List ℕ) (a : ℕ) → slice_index c a ≤ slice_index (take_all p c) a
   take_all_keeps [] c a = omega arith
   take_all_keeps (x ∷ p) c a =
@@ -163,6 +179,7 @@ module _ {T : Type 0} (node : T → Node) where
       let rest = take_all_keeps p (raised c (node (entry_of x)).maker (node (entry_of x)).number) a in
       omega arith
 
+  -- each entry of the past is counted
   take_all_covers : (p : List (Event T)) (c : List ℕ) (x : Event T) → Contains p x →
       (node (entry_of x)).maker < length c →
       (node (entry_of x)).number < slice_index (take_all p c) (node (entry_of x)).maker
@@ -178,6 +195,7 @@ module _ {T : Type 0} (node : T → Node) where
       let rest = take_all_keeps p d (node (entry_of z)).maker in omega arith) l in
       elim (Contains-cons_cases z p x h) [ inl s ↦ here s | inr g ↦ take_all_covers p d x g (omega arith) ]
 
+  -- what is counted was so before, or is an entry of the past or before one
   take_all_from : (p : List (Event T)) (c : List ℕ) (a i : ℕ) → i < slice_index (take_all p c) a →
       (i < slice_index c a) ⊎
       ((x : Event T) × Contains p x × (a ≡ (node (entry_of x)).maker) × (i ≤ (node (entry_of x)).number))
@@ -198,6 +216,7 @@ module _ {T : Type 0} (node : T → Node) (w : World T) (orderly : IsOrderly nod
   abbrev IsNth : ℕ → ℕ → T → Type 0
   IsNth a i x = slice_get (sent (history w a)) i ≡ Some x
 
+  -- the entry with a number was sent after as many others
   was_sent_after : (a i : ℕ) (x : T) → IsNth a i x →
       (p : List (Event T)) × (s : WasSentAfter w p x) × (length (sent p) ≡ i) × (s.0 ≡ a)
   was_sent_after a i x e = let r = nth_split (history w a) i x e in (r.0, (a, r.1, r.2), r.3, refl)
@@ -208,6 +227,7 @@ module _ {T : Type 0} (node : T → Node) (w : World T) (orderly : IsOrderly nod
       let r = nth_split (history w a) i x e in let n = next_of node w orderly r.0 x (a, r.1, r.2) in
       (n.maker, n.number ∙ r.3)
 
+  -- each entry that was sent is the one with its number
   is_nth : (x : T) → Contains (sent_in w) x → IsNth (node x).maker (node x).number x
   is_nth x c =
       let s = was_sent w x c in
@@ -216,6 +236,7 @@ module _ {T : Type 0} (node : T → Node) (w : World T) (orderly : IsOrderly nod
       (ap (λ h. slice_get (sent h) (node x).number) s.1.2 ∙ ap (slice_get (sent (s.0 ++ Sent x ∷ s.1.1))) n.number
       ∙ nth_of_sent s.0 x s.1.1)
 
+  -- the entry with a number was sent
   nth_was_sent : (a i : ℕ) (x : T) → IsNth a i x → Contains (sent_in w) x
   nth_was_sent a i x e = let r = nth_split (history w a) i x e in sent_from_after w r.0 x (a, r.1, r.2)
 
@@ -244,11 +265,13 @@ module _ {T : Type 0} (node : T → Node) (w : World T) (orderly : IsOrderly nod
     abbrev InRange : List ℕ → Type 0
     InRange c = (a : ℕ) → slice_index c a ≤ length (sent (history w a))
 
+    -- a past that was held before e leaves the counts sound
     sound_take_all : (p : List (Event T)) (c : List ℕ) → Sound c × InRange c →
         ((x : Event T) → Contains p x → HeldBefore w (entry_of x) e × Contains (sent_in w) (entry_of x)) →
         Sound (take_all node p c) × InRange (take_all node p c)
     sound_take_all p c good each = (sound, in_range)
       where
+        -- what is counted with the past was held before e
         sound : Sound (take_all node p c)
         sound a i x l nth =
             let new : (z : Event T) × Contains p z × (a ≡ (node (entry_of z)).maker)
@@ -266,6 +289,7 @@ module _ {T : Type 0} (node : T → Node) (w : World T) (orderly : IsOrderly nod
             elim (cases_eq i (node z).number) [ inl s ↦ same s | inr s ↦ below (omega arith) ] in
             elim (take_all_from node p c a i l) [ inl old ↦ good.0 a i x old nth | inr r ↦ new r ]
 
+        -- and no more is counted than was sent
         in_range : InRange (take_all node p c)
         in_range a =
             let over : length (sent (history w a)) < slice_index (take_all node p c) a → ⊥ =
@@ -287,6 +311,7 @@ module _ {T : Type 0} (node : T → Node) (w : World T) (orderly : IsOrderly nod
         Sound (spread_one node a place c) × InRange (spread_one node a place c)
     sound_one a place c at good = by (slice_index c place == 0) refl
       where
+        -- the same by whether anything of the machine is counted
         by : (b : Bool) → (slice_index c place == 0) ≡ b →
             Sound (cond b c (taken_in node a.history (slice_index c place - 1) c))
             × InRange (cond b c (taken_in node a.history (slice_index c place - 1) c))
@@ -310,6 +335,7 @@ module _ {T : Type 0} (node : T → Node) (w : World T) (orderly : IsOrderly nod
                   (entry_of x) held_x,
             )))
 
+    -- the turns of all machines leave the counts sound
     sound_spread : (u : World T) (place : ℕ) (c : List ℕ) → ((j : ℕ) → slice_get u j ≡ slice_get w (place + j)) →
         Sound c × InRange c → Sound (spread node u place c) × InRange (spread node u place c)
     sound_spread [] place c at good = good
@@ -318,6 +344,7 @@ module _ {T : Type 0} (node : T → Node) (w : World T) (orderly : IsOrderly nod
         sound_spread u (place + 1) (spread_one node a place c) (λ j. at (suc j) ∙ ap (slice_get w) (omega arith))
         (sound_one a place c here good)
 
+    -- and so does any number of rounds
     sound_times : (n : ℕ) (c : List ℕ) → Sound c × InRange c →
         Sound (spread_times node n w c) × InRange (spread_times node n w c)
     sound_times zero c good = good
@@ -326,12 +353,14 @@ module _ {T : Type 0} (node : T → Node) (w : World T) (orderly : IsOrderly nod
 
 -- ---- all that was held before is counted
 
+-- where nothing is counted, each count is 0
 zeros_index : (n a : ℕ) → slice_index (replicate n 0) a ≡ 0
 zeros_index zero a = refl
 zeros_index (suc n) zero = refl
 zeros_index (suc n) (suc a) = zeros_index n a
 
 module _ {T : Type 0} (node : T → Node) where
+  -- no count gets less by what is taken in
   taken_in_keeps : (h : List (Event T)) (n : ℕ) (c : List ℕ) (a : ℕ) →
       slice_index c a ≤ slice_index (taken_in node h n c) a
   taken_in_keeps [] n c a = omega arith
@@ -343,6 +372,7 @@ module _ {T : Type 0} (node : T → Node) where
       let one = raised_keeps c (node e).maker (node e).number a in let rest =
       taken_in_keeps h n (raised c (node e).maker (node e).number) a in omega arith
 
+  -- and there are as many
   taken_in_length : (h : List (Event T)) (n : ℕ) (c : List ℕ) → length (taken_in node h n c) ≡ length c
   taken_in_length [] n c = refl
   taken_in_length (Sent e ∷ h) zero c = refl
@@ -351,6 +381,7 @@ module _ {T : Type 0} (node : T → Node) where
   taken_in_length (Got e ∷ h) n c =
       taken_in_length h n (raised c (node e).maker (node e).number) ∙ raised_length c (node e).maker (node e).number
 
+  -- no count gets less by a machine's turn
   one_keeps : (a : Machine T) (place : ℕ) (c : List ℕ) (i : ℕ) →
       slice_index c i ≤ slice_index (spread_one node a place c) i
   one_keeps a place c i =
@@ -358,12 +389,14 @@ module _ {T : Type 0} (node : T → Node) where
       (λ b. slice_index c i ≤ slice_index (cond b c (taken_in node a.history (slice_index c place - 1) c)) i)
       [ true ↦ omega arith | false ↦ taken_in_keeps a.history (slice_index c place - 1) c i ]
 
+  -- and there are as many
   one_length : (a : Machine T) (place : ℕ) (c : List ℕ) → length (spread_one node a place c) ≡ length c
   one_length a place c =
       elim (slice_index c place == 0) as
       (λ b. length (cond b c (taken_in node a.history (slice_index c place - 1) c)) ≡ length c)
       [ true ↦ refl | false ↦ taken_in_length a.history (slice_index c place - 1) c ]
 
+  -- no count gets less by a round
   spread_keeps : (u : World T) (place : ℕ) (c : List ℕ) (i : ℕ) →
       slice_index c i ≤ slice_index (spread node u place c) i
   spread_keeps [] place c i = omega arith
@@ -371,26 +404,31 @@ module _ {T : Type 0} (node : T → Node) where
       let one = one_keeps a place c i in let rest = spread_keeps u (place + 1) (spread_one node a place c) i in
       omega arith
 
+  -- and there are as many
   spread_length : (u : World T) (place : ℕ) (c : List ℕ) → length (spread node u place c) ≡ length c
   spread_length [] place c = refl
   spread_length (a ∷ u) place c = spread_length u (place + 1) (spread_one node a place c) ∙ one_length a place c
 
+  -- no count gets less by any number of rounds
   times_keeps : (n : ℕ) (w : World T) (c : List ℕ) (i : ℕ) → slice_index c i ≤ slice_index (spread_times node n w c) i
   times_keeps zero w c i = omega arith
   times_keeps (suc n) w c i =
       let rest = times_keeps n w c i in let one = spread_keeps w 0 (spread_times node n w c) i in omega arith
 
+  -- and there are as many
   times_length : (n : ℕ) (w : World T) (c : List ℕ) → length (spread_times node n w c) ≡ length c
   times_length zero w c = refl
   times_length (suc n) w c = spread_length w 0 (spread_times node n w c) ∙ times_length n w c
 
 module _ {T : Type 0} (node : T → Node) (w : World T) (orderly : IsOrderly node w) where
+  -- the maker of an entry that was sent is a machine of the world
   maker_in_world : (f : T) → Contains (sent_in w) f → (node f).maker < length w
   maker_in_world f c =
       let s = was_sent w f c in let n = next_of node w orderly s.0 f s.1 in let l =
       in_world w s.1.0 s.0 (Sent f) s.1.1 s.1.2 in let e = n.maker in omega arith
 
   module _ (e : T) where
+    -- a machine's turn counts what was held when one of its counted entries was sent
     covers_one : (a : Machine T) (b : ℕ) (c : List ℕ) → history w b ≡ a.history → InRange node w orderly e c →
         (n : ℕ) (h : T) → n < slice_index c b → IsNth node w orderly b n h → (q m : List (Event T)) →
         history w b ≡ q ++ Sent h ∷ m → length (sent q) ≡ n →
@@ -398,6 +436,7 @@ module _ {T : Type 0} (node : T → Node) (w : World T) (orderly : IsOrderly nod
         (node f).number < slice_index (spread_one node a b c) (node f).maker
     covers_one a b c at good n h l nth q m split number f held_f inside = by (slice_index c b == 0) refl
       where
+        -- the same by whether anything of the machine is counted
         by : (t : Bool) → (slice_index c b == 0) ≡ t →
             (node f).number < slice_index (cond t c (taken_in node a.history (slice_index c b - 1) c)) (node f).maker
         by true s = absurd (let z = eqb-true (slice_index c b) 0 s in omega arith)
@@ -416,6 +455,7 @@ module _ {T : Type 0} (node : T → Node) (w : World T) (orderly : IsOrderly nod
             (take_all_covers node p.0 c x.0 x.1) inside in
             subst (λ d. (node f).number < slice_index d (node f).maker) (sym is) covered
 
+    -- so does a round, for whichever machine
     covers_spread : (u : World T) (place : ℕ) (c : List ℕ) → ((j : ℕ) → slice_get u j ≡ slice_get w (place + j)) →
         Sound node w orderly e c × InRange node w orderly e c → (j b : ℕ) → b ≡ place + j → j < length u →
         (n : ℕ) (h : T) → n < slice_index c b → IsNth node w orderly b n h → (q m : List (Event T)) →
@@ -440,9 +480,11 @@ module _ {T : Type 0} (node : T → Node) (w : World T) (orderly : IsOrderly nod
         (omega arith) nth q m split number f held_f (omega arith)
 
     module _ (b j : ℕ) (nth : IsNth node w orderly b j e) where
+      -- the counts before the first round: those of e's own past
       first : List ℕ
       first = taken_in node (history w b) j (replicate (length w) 0)
 
+      -- no counts are sound
       zeros_good : Sound node w orderly e (replicate (length w) 0) × InRange node w orderly e (replicate (length w) 0)
       zeros_good = (
         λ a i x l _. absurd (let z = zeros_index (length w) a in omega arith),
@@ -450,6 +492,7 @@ module _ {T : Type 0} (node : T → Node) (w : World T) (orderly : IsOrderly nod
             zeros_index (length w) a in omega arith,
       )
 
+      -- they are the past of e, taken in from nothing
       first_is : (p l : List (Event T)) → history w b ≡ p ++ Sent e ∷ l → length (sent p) ≡ j →
           first ≡ take_all node p (replicate (length w) 0)
       unfolding first
@@ -458,6 +501,7 @@ module _ {T : Type 0} (node : T → Node) (w : World T) (orderly : IsOrderly nod
           ∙ ap (λ m. taken_in node (p ++ Sent e ∷ l) m (replicate (length w) 0)) (sym n)
           ∙ taken_in_is node p e l (replicate (length w) 0)
 
+      -- so they are sound
       first_good : Sound node w orderly e first × InRange node w orderly e first
       first_good =
           let p = nth_split (history w b) j e nth in
@@ -466,6 +510,7 @@ module _ {T : Type 0} (node : T → Node) (w : World T) (orderly : IsOrderly nod
           let held_x = Contains-map entry_of p.0 x h in
           (itself p.0 (b, p.1, p.2) held_x, held_was_sent node w orderly p.0 e (b, p.1, p.2) (entry_of x) held_x)))
 
+      -- there is one for each machine
       long : length first ≡ length w
       unfolding first
       long = taken_in_length node (history w b) j (replicate (length w) 0) ∙ length-replicate (length w) 0
@@ -516,9 +561,11 @@ module _ {T : Type 0} (node : T → Node) (w : World T) (orderly : IsOrderly nod
   unfolding first
   is_held_before_right a i b j f e nf ne = (sound, complete)
     where
+      -- how many rounds are counted
       rounds : ℕ
       rounds = greatest_stamp node (held (history w b))
 
+      -- what is counted was held before
       sound : is_held_before node w a i b j ≡ true → HeldBefore w f e
       sound t =
           (sound_times node w orderly e (greatest_stamp node (held (history w b))) (first e b j ne)
@@ -526,6 +573,7 @@ module _ {T : Type 0} (node : T → Node) (w : World T) (orderly : IsOrderly nod
           (ltb-true i
           (slice_index (spread_times node (greatest_stamp node (held (history w b))) w (first e b j ne)) a) t) nf
 
+      -- what was held before is counted
       complete : HeldBefore w f e → is_held_before node w a i b j ≡ true
       complete h =
           let c = to_chain w f e h in
@@ -543,6 +591,7 @@ module _ {T : Type 0} (node : T → Node) (w : World T) (orderly : IsOrderly nod
           (slice_index (spread_times node (greatest_stamp node (held (history w b))) w (first e b j ne)) a)
           (omega arith)
         where
+          -- e is among what its machine sent
           sent_here : Contains (sent_in w) e → Contains (sent (history w b)) e
           sent_here _ =
               (j, slice_get_within (sent (history w b)) j e ne, get_or_from_slice_get (sent (history w b)) j e e ne)

@@ -22,8 +22,11 @@ module _ {X : Type 0} (text : X → List ℕ) where
   pub record IsCut (xs : List X) (n : ℕ) : Type 0 where
     pub count : ℕ
     pub rest : List ℕ
+    -- no more texts are whole than there are
     pub some_of : count ≤ length xs
+    -- the bytes that are left are the whole texts and the rest
     pub spelt : take n (flat_map text xs) ≡ flat_map text (take count xs) ++ rest
+    -- behind the last text there is no rest, and otherwise the rest is a proper prefix of the next one
     pub inside : ((count ≡ length xs) × (rest ≡ []))
         ⊎ ((x : X) × (slice_get xs count ≡ Some x) × ((more : List ℕ) × (0 < length more) × (text x ≡ rest ++ more)))
 
@@ -60,6 +63,7 @@ module _ {X : Type 0} (text : X → List ℕ) where
   pub cut_of : (xs : List X) (n : ℕ) → IsCut xs n
   cut_of [] n = record { count = zero; rest = []; some_of = omega arith; spelt = none n; inside = inl (refl, refl) }
     where
+      -- of no bytes none are left
       none : (n : ℕ) → take {A = ℕ} n [] ≡ []
       none zero = refl
       none (suc n) = refl

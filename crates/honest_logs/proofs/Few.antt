@@ -18,10 +18,12 @@ module _ {T : Type 0} (node : T → Node) where
   AreApart [] = Unit {0}
   AreApart (x ∷ xs) = ((y : T) → Contains xs y → (node y).digest ≢ (node x).digest) × AreApart xs
 
+  -- members of such a list that pass a test are such a list
   apart_filter : (p : T → Bool) (xs : List T) → AreApart xs → AreApart (filter p xs)
   apart_filter p [] apart = tt
   apart_filter p (x ∷ xs) apart = by (p x) (apart_filter p xs apart.1)
     where
+      -- the same by whether the first member passes
       by : (b : Bool) → AreApart (filter p xs) → AreApart (cond b (x ∷ filter p xs) (filter p xs))
       by true rest = (λ y c. apart.0 y (Contains-filter_cases p xs y c).0, rest)
       by false rest = rest

@@ -88,6 +88,7 @@ module _ (w : World SealedEntry) (orderly : IsOrderly node_of_sealed w) where
       subst (λ (e : SealedEntry). Contains (sent_in w) e) (entry_is kept.sent kept.entry)
       (event_was_sent m (event_of kept) (Contains-take (history w m) read.count (event_of kept) there))
 
+  -- each entry that is read of the logs was sent
   were_sent : (logs : List LogRead) → AreReadIn w logs → (e : SealedEntry) → Contains (entries_of logs) e →
       Contains (sent_in w) e
   were_sent logs all e c =
@@ -100,9 +101,11 @@ module _ (w : World SealedEntry) (orderly : IsOrderly node_of_sealed w) where
 
   module _ (apart : Distinct node_of_sealed (sent_in w)) (given : List SealedEntry)
       (sent : (e : SealedEntry) → Contains given e → Contains (sent_in w) e) where
+    -- no two of the given entries have one digest and different texts
     no_collision : HasNoCollision node_of_sealed (λ e. e.text) given
     no_collision e f ce cf same = ap (λ (g : SealedEntry). g.text) (apart e f (sent e ce) (sent f cf) same)
 
+    -- each of the distinct entries was sent
     distinct_sent : (e : SealedEntry) → Contains (distinct node_of_sealed given) e → Contains (sent_in w) e
     distinct_sent e c = sent e (distinct_given node_of_sealed given e c)
 
@@ -119,6 +122,7 @@ module _ (w : World SealedEntry) (orderly : IsOrderly node_of_sealed w) where
         (honest_entries_agree_in_orderly_worlds node_of_sealed w orderly apart (distinct node_of_sealed given)
         distinct_sent).survive
 
+    -- none of them is a stray: their makers held what they name
     no_stray : (e : SealedEntry) → Contains (distinct node_of_sealed given) e →
         IsStray node_of_sealed (distinct node_of_sealed given) e → ⊥
     no_stray e c =
@@ -127,6 +131,7 @@ module _ (w : World SealedEntry) (orderly : IsOrderly node_of_sealed w) where
 
     module _ (graph : EntryGraph SealedEntry)
         (is : IsGraphOfGiven node_of_sealed (distinct node_of_sealed given) graph) where
+      -- the graph's survivors are the given entries
       members : (e : SealedEntry) → Contains graph.survivors e ↔ Contains given e
       members e = (
         λ c. distinct_given node_of_sealed given e
@@ -135,6 +140,7 @@ module _ (w : World SealedEntry) (orderly : IsOrderly node_of_sealed w) where
             (subst (λ (es : List SealedEntry). Contains es e) (sym all_survive) (is_distinct e c)),
       )
 
+      -- the survivors agree with the world on who held what before
       agrees : AgreesWith node_of_sealed (length w) w graph.survivors
       agrees =
           honest_entries_agree_in_orderly_worlds node_of_sealed w orderly apart graph.survivors
@@ -154,6 +160,7 @@ module _ (w : World SealedEntry) (orderly : IsOrderly node_of_sealed w) where
                 (known.no_unknown (parents_of graph.links) (ragged_of graph.links) arrows y x f e at there);
           }
 
+      -- so the graph is an honest one
       honest_graph : IsHonestGraph w given graph
       honest_graph =
           record {
@@ -169,6 +176,7 @@ module _ (w : World SealedEntry) (orderly : IsOrderly node_of_sealed w) where
 
     -- they are few and don't collide
     module _ (few : length (sent_in w) ≤ 4096) where
+      -- a graph of so few entries without a collision fails for want of memory alone
       not_refused : (fault : GraphFault SealedEntry) →
           IsGraphAnswer node_of_sealed (λ e. e.text) given (Err fault) → fault ≡ Memory
       not_refused (Collision e f) (earlier, later, is, before, there, same, differ) =
@@ -181,6 +189,7 @@ module _ (w : World SealedEntry) (orderly : IsOrderly node_of_sealed w) where
           absurd (omega (arith, many, few, few_distinct node_of_sealed given (sent_in w) distinct_sent))
       not_refused Memory is = refl
 
+      -- so they are honestly given
       honestly_given : IsHonestlyGiven w given
       honestly_given = record {
         were_sent = sent;
@@ -209,6 +218,7 @@ all_given w logs all e c =
     (subst (λ (f : SealedEntry). Contains (map (λ (k : Kept). k.entry) log.kept.items) f) entry
     (Contains-map (λ (k : Kept). k.entry) log.kept.items kept inside))
   where
+    -- a machine that sent something is one of the world
     in_some_world : (m : ℕ) → Contains (history w m) (Sent e) → m < length w
     in_some_world m there =
         let (before, later, is) = member_split (history w m) (Sent e) there in in_world w m before (Sent e) later is

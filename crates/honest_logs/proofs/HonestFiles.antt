@@ -21,6 +21,7 @@ use Rattle.honest_logs.proofs.HonestGraphs.{of_script_is_honest}
 use Rattle.honest_logs.proofs.LeftFileFacts.{each_is_read, files_are_over, files_are_read, files_have_all}
 
 module _ (machines : List Post) (election : List ℕ) (w : World SealedEntry) (is : IsOfScript machines election w) where
+  -- the world of a script's machines is an honest one under the roster that was read
   honest : IsHonestWorld machines w
   honest = of_script_is_honest machines election w is
 
@@ -30,6 +31,7 @@ module _ (machines : List Post) (election : List ℕ) (w : World SealedEntry) (i
   in_its names files answer gives =
       subst (λ (e : List ℕ). GivesLogs machines e names files answer) (of_script_election machines election w is) gives
 
+  -- logs and a graph that are given by what is left of a script's logs are read as what its machines did
   pub script_read : Distinct node_of_sealed (sent_in w) → (names : List (List ℕ)) (files : List (Option (List ℕ))) →
       AreFilesOf w files → (logs : List LogRead) → GivesLogs machines election names files (Ok logs) →
       (graph : EntryGraph SealedEntry) → GivesGraph (entries_of logs) (Ok graph) →
@@ -45,11 +47,13 @@ module _ (machines : List Post) (election : List ℕ) (w : World SealedEntry) (i
             (files_are_read machines w honest names files left logs here) graph made;
       }
 
+  -- files that are left of a script's logs are refused only where one is over the limit
   pub script_over : (names : List (List ℕ)) (files : List (Option (List ℕ))) → AreFilesOf w files →
       (refusal : Refusal) → GivesLogs machines election names files (Err refusal) → IsOverLimit names files refusal
   script_over names files left refusal gives =
       files_are_over machines w honest names files left refusal (in_its names files (Err refusal) gives)
 
+  -- the graph of what they give isn't refused
   pub script_not_refused : Distinct node_of_sealed (sent_in w) → (names : List (List ℕ))
       (files : List (Option (List ℕ))) → AreFilesOf w files → (logs : List LogRead) →
       GivesLogs machines election names files (Ok logs) → (refusal : Refusal) →
@@ -58,6 +62,7 @@ module _ (machines : List Post) (election : List ℕ) (w : World SealedEntry) (i
       graph_is_given machines w honest apart logs
       (files_are_read machines w honest names files left logs (in_its names files (Ok logs) gives))
 
+  -- where all whole logs are there and give a graph, what was sent has different digests
   pub script_distinct : (names : List (List ℕ)) (files : List (Option (List ℕ))) → AreAllFilesOf w files →
       (logs : List LogRead) → GivesLogs machines election names files (Ok logs) → (graph : EntryGraph SealedEntry) →
       GivesGraph (entries_of logs) (Ok graph) → Distinct node_of_sealed (sent_in w)

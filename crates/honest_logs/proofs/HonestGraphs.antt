@@ -27,12 +27,14 @@ use Rattle.honest_logs.specs.WhatIsLeft.{AreReadIn}
 use Rattle.honest_logs.proofs.Given.{all_given, left_agrees, shows_distinct}
 use Rattle.honest_logs.proofs.Scripts.{scripts_are_honest}
 
+-- the graph that the logs of an honest world give is an honest one
 pub graph_is_honest : (posts : List Post) (w : World SealedEntry) → IsHonestWorld posts w →
     Distinct node_of_sealed (sent_in w) → (logs : List LogRead) → AreReadIn w logs →
     (graph : EntryGraph SealedEntry) → GivesGraph (entries_of logs) (Ok graph) → IsHonestGraph w (entries_of logs) graph
 graph_is_honest posts w honest apart logs read graph gives =
     (left_agrees posts w honest apart logs read).graph graph gives.2
 
+-- the graph of an honest world's logs isn't refused
 pub graph_is_given : (posts : List Post) (w : World SealedEntry) → IsHonestWorld posts w →
     Distinct node_of_sealed (sent_in w) → (logs : List LogRead) → AreReadIn w logs →
     (refusal : Refusal) → ¬ GivesGraph (entries_of logs) (Err refusal)
@@ -41,12 +43,14 @@ graph_is_given posts w honest apart logs read refusal (fault, is, told) =
     let none : None ≡ Some refusal = sym (ap graph_refusal memory) ∙ told in
     absurd cc
 
+-- where all logs are there and a graph is given, what was sent has different digests
 pub graph_shows_distinct : (posts : List Post) (w : World SealedEntry) → IsHonestWorld posts w →
     (logs : List LogRead) → HaveAll w logs → (graph : EntryGraph SealedEntry) →
     GivesGraph (entries_of logs) (Ok graph) → Distinct node_of_sealed (sent_in w)
 graph_shows_distinct posts w honest logs all graph gives =
     shows_distinct posts w honest (entries_of logs) (all_given w logs all) gives.0
 
+-- worlds of a script whose roster was read are honest under that roster
 pub of_script_is_honest : (machines : List Post) (election : List ℕ) (w : World SealedEntry) →
     IsOfScript machines election w → IsHonestWorld machines w
 of_script_is_honest machines election w is =
@@ -59,6 +63,7 @@ text_election : (machines : List Post) (text election : List ℕ) → text ≡ t
 unfolding election_of
 text_election machines text election spelt is = is ∙ ap sha256 spelt
 
+-- the election of a script's world is that of the roster that was read
 pub of_script_election : (machines : List Post) (election : List ℕ) (w : World SealedEntry) →
     IsOfScript machines election w → election ≡ election_of machines
 of_script_election machines election w is =
@@ -74,6 +79,7 @@ read_election name bytes (Ok roster) read reads told =
     subst (λ (r : RosterRead). r.election ≡ election_of r.roster.machines) (sym same) is
 read_election name bytes (Err fault) read reads told = cc
 
+-- a roster that a file gives comes with the election of its own text
 pub roster_election : (name : List ℕ) (file : Option (List ℕ)) (read : RosterRead) → GivesRoster name file (Ok read) →
     read.election ≡ election_of read.roster.machines
 roster_election name None read gives = cc

@@ -89,6 +89,7 @@ module _ (posts : List Post) (w : World SealedEntry) (honest : IsHonestWorld pos
     read = read_in posts w honest left.machine left.there bytes left.left log said.1;
   }
 
+  -- file by file a log is read of what is left
   pub each_is_read : (names : List (List ℕ)) (files : List (Option (List ℕ))) → AreFilesOf w files →
       (logs : List LogRead) → GivesLogs posts (election_of posts) names files (Ok logs) → AreReadOf w files logs
   each_is_read [] [] left [] gives = tt
@@ -126,6 +127,7 @@ module _ (posts : List Post) (w : World SealedEntry) (honest : IsHonestWorld pos
             (found, Contains-later log logs found inside, said))
       ]
 
+  -- where each whole log is among the files, each is read whole
   pub files_have_all : (names : List (List ℕ)) (files : List (Option (List ℕ))) → AreAllFilesOf w files →
       (logs : List LogRead) → GivesLogs posts (election_of posts) names files (Ok logs) → HaveAll w logs
   files_have_all names files all logs gives m below =
@@ -133,6 +135,7 @@ module _ (posts : List Post) (w : World SealedEntry) (honest : IsHonestWorld pos
       log_of_file names files logs gives (Some (log_text m (history w m))) (all m below) in
       (log, inside, whole_in posts w honest m below log said.1)
 
+  -- a first file that is refused is over the limit
   first_refused : (name : List ℕ) (names : List (List ℕ)) (file : Option (List ℕ))
       (files : List (Option (List ℕ))) (refusal : Refusal) → IsFileOf w file → IsLogRefusal name file refusal →
       IsOverLimit (name ∷ names) (file ∷ files) refusal

@@ -35,15 +35,18 @@ module _ (posts : List Post) (w : World SealedEntry) (honest : IsHonestWorld pos
       let few = honest.few_machines in
       omega (arith, below, each, few)
 
+  -- what is left of a machine's log has the header
   pub header_in : (m : ℕ) → m < length w → (bytes : List ℕ) → IsLeftOf m (history w m) bytes → HasHeader bytes
   header_in m below bytes left = left_has_header m (owner_small m below) (history w m) bytes left
 
+  -- it is read as the events that stand whole in it
   pub read_in : (m : ℕ) → m < length w → (bytes : List ℕ) → IsLeftOf m (history w m) bytes → (log : LogRead) →
       SaysSealed posts (election_of posts) bytes log → IsPrefixRead m (history w m) bytes log
   read_in m below =
       left_is_read posts (election_of posts) m (owner_small m below) (history w m) (held_valid m)
       (honest.orderly.legal m)
 
+  -- it is a log of its machine, which breaks nowhere
   pub log_in : (m : ℕ) → m < length w → (bytes : List ℕ) → IsLeftOf m (history w m) bytes → IsUnbrokenLog posts m bytes
   log_in m below bytes left =
       let (kept, end, no_break, says) =
@@ -51,6 +54,7 @@ module _ (posts : List Post) (w : World SealedEntry) (honest : IsHonestWorld pos
       (honest.orderly.legal m) bytes left in
       record { kept = kept; end = end; says = says; no_break = no_break }
 
+  -- a whole log is read as all that its machine did
   pub whole_in : (m : ℕ) → m < length w → (log : LogRead) →
       SaysSealed posts (election_of posts) (log_text m (history w m)) log → IsWholeRead m (history w m) log
   whole_in m below =
@@ -67,6 +71,7 @@ module _ (posts : List Post) (w : World SealedEntry) (honest : IsHonestWorld pos
     read = read_in is.machine is.there bytes is.left log said;
   }
 
+  -- files that are left are read one by one as logs of the world
   pub all_read : (files : List (List ℕ)) → AreLeftOf w files → (logs : List LogRead) → length logs ≡ length files →
       ((i : ℕ) (bytes : List ℕ) (log : LogRead) → slice_get files i ≡ Some bytes → slice_get logs i ≡ Some log →
       SaysSealed posts (election_of posts) bytes log) → AreReadIn w logs

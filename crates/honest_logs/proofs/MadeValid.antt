@@ -44,6 +44,7 @@ pub length-election : (posts : List Post) → length (election_of posts) ≡ 32
 unfolding election_of
 length-election posts = length-sha256 _
 
+-- a machine's identifier has 16 bytes
 pub length-id : (seed name : List ℕ) → length (machine_id seed name) ≡ 16
 unfolding machine_id
 length-id seed name =
@@ -51,6 +52,7 @@ length-id seed name =
     length-take-le 16 hash (omega (arith, length-sha256 (codes "auditorium id" ++ seed ++ name)))
 
 module _ (config : Config) (k stamp : ℕ) (names : List (List ℕ)) (deed : Deed) where
+  -- the digest of an entry that was made has 32 bytes
   pub length-digest : length (made config k stamp names deed).digest ≡ 32
   unfolding made
   length-digest = length-sha256 _

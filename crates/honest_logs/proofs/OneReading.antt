@@ -54,6 +54,7 @@ one_end place size (Torn at) (Torn there) h k = ap Torn (h.1 ∙ sym k.1)
 one_end place size (Torn at) (Malformed there why) h k = absurd k
 one_end place size (Malformed at why) other h k = absurd h
 
+-- the same event is sent or got alike, and is of one entry
 one_event : (b c : Bool) (e f : SealedEntry) → (if b then Sent e else Got e) ≡ (if c then Sent f else Got f) →
     (b ≡ c) × (e ≡ f)
 one_event true true e f same = (refl, cc)
@@ -73,6 +74,7 @@ one_record k j same place =
 abbrev AreAt : ℕ → List Kept → Type 0
 AreAt n ks = (i : ℕ) (kept : Kept) → slice_get ks i ≡ Some kept → kept.place ≡ n + i
 
+-- the records behind the first are at the places behind it
 later_at : (n : ℕ) (k : Kept) (ks : List Kept) → AreAt n (k ∷ ks) → AreAt (n + 1) ks
 later_at n k ks at i kept there = let place = at (suc i) kept there in omega (arith, place)
 
@@ -90,9 +92,11 @@ one_list n (k ∷ ks) (j ∷ js) p q same =
 
 module _ (owner : ℕ) (events : List (Event SealedEntry)) (bytes : List ℕ) (log other : LogRead)
     (one : IsPrefixRead owner events bytes log) (two : IsPrefixRead owner events bytes other) where
+  -- two readings of the same bytes find the same number of whole records
   counts : one.count ≡ two.count
   counts = one_count owner events (length bytes) one.count two.count one.whole two.whole
 
+  -- and the same records
   pub same_kept : log.kept.items ≡ other.kept.items
   same_kept =
       one_list 0 log.kept.items other.kept.items
@@ -100,6 +104,7 @@ module _ (owner : ℕ) (events : List (Event SealedEntry)) (bytes : List ℕ) (l
       (λ i k at. (let place = two.places i k at in omega (arith, place)))
       (one.kept ∙ ap (λ n. take n events) counts ∙ sym two.kept)
 
+  -- and the same end
   pub same_end : log.end ≡ other.end
   same_end =
       one_end (end_of owner events two.count) (length bytes) log.end other.end

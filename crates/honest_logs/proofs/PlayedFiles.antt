@@ -25,6 +25,7 @@ All-each : {X : Type 0} (P : X → Type 0) (xs : List X) → ((i : ℕ) (x : X) 
 All-each P [] each = All-nil P
 All-each P (x ∷ xs) each = All-cons P x xs (each zero x refl) (All-each P xs (λ i y at. each (suc i) y at))
 
+-- the file of a machine's whole log
 abbrev file_of : MachineState → Option (List ℕ)
 file_of m = Some (log_text m.config.number m.events)
 
@@ -36,7 +37,9 @@ module _ (script : Script) (machines : List MachineState) (are : AreOf script ma
       ap (λ (n : ℕ). Some (log_text n m.events)) (are.number place m at)
       ∙ ap (λ (h : List (Event SealedEntry)). Some (log_text place h)) (sym (history_there machines place m at))
 
-  left_at : (place : ℕ) (m : MachineState) → slice_get machines place ≡ Some m → IsFileOf (world_of machines) (file_of m)
+  -- the file of the machine at a place is what is left of a log of the world
+  left_at : (place : ℕ) (m : MachineState) → slice_get machines place ≡ Some m
+      → IsFileOf (world_of machines) (file_of m)
   left_at place m at =
       subst (IsFileOf (world_of machines)) (sym (file_at place m at))
       (record {
@@ -46,17 +49,20 @@ module _ (script : Script) (machines : List MachineState) (are : AreOf script ma
         left = whole_is_left place (history (world_of machines) place);
       })
 
+  -- and so is whatever file is found there
   left_from : (place : ℕ) (file : Option (List ℕ)) (found : Option MachineState) → slice_get machines place ≡ found →
       option_map file_of found ≡ Some file → IsFileOf (world_of machines) file
   left_from place file None at is = cc
   left_from place file (Some m) at is =
       let same : file_of m ≡ file = cc in subst (IsFileOf (world_of machines)) same (left_at place m at)
 
+  -- the logs that are written are files of the world
   pub written_are_left : AreFilesOf (world_of machines) (written_logs machines)
   written_are_left =
       All-each (IsFileOf (world_of machines)) (written_logs machines) (λ place file at.
       left_from place file (slice_get machines place) refl (sym (slice_get-map file_of machines place) ∙ at))
 
+  -- and all of them are there, whole
   pub written_are_all : AreAllFilesOf (world_of machines) (written_logs machines)
   written_are_all place below =
       elim (slice_get_cases machines place).1 [

@@ -99,6 +99,7 @@ whole_is_left owner events =
 
 -- ---- records that are read
 
+-- the record at a place of an entry that was sent or got
 abbrev pub kept_with : ℕ → Bool → SealedEntry → Kept
 kept_with place sent entry = record { place = place; sent = sent; entry = entry }
 
@@ -116,9 +117,11 @@ kept_from place (x ∷ events) = kept_at place x ∷ kept_from (place + 1) event
 abbrev readings_of : List Kept → List (Result Kept EntryFault)
 readings_of ks = map (λ kept. Ok kept) ks
 
+-- what is read of the records of events, the first at the place
 abbrev readings_from : ℕ → List (Event SealedEntry) → List (Result Kept EntryFault)
 readings_from place events = readings_of (kept_from place events)
 
+-- a record is of its event
 event_kept : (place : ℕ) (x : Event SealedEntry) → event_of (kept_at place x) ≡ x
 event_kept place (Sent e) = refl
 event_kept place (Got e) = refl
@@ -130,6 +133,7 @@ events_kept place (x ∷ events) =
     ap (λ (y : Event SealedEntry). y ∷ map event_of (kept_from (place + 1) events)) (event_kept place x)
     ∙ ap (λ (ys : List (Event SealedEntry)). x ∷ ys) (events_kept (place + 1) events)
 
+-- it is at its place
 place_kept : (place : ℕ) (x : Event SealedEntry) → (kept_at place x).place ≡ place
 place_kept place (Sent e) = refl
 place_kept place (Got e) = refl
@@ -146,10 +150,12 @@ places_kept place (x ∷ events) (suc i) kept at =
     let later : kept.place ≡ (place + 1) + i = places_kept (place + 1) events i kept at in
     omega (arith, later)
 
+-- what is kept of records that were all read is these records
 kept_readings : (ks : List Kept) → kept_of (readings_of ks) ≡ ks
 kept_readings [] = refl
 kept_readings (k ∷ ks) = ap (λ (l : List Kept). k ∷ l) (kept_readings ks)
 
+-- and none of them is refused
 none_refused : (ks : List Kept) (place : ℕ) → refused_of place (readings_of ks) ≡ []
 none_refused [] place = refl
 none_refused (k ∷ ks) place = none_refused ks (place + 1)
@@ -159,11 +165,13 @@ abbrev end_at : ℕ → List ℕ → End
 end_at offset [] = Clean
 end_at offset (b ∷ rest) = Torn offset
 
+-- the end is told by the rest: clean without one, and else torn
 is_end : (offset : ℕ) (rest : List ℕ) → (rest ≡ []) ⊎ IsProperPrefixOfText rest → IsEnd offset rest (end_at offset rest)
 is_end offset [] h = refl
 is_end offset (b ∷ rest) (inl none) = cc
 is_end offset (b ∷ rest) (inr prefix) = (refl, omega arith, prefix)
 
+-- it lies where the whole records end
 is_cut_at : (place size offset : ℕ) (rest : List ℕ) → size ≡ place + length rest → offset ≡ place →
     IsCutAt place size (end_at offset rest)
 is_cut_at place size offset [] long same = omega (arith, long)
@@ -202,10 +210,12 @@ module _ (posts : List Post) (election : List ℕ) where
   abbrev pub AreValid : List (Event SealedEntry) → Type 0
   AreValid events = (e : SealedEntry) → Contains (held events) e → IsValidly e
 
+  -- the first entry of a valid history is valid
   first_valid : (x : Event SealedEntry) (events : List (Event SealedEntry)) → AreValid (x ∷ events) →
       IsValidly (entry_of x)
   first_valid x events valid = valid (entry_of x) (Contains-head (entry_of x) (held events))
 
+  -- and so are those behind it
   later_valid : (x : Event SealedEntry) (events : List (Event SealedEntry)) → AreValid (x ∷ events) → AreValid events
   later_valid x events valid e c = valid e (Contains-later (entry_of x) (held events) e c)
 
@@ -214,6 +224,7 @@ module _ (posts : List Post) (election : List ℕ) where
       Unseals posts election (text_of (signed_tree e.entry e.signature)) (Ok e)
   unseals_tree e valid = subst (λ (t : List ℕ). Unseals posts election t (Ok e)) valid.kept.spelt.spelt valid
 
+  -- the tree of a valid event's record is read as that record
   gives_kept : (place : ℕ) (x : Event SealedEntry) → IsValidly (entry_of x) →
       Gives (IsReadSealed posts election) place (tree_of x) (Ok (kept_at place x))
   gives_kept place (Sent e) valid =
@@ -221,18 +232,21 @@ module _ (posts : List Post) (election : List ℕ) where
   gives_kept place (Got e) valid =
       inl (members_in (signed_tree e.entry e.signature), false, refl, (refl, refl, unseals_tree e valid))
 
+  -- the trees of valid events are read as their records
   all_given : (place : ℕ) (events : List (Event SealedEntry)) → AreValid events →
       EachGives (IsReadSealed posts election) place (map tree_of events) (readings_from place events)
   all_given place [] valid = tt
   all_given place (x ∷ events) valid =
       (gives_kept place x (first_valid x events valid), all_given (place + 1) events (later_valid x events valid))
 
+  -- the records of valid events keep within the limits of trees
   all_fit : (events : List (Event SealedEntry)) → AreValid events → All Fits (map tree_of events)
   all_fit [] valid = All-nil Fits
   all_fit (x ∷ events) valid =
       All-cons Fits (tree_of x) (map tree_of events) (records_fit x (first_valid x events valid).kept)
       (all_fit events (later_valid x events valid))
 
+  -- the texts of their trees are those of their records
   all_spelt : (events : List (Event SealedEntry)) → AreValid events →
       flat_map text_of (map tree_of events) ≡ flat_map record_text events
   all_spelt [] valid = refl
@@ -245,6 +259,7 @@ module _ (posts : List Post) (election : List ℕ) where
       (legal : IsLegal node_of_sealed owner events) (bytes : List ℕ) (n : ℕ)
       (is : bytes ≡ text_of (header_tree owner) ++ take n (flat_map record_text events))
       (cut : IsCut record_text events n) where
+    -- the events whose records stand whole are valid
     first_valid_ones : AreValid (take cut.count events)
     first_valid_ones e c = valid e (held_prefix events cut.count e c)
 
@@ -263,15 +278,18 @@ module _ (posts : List Post) (election : List ℕ) where
               inr (tree_of x, more, records_fit x kept, some, records_spelt x kept ∙ text))
         ]
 
+    -- where the whole records end in the bytes
     abbrev offset : ℕ
     offset = length (text_of (header_tree owner)) + length (flat_map text_of (map tree_of (take cut.count events)))
 
+    -- that is where the text of so many events ends
     offset_is : offset ≡ end_of owner events cut.count
     offset_is =
         ap (λ (bs : List ℕ). length (text_of (header_tree owner)) + length bs)
         (all_spelt (take cut.count events) first_valid_ones)
         ∙ sym (length-append (text_of (header_tree owner)) (flat_map record_text (take cut.count events)))
 
+    -- behind it stand as many bytes as the rest has
     size_is : length bytes ≡ end_of owner events cut.count + length cut.rest
     size_is =
         let front = text_of (header_tree owner) in
@@ -329,6 +347,7 @@ module _ (posts : List Post) (election : List ℕ) where
               ))
         ]
 
+    -- so many records stand whole in bytes of this size
     stand_whole : StandWhole owner events (length bytes) cut.count
     stand_whole = record { some_of = cut.some_of; fit = omega (arith, size_is); no_more = no_more }
 
@@ -370,9 +389,11 @@ module _ (posts : List Post) (election : List ℕ) where
   module _ (owner : ℕ) (small : owner < 2 ^ 32) (events : List (Event SealedEntry)) (valid : AreValid events)
       (legal : IsLegal node_of_sealed owner events) where
     module _ (bytes : List ℕ) (left : IsLeftOf owner events bytes) where
+      -- how many bytes are left behind the header
       abbrev cut_at : ℕ
       cut_at = left.place - length (text_of (header_tree owner))
 
+      -- what is left is the header and the first so many bytes of the records
       cut_behind_header : bytes ≡ text_of (header_tree owner) ++ take cut_at (flat_map record_text events)
       cut_behind_header =
           left.cut
@@ -405,6 +426,7 @@ module _ (posts : List Post) (election : List ℕ) where
               (ap (λ (h : List (Event SealedEntry)). length (log_text owner h)) kept) read.ends;
         }
       where
+        -- where all bytes are there, all records stand whole
         all_of : (k : ℕ) → (k < length events → length (log_text owner events) < end_of owner events (k + 1)) →
             length events ≤ k
         all_of k none =
@@ -413,6 +435,7 @@ module _ (posts : List Post) (election : List ℕ) where
               | inr le ↦ le
             ]
 
+        -- bytes that end where the records do end clean
         clean_at : (place size : ℕ) (end : End) → place ≡ size → IsCutAt place size end → end ≡ Clean
         clean_at place size Clean same h = refl
         clean_at place size (Torn at) same h = absurd (omega (arith, same, h.0))

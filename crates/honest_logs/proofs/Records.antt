@@ -39,6 +39,7 @@ names_at : (names : List (List ℕ)) (d c : ℕ) → AreWithin d (forest_of (map
 names_at [] d c h = tt
 names_at (name ∷ names) d c h = (h.0, names_at names d c h.1)
 
+-- so are the fields of an override
 override_at : (is_first : Bool) (session : ℕ) (how : How) (d c : ℕ) → 0 < c →
     AreWithin d (forest_of (list_of (Atom (codes "override") ∷ number_atom session
     ∷ (if is_first then [] else Atom (how_word how) ∷ [])) ∷ [])) →
@@ -47,6 +48,7 @@ override_at : (is_first : Bool) (session : ℕ) (how : How) (d c : ℕ) → 0 < 
 override_at true session how d c some h = (some, h.1, h.2, tt)
 override_at false session how d c some h = (some, h.1, h.2, tt)
 
+-- the fields of any deed lie within any depth
 deed_at : (version : ℕ) (deed : Deed) (d c : ℕ) → 0 < c → AreWithin d (forest_of (deed_tree version deed ∷ [])) →
     AreWithin c (forest_of (deed_tree version deed ∷ []))
 deed_at version Opened d c some h = (some, h.1, h.2, tt)
@@ -64,6 +66,7 @@ abbrev pub members_in : Sexp → Forest
 members_in (Atom octets) = no_trees
 members_in (Branch members) = members
 
+-- an entry's fields lie within one depth less than they may
 body_at : (entry : Entry) → AreWithin 6 (members_in (body_tree entry)) → AreWithin 5 (members_in (body_tree entry))
 body_at entry (word, (version, (election, (maker, (number, (stamp, (deep, few, names, deed))))))) =
     let more : AreWithin 5 (forest_of (list_of (map Atom entry.names) ∷ deed_tree entry.version entry.deed ∷ [])) =
@@ -89,6 +92,7 @@ record_spelt word front e is begins =
     ∙ ap (λ (bs : List ℕ). bs ++ (text_of (signed_tree e.entry e.signature) ++ 41 ∷ [])) begins
     ∙ ap (λ (bs : List ℕ). front ++ (bs ++ 41 ∷ [])) (sym is.spelt.spelt) ∙ sym (append_assoc front e.text (41 ∷ []))
 
+-- the text of a record's tree is the record as logs have it
 pub records_spelt : (x : Event SealedEntry) → IsSealed (entry_of x) → text_of (tree_of x) ≡ record_text x
 records_spelt (Sent e) is =
     record_spelt (codes "sent") (codes "(4:sent") e is

@@ -41,6 +41,7 @@ atom_short octets small =
       length-decimal-le_succ (length octets) small,
     )
 
+-- the word of a role has at most 10 bytes
 word_short : (role : Role) → length (role_word role) ≤ 10
 word_short Supervisor = omega arith
 word_short Booth = omega arith
@@ -97,9 +98,11 @@ roster_reads machines have =
 
 module _ (script : Script) (lawful : IsLawful script) (steps : List Step) (w : World SealedEntry)
     (comes : ComesTo script steps w) where
+  -- the text of the script's roster
   abbrev text : List ℕ
   text = text_of (roster_tree (roster_of script))
 
+  -- where this roster and its election were read, the world is of the script
   of_this : (read : RosterRead) →
       read ≡ record { roster = record { machines = roster_of script }; election = sha256 text } →
       IsOfScript read.roster.machines read.election w
@@ -117,12 +120,14 @@ module _ (script : Script) (lawful : IsLawful script) (steps : List Step) (w : W
       (one_reading text reading (Ok (record { machines = roster_of script })) reads
       (roster_reads (roster_of script) (roster_has_text script lawful)))
 
+  -- an answer that gives this roster is for the script's world
   answer_is : (answer : Result RosterRead Refusal) →
       answer ≡ Ok (record { roster = record { machines = roster_of script }; election = sha256 text }) →
       IsOkAnd answer (λ read. IsOfScript read.roster.machines read.election w)
   answer_is (Ok read) is = of_this read cc
   answer_is (Err refusal) is = cc
 
+  -- the file of a script's roster gives that roster, and the world is of the script
   pub script_roster_is_read : (name : List ℕ) (answer : Result RosterRead Refusal) →
       GivesRoster name (Some text) answer → IsOkAnd answer (λ read. IsOfScript read.roster.machines read.election w)
   script_roster_is_read name answer (inl (long, told)) =

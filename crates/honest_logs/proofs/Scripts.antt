@@ -51,6 +51,7 @@ abbrev IsConfigAt : Script → List Cast0 → ℕ → ℕ → Option Config → 
 IsConfigAt script casts n m o =
     (o ≡ None) ⊎ ((cast : Cast0) × (slice_get casts m ≡ Some cast) × (o ≡ Some (config_of script (n + m) cast)))
 
+-- the machine at a place is configured by the script's line there
 config_at : (script : Script) (casts : List Cast0) (n m : ℕ) →
     IsConfigAt script casts n m (slice_get (map (λ at. config_of script at.0 at.1) (enumerate_from n casts)) m)
 config_at script [] n m = inl refl
@@ -94,6 +95,7 @@ module _ (script : Script) (lawful : IsLawful script) (next : ℕ → List (Even
   MaySendAt m h e =
       (cast : Cast0) × (slice_get script.machines m ≡ Some cast) × MaySend (config_of script m cast) h e
 
+  -- what a machine sends next it may send
   may_at : (m : ℕ) (h : List (Event SealedEntry)) (e : SealedEntry) → next m h ≡ Some e → MaySendAt m h e
   may_at m h e is =
       elim (config_at script script.machines 0 m) [
@@ -115,14 +117,17 @@ module _ (script : Script) (lawful : IsLawful script) (next : ℕ → List (Even
   next_lawful m h e is = let (cast, at, may) = may_at m h e is in may_follow (config_of script m cast) h e may
 
   module _ (steps : List Step) where
+    -- what the machines come to by these steps
     abbrev world : World SealedEntry
     world = play node_of_sealed next script.log (start (length script.machines)) steps
 
+    -- the histories of that world are legal, and what was got was sent
     orderly : IsOrderly node_of_sealed world
     orderly =
         IsOrderly-play node_of_sealed next script.log next_lawful (start (length script.machines)) steps
         (IsOrderly-start node_of_sealed (length script.machines))
 
+    -- it has a machine for each of the script's
     one_each : length world ≡ length script.machines
     one_each =
         length_play node_of_sealed next script.log (start {T = SealedEntry} (length script.machines)) steps
@@ -140,6 +145,7 @@ module _ (script : Script) (lawful : IsLawful script) (next : ℕ → List (Even
         slice_get script.machines m ≡ Some cast → length (sent a.history) ≤ length cast.actions
     few_by_one m a cast at there = by (length (sent a.history)) refl
       where
+        -- an entry that a machine sent is one of its actions
         last : (n : ℕ) (x : SealedEntry) → slice_get (sent a.history) n ≡ Some x → n < length cast.actions
         last n x is =
             let (past, later, split, count) = nth_split a.history n x is in
@@ -148,6 +154,7 @@ module _ (script : Script) (lawful : IsLawful script) (next : ℕ → List (Even
             let inside = slice_get_within other.actions (length (sent past)) may.deed may.action in
             omega (arith, inside, count, ap (λ (c : Cast0). length c.actions) same)
 
+        -- the same by how many it sent
         by : (n : ℕ) → length (sent a.history) ≡ n → n ≤ length cast.actions
         by zero long = omega arith
         by (suc n) long =
@@ -156,6 +163,7 @@ module _ (script : Script) (lawful : IsLawful script) (next : ℕ → List (Even
               | inr past ↦ absurd (omega (arith, past.0, long))
             ]
 
+    -- all together they sent no more than 4,096 entries
     few_sent : length (sent_in world) ≤ 4096
     few_sent =
         let all = lawful.machines.in_all in
@@ -224,6 +232,7 @@ module _ (script : Script) (lawful : IsLawful script) (next : ℕ → List (Even
         (length-id script.seed cast.name) unspent (omega (arith, there, length-map script.machines (post_of script)))
         (key_in_roster script m cast at))
 
+    -- so the world is an honest one
     honest : IsHonestWorld (roster_of script) world
     honest = record {
       one_each = one_each ∙ sym (length-map script.machines (post_of script));

@@ -68,6 +68,7 @@ module _ {T : Type 0} (node : T → Node) where
         at_least (node e).stamp (sent_in w) (λ n less.
         let (d, same) = gap (node e).stamp n less in down n d e c same)
       where
+        -- a lesser number is reached by some steps down
         gap : (s n : ℕ) → n < s → (d : ℕ) × (s ≡ d + suc n)
         gap zero n less = absurd (omega (arith, less))
         gap (suc s) zero less = (s, omega arith)

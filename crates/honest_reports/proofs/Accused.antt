@@ -46,13 +46,20 @@ pub record IsFound (name : List ℕ) (roster : Option (List ℕ)) (source : Rule
   pub logs : List LogRead
   pub graph : EntryGraph SealedEntry
   pub verdicts : List Verdict
+  -- the roster was read
   pub given : GivesRoster name roster (Ok read)
+  -- the rules are those that were asked for
   pub of_source : AreRulesOf source rules_file rules
+  -- the files gave the logs
   pub gives_logs : GivesLogs read.roster.machines read.election names files (Ok logs)
+  -- their entries gave the graph
   pub gives_graph : GivesGraph (entries_of logs) (Ok graph)
+  -- the verdicts are on the rules, of the graph's survivors
   pub judged : AreJudged (map (row_of read.roster.machines) graph.survivors) (nodes_of graph) rules verdicts
+  -- the report is on all of these
   pub is : report ≡ report_on read.roster.machines names logs graph rules verdicts
 
+-- where an audit reports, all of this was found
 pub found_in : (name : List ℕ) (roster : Option (List ℕ)) (source : RuleSource) (rules_file : Option (List ℕ))
     (names : List (List ℕ)) (files : List (Option (List ℕ))) (report : AuditReport) →
     GivesReport name source names (files_read roster source rules_file files) (Ok report) →
@@ -115,12 +122,14 @@ module _ (script : Script) (w : World SealedEntry) (roster : Option (List ℕ)) 
 
   module _ (apart : Distinct node_of_sealed (sent_in w)) (left : AreFilesOf w files)
       (found : IsFound name roster source rules_file names files report) where
+    -- the files were read as what is left of an honest place
     pub found_read : IsHonestlyRead found.read.roster.machines found.read.election w names files found.logs found.graph
     found_read =
         script_read found.read.roster.machines found.read.election w
         (of_script script w roster is name found.read found.given)
         apart names files left found.logs found.gives_logs found.graph found.gives_graph
 
+    -- each log that was found is one of the world
     pub found_logs : AreReadIn w found.logs
     found_logs =
         let machines = found.read.roster.machines in
@@ -129,6 +138,7 @@ module _ (script : Script) (w : World SealedEntry) (roster : Option (List ℕ)) 
         (subst (λ (election : List ℕ). GivesLogs machines election names files (Ok found.logs))
         (of_script_election machines found.read.election w of) found.gives_logs)
 
+    -- a report on what was found accuses nobody
     on_parts : IsHonestReport script w names files
         (report_on found.read.roster.machines names found.logs found.graph found.rules found.verdicts)
     on_parts = record {
@@ -142,5 +152,6 @@ module _ (script : Script) (w : World SealedEntry) (roster : Option (List ℕ)) 
           found.verdicts found_logs found_read.honest;
     }
 
+    -- so the report does
     pub report_honest : IsHonestReport script w names files report
     report_honest = subst (λ (r : AuditReport). IsHonestReport script w names files r) (sym found.is) on_parts

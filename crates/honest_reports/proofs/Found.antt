@@ -34,6 +34,7 @@ module _ (name : List ℕ) (roster rules_file : Option (List ℕ)) (names : List
       (read : RosterRead) × GivesRoster name roster (Ok read) × (rules : List RuleTree)
       × AreRulesOf source rules_file rules × WithRules read source rules names files answer
 
+  -- where an audit reports, the roster and the rules were read
   pub report_read : (source : RuleSource) (report : AuditReport) →
       GivesReport name source names (files_read roster source rules_file files) (Ok report) →
       AreRead source (Ok report)
@@ -55,6 +56,7 @@ module _ (name : List ℕ) (roster rules_file : Option (List ℕ)) (names : List
       GivesRoster name roster (Err refusal)
       ⊎ (IsRefusalOfRules source rules_file refusal ⊎ AreRead source (Err refusal))
 
+  -- behind a roster that was read the rules of a file are refused, or what is behind them
   rules_refused : (word : List ℕ) (refusal : Refusal) (read : RosterRead) → GivesRoster name roster (Ok read) →
       GivesRules word rules_file (Err refusal)
       ⊎ ((rules : List RuleTree) × GivesRules word rules_file (Ok rules)
@@ -63,6 +65,7 @@ module _ (name : List ℕ) (roster rules_file : Option (List ℕ)) (names : List
   rules_refused word refusal read given (inl refused) = inr (inl refused)
   rules_refused word refusal read given (inr (rules, are, rest)) = inr (inr (read, given, rules, are, rest))
 
+  -- with the standard rules the roster is refused, or what is behind it
   standard_refused : (refusal : Refusal) →
       GivesRoster name roster (Err refusal)
       ⊎ ((read : RosterRead) × GivesRoster name roster (Ok read)
@@ -71,6 +74,7 @@ module _ (name : List ℕ) (roster rules_file : Option (List ℕ)) (names : List
   standard_refused refusal (inl refused) = inl refused
   standard_refused refusal (inr (read, given, rest)) = inr (inr (read, given, standard_rules, refl, rest))
 
+  -- with the rules of a file the roster is refused, or the rules, or what is behind them
   file_refused : (word : List ℕ) (refusal : Refusal) →
       GivesRoster name roster (Err refusal)
       ⊎ ((read : RosterRead) × GivesRoster name roster (Ok read)
@@ -81,6 +85,7 @@ module _ (name : List ℕ) (roster rules_file : Option (List ℕ)) (names : List
       rules_refused word refusal read given
       (one_refused (GivesRules word rules_file) (λ rules. WithRules read (in_file word) rules names files) refusal next)
 
+  -- where an audit is refused, one of the steps was
   pub refusal_read : (source : RuleSource) (refusal : Refusal) →
       GivesReport name source names (files_read roster source rules_file files) (Err refusal) →
       IsOneRefused source refusal

@@ -35,18 +35,22 @@ none_by test (x ∷ xs) each =
 
 -- a verdict that isn't on a false value isn't Broken, and one on a true value is Kept
 module _ (rows : List Row) (graph : EntryGraph SealedEntry) where
+  -- what is known of a rule by the graph
   abbrev value_of : RuleTree → Three
   value_of rule = three_in rows (parents_of graph.links) (ragged_of graph.links) rule.body
 
+  -- the verdict is the one on the rule's value
   abbrev IsOn : RuleTree → Verdict → Type 0
   IsOn rule answer = IsJudged rows (nodes_of graph) rule.body (Ok answer)
 
+  -- a verdict on a value that isn't false isn't Broken
   one_not_broken : (rule : RuleTree) (answer : Verdict) → IsOn rule answer → value_of rule ≢ known.False →
       is_broken answer ≡ false
   one_not_broken rule verdict.Kept on free = refl
   one_not_broken rule (verdict.Broken places) on free = absurd (free on.1.0)
   one_not_broken rule verdict.Unsettled on free = refl
 
+  -- a verdict on a true value is Kept
   one_kept : (rule : RuleTree) (answer : Verdict) → IsOn rule answer → value_of rule ≡ known.True →
       answer ≡ verdict.Kept
   one_kept rule verdict.Kept on held = refl
@@ -67,6 +71,7 @@ module _ (rows : List Row) (graph : EntryGraph SealedEntry) where
             (other, Contains-later rule rules other there, on))
       ]
 
+  -- there is a verdict for each rule
   pub as_many : (rules : List RuleTree) (verdicts : List Verdict) → AllZip IsOn rules verdicts →
       length verdicts ≡ length rules
   as_many [] [] judged = refl
@@ -75,6 +80,7 @@ module _ (rows : List Row) (graph : EntryGraph SealedEntry) where
   as_many (rule ∷ rules) (answer ∷ verdicts) judged =
       let rest = as_many rules verdicts judged.1 in omega (arith, rest)
 
+  -- where no rule is known to be false, no verdict is Broken
   pub none_broken : (rules : List RuleTree) (verdicts : List Verdict) → AllZip IsOn rules verdicts →
       ((rule : RuleTree) → Contains rules rule → value_of rule ≢ known.False) → (answer : Verdict) →
       Contains verdicts answer → is_broken answer ≡ false
@@ -82,6 +88,7 @@ module _ (rows : List Row) (graph : EntryGraph SealedEntry) where
       let (rule, there, on) = of_some_rule rules verdicts judged answer inside in
       one_not_broken rule answer on (free rule there)
 
+  -- where each rule is known to be true, each verdict is Kept
   pub all_kept : (rules : List RuleTree) (verdicts : List Verdict) → AllZip IsOn rules verdicts →
       ((rule : RuleTree) → Contains rules rule → value_of rule ≡ known.True) →
       verdicts ≡ map (λ (rule : RuleTree). verdict.Kept) rules
@@ -110,6 +117,7 @@ not_broken_by true found same = cc
 not_broken_by false true same = cc
 not_broken_by false false same = cc
 
+-- a report without a Broken verdict doesn't come to Broken
 pub outcome_not_broken : (report : AuditReport) →
     ((answer : Verdict) → Contains report.verdicts answer → is_broken answer ≡ false) →
     outcome_of report ≢ outcome.Broken
@@ -125,6 +133,7 @@ one_line machines survivors rule verdict.Kept free = refl
 one_line machines survivors rule (verdict.Broken places) free = cc
 one_line machines survivors rule verdict.Unsettled free = refl
 
+-- where no verdict is Broken, no line names entries against a rule
 pub unbroken_lines : (machines : List Post) (survivors : List SealedEntry) (rules : List RuleTree)
     (verdicts : List Verdict) → ((answer : Verdict) → Contains verdicts answer → is_broken answer ≡ false) →
     flat_map (rule_line machines survivors) (zip rules verdicts) ≡ flat_map unbroken_line (zip rules verdicts)

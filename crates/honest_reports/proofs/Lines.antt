@@ -35,6 +35,7 @@ parts_same a b c d e first second third =
     ∙ ap (λ (x : List ℕ). a ++ x ++ d) second ∙ ap (λ (x : List ℕ). a ++ e ++ x) third ∙ append-nil (a ++ e)
 
 module _ (w : World SealedEntry) where
+  -- a log of an honest place has its own line and at most one on its torn end
   pub log_innocent : (file : List ℕ) (log : LogRead) → IsReadIn w log →
       log_lines (file, log) ≡ log_and_torn_line (file, log)
   log_innocent file log is =
@@ -42,6 +43,7 @@ module _ (w : World SealedEntry) where
       (break_line file log.broke) (torn_line file log.end) (ap (refused_lines file) is.read.none_refused)
       (torn_is file log.end (not_malformed _ _ log.end is.read.ends)) (ap (break_line file) is.read.no_break)
 
+  -- so have all its logs
   pub logs_innocent : (files : List (List ℕ)) (logs : List LogRead) → AreReadIn w logs →
       flat_map log_lines (zip files logs) ≡ flat_map log_and_torn_line (zip files logs)
   logs_innocent [] logs all = refl

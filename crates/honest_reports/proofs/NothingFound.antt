@@ -40,9 +40,11 @@ use Rattle.honest_reports.proofs.Judged.{none_by}
 
 -- the whole log of a machine is read to its end
 module _ (posts : List Post) (w : World SealedEntry) (honest : IsHonestWorld posts w) where
+  -- the file is the whole log of a machine
   abbrev IsWholeFile : Option (List ℕ) → Type 0
   IsWholeFile file = IsSomeAnd file (IsWholeIn w)
 
+  -- a whole log is read to a clean end
   one_clean : (file : Option (List ℕ)) (log : LogRead) → IsWholeFile file →
       IsSealedLogOf posts (election_of posts) log file → log.end ≡ Clean
   one_clean None log whole said = absurd whole
@@ -50,6 +52,7 @@ module _ (posts : List Post) (w : World SealedEntry) (honest : IsHonestWorld pos
       (whole_in posts w honest whole.machine whole.there log
       (subst (λ (bs : List ℕ). SaysSealed posts (election_of posts) bs log) whole.whole said.1)).ends
 
+  -- where all files are whole logs, each log ends clean
   pub whole_clean : (names : List (List ℕ)) (files : List (Option (List ℕ))) → AreWholeFilesOf w files →
       (logs : List LogRead) → GivesLogs posts (election_of posts) names files (Ok logs) → EndClean logs
   whole_clean [] [] whole [] gives log inside = absurd (Contains-none log inside)
@@ -102,6 +105,7 @@ kept_lines machines survivors (rule ∷ rules) =
 abbrev line_of : List ℕ × LogRead → List ℕ
 line_of named = log_line named.0 named.1
 
+-- logs with clean ends have no line but their own
 clean_lines : (files : List (List ℕ)) (logs : List LogRead) → EndClean logs →
     flat_map log_and_torn_line (zip files logs) ≡ flat_map line_of (zip files logs)
 clean_lines [] logs clean = refl
@@ -129,6 +133,7 @@ no_member {A} test (y ∷ xs) none x inside =
       | inr later ↦ no_member test xs both.1 x later
     ]
 
+-- an end that isn't found unclean is clean
 end_clean : (end : End) → not (is_clean end) ≡ false → end ≡ Clean
 end_clean Clean is = refl
 end_clean (Torn at) is = cc
@@ -139,6 +144,7 @@ module _ (report : AuditReport) (kept : report.verdicts ≡ map (λ (rule : Rule
   abbrev kept_verdicts : List Verdict
   kept_verdicts = map (λ (rule : RuleTree). verdict.Kept) standard_rules
 
+  -- the outcome hangs on the findings alone
   comes_by : (found : Bool) → has_finding report ≡ found → outcome_of report ≡ outcome_by false false found
   comes_by found is =
       let test = has_finding report in
@@ -152,6 +158,7 @@ module _ (report : AuditReport) (kept : report.verdicts ≡ map (λ (rule : Rule
   pub torn_found : ¬ EndClean report.logs → outcome_of report ≡ outcome.Findings
   torn_found torn = by (has_finding report) refl
     where
+      -- the same by whether anything is found
       by : (found : Bool) → has_finding report ≡ found → outcome_of report ≡ outcome.Findings
       by true is = comes_by true is
       by false is =
@@ -165,16 +172,19 @@ module _ (w : World SealedEntry) (report : AuditReport) (read : AreReadIn w repo
     (honest : IsHonestGraph w (entries_of report.logs) report.graph) (rules : report.rules ≡ standard_rules)
     (kept : report.verdicts ≡ map (λ (rule : RuleTree). verdict.Kept) standard_rules)
     (no_gap : report.graph.gaps ≡ []) (clean : EndClean report.logs) where
+  -- no log of an honest place that ends clean has a finding
   one_quiet : (log : LogRead) → Contains report.logs log → log_has_finding log ≡ false
   one_quiet log inside =
       let is = (All-contains (IsReadIn w) report.logs log read inside).read in
       no_log_finding log.refused.items log.end log.broke is.none_refused (clean log inside) is.no_break
 
+  -- so there is no finding
   quiet : has_finding report ≡ false
   quiet =
       ap (λ (b : Bool). b || graph_has_finding report.graph) (none_by log_has_finding report.logs one_quiet)
       ∙ no_graph_finding report.graph.strays report.graph.forks report.graph.gaps honest.no_stray honest.no_fork no_gap
 
+  -- and the outcome is Kept
   comes_to : outcome_of report ≡ outcome.Kept
   comes_to = comes_by report kept false quiet
 
@@ -194,6 +204,7 @@ module _ (w : World SealedEntry) (report : AuditReport) (read : AreReadIn w repo
       kept
       ∙ kept_lines report.machines report.graph.survivors standard_rules
 
+  -- a report with innocent lines alone, where each rule is kept, has the text of one that found nothing
   text : main_lines report ≡ innocent_lines report → report_text report ≡ kept_text report
   text lines =
       let logs = flat_map line_of (zip report.files report.logs) in
@@ -207,5 +218,6 @@ module _ (w : World SealedEntry) (report : AuditReport) (read : AreReadIn w repo
       ∙ ap (λ (x : List ℕ). logs ++ entries ++ x ++ last (outcome_of report)) rules_text
       ∙ ap (λ (o : Outcome). logs ++ entries ++ flat_map kept_line standard_rules ++ last o) comes_to
 
+  -- so the report finds nothing
   pub nothing_found : main_lines report ≡ innocent_lines report → FindsNothing report
   nothing_found lines = record { outcome = comes_to; text = text lines }

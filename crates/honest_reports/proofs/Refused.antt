@@ -39,9 +39,11 @@ module _ (script : Script) (w : World SealedEntry) (roster : Option (List ℕ)) 
 
   module _ (read : RosterRead) (given : GivesRoster name roster (Ok read)) (rules : List RuleTree)
       (of_source : AreRulesOf source rules_file rules) where
+    -- the machines of the roster that was read
     abbrev machines : List Post
     machines = read.roster.machines
 
+    -- the world is of the script, under that roster
     of : IsOfScript read.roster.machines read.election w
     of = of_script script w roster is name read given
 
@@ -70,6 +72,7 @@ module _ (script : Script) (w : World SealedEntry) (roster : Option (List ℕ)) 
             }))
         by_verdicts (inr (verdicts, judged, same)) = cc
 
+      -- the graph isn't refused, so a rule is
       by_graph : GivesGraph (entries_of logs) (Err refusal)
           ⊎ ((graph : EntryGraph SealedEntry) × GivesGraph (entries_of logs) (Ok graph)
           × WithGraph machines source rules names logs graph (Err refusal)) → IsSo
@@ -81,6 +84,7 @@ module _ (script : Script) (w : World SealedEntry) (roster : Option (List ℕ)) 
           (one_refused (GivesVerdicts source (map (row_of machines) graph.survivors) (nodes_of graph) rules)
           (λ verdicts answer. answer ≡ Ok (report_on machines names logs graph rules verdicts)) refusal rest)
 
+    -- the logs are refused where one is over the limit, and else what is behind them
     by_logs : GivesLogs machines read.election names files (Err refusal)
         ⊎ ((logs : List LogRead) × GivesLogs machines read.election names files (Ok logs)
         × WithLogs machines source rules names logs (Err refusal)) → IsSo
@@ -90,6 +94,7 @@ module _ (script : Script) (w : World SealedEntry) (roster : Option (List ℕ)) 
         by_graph logs gives_logs
         (one_refused (GivesGraph (entries_of logs)) (WithGraph machines source rules names logs) refusal rest)
 
+  -- the roster isn't refused, so the rules are, or what is behind them
   by_files : IsOneRefused name roster rules_file names files source refusal → IsSo
   by_files (inl refused) = absurd (roster_not_refused script w roster is name refusal refused)
   by_files (inr (inl refused)) = inl refused
@@ -98,5 +103,6 @@ module _ (script : Script) (w : World SealedEntry) (roster : Option (List ℕ)) 
       (one_refused (GivesLogs read.roster.machines read.election names files)
       (WithLogs read.roster.machines source rules names) refusal rest)
 
+  -- so an audit of an honest place is refused for these causes alone
   pub refused_only_so : GivesReport name source names (files_read roster source rules_file files) (Err refusal) → IsSo
   refused_only_so gives = by_files (refusal_read name roster rules_file names files source refusal gives)

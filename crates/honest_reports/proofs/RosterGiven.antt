@@ -60,10 +60,12 @@ three_short a b c rest short_a short_b short_c =
       length-append (atom_text c) [],
     )
 
+-- the word of a role has at most 56 bytes
 word_short : (role : Role) → length (role_word role) ≤ 56
 word_short Supervisor = omega arith
 word_short Booth = omega arith
 
+-- the texts of machines have at most 233 bytes each
 posts_short : (machines : List Post) → All (λ (post : Post). IsName post.name) machines → All HasKey machines →
     length (texts_of (forest_of (map post_tree machines))) ≤ 233 * length machines
 posts_short [] named keyed = omega arith
@@ -111,22 +113,27 @@ roster_given machines have name answer (inr (short, (reading, reads, told))) =
 
 module _ (script : Script) (w : World SealedEntry) (roster : Option (List ℕ)) (is : IsRosterOf script w roster)
     (name : List ℕ) where
+  -- the roster of the script
   abbrev posts : List Post
   posts = roster_of script
 
+  -- whatever the file gives is the script's roster
   given : (answer : Result RosterRead Refusal) → GivesRoster name roster answer →
       answer ≡ roster_read name (text_of (roster_tree posts)) (Ok (record { machines = posts }))
   given answer gives =
       roster_given posts (roster_has_text script is.lawful) name answer
       (subst (λ (file : Option (List ℕ)). GivesRoster name file answer) is.text gives)
 
+  -- so it isn't refused
   pub roster_not_refused : (refusal : Refusal) → ¬ GivesRoster name roster (Err refusal)
   roster_not_refused refusal gives = let same = given (Err refusal) gives in cc
 
   module _ (read : RosterRead) (gives : GivesRoster name roster (Ok read)) where
+    -- the roster that was read is the script's, with the election of its text
     same : read ≡ record { roster = record { machines = posts }; election = sha256 (text_of (roster_tree posts)) }
     same = let told = given (Ok read) gives in cc
 
+    -- its machines are the script's
     pub machines_same : read.roster.machines ≡ posts
     machines_same = ap (λ (r : RosterRead). r.roster.machines) same
 

@@ -43,6 +43,7 @@ module _ {posts : List Post} {w : World SealedEntry} (honest : IsHonest posts w)
   AuthorisedBefore e n =
       (f : SealedEntry) × Precedes node_of_sealed (sent_in w) f e × (f.entry.deed ≡ deed.Authorise e.entry.maker n)
 
+  -- where it had to hold one, an authorising of its session precedes what it sent
   authorised : (e : SealedEntry) (s : SentBy w e) → Contains (sent_in w) e → (n : ℕ) →
       ((IsAuthorised e.entry.maker (entries_in s.past) n → ⊥) → ⊥) → AuthorisedBefore e n
   authorised e s ce n deny =
@@ -55,6 +56,7 @@ module _ {posts : List Post} {w : World SealedEntry} (honest : IsHonest posts w)
       (f : SealedEntry) × Precedes node_of_sealed (sent_in w) f e × (f.entry.maker ≡ e.entry.maker)
       × (f.entry.deed ≡ deed.Commit n x)
 
+  -- where it had to hold one, its own commitment precedes what it sent
   committed : (e : SealedEntry) (s : SentBy w e) → Contains (sent_in w) e → (n : ℕ) (x : List ℕ) →
       ((HasCommittedTo e.entry.maker (entries_in s.past) n x → ⊥) → ⊥) → CommittedBefore e n x
   committed e s ce n x deny =
@@ -121,6 +123,7 @@ module _ {posts : List Post} {w : World SealedEntry} (honest : IsHonest posts w)
 
 module _ {posts : List Post} {w : World SealedEntry} (honest : IsHonest posts w)
     (distinct : Distinct node_of_sealed (sent_in w)) (S : List SealedEntry) (were_sent : WereSentIn w S) where
+  -- what the rule says of the survivors
   abbrev Rule : Trees → Type 0
   Rule rule = Says node_of_sealed (row_of posts) S (sent_in w) rule
 

@@ -26,6 +26,7 @@ use Rattle.honest_rules.proofs.NotHeld.{not_ended, not_ended_own, not_overridden
 use Rattle.honest_rules.proofs.NotHeld.{not_overridden_own, not_activated, not_committed}
 use Rattle.honest_rules.proofs.SmallPlaces.{EachSent, each_sent, machine, made, place, place_orderly, place_distinct}
 
+-- a supervisor and two booths
 abbrev posts : List Post
 posts = machine Supervisor ∷ machine Booth ∷ machine Booth ∷ []
 
@@ -40,6 +41,7 @@ abbrev steps : List Step
 steps =
     Act 0 ∷ Act 0 ∷ Act 0 ∷ Act 0 ∷ Hear 1 0 0 ∷ Hear 1 0 1 ∷ Act 1 ∷ Act 1 ∷ Hear 1 0 3 ∷ Act 1 ∷ []
 
+-- what they come to
 abbrev w : World SealedEntry
 w = place deeds steps
 
@@ -47,12 +49,15 @@ w = place deeds steps
 abbrev opened : SealedEntry
 opened = made deeds 0 0 1 []
 
+-- the authorising of the first booth
 abbrev authorised : SealedEntry
 authorised = made deeds 0 1 2 (opened.digest ∷ [])
 
+-- the override of its session
 abbrev overridden : SealedEntry
 overridden = made deeds 0 2 3 (authorised.digest ∷ [])
 
+-- the authorising of the second booth
 abbrev also_authorised : SealedEntry
 also_authorised = made deeds 0 3 4 (overridden.digest ∷ [])
 
@@ -60,12 +65,15 @@ also_authorised = made deeds 0 3 4 (overridden.digest ∷ [])
 abbrev activated : SealedEntry
 activated = made deeds 1 0 3 (authorised.digest ∷ [])
 
+-- its commitment to a ballot
 abbrev committed : SealedEntry
 committed = made deeds 1 1 4 (activated.digest ∷ [])
 
+-- and the ballot that it casts
 abbrev cast : SealedEntry
 cast = made deeds 1 2 5 (also_authorised.digest ∷ committed.digest ∷ [])
 
+-- these seven are all that was sent
 all_sent : sent_in w
     ≡ opened ∷ authorised ∷ overridden ∷ also_authorised ∷ activated ∷ committed ∷ cast ∷ []
 all_sent = refl
@@ -187,6 +195,7 @@ booth_allowed =
       ),
     )
 
+-- so each machine sends what it may, but for that ballot
 allowed : (m : ℕ) → EachSent (May m) [] (history w m)
 allowed zero = supervisor_allowed
 allowed (suc zero) = booth_allowed
@@ -202,9 +211,11 @@ before = (
   ((3, omega arith, refl), (0, omega arith, refl), (0, omega arith, refl)),
 )
 
+-- the ballot follows an override, which the rule forbids
 fails : ¬ (Holds node_of_sealed (row_of posts) (sent_in w) (sent_in w) v2)
 fails holds = holds cast (6, omega arith, refl) refl (overridden, refl, before, refl)
 
+-- so a booth that casts over a log that isn't whole can break the rule on overrides
 pub casting_over_gaps_fails : FailsAtSome (IsHonestBut (BoothNot LogNotWhole)) v2
 casting_over_gaps_fails = (
   posts,

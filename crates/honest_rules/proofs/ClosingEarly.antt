@@ -24,15 +24,19 @@ use Rattle.honest_rules.specs.InSpite.{MayInSpiteOf, IsHonestBut, FailsAtSome}
 use Rattle.honest_rules.proofs.NotHeld.{none_such, not_opened, not_closed_own, not_used, not_busy, not_ended}
 use Rattle.honest_rules.proofs.SmallPlaces.{EachSent, each_sent, machine, made, place, place_orderly, place_distinct}
 
+-- a supervisor and a booth
 abbrev posts : List Post
 posts = machine Supervisor ∷ machine Booth ∷ []
 
+-- the supervisor opens, authorises and closes
 abbrev deeds : List (List Deed)
 deeds = (deed.Opened ∷ deed.Authorise 1 7 ∷ deed.Closed ∷ []) ∷ [] ∷ []
 
+-- it acts three times
 abbrev steps : List Step
 steps = Act 0 ∷ Act 0 ∷ Act 0 ∷ []
 
+-- what they come to
 abbrev w : World SealedEntry
 w = place deeds steps
 
@@ -40,12 +44,15 @@ w = place deeds steps
 abbrev opened : SealedEntry
 opened = made deeds 0 0 1 []
 
+-- the authorising of the session that is left
 abbrev authorised : SealedEntry
 authorised = made deeds 0 1 2 (opened.digest ∷ [])
 
+-- the closing
 abbrev closed : SealedEntry
 closed = made deeds 0 2 3 (authorised.digest ∷ [])
 
+-- these three are all that was sent
 all_sent : sent_in w ≡ opened ∷ authorised ∷ closed ∷ []
 all_sent = refl
 
@@ -55,6 +62,7 @@ May m past e =
     IsDeedOf (role_at posts m) e.entry.deed
     × MayInSpiteOf (SupervisorNot SessionsLeft) (role_at posts m) m past e.entry.deed
 
+-- so each machine sends what it may, but for the closing
 allowed : (m : ℕ) → EachSent (May m) [] (history w m)
 allowed zero =
     let one = opened.entry ∷ [] in
@@ -109,6 +117,7 @@ fails holds =
       | inr (inr (inr none)) ↦ none
     ]
 
+-- so a supervisor that closes while a session is left breaks the rule on closing
 pub closing_over_sessions_fails : FailsAtSome (IsHonestBut (SupervisorNot SessionsLeft)) p3
 closing_over_sessions_fails = (
   posts,

@@ -48,9 +48,11 @@ of_kind k d h = cc
 pub cast_ends : (d : Deed) → IsTrue (is_kind kind.Cast (kind_of d)) → Ends (session_of d) d
 cast_ends d h = inl (ballot_of d, of_kind kind.Cast d h)
 
+-- so does cancelling
 pub cancel_ends : (d : Deed) → IsTrue (is_kind kind.Cancel (kind_of d)) → Ends (session_of d) d
 cancel_ends d h = inr (inl (of_kind kind.Cancel d h))
 
+-- and challenging
 pub challenge_ends : (d : Deed) → IsTrue (is_kind kind.Challenge (kind_of d)) → Ends (session_of d) d
 challenge_ends d h = inr (inr (ballot_of d, of_kind kind.Challenge d h))
 
@@ -59,10 +61,12 @@ pub no_cast_is_cancel : (k : Kind) → IsTrue (is_kind kind.Cast k) → IsTrue (
 no_cast_is_cancel kind.Cast cast cancel = cc
 no_cast_is_cancel k cast cancel = cc
 
+-- casting is no challenge
 pub no_cast_is_challenge : (k : Kind) → IsTrue (is_kind kind.Cast k) → IsTrue (is_kind kind.Challenge k) → ⊥
 no_cast_is_challenge kind.Cast cast challenge = cc
 no_cast_is_challenge k cast challenge = cc
 
+-- a challenge is no cancelling
 pub no_challenge_is_cancel : (k : Kind) → IsTrue (is_kind kind.Challenge k) → IsTrue (is_kind kind.Cancel k) → ⊥
 no_challenge_is_cancel kind.Challenge challenge cancel = cc
 no_challenge_is_cancel k challenge cancel = cc

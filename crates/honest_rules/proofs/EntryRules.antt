@@ -44,12 +44,14 @@ IsSupervisorKind d =
     ∷ IsTrue (is_kind kind.Override (kind_of d)) ∷ IsTrue (is_kind kind.Forced (kind_of d))
     ∷ IsTrue (is_kind kind.Closed (kind_of d)) ∷ [])
 
+-- the deed is of one of a booth's kinds
 abbrev IsBoothKind : Deed → Type 0
 IsBoothKind d =
     SomeHolds (IsTrue (is_kind kind.Activate (kind_of d)) ∷ IsTrue (is_kind kind.Commit (kind_of d))
     ∷ IsTrue (is_kind kind.Cast (kind_of d)) ∷ IsTrue (is_kind kind.Cancel (kind_of d))
     ∷ IsTrue (is_kind kind.Challenge (kind_of d)) ∷ [])
 
+-- what a supervisor may do is of its kinds
 supervisor_kind : (d : Deed) → IsDeedOf Supervisor d → IsSupervisorKind d
 supervisor_kind deed.Opened of = inl refl
 supervisor_kind (deed.Authorise booth session) of = inr (inl refl)
@@ -62,6 +64,7 @@ supervisor_kind (deed.Cast session ballot) of = absurd of
 supervisor_kind (deed.Cancel session) of = absurd of
 supervisor_kind (deed.Challenge session ballot) of = absurd of
 
+-- what a booth may do is of a booth's kinds
 booth_kind : (d : Deed) → IsDeedOf Booth d → IsBoothKind d
 booth_kind deed.Opened of = absurd of
 booth_kind (deed.Authorise booth session) of = absurd of
@@ -82,6 +85,7 @@ kind_by_role Booth d of = inr (inl (refl, (booth_kind d of, tt)))
 
 module _ {posts : List Post} {w : World SealedEntry} (honest : IsHonest posts w)
     (distinct : Distinct node_of_sealed (sent_in w)) (S : List SealedEntry) (were_sent : WereSentIn w S) where
+  -- what the rule says of the survivors
   abbrev Rule : Trees → Type 0
   Rule rule = Holds node_of_sealed (row_of posts) S (sent_in w) rule
 
@@ -121,6 +125,7 @@ module _ {posts : List Post} {w : World SealedEntry} (honest : IsHonest posts w)
   pub rule_k2 : Rule k2
   rule_k2 e ce ke = by e.entry.number refl
     where
+      -- the same by the entry's number: it is 0, or some entry comes before
       by : (n : ℕ) → e.entry.number ≡ n →
           IsTrue (e.entry.number == 0)
           ⊎ (((f : SealedEntry) × (true ≡ true) × Precedes node_of_sealed (sent_in w) f e

@@ -23,6 +23,7 @@ use Rattle.honest_rules.specs.Unchained.{IsNextUnchained, IsHonestUnchained}
 use Rattle.honest_rules.proofs.NotHeld.{not_opened, not_closed_own, not_used, not_busy}
 use Rattle.honest_rules.proofs.SmallPlaces.{EachSent, each_sent, machine, made}
 
+-- a supervisor, and a booth that sends nothing
 abbrev posts : List Post
 posts = machine Supervisor ∷ machine Booth ∷ []
 
@@ -30,12 +31,15 @@ posts = machine Supervisor ∷ machine Booth ∷ []
 abbrev deeds : List (List Deed)
 deeds = (deed.Opened ∷ deed.Authorise 1 7 ∷ []) ∷ []
 
+-- the opening
 abbrev opened : SealedEntry
 opened = made deeds 0 0 1 []
 
+-- an authorising, which names no entry
 abbrev authorised : SealedEntry
 authorised = made deeds 0 1 2 []
 
+-- the place where both were sent
 abbrev w : World SealedEntry
 w =
     record { history = Sent opened ∷ Sent authorised ∷ []; stopped = false }
@@ -46,6 +50,7 @@ abbrev AsAsked : ℕ → List (Event SealedEntry) → SealedEntry → Type 0
 AsAsked m past e =
     IsNew node_of_sealed (held past) e × IsNextUnchained m past e × MayAs (role_at posts m) m past e
 
+-- each is what is asked, but that it names nothing
 as_asked : (m : ℕ) → EachSent (AsAsked m) [] (history w m)
 as_asked zero =
     let one = opened.entry ∷ [] in (
@@ -87,6 +92,7 @@ no_receipt (suc zero) (x ∷ past) e later is = cc
 no_receipt (suc (suc m)) [] e later is = cc
 no_receipt (suc (suc m)) (x ∷ past) e later is = cc
 
+-- their digests differ
 distinct : Distinct node_of_sealed (sent_in w)
 distinct e f ce cf is =
     elim (Contains-cons_cases opened (authorised ∷ []) e ce) [
@@ -118,6 +124,7 @@ fails holds =
       | inr (inr none) ↦ none
     ]
 
+-- so a machine that doesn't name its own last entry breaks the rule on chains
 pub naming_none_of_its_own_fails : FailsAtSome IsHonestUnchained k2
 naming_none_of_its_own_fails = (
   posts,

@@ -40,6 +40,7 @@ no_own : (test : Deed → Bool) (IsSuch : Deed → Type 0) → ((d : Deed) → D
 no_own test IsSuch decides owner es none held =
     false≢true (sym none ∙ (own_decides owner test IsSuch decides es).1 held)
 
+-- no entry of any maker with such a deed is held
 no_any : (test : Deed → Bool) (IsSuch : Deed → Type 0) → ((d : Deed) → Decides (test d) (IsSuch d)) →
     (es : List Entry) → list_any (λ entry. test entry.deed) es ≡ false → Holds es IsSuch → ⊥
 no_any test IsSuch decides es none held = false≢true (sym none ∙ (holds_decides test IsSuch decides es).1 held)
@@ -49,46 +50,57 @@ pub not_opened : (owner : ℕ) (es : List Entry) → holds_own owner is_opened e
     HoldsOwn owner es (λ d. d ≡ deed.Opened) → ⊥
 not_opened = no_own is_opened (λ d. d ≡ deed.Opened) opened_decides
 
+-- no own closing is held
 pub not_closed_own : (owner : ℕ) (es : List Entry) → holds_own owner is_closed es ≡ false →
     HoldsOwn owner es (λ d. d ≡ deed.Closed) → ⊥
 not_closed_own = no_own is_closed (λ d. d ≡ deed.Closed) closed_decides
 
+-- no closing is held
 pub not_closed : (es : List Entry) → list_any (λ entry. is_closed entry.deed) es ≡ false →
     Holds es (λ d. d ≡ deed.Closed) → ⊥
 not_closed = no_any is_closed (λ d. d ≡ deed.Closed) closed_decides
 
+-- no own authorising of the session is held
 pub not_used : (n owner : ℕ) (es : List Entry) → holds_own owner (authorises n) es ≡ false →
     HoldsOwn owner es (Authorises n) → ⊥
 not_used n = no_own (authorises n) (Authorises n) (authorises_decides n)
 
+-- no authorising of the session for the booth is held
 pub not_named : (booth n : ℕ) (es : List Entry) → list_any (λ entry. authorises_booth booth n entry.deed) es ≡ false →
     Holds es (λ d. d ≡ deed.Authorise booth n) → ⊥
 not_named booth n =
     no_any (authorises_booth booth n) (λ d. d ≡ deed.Authorise booth n) (authorises_booth_decides booth n)
 
+-- nothing that ends the session is held
 pub not_ended : (n : ℕ) (es : List Entry) → list_any (λ entry. ends n entry.deed) es ≡ false → Holds es (Ends n) → ⊥
 not_ended n = no_any (ends n) (Ends n) (ends_decides n)
 
+-- nothing of its own that ends the session is held
 pub not_ended_own : (n owner : ℕ) (es : List Entry) → holds_own owner (ends n) es ≡ false →
     HoldsOwn owner es (Ends n) → ⊥
 not_ended_own n = no_own (ends n) (Ends n) (ends_decides n)
 
+-- no override of the session is held
 pub not_overridden : (n : ℕ) (es : List Entry) → list_any (λ entry. overrides n entry.deed) es ≡ false →
     Holds es (Overrides n) → ⊥
 not_overridden n = no_any (overrides n) (Overrides n) (overrides_decides n)
 
+-- no override of the session with this word is held
 pub not_overridden_to : (n : ℕ) (how : How) (es : List Entry) →
     list_any (λ entry. overrides_by n how entry.deed) es ≡ false → Holds es (λ d. d ≡ deed.Override n how) → ⊥
 not_overridden_to n how = no_any (overrides_by n how) (λ d. d ≡ deed.Override n how) (overrides_by_decides n how)
 
+-- no own override of the session with this word is held
 pub not_overridden_own : (n : ℕ) (how : How) (owner : ℕ) (es : List Entry) →
     holds_own owner (overrides_by n how) es ≡ false → HoldsOwn owner es (λ d. d ≡ deed.Override n how) → ⊥
 not_overridden_own n how = no_own (overrides_by n how) (λ d. d ≡ deed.Override n how) (overrides_by_decides n how)
 
+-- no own activation of the session is held
 pub not_activated : (n owner : ℕ) (es : List Entry) → holds_own owner (activates n) es ≡ false →
     HoldsOwn owner es (λ d. d ≡ deed.Activate n) → ⊥
 not_activated n = no_own (activates n) (λ d. d ≡ deed.Activate n) (activates_decides n)
 
+-- no own commitment in the session is held
 pub not_committed : (n owner : ℕ) (es : List Entry) → holds_own owner (commits n) es ≡ false →
     HoldsOwn owner es (Commits n) → ⊥
 not_committed n = no_own (commits n) (Commits n) (commits_decides n)

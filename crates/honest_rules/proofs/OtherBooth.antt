@@ -25,6 +25,7 @@ use Rattle.honest_rules.specs.InSpite.{MayInSpiteOf, IsHonestBut, FailsAtSome}
 use Rattle.honest_rules.proofs.NotHeld.{none_such, not_opened, not_closed_own, not_used, not_busy, not_named}
 use Rattle.honest_rules.proofs.SmallPlaces.{EachSent, each_sent, machine, made, place, place_orderly, place_distinct}
 
+-- a supervisor and two booths
 abbrev posts : List Post
 posts = machine Supervisor ∷ machine Booth ∷ machine Booth ∷ []
 
@@ -32,9 +33,11 @@ posts = machine Supervisor ∷ machine Booth ∷ machine Booth ∷ []
 abbrev deeds : List (List Deed)
 deeds = (deed.Opened ∷ deed.Authorise 1 7 ∷ []) ∷ [] ∷ (deed.Activate 7 ∷ []) ∷ []
 
+-- the second booth hears of the authorising before it acts
 abbrev steps : List Step
 steps = Act 0 ∷ Act 0 ∷ Hear 2 0 0 ∷ Hear 2 0 1 ∷ Act 2 ∷ []
 
+-- what they come to
 abbrev w : World SealedEntry
 w = place deeds steps
 
@@ -42,12 +45,15 @@ w = place deeds steps
 abbrev opened : SealedEntry
 opened = made deeds 0 0 1 []
 
+-- the authorising of the first booth
 abbrev authorised : SealedEntry
 authorised = made deeds 0 1 2 (opened.digest ∷ [])
 
+-- the activation of its session by the second
 abbrev activated : SealedEntry
 activated = made deeds 2 0 3 (authorised.digest ∷ [])
 
+-- these three are all that was sent
 all_sent : sent_in w ≡ opened ∷ authorised ∷ activated ∷ []
 all_sent = refl
 
@@ -57,6 +63,7 @@ May m past e =
     IsDeedOf (role_at posts m) e.entry.deed
     × MayInSpiteOf (BoothNot NotAuthorised) (role_at posts m) m past e.entry.deed
 
+-- so each machine sends what it may, but for the activation
 allowed : (m : ℕ) → EachSent (May m) [] (history w m)
 allowed zero =
     let one = opened.entry ∷ [] in (
@@ -89,6 +96,7 @@ fails holds =
     none_such test (sent_in w) refl f before.0
     (and_from (is_kind kind.Authorise (kind_of f.entry.deed)) (booth_of f.entry.deed == 2) authorises names)
 
+-- so a booth that takes another's session breaks the rule on activations
 pub taking_another_booths_session_fails : FailsAtSome (IsHonestBut (BoothNot NotAuthorised)) a1
 taking_another_booths_session_fails = (
   posts,

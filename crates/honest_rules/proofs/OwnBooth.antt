@@ -18,6 +18,7 @@ use Rattle.honest_rules.proofs.NotHeld.{not_opened, not_closed_own, not_used, no
 use Rattle.honest_rules.proofs.NotHeld.{not_ended_own, not_activated, not_overridden, not_closed}
 use Rattle.honest_rules.proofs.SmallPlaces.{EachSent, each_sent, machine, made, place, place_orderly, place_distinct}
 
+-- a supervisor and a booth
 abbrev posts : List Post
 posts = machine Supervisor ∷ machine Booth ∷ []
 
@@ -25,9 +26,11 @@ posts = machine Supervisor ∷ machine Booth ∷ []
 abbrev deeds : List (List Deed)
 deeds = (deed.Opened ∷ deed.Authorise 1 7 ∷ []) ∷ (deed.Activate 7 ∷ []) ∷ []
 
+-- the booth hears of its authorising before it acts
 abbrev steps : List Step
 steps = Act 0 ∷ Act 0 ∷ Hear 1 0 0 ∷ Hear 1 0 1 ∷ Act 1 ∷ []
 
+-- what they come to
 abbrev w : World SealedEntry
 w = place deeds steps
 
@@ -35,12 +38,15 @@ w = place deeds steps
 abbrev opened : SealedEntry
 opened = made deeds 0 0 1 []
 
+-- the authorising of the booth
 abbrev authorised : SealedEntry
 authorised = made deeds 0 1 2 (opened.digest ∷ [])
 
+-- the booth's activation of its session
 abbrev activated : SealedEntry
 activated = made deeds 1 0 3 (authorised.digest ∷ [])
 
+-- these three are all that was sent
 all_sent : sent_in w ≡ opened ∷ authorised ∷ activated ∷ []
 all_sent = refl
 
@@ -48,6 +54,7 @@ all_sent = refl
 abbrev May : ℕ → List (Event SealedEntry) → SealedEntry → Type 0
 May m past e = MayAs (role_at posts m) m past e
 
+-- so each machine sends what it may
 allowed : (m : ℕ) → EachSent (May m) [] (history w m)
 allowed zero =
     let one = opened.entry ∷ [] in (
@@ -90,6 +97,7 @@ fails : ¬ (Holds node_of_sealed (row_of posts) (sent_in w) (sent_in w) own_boot
 fails holds =
     let (f, authorises, before, (_, (names, _))) = holds activated (2, omega arith, refl) refl in cc
 
+-- so the rule that compares the wrong entry's booth fails at an honest place
 pub looking_for_its_own_booth_fails : FailsAtSome IsHonest own_booth
 looking_for_its_own_booth_fails = (
   posts,

@@ -21,6 +21,7 @@ use Rattle.honest_rules.specs.Honest.{IsHonest, MayAs, role_at}
 pub record SentBy (w : World SealedEntry) (e : SealedEntry) : Type 0 where
   pub past : List (Event SealedEntry)
   pub later : List (Event SealedEntry)
+  -- its maker's history is this past, then e, then the rest
   pub is : history w e.entry.maker ≡ past ++ Sent e ∷ later
 
 -- so it was sent after it

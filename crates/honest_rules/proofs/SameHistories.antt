@@ -18,6 +18,7 @@ module _ (v w : World SealedEntry) (same : (m : ℕ) → history w m ≡ history
       let r = sent_in_cases v e c in
       sent_in_from w r.0 e (subst (λ (h : List (Event SealedEntry)). Contains h (Sent e)) (sym (same r.0)) r.1)
 
+  -- where the histories are the same, the one is orderly if the other is
   orderly_too : IsOrderly node_of_sealed v → IsOrderly node_of_sealed w
   orderly_too orderly = record {
     legal = λ m. subst (λ (h : List (Event SealedEntry)). IsLegal node_of_sealed m h) (sym (same m)) (orderly.legal m);

@@ -61,6 +61,7 @@ config_from script n (cast ∷ casts) (suc k) config is =
     let place : (n + 1) + k ≡ n + suc k = omega arith in
     (r.0, r.1, r.2 ∙ ap (λ (j : ℕ). config_of script j r.0) place)
 
+-- the machine at a place is configured by the script's line there
 config_at : (script : Script) (m : ℕ) (config : Config) → slice_get (script_configs script) m ≡ Some config →
     IsConfigAt script m config
 config_at script m config is =
@@ -105,6 +106,7 @@ module _ (script : Script) (lawful : IsLawful script) where
           (config : Config) × IsConfigAt script m config × MaySend config h e
       may_next m h e is = by (slice_get (script_configs script) m) refl (tells m h)
         where
+          -- the same by whether there is a machine at the place
           by : (o : Option Config) → slice_get (script_configs script) m ≡ o → IsNextAt o h (next m h) →
               (config : Config) × IsConfigAt script m config × MaySend config h e
           by None at none = let both : Some e ≡ None = sym is ∙ none in cc
@@ -114,12 +116,14 @@ module _ (script : Script) (lawful : IsLawful script) where
             subst (λ (o : Option SealedEntry). IsNextOf config h o) is tells,
           )
 
+      -- what is sent next is what a legal history asks
       legal_next : IsLegalNext node_of_sealed next
       legal_next m h e is =
           let (config, at, may) = may_next m h e is in
           subst (λ (k : ℕ). MayFollow node_of_sealed k h (Sent e)) (ap (λ (c : Config). c.number) at.2)
           (may_follow config h e may)
 
+      -- so what the machines come to by any steps is an honest place
       honest_play : (steps : List Step) →
           IsHonest (roster_of script) (play node_of_sealed next script.log (start (length script.machines)) steps)
       honest_play steps = record {
@@ -139,10 +143,12 @@ module _ (script : Script) (lawful : IsLawful script) where
   machine_allowed machines are m past e later is =
       by (slice_get machines m) refl (sym (ap history_of (slice_get-map machine_of machines m)) ∙ is)
     where
+      -- a machine without a history sent nothing
       none : (p : List (Event SealedEntry)) → [] ≡ p ++ Sent e ∷ later → ⊥
       none [] is = cc
       none (x ∷ p) is = cc
 
+      -- the same by whether there is a machine at the place
       by : (o : Option MachineState) → slice_get machines m ≡ o →
           history_of (option_map machine_of o) ≡ past ++ Sent e ∷ later → MayAs (role_at (roster_of script) m) m past e
       by None at is = absurd (none past is)
@@ -163,19 +169,23 @@ machines_are_honest script machines lawful are = record {
   allowed = machine_allowed script lawful machines are;
 }
 
+-- a lawful script's machines come to an honest polling place
 pub scripts_lead_to_honest_places : ScriptsLeadToHonestPlaces
 scripts_lead_to_honest_places script steps w lawful (next, tells, played) =
     subst (λ (v : World SealedEntry). IsHonest (roster_of script) v) (sym played)
     (honest_play script lawful next tells steps)
 
+-- of any entries that were sent there each standard rule holds
 pub scripts_keep_the_rules : ScriptsKeepTheRules
 scripts_keep_the_rules script steps w lawful come =
     honest_entries_keep_the_rules (roster_of script) w (scripts_lead_to_honest_places script steps w lawful come)
 
+-- of none of them a standard rule is known to be false
 pub scripts_are_never_broken : ScriptsAreNeverBroken
 scripts_are_never_broken script steps w lawful come =
     honest_audits_never_say_broken (roster_of script) w (scripts_lead_to_honest_places script steps w lawful come)
 
+-- and of all of them each is known to be true
 pub scripts_are_kept : ScriptsAreKept
 scripts_are_kept script steps w lawful come =
     honest_audits_say_kept (roster_of script) w (scripts_lead_to_honest_places script steps w lawful come)

@@ -28,6 +28,7 @@ any_held P h (k, x, within, is, p) =
     let m = Contains-map_cases (λ (s : SealedEntry). s.entry) (held h) x (k, within, is) in
     (m.0, m.1, subst P (sym m.2) p)
 
+-- an entry that was sent or got is one of those that are held
 held_any : (P : Entry → Type 0) (h : List (Event SealedEntry)) (f : SealedEntry) → Contains (held h) f → P f.entry →
     Any P (entries_in h)
 held_any P h f c p =

@@ -34,6 +34,7 @@ EachSent P before [] = Unit {0}
 EachSent P before (Sent e ∷ h) = P before e × EachSent P (before ++ Sent e ∷ []) h
 EachSent P before (Got e ∷ h) = EachSent P (before ++ Got e ∷ []) h
 
+-- what is so of each sending behind some events is so of any, by the events before it
 sent_from : (P : List (Event SealedEntry) → SealedEntry → Type 0) (before h : List (Event SealedEntry)) →
     EachSent P before h → (past : List (Event SealedEntry)) (e : SealedEntry) (later : List (Event SealedEntry)) →
     h ≡ past ++ Sent e ∷ later → P (before ++ past) e
@@ -104,6 +105,7 @@ module _ (deeds : List (List Deed)) where
   digest_is m h e is =
       by (not (has_digest node_of_sealed (held h) (made_after node_of_sealed (made deeds) m h).digest)) is
     where
+      -- the same by whether the list has a deed left
       by : (b : Bool) → cond b (Some (made_after node_of_sealed (made deeds) m h)) None ≡ Some e →
           e.digest ≡ e.entry.maker ∷ e.entry.number ∷ []
       by false is = cc
@@ -115,6 +117,7 @@ module _ (deeds : List (List Deed)) where
   abbrev pub place : List Step → World SealedEntry
   place steps = play node_of_sealed next 64 (start (length deeds)) steps
 
+  -- the histories of a small place are legal, and what was got was sent
   pub place_orderly : (steps : List Step) → IsOrderly node_of_sealed (place steps)
   place_orderly steps =
       IsOrderly-play node_of_sealed next 64 lawful (start (length deeds)) steps
@@ -131,6 +134,7 @@ module _ (deeds : List (List Deed)) where
       let number : e.entry.number ≡ f.entry.number = cc in
       no_fork node_of_sealed (place steps) (place_orderly steps) e f ce cf maker number
     where
+      -- each entry that was sent has its maker and its number for a digest
       shown : (g : SealedEntry) → Contains (sent_in (place steps)) g → g.digest ≡ g.entry.maker ∷ g.entry.number ∷ []
       shown g c =
           let (past, (m, later, is)) = was_sent (place steps) g c in

@@ -36,6 +36,7 @@ use Rattle.honest_rules.proofs.Shapes.{one_alone, any_asked, own_asked, own_was_
 
 -- how many members meet a test, by the first
 module _ {X : Type 0} (p : X → Bool) where
+  -- the count goes up by one where the first member meets the test
   counted : (x : X) (xs : List X) (b : Bool) → p x ≡ b → count_by p (x ∷ xs) ≡ cond b 1 0 + count_by p xs
   counted x xs b is = sum_by-cons (λ y. cond (p y) 1 0) x xs ∙ ap (λ (c : Bool). cond c 1 0 + count_by p xs) is
 
@@ -61,6 +62,7 @@ module _ {X : Type 0} (p : X → Bool) where
   one_meets (z ∷ xs) one (suc i) (suc j) x y is js t u =
       by (p z) refl (λ rest. one_meets xs rest i j x y is js t u)
     where
+      -- the same by whether the first member meets the test
       by : (b : Bool) → p z ≡ b → (count_by p xs ≡ 1 → i ≡ j) → suc i ≡ suc j
       by true h deeper = let count = counted z xs true h in absurd (none_meets xs (omega arith) i x is t)
       by false h deeper = let count = counted z xs false h in ap suc (deeper (omega arith))
@@ -92,6 +94,7 @@ module _ {posts : List Post} {w : World SealedEntry} (honest : IsHonest posts w)
 
 module _ {posts : List Post} {w : World SealedEntry} (honest : IsHonest posts w)
     (distinct : Distinct node_of_sealed (sent_in w)) (S : List SealedEntry) (were_sent : WereSentIn w S) where
+  -- what the rule says of the survivors
   abbrev Rule : Trees → Type 0
   Rule rule = Holds node_of_sealed (row_of posts) S (sent_in w) rule
 

@@ -17,6 +17,7 @@ use Rattle.lms_ots.proofs.Pieces.{length-pieces, piece_at, same_pieces}
 abbrev runs : List ℕ → ℕ → ℕ → ℕ → ℕ → List ℕ → List ℕ
 runs id q i from n tmp = fold (step id q i) tmp (range_with_len from n)
 
+-- so many steps, and others behind them, are all these steps
 runs-add : (id tmp : List ℕ) (q i from n m : ℕ)
     → runs id q i from (n + m) tmp ≡ runs id q i (from + n) m (runs id q i from n tmp)
 runs-add id tmp q i from zero m =
@@ -39,14 +40,17 @@ chain-chain id tmp q i a most h =
     let joined = runs-add id tmp q i 0 a (most - a) in
     rw (first, all) (sym (rw at at joined))
 
+-- steps leave 32 bytes
 length-runs : (id tmp : List ℕ) (q i from n : ℕ) → length tmp ≡ 32 → length (runs id q i from n tmp) ≡ 32
 length-runs id tmp q i from zero h = h
 length-runs id tmp q i from (suc n) h = length-runs id (step id q i tmp from) q i (from + 1) n (length-sha256 _)
 
+-- a chain ends in 32 bytes
 length-chain : (id tmp : List ℕ) (q i from to : ℕ) → length tmp ≡ 32 → length (chain id q i from to tmp) ≡ 32
 unfolding chain
 length-chain id tmp q i from to h = length-runs id tmp q i from (to - from) h
 
+-- an element of the secret key has 32 bytes
 length-secret : (id seed : List ℕ) (q i : ℕ) → length (secret_element id q seed i) ≡ 32
 unfolding secret_element
 length-secret id seed q i = length-sha256 _
@@ -91,6 +95,7 @@ length-signature_of kind id q seed message =
 randomizer_in_parts : (t c ys : List ℕ) → length t ≡ 4 → length c ≡ 32 → randomizer_in (t ++ c ++ ys) ≡ c
 randomizer_in_parts t c ys lt lc = rw (append_assoc t c ys, drop_at t (c ++ ys) 4 lt) (take_at c ys 32 lc)
 
+-- the element at a place is the one that was put there
 element_in_parts : (t c : List ℕ) (f : ℕ → List ℕ) (n i : ℕ) → length t ≡ 4 → length c ≡ 32
     → ((i : ℕ) → length (f i) ≡ 32) → i < n
     → element_in (t ++ c ++ flat_map f (range_with_len 0 n)) i ≡ f i

@@ -13,6 +13,7 @@ use Rattle.lms_sign.specs.declared.secret.SignFault.{SignFault}
 use Rattle.lms_sign.specs.declared.secret.SignFault.TheVariants.{Memory}
 use Rattle.lms_sign.specs.Calls.{AnswersEach, IsAnswer, accepted, used}
 
+-- the values of calls, one behind another, are those of the first and of the others
 accepted-append : {T E : Type 0} → (xs ys : List (Result T E)) → accepted (xs ++ ys) ≡ accepted xs ++ accepted ys
 accepted-append [] ys = refl
 accepted-append {T} {E} (Ok x ∷ xs) ys = ap (λ (zs : List T). x ∷ zs) (accepted-append xs ys)

@@ -32,6 +32,7 @@ path_is kind h id seed nodes q tree below =
     rw at (tree.each (h - i) i (sibling h q i) (omega arith) (omega (arith, beside.0, pow_pos (h - i))) beside.0
     beside.1))
 
+-- a node of the tree has 32 bytes
 length-node : (kind : OtsKind) (h : ℕ) (id seed : List ℕ) (n r : ℕ) → length (node kind h id seed n r) ≡ 32
 unfolding node leaf interior
 length-node kind h id seed zero r = length-sha256 _
@@ -44,6 +45,7 @@ unfolding signature_of
 typecode_first kind id q seed message =
     rw append_assoc (take_at (u32str (parameters kind).typecode) _ 4 (length-u32str _))
 
+-- the four octets of an index say that index
 index_first : (q : ℕ) → q < 2 ^ 32 → from_be_bytes w32 (u32str q) ≡ q
 unfolding u32str
 index_first q small = from_be_bytes-to_be_bytes_4 q small

@@ -7,6 +7,7 @@ use Rattle.std.proofs.lemmas.Bool.{cases_lt}
 use Rattle.std.proofs.lemmas.Nat.{div_below, le-div, pow-add, pow_pos, xor_block, xor_comm}
 use Rattle.lms_sign.specs.Tree.{sibling}
 
+-- a bit and its opposite sum to 1
 xor_bit : (r : ℕ) → r < 2 → bit_xor r 1 + r ≡ 1
 xor_bit zero h = refl
 xor_bit (suc zero) h = refl

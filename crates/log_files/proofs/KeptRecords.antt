@@ -32,6 +32,7 @@ entry_is : (sent : Bool) (e : SealedEntry) → entry_of (if sent then Sent e els
 entry_is true e = refl
 entry_is false e = refl
 
+-- the entry of a record's event is the record's
 entry_of_event : (kept : Kept) → entry_of (event_of kept) ≡ kept.entry
 entry_of_event kept = entry_is kept.sent kept.entry
 
@@ -48,11 +49,13 @@ has_digest_kept : (kept : List Kept) (d : List ℕ) →
 has_digest_kept [] d = refl
 has_digest_kept (k ∷ kept) d = ap (λ b. bytes_eq k.entry.digest d || b) (has_digest_kept kept d)
 
+-- and named
 is_named_kept : (kept : List Kept) (d : List ℕ) →
     is_named node_of_kept kept d ≡ is_named node_of_sealed (map (λ (k : Kept). k.entry) kept) d
 is_named_kept [] d = refl
 is_named_kept (k ∷ kept) d = ap (λ b. names_digest node_of_sealed k.entry d || b) (is_named_kept kept d)
 
+-- the digests of records are those of their entries
 digests_kept : (kept : List Kept) →
     map (λ (k : Kept). k.entry.digest) kept ≡ map (λ (e : SealedEntry). e.digest) (map (λ (k : Kept). k.entry) kept)
 digests_kept [] = refl
@@ -116,12 +119,14 @@ may_if_sent : (owner : ℕ) (p : List (Event SealedEntry)) (sent b : Bool) (e : 
 may_if_sent owner p true b e is new next = (λ t. (new, next.0 t), λ may. next.1 may.1)
 may_if_sent owner p false b e is new next = cc
 
+-- an entry that was got may follow where another machine made it
 may_if_got : (owner : ℕ) (p : List (Event SealedEntry)) (sent b : Bool) (e : SealedEntry) → sent ≡ false →
     IsNew node_of_sealed (held p) e → (IsTrue b ↔ (e.entry.maker ≢ owner)) →
     IsTrue b ↔ MayFollow node_of_sealed owner p (if sent then Sent e else Got e)
 may_if_got owner p true b e is new other = cc
 may_if_got owner p false b e is new other = (λ t. (new, other.0 t), λ may. other.1 may.1)
 
+-- a new entry that was sent may follow exactly where it is what its maker sends next
 pub may_exactly_sent : (owner : ℕ) (before : List Kept) (next : Kept) (b : Bool) → next.sent ≡ true →
     has_digest node_of_kept before next.entry.digest ≡ false →
     (IsTrue b ↔ IsNext node_of_sealed owner (map event_of before) next.entry) →
@@ -129,6 +134,7 @@ pub may_exactly_sent : (owner : ℕ) (before : List Kept) (next : Kept) (b : Boo
 may_exactly_sent owner before next b is none h =
     may_if_sent owner (map event_of before) next.sent b next.entry is (new_here before next.entry none) h
 
+-- a new entry that was got may follow exactly where another machine made it
 pub may_exactly_got : (owner : ℕ) (before : List Kept) (next : Kept) (b : Bool) → next.sent ≡ false →
     has_digest node_of_kept before next.entry.digest ≡ false → (IsTrue b ↔ (next.entry.entry.maker ≢ owner)) →
     IsTrue b ↔ MayFollow node_of_sealed owner (map event_of before) (event_of next)
@@ -137,7 +143,8 @@ may_exactly_got owner before next b is none h =
 
 -- how many were sent with one record more
 sent_if : (p : List (Event SealedEntry)) (sent_it : Bool) (e : SealedEntry) →
-    length (sent (p ++ (if sent_it then Sent e else Got e) ∷ [])) ≡ (if sent_it then length (sent p) + 1 else length (sent p))
+    length (sent (p ++ (if sent_it then Sent e else Got e) ∷ []))
+    ≡ (if sent_it then length (sent p) + 1 else length (sent p))
 sent_if p true e = sent_one_more p e
 sent_if p false e = sent_as_many p e
 
@@ -149,7 +156,8 @@ pub seen_more : (kept : List Kept) (at count top : ℕ) (last : Kept) (old : See
 seen_more kept at count top last old frontier inside is h stands counted greatest =
     let events : List (Event SealedEntry) = map event_of (take at kept) in
     let whole : map event_of kept ≡ events ++ event_of last ∷ [] =
-    ap (map event_of) (last_split kept at last (omega (arith, inside)) is) ∙ map-append event_of (take at kept) (last ∷ []) in
+    ap (map event_of) (last_split kept at last (omega (arith, inside)) is) ∙ map-append event_of (take at kept)
+    (last ∷ []) in
     record {
       stands = stands;
       count = counted ∙ ap (λ n. if last.sent then n + 1 else n) h.count ∙ sym (sent_if events last.sent last.entry)
@@ -177,6 +185,7 @@ pub taken_more : (kept : List Kept) (at : ℕ) (next : Kept) → at < length kep
 taken_more kept at next inside is =
     take_more kept at next inside ∙ ap (λ (k : Kept). take at kept ++ k ∷ []) (sym is)
 
+-- legal records and one that may follow are legal
 pub legal_more : (owner : ℕ) (kept : List Kept) (at : ℕ) (next : Kept) → at < length kept →
     next ≡ get_or kept at next → AreLegal owner (take at kept) →
     MayFollow node_of_sealed owner (map event_of (take at kept)) (event_of next) → AreLegal owner (take (at + 1) kept)
@@ -189,6 +198,7 @@ twice_events : (h : List Kept) (before : List Kept) (e : Kept) (later : List Kep
     map event_of h ≡ map event_of before ++ event_of e ∷ map event_of later
 twice_events h before e later is = ap (map event_of) is ∙ map-append event_of before (e ∷ later)
 
+-- no digest stands twice in legal records
 pub none_twice : (owner : ℕ) (kept : List Kept) → AreLegal owner kept → HasNoDigestTwice node_of_kept kept
 none_twice owner kept legal before e later is g c same =
     new_from_may node_of_sealed owner (map event_of before) (event_of e)
@@ -219,6 +229,7 @@ breaks_here owner kept at next inside is legal not = (
 
 -- ---- digests at places
 
+-- the value at a place of a list is that of its member there
 map_at : (f : ℕ → List ℕ) (places : List ℕ) (i : ℕ) → i < length places →
     get_or (map f places) i [] ≡ f (get_or places i 0)
 map_at f [] i inside = absurd (omega (arith, inside))

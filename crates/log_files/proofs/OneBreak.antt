@@ -70,6 +70,7 @@ no_second : (owner : ℕ) (p q r : List Kept) (x : Kept) → q ≡ (p ++ x ∷ [
 no_second owner p q r x e legal not =
     not (AreLegal-before owner (p ++ x ∷ []) r (subst (λ (ks : List Kept). AreLegal owner ks) e legal))
 
+-- two records at which the same records break are one
 one_break : (owner : ℕ) (kept : List Kept) (x y : Kept) → IsBreak owner kept x → IsBreak owner kept y → x ≡ y
 one_break owner kept x y h k =
     elim (one_place h.before k.before x y h.later k.later (sym h.stands ∙ k.stands)) [

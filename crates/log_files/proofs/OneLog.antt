@@ -36,10 +36,12 @@ whole_there bytes tree more fits e =
     let P : List ℕ → Type 0 = λ bs. Answers bs (read.Whole tree (length (text_of tree))) in
     subst P (sym e) (text_is_read tree more fits)
 
+-- the text of a tree isn't empty
 some_text : (tree : Sexp) → 0 < length (text_of tree)
 some_text (Atom octets) = omega (arith, length-append (decimal (length octets)) (58 ∷ octets))
 some_text (Branch members) = omega arith
 
+-- where records end no whole text stands in front
 pub end_has_none : (offset : ℕ) (bytes : List ℕ) (end : End) → IsEnd offset bytes end → HasNone bytes
 end_has_none offset bytes Clean h tree more fits e =
     let none : 0 ≡ length (text_of tree ++ more) = ap length (sym h ∙ e) in
@@ -146,8 +148,11 @@ EachAgrees Agree place (reading ∷ readings) (other ∷ others) =
 pub record SayAlike {T U : Type 0} (Agree : ℕ → Result T EntryFault → Result U EntryFault → Type 0) (owner : ℕ)
     (readings : List (Result T EntryFault)) (end : End) (owner' : ℕ) (readings' : List (Result U EntryFault))
     (end' : End) : Type 0 where
+  -- both have one owner
   pub owners : owner ≡ owner'
+  -- the readings agree, each with the one at its place
   pub alike : EachAgrees Agree 0 readings readings'
+  -- both have one end
   pub ends : end ≡ end'
 
 -- two readings of one text agree so
@@ -173,6 +178,7 @@ module _ {T U : Type 0} (IsReadAs : ℕ → Bool → List ℕ → Result T Entry
       subst (λ (r : Result T EntryFault). Agree place r other) (sym shape)
       (subst (λ (r : Result U EntryFault). Agree place (Err WrongShape) r) (sym shape') (shapeless place))
 
+  -- readings of the same trees agree, each with the one at its place
   pub each_agrees : (place : ℕ) (trees : List Sexp) (readings : List (Result T EntryFault))
       (others : List (Result U EntryFault)) → EachGives IsReadAs place trees readings →
       EachGives IsAlsoReadAs place trees others → EachAgrees Agree place readings others
@@ -184,6 +190,7 @@ module _ {T U : Type 0} (IsReadAs : ℕ → Bool → List ℕ → Result T Entry
   each_agrees place (t ∷ trees) (r ∷ readings) (o ∷ others) h k =
       (given_agree place t r o h.0 k.0, each_agrees (place + 1) trees readings others h.1 k.1)
 
+  -- logs that the same bytes say have one owner, one end, and readings that agree
   pub say_alike : (bytes : List ℕ) (owner owner' : ℕ) (kept : List T) (kept' : List U)
       (refused refused' : List (ℕ × EntryFault)) (end end' : End) →
       (h : AreLog IsReadAs bytes owner kept refused end) → (k : AreLog IsAlsoReadAs bytes owner' kept' refused' end') →
@@ -217,9 +224,13 @@ same_readings {T} place (r ∷ readings) (o ∷ others) h =
 -- the same owner, values, faults and end
 pub record SameSaid {T : Type 0} (owner other : ℕ) (values others : List T) (faults causes : List (ℕ × EntryFault))
     (last end : End) : Type 0 where
+  -- both have one owner
   pub owners : owner ≡ other
+  -- the same values
   pub kept : values ≡ others
+  -- the same faults
   pub refused : faults ≡ causes
+  -- and one end
   pub ends : last ≡ end
 
 -- where a text is read in one way, bytes say one log
@@ -230,7 +241,8 @@ pub one_said : {T : Type 0} (IsReadAs : ℕ → Bool → List ℕ → Result T E
     (end end' : End) → AreLog IsReadAs bytes owner kept refused end → AreLog IsReadAs bytes owner' kept' refused' end' →
     SameSaid owner owner' kept kept' refused refused' end end'
 one_said IsReadAs one bytes owner owner' kept kept' refused refused' end end' h k =
-    let alike = say_alike IsReadAs IsReadAs (λ place r o. r ≡ o) one (λ place. refl) bytes owner owner' kept kept' refused
+    let alike = say_alike IsReadAs IsReadAs (λ place r o. r ≡ o) one (λ place. refl) bytes owner owner' kept
+    kept' refused
     refused' end end' h k in
     let readings : h.readings ≡ k.readings =
     same_readings 0 h.readings k.readings alike.alike in
@@ -246,6 +258,7 @@ pub one_plain : (place : ℕ) (sent : Bool) (text : List ℕ) (reading other : R
     IsReadPlain place sent text reading → IsReadPlain place sent text other → reading ≡ other
 one_plain place sent text reading other h k = one_reading text reading other h k
 
+-- bytes say one plain log
 pub one_plain_log : (bytes : List ℕ) (log other : PlainLog) → (h : Says bytes log) → (k : Says bytes other) →
     SameSaid h.0 k.0 log.kept.items other.kept.items log.refused.items other.refused.items log.end other.end
 one_plain_log bytes log other h k =

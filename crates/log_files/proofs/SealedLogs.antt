@@ -18,6 +18,7 @@ use Rattle.log_files.specs.SealedLog.{IsReadSealed, SaysSealed}
 use Rattle.log_files.specs.Written.{plain_of}
 use Rattle.log_files.proofs.OneLog.{EachAgrees, SameSaid, SayAlike, one_said, say_alike}
 
+-- the record at a place of an entry that was sent or got
 abbrev kept_with : ℕ → Bool → SealedEntry → Kept
 kept_with place sent entry = record { place = place; sent = sent; entry = entry }
 
@@ -46,6 +47,7 @@ module _ (machines : List Post) (election : List ℕ) where
       let faults : fault ≡ other = cc in
       ap Err faults
 
+  -- under a roster bytes say one log
   pub one_sealed_log : (bytes : List ℕ) (log other : LogRead) → SaysSealed machines election bytes log →
       SaysSealed machines election bytes other →
       SameSaid log.owner other.owner log.kept.items other.kept.items log.refused.items other.refused.items log.end
@@ -69,6 +71,7 @@ module _ (machines : List Post) (election : List ℕ) where
       let own : P sealed.text = ((sealed.signature, h.kept.spelt), h.kept.rising, h.kept.hashed) in
       subst P h.of_text own
 
+  -- the sealed and the plain reading of a text agree
   agrees : (place : ℕ) (sent : Bool) (text : List ℕ) (reading : Result Kept EntryFault)
       (other : Result Plain EntryFault) → IsReadSealed machines election place sent text reading →
       IsReadPlain place sent text other → Agree place reading other
@@ -85,6 +88,7 @@ module _ (machines : List Post) (election : List ℕ) where
       let same : Err fault ≡ Err other = one_unsealing machines election text (Err fault) (Err other) h (inl k) in
       cc
 
+  -- of readings that agree, the plain ones keep what the sealed ones keep
   kept_alike : (place : ℕ) (readings : List (Result Kept EntryFault)) (others : List (Result Plain EntryFault)) →
       EachAgrees Agree place readings others → (kept : Kept) → Contains (kept_of readings) kept →
       Contains (kept_of others) (plain_of kept.entry)
@@ -103,6 +107,7 @@ module _ (machines : List Post) (election : List ℕ) where
   kept_alike place (Err f ∷ readings) (Err g ∷ others) h kept c =
       kept_alike (place + 1) readings others h.1 kept c
 
+  -- and the sealed ones refuse what the plain ones refuse
   refused_alike : (place : ℕ) (readings : List (Result Kept EntryFault)) (others : List (Result Plain EntryFault)) →
       EachAgrees Agree place readings others → (at : ℕ) (fault : EntryFault) →
       Contains (refused_of place others) (at, fault) → Contains (refused_of place readings) (at, fault)
@@ -125,17 +130,20 @@ module _ (machines : List Post) (election : List ℕ) where
 
   module _ (bytes : List ℕ) (log : LogRead) (plain : PlainLog) (h : SaysSealed machines election bytes log)
       (k : Says bytes plain) where
+    -- the sealed and the plain log of the same bytes agree
     alike : SayAlike Agree log.owner h.says.readings log.end k.0 k.1.readings plain.end
     alike =
         say_alike (IsReadSealed machines election) IsReadPlain Agree agrees (λ place. refl) bytes log.owner k.0
         log.kept.items plain.kept.items log.refused.items plain.refused.items log.end plain.end h.says k.1
 
+    -- what is kept under the roster is kept as a plain entry
     pub agree_kept : (kept : Kept) → Contains log.kept.items kept → Contains plain.kept.items (plain_of kept.entry)
     agree_kept kept c =
         subst (λ (ps : List Plain). Contains ps (plain_of kept.entry)) (sym k.1.keeps)
         (kept_alike 0 h.says.readings k.1.readings alike.alike kept
         (subst (λ (ks : List Kept). Contains ks kept) h.says.keeps c))
 
+    -- what is refused as a plain entry is refused under the roster
     pub agree_refused : (at : ℕ) (fault : EntryFault) → Contains plain.refused.items (at, fault) →
         Contains log.refused.items (at, fault)
     agree_refused at fault c =
@@ -143,5 +151,6 @@ module _ (machines : List Post) (election : List ℕ) where
         (refused_alike 0 h.says.readings k.1.readings alike.alike at fault
         (subst (λ (fs : List (ℕ × EntryFault)). Contains fs (at, fault)) k.1.refuses c))
 
+    -- both logs have one end
     pub agree_end : log.end ≡ plain.end
     agree_end = alike.ends

@@ -29,7 +29,9 @@ as_log TooLong file is = is
 as_log ReadFault file is = tt
 as_log Memory file is = tt
 
-told_as_log : (told : Option Files) (name : List ℕ) (fault : FileFault) → OnFile told name (FileIsRefused max_bytes fault) →
+-- the same of a file that may not be told
+told_as_log : (told : Option Files) (name : List ℕ) (fault : FileFault)
+    → OnFile told name (FileIsRefused max_bytes fault) →
     OnFile told name (IsRefused (log_fault_of fault))
 told_as_log None name fault is = tt
 told_as_log (Some files) name fault is = as_log fault (files name) is
@@ -51,6 +53,7 @@ pub match_some : {X : Type 0} (P : Type 0) (Q : X → Type 0) (found : Option X)
     MatchOption found P Q → Q value
 match_some {X} P Q found value is h = subst (λ (o : Option X). MatchOption o P Q) is h
 
+-- and where none is there
 pub match_none : {X : Type 0} (P : Type 0) (Q : X → Type 0) (found : Option X) → found ≡ None →
     MatchOption found P Q → P
 match_none {X} P Q found is h = subst (λ (o : Option X). MatchOption o P Q) is h
@@ -72,9 +75,11 @@ log_of_plain log plain kept refused ends (Some bytes) is = (
 )
 
 module _ (machines : List Post) (election : List ℕ) where
+  -- how records are read under the roster
   abbrev IsReadHere : ℕ → Bool → List ℕ → Result Kept EntryFault → Type 0
   IsReadHere = IsReadSealed machines election
 
+  -- bytes say the log that is read with the place where it breaks
   pub says_with_break : (bytes : List ℕ) (log : Records Kept) (sealed : LogRead) → IsWithBreak log sealed →
       AreLog IsReadHere bytes log.owner log.kept.items log.refused.items log.end →
       SaysSealed machines election bytes sealed
@@ -87,6 +92,7 @@ module _ (machines : List Post) (election : List ℕ) where
     broke = h.broke;
   }
 
+  -- and so a file does
   pub log_with_break : (log : Records Kept) (sealed : LogRead) → IsWithBreak log sealed → (file : Option (List ℕ)) →
       IsReadOf IsReadHere log file → IsSealedLogOf machines election sealed file
   log_with_break log sealed h None is = is

@@ -19,10 +19,12 @@ use Rattle.log_files.specs.LogText.{header_tree, IsEnd, Gives, EachGives, kept_o
 use Rattle.log_files.specs.inside.Parts.{Adds, IsHeaderOf}
 use Rattle.log_files.specs.inside.Taking.{AreReadTo}
 
+-- the text of a tree isn't empty
 pub some_text : (tree : Sexp) → 0 < length (text_of tree)
 some_text (Atom octets) = omega (arith, length-append (decimal (length octets)) (58 ∷ octets))
 some_text (Branch members) = omega arith
 
+-- a tree more puts its text behind the others
 flat_map-push : (trees : List Sexp) (tree : Sexp) → flat_map text_of (trees ++ tree ∷ []) ≡ flat_map text_of trees
     ++ text_of tree
 flat_map-push [] tree = append-nil (text_of tree)
@@ -35,18 +37,21 @@ text_some tree bytes zero e = absurd (omega (arith, ap length e, some_text tree)
 text_some tree bytes (suc used) e = omega arith
 
 module _ {T : Type 0} where
+  -- a record more that was read is kept behind the others
   kept_of-push : (readings : List (Result T EntryFault)) (value : T) →
       kept_of (readings ++ Ok value ∷ []) ≡ kept_of readings ++ value ∷ []
   kept_of-push [] value = refl
   kept_of-push (Ok v ∷ readings) value = ap (λ (vs : List T). v ∷ vs) (kept_of-push readings value)
   kept_of-push (Err f ∷ readings) value = kept_of-push readings value
 
+  -- one that is refused isn't kept
   kept_of-fault : (readings : List (Result T EntryFault)) (fault : EntryFault) →
       kept_of (readings ++ Err fault ∷ []) ≡ kept_of readings
   kept_of-fault [] fault = refl
   kept_of-fault (Ok v ∷ readings) fault = ap (λ (vs : List T). v ∷ vs) (kept_of-fault readings fault)
   kept_of-fault (Err f ∷ readings) fault = kept_of-fault readings fault
 
+  -- a record more that was read isn't refused
   refused_of-push : (place : ℕ) (readings : List (Result T EntryFault)) (value : T) →
       refused_of place (readings ++ Ok value ∷ []) ≡ refused_of place readings
   refused_of-push place [] value = refl
@@ -54,6 +59,7 @@ module _ {T : Type 0} where
   refused_of-push place (Err f ∷ readings) value =
       ap (λ (fs : List (ℕ × EntryFault)). (place, f) ∷ fs) (refused_of-push (place + 1) readings value)
 
+  -- one that is refused comes with its place behind the others
   refused_of-fault : (place : ℕ) (readings : List (Result T EntryFault)) (fault : EntryFault) →
       refused_of place (readings ++ Err fault ∷ [])
       ≡ refused_of place readings ++ (place + length readings, fault) ∷ []
@@ -69,6 +75,7 @@ module _ {T : Type 0} where
       ∙ ap (λ n. refused_of (place + 1) readings ++ (n, fault) ∷ []) same)
 
 module _ {T : Type 0} (IsReadAs : ℕ → Bool → List ℕ → Result T EntryFault → Type 0) where
+  -- a tree more gives a reading more
   EachGives-push : (place n : ℕ) (trees : List Sexp) (readings : List (Result T EntryFault)) (tree : Sexp)
       (reading : Result T EntryFault) → n ≡ place + length readings → EachGives IsReadAs place trees readings →
       Gives IsReadAs n tree reading → EachGives IsReadAs place (trees ++ tree ∷ []) (readings ++ reading ∷ [])
@@ -139,6 +146,7 @@ module _ {T : Type 0} (IsReadAs : ℕ → Bool → List ℕ → Result T EntryFa
         few = omega (arith, h.few, some);
       }
 
+  -- the same, by what the record adds to the lists
   pub adds_more : (bytes : List ℕ) (owner header at place used : ℕ) (kept kept' : List T)
       (refused refused' : List (ℕ × EntryFault)) (tree : Sexp) →
       AreReadTo IsReadAs bytes owner header at place kept refused →

@@ -97,6 +97,7 @@ no_header_left bytes (inr cut) has =
 cut_some : (used : ℕ) (rest : List ℕ) → IsTrue (nat_lt used (length rest)) → 0 < length (drop used rest)
 cut_some used rest e = omega (arith, ltb-true used (length rest) e, length-drop used rest)
 
+-- where all bytes were used none is left
 uncut_none : (used : ℕ) (rest : List ℕ) → nat_lt used (length rest) ≡ false → drop used rest ≡ []
 uncut_none used rest e = drop_all used rest (ltb-false used (length rest) e)
 
@@ -128,6 +129,7 @@ module _ {T : Type 0} (IsReadAs : ℕ → Bool → List ℕ → Result T EntryFa
         ap (drop used) h.0 ∙ ap (λ n. drop n bytes) there,
       )
 
+  -- so the progress of the reader stands for what was read
   pub took_header : (bytes rest : List ℕ) (old new : Progress T) (tree : Sexp) (used : ℕ) → old.stage ≡ Header →
       (new.stage ≡ Records → IsU32 new.owner × (tree ≡ header_tree new.owner)) →
       (new.stage ≢ Records → (new.stage ≡ NoLog) × ((n : ℕ) → IsU32 n → tree ≢ header_tree n)) →
@@ -161,6 +163,7 @@ module _ {T : Type 0} (IsReadAs : ℕ → Bool → List ℕ → Result T EntryFa
         ap (drop used) e ∙ drop-drop used at bytes,
       )
 
+  -- so the progress stands for it with the record
   pub took_record : (bytes rest : List ℕ) (old new : Progress T) (tree : Sexp) (used : ℕ) → old.stage ≡ Records →
       Adds IsReadAs tree old.place old.kept.items old.refused.items new.kept.items new.refused.items →
       new ≡ record old { kept = new.kept; refused = new.refused; place = old.place + 1; at = old.at + used } →
@@ -191,6 +194,7 @@ module _ {T : Type 0} (IsReadAs : ℕ → Bool → List ℕ → Result T EntryFa
   closed_rest (Malformed bad why) bytes rest other owner at place kept refused e h = h
   closed_rest NoLog bytes rest other owner at place kept refused e h = h
 
+  -- so the progress stands for the same, whatever is left
   pub closed_stands : (bytes rest other : List ℕ) (log : Progress T) → is_open log.stage ≡ false →
       StandsFor IsReadAs bytes log rest → StandsFor IsReadAs bytes log other
   closed_stands bytes rest other log e h =
@@ -217,6 +221,7 @@ module _ {T : Type 0} (IsReadAs : ℕ → Bool → List ℕ → Result T EntryFa
     few = h.few;
   }
 
+  -- at each stage what was read stays so with more bytes behind it
   at_stage_more : (stage : Stage) (bytes more rest : List ℕ) (owner at place : ℕ) (kept : List T)
       (refused : List (ℕ × EntryFault)) → IsAtStage IsReadAs stage bytes owner at place kept refused rest →
       IsAtStage IsReadAs stage (bytes ++ more) owner at place kept refused (rest ++ more)
@@ -236,6 +241,7 @@ module _ {T : Type 0} (IsReadAs : ℕ → Bool → List ℕ → Result T EntryFa
   at_stage_more NoLog bytes more rest owner at place kept refused h =
       λ others has. h (more ++ others) (subst HasHeader (append_assoc bytes more others) has)
 
+  -- so the progress stands for the longer bytes
   pub stands_more : (bytes more rest : List ℕ) (log : Progress T) → StandsFor IsReadAs bytes log rest →
       StandsFor IsReadAs (bytes ++ more) log (rest ++ more)
   stands_more bytes more rest log h =
@@ -253,6 +259,7 @@ module _ {T : Type 0} (IsReadAs : ℕ → Bool → List ℕ → Result T EntryFa
   bounds_at (Malformed bad why) bytes rest owner at place kept refused e h = absurd (false≢true e)
   bounds_at NoLog bytes rest owner at place kept refused e h = absurd (false≢true e)
 
+  -- the same of the reader's progress
   pub open_bounds : (bytes rest : List ℕ) (log : Progress T) → IsTrue (is_open log.stage) →
       StandsFor IsReadAs bytes log rest → (log.place ≤ log.at) × (log.at + length rest ≡ length bytes)
   open_bounds bytes rest log e h =
@@ -272,6 +279,7 @@ module _ {T : Type 0} (IsReadAs : ℕ → Bool → List ℕ → Result T EntryFa
   at_stop (Malformed b w) bytes rest owner at place kept refused bad why wrong h = h
   at_stop NoLog bytes rest owner at place kept refused bad why wrong h = h
 
+  -- so the progress stands for a log that stops there
   pub stopped_stands : (bytes rest : List ℕ) (old new : Progress T) (bad : ℕ) (why : Why) →
       new ≡ record old { stage = stopped old.stage bad why } → Answers rest (read.Bad bad why) →
       StandsFor IsReadAs bytes old rest → StandsFor IsReadAs bytes new rest
@@ -291,6 +299,7 @@ module _ {T : Type 0} (IsReadAs : ℕ → Bool → List ℕ → Result T EntryFa
       read_all IsReadAs bytes owner header at place kept refused (Torn at) h
       (refl, omega (arith, some refl, ap length is), cut_at (stops refl))
     where
+      -- what is left is the beginning of a text that was cut
       cut_at : IsNoneOrCut rest → Answers (drop at bytes) read.Cut
       cut_at (inl empty) = absurd (omega (arith, some refl, ap length empty))
       cut_at (inr cut) = let P : List ℕ → Type 0 = λ bs. Answers bs read.Cut in subst P is cut
@@ -301,6 +310,7 @@ module _ {T : Type 0} (IsReadAs : ℕ → Bool → List ℕ → Result T EntryFa
   log_end_at NoLog bytes rest owner at place kept refused is_cut some none stops h =
       λ has. h [] (subst HasHeader (sym (append-nil bytes)) has)
 
+  -- so the reader tells how the log ends
   pub log_ends : (bytes rest : List ℕ) (used : ℕ) (log : Progress T) (found : Option End) →
       found ≡ end_of log.stage log.at (nat_lt used (length rest)) →
       (IsTrue (is_open log.stage) → IsNoneOrCut (drop used rest)) → StandsFor IsReadAs bytes log (drop used rest) →
@@ -323,6 +333,7 @@ module _ {T : Type 0} (IsReadAs : ℕ → Bool → List ℕ → Result T EntryFa
       let same : b ≡ bad = cc in
       omega (arith, same, wrong.0.0, length-drop at bytes, h.inside)
 
+  -- so the place that the reader tells is within the bytes
   pub bad_inside : (bytes rest : List ℕ) (log : Progress T) (bad : ℕ) (why : Why) → log.stage ≡ Malformed bad why →
       StandsFor IsReadAs bytes log rest → log.at + bad ≤ length bytes
   bad_inside bytes rest log bad why e h =

@@ -50,6 +50,7 @@ names_at : (names : List (List ℕ)) (d c : ℕ) → AreWithin d (forest_of (map
 names_at [] d c h = tt
 names_at (name ∷ names) d c h = (h.0, names_at names d c h.1)
 
+-- so are the fields of an override
 override_at : (is_first : Bool) (session : ℕ) (how : How) (d c : ℕ) → 0 < c →
     AreWithin d (forest_of (list_of (Atom (codes "override") ∷ number_atom session
     ∷ (if is_first then [] else Atom (how_word how) ∷ [])) ∷ [])) →
@@ -58,6 +59,7 @@ override_at : (is_first : Bool) (session : ℕ) (how : How) (d c : ℕ) → 0 < 
 override_at true session how d c some h = (some, h.1, h.2, tt)
 override_at false session how d c some h = (some, h.1, h.2, tt)
 
+-- the fields of any deed lie within any depth but none
 deed_at : (version : ℕ) (deed : Deed) (d c : ℕ) → 0 < c → AreWithin d (forest_of (deed_tree version deed ∷ [])) →
     AreWithin c (forest_of (deed_tree version deed ∷ []))
 deed_at version Opened d c some h = (some, h.1, h.2, tt)
@@ -75,6 +77,7 @@ abbrev members_in : Sexp → Forest
 members_in (Atom octets) = no_trees
 members_in (Branch members) = members
 
+-- an entry's fields that lie within depth 6 lie within 5
 body_at : (entry : Entry) → AreWithin 6 (members_in (body_tree entry)) → AreWithin 5 (members_in (body_tree entry))
 body_at entry (word, (version, (election, (maker, (number, (stamp, (deep, few, names, deed))))))) =
     let more : AreWithin 5 (forest_of (list_of (map Atom entry.names) ∷ deed_tree entry.version entry.deed ∷ [])) =
@@ -87,6 +90,7 @@ record_fits : (word : List ℕ) (entry : Entry) (signature : List ℕ) → lengt
 record_fits word entry signature short (deep, few, (tag, (inside, count, body, end))) =
     (omega arith, omega arith, (short, (omega arith, few, (tag, (omega arith, count, body_at entry body, end)), tt)))
 
+-- a record of a sealed entry is within the limits
 records_fit : (x : Event SealedEntry) → IsSealed (entry_of x) → Fits (tree_of x)
 records_fit (Sent e) is = record_fits (codes "sent") e.entry e.signature (omega arith) is.spelt.within
 records_fit (Got e) is = record_fits (codes "got") e.entry e.signature (omega arith) is.spelt.within
@@ -99,6 +103,7 @@ record_spelt word front e is begins =
     ∙ ap (λ (bs : List ℕ). bs ++ (text_of (signed_tree e.entry e.signature) ++ 41 ∷ [])) begins
     ∙ ap (λ (bs : List ℕ). front ++ (bs ++ 41 ∷ [])) (sym is.spelt.spelt) ∙ sym (append_assoc front e.text (41 ∷ []))
 
+-- the text of its tree is the record as logs have it
 records_spelt : (x : Event SealedEntry) → IsSealed (entry_of x) → text_of (tree_of x) ≡ record_text x
 records_spelt (Sent e) is =
     record_spelt (codes "sent") (codes "(4:sent") e is
@@ -115,6 +120,7 @@ reads_plain e is = (
   rw is.spelt.spelt at is.hashed,
 )
 
+-- the tree of a sealed entry's record is read as that entry
 gives_plain : (place : ℕ) (x : Event SealedEntry) → IsSealed (entry_of x) →
     Gives IsReadPlain place (tree_of x) (Ok (plain_of (entry_of x)))
 gives_plain place (Sent e) is = inl (members_in (signed_tree e.entry e.signature), true, refl, reads_plain e is)
@@ -124,6 +130,7 @@ gives_plain place (Got e) is = inl (members_in (signed_tree e.entry e.signature)
 abbrev readings_of : List (Event SealedEntry) → List (Result Plain EntryFault)
 readings_of events = map (λ x. Ok (plain_of (entry_of x))) events
 
+-- the records of sealed entries are all within the limits
 all_fit : (events : List (Event SealedEntry)) → All IsSealed (held events) → All Fits (map tree_of events)
 all_fit [] all = All-nil Fits
 all_fit (x ∷ events) all =
@@ -131,6 +138,7 @@ all_fit (x ∷ events) all =
     (records_fit x (All-head IsSealed (entry_of x) (held events) all))
     (all_fit events (All-tail IsSealed (entry_of x) (held events) all))
 
+-- the texts of their trees are the records
 all_spelt : (events : List (Event SealedEntry)) → All IsSealed (held events) →
     flat_map text_of (map tree_of events) ≡ flat_map record_text events
 all_spelt [] all = refl
@@ -140,6 +148,7 @@ all_spelt (x ∷ events) all =
     ∙ ap (λ (bs : List ℕ). record_text x ++ bs)
     (all_spelt events (All-tail IsSealed (entry_of x) (held events) all))
 
+-- and they are read as their entries
 all_given : (place : ℕ) (events : List (Event SealedEntry)) → All IsSealed (held events) →
     EachGives IsReadPlain place (map tree_of events) (readings_of events)
 all_given place [] all = tt
@@ -148,10 +157,12 @@ all_given place (x ∷ events) all = (
   all_given (place + 1) events (All-tail IsSealed (entry_of x) (held events) all),
 )
 
+-- what is kept of the readings is the entries, in order
 all_kept : (events : List (Event SealedEntry)) → kept_of (readings_of events) ≡ map plain_of (held events)
 all_kept [] = refl
 all_kept (x ∷ events) = ap (λ (ps : List Plain). plain_of (entry_of x) ∷ ps) (all_kept events)
 
+-- and none is refused
 none_refused : (events : List (Event SealedEntry)) (place : ℕ) → refused_of place (readings_of events) ≡ []
 none_refused [] place = refl
 none_refused (x ∷ events) place = none_refused events (place + 1)
@@ -182,7 +193,8 @@ pub said_of_written : (owner : ℕ) (events : List (Event SealedEntry)) (bytes :
     owner < 2 ^ 32 → All IsSealed (held events) → bytes ≡ log_text owner events → Says bytes log → HasAll events log
 said_of_written owner events bytes log small all is h =
     let same =
-    one_said IsReadPlain one_plain bytes h.0 owner log.kept.items (map plain_of (held events)) log.refused.items [] log.end
+    one_said IsReadPlain one_plain bytes h.0 owner log.kept.items
+    (map plain_of (held events)) log.refused.items [] log.end
     Clean h.1 (are_written owner events bytes small all is) in
     record { kept = same.kept; refused = same.refused; ends = same.ends }
 

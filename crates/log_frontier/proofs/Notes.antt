@@ -30,6 +30,7 @@ low d ds = prefix_len (λ c. is_lt (slice_cmp nat_cmp c d)) ds
 abbrev put_at : List ℕ → List (List ℕ) → ℕ → List (List ℕ)
 put_at d ds i = take i ds ++ d ∷ drop i ds
 
+-- past a digest of the list the place of d is counted on by whether that digest is below d
 insert_step : (o : Ordering) (d c : List ℕ) (cs : List (List ℕ)) → slice_cmp nat_cmp d c ≡ o → c ≢ d →
     insert_digest d cs ≡ put_at d cs (low d cs) →
     inserted o d c cs (insert_digest d cs) ≡ put_at d (c ∷ cs) (low d (c ∷ cs))
@@ -53,6 +54,7 @@ insert_by_count d (c ∷ cs) apart =
     insert_step (slice_cmp nat_cmp d c) d c cs refl (apart c (Contains-head c cs))
     (insert_by_count d cs (λ b h. apart b (Contains-later c cs b h)))
 
+-- an item that is put at a place of a list has its value put there
 map_insert : {A B : Type 0} (f : A → B) (xs : List A) (i : ℕ) (x : A) →
     map f (take i xs ++ x ∷ drop i xs) ≡ take i (map f xs) ++ f x ∷ drop i (map f xs)
 map_insert f [] zero x = refl
@@ -60,6 +62,7 @@ map_insert f [] (suc i) x = refl
 map_insert f (y ∷ xs) zero x = refl
 map_insert f (y ∷ xs) (suc i) x = ap (λ ys. f y ∷ ys) (map_insert f xs i x)
 
+-- as many items pass from the front on as values do
 prefix_len_map : {A B : Type 0} (f : A → B) (p : B → Bool) (xs : List A) →
     prefix_len p (map f xs) ≡ prefix_len (λ x. p (f x)) xs
 prefix_len_map f p [] = refl
@@ -76,11 +79,13 @@ map_filter f q p (x ∷ xs) all =
     ≡ cond b (f x ∷ filter p (map f xs)) (filter p (map f xs)))
     [ true ↦ ap (λ ys. f x ∷ ys) rest | false ↦ rest ]
 
+-- the front of a longer list is the list
 get_append : {A : Type 0} (xs ys : List A) (i : ℕ) → i < length xs → slice_get (xs ++ ys) i ≡ slice_get xs i
 get_append [] ys i l = absurd (omega arith)
 get_append (x ∷ xs) ys zero l = refl
 get_append (x ∷ xs) ys (suc i) l = get_append xs ys i (omega arith)
 
+-- the last member of a list with one more is that one
 get_last : {A : Type 0} (xs : List A) (x : A) → slice_get (xs ++ x ∷ []) (length xs) ≡ Some x
 get_last [] x = refl
 get_last (y ∷ xs) x = get_last xs x
@@ -120,14 +125,17 @@ module _ {T : Type 0} (node : T → Node) (es : List T) (e : T) where
   abbrev kept : List (List ℕ)
   kept = filter (λ d. not (names_digest node e d)) (frontier node es)
 
+  -- with e there is one entry more
   longer : length (es ++ e ∷ []) ≡ length es + 1
   longer = length-append es (e ∷ [])
 
+  -- places among the entries are places with e too
   inside_new : (ps : List ℕ) → All (λ p. p < length es) ps → All (λ p. p < length (es ++ e ∷ [])) ps
   inside_new ps all =
       All-weaker (λ p. p < length es) (λ p. p < length (es ++ e ∷ [])) (λ p l. omega (arith, longer)) ps all
 
   module _ (ps : List ℕ) (front : IsFrontierAt node es ps) where
+    -- the digests at the places that are left are those that e doesn't name
     left_digests : map (λ p. at_new p) (left ps) ≡ kept
     left_digests =
         map_filter (λ p. at_new p) (is_left node e (es ++ e ∷ [])) (λ d. not (names_digest node e d)) ps
@@ -136,6 +144,7 @@ module _ {T : Type 0} (node : T → Node) (es : List T) (e : T) where
         (λ p l. left_at node e (es ++ e ∷ []) p l) ps (inside_new ps front.inside))
         ∙ ap (filter (λ d. not (names_digest node e d))) (same_digests ps front.inside ∙ front.digests)
 
+    -- the places that are left are places with e too
     left_inside : All (λ p. p < length (es ++ e ∷ [])) (left ps)
     left_inside =
         All-filter (is_left node e (es ++ e ∷ [])) (λ p. p < length (es ++ e ∷ [])) ps (inside_new ps front.inside)
@@ -156,6 +165,7 @@ module _ {T : Type 0} (node : T → Node) (es : List T) (e : T) where
         (insert (left ps) (count_below node (es ++ e ∷ []) (node e).digest (left ps)) (length es))
     noted_free new free = record { inside = inside; digests = digests }
       where
+        -- with e's own place put among them, all are places
         inside : All (λ p. p < length (es ++ e ∷ []))
             (insert (left ps) (count_below node (es ++ e ∷ []) (node e).digest (left ps)) (length es))
         inside =
@@ -165,6 +175,7 @@ module _ {T : Type 0} (node : T → Node) (es : List T) (e : T) where
             (All-cons (λ p. p < length (es ++ e ∷ [])) (length es) (drop n (left ps)) (omega (arith, longer))
             (All-drop (λ p. p < length (es ++ e ∷ [])) n (left ps) left_inside))
 
+        -- e's digest is none of those that are kept
         apart : (c : List ℕ) → Contains kept c → c ≢ (node e).digest
         apart c h s =
             let f = Contains-filter_cases (λ d. not (names_digest node e d)) (frontier node es) c h in
@@ -172,11 +183,13 @@ module _ {T : Type 0} (node : T → Node) (es : List T) (e : T) where
             let m = Contains-map_cases (λ e. (node e).digest) es c r.0 in
             new m.0 m.1 (m.2 ∙ s)
 
+        -- as many of the digests that are kept are below e's as are counted at their places
         counts : low (node e).digest kept ≡ count_below node (es ++ e ∷ []) (node e).digest (left ps)
         counts =
             ap (low (node e).digest) (sym left_digests)
             ∙ prefix_len_map (λ p. at_new p) (λ c. is_lt (slice_cmp nat_cmp c (node e).digest)) (left ps)
 
+        -- with e's own the digests at the places are the frontier
         digests : map (λ p. at_new p)
             (insert (left ps) (count_below node (es ++ e ∷ []) (node e).digest (left ps)) (length es))
             ≡ frontier node (es ++ e ∷ [])
@@ -189,6 +202,7 @@ module _ {T : Type 0} (node : T → Node) (es : List T) (e : T) where
             ∙ sym (insert_by_count (node e).digest kept apart)
             ∙ sym (frontier_push node es e ∙ ap (λ b. cond b kept (insert_digest (node e).digest kept)) free)
 
+-- a list that isn't empty is its front and its last member
 pub last_split : {A : Type 0} (xs : List A) (n : ℕ) (x : A) → length xs ≡ suc n → x ≡ get_or xs n x →
     xs ≡ take n xs ++ x ∷ []
 last_split [] n x l e = absurd (omega arith)
@@ -200,9 +214,11 @@ last_split (y ∷ xs) (suc n) x l e = ap (λ ys. y ∷ ys) (last_split xs n x (o
 module _ {T : Type 0} (node : T → Node) (held : List T) (place : ℕ) (e : T) (ps : List ℕ)
     (last : place + 1 ≡ length held) (is : e ≡ get_or held place e)
     (front : IsFrontierAt node (take place held) ps) where
+  -- the entries are those up to the place and e
   whole : held ≡ take place held ++ e ∷ []
   whole = last_split held place e (omega arith) is
 
+  -- where some entry names the last one, the places that it doesn't name are the frontier
   pub note_named : is_named node held (node e).digest ≡ true →
       IsFrontierAt node held (filter (is_left node e held) ps)
   note_named named =
@@ -210,6 +226,7 @@ module _ {T : Type 0} (node : T → Node) (held : List T) (place : ℕ) (e : T) 
       (noted_named node (take place held) e ps front
       (subst (λ (h : List T). is_named node h (node e).digest ≡ true) whole named))
 
+  -- where none does, its own place is put among them
   pub note_free : HasNoDigestTwice node held → is_named node held (node e).digest ≡ false →
       IsFrontierAt node held (insert (filter (is_left node e held) ps)
       (count_below node held (node e).digest (filter (is_left node e held) ps)) place)

@@ -101,10 +101,12 @@ module _ {T : Type 0} (node : T → Node) where
         ∙ sym (list_any-append (λ g. names_digest node g d) es (e ∷ []))
         ∙ sym (ap (λ (l : List T). is_named node l d) split)
       where
+        -- a second test that always holds changes nothing
         and_true : (b : Bool) → (b && true) ≡ b
         and_true true = refl
         and_true false = refl
 
+        -- nor does a second test that always fails
         or_false : (b : Bool) → b ≡ (b || false)
         or_false true = refl
         or_false false = refl

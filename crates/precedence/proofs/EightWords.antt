@@ -10,6 +10,7 @@ module _ (xs ys : List ℕ) (at : ℕ) (room : at + 8 ≤ length xs) (same : len
   abbrev both : List ℕ
   both = zip2 bit_or (chunk at 8 xs) (chunk at 8 ys)
 
+  -- they are eight words
   eight : length both ≡ 8
   eight =
       let first = length-chunk at 8 xs room in

@@ -16,9 +16,13 @@ use Rattle.precedence.proofs.Steps.{any_below, all_below, reaches_by_parents, wh
 
 -- each of these rows is that of its node
 pub record HasRows (graph : Graph) (rows : List (List ℕ)) (wholes : List Bool) : Type 0 where
+  -- each row has as many words as it needs
   pub words : HasItsWords rows
+  -- the parents of each node stand below it
   pub descends : (x : ℕ) → x < length rows → All (λ z. z < x) (graph.parents x)
+  -- the row of a node has the bits of its ancestors
   pub bits : (x y : ℕ) → x < length rows → row_has rows x y ≡ reaches graph.parents x y x
+  -- its flag says whether it is whole
   pub settled : (x : ℕ) → x < length rows →
       slice_index_or wholes x false ≡ is_whole graph.parents graph.ragged x x
 

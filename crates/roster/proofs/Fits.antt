@@ -10,6 +10,7 @@ use Rattle.roster.specs.declared.post.Role.TheVariants.{Supervisor, Booth}
 use Rattle.roster.specs.RosterText.{role_word, post_tree, roster_tree, HasKey}
 use Rattle.roster.specs.Machines.{IsName, HaveText}
 
+-- the word of a role is short enough for an atom
 word_is_short : (role : Role) → length (role_word role) ≤ 262144
 word_is_short Supervisor = omega arith
 word_is_short Booth = omega arith
@@ -25,10 +26,12 @@ posts_within (post ∷ machines) named keyed =
     (All-tail HasKey post machines keyed) in
     (omega arith, omega arith, (omega arith, (word_is_short post.role, (omega arith, tt))), rest)
 
+-- there is a tree for each machine
 posts_counted : (machines : List Post) → count_of (forest_of (map post_tree machines)) ≡ length machines
 posts_counted [] = refl
 posts_counted (post ∷ machines) = let rest = posts_counted machines in omega (arith, rest)
 
+-- the tree of a roster is within the limits
 pub roster_fits : (machines : List Post) → HaveText machines → Fits (roster_tree machines)
 roster_fits machines have =
     let few : length machines ≤ 16 = have.roster.few in (

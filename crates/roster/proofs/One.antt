@@ -106,6 +106,7 @@ one_fault text NotOneSupervisor other is also =
     one_machines_fault is.0 NotOneSupervisor other is.2 (of_machines text is.0 other is.1 also)
 one_fault text Memory other is also = absurd is.2
 
+-- a text has one right answer
 pub one_reading : (text : List ℕ) (answer other : Result Roster RosterFault) → Reads text answer → Reads text other →
     answer ≡ other
 one_reading text (Ok roster) (Ok other) is also =

@@ -30,18 +30,22 @@ some_of (raw ∷ raws) k within = raw
 abbrev pub RawsNamed : List Raw → Type 0
 RawsNamed raws = All (λ (raw : Raw). IsName raw.name.now) raws
 
+-- no two machines that were read have one name
 abbrev pub RawsDistinct : List Raw → Type 0
 RawsDistinct raws = AllPairs (λ (raw other : Raw). raw.name.now ≢ other.name.now) raws
 
+-- machines that were read with names are machines with names
 pub named_posts : (raws : List Raw) → RawsNamed raws → AreNamed (map post_of raws)
 named_posts raws all = All-map (λ (post : Post). IsName post.name) post_of raws all
 
+-- and the other way round
 pub named_raws : (raws : List Raw) → AreNamed (map post_of raws) → RawsNamed raws
 named_raws raws all k d within =
     let long : k < length (map post_of raws) = omega (arith, length-map raws post_of) in
     subst (λ (post : Post). IsName post.name) (get_or-map post_of raws k d (post_of d) within)
     (all k (post_of d) long)
 
+-- machines that were read with different names have different names
 pub distinct_posts : (raws : List Raw) → RawsDistinct raws → AreDistinct (map post_of raws)
 distinct_posts raws all i j d before within same =
     let long : j < length raws = omega (arith, length-map raws post_of) in
@@ -52,6 +56,7 @@ distinct_posts raws all i j d before within same =
     all i j raw before long
     (sym (ap (λ (post : Post). post.name) first) ∙ same ∙ ap (λ (post : Post). post.name) second)
 
+-- and the other way round
 pub distinct_raws : (raws : List Raw) → AreDistinct (map post_of raws) → RawsDistinct raws
 distinct_raws raws all i j d before within same =
     let long : j < length (map post_of raws) = omega (arith, length-map raws post_of) in
@@ -69,6 +74,7 @@ sums : (raws : List Raw) (n : ℕ) →
 sums [] n = refl
 sums (raw ∷ raws) n = sums raws (n + (if is_supervisor raw.role then 1 else 0))
 
+-- as many supervisors are among the machines as were read
 pub supervisors : (raws : List Raw) →
     count_by (λ (post : Post). is_supervisor post.role) (map post_of raws)
     ≡ count_by (λ (raw : Raw). is_supervisor raw.role) raws
@@ -105,5 +111,6 @@ one_more_distinct raws i all last a b d before within =
     (last a d (omega arith)))
     (below_or_last b i within)
   where
+    -- a place below the end of one more is below the old end, or is that
     below_or_last : (b i : ℕ) → b < i + 1 → (b < i) ⊎ (b ≡ i)
     below_or_last b i within = grind arith

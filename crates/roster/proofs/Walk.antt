@@ -15,7 +15,9 @@ use Rattle.roster.proofs.Trees.{same_behind}
 
 -- the tree is that of a roster's machines so far and of the members that are left
 pub record IsWalked (tree : Sexp) (machines : List Post) (left : List Sexp) : Type 0 where
+  -- each machine so far has a key
   pub keys : All HasKey machines
+  -- the tree is the word of rosters, these machines and the members that are left
   pub is : tree ≡ headed (map post_tree machines ++ left)
 
 -- one machine more

@@ -18,10 +18,12 @@ use Rattle.rule_engine.specs.inside.Judging.{value_of}
 use Rattle.rule_engine.specs.Kleene.{is_false}
 use Rattle.rule_engine.specs.Verdicts.{broken, first_false, and_then}
 
+-- what follows from what holds of a success holds of it too
 pub on_ok : {E : Type 0} (P Q : Type 0) (r : Result (Unit {0}) E) → OnOk r P → (P → Q) → OnOk r Q
 on_ok P Q (Ok x) h f = f h
 on_ok P Q (Err e) h f = tt
 
+-- past a place that fails the test the search goes on from the next
 pub find_more : (p : ℕ → Bool) (i n : ℕ) → 0 < n → p i ≡ false →
     find p (range_with_len i n) ≡ find p (range_with_len (i + 1) (n - 1))
 find_more p i zero some is = absurd (omega arith)
@@ -30,11 +32,13 @@ find_more p i (suc n) some is =
     ap (λ b. cond b (Some i) (find p (range_with_len (i + 1) n))) is
     ∙ ap (λ k. find p (range_with_len (i + 1) k)) (sym same)
 
+-- a search ends at a place that passes the test
 pub find_here : (p : ℕ → Bool) (i n : ℕ) → 0 < n → p i ≡ true → find p (range_with_len i n) ≡ Some i
 find_here p i zero some is = absurd (omega arith)
 find_here p i (suc n) some is = ap (λ b. cond b (Some i) (find p (range_with_len (i + 1) n))) is
 
 module _ (rows : List Row) (order : ℕ → ℕ → Three) (wholes : ℕ → Bool) (env : ℕ → Option ℕ) where
+  -- a leading `every` over survivors puts the first row at which its body is false in front of those inside
   pub broken-ForEvery : (v : ℕ) (kind : Kind) (body : Box Formula Global) (first : Option ℕ) →
       first ≡ first_false rows order wholes kind
       (λ i. value_of rows order wholes body.value (bind v i env)) 0 (length rows) →
@@ -58,18 +62,22 @@ module _ (rows : List Row) (order : ℕ → ℕ → Three) (wholes : ℕ → Boo
       so_far ∙ find_more p i (length rows - i) (omega arith) is
       ∙ ap (λ (n : ℕ). find p (range_with_len (i + 1) n)) less
 
+-- a test whose second part fails fails
 pub neither : (a b : Bool) → b ≡ false → (a && b) ≡ false
 neither true b is = is
 neither false b is = refl
 
+-- a test of two parts that both hold holds
 pub each_true : (a b : Bool) → a ≡ true → b ≡ true → (a && b) ≡ true
 each_true true b is also = also
 each_true false b is also = cc
 
+-- a test whose first part fails fails
 pub not_first : (a b : Bool) → a ≡ false → (a && b) ≡ false
 not_first true b is = cc
 not_first false b is = refl
 
+-- within the rows, the row at a place is of the kind that the list says
 pub at_row : (rows : List Row) (kind : Kind) (i : ℕ) (d : Row) → i < length rows →
     has_kind kind (slice_get rows i) ≡ has_kind kind (Some (get_or rows i d))
 at_row rows kind i d within = ap (has_kind kind) (slice_get-get_or rows i d within)

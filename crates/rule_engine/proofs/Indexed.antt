@@ -24,9 +24,11 @@ use Rattle.rule_engine.specs.inside.Index.{rank, number_in, first_in, IsFirst, H
 use Rattle.rule_engine.proofs.Wants.{signed_true, false_is}
 use Rattle.rule_engine.proofs.Judges.{both_true, over_step}
 
+-- finds that are the same are of one row
 same_row : (a b : Row) → Some a ≡ Some b → a ≡ b
 same_row a b e = cc
 
+-- a remainder is below its divisor
 pub mod_below : (n d : ℕ) → 0 < d → n % d < d
 mod_below n d some = omega arith
 
@@ -67,30 +69,38 @@ holds_none rows by n all = record {
   nexts_are = λ j row low is. absurd (over j row low is);
 }
   where
+    -- no row stands where the rows end
     over : (k : ℕ) (row : Row) → n ≤ k → slice_get rows k ≡ Some row → ⊥
     over k row low is = omega (arith, slice_get_within rows k row is, all, low)
 
+    -- there is a bucket more than there are rows
     many : (bucket : ℕ) → bucket < length (replicate (n + 1) n) → bucket < n + 1
     many bucket within = subst (λ (m : ℕ). bucket < m) (length-replicate (n + 1) n) within
 
 -- one row more
 module _ (rows : List Row) (by : Key) (firsts nexts : List ℕ) (i : ℕ) (row : Row) (at : slice_get rows i ≡ Some row)
     (inside : i < length nexts) (some : 0 < length firsts) (before : HoldsFrom rows by firsts nexts (i + 1)) where
+  -- the number of buckets
   abbrev count : ℕ
   count = length firsts
 
+  -- the bucket of the row
   abbrev own : ℕ
   own = number_in by row % count
 
+  -- the first rows of the buckets with the row as the first of its own
   abbrev grown : List ℕ
   grown = slice_set firsts own i
 
+  -- the next rows with the row's own, which was the first in its bucket so far
   abbrev linked : List ℕ
   linked = slice_set nexts i (slice_index_or firsts own 0)
 
+  -- the row's bucket is one of those that there are
   own_below : own < count
   own_below = mod_below (number_in by row) count some
 
+  -- each bucket's first row is known from the row on
   firsts_at : (bucket : ℕ) → bucket < count → IsFirst rows by count bucket i (slice_index_or grown bucket 0)
   firsts_at bucket within =
       elim (cases_eq bucket own) [
@@ -103,13 +113,15 @@ module _ (rows : List Row) (by : Key) (firsts nexts : List ℕ) (i : ℕ) (row :
             (first_earlier rows by count i _ bucket row at apart (before.firsts_are bucket within))
       ]
 
+  -- and so is the next row in the bucket of each row from there on
   nexts_at : (j : ℕ) (other : Row) → i ≤ j → slice_get rows j ≡ Some other →
       IsFirst rows by count (number_in by other % count) (j + 1) (slice_index_or linked j 0)
   nexts_at j other low is =
       elim (cases_eq j i) [
         | inl same ↦
             let one : other ≡ row = same_row other row (sym is ∙ ap (slice_get rows) same ∙ at) in
-            subst (λ (r : Row). IsFirst rows by count (number_in by r % count) (j + 1) (slice_index_or linked j 0)) (sym one)
+            subst (λ (r : Row). IsFirst rows by count (number_in by r % count) (j + 1) (slice_index_or linked j 0))
+            (sym one)
             (subst (λ (n : ℕ). IsFirst rows by count own (n + 1) (slice_index_or linked n 0)) (sym same)
             (subst (λ (v : ℕ). IsFirst rows by count own (i + 1) v)
             (sym (get_or-set_same nexts i (slice_index_or firsts own 0) 0 inside)) (before.firsts_are own own_below)))
@@ -119,6 +131,7 @@ module _ (rows : List Row) (by : Key) (firsts nexts : List ℕ) (i : ℕ) (row :
             (before.nexts_are j other (omega (arith, low, apart)) is)
       ]
 
+  -- so the buckets are known from one row earlier on
   holds_more : HoldsFrom rows by grown linked i
   holds_more =
       let long : length grown ≡ count = length-set firsts own i in
@@ -135,7 +148,8 @@ pub holds_with : (rows : List Row) (by : Key) (firsts nexts : List ℕ) (i bucke
     i < length rows → i < length nexts → 0 < length firsts → number ≡ number_in by (get_or rows i d) →
     count ≡ length firsts → bucket ≡ number % count → first ≡ slice_index_or firsts bucket first →
     HoldsFrom rows by firsts nexts (i + 1) → HoldsFrom rows by (slice_set firsts bucket i) (slice_set nexts i first) i
-holds_with rows by firsts nexts i bucket number count first d within inside some number_is count_is bucket_is first_is before =
+holds_with rows by firsts nexts i bucket number count first d within inside some number_is count_is bucket_is
+    first_is before =
     let row = get_or rows i d in
     let own = number_in by row % length firsts in
     let is : bucket ≡ own =
@@ -165,12 +179,15 @@ other_kind wanted k some apart = refl
 -- values at rows, one by one and past those that count as true
 module _ (rows : List Row) (order : ℕ → ℕ → Three) (wholes : ℕ → Bool) (some : Bool) (body : Formula) (v : ℕ)
     (kind : Kind) (within : Option ℕ) (env : ℕ → Option ℕ) where
+  -- the value that a row adds: the body's where the row is meant, and else true
   abbrev at : ℕ → Three
   at = if_meant rows order wholes some body v kind within env
 
+  -- the value of the body at a row
   abbrev value : ℕ → Three
   value j = value_of rows order wholes body (bind v j env)
 
+  -- whether the quantifier means the row
   abbrev is_one : ℕ → Bool
   is_one j = has_kind kind (slice_get rows j) && is_in order within j
 
@@ -178,43 +195,53 @@ module _ (rows : List Row) (order : ℕ → ℕ → Three) (wholes : ℕ → Boo
   abbrev pub rest : ℕ → Three
   rest i = over_from rows order wholes some body v kind within env i (length rows - i)
 
+  -- where no row is nothing is added
   no_row : (j : ℕ) → slice_get rows j ≡ None → at j ≡ True
-  no_row j lost = ap (λ (o : Option Row). cond (has_kind kind o && is_in order within j) (signed some (value j)) True) lost
+  no_row j lost = ap (λ (o : Option Row). cond (has_kind kind o && is_in order within j) (signed some (value j)) True)
+      lost
 
+  -- a row at which the body's value changes nothing adds nothing
   pub settled_at : (j : ℕ) → value j ≡ as_three (not some) → at j ≡ True
   settled_at j is = by (is_one j)
     where
+      -- the same by whether the row is meant
       by : (b : Bool) → cond b (signed some (value j)) True ≡ True
       by true = signed_true some (value j) is
       by false = refl
 
+  -- a row of another kind adds nothing
   pub other_at : (j : ℕ) (row : Row) → slice_get rows j ≡ Some row → kind ≢ kinds.Any → rank row.kind ≢ rank kind →
       at j ≡ True
   other_at j row is any apart =
       ap (λ (b : Bool). cond (b && is_in order within j) (signed some (value j)) True)
       (ap (has_kind kind) is ∙ other_kind kind row.kind any apart)
 
+  -- the least so far and the rest is the least with the row, and the rest behind it
   pub step_at : (i : ℕ) (acc : Three) → i < length rows → both acc (rest i) ≡ both (both acc (at i)) (rest (i + 1))
   step_at i acc inside =
       over_step rows order wholes env some body v kind within i acc
       (cond (is_one i) (both acc (signed some (value i))) acc) (both acc (rest i)) (is_one i) inside refl refl refl
       ∙ ap (λ (x : Three). both x (rest (i + 1))) (by (is_one i))
     where
+      -- the same by whether the row is meant
       by : (b : Bool) → cond b (both acc (signed some (value i))) acc ≡ both acc (cond b (signed some (value i)) True)
       by true = refl
       by false = sym (both_true acc)
 
+  -- behind the last row nothing is left
   pub no_rest : (i : ℕ) → length rows ≤ i → rest i ≡ True
   no_rest i over =
       let none : length rows - i ≡ 0 = omega (arith, over) in
       ap (over_from rows order wholes some body v kind within env i) none
 
+  -- a row that adds nothing may be passed over
   skip_one : (i : ℕ) → at i ≡ True → rest i ≡ rest (i + 1)
   skip_one i is = elim (cases_lt i (length rows)) [
     | inl inside ↦ step_at i True inside ∙ ap (λ (x : Three). both x (rest (i + 1))) is
     | inr over ↦ no_rest i over ∙ sym (no_rest (i + 1) (omega (arith, over)))
   ]
 
+  -- and so may any number of such rows
   skip_by : (d i : ℕ) → ((k : ℕ) → i ≤ k → k < i + d → at k ≡ True) → rest i ≡ rest (i + d)
   skip_by zero i each = let same : i ≡ i + 0 = omega arith in ap rest same
   skip_by (suc d) i each =
@@ -231,6 +258,7 @@ module _ (rows : List Row) (order : ℕ → ℕ → Three) (wholes : ℕ → Boo
       skip_by (j - i) i (λ k low high. passed k (slice_get rows k) low (subst (λ (n : ℕ). k < n) same high) refl)
       ∙ ap rest same
     where
+      -- the same of each row in between, by whether there is one
       passed : (k : ℕ) (o : Option Row) → i ≤ k → k < j → slice_get rows k ≡ o → at k ≡ True
       passed k None low high is = no_row k is
       passed k (Some row) low high is =
@@ -243,6 +271,7 @@ module _ (rows : List Row) (order : ℕ → ℕ → Three) (wholes : ℕ → Boo
       so_far ∙ step_at i acc inside
       ∙ ap (λ (y : Three). both y (rest (i + 1))) (ap (both acc) (sym value_is) ∙ sym new_is)
 
+  -- once the least is false it stays so, whatever the rest is
   pub stop_with : (i : ℕ) (acc x new total : Three) → i < length rows → x ≡ at i → new ≡ both acc x →
       total ≡ both acc (rest i) → is_false new ≡ true → False ≡ total
   stop_with i acc x new total inside value_is new_is so_far lost =
@@ -252,21 +281,26 @@ module _ (rows : List Row) (order : ℕ → ℕ → Three) (wholes : ℕ → Boo
 -- a quantifier over the rows of a bucket
 module _ (rows : List Row) (order : ℕ → ℕ → Three) (wholes : ℕ → Bool) (q : Quantifier) (body : Formula)
     (env : ℕ → Option ℕ) (bucket : Bucket) (serves : IsBucketFor rows order wholes q body env bucket) where
+  -- the least over the rows from a place on
   abbrev left : ℕ → Three
   left = rest rows order wholes q.some body q.v q.kind q.within env
 
+  -- the number of buckets
   abbrev size : ℕ
   size = length bucket.index.now.firsts.items
 
   -- a row at the place is in the bucket
   abbrev IsInside : ℕ → Type 0
-  IsInside i = (row : Row) → slice_get rows i ≡ Some row → number_in bucket.index.now.key row % size ≡ bucket.number % size
+  IsInside i = (row : Row) → slice_get rows i ≡ Some row
+      → number_in bucket.index.now.key row % size ≡ bucket.number % size
 
+  -- rows between two of the bucket add nothing
   passed_over : (i j : ℕ) → IsFirst rows bucket.index.now.key size (bucket.number % size) i j → left i ≡ left j
   passed_over i j first =
       skip rows order wholes q.some body q.v q.kind q.within env bucket.index.now.key bucket.number size i j
       serves.others first
 
+  -- the quantifier's value is the least from the bucket's first row on
   pub bucket_starts : (i : ℕ) → i ≡ first_in bucket.index.now.firsts.items bucket.number →
       (over_rows rows order wholes q.some body q.v q.kind q.within env ≡ left i) × IsInside i
   bucket_starts i is =
@@ -279,6 +313,7 @@ module _ (rows : List Row) (order : ℕ → ℕ → Three) (wholes : ℕ → Boo
         first.here,
       )
 
+  -- behind a row of the bucket the least goes on at the next one in it
   pub bucket_goes_on : (i next : ℕ) → i < length rows → next ≡ slice_index_or bucket.index.now.nexts.items i 0 →
       IsInside i → (i < next) × (left (i + 1) ≡ left next) × IsInside next
   bucket_goes_on i next inside is here = elim (slice_get_cases rows i).1 [

@@ -9,9 +9,11 @@ use Rattle.rule_engine.specs.Values.{values, first_value}
 use Rattle.rule_language.proofs.Views.{shape}
 
 module _ (rows : List Row) (order : ℕ → ℕ → Three) (wholes : ℕ → Bool) (env : ℕ → Option ℕ) where
+  -- the value of a formula where the variables stand for rows
   abbrev value_of : Formula → Three
   value_of formula = first_value (values rows order wholes (tree_of formula) env)
 
+  -- the values of a row are the first formula's and those of the others
   pub values-in_front : (f : Formula) (rest : Trees) →
       values rows order wholes (in_front f rest) env ≡ value_of f ∷ values rows order wholes rest env
   values-in_front f rest =
@@ -20,6 +22,7 @@ module _ (rows : List Row) (order : ℕ → ℕ → Three) (wholes : ℕ → Boo
       ∙ ap (λ (x : Three). x ∷ values rows order wholes rest env)
       (sym (ap (λ (t : Trees). first_value (values rows order wholes t env)) (s.2 no_trees)))
 
+  -- the values of formulas as a row are those of each
   pub values-trees_of : (fs : List Formula) → values rows order wholes (trees_of fs) env ≡ map value_of fs
   values-trees_of [] = refl
   values-trees_of (f ∷ fs) =

@@ -37,20 +37,25 @@ use Rattle.rule_engine.proofs.Kleenes.{least_false, greatest_true, greatest_fals
 
 -- a known value is right of the sentence
 pub record Agrees (x : Three) (P : Type 0) : Type 0 where
+  -- where the value is true the sentence holds
   pub yes : x ≡ True → P
+  -- where it is false the sentence doesn't
   pub no : x ≡ False → ¬ P
 
+-- value by value and sentence by sentence what is known is right
 abbrev AllAgree : List Three → List (Type 0) → Type 0
 AllAgree [] [] = Unit {0}
 AllAgree (x ∷ xs) (P ∷ Ps) = Agrees x P × AllAgree xs Ps
 AllAgree xs Ps = ⊥
 
+-- the first value is right of the first sentence
 first_agrees : (xs : List Three) (Ps : List (Type 0)) → AllAgree xs Ps → Agrees (first_value xs) (first_sentence Ps)
 first_agrees [] [] a = record { yes = λ e. tt; no = λ e. cc }
 first_agrees (x ∷ xs) (P ∷ Ps) a = a.0
 first_agrees [] (P ∷ Ps) a = absurd a
 first_agrees (x ∷ xs) [] a = absurd a
 
+-- and the second of the second
 second_agrees : (xs : List Three) (Ps : List (Type 0)) → AllAgree xs Ps →
     Agrees (second_value xs) (second_sentence Ps)
 second_agrees [] [] a = record { yes = λ e. tt; no = λ e. cc }
@@ -70,6 +75,7 @@ least_agrees (x ∷ xs) (P ∷ Ps) a =
 least_agrees [] (P ∷ Ps) a = absurd a
 least_agrees (x ∷ xs) [] a = absurd a
 
+-- the greatest is right of this, that some sentence holds
 greatest_agrees : (xs : List Three) (Ps : List (Type 0)) → AllAgree xs Ps → Agrees (greatest xs) (SomeHolds Ps)
 greatest_agrees [] [] a = record { yes = λ e. cc; no = λ e h. h }
 greatest_agrees (x ∷ xs) (P ∷ Ps) a =
@@ -82,10 +88,12 @@ greatest_agrees (x ∷ xs) (P ∷ Ps) a =
 greatest_agrees [] (P ∷ Ps) a = absurd a
 greatest_agrees (x ∷ xs) [] a = absurd a
 
+-- the opposite is right of the sentence's denial
 opposite_agrees : (x : Three) (P : Type 0) → Agrees x P → Agrees (opposite x) (¬ P)
 opposite_agrees x P a =
     record { yes = λ e. a.no (opposite_true x e); no = λ e n. n (a.yes (opposite_false x e)) }
 
+-- the greatest of the first one's opposite and the second is right of this, that the one implies the other
 implies_agrees : (x y : Three) (P Q : Type 0) → Agrees x P → Agrees y Q →
     Agrees (either (opposite x) y) (P → Q)
 implies_agrees x y P Q a b = record {
@@ -96,6 +104,7 @@ implies_agrees x y P Q a b = record {
   no = λ e f. let r = either_false (opposite x) y e in b.no r.1 (f (a.yes (opposite_false x r.0)));
 }
 
+-- a test's value is right of the test
 test_agrees : (b : Bool) → Agrees (as_three b) (IsTrue b)
 test_agrees true = record { yes = λ e. refl; no = λ e. cc }
 test_agrees false = record { yes = λ e. cc; no = λ e h. cc }
@@ -106,15 +115,18 @@ StandFor S None None = Unit {0}
 StandFor S (Some i) (Some e) = slice_get S i ≡ Some e
 StandFor S i e = ⊥
 
+-- a number below the end is in the range
 pub in_range : (n i : ℕ) → i < n → Contains (range_with_len 0 n) i
 in_range n i l =
     (i, omega (arith, length-range_with_len 0 n), omega (arith, get_or-range_with_len 0 n i i l))
 
+-- the value that stands for a gap is unknown
 pub unknown_of : (b : Bool) (x : Three) → Contains (cond b [] (Unknown ∷ [])) x → x ≡ Unknown
 unknown_of true x c = absurd (Contains-none x c)
 unknown_of false x c =
     elim (Contains-cons_cases Unknown [] x c) [ inl s ↦ sym s | inr n ↦ absurd (Contains-none x n) ]
 
+-- where no unknown value stands for a gap there is none
 no_unknown : (b : Bool) → ((x : Three) → Contains (cond b [] (Unknown ∷ [])) x → x ≡ Unknown → ⊥) → b ≡ true
 no_unknown true none = refl
 no_unknown false none = absurd (none Unknown (Contains-head Unknown []) refl)
@@ -135,12 +147,15 @@ unknown≢false e = cc
 module _ {T : Type 0} (f : ℕ → Three) (xs : List ℕ) (b : Bool) (IsMeant P : T → Type 0)
     (meant : (i : ℕ) → Contains xs i → (e : T) × IsMeant e × Agrees (f i) (P e))
     (all : b ≡ true → (e : T) → IsMeant e → (i : ℕ) × Contains xs i × Agrees (f i) (P e)) where
+  -- the unknown value where entries are missing
   abbrev us : List Three
   us = cond b [] (Unknown ∷ [])
 
+  -- the values at the places, and that one
   abbrev known : List Three
   known = map f xs ++ us
 
+  -- the least of them is right of this, that each entry that is meant has the sentence
   every_agrees : Agrees (least known) ((e : T) → IsMeant e → P e)
   every_agrees = record {
     yes = λ t e m.
@@ -158,6 +173,7 @@ module _ {T : Type 0} (f : ℕ → Three) (xs : List ℕ) (b : Bool) (IsMeant P 
         ];
   }
 
+  -- the greatest of them is right of this, that some entry that is meant has it
   some_agrees : Agrees (greatest known) ((e : T) × IsMeant e × P e)
   some_agrees = record {
     yes = λ t.
@@ -178,12 +194,15 @@ module _ {T : Type 0} (f : ℕ → Three) (xs : List ℕ) (b : Bool) (IsMeant P 
 module _ {T : Type 0} (node : T → Node) (row : T → Row) (machines : ℕ) (S G : List T) (parents : ℕ → List ℕ)
     (ragged : ℕ → Bool) (single : HasNoDouble S) (graph : IsGraphOf node S parents ragged)
     (completion : Completion node machines S G) where
+  -- the rows of the survivors
   abbrev rows : List Row
   rows = map row S
 
+  -- whether one place comes before another, as far as it is known
   abbrev comes_before : ℕ → ℕ → Three
   comes_before y x = before parents ragged y x
 
+  -- whether neither the survivor at the place nor an ancestor of it names a gap
   abbrev whole_at_place : ℕ → Bool
   whole_at_place x = is_whole parents ragged x x
 
@@ -191,28 +210,34 @@ module _ {T : Type 0} (node : T → Node) (row : T → Row) (machines : ℕ) (S 
   abbrev StandForAll : (ℕ → Option ℕ) → (ℕ → Option T) → Type 0
   StandForAll σ ρ = (v : ℕ) → StandFor S (σ v) (ρ v)
 
+  -- the row at an entry's place is the entry's
   row_of : (i : ℕ) (e : T) → slice_get S i ≡ Some e → slice_get rows i ≡ Some (row e)
   row_of i e is = slice_get-map row S i ∙ ap (option_map row) is
 
+  -- one variable more, for which a place and its entry stand, leaves all places standing for the entries
   one_more : (v i : ℕ) (e : T) (σ : ℕ → Option ℕ) (ρ : ℕ → Option T) → slice_get S i ≡ Some e → StandForAll σ ρ →
       StandForAll (bind v i σ) (bind v e ρ)
   one_more v i e σ ρ is stand u = by (u == v)
     where
+      -- the same by whether it is the variable that was bound
       by : (b : Bool) → StandFor S (cond b (Some i) (σ u)) (cond b (Some e) (ρ u))
       by true = is
       by false = stand u
 
+  -- a place and the entry that it stands for have one row
   same_row : (i : Option ℕ) (e : Option T) → StandFor S i e → row_at rows i ≡ option_map row e
   same_row None None s = refl
   same_row (Some i) (Some e) s = row_of i e s
   same_row None (Some e) s = absurd s
   same_row (Some i) None s = absurd s
 
+  -- a test of rows is right of the entries that they stand for
   passes_agrees : (form : Form) (σ : ℕ → Option ℕ) (ρ : ℕ → Option T) → StandForAll σ ρ →
       Agrees (as_three (passes (λ w. row_at rows (σ w)) form))
       (IsTrue (passes (λ w. option_map row (ρ w)) form))
   passes_agrees form σ ρ stand =
-      subst (λ (r : ℕ → Option Row). Agrees (as_three (passes r form)) (IsTrue (passes (λ w. option_map row (ρ w)) form)))
+      subst (λ (r : ℕ → Option Row). Agrees (as_three (passes r form))
+      (IsTrue (passes (λ w. option_map row (ρ w)) form)))
       (sym (fun_ext (λ (w : ℕ). same_row (σ w) (ρ w) (stand w))))
       (test_agrees (passes (λ w. option_map row (ρ w)) form))
 
@@ -223,6 +248,7 @@ module _ {T : Type 0} (node : T → Node) (row : T → Row) (machines : ℕ) (S 
       by (slice_get S i) refl
       (Contains-filter_cases (λ j. has_kind kind (slice_get rows j)) (range_with_len 0 (length rows)) i c).1
     where
+      -- the same by the entry at the place
       by : (o : Option T) → slice_get S i ≡ o → has_kind kind (slice_get rows i) ≡ true →
           (e : T) × (slice_get S i ≡ Some e) × IsOfKind node row S G kind e
       by None is k =
@@ -230,6 +256,7 @@ module _ {T : Type 0} (node : T → Node) (row : T → Row) (machines : ℕ) (S 
           absurd (false≢true (ap (has_kind kind) (sym none) ∙ k))
       by (Some e) is k = (e, is, ap (has_kind kind) (sym (row_of i e is)) ∙ k)
 
+  -- a survivor of the kind has a place of the kind
   place_of_kind : (kind : Kind) (e : T) → Contains S e → IsOfKind node row S G kind e →
       (i : ℕ) × (slice_get S i ≡ Some e) × Contains (places rows comes_before whole_at_place kind) i
   place_of_kind kind e c k =
@@ -245,6 +272,7 @@ module _ {T : Type 0} (node : T → Node) (row : T → Row) (machines : ℕ) (S 
   abbrev PartsAgree : ((ℕ → Option ℕ) → List Three) → ((ℕ → Option T) → List (Type 0)) → Type 0
   PartsAgree ts Ps = (σ : ℕ → Option ℕ) (ρ : ℕ → Option T) → StandForAll σ ρ → AllAgree (ts σ) (Ps ρ)
 
+  -- two places are one exactly where their entries are
   same_agrees : (i : Option ℕ) (e : Option T) (j : Option ℕ) (f : Option T) → StandFor S i e → StandFor S j f →
       Agrees (same_place i j) (AreSame node row S G e f)
   same_agrees (Some i) (Some e) (Some j) (Some f) se sf = record {
@@ -261,6 +289,7 @@ module _ {T : Type 0} (node : T → Node) (row : T → Row) (machines : ℕ) (S 
   same_agrees (Some i) (Some e) None (Some f) se sf = absurd sf
   same_agrees (Some i) (Some e) (Some j) None se sf = absurd sf
 
+  -- what is known of the order of two places is right of their entries in every completion
   order_agrees : (i : Option ℕ) (e : Option T) (j : Option ℕ) (f : Option T) → StandFor S i e → StandFor S j f →
       Agrees (order_of comes_before i j) (AreOrdered node row S G e f)
   order_agrees (Some i) (Some e) (Some j) (Some f) se sf =
@@ -275,12 +304,15 @@ module _ {T : Type 0} (node : T → Node) (row : T → Row) (machines : ℕ) (S 
 
   module _ (v : ℕ) (kind : Kind) (σ : ℕ → Option ℕ) (ρ : ℕ → Option T) (stand : StandForAll σ ρ)
       (ts : (ℕ → Option ℕ) → List Three) (Ps : (ℕ → Option T) → List (Type 0)) (parts : PartsAgree ts Ps) where
+    -- the value of the body at a place
     abbrev value_at : ℕ → Three
     value_at i = first_value (ts (bind v i σ))
 
+    -- what the body says of an entry
     abbrev SaysAt : T → Type 0
     SaysAt e = first_sentence (Ps (bind v e ρ))
 
+    -- the body's value at a place is right of the entry there
     body : (i : ℕ) (e : T) → slice_get S i ≡ Some e → Agrees (value_at i) (SaysAt e)
     body i e is =
         first_agrees (ts (bind v i σ)) (Ps (bind v e ρ))
@@ -290,19 +322,23 @@ module _ {T : Type 0} (node : T → Node) (row : T → Row) (machines : ℕ) (S 
     abbrev Survives : T → Type 0
     Survives e = Contains S e × IsOfKind node row S G kind e
 
+    -- each place of the kind stands for a survivor of it
     survivors_meant : (i : ℕ) → Contains (places rows comes_before whole_at_place kind) i →
         (e : T) × Survives e × Agrees (value_at i) (SaysAt e)
     survivors_meant i c =
         let m = place_meant kind i c in (m.0, (at_place S i m.0 m.1, m.2), body i m.0 m.1)
 
+    -- and each survivor of the kind has a place
     survivors_all : true ≡ true → (e : T) → Survives e →
         (i : ℕ) × Contains (places rows comes_before whole_at_place kind) i × Agrees (value_at i) (SaysAt e)
     survivors_all _ e m = let p = place_of_kind kind e m.0 m.1 in (p.0, p.2, body p.0 e p.1)
 
+    -- the least over the places is right of what `every` says of survivors
     for_every : Agrees (least (map value_at (places rows comes_before whole_at_place kind)))
         ((x : T) → Contains S x → IsOfKind node row S G kind x → SaysAt x)
     for_every =
-        let a = every_agrees value_at (places rows comes_before whole_at_place kind) true Survives SaysAt survivors_meant
+        let a = every_agrees value_at (places rows comes_before whole_at_place kind) true Survives SaysAt
+        survivors_meant
         survivors_all in
         let same = append-nil (map value_at (places rows comes_before whole_at_place kind)) in
         record {
@@ -310,6 +346,7 @@ module _ {T : Type 0} (node : T → Node) (row : T → Row) (machines : ℕ) (S 
           no = λ t h. a.no (ap least same ∙ t) (λ x m. h x m.0 m.1);
         }
 
+    -- the greatest over the places is right of what `some` says of them
     for_some : Agrees (greatest (map value_at (places rows comes_before whole_at_place kind)))
         ((x : T) × Contains S x × IsOfKind node row S G kind x × SaysAt x)
     for_some =
@@ -323,18 +360,22 @@ module _ {T : Type 0} (node : T → Node) (row : T → Row) (machines : ℕ) (S 
 
     -- over what comes before one of them
     module _ (u : ℕ) (last : T) (at : slice_get S u ≡ Some last) where
+      -- an entry of the kind that precedes the one at the place
       abbrev IsEarlier : T → Type 0
       IsEarlier e = IsOfKind node row S G kind e × Precedes node G e last
 
+      -- each place that is known to come before stands for an entry that precedes
       earlier_meant : (i : ℕ) → Contains (ancestors rows comes_before whole_at_place kind u) i →
           (e : T) × IsEarlier e × Agrees (value_at i) (SaysAt e)
       earlier_meant i c =
-          let kept = Contains-filter_cases (λ j. is_true (comes_before j u)) (places rows comes_before whole_at_place kind) i c in
+          let kept = Contains-filter_cases (λ j. is_true (comes_before j u))
+          (places rows comes_before whole_at_place kind) i c in
           let m = place_meant kind i kept.0 in
           let path = precedes_from_reaches node machines S parents ragged graph i u m.0 last m.1 at
           (sym (is_true_before (reaches parents u i u) (is_whole parents ragged u u)) ∙ kept.1) in
           (m.0, (m.2, before_in_completion node S machines G completion m.0 last path), body i m.0 m.1)
 
+      -- where the place is whole, each entry that precedes it has such a place
       earlier_all : is_whole parents ragged u u ≡ true → (e : T) → IsEarlier e →
           (i : ℕ) × Contains (ancestors rows comes_before whole_at_place kind u) i × Agrees (value_at i) (SaysAt e)
       earlier_all whole e m =
@@ -344,20 +385,26 @@ module _ {T : Type 0} (node : T → Node) (row : T → Row) (machines : ℕ) (S 
           let near = is_true_before (reaches parents u p.0 u) (is_whole parents ragged u u)
           ∙ reaches_from_precedes node machines S parents ragged graph p.0 u e last p.1 at path in (
             p.0,
-            Contains-filter (λ j. is_true (comes_before j u)) (places rows comes_before whole_at_place kind) p.0 p.2 near,
+            Contains-filter (λ j. is_true (comes_before j u)) (places rows comes_before whole_at_place kind) p.0 p.2
+                near,
             body p.0 e p.1,
           )
 
+      -- the least over these, and unknown where the place isn't whole, is right of every entry that precedes
       every_earlier : Agrees
-          (least (map value_at (ancestors rows comes_before whole_at_place kind u) ++ rest_of rows comes_before whole_at_place u))
+          (least (map value_at (ancestors rows comes_before whole_at_place kind u)
+          ++ rest_of rows comes_before whole_at_place u))
           ((x : T) → IsOfKind node row S G kind x → Precedes node G x last → SaysAt x)
       every_earlier =
-          let a = every_agrees value_at (ancestors rows comes_before whole_at_place kind u) (is_whole parents ragged u u)
+          let a = every_agrees value_at (ancestors rows comes_before whole_at_place kind u)
+          (is_whole parents ragged u u)
           IsEarlier SaysAt earlier_meant earlier_all in
           record { yes = λ t x k p. a.yes t x (k, p); no = λ t h. a.no t (λ x m. h x m.0 m.1) }
 
+      -- the greatest over these is right of some entry that precedes
       some_earlier : Agrees
-          (greatest (map value_at (ancestors rows comes_before whole_at_place kind u) ++ rest_of rows comes_before whole_at_place u))
+          (greatest (map value_at (ancestors rows comes_before whole_at_place kind u)
+          ++ rest_of rows comes_before whole_at_place u))
           ((x : T) × IsOfKind node row S G kind x × Precedes node G x last × SaysAt x)
       some_earlier =
           let a = some_agrees value_at (ancestors rows comes_before whole_at_place kind u) (is_whole parents ragged u u)
@@ -367,6 +414,7 @@ module _ {T : Type 0} (node : T → Node) (row : T → Row) (machines : ℕ) (S 
             no = λ t h. a.no t (h.0, (h.1, h.2), h.3);
           }
 
+    -- the same of what a variable stands for, if it is bound
     every_before : (i : Option ℕ) (e : Option T) → StandFor S i e →
         Agrees (least (values_before rows comes_before whole_at_place kind i value_at))
         ((x : T) → IsOfKind node row S G kind x → ComesBefore node row S G x e → SaysAt x)
@@ -375,6 +423,7 @@ module _ {T : Type 0} (node : T → Node) (row : T → Row) (machines : ℕ) (S 
     every_before None (Some last) at = absurd at
     every_before (Some u) None at = absurd at
 
+    -- and so for some entry that precedes it
     some_before : (i : Option ℕ) (e : Option T) → StandFor S i e →
         Agrees (greatest (values_before rows comes_before whole_at_place kind i value_at))
         ((x : T) × IsOfKind node row S G kind x × ComesBefore node row S G x e × SaysAt x)
@@ -413,13 +462,15 @@ module _ {T : Type 0} (node : T → Node) (row : T → Row) (machines : ℕ) (S 
   all_agree : (trees : Trees) → PartsAgree (values rows comes_before whole_at_place trees) (meanings node row S G trees)
   all_agree no_trees σ ρ stand = tt
   all_agree (tree_then form parts rest) σ ρ stand = (
-    form_agrees form (values rows comes_before whole_at_place parts) (meanings node row S G parts) (all_agree parts) σ ρ stand,
+    form_agrees form (values rows comes_before whole_at_place parts) (meanings node row S G parts)
+        (all_agree parts) σ ρ stand,
     all_agree rest σ ρ stand,
   )
 
 -- the law
 pub rules_are_settled : {T : Type 0} (node : T → Node) (row : T → Row) → RulesAreSettled node row
 rules_are_settled node row machines S G parents ragged single graph completion rule =
-    let a = first_agrees (values (map row S) (before parents ragged) (λ x. is_whole parents ragged x x) rule unbound) (meanings node row S G rule unbound)
+    let a = first_agrees (values (map row S) (before parents ragged) (λ x. is_whole parents ragged x x) rule unbound)
+    (meanings node row S G rule unbound)
     (all_agree node row machines S G parents ragged single graph completion rule unbound unbound (λ v. tt)) in
     (a.yes, a.no)

@@ -9,11 +9,13 @@ use Rattle.rule_engine.specs.Kleene.{both, either, opposite, least, as_three, is
 use Rattle.rule_engine.specs.inside.Judging.{signed, value_of, over}
 use Rattle.rule_engine.proofs.Judges.{value-And, value-Or, value-Implies}
 
+-- the least of a value and false is false
 both_false : (x : Three) → both x False ≡ False
 both_false True = refl
 both_false Unknown = refl
 both_false False = refl
 
+-- a value that is found false is false
 pub false_is : (x : Three) → is_false x ≡ true → x ≡ False
 false_is False is = refl
 false_is Unknown is = cc
@@ -28,6 +30,7 @@ least_has_false f (y ∷ ys) zero x within is lost =
 least_has_false f (y ∷ ys) (suc i) x within is lost =
     ap (both (f y)) (least_has_false f ys i x (omega arith) is lost) ∙ both_false (f y)
 
+-- the value that settles a quantifier makes the least false
 pub signed_false : (some : Bool) (x : Three) → x ≡ as_three some → signed some x ≡ False
 signed_false true x is = ap opposite is
 signed_false false x is = is
@@ -38,14 +41,17 @@ signed_true true x is = ap opposite is
 signed_true false x is = is
 
 module _ (rows : List Row) (order : ℕ → ℕ → Three) (wholes : ℕ → Bool) (env : ℕ → Option ℕ) where
+  -- an `and` is false where one of its formulas is
   pub settled-And : (parts : Vec Formula Global) → over rows order wholes false parts.items env ≡ False →
       value_of rows order wholes (And parts) env ≡ False
   settled-And parts is = value-And rows order wholes env parts ∙ is
 
+  -- an `or` is true where one of its formulas is
   pub settled-Or : (parts : Vec Formula Global) → over rows order wholes true parts.items env ≡ False →
       value_of rows order wholes (Or parts) env ≡ True
   settled-Or parts is = value-Or rows order wholes env parts ∙ ap opposite is
 
+  -- an `implies` is true where its condition is false
   pub settled-Implies : (f g : Box Formula Global) → value_of rows order wholes f.value env ≡ False →
       value_of rows order wholes (Implies f g) env ≡ True
   settled-Implies f g is =

@@ -13,9 +13,11 @@ use Rattle.rule_language.proofs.Views.{shape}
 use Rattle.rule_engine.specs.Verdicts.{is_too_wide, widens, widens_by, kind_of}
 
 module _ (rows : List Row) (width : ℕ) where
+  -- whether some quantifier of the formulas is too wide at this width
   abbrev wide : Trees → Bool
   wide trees = is_too_wide rows trees width
 
+  -- a row is too wide where its first formula is or the others are
   pub wide-in_front : (f : Formula) (rest : Trees) → wide (in_front f rest) ≡ (wide (tree_of f) || wide rest)
   wide-in_front f rest =
       let s = shape f in
@@ -23,10 +25,12 @@ module _ (rows : List Row) (width : ℕ) where
       ap wide (s.2 rest)
       ∙ ap (λ (b : Bool). b || wide rest) (sym (ap wide (s.2 no_trees) ∙ or-false inside))
 
+  -- an `implies` is too wide where one of its formulas is
   pub wide-Implies : (f g : Box Formula Global) →
       wide (tree_of (Implies f g)) ≡ (wide (tree_of f.value) || wide (tree_of g.value))
   wide-Implies f g =
-      let view : tree_of (Implies f g) ≡ tree_then form.Implies (in_front f.value (in_front g.value no_trees)) no_trees =
+      let view : tree_of (Implies f g) ≡ tree_then form.Implies (in_front f.value (in_front g.value no_trees))
+      no_trees =
       search (rules, the_lemmas) in
       ap wide view ∙ or-false (wide (in_front f.value (in_front g.value no_trees)))
       ∙ wide-in_front f.value (in_front g.value no_trees)
@@ -39,41 +43,52 @@ module _ (rows : List Row) (width : ℕ) where
       (drop_more fs i f within ∙ ap (λ (g : Formula). g ∷ drop (i + 1) fs) (sym is))
       ∙ wide-in_front f (trees_of (drop (i + 1) fs))
 
+  -- behind the last formula nothing is too wide
   pub wide_none : (fs : List Formula) (i : ℕ) → length fs ≤ i → wide (trees_of (drop i fs)) ≡ false
   wide_none fs i over = ap (λ (gs : List Formula). wide (trees_of gs)) (drop_all i fs over)
 
+  -- an `every` widens what stands in it by the rows of its kind
   pub wide-ForEvery : (v : ℕ) (kind : Kind) (body : Box Formula Global) →
       wide (tree_of (ForEvery v kind body)) ≡ widens rows kind (tree_of body.value) width
   wide-ForEvery v kind body =
-      let view : tree_of (ForEvery v kind body) ≡ tree_then (form.ForEvery v kind) (in_front body.value no_trees) no_trees =
+      let view : tree_of (ForEvery v kind body) ≡ tree_then (form.ForEvery v kind)
+      (in_front body.value no_trees) no_trees =
       search (rules, the_lemmas) in
       ap wide view ∙ or-false (widens rows kind (tree_of body.value) width)
 
+  -- and so does a `some`
   pub wide-ForSome : (v : ℕ) (kind : Kind) (body : Box Formula Global) →
       wide (tree_of (ForSome v kind body)) ≡ widens rows kind (tree_of body.value) width
   wide-ForSome v kind body =
-      let view : tree_of (ForSome v kind body) ≡ tree_then (form.ForSome v kind) (in_front body.value no_trees) no_trees =
+      let view : tree_of (ForSome v kind body) ≡ tree_then (form.ForSome v kind)
+      (in_front body.value no_trees) no_trees =
       search (rules, the_lemmas) in
       ap wide view ∙ or-false (widens rows kind (tree_of body.value) width)
 
+  -- and an `every` with `before`
   pub wide-EveryBefore : (v : ℕ) (kind : Kind) (u : ℕ) (body : Box Formula Global) →
       wide (tree_of (EveryBefore v kind u body)) ≡ widens rows kind (tree_of body.value) width
   wide-EveryBefore v kind u body =
-      let view : tree_of (EveryBefore v kind u body) ≡ tree_then (form.EveryBefore v kind u) (in_front body.value no_trees) no_trees =
+      let view : tree_of (EveryBefore v kind u body) ≡ tree_then (form.EveryBefore v kind u)
+      (in_front body.value no_trees) no_trees =
       search (rules, the_lemmas) in
       ap wide view ∙ or-false (widens rows kind (tree_of body.value) width)
 
+  -- and a `some` with `before`
   pub wide-SomeBefore : (v : ℕ) (kind : Kind) (u : ℕ) (body : Box Formula Global) →
       wide (tree_of (SomeBefore v kind u body)) ≡ widens rows kind (tree_of body.value) width
   wide-SomeBefore v kind u body =
-      let view : tree_of (SomeBefore v kind u body) ≡ tree_then (form.SomeBefore v kind u) (in_front body.value no_trees) no_trees =
+      let view : tree_of (SomeBefore v kind u body) ≡ tree_then (form.SomeBefore v kind u)
+      (in_front body.value no_trees) no_trees =
       search (rules, the_lemmas) in
       ap wide view ∙ or-false (widens rows kind (tree_of body.value) width)
 
+-- where the first of two tests holds it is the test of either
 pub or_first : (a x y : Bool) → a ≡ x → a ≡ true → a ≡ (x || y)
 or_first a true y is t = is
 or_first a false y is t = cc
 
+-- where the first fails the second is the test of either
 pub or_second : (a b x y : Bool) → a ≡ x → b ≡ y → a ≡ false → b ≡ (x || y)
 or_second a b true y is is' t = cc
 or_second a b false y is is' t = is'

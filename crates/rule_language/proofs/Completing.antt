@@ -17,15 +17,18 @@ use Rattle.rule_language.proofs.Found.{both_true, bytes_same}
 use Rattle.rule_language.proofs.Passing.{spelt_cases, tokens_append}
 use Rattle.rule_language.proofs.Fills.{FillsFormula, FillsHead, Completes}
 
+-- wants as the answer to a token
 abbrev as_met : List Want → Met
 as_met wants = Ok wants
 
 -- what was found before wants were put
-pub then_found : {A : Type 0} (r : Result A RuleWhy) (wants : A → List Want) (next : List Want) → then_want r wants ≡ Ok next
+pub then_found : {A : Type 0} (r : Result A RuleWhy) (wants : A → List Want) (next : List Want)
+    → then_want r wants ≡ Ok next
     → (a : A) × (r ≡ Ok a) × (wants a ≡ next)
 then_found (Err cause) wants next e = absurd (cc)
 then_found (Ok a) wants next e = (a, refl, met_same (wants a) next e)
   where
+    -- answers that are the same leave the same wants
     met_same : (x y : List Want) → as_met x ≡ as_met y → x ≡ y
     met_same x y h = cc
 
@@ -38,51 +41,72 @@ abbrev pub in_row : Trees → Trees → Trees
 in_row no_trees rest = rest
 in_row (tree_then f parts trees) rest = tree_then f parts (in_row trees rest)
 
+-- the tokens of a joined row are those of its two parts, one behind the other
 pub row-tokens : (a b : Trees) (rest : List Token) → tokens_then (in_row a b) rest ≡ tokens_then a (tokens_then b rest)
 row-tokens no_trees b rest = refl
 row-tokens (tree_then f parts trees) b rest = ap (λ ts. spelt f (tokens_then parts []) ts) (row-tokens trees b rest)
 
+-- a joined row has the formulas of both parts, counted together
 pub row-count : (a b : Trees) → count_of (in_row a b) ≡ count_of a + count_of b
 row-count no_trees b = omega arith
-row-count (tree_then f parts trees) b = let e : count_of (in_row trees b) ≡ count_of trees + count_of b = row-count trees b in omega arith
+row-count (tree_then f parts trees) b = let e : count_of (in_row trees b) ≡ count_of trees + count_of b =
+    row-count trees b in omega arith
 
-pub row-good : (scope : Scope) (depth : ℕ) (a b : Trees) → are_formulas scope depth a ≡ true → are_formulas scope depth b ≡ true
+-- lawful rows are joined to a lawful one
+pub row-good : (scope : Scope) (depth : ℕ) (a b : Trees) → are_formulas scope depth a ≡ true
+    → are_formulas scope depth b ≡ true
     → are_formulas scope depth (in_row a b) ≡ true
 row-good scope depth no_trees b ga gb = gb
 row-good scope depth (tree_then f parts trees) b ga gb =
-    let n = both_true (is_shallow depth f && (is_closed scope f && has_arity f (count_of parts))) (are_formulas (scope_in f scope) (depth + 1) parts && are_formulas scope depth trees) ga in
+    let n = both_true (is_shallow depth f && (is_closed scope f && has_arity f (count_of parts)))
+    (are_formulas (scope_in f scope) (depth + 1) parts && are_formulas scope depth trees) ga in
     let m = both_true (are_formulas (scope_in f scope) (depth + 1) parts) (are_formulas scope depth trees) n.1 in
     rw n.0 (rw m.0 (row-good scope depth trees b m.1 gb))
 
 -- `true`, or a form in parentheses
 true_fills : (scope : Scope) (depth : ℕ) (rest : List Token) → FillsFormula scope depth (codes "true" ∷ rest) rest
-true_fills scope depth rest = record { tree = tree_then form.True no_trees no_trees; one = refl; good = refl; is = refl }
+true_fills scope depth rest = record {
+  tree = tree_then form.True no_trees no_trees;
+  one = refl;
+  good = refl;
+  is = refl;
+}
 
-head_fills : (scope : Scope) (depth : ℕ) (ts rest : List Token) → nat_lt depth 32 ≡ true → FillsHead scope (depth + 1) ts rest
+-- a left parenthesis inside fewer than 32 others, and a form behind it, are a formula
+head_fills : (scope : Scope) (depth : ℕ) (ts rest : List Token) → nat_lt depth 32 ≡ true
+    → FillsHead scope (depth + 1) ts rest
     → FillsFormula scope depth (left ∷ ts) rest
 head_fills scope depth ts rest shallow fills = by (spelt_cases fills.f)
   where
-    by : ((fills.f ≡ form.True) ⊎ (((inner after : List Token) → spelt fills.f inner after ≡ left ∷ (form_words fills.f ++ (inner ++ right ∷ after)))
+    -- the same by how the form is spelt: it isn't `true`, so it stands in parentheses
+    by : ((fills.f ≡ form.True) ⊎ (((inner after : List Token)
+        → spelt fills.f inner after ≡ left ∷ (form_words fills.f ++ (inner ++ right ∷ after)))
         × ((d : ℕ) → is_shallow d fills.f ≡ nat_lt d 32))) → FillsFormula scope depth (left ∷ ts) rest
     by (inl is) = absurd (fills.other is)
     by (inr enclosed) = record {
       tree = tree_then fills.f fills.parts no_trees;
       one = refl;
       good = rw (enclosed.1 depth ∙ shallow) (rw fills.closed (rw fills.arity (rw fills.good refl)));
-      is = ap (λ xs. left ∷ xs) (fills.is ∙ ap (λ xs. form_words fills.f ++ xs) (tokens_append fills.parts [] (right ∷ rest)))
+      is = ap (λ xs. left ∷ xs) (fills.is ∙ ap (λ xs. form_words fills.f ++ xs)
+          (tokens_append fills.parts [] (right ∷ rest)))
           ∙ sym (enclosed.0 (tokens_then fills.parts []) rest);
     }
 
 -- a token at the place of a formula
-pub formula_back : (scope : Scope) (depth : ℕ) (wants next : List Want) (t : Token) (ts : List Token) → meets_formula scope depth wants t ≡ Ok next
+pub formula_back : (scope : Scope) (depth : ℕ) (wants next : List Want) (t : Token) (ts : List Token)
+    → meets_formula scope depth wants t ≡ Ok next
     → Completes next ts → Completes (formula scope depth ∷ wants) (t ∷ ts)
-formula_back scope depth wants next t ts met fills = by (bytes_eq t (codes "true")) (bytes_eq t left) (nat_le 32 depth) refl refl refl met
+formula_back scope depth wants next t ts met fills = by (bytes_eq t (codes "true")) (bytes_eq t left)
+    (nat_le 32 depth) refl refl refl met
   where
+    -- answers that are the same leave the same wants
     met_same : (x y : List Want) → as_met x ≡ as_met y → x ≡ y
     met_same x y h = cc
 
+    -- the same by what the token was tested for: `true`, a parenthesis, and then the depth
     by : (a b d : Bool) → bytes_eq t (codes "true") ≡ a → bytes_eq t left ≡ b → nat_le 32 depth ≡ d
-        → (if a then Ok wants else (if b then (if d then Err TooDeep else Ok (head scope (depth + 1) ∷ wants)) else Err Shape)) ≡ Ok next
+        → (if a then Ok wants else (if b then (if d then Err TooDeep else Ok (head scope (depth + 1) ∷ wants))
+        else Err Shape)) ≡ Ok next
         → Completes (formula scope depth ∷ wants) (t ∷ ts)
     by true b d ia ib id e =
         let same : t ≡ codes "true" = bytes_same t (codes "true") ia in
@@ -92,13 +116,20 @@ formula_back scope depth wants next t ts met fills = by (bytes_eq t (codes "true
     by false true false ia ib id e =
         let same : t ≡ left = bytes_same t left ib in
         let lt : depth < 32 = leb-false 32 depth id in
-        let inside = moved next (head scope (depth + 1) ∷ wants) ts (met_same (head scope (depth + 1) ∷ wants) next e) fills in
-        (inside.0, subst (λ (w : Token). FillsFormula scope depth (w ∷ ts) inside.0) (sym same) (head_fills scope depth ts inside.0 (lt-ltb depth 32 lt) inside.1), inside.2)
+        let inside = moved next (head scope (depth + 1) ∷ wants) ts (met_same (head scope (depth + 1) ∷ wants) next e)
+        fills in (
+          inside.0,
+          subst (λ (w : Token). FillsFormula scope depth (w ∷ ts) inside.0) (sym same)
+              (head_fills scope depth ts inside.0 (lt-ltb depth 32 lt) inside.1),
+          inside.2,
+        )
     by false false d ia ib id e = absurd (cc)
 
 -- a parenthesis behind one formula
-pub one_closed : (scope : Scope) (depth : ℕ) (wants : List Want) (ts : List Token) → Completes (formula scope depth ∷ close ∷ wants) ts
-    → (tree : Trees) × (rest : List Token) × (count_of tree ≡ 1) × (are_formulas scope depth tree ≡ true) × (ts ≡ tokens_then tree (right ∷ rest)) × Completes wants rest
+pub one_closed : (scope : Scope) (depth : ℕ) (wants : List Want) (ts : List Token)
+    → Completes (formula scope depth ∷ close ∷ wants) ts
+    → (tree : Trees) × (rest : List Token) × (count_of tree ≡ 1) × (are_formulas scope depth tree ≡ true)
+    × (ts ≡ tokens_then tree (right ∷ rest)) × Completes wants rest
 one_closed scope depth wants ts fills =
     let f = fills.1 in
     let behind_it = fills.2 in
@@ -106,14 +137,18 @@ one_closed scope depth wants ts fills =
 
 -- what stands behind the kind of a quantifier
 pub body_back : (v : ℕ) (k : Kind) (scope : Scope) (depth : ℕ) (wants next : List Want) (t : Token) (ts : List Token)
-    → meets (before_or_body v k scope depth ∷ wants) t ≡ Ok next → Completes next ts → Completes (before_or_body v k scope depth ∷ wants) (t ∷ ts)
+    → meets (before_or_body v k scope depth ∷ wants) t ≡ Ok next → Completes next ts
+    → Completes (before_or_body v k scope depth ∷ wants) (t ∷ ts)
 body_back v k scope depth wants next t ts met fills = by (bytes_eq t (codes "before")) refl met
   where
+    -- answers that are the same leave the same wants
     met_same : (x y : List Want) → as_met x ≡ as_met y → x ≡ y
     met_same x y h = cc
 
+    -- the same by whether the token is `before`
     by : (a : Bool) → bytes_eq t (codes "before") ≡ a
-        → (if a then Ok (a_variable scope ∷ formula ((v, k) ∷ scope) depth ∷ close ∷ wants) else meets_formula ((v, k) ∷ scope) depth (close ∷ wants) t) ≡ Ok next
+        → (if a then Ok (a_variable scope ∷ formula ((v, k) ∷ scope) depth ∷ close ∷ wants)
+        else meets_formula ((v, k) ∷ scope) depth (close ∷ wants) t) ≡ Ok next
         → Completes (before_or_body v k scope depth ∷ wants) (t ∷ ts)
     by true ia e =
         let same : t ≡ codes "before" = bytes_same t (codes "before") ia in
@@ -128,28 +163,37 @@ body_back v k scope depth wants next t ts met fills = by (bytes_eq t (codes "bef
             range = u.bound;
             one = body.2;
             good = body.3;
-            is = ap (λ (w : Token). w ∷ ts) same ∙ ap (λ xs. codes "before" ∷ xs) (u.is ∙ ap (λ xs. variable u.v ∷ xs) body.4);
+            is = ap (λ (w : Token). w ∷ ts) same
+                ∙ ap (λ xs. codes "before" ∷ xs) (u.is ∙ ap (λ xs. variable u.v ∷ xs) body.4);
           },
           body.5,
         )
     by false ia e =
-        let body = one_closed ((v, k) ∷ scope) depth wants (t ∷ ts) (formula_back ((v, k) ∷ scope) depth (close ∷ wants) next t ts e fills) in
+        let body = one_closed ((v, k) ∷ scope) depth wants (t ∷ ts)
+        (formula_back ((v, k) ∷ scope) depth (close ∷ wants) next t ts e fills) in
         (body.1, record { u = None; parts = body.0; range = tt; one = body.2; good = body.3; is = body.4 }, body.5)
 
 -- a further formula, or the parenthesis
 pub more_back : (n : ℕ) (scope : Scope) (depth : ℕ) (wants next : List Want) (t : Token) (ts : List Token)
-    → meets (more n scope depth ∷ wants) t ≡ Ok next → Completes next ts → Completes (more n scope depth ∷ wants) (t ∷ ts)
+    → meets (more n scope depth ∷ wants) t ≡ Ok next → Completes next ts
+    → Completes (more n scope depth ∷ wants) (t ∷ ts)
 more_back n scope depth wants next t ts met fills = by (bytes_eq t right) (n == 0) refl refl met
   where
+    -- answers that are the same leave the same wants
     met_same : (x y : List Want) → as_met x ≡ as_met y → x ≡ y
     met_same x y h = cc
 
+    -- the same by whether the token closes, and whether there is room for a formula
     by : (a z : Bool) → bytes_eq t right ≡ a → (n == 0) ≡ z
-        → (if a then Ok wants else (if z then Err Shape else meets_formula scope depth (more (n - 1) scope depth ∷ wants) t)) ≡ Ok next
+        → (if a then Ok wants else (if z then Err Shape
+        else meets_formula scope depth (more (n - 1) scope depth ∷ wants) t)) ≡ Ok next
         → Completes (more n scope depth ∷ wants) (t ∷ ts)
     by true z ia iz e =
-        let same : t ≡ right = bytes_same t right ia in
-        (ts, record { parts = no_trees; few = omega arith; good = refl; is = ap (λ (w : Token). w ∷ ts) same }, moved next wants ts (met_same wants next e) fills)
+        let same : t ≡ right = bytes_same t right ia in (
+          ts,
+          record { parts = no_trees; few = omega arith; good = refl; is = ap (λ (w : Token). w ∷ ts) same },
+          moved next wants ts (met_same wants next e) fills,
+        )
     by false true ia iz e = absurd (cc)
     by false false ia iz e =
         let inside = formula_back scope depth (more (n - 1) scope depth ∷ wants) next t ts e fills in
@@ -170,9 +214,11 @@ more_back n scope depth wants next t ts met fills = by (bytes_eq t right) (n == 
           others.2,
         )
 
+-- a number up to another passes the test of order
 pub le_true : (k n : ℕ) → k ≤ n → nat_le k n ≡ true
 le_true k n le = cases (nat_le k n) refl
   where
+    -- the test can't have failed
     cases : (b : Bool) → nat_le k n ≡ b → b ≡ true
     cases true is = refl
     cases false is = let lt : n < k = leb-false k n is in absurd (omega arith)

@@ -22,10 +22,14 @@ use Rattle.rule_language.proofs.Completing.{one_closed, le_true, in_row, row-tok
 
 -- a formula behind its first word, and the rest
 abbrev HeadFills : Scope → ℕ → List Want → Head → List Token → Type 0
-HeadFills scope depth wants h ts = (rest : List Token) × FillsHead scope depth (head_word h ∷ ts) rest × Completes wants rest
+HeadFills scope depth wants h ts = (rest : List Token) × FillsHead scope depth (head_word h ∷ ts) rest
+    × Completes wants rest
 
-range_closed : (scope : Scope) (every : Bool) (v : ℕ) (k : Kind) (u : Option ℕ) (parts : Trees) (depth : ℕ) (rest ts : List Token)
-    → is_closed scope (form_of true v k None) ≡ true → IsRange scope u → count_of parts ≡ 1 → are_formulas ((v, k) ∷ scope) depth parts ≡ true
+-- a letter that may be bound, a kind, a range and one formula are what stands behind `every` or `some`
+range_closed : (scope : Scope) (every : Bool) (v : ℕ) (k : Kind) (u : Option ℕ) (parts : Trees) (depth : ℕ)
+    (rest ts : List Token)
+    → is_closed scope (form_of true v k None) ≡ true → IsRange scope u → count_of parts ≡ 1
+    → are_formulas ((v, k) ∷ scope) depth parts ≡ true
     → ts ≡ variable v ∷ kind_word k ∷ (range_words u ++ tokens_then parts (right ∷ rest))
     → FillsHead scope depth (head_word (quantifier_head every) ∷ ts) rest
 range_closed scope true v k None parts depth rest ts can range one good is = record {
@@ -65,21 +69,26 @@ range_closed scope false v k (Some u) parts depth rest ts can range one good is 
   is = ap (λ xs. codes "some" ∷ xs) is;
 }
 
-quantifier_back : (scope : Scope) (depth : ℕ) (wants : List Want) (every : Bool) (ts : List Token) → nested scope (Some (quantifier_head every)) ≡ Ok (quantifier_head every)
+-- what fills the wants behind `every` or `some` is a quantifier's letter, kind, range and body
+quantifier_back : (scope : Scope) (depth : ℕ) (wants : List Want) (every : Bool) (ts : List Token)
+    → nested scope (Some (quantifier_head every)) ≡ Ok (quantifier_head every)
     → Completes (new_variable scope depth ∷ wants) ts → HeadFills scope depth wants (quantifier_head every) ts
 quantifier_back scope depth wants every ts few fills =
     let b = fills.1 in
     let k = b.rest_of in
     let body = k.body in (
       fills.0,
-      range_closed scope every b.v k.kind body.u body.parts depth fills.0 ts (may_bind scope b.v every b.fresh few) body.range body.one body.good
+      range_closed scope every b.v k.kind body.u body.parts depth fills.0 ts (may_bind scope b.v every b.fresh few)
+          body.range body.one body.good
           (b.is ∙ ap (λ xs. variable b.v ∷ xs) (k.is ∙ ap (λ xs. kind_word k.kind ∷ xs) body.is)),
       fills.2,
     )
 
 -- an `and` or an `or`
-several_fills : (scope : Scope) (depth : ℕ) (wants : List Want) (ts : List Token) → Completes (formula scope depth ∷ more 63 scope depth ∷ wants) ts
-    → (parts : Trees) × (rest : List Token) × ((nat_lt 0 (count_of parts) && nat_le (count_of parts) 64) ≡ true) × (are_formulas scope depth parts ≡ true)
+several_fills : (scope : Scope) (depth : ℕ) (wants : List Want) (ts : List Token)
+    → Completes (formula scope depth ∷ more 63 scope depth ∷ wants) ts
+    → (parts : Trees) × (rest : List Token) × ((nat_lt 0 (count_of parts) && nat_le (count_of parts) 64) ≡ true)
+    × (are_formulas scope depth parts ≡ true)
     × (ts ≡ tokens_then parts (right ∷ rest)) × Completes wants rest
 several_fills scope depth wants ts fills =
     let f = fills.1 in
@@ -95,6 +104,7 @@ several_fills scope depth wants ts fills =
       fills.2.2,
     )
   where
+    -- a count from 1 to 64 passes both tests
     within : (n : ℕ) → 0 < n → n ≤ 64 → (nat_lt 0 n && nat_le n 64) ≡ true
     within n some few = rw (lt-ltb 0 n some) (le_true n 64 few)
 
@@ -103,11 +113,16 @@ record FillsPair (scope : Scope) (wants : List Want) (ts : List Token) : Type 0 
   v : ℕ
   u : ℕ
   rest : List Token
+  -- both variables are bound
   bound : (is_bound scope v && is_bound scope u) ≡ true
+  -- their two letters and the parenthesis are the tokens in front of the rest
   is : ts ≡ variable v ∷ variable u ∷ right ∷ rest
+  -- the rest fills the other wants
   fills : Completes wants rest
 
-pair_fills : (scope : Scope) (wants : List Want) (ts : List Token) → Completes (a_variable scope ∷ a_variable scope ∷ close ∷ wants) ts → FillsPair scope wants ts
+-- tokens that fill the wants for two variables and a parenthesis begin with such a pair
+pair_fills : (scope : Scope) (wants : List Want) (ts : List Token)
+    → Completes (a_variable scope ∷ a_variable scope ∷ close ∷ wants) ts → FillsPair scope wants ts
 pair_fills scope wants ts fills =
     let a = fills.1 in
     let b = fills.2.1 in
@@ -121,18 +136,26 @@ pair_fills scope wants ts fills =
       fills = d.2;
     }
 
+-- two terms of one sort, the parenthesis and the rest
 record FillsTerms (scope : Scope) (ordered : Bool) (wants : List Want) (ts : List Token) : Type 0 where
   t : Term
   u : Term
   rest : List Token
+  -- the two terms have one sort
   same : are_of_one_sort (sort_of scope t) (sort_of scope u) ≡ true
   sort : Sort
+  -- this is the sort of the first
   sorted : sort_of scope t ≡ Some sort
+  -- a term of this sort may stand first, as `<` asks for an order
   may : may_begin ordered sort ≡ true
+  -- their two words and the parenthesis are the tokens in front of the rest
   is : ts ≡ term_word t ∷ term_word u ∷ right ∷ rest
+  -- the rest fills the other wants
   fills : Completes wants rest
 
-terms_fill : (scope : Scope) (ordered : Bool) (wants : List Want) (ts : List Token) → Completes (first_term ordered scope ∷ close ∷ wants) ts → FillsTerms scope ordered wants ts
+-- tokens that fill the wants for two terms and a parenthesis begin with two terms of one sort
+terms_fill : (scope : Scope) (ordered : Bool) (wants : List Want) (ts : List Token)
+    → Completes (first_term ordered scope ∷ close ∷ wants) ts → FillsTerms scope ordered wants ts
 terms_fill scope ordered wants ts fills =
     let a = fills.1 in
     let b = a.second in
@@ -149,27 +172,64 @@ terms_fill scope ordered wants ts fills =
       fills = d.2;
     }
 
-less_closed : (a b : Option Sort) (s : Sort) → a ≡ Some s → is_ordered s ≡ true → are_of_one_sort a b ≡ true → (has_order a && are_of_one_sort a b) ≡ true
+-- two terms of one sort that has an order are what `<` asks for
+less_closed : (a b : Option Sort) (s : Sort) → a ≡ Some s → is_ordered s ≡ true → are_of_one_sort a b ≡ true
+    → (has_order a && are_of_one_sort a b) ≡ true
 less_closed a b s is ordered same = rw is (rw ordered (rw is at same))
 
 -- what follows the first word
-pub head_back : (scope : Scope) (depth : ℕ) (wants : List Want) (h : Head) (ts : List Token) → nested scope (Some h) ≡ Ok h
+pub head_back : (scope : Scope) (depth : ℕ) (wants : List Want) (h : Head) (ts : List Token)
+    → nested scope (Some h) ≡ Ok h
     → Completes (behind_head scope depth wants h) ts → HeadFills scope depth wants h ts
 head_back scope depth wants begins.ForEvery ts few fills = quantifier_back scope depth wants true ts few fills
 head_back scope depth wants begins.ForSome ts few fills = quantifier_back scope depth wants false ts few fills
 head_back scope depth wants begins.And ts few fills =
-    let s = several_fills scope depth wants ts fills in
-    (s.1, record { f = form.And; parts = s.0; other = λ e. absurd (cc); closed = refl; arity = s.2; good = s.3; is = ap (λ xs. codes "and" ∷ xs) s.4 }, s.5)
+    let s = several_fills scope depth wants ts fills in (
+      s.1,
+      record {
+        f = form.And;
+        parts = s.0;
+        other = λ e. absurd (cc);
+        closed = refl;
+        arity = s.2;
+        good = s.3;
+        is = ap (λ xs. codes "and" ∷ xs) s.4;
+      },
+      s.5,
+    )
 head_back scope depth wants begins.Or ts few fills =
-    let s = several_fills scope depth wants ts fills in
-    (s.1, record { f = form.Or; parts = s.0; other = λ e. absurd (cc); closed = refl; arity = s.2; good = s.3; is = ap (λ xs. codes "or" ∷ xs) s.4 }, s.5)
+    let s = several_fills scope depth wants ts fills in (
+      s.1,
+      record {
+        f = form.Or;
+        parts = s.0;
+        other = λ e. absurd (cc);
+        closed = refl;
+        arity = s.2;
+        good = s.3;
+        is = ap (λ xs. codes "or" ∷ xs) s.4;
+      },
+      s.5,
+    )
 head_back scope depth wants begins.Not ts few fills =
-    let s = one_closed scope depth wants ts fills in
-    (s.1, record { f = form.Not; parts = s.0; other = λ e. absurd (cc); closed = refl; arity = rw s.2 refl; good = s.3; is = ap (λ xs. codes "not" ∷ xs) s.4 }, s.5)
+    let s = one_closed scope depth wants ts fills in (
+      s.1,
+      record {
+        f = form.Not;
+        parts = s.0;
+        other = λ e. absurd (cc);
+        closed = refl;
+        arity = rw s.2 refl;
+        good = s.3;
+        is = ap (λ xs. codes "not" ∷ xs) s.4;
+      },
+      s.5,
+    )
 head_back scope depth wants begins.Implies ts few fills =
     let a = fills.1 in
     let s = one_closed scope depth wants fills.0 fills.2 in
-    let count : count_of (in_row a.tree s.0) ≡ 2 = row-count a.tree s.0 ∙ ap (λ n. n + count_of s.0) a.one ∙ ap (λ n. 1 + n) s.2 in (
+    let count : count_of (in_row a.tree s.0) ≡ 2 =
+    row-count a.tree s.0 ∙ ap (λ n. n + count_of s.0) a.one ∙ ap (λ n. 1 + n) s.2 in (
       s.1,
       record {
         f = form.Implies;
@@ -178,19 +238,53 @@ head_back scope depth wants begins.Implies ts few fills =
         closed = refl;
         arity = rw count refl;
         good = row-good scope depth a.tree s.0 a.good s.3;
-        is = ap (λ xs. codes "implies" ∷ xs) (a.is ∙ ap (tokens_then a.tree) s.4 ∙ sym (row-tokens a.tree s.0 (right ∷ s.1)));
+        is = ap (λ xs. codes "implies" ∷ xs)
+            (a.is ∙ ap (tokens_then a.tree) s.4 ∙ sym (row-tokens a.tree s.0 (right ∷ s.1)));
       },
       s.5,
     )
 head_back scope depth wants begins.Same ts few fills =
-    let p = pair_fills scope wants ts fills in
-    (p.rest, record { f = form.Same p.v p.u; parts = no_trees; other = λ e. absurd (cc); closed = p.bound; arity = refl; good = refl; is = ap (λ xs. codes "same" ∷ xs) p.is }, p.fills)
+    let p = pair_fills scope wants ts fills in (
+      p.rest,
+      record {
+        f = form.Same p.v p.u;
+        parts = no_trees;
+        other = λ e. absurd (cc);
+        closed = p.bound;
+        arity = refl;
+        good = refl;
+        is = ap (λ xs. codes "same" ∷ xs) p.is;
+      },
+      p.fills,
+    )
 head_back scope depth wants begins.Before ts few fills =
-    let p = pair_fills scope wants ts fills in
-    (p.rest, record { f = form.Before p.v p.u; parts = no_trees; other = λ e. absurd (cc); closed = p.bound; arity = refl; good = refl; is = ap (λ xs. codes "before" ∷ xs) p.is }, p.fills)
+    let p = pair_fills scope wants ts fills in (
+      p.rest,
+      record {
+        f = form.Before p.v p.u;
+        parts = no_trees;
+        other = λ e. absurd (cc);
+        closed = p.bound;
+        arity = refl;
+        good = refl;
+        is = ap (λ xs. codes "before" ∷ xs) p.is;
+      },
+      p.fills,
+    )
 head_back scope depth wants begins.Next ts few fills =
-    let p = pair_fills scope wants ts fills in
-    (p.rest, record { f = form.Next p.v p.u; parts = no_trees; other = λ e. absurd (cc); closed = p.bound; arity = refl; good = refl; is = ap (λ xs. codes "next" ∷ xs) p.is }, p.fills)
+    let p = pair_fills scope wants ts fills in (
+      p.rest,
+      record {
+        f = form.Next p.v p.u;
+        parts = no_trees;
+        other = λ e. absurd (cc);
+        closed = p.bound;
+        arity = refl;
+        good = refl;
+        is = ap (λ xs. codes "next" ∷ xs) p.is;
+      },
+      p.fills,
+    )
 head_back scope depth wants begins.Is ts few fills =
     let a = fills.1 in
     let r = fills.2.1 in
@@ -219,13 +313,25 @@ head_back scope depth wants begins.OfKind ts few fills =
         closed = a.bound;
         arity = refl;
         good = refl;
-        is = ap (λ xs. codes "kind" ∷ xs) (a.is ∙ ap (λ xs. variable a.v ∷ xs) (k.1 ∙ ap (λ xs. kind_word k.0 ∷ xs) d.1));
+        is = ap (λ xs. codes "kind" ∷ xs)
+            (a.is ∙ ap (λ xs. variable a.v ∷ xs) (k.1 ∙ ap (λ xs. kind_word k.0 ∷ xs) d.1));
       },
       d.2,
     )
 head_back scope depth wants begins.Equal ts few fills =
-    let t = terms_fill scope false wants ts fills in
-    (t.rest, record { f = form.Equal t.t t.u; parts = no_trees; other = λ e. absurd (cc); closed = t.same; arity = refl; good = refl; is = ap (λ xs. codes "=" ∷ xs) t.is }, t.fills)
+    let t = terms_fill scope false wants ts fills in (
+      t.rest,
+      record {
+        f = form.Equal t.t t.u;
+        parts = no_trees;
+        other = λ e. absurd (cc);
+        closed = t.same;
+        arity = refl;
+        good = refl;
+        is = ap (λ xs. codes "=" ∷ xs) t.is;
+      },
+      t.fills,
+    )
 head_back scope depth wants begins.Less ts few fills =
     let t = terms_fill scope true wants ts fills in (
       t.rest,

@@ -37,20 +37,24 @@ abbrev pub kind_or : Option Kind → Kind
 kind_or None = kind.Any
 kind_or (Some k) = k
 
+-- the role that was found, or some other
 abbrev pub role_or : Option Role → Role
 role_or None = role.Booth
 role_or (Some r) = r
 
+-- the field that was found, or some other
 abbrev pub field_or : Option Field → Field
 field_or None = field.Maker
 field_or (Some f) = f
 
+-- a number where one was found, and otherwise a letter, a dot and a field
 abbrev pub number_or_field : Option ℕ → Token → Term
 number_or_field (Some n) word = Number n
 number_or_field None [] = Number 0
 number_or_field None (v ∷ []) = Number 0
 number_or_field None (v ∷ dot ∷ name) = Of v (field_or (field_named name))
 
+-- the term that a word spells
 abbrev pub term_of : Token → Term
 term_of word = number_or_field (number_in word) word
 
@@ -58,9 +62,11 @@ term_of word = number_or_field (number_in word) word
 abbrev pub Decoded : Type 0
 Decoded = Form × List Token
 
+-- a form, and the tokens that are left behind its words
 abbrev pub decoded_as : Form → List Token → Decoded
 decoded_as f ts = (f, ts)
 
+-- a quantifier of a letter and a kind, with `before` and a letter or without
 abbrev pub ranged : Bool → ℕ → Kind → Bool → List Token → List Token → Decoded
 ranged true v k false ts after = (form.ForEvery v k, ts)
 ranged false v k false ts after = (form.ForSome v k, ts)
@@ -68,14 +74,18 @@ ranged every v k true ts [] = (form.True, [])
 ranged true v k true ts (u ∷ after) = (form.EveryBefore v k (first_of u), after)
 ranged false v k true ts (u ∷ after) = (form.SomeBefore v k (first_of u), after)
 
+-- a quantifier, of the tokens behind its first word
 abbrev pub quantified_of : Bool → List Token → Decoded
-quantified_of every (v ∷ k ∷ t ∷ ts) = ranged every (first_of v) (kind_or (kind_named k)) (bytes_eq t (codes "before")) (t ∷ ts) ts
+quantified_of every (v ∷ k ∷ t ∷ ts) = ranged every (first_of v) (kind_or (kind_named k))
+    (bytes_eq t (codes "before")) (t ∷ ts) ts
 quantified_of every ts = (form.True, [])
 
+-- a form of the two tokens behind its first word
 abbrev pub two_of : (Token → Token → Form) → List Token → Decoded
 two_of make (v ∷ u ∷ ts) = (make v u, ts)
 two_of make ts = (form.True, [])
 
+-- a form by its first word, of the tokens behind that
 abbrev pub decoded_by : Option Head → List Token → Decoded
 decoded_by None ts = (form.True, ts)
 decoded_by (Some begins.ForEvery) ts = quantified_of true ts
@@ -92,10 +102,12 @@ decoded_by (Some begins.OfKind) ts = two_of (λ v k. form.OfKind (first_of v) (k
 decoded_by (Some begins.Equal) ts = two_of (λ t u. form.Equal (term_of t) (term_of u)) ts
 decoded_by (Some begins.Less) ts = two_of (λ t u. form.Less (term_of t) (term_of u)) ts
 
+-- the form that tokens begin with, by the first of them
 abbrev pub decoded : List Token → Decoded
 decoded [] = (form.True, [])
 decoded (w ∷ ts) = decoded_by (head_named w) ts
 
+-- the word of a kind is decoded as that kind
 kind_back : (k : Kind) → kind_or (kind_named (kind_word k)) ≡ k
 kind_back kind.Any = refl
 kind_back kind.Opened = refl
@@ -109,6 +121,7 @@ kind_back kind.Cast = refl
 kind_back kind.Cancel = refl
 kind_back kind.Challenge = refl
 
+-- the word of a role is decoded as that role
 role_back : (r : Role) → role_or (role_named (role_word r)) ≡ r
 role_back role.Supervisor = refl
 role_back role.Booth = refl
@@ -117,28 +130,34 @@ role_back role.Booth = refl
 term_back : (scope : Scope) (t : Term) → is_some (sort_of scope t) ≡ true → term_of (term_word t) ≡ t
 term_back scope (Number n) some = number (nat_lt n (2 ^ 32)) refl
   where
+    -- the decimal of a number of 32 bits is decoded as that number
     number : (b : Bool) → nat_lt n (2 ^ 32) ≡ b → term_of (decimal n) ≡ Number n
     number true small = rw (number-found (decimal n) n (ltb-true n (2 ^ 32) small) refl) refl
     number false large = let shut : false ≡ true = rw large at some in absurd (cc)
 term_back scope (Of v f) some = letter (is_letter v) refl
   where
+    -- a letter, a dot and the word of a field are decoded as that field of the variable
     letter : (b : Bool) → is_letter v ≡ b → term_of (v ∷ 46 ∷ field_word f) ≡ Of v f
     letter true l = rw (no_number v (46 ∷ field_word f) l) (rw (field_named_word f) refl)
     letter false l = let shut : false ≡ true = rw l at some in absurd (cc)
 
+-- terms of one sort have a sort each
 sorts_some : (a b : Option Sort) → are_of_one_sort a b ≡ true → (is_some a ≡ true) × (is_some b ≡ true)
 sorts_some None b e = absurd (cc)
 sorts_some (Some s) None e = absurd (cc)
 sorts_some (Some s) (Some o) e = (refl, refl)
 
-terms_back : (scope : Scope) (t u : Term) (make : Term → Term → Form) (after : List Token) → are_of_one_sort (sort_of scope t) (sort_of scope u) ≡ true
+-- two terms of one sort are decoded from their words
+terms_back : (scope : Scope) (t u : Term) (make : Term → Term → Form) (after : List Token)
+    → are_of_one_sort (sort_of scope t) (sort_of scope u) ≡ true
     → (make (term_of (term_word t)) (term_of (term_word u)), after) ≡ decoded_as (make t u) after
 terms_back scope t u make after same =
     let s = sorts_some (sort_of scope t) (sort_of scope u) same in
     rw (term_back scope t s.0) (rw (term_back scope u s.1) refl)
 
 -- the words of a form are decoded as it
-pub form_back : (scope : Scope) (f : Form) (t : Token) (ts : List Token) → is_closed scope f ≡ true → f ≢ form.True → bytes_eq t (codes "before") ≡ false
+pub form_back : (scope : Scope) (f : Form) (t : Token) (ts : List Token) → is_closed scope f ≡ true → f ≢ form.True
+    → bytes_eq t (codes "before") ≡ false
     → decoded (form_words f ++ t ∷ ts) ≡ decoded_as f (t ∷ ts)
 form_back scope form.True t ts good other first = absurd (other refl)
 form_back scope (form.ForEvery v k) t ts good other first = rw first (rw (kind_back k) refl)
@@ -156,4 +175,5 @@ form_back scope (form.Is v r) t ts good other first = rw (role_back r) refl
 form_back scope (form.OfKind v k) t ts good other first = rw (kind_back k) refl
 form_back scope (form.Equal t1 t2) t ts good other first = terms_back scope t1 t2 (λ x y. form.Equal x y) (t ∷ ts) good
 form_back scope (form.Less t1 t2) t ts good other first =
-    terms_back scope t1 t2 (λ x y. form.Less x y) (t ∷ ts) (both_true (has_order (sort_of scope t1)) (are_of_one_sort (sort_of scope t1) (sort_of scope t2)) good).1
+    terms_back scope t1 t2 (λ x y. form.Less x y) (t ∷ ts)
+    (both_true (has_order (sort_of scope t1)) (are_of_one_sort (sort_of scope t1) (sort_of scope t2)) good).1

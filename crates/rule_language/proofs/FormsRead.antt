@@ -13,14 +13,19 @@ use Rattle.rule_language.specs.Spelling.{Token, left, right, form_words, tokens_
 use Rattle.rule_language.specs.inside.Reader.{Takes, IsRead}
 use Rattle.rule_language.proofs.Passing.{IsEnclosed, tokens_append}
 
+-- four tests that hold make the test of a row with one formula hold
 all_true : (a b d e : Bool) → a ≡ true → b ≡ true → d ≡ true → e ≡ true → ((a && (b && d)) && (e && true)) ≡ true
 all_true a b d e ha hb hd he = rw ha (rw hb (rw hd (rw he refl)))
 
 -- a formula in parentheses with the formulas in it
-pub form_read : (text : List ℕ) (old new : Span) (scope : Scope) (depth : ℕ) (body : Formula) (f : Form) (parts : Trees) (h : Head) (words : List Token)
-    → tree_of body ≡ tree_then f parts no_trees → form_words f ≡ head_word h ∷ words → IsEnclosed f → is_shallow depth f ≡ true
-    → is_closed scope f ≡ true → has_arity f (count_of parts) ≡ true → are_formulas (scope_in f scope) (depth + 1) parts ≡ true
-    → Takes text old new (words ++ tokens_then parts (right ∷ [])) → IsRead text old new scope depth (left ∷ head_word h ∷ []) body
+pub form_read : (text : List ℕ) (old new : Span) (scope : Scope) (depth : ℕ) (body : Formula) (f : Form) (parts : Trees)
+    (h : Head) (words : List Token)
+    → tree_of body ≡ tree_then f parts no_trees → form_words f ≡ head_word h ∷ words → IsEnclosed f
+    → is_shallow depth f ≡ true
+    → is_closed scope f ≡ true → has_arity f (count_of parts) ≡ true
+    → are_formulas (scope_in f scope) (depth + 1) parts ≡ true
+    → Takes text old new (words ++ tokens_then parts (right ∷ []))
+    → IsRead text old new scope depth (left ∷ head_word h ∷ []) body
 form_read text old new scope depth body f parts h words tree spells enclosed shallow closed arity good takes = record {
   tokens = words ++ tokens_then parts (right ∷ []);
   taken = takes;
@@ -29,13 +34,16 @@ form_read text old new scope depth body f parts h words tree spells enclosed sha
       ∙ enclosed (tokens_then parts []) []
       ∙ ap (λ ts. left ∷ (form_words f ++ ts)) (sym (tokens_append parts [] (right ∷ [])))
       ∙ ap (λ ws. left ∷ (ws ++ tokens_then parts (right ∷ []))) spells;
-  lawful = ap (are_formulas scope depth) tree ∙ all_true (is_shallow depth f) (is_closed scope f) (has_arity f (count_of parts)) (are_formulas (scope_in f scope) (depth + 1) parts) shallow closed arity good;
+  lawful = ap (are_formulas scope depth) tree ∙ all_true (is_shallow depth f) (is_closed scope f)
+      (has_arity f (count_of parts)) (are_formulas (scope_in f scope) (depth + 1) parts) shallow closed arity good;
   one = ap count_of tree;
 }
 
 -- an atom
-pub atom_read : (text : List ℕ) (old new : Span) (scope : Scope) (depth : ℕ) (body : Formula) (f : Form) (h : Head) (words : List Token)
-    → tree_of body ≡ tree_then f no_trees no_trees → form_words f ≡ head_word h ∷ words → IsEnclosed f → is_shallow depth f ≡ true
+pub atom_read : (text : List ℕ) (old new : Span) (scope : Scope) (depth : ℕ) (body : Formula) (f : Form) (h : Head)
+    (words : List Token)
+    → tree_of body ≡ tree_then f no_trees no_trees → form_words f ≡ head_word h ∷ words → IsEnclosed f
+    → is_shallow depth f ≡ true
     → is_closed scope f ≡ true → has_arity f 0 ≡ true
     → Takes text old new (words ++ right ∷ []) → IsRead text old new scope depth (left ∷ head_word h ∷ []) body
 atom_read text old new scope depth body f h words tree spells enclosed shallow closed arity takes =

@@ -27,44 +27,57 @@ use Rattle.rule_language.specs.Wants.{Typed, letter_in, new_in, bound_in, kind_f
 use Rattle.rule_language.specs.inside.Reader.{IsTyped}
 
 -- what a test decided
-pub if_first : {A : Type 0} (b : Bool) (r : Result A RuleWhy) (cause : RuleWhy) (a : A) → (if b then r else Err cause) ≡ Ok a
+pub if_first : {A : Type 0} (b : Bool) (r : Result A RuleWhy) (cause : RuleWhy) (a : A)
+    → (if b then r else Err cause) ≡ Ok a
     → (b ≡ true) × (r ≡ Ok a)
 if_first true r cause a e = (refl, e)
 if_first false r cause a e = absurd (cc)
 
-pub if_second : {A : Type 0} (b : Bool) (r : Result A RuleWhy) (cause : RuleWhy) (a : A) → (if b then Err cause else r) ≡ Ok a
+-- the same of a test that must fail for a result
+pub if_second : {A : Type 0} (b : Bool) (r : Result A RuleWhy) (cause : RuleWhy) (a : A)
+    → (if b then Err cause else r) ≡ Ok a
     → (b ≡ false) × (r ≡ Ok a)
 if_second true r cause a e = absurd (cc)
 if_second false r cause a e = (refl, e)
 
+-- finds that are the same are of one value
 some_same : {A : Type 0} (a b : A) → Some a ≡ Some b → a ≡ b
 some_same a b e = cc
 
+-- what a test let through was there, and the test held
 if_some : {A : Type 0} (b : Bool) (x a : A) → (if b then Some x else None) ≡ Some a → (b ≡ true) × (x ≡ a)
 if_some true x a e = (refl, some_same x a e)
 if_some false x a e = absurd (cc)
 
+-- a value as it was found
 abbrev found_of : {A : Type 0} → A → Result A RuleWhy
 found_of a = Ok a
 
+-- results that are the same are of one value
 ok_same : {A : Type 0} (a b : A) → found_of a ≡ found_of b → a ≡ b
 ok_same a b e = cc
 
+-- of a conjunction that holds both parts hold
 pub both_true : (a b : Bool) → (a && b) ≡ true → (a ≡ true) × (b ≡ true)
 both_true true true e = (refl, refl)
 both_true true false e = absurd (cc)
 both_true false b e = absurd (cc)
 
+-- words with equal bytes are the same
 pub bytes_same : (xs ys : List ℕ) → bytes_eq xs ys ≡ true → xs ≡ ys
 bytes_same xs ys e = (bytes_eq-Decides xs ys).0 e
 
-pub named_found : {A : Type 0} (word_of : A → List ℕ) (things : List A) (word : List ℕ) (a : A) → named word_of things word ≡ Some a
+-- a word that names a thing is the word of that thing
+pub named_found : {A : Type 0} (word_of : A → List ℕ) (things : List A) (word : List ℕ) (a : A)
+    → named word_of things word ≡ Some a
     → word ≡ word_of a
 named_found word_of [] word a e = absurd (cc)
 named_found {A = A} word_of (thing ∷ things) word a e =
     step (bytes_eq word (word_of thing)) refl (λ later. named_found word_of things word a later)
   where
-    step : (b : Bool) → bytes_eq word (word_of thing) ≡ b → (named word_of things word ≡ Some a → word ≡ word_of a) → word ≡ word_of a
+    -- the same by whether the word is that of the first thing
+    step : (b : Bool) → bytes_eq word (word_of thing) ≡ b → (named word_of things word ≡ Some a → word ≡ word_of a)
+        → word ≡ word_of a
     step true is later = bytes_same word (word_of thing) is ∙ ap word_of (some_same thing a (rw is at e))
     step false is later = later (rw is at e)
 
@@ -76,13 +89,16 @@ letter_found (w ∷ []) v e =
     (ap (λ x. x ∷ []) is.1, ap is_letter (sym is.1) ∙ is.0)
 letter_found (w ∷ x ∷ word) v e = absurd (cc)
 
+-- the token of a variable isn't empty
 some_word : (v : ℕ) → variable v ≢ []
 some_word v e = cc
 
+-- a token that was read as a bound variable is its letter, which is bound
 pub variable_found : (scope : Scope) (word : Token) (v : ℕ) → bound_in scope (letter_in word) ≡ Ok v
     → (word ≡ variable v) × (variable v ≢ []) × (is_bound scope v ≡ true)
 variable_found scope word v e = found (letter_in word) refl e
   where
+    -- the same by the letter in the token
     found : (o : Option ℕ) → letter_in word ≡ o → bound_in scope o ≡ Ok v
         → (word ≡ variable v) × (variable v ≢ []) × (is_bound scope v ≡ true)
     found None is e = absurd (cc)
@@ -92,10 +108,12 @@ variable_found scope word v e = found (letter_in word) refl e
         let letter = letter_found word w is in
         (letter.0 ∙ ap variable same, some_word v, ap (is_bound scope) (sym same) ∙ rw letter.1 (rw b.0 refl))
 
+-- a token that was read as a new variable is its letter, which is free
 pub new_found : (scope : Scope) (word : Token) (v : ℕ) → new_in scope (letter_in word) ≡ Ok v
     → (word ≡ variable v) × (variable v ≢ []) × (new_in scope (letter_in (variable v)) ≡ Ok v)
 new_found scope word v e = found (letter_in word) refl e
   where
+    -- the same by the letter in the token
     found : (o : Option ℕ) → letter_in word ≡ o → new_in scope o ≡ Ok v
         → (word ≡ variable v) × (variable v ≢ []) × (new_in scope (letter_in (variable v)) ≡ Ok v)
     found None is e = absurd (cc)
@@ -120,6 +138,7 @@ kind_some kind.Cast e = cc
 kind_some kind.Cancel e = cc
 kind_some kind.Challenge e = cc
 
+-- nor are the first words of formulas
 pub head_some : (h : Head) → head_word h ≢ []
 head_some head.ForEvery e = cc
 head_some head.ForSome e = cc
@@ -135,27 +154,37 @@ head_some head.OfKind e = cc
 head_some head.Equal e = cc
 head_some head.Less e = cc
 
+-- nor are those of roles
 pub role_some : (r : Role) → role_word r ≢ []
 role_some role.Supervisor e = cc
 role_some role.Booth e = cc
 
+-- where a value came and not the cause, it was found
 or_found : {A : Type 0} (cause : RuleWhy) (o : Option A) (a : A) → or_cause cause o ≡ Ok a → o ≡ Some a
 or_found cause None a e = absurd (cc)
 or_found cause (Some b) a e = ap (λ x. Some x) (ok_same b a e)
 
+-- a token that was read as a kind is the word of that kind
 pub kind_found : (word : Token) (k : Kind) → kind_for word ≡ Ok k → (word ≡ kind_word k) × (kind_word k ≢ []) × Unit {0}
 kind_found word k e =
     let b = if_second (bytes_eq word left || bytes_eq word right) (or_cause UnknownKind (kind_named word)) Shape k e in
     (named_found kind_word kinds word k (or_found UnknownKind (kind_named word) k b.1), kind_some k, tt)
 
-pub role_found : (word : Token) (r : Role) → or_cause Shape (role_named word) ≡ Ok r → (word ≡ role_word r) × (role_word r ≢ []) × Unit {0}
-role_found word r e =
-    (named_found role_word (role.Supervisor ∷ role.Booth ∷ []) word r (or_found Shape (role_named word) r e), role_some r, tt)
+-- a token that was read as a role is the word of that role
+pub role_found : (word : Token) (r : Role) → or_cause Shape (role_named word) ≡ Ok r → (word ≡ role_word r)
+    × (role_word r ≢ []) × Unit {0}
+role_found word r e = (
+  named_found role_word (role.Supervisor ∷ role.Booth ∷ []) word r (or_found Shape (role_named word) r e),
+  role_some r,
+  tt,
+)
 
+-- a token that was read as a form's first word is that word, and the form may begin there
 pub head_found : (scope : Scope) (word : Token) (h : Head) → head_for scope word ≡ Ok h
     → (word ≡ head_word h) × (head_word h ≢ []) × (nested scope (Some h) ≡ Ok h)
 head_found scope word h e = found (head_named word) refl e
   where
+    -- the same by the form that the token names
     found : (o : Option Head) → head_named word ≡ o → nested scope o ≡ Ok h
         → (word ≡ head_word h) × (head_word h ≢ []) × (nested scope (Some h) ≡ Ok h)
     found None is e = absurd (cc)
@@ -164,7 +193,9 @@ head_found scope word h e = found (head_named word) refl e
         let same = ok_same g h b.1 in
         (named_found head_word heads word g is ∙ ap head_word same, head_some h, rw same at n)
 
-pub only_found : (wanted word : Token) (it : Unit {0}) → wanted ≢ [] → only wanted word ≡ Ok it → (word ≡ wanted) × (wanted ≢ []) × Unit {0}
+-- a token that passed as the wanted one is that one
+pub only_found : (wanted word : Token) (it : Unit {0}) → wanted ≢ [] → only wanted word ≡ Ok it → (word ≡ wanted)
+    × (wanted ≢ []) × Unit {0}
 only_found wanted word it some e =
     let b = if_first (bytes_eq word wanted) (Ok tt) Shape it e in
     (bytes_same word wanted b.0, some, tt)
@@ -172,7 +203,8 @@ only_found wanted word it some e =
 -- a number, or a field of what a variable stands for
 pub number_spelt : (word : Token) (n : ℕ) → number_in word ≡ Some n → (word ≡ decimal n) × (n < 2 ^ 32)
 number_spelt word n e =
-    let is = if_some (nat_lt (value_from 0 word) (2 ^ 32) && bytes_eq word (decimal (value_from 0 word))) (value_from 0 word) n e in
+    let is = if_some (nat_lt (value_from 0 word) (2 ^ 32) && bytes_eq word (decimal (value_from 0 word)))
+    (value_from 0 word) n e in
     let b = both_true (nat_lt (value_from 0 word) (2 ^ 32)) (bytes_eq word (decimal (value_from 0 word))) is.0 in
     let small : value_from 0 word < 2 ^ 32 = ltb-true (value_from 0 word) (2 ^ 32) b.0 in
     (bytes_same word (decimal (value_from 0 word)) b.1 ∙ ap decimal is.1, (let same = is.1 in omega arith))
@@ -181,8 +213,11 @@ number_spelt word n e =
 abbrev pub IsTermOf : Scope → Token → Typed → Type 0
 IsTermOf scope word typed = (word ≡ term_word typed.0) × (sort_of scope typed.0 ≡ Some typed.1)
 
-of_field_found : (scope : Scope) (v : ℕ) (k : Kind) (word name : Token) (o : Option Field) (typed : Typed) → is_letter v ≡ true
-    → kind_in scope v ≡ Some k → field_named name ≡ o → word ≡ v ∷ 46 ∷ name → of_field v k o ≡ Ok typed → IsTermOf scope word typed
+-- a bound letter, a dot and a field that its kind has are a term of that field's sort
+of_field_found : (scope : Scope) (v : ℕ) (k : Kind) (word name : Token) (o : Option Field) (typed : Typed)
+    → is_letter v ≡ true
+    → kind_in scope v ≡ Some k → field_named name ≡ o → word ≡ v ∷ 46 ∷ name → of_field v k o ≡ Ok typed
+    → IsTermOf scope word typed
 of_field_found scope v k word name None typed letter bound is spelt e = absurd (cc)
 of_field_found scope v k word name (Some f) typed letter bound is spelt e =
     let b = if_first (has_field k f) (Ok (Of v f, sort_of_field f)) WrongField typed e in
@@ -192,7 +227,9 @@ of_field_found scope v k word name (Some f) typed letter bound is spelt e =
     let here : IsTermOf scope word (Of v f, sort_of_field f) = (spelt ∙ ap (λ w. v ∷ 46 ∷ w) word_is, sorted) in
     subst (IsTermOf scope word) same here
 
-dotted_found : (scope : Scope) (word : Token) (typed : Typed) → dotted_in scope word ≡ Ok typed → IsTermOf scope word typed
+-- a word with a dot that was read as a term spells it, and the term has its sort
+dotted_found : (scope : Scope) (word : Token) (typed : Typed) → dotted_in scope word ≡ Ok typed
+    → IsTermOf scope word typed
 dotted_found scope [] typed e = absurd (cc)
 dotted_found scope (v ∷ []) typed e = absurd (cc)
 dotted_found scope (v ∷ dot ∷ name) typed e =
@@ -200,16 +237,21 @@ dotted_found scope (v ∷ dot ∷ name) typed e =
     let both = both_true (is_letter v) (dot == 46) b.0 in
     bound (kind_in scope v) refl (eqb-true dot 46 both.1) both.0 b.1
   where
+    -- the same by the kind that the letter is bound with
     bound : (o : Option Kind) → kind_in scope v ≡ o → dot ≡ 46 → is_letter v ≡ true → of_variable v o name ≡ Ok typed
         → IsTermOf scope (v ∷ dot ∷ name) typed
     bound None is dotted letter e = absurd (cc)
     bound (Some k) is dotted letter e =
-        of_field_found scope v k (v ∷ dot ∷ name) name (field_named name) typed letter is refl (ap (λ d. v ∷ d ∷ name) dotted) e
+        of_field_found scope v k (v ∷ dot ∷ name) name (field_named name) typed letter is refl
+        (ap (λ d. v ∷ d ∷ name) dotted) e
 
+-- a word that was read as a term spells it, and the term has its sort
 term_spelt : (scope : Scope) (word : Token) (typed : Typed) → term_in scope word ≡ Ok typed → IsTermOf scope word typed
 term_spelt scope word typed e = found (number_in word) refl e
   where
-    found : (o : Option ℕ) → number_in word ≡ o → number_or o (dotted_in scope word) ≡ Ok typed → IsTermOf scope word typed
+    -- the same by the number that the word is
+    found : (o : Option ℕ) → number_in word ≡ o → number_or o (dotted_in scope word) ≡ Ok typed
+        → IsTermOf scope word typed
     found None is e = dotted_found scope word typed e
     found (Some n) is e =
         let same : (Number n, sort.Count) ≡ typed = ok_same (Number n, sort.Count) typed e in
@@ -228,10 +270,13 @@ term_some scope (Number n, s) sorted e =
     let none : length (decimal n) ≡ 0 = ap length e in
     omega arith
 
-pub term_found : (scope : Scope) (test : Sort → Bool) (word : Token) (typed : Typed) → whose_sort test (term_in scope word) ≡ Ok typed
+-- a term that was read where a sort is asked for is spelt there, and has such a sort
+pub term_found : (scope : Scope) (test : Sort → Bool) (word : Token) (typed : Typed)
+    → whose_sort test (term_in scope word) ≡ Ok typed
     → (word ≡ term_word typed.0) × (term_word typed.0 ≢ []) × IsTyped scope test typed
 term_found scope test word typed e = found (term_in scope word) refl e
   where
+    -- the same by what the word was read as
     found : (r : Result Typed RuleWhy) → term_in scope word ≡ r → whose_sort test r ≡ Ok typed
         → (word ≡ term_word typed.0) × (term_word typed.0 ≢ []) × IsTyped scope test typed
     found (Err cause) is e = absurd (cc)

@@ -21,31 +21,39 @@ use Rattle.rule_language.proofs.Fills.{FillsHead, FillsName, FillsRules, Complet
 use Rattle.rule_language.proofs.Completing.{then_found, moved, formula_back, body_back, more_back, one_closed}
 use Rattle.rule_language.proofs.CompletingHeads.{head_back}
 
+-- a name as it is answered
 abbrev as_name : Token → Result Token RuleWhy
 as_name name = Ok name
 
+-- the answer to a token that has no place there
 abbrev shape_met : Met
 shape_met = Err Shape
 
-head_of : (scope : Scope) (depth : ℕ) (w t : Token) (ts rest : List Token) → w ≡ t → FillsHead scope depth (w ∷ ts) rest → FillsHead scope depth (t ∷ ts) rest
+-- the first token may be put for one that equals it
+head_of : (scope : Scope) (depth : ℕ) (w t : Token) (ts rest : List Token) → w ≡ t → FillsHead scope depth (w ∷ ts) rest
+    → FillsHead scope depth (t ∷ ts) rest
 head_of scope depth w t ts rest same fills = subst (λ (x : Token). FillsHead scope depth (x ∷ ts) rest) same fills
 
 -- the word that has to stand there
 only_is : (wanted word : Token) (it : Unit {0}) → only wanted word ≡ Ok it → word ≡ wanted
 only_is wanted word it e = bytes_same word wanted (if_first (bytes_eq word wanted) (Ok tt) Shape it e).0
 
-name_parts : (names : List Token) (word name : Token) → name_in names word ≡ Ok name → (word ≡ name) × (is_name name ≡ true) × (is_among name names ≡ false)
+-- a name that was read is the token itself, which is a name, and a new one
+name_parts : (names : List Token) (word name : Token) → name_in names word ≡ Ok name → (word ≡ name)
+    × (is_name name ≡ true) × (is_among name names ≡ false)
 name_parts names word name e =
     let a = if_first (is_name word) (if is_among word names then Err SameName else Ok word) Shape name e in
     let b = if_second (is_among word names) (Ok word) SameName name a.1 in
     let same : word ≡ name = name_same word name b.1 in
     (same, ap is_name (sym same) ∙ a.0, ap (λ n. is_among n names) (sym same) ∙ b.0)
   where
+    -- answers that are the same are of one name
     name_same : (x y : Token) → as_name x ≡ as_name y → x ≡ y
     name_same x y h = cc
 
 -- a rule in front of others
-rule_fills : (names : List Token) (ts rest : List Token) → nat_lt (length names) 256 ≡ true → (behind_it : List Token) → ts ≡ codes "rule" ∷ behind_it
+rule_fills : (names : List Token) (ts rest : List Token) → nat_lt (length names) 256 ≡ true → (behind_it : List Token)
+    → ts ≡ codes "rule" ∷ behind_it
     → FillsName names behind_it rest → FillsRules names (left ∷ ts) rest
 rule_fills names ts rest few behind_it is name = record {
   all = name.rule ∷ name.others;
@@ -57,20 +65,26 @@ rule_fills names ts rest few behind_it is name = record {
 }
 
 -- one token more
-want_back : (want : Want) (wants next : List Want) (t : Token) (ts : List Token) → meets (want ∷ wants) t ≡ Ok next → Completes next ts
+want_back : (want : Want) (wants next : List Want) (t : Token) (ts : List Token) → meets (want ∷ wants) t ≡ Ok next
+    → Completes next ts
     → Completes (want ∷ wants) (t ∷ ts)
 want_back (more_rules names) wants next t ts met fills =
     let a = then_found (opening (length names) t) (λ it. rule_word names ∷ wants) next met in
     let o = opening_found (length names) t a.0 a.1 in
     let inside = moved next (rule_word names ∷ wants) ts a.2 fills in
-    let w = inside.1 in
-    (inside.0, subst (λ (x : Token). FillsRules names (x ∷ ts) inside.0) (sym o.0) (rule_fills names ts inside.0 o.2 w.0 w.1 w.2), inside.2)
+    let w = inside.1 in (
+      inside.0,
+      subst (λ (x : Token). FillsRules names (x ∷ ts) inside.0) (sym o.0)
+          (rule_fills names ts inside.0 o.2 w.0 w.1 w.2),
+      inside.2,
+    )
 want_back (rule_word names) wants next t ts met fills =
     let a = then_found (only (codes "rule") t) (λ it. rule_name names ∷ wants) next met in
     let inside = moved next (rule_name names ∷ wants) ts a.2 fills in
     (inside.0, (ts, ap (λ (x : Token). x ∷ ts) (only_is (codes "rule") t a.0 a.1), inside.1), inside.2)
 want_back (rule_name names) wants next t ts met fills =
-    let a = then_found (name_in names t) (λ name. formula [] 1 ∷ close ∷ more_rules (names ++ name ∷ []) ∷ wants) next met in
+    let a = then_found (name_in names t)
+    (λ name. formula [] 1 ∷ close ∷ more_rules (names ++ name ∷ []) ∷ wants) next met in
     let n = name_parts names t a.0 a.1 in
     let inside = moved next (formula [] 1 ∷ close ∷ more_rules (names ++ a.0 ∷ []) ∷ wants) ts a.2 fills in
     let body = one_closed [] 1 (more_rules (names ++ a.0 ∷ []) ∷ wants) ts inside in
@@ -85,7 +99,8 @@ want_back (rule_name names) wants next t ts met fills =
         one = body.2;
         good = body.3;
         follows = r.follows;
-        is = ap (λ (x : Token). x ∷ ts) n.0 ∙ ap (λ xs. a.0 ∷ xs) (body.4 ∙ ap (λ xs. tokens_then body.0 (right ∷ xs)) r.is);
+        is = ap (λ (x : Token). x ∷ ts) n.0
+            ∙ ap (λ xs. a.0 ∷ xs) (body.4 ∙ ap (λ xs. tokens_then body.0 (right ∷ xs)) r.is);
       },
       others.2,
     )
@@ -98,14 +113,18 @@ want_back (head scope depth) wants next t ts met fills =
 want_back (new_variable scope depth) wants next t ts met fills =
     let a = then_found (new_in scope (letter_in t)) (λ v. kind_of v scope depth ∷ wants) next met in
     let n = new_found scope t a.0 a.1 in
-    let inside = moved next (kind_of a.0 scope depth ∷ wants) ts a.2 fills in
-    (inside.0, record { v = a.0; behind_it = ts; fresh = n.2; rest_of = inside.1; is = ap (λ (x : Token). x ∷ ts) n.0 }, inside.2)
+    let inside = moved next (kind_of a.0 scope depth ∷ wants) ts a.2 fills in (
+      inside.0,
+      record { v = a.0; behind_it = ts; fresh = n.2; rest_of = inside.1; is = ap (λ (x : Token). x ∷ ts) n.0 },
+      inside.2,
+    )
 want_back (kind_of v scope depth) wants next t ts met fills =
     let a = then_found (kind_for t) (λ kind. before_or_body v kind scope depth ∷ wants) next met in
     let k = kind_found t a.0 a.1 in
     let inside = moved next (before_or_body v a.0 scope depth ∷ wants) ts a.2 fills in
     (inside.0, record { kind = a.0; behind_it = ts; body = inside.1; is = ap (λ (x : Token). x ∷ ts) k.0 }, inside.2)
-want_back (before_or_body v kind scope depth) wants next t ts met fills = body_back v kind scope depth wants next t ts met fills
+want_back (before_or_body v kind scope depth) wants next t ts met fills =
+    body_back v kind scope depth wants next t ts met fills
 want_back (more n scope depth) wants next t ts met fills = more_back n scope depth wants next t ts met fills
 want_back (a_variable scope) wants next t ts met fills =
     let a = then_found (bound_in scope (letter_in t)) (λ v. wants) next met in
@@ -120,7 +139,8 @@ want_back a_kind wants next t ts met fills =
     let k = kind_found t a.0 a.1 in
     (ts, (a.0, ap (λ (x : Token). x ∷ ts) k.0), moved next wants ts a.2 fills)
 want_back (first_term ordered scope) wants next t ts met fills =
-    let a = then_found (whose_sort (may_begin ordered) (term_in scope t)) (λ (term : Typed). second_term term.1 scope ∷ wants) next met in
+    let a = then_found (whose_sort (may_begin ordered) (term_in scope t))
+    (λ (term : Typed). second_term term.1 scope ∷ wants) next met in
     let f = term_found scope (may_begin ordered) t a.0 a.1 in
     let inside = moved next (second_term a.0.1 scope ∷ wants) ts a.2 fills in (
       inside.0,
@@ -137,8 +157,11 @@ want_back (first_term ordered scope) wants next t ts met fills =
     )
 want_back (second_term sort scope) wants next t ts met fills =
     let a = then_found (whose_sort (is_same_sort sort) (term_in scope t)) (λ (term : Typed). wants) next met in
-    let f = term_found scope (is_same_sort sort) t a.0 a.1 in
-    (ts, record { t = a.0.0; sort = a.0.1; sorted = f.2.0; same = f.2.1; is = ap (λ (x : Token). x ∷ ts) f.0 }, moved next wants ts a.2 fills)
+    let f = term_found scope (is_same_sort sort) t a.0 a.1 in (
+      ts,
+      record { t = a.0.0; sort = a.0.1; sorted = f.2.0; same = f.2.1; is = ap (λ (x : Token). x ∷ ts) f.0 },
+      moved next wants ts a.2 fills,
+    )
 want_back close wants next t ts met fills =
     let a = then_found (only right t) (λ it. wants) next met in
     (ts, ap (λ (x : Token). x ∷ ts) (only_is right t a.0 a.1), moved next wants ts a.2 fills)
@@ -165,9 +188,11 @@ ended (second_term sort scope ∷ wants) e = absurd (cc)
 ended (close ∷ wants) e = absurd (cc)
 
 -- tokens that pass fill the wants
-pub completes : (ts : List Token) (wants left_over : List Want) → behind (Ok wants) ts ≡ Ok left_over → is_end left_over ≡ true → Completes wants ts
+pub completes : (ts : List Token) (wants left_over : List Want) → behind (Ok wants) ts ≡ Ok left_over
+    → is_end left_over ≡ true → Completes wants ts
 completes [] wants left_over e end = moved left_over wants [] (ok_wants wants left_over e) (ended left_over end)
-completes (t ∷ ts) [] left_over e end = let first = first_met [] t ts left_over e in let shut : shape_met ≡ Ok first.0 = first.1 in absurd (cc)
+completes (t ∷ ts) [] left_over e end = let first = first_met [] t ts left_over e in let shut : shape_met ≡ Ok first.0 =
+    first.1 in absurd (cc)
 completes (t ∷ ts) (want ∷ wants) left_over e end =
     let first = first_met (want ∷ wants) t ts left_over e in
     want_back want wants first.0 t ts first.1 (completes ts first.0 left_over first.2 end)
@@ -178,7 +203,8 @@ some_rules text none =
     let tokens = none.1.0 in
     let fills = completes tokens begin none.0 none.1.2 none.2 in
     let r = fills.1 in
-    let is : tokens ≡ rules_tokens r.all = r.is ∙ ap (λ xs. rules_tokens r.all ++ xs) fills.2 ∙ append-nil (rules_tokens r.all) in (
+    let is : tokens ≡ rules_tokens r.all =
+    r.is ∙ ap (λ xs. rules_tokens r.all ++ xs) fills.2 ∙ append-nil (rules_tokens r.all) in (
       r.all,
       record {
         lawful = rw (some r.all is) r.follows;
@@ -186,6 +212,7 @@ some_rules text none =
       },
     )
   where
+    -- the rules of a text that may end there are one at least
     some : (rs : List RuleTree) → none.1.0 ≡ rules_tokens rs → nat_lt 0 (length rs) ≡ true
     some [] is =
         let left_over : begin ≡ none.0 = ok_wants begin none.0 (sym (ap (behind (Ok begin)) is) ∙ none.1.2) in

@@ -15,32 +15,48 @@ use Rattle.rule_language.specs.Reading.{Leaves, IsCause, IsFirstFault, HasNoFaul
 use Rattle.rule_language.proofs.Stands.{token_good}
 use Rattle.rule_language.proofs.Refusals.{first_met, behind_more, ok_wants}
 
+-- the span is a token that begins before the place
 abbrev IsBefore : List ℕ → ℕ → Span → Type 0
 IsBefore text at span = IsToken text span × (span.start < at)
 
+-- a cause as the answer to a token
 abbrev bad_met : RuleWhy → Met
 bad_met why = Err why
 
+-- answers that are the same have one cause
 err_of : (x y : RuleWhy) → bad_met x ≡ bad_met y → x ≡ y
 err_of x y e = cc
 
 -- a place has one list of tokens before it
-pub one_before : (text : List ℕ) (at : ℕ) (ts us : List Token) → StandBefore text at ts → StandBefore text at us → ts ≡ us
-one_before text at ts us a b = a.spelt ∙ ap (map (piece text)) (one_all (IsBefore text at) a.spans b.spans a.all b.all) ∙ sym b.spelt
+pub one_before : (text : List ℕ) (at : ℕ) (ts us : List Token) → StandBefore text at ts
+    → StandBefore text at us → ts ≡ us
+one_before text at ts us a b = a.spelt ∙ ap (map (piece text)) (one_all (IsBefore text at) a.spans b.spans a.all b.all)
+    ∙ sym b.spelt
 
 -- the spans that begin before a place, and the others
 record IsSplit (spans : List Span) (at : ℕ) : Type 0 where
   front : List Span
   rest : List Span
+  -- the front and the others make up the list
   whole : spans ≡ front ++ rest
+  -- those of the front begin before the place
   before : (s : Span) → Contains front s → s.start < at
+  -- the others begin at the place or behind it
   behind_it : (s : Span) → Contains rest s → at ≤ s.start
 
+-- an empty list has nothing in it
 none_among : (s : Span) → Contains [] s → ⊥
 none_among s among = omega (arith, among.1)
 
+-- spans in order fall into those that begin before a place and the others
 split : (spans : List Span) (at : ℕ) → AllPairs StandsBefore spans → IsSplit spans at
-split [] at ordered = record { front = []; rest = []; whole = refl; before = λ s among. absurd (none_among s among); behind_it = λ s among. absurd (none_among s among) }
+split [] at ordered = record {
+  front = [];
+  rest = [];
+  whole = refl;
+  before = λ s among. absurd (none_among s among);
+  behind_it = λ s among. absurd (none_among s among);
+}
 split (x ∷ xs) at ordered =
     let later = split xs at (tail_ordered x xs ordered) in
     ⊎_elim
@@ -48,7 +64,8 @@ split (x ∷ xs) at ordered =
       front = x ∷ later.front;
       rest = later.rest;
       whole = ap (λ ss. x ∷ ss) later.whole;
-      before = λ s among. ⊎_elim (λ (is : x ≡ s). let e : x.start ≡ s.start = ap (λ (z : Span). z.start) is in omega arith)
+      before = λ s among. ⊎_elim (λ (is : x ≡ s). let e : x.start ≡ s.start = ap (λ (z : Span). z.start) is in
+          omega arith)
           (λ (h : Contains later.front s). later.before s h) (behind_first x s later.front among);
       behind_it = later.behind_it;
     })
@@ -57,19 +74,24 @@ split (x ∷ xs) at ordered =
       rest = x ∷ xs;
       whole = refl;
       before = λ s among. absurd (none_among s among);
-      behind_it = λ s among. ⊎_elim (λ (is : x ≡ s). let e : x.start ≡ s.start = ap (λ (z : Span). z.start) is in omega arith)
-          (λ (h : Contains xs s). let lt : x.start < s.start = first_is_before x s xs ordered h in omega arith) (behind_first x s xs among);
+      behind_it = λ s among. ⊎_elim (λ (is : x ≡ s). let e : x.start ≡ s.start = ap (λ (z : Span). z.start) is in
+          omega arith)
+          (λ (h : Contains xs s). let lt : x.start < s.start = first_is_before x s xs ordered h in omega arith)
+          (behind_first x s xs among);
     })
     (cases_lt x.start at)
 
+-- the front of spans in order is in order
 front_ordered : (xs ys : List Span) → AllPairs StandsBefore (xs ++ ys) → AllPairs StandsBefore xs
 front_ordered xs ys ordered i j d lt within =
     let wide : length (xs ++ ys) ≡ length xs + length ys = length-append xs ys in
     let at : (get_or (xs ++ ys) i d).start < (get_or (xs ++ ys) j d).start = ordered i j d lt (omega arith) in
     let a : get_or (xs ++ ys) i d ≡ get_or xs i d = get_or_append_left xs ys d i (omega arith) in
     let b : get_or (xs ++ ys) j d ≡ get_or xs j d = get_or_append_left xs ys d j within in
-    subst (λ (s : Span). (get_or xs i d).start < s.start) b (subst (λ (s : Span). s.start < (get_or (xs ++ ys) j d).start) a at)
+    subst (λ (s : Span). (get_or xs i d).start < s.start) b
+    (subst (λ (s : Span). s.start < (get_or (xs ++ ys) j d).start) a at)
 
+-- and so are those behind it
 back_ordered : (xs ys : List Span) → AllPairs StandsBefore (xs ++ ys) → AllPairs StandsBefore ys
 back_ordered [] ys ordered = ordered
 back_ordered (x ∷ xs) ys ordered = back_ordered xs ys (tail_ordered x (xs ++ ys) ordered)
@@ -77,24 +99,35 @@ back_ordered (x ∷ xs) ys ordered = back_ordered xs ys (tail_ordered x (xs ++ y
 -- what stands before a place is a front of what stands before a later one
 record IsFront (text : List ℕ) (at later : ℕ) (ts us : List Token) : Type 0 where
   rest : List Span
+  -- the further spans are in order
   ordered : AllPairs StandsBefore rest
+  -- the later list is the earlier one and the tokens of the further spans
   whole : us ≡ ts ++ map (piece text) rest
+  -- none of those begins before the earlier place
   back : (s : Span) → Contains rest s → at ≤ s.start
+  -- each token that begins between the places is among them
   tokens : (s : Span) → IsToken text s → at ≤ s.start → s.start < later → Contains rest s
 
-front_of : (text : List ℕ) (at later : ℕ) (ts us : List Token) → at ≤ later → StandBefore text at ts → StandBefore text later us → IsFront text at later ts us
+-- the tokens before a place are the first of those before a later place
+front_of : (text : List ℕ) (at later : ℕ) (ts us : List Token) → at ≤ later → StandBefore text at ts
+    → StandBefore text later us → IsFront text at later ts us
 front_of text at later ts us le a b =
     let parts = split b.spans at b.all.ordered in
-    let among : (s : Span) → Contains (parts.front ++ parts.rest) s → Contains b.spans s = λ s h. subst (λ (ss : List Span). Contains ss s) (sym parts.whole) h in
-    let from : (s : Span) → Contains b.spans s → Contains (parts.front ++ parts.rest) s = λ s h. subst (λ (ss : List Span). Contains ss s) parts.whole h in
-    let whole_ordered : AllPairs StandsBefore (parts.front ++ parts.rest) = subst (λ (ss : List Span). AllPairs StandsBefore ss) parts.whole b.all.ordered in
+    let among : (s : Span) → Contains (parts.front ++ parts.rest) s → Contains b.spans s =
+    λ s h. subst (λ (ss : List Span). Contains ss s) (sym parts.whole) h in
+    let from : (s : Span) → Contains b.spans s → Contains (parts.front ++ parts.rest) s =
+    λ s h. subst (λ (ss : List Span). Contains ss s) parts.whole h in
+    let whole_ordered : AllPairs StandsBefore (parts.front ++ parts.rest) =
+    subst (λ (ss : List Span). AllPairs StandsBefore ss) parts.whole b.all.ordered in
     let fronts : AreAll (IsBefore text at) parts.front = record {
       ordered = front_ordered parts.front parts.rest whole_ordered;
       exactly = λ s. (
-        (λ (h : Contains parts.front s). (((b.all.exactly s).0 (among s (Contains-append_left parts.front parts.rest s h))).0, parts.before s h)),
+        (λ (h : Contains parts.front s).
+            (((b.all.exactly s).0 (among s (Contains-append_left parts.front parts.rest s h))).0, parts.before s h)),
         (λ (h : IsBefore text at s).
             let lt : s.start < at = h.1 in
-            ⊎_elim (λ (f : Contains parts.front s). f) (λ (r : Contains parts.rest s). let ge : at ≤ s.start = parts.behind_it s r in absurd (omega arith))
+            ⊎_elim (λ (f : Contains parts.front s). f) (λ (r : Contains parts.rest s). let ge : at ≤ s.start =
+            parts.behind_it s r in absurd (omega arith))
             (Contains-append_cases parts.front parts.rest s (from s ((b.all.exactly s).1 (h.0, omega arith))))),
       );
     } in
@@ -103,14 +136,17 @@ front_of text at later ts us le a b =
       rest = parts.rest;
       ordered = back_ordered parts.front parts.rest whole_ordered;
       whole = b.spelt ∙ ap (map (piece text)) parts.whole ∙ map-append (piece text) parts.front parts.rest
-          ∙ ap (λ ss. map (piece text) ss ++ map (piece text) parts.rest) (sym same) ∙ ap (λ xs. xs ++ map (piece text) parts.rest) (sym a.spelt);
+          ∙ ap (λ ss. map (piece text) ss ++ map (piece text) parts.rest) (sym same)
+          ∙ ap (λ xs. xs ++ map (piece text) parts.rest) (sym a.spelt);
       back = parts.behind_it;
-      tokens = λ s is ge lt. ⊎_elim (λ (f : Contains parts.front s). let before : s.start < at = parts.before s f in absurd (omega arith)) (λ (r : Contains parts.rest s). r)
+      tokens = λ s is ge lt. ⊎_elim (λ (f : Contains parts.front s). let before : s.start < at = parts.before s f in
+          absurd (omega arith)) (λ (r : Contains parts.rest s). r)
           (Contains-append_cases parts.front parts.rest s (from s ((b.all.exactly s).1 (is, lt))));
     }
 
 -- the first of ordered spans of which none begins before a span is that span
-first_is : (s : Span) (rest : List Span) → AllPairs StandsBefore rest → Contains rest s → ((x : Span) → Contains rest x → s.start ≤ x.start)
+first_is : (s : Span) (rest : List Span) → AllPairs StandsBefore rest → Contains rest s
+    → ((x : Span) → Contains rest x → s.start ≤ x.start)
     → (more : List Span) × (rest ≡ s ∷ more)
 first_is s [] ordered among least = absurd (none_among s among)
 first_is s (x ∷ xs) ordered among least =
@@ -122,21 +158,26 @@ first_is s (x ∷ xs) ordered among least =
     (behind_first x s xs among)
 
 -- a token that can't stand isn't passed
-not_passed : (wants left : List Want) (t : Token) (ts : List Token) (why : RuleWhy) → meets wants t ≡ Err why → behind (Ok wants) (t ∷ ts) ≡ Ok left → ⊥
+not_passed : (wants left : List Want) (t : Token) (ts : List Token) (why : RuleWhy) → meets wants t ≡ Err why
+    → behind (Ok wants) (t ∷ ts) ≡ Ok left → ⊥
 not_passed wants left t ts why against met =
     let first = first_met wants t ts left met in
     let no : bad_met why ≡ Ok first.0 = sym against ∙ first.1 in
     absurd (cc)
 
-wants_same : (wants left : List Want) (ts : List Token) → behind (Ok begin) ts ≡ Ok wants → behind (Ok begin) ts ≡ Ok left → wants ≡ left
+-- the same tokens leave the same wants
+wants_same : (wants left : List Want) (ts : List Token) → behind (Ok begin) ts ≡ Ok wants
+    → behind (Ok begin) ts ≡ Ok left → wants ≡ left
 wants_same wants left ts a b = ok_wants wants left (sym a ∙ b)
 
 -- what is left behind tokens
-left_behind : (wants left : List Want) (ts us : List Token) → behind (Ok begin) ts ≡ Ok wants → behind (Ok begin) (ts ++ us) ≡ Ok left → behind (Ok wants) us ≡ Ok left
+left_behind : (wants left : List Want) (ts us : List Token) → behind (Ok begin) ts ≡ Ok wants
+    → behind (Ok begin) (ts ++ us) ≡ Ok left → behind (Ok wants) us ≡ Ok left
 left_behind wants left ts us a b = sym (behind_more begin wants ts us a) ∙ b
 
 -- no text goes on over a fault
-pub nothing_behind : (text : List ℕ) (at later : ℕ) (why : RuleWhy) (wants left : List Want) → Leaves text at wants → IsCause text at wants why
+pub nothing_behind : (text : List ℕ) (at later : ℕ) (why : RuleWhy) (wants left : List Want) → Leaves text at wants
+    → IsCause text at wants why
     → at < later → Leaves text later left → ⊥
 nothing_behind text at later why wants left before (inl bad) lt after = bad.1 (after.1.good at lt)
 nothing_behind text at later why wants left before (inr (inl stands)) lt after =
@@ -146,7 +187,8 @@ nothing_behind text at later why wants left before (inr (inl stands)) lt after =
     let us : after.0 ≡ before.0 ++ piece text span ∷ map (piece text) first.0 =
     front.whole ∙ ap (λ ss. before.0 ++ map (piece text) ss) first.1 in
     not_passed wants left (piece text span) (map (piece text) first.0) why stands.2
-    (left_behind wants left before.0 (piece text span ∷ map (piece text) first.0) before.2 (sym (ap (behind (Ok begin)) us) ∙ after.2))
+    (left_behind wants left before.0 (piece text span ∷ map (piece text) first.0) before.2
+    (sym (ap (behind (Ok begin)) us) ∙ after.2))
 nothing_behind text at later why wants left before (inr (inr ended)) lt after =
     let inside : later ≤ length text = after.1.inside in
     let e : at ≡ length text = ended.0 in
@@ -156,15 +198,19 @@ nothing_behind text at later why wants left before (inr (inr ended)) lt after =
 pub fault_or_none : (text : List ℕ) (at : ℕ) (why : RuleWhy) → IsFirstFault text at why → HasNoFault text → ⊥
 fault_or_none text at why fault none =
     let inside : at ≤ length text = fault.1.1.inside in
-    ⊎_elim (λ (lt : at < length text). nothing_behind text at (length text) why fault.0 none.0 fault.1 fault.2 lt none.1)
+    ⊎_elim (λ (lt : at < length text). nothing_behind text at (length text) why fault.0 none.0 fault.1
+    fault.2 lt none.1)
     (λ (ge : length text ≤ at). let e : at ≡ length text = omega arith in ended e fault.2)
     (cases_lt at (length text))
   where
+    -- at the end of the text both readings leave the same wants
     same_wants : at ≡ length text → fault.0 ≡ none.0
     same_wants e =
-        let ts = one_before text (length text) fault.1.0 none.1.0 (subst (λ n. StandBefore text n fault.1.0) e fault.1.1) none.1.1 in
+        let ts = one_before text (length text) fault.1.0 none.1.0
+        (subst (λ n. StandBefore text n fault.1.0) e fault.1.1) none.1.1 in
         wants_same fault.0 none.0 none.1.0 (sym (ap (behind (Ok begin)) ts) ∙ fault.1.2) none.1.2
 
+    -- where the text may end, its end is no fault
     ended : at ≡ length text → IsCause text at fault.0 why → ⊥
     ended e (inl bad) = let lt : at < length text = bad.0 in omega arith
     ended e (inr (inl stands)) =
@@ -172,16 +218,21 @@ fault_or_none text at why fault none =
         let some : at < stands.0 = bytes.0 in
         let inside : stands.0 ≤ length text = bytes.1 in
         omega arith
-    ended e (inr (inr end)) = let shut : true ≡ false = sym none.2 ∙ sym (ap is_end (same_wants e)) ∙ end.1 in absurd (cc)
+    ended e (inr (inr end)) = let shut : true ≡ false = sym none.2 ∙ sym (ap is_end (same_wants e)) ∙ end.1 in
+        absurd (cc)
 
 -- a place has one cause
-one_cause : (text : List ℕ) (at : ℕ) (wants : List Want) (why cause : RuleWhy) → IsCause text at wants why → IsCause text at wants cause → why ≡ cause
+one_cause : (text : List ℕ) (at : ℕ) (wants : List Want) (why cause : RuleWhy) → IsCause text at wants why
+    → IsCause text at wants cause → why ≡ cause
 one_cause text at wants why cause (inl a) (inl b) = a.2 ∙ sym b.2
 one_cause text at wants why cause (inl a) (inr (inl b)) =
-    let bytes = some_bytes text (record { start = at; end = b.0 }) b.1 in absurd (a.1 (token_good text (record { start = at; end = b.0 }) b.1 at (omega arith) bytes.0))
-one_cause text at wants why cause (inl a) (inr (inr b)) = let lt : at < length text = a.0 in let e : at ≡ length text = b.0 in absurd (omega arith)
+    let bytes = some_bytes text (record { start = at; end = b.0 }) b.1 in
+    absurd (a.1 (token_good text (record { start = at; end = b.0 }) b.1 at (omega arith) bytes.0))
+one_cause text at wants why cause (inl a) (inr (inr b)) = let lt : at < length text = a.0 in let e : at ≡ length text =
+    b.0 in absurd (omega arith)
 one_cause text at wants why cause (inr (inl a)) (inl b) =
-    let bytes = some_bytes text (record { start = at; end = a.0 }) a.1 in absurd (b.1 (token_good text (record { start = at; end = a.0 }) a.1 at (omega arith) bytes.0))
+    let bytes = some_bytes text (record { start = at; end = a.0 }) a.1 in
+    absurd (b.1 (token_good text (record { start = at; end = a.0 }) a.1 at (omega arith) bytes.0))
 one_cause text at wants why cause (inr (inl a)) (inr (inl b)) =
     let one = same_end text (record { start = at; end = b.0 }) at a.0 b.1 refl a.1 in
     err_of why cause (sym a.2 ∙ ap (λ (s : Span). meets wants (piece text s)) one ∙ b.2)
@@ -190,7 +241,8 @@ one_cause text at wants why cause (inr (inl a)) (inr (inr b)) =
     let some : at < a.0 = bytes.0 in
     let inside : a.0 ≤ length text = bytes.1 in
     let e : at ≡ length text = b.0 in absurd (omega arith)
-one_cause text at wants why cause (inr (inr a)) (inl b) = let lt : at < length text = b.0 in let e : at ≡ length text = a.0 in absurd (omega arith)
+one_cause text at wants why cause (inr (inr a)) (inl b) = let lt : at < length text = b.0 in let e : at ≡ length text =
+    a.0 in absurd (omega arith)
 one_cause text at wants why cause (inr (inr a)) (inr (inl b)) =
     let bytes = some_bytes text (record { start = at; end = b.0 }) b.1 in
     let some : at < b.0 = bytes.0 in
@@ -199,7 +251,8 @@ one_cause text at wants why cause (inr (inr a)) (inr (inl b)) =
 one_cause text at wants why cause (inr (inr a)) (inr (inr b)) = a.2 ∙ sym b.2
 
 -- a text has one first fault
-pub one_fault : (text : List ℕ) (at place : ℕ) (why cause : RuleWhy) → IsFirstFault text at why → IsFirstFault text place cause → (at ≡ place) × (why ≡ cause)
+pub one_fault : (text : List ℕ) (at place : ℕ) (why cause : RuleWhy) → IsFirstFault text at why
+    → IsFirstFault text place cause → (at ≡ place) × (why ≡ cause)
 one_fault text at place why cause a b =
     ⊎_elim (λ (lt : at < place). absurd (nothing_behind text at place why a.0 b.0 a.1 a.2 lt b.1))
     (λ (ge : place ≤ at).
@@ -207,9 +260,11 @@ one_fault text at place why cause a b =
     (λ (le : at ≤ place). let e : at ≡ place = omega arith in same e) (cases_lt place at))
     (cases_lt at place)
   where
+    -- two faults at one place have one cause
     same : at ≡ place → (at ≡ place) × (why ≡ cause)
     same e =
         let ts = one_before text place a.1.0 b.1.0 (subst (λ n. StandBefore text n a.1.0) e a.1.1) b.1.1 in
         let wants : a.0 ≡ b.0 = wants_same a.0 b.0 b.1.0 (sym (ap (behind (Ok begin)) ts) ∙ a.1.2) b.1.2 in
-        let moved : IsCause text place b.0 why = subst (λ (w : List Want). IsCause text place w why) wants (subst (λ n. IsCause text n a.0 why) e a.2) in
+        let moved : IsCause text place b.0 why =
+        subst (λ (w : List Want). IsCause text place w why) wants (subst (λ n. IsCause text n a.0 why) e a.2) in
         (e, one_cause text place b.0 why cause moved b.2)

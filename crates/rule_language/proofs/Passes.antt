@@ -22,7 +22,9 @@ MayStand scope depth f parts =
     (is_shallow depth f ≡ true) × (is_closed scope f ≡ true) × (has_arity f (count_of parts) ≡ true)
     × (are_formulas (scope_in f scope) (depth + 1) parts ≡ true)
 
-pub may_stand : (scope : Scope) (depth : ℕ) (f : Form) (parts trees : Trees) → are_formulas scope depth (tree_then f parts trees) ≡ true
+-- the first form of a lawful row may stand there, and the others are lawful
+pub may_stand : (scope : Scope) (depth : ℕ) (f : Form) (parts trees : Trees)
+    → are_formulas scope depth (tree_then f parts trees) ≡ true
     → MayStand scope depth f parts × (are_formulas scope depth trees ≡ true)
 may_stand scope depth f parts trees good =
     let b = both_true (is_shallow depth f && (is_closed scope f && has_arity f (count_of parts)))
@@ -33,32 +35,41 @@ may_stand scope depth f parts trees good =
     ((here.0, inside.0, inside.1, rows.0), rows.1)
 
 -- no formula stands in an atom
-none_inside : (parts : Trees) (after : List Token) → (count_of parts == 0) ≡ true → tokens_then parts (right ∷ after) ≡ right ∷ after
+none_inside : (parts : Trees) (after : List Token) → (count_of parts == 0) ≡ true
+    → tokens_then parts (right ∷ after) ≡ right ∷ after
 none_inside no_trees after e = refl
-none_inside (tree_then f inner trees) after e = let zero : count_of trees + 1 ≡ 0 = eqb-true (count_of trees + 1) 0 e in absurd (omega arith)
+none_inside (tree_then f inner trees) after e = let zero : count_of trees + 1 ≡ 0 = eqb-true (count_of trees + 1) 0 e in
+    absurd (omega arith)
 
 -- an atom: its words, and the parenthesis
-atom_passes : (parts : Trees) (words : List Token) (wants rest : List Want) (after : List Token) → (count_of parts == 0) ≡ true
+atom_passes : (parts : Trees) (words : List Token) (wants rest : List Want) (after : List Token)
+    → (count_of parts == 0) ≡ true
     → behind (Ok wants) (words ++ right ∷ after) ≡ behind (Ok rest) after
     → behind (Ok wants) (words ++ tokens_then parts (right ∷ after)) ≡ behind (Ok rest) after
 atom_passes parts words wants rest after none met =
     ap (λ ts. behind (Ok wants) (words ++ ts)) (none_inside parts after none) ∙ met
 
-pub enclosed_passes : (f : Form) (parts : Trees) → RowPasses parts → MembersPass parts → (scope : Scope) (depth : ℕ) (rest : List Want) (after : List Token)
-    → nat_lt depth 32 ≡ true → (is_closed scope f ≡ true) × (has_arity f (count_of parts) ≡ true) × (are_formulas (scope_in f scope) (depth + 1) parts ≡ true)
-    → (f ≡ form.True) ⊎ (behind (Ok (formula scope depth ∷ rest)) (left ∷ (form_words f ++ tokens_then parts (right ∷ after))) ≡ behind (Ok rest) after)
+-- every form but `true` passes in its parentheses, where a formula is wanted
+pub enclosed_passes : (f : Form) (parts : Trees) → RowPasses parts → MembersPass parts
+    → (scope : Scope) (depth : ℕ) (rest : List Want) (after : List Token)
+    → nat_lt depth 32 ≡ true → (is_closed scope f ≡ true) × (has_arity f (count_of parts) ≡ true)
+    × (are_formulas (scope_in f scope) (depth + 1) parts ≡ true)
+    → (f ≡ form.True) ⊎ (behind (Ok (formula scope depth ∷ rest))
+    (left ∷ (form_words f ++ tokens_then parts (right ∷ after))) ≡ behind (Ok rest) after)
 enclosed_passes form.True parts row members scope depth rest after shallow good = inl refl
 enclosed_passes (form.ForEvery v k) parts row members scope depth rest after shallow good =
     let ts = tokens_then parts (right ∷ after) in
     let one : count_of parts ≡ 1 = eqb-true (count_of parts) 1 good.1 in
-    inr (begin_passes scope depth begins.ForEvery rest (variable v ∷ kind_word k ∷ ts) shallow (quantifier_begins scope v begins.ForEvery good.0)
+    inr (begin_passes scope depth begins.ForEvery rest (variable v ∷ kind_word k ∷ ts) shallow
+    (quantifier_begins scope v begins.ForEvery good.0)
     ∙ quantified scope (depth + 1) v k rest ts good.0
     ∙ body_row parts (right ∷ after) v k scope (depth + 1) rest one
     ∙ one_passes parts ((v, k) ∷ scope) (depth + 1) rest after row one good.2)
 enclosed_passes (form.ForSome v k) parts row members scope depth rest after shallow good =
     let ts = tokens_then parts (right ∷ after) in
     let one : count_of parts ≡ 1 = eqb-true (count_of parts) 1 good.1 in
-    inr (begin_passes scope depth begins.ForSome rest (variable v ∷ kind_word k ∷ ts) shallow (quantifier_begins scope v begins.ForSome good.0)
+    inr (begin_passes scope depth begins.ForSome rest (variable v ∷ kind_word k ∷ ts) shallow
+    (quantifier_begins scope v begins.ForSome good.0)
     ∙ quantified scope (depth + 1) v k rest ts good.0
     ∙ body_row parts (right ∷ after) v k scope (depth + 1) rest one
     ∙ one_passes parts ((v, k) ∷ scope) (depth + 1) rest after row one good.2)
@@ -66,18 +77,22 @@ enclosed_passes (form.EveryBefore v k u) parts row members scope depth rest afte
     let ts = tokens_then parts (right ∷ after) in
     let one : count_of parts ≡ 1 = eqb-true (count_of parts) 1 good.1 in
     let b = both_true (can_bind scope v) (is_bound scope u) good.0 in
-    inr (begin_passes scope depth begins.ForEvery rest (variable v ∷ kind_word k ∷ codes "before" ∷ variable u ∷ ts) shallow (quantifier_begins scope v begins.ForEvery b.0)
+    inr (begin_passes scope depth begins.ForEvery rest (variable v ∷ kind_word k ∷ codes "before" ∷ variable u ∷ ts)
+    shallow (quantifier_begins scope v begins.ForEvery b.0)
     ∙ quantified scope (depth + 1) v k rest (codes "before" ∷ variable u ∷ ts) b.0
-    ∙ step (a_variable scope ∷ formula ((v, k) ∷ scope) (depth + 1) ∷ close ∷ rest) (formula ((v, k) ∷ scope) (depth + 1) ∷ close ∷ rest)
+    ∙ step (a_variable scope ∷ formula ((v, k) ∷ scope) (depth + 1) ∷ close ∷ rest)
+    (formula ((v, k) ∷ scope) (depth + 1) ∷ close ∷ rest)
     (variable u) ts (variable_passes scope u (formula ((v, k) ∷ scope) (depth + 1) ∷ close ∷ rest) b.1)
     ∙ one_passes parts ((v, k) ∷ scope) (depth + 1) rest after row one good.2)
 enclosed_passes (form.SomeBefore v k u) parts row members scope depth rest after shallow good =
     let ts = tokens_then parts (right ∷ after) in
     let one : count_of parts ≡ 1 = eqb-true (count_of parts) 1 good.1 in
     let b = both_true (can_bind scope v) (is_bound scope u) good.0 in
-    inr (begin_passes scope depth begins.ForSome rest (variable v ∷ kind_word k ∷ codes "before" ∷ variable u ∷ ts) shallow (quantifier_begins scope v begins.ForSome b.0)
+    inr (begin_passes scope depth begins.ForSome rest (variable v ∷ kind_word k ∷ codes "before" ∷ variable u ∷ ts)
+    shallow (quantifier_begins scope v begins.ForSome b.0)
     ∙ quantified scope (depth + 1) v k rest (codes "before" ∷ variable u ∷ ts) b.0
-    ∙ step (a_variable scope ∷ formula ((v, k) ∷ scope) (depth + 1) ∷ close ∷ rest) (formula ((v, k) ∷ scope) (depth + 1) ∷ close ∷ rest)
+    ∙ step (a_variable scope ∷ formula ((v, k) ∷ scope) (depth + 1) ∷ close ∷ rest)
+    (formula ((v, k) ∷ scope) (depth + 1) ∷ close ∷ rest)
     (variable u) ts (variable_passes scope u (formula ((v, k) ∷ scope) (depth + 1) ∷ close ∷ rest) b.1)
     ∙ one_passes parts ((v, k) ∷ scope) (depth + 1) rest after row one good.2)
 enclosed_passes form.And parts row members scope depth rest after shallow good =
@@ -93,41 +108,52 @@ enclosed_passes form.Implies parts row members scope depth rest after shallow go
     inr (begin_passes scope depth begins.Implies rest (tokens_then parts (right ∷ after)) shallow refl
     ∙ two_pass parts scope (depth + 1) rest after row (eqb-true (count_of parts) 2 good.1) good.2)
 enclosed_passes (form.Same v u) parts row members scope depth rest after shallow good =
-    inr (begin_passes scope depth begins.Same rest (variable v ∷ variable u ∷ tokens_then parts (right ∷ after)) shallow refl
-    ∙ atom_passes parts (variable v ∷ variable u ∷ []) (a_variable scope ∷ a_variable scope ∷ close ∷ rest) rest after good.1
+    inr (begin_passes scope depth begins.Same rest (variable v ∷ variable u ∷ tokens_then parts (right ∷ after))
+    shallow refl
+    ∙ atom_passes parts (variable v ∷ variable u ∷ []) (a_variable scope ∷ a_variable scope ∷ close ∷ rest) rest
+    after good.1
     (pair_passes scope v u rest after good.0))
 enclosed_passes (form.Before v u) parts row members scope depth rest after shallow good =
-    inr (begin_passes scope depth begins.Before rest (variable v ∷ variable u ∷ tokens_then parts (right ∷ after)) shallow refl
-    ∙ atom_passes parts (variable v ∷ variable u ∷ []) (a_variable scope ∷ a_variable scope ∷ close ∷ rest) rest after good.1
+    inr (begin_passes scope depth begins.Before rest (variable v ∷ variable u ∷ tokens_then parts (right ∷ after))
+    shallow refl
+    ∙ atom_passes parts (variable v ∷ variable u ∷ []) (a_variable scope ∷ a_variable scope ∷ close ∷ rest) rest
+    after good.1
     (pair_passes scope v u rest after good.0))
 enclosed_passes (form.Next v u) parts row members scope depth rest after shallow good =
-    inr (begin_passes scope depth begins.Next rest (variable v ∷ variable u ∷ tokens_then parts (right ∷ after)) shallow refl
-    ∙ atom_passes parts (variable v ∷ variable u ∷ []) (a_variable scope ∷ a_variable scope ∷ close ∷ rest) rest after good.1
+    inr (begin_passes scope depth begins.Next rest (variable v ∷ variable u ∷ tokens_then parts (right ∷ after))
+    shallow refl
+    ∙ atom_passes parts (variable v ∷ variable u ∷ []) (a_variable scope ∷ a_variable scope ∷ close ∷ rest) rest
+    after good.1
     (pair_passes scope v u rest after good.0))
 enclosed_passes (form.Is v r) parts row members scope depth rest after shallow good =
-    inr (begin_passes scope depth begins.Is rest (variable v ∷ role_word r ∷ tokens_then parts (right ∷ after)) shallow refl
+    inr (begin_passes scope depth begins.Is rest (variable v ∷ role_word r ∷ tokens_then parts (right ∷ after))
+    shallow refl
     ∙ atom_passes parts (variable v ∷ role_word r ∷ []) (a_variable scope ∷ a_role ∷ close ∷ rest) rest after good.1
     (step (a_variable scope ∷ a_role ∷ close ∷ rest) (a_role ∷ close ∷ rest) (variable v) (role_word r ∷ right ∷ after)
     (variable_passes scope v (a_role ∷ close ∷ rest) good.0)
     ∙ step (a_role ∷ close ∷ rest) (close ∷ rest) (role_word r) (right ∷ after) (role_passes r (close ∷ rest))))
 enclosed_passes (form.OfKind v k) parts row members scope depth rest after shallow good =
-    inr (begin_passes scope depth begins.OfKind rest (variable v ∷ kind_word k ∷ tokens_then parts (right ∷ after)) shallow refl
+    inr (begin_passes scope depth begins.OfKind rest (variable v ∷ kind_word k ∷ tokens_then parts (right ∷ after))
+    shallow refl
     ∙ atom_passes parts (variable v ∷ kind_word k ∷ []) (a_variable scope ∷ a_kind ∷ close ∷ rest) rest after good.1
     (step (a_variable scope ∷ a_kind ∷ close ∷ rest) (a_kind ∷ close ∷ rest) (variable v) (kind_word k ∷ right ∷ after)
     (variable_passes scope v (a_kind ∷ close ∷ rest) good.0)
     ∙ step (a_kind ∷ close ∷ rest) (close ∷ rest) (kind_word k) (right ∷ after) (kind_passes k (close ∷ rest))))
 enclosed_passes (form.Equal t u) parts row members scope depth rest after shallow good =
-    inr (begin_passes scope depth begins.Equal rest (term_word t ∷ term_word u ∷ tokens_then parts (right ∷ after)) shallow refl
+    inr (begin_passes scope depth begins.Equal rest (term_word t ∷ term_word u ∷ tokens_then parts (right ∷ after))
+    shallow refl
     ∙ atom_passes parts (term_word t ∷ term_word u ∷ []) (first_term false scope ∷ close ∷ rest) rest after good.1
     (terms_pass scope false t u rest after good.0 (λ s is. refl)))
 enclosed_passes (form.Less t u) parts row members scope depth rest after shallow good =
     let b = both_true (has_order (sort_of scope t)) (are_of_one_sort (sort_of scope t) (sort_of scope u)) good.0 in
-    inr (begin_passes scope depth begins.Less rest (term_word t ∷ term_word u ∷ tokens_then parts (right ∷ after)) shallow refl
+    inr (begin_passes scope depth begins.Less rest (term_word t ∷ term_word u ∷ tokens_then parts (right ∷ after))
+    shallow refl
     ∙ atom_passes parts (term_word t ∷ term_word u ∷ []) (first_term true scope ∷ close ∷ rest) rest after good.1
     (terms_pass scope true t u rest after b.1 (order_begins scope t b.0)))
 
 -- a form passes where a formula is wanted
-form_passes : (f : Form) (parts : Trees) → RowPasses parts → MembersPass parts → (scope : Scope) (depth : ℕ) (rest : List Want) (after : List Token)
+form_passes : (f : Form) (parts : Trees) → RowPasses parts → MembersPass parts
+    → (scope : Scope) (depth : ℕ) (rest : List Want) (after : List Token)
     → MayStand scope depth f parts
     → behind (Ok (formula scope depth ∷ rest)) (spelt f (tokens_then parts []) after) ≡ behind (Ok rest) after
 form_passes f parts row members scope depth rest after may =
@@ -136,11 +162,16 @@ form_passes f parts row members scope depth rest after may =
       | inr other ↦
           ap (λ ts. behind (Ok (formula scope depth ∷ rest)) ts) (other.0 (tokens_then parts []) after
           ∙ ap (λ ts. left ∷ (form_words f ++ ts)) (sym (tokens_append parts [] (right ∷ after))))
-          ∙ enclosed (other.1 32) (enclosed_passes f parts row members scope depth rest after (sym (other.1 depth) ∙ may.0) (may.1, may.2, may.3))
+          ∙ enclosed (other.1 32) (enclosed_passes f parts row members scope depth rest after
+          (sym (other.1 depth) ∙ may.0) (may.1, may.2, may.3))
     ]
   where
-    enclosed : is_shallow 32 f ≡ false → (f ≡ form.True) ⊎ (behind (Ok (formula scope depth ∷ rest)) (left ∷ (form_words f ++ tokens_then parts (right ∷ after))) ≡ behind (Ok rest) after)
-        → behind (Ok (formula scope depth ∷ rest)) (left ∷ (form_words f ++ tokens_then parts (right ∷ after))) ≡ behind (Ok rest) after
+    -- a form that has to be shallow isn't `true`, so it passes in its parentheses
+    enclosed : is_shallow 32 f ≡ false → (f ≡ form.True)
+        ⊎ (behind (Ok (formula scope depth ∷ rest)) (left ∷ (form_words f ++ tokens_then parts (right ∷ after)))
+        ≡ behind (Ok rest) after)
+        → behind (Ok (formula scope depth ∷ rest)) (left ∷ (form_words f ++ tokens_then parts (right ∷ after))) ≡ behind
+        (Ok rest) after
     enclosed deep (inl is) = let no : true ≡ false = sym (ap (is_shallow 32) is) ∙ deep in absurd (cc)
     enclosed deep (inr met) = met
 
@@ -152,14 +183,18 @@ passes (tree_then f parts trees) =
     let behind_it = passes trees in (
       λ scope depth rest after good.
           let may = may_stand scope depth f parts trees good in
-          form_passes f parts inside.0 inside.1 scope depth (wants_for trees scope depth rest) (tokens_then trees after) may.0
+          form_passes f parts inside.0 inside.1 scope depth (wants_for trees scope depth rest)
+          (tokens_then trees after) may.0
           ∙ behind_it.0 scope depth rest after may.1,
       λ n scope depth rest after few good.
           let may = may_stand scope depth f parts trees good in
-          more_wanted f (tokens_then parts []) (tokens_then trees (right ∷ after)) n scope depth rest (some n (count_of trees) few)
-          ∙ form_passes f parts inside.0 inside.1 scope depth (more (n - 1) scope depth ∷ rest) (tokens_then trees (right ∷ after)) may.0
+          more_wanted f (tokens_then parts []) (tokens_then trees (right ∷ after)) n scope depth rest
+          (some n (count_of trees) few)
+          ∙ form_passes f parts inside.0 inside.1 scope depth (more (n - 1) scope depth ∷ rest)
+          (tokens_then trees (right ∷ after)) may.0
           ∙ behind_it.1 (n - 1) scope depth rest after (omega arith) may.1,
     )
   where
+    -- where one more fits there is room
     some : (n k : ℕ) → k + 1 ≤ n → (n == 0) ≡ false
     some n k few = ne_eqb n 0 (λ e. absurd (omega arith))

@@ -45,6 +45,7 @@ kind_named_word kind.Cast = refl
 kind_named_word kind.Cancel = refl
 kind_named_word kind.Challenge = refl
 
+-- the word of a field names it
 pub field_named_word : (f : Field) → field_named (field_word f) ≡ Some f
 field_named_word field.Maker = refl
 field_named_word field.Booth = refl
@@ -52,10 +53,12 @@ field_named_word field.Number = refl
 field_named_word field.Session = refl
 field_named_word field.Ballot = refl
 
+-- the word of a role names it
 role_named_word : (r : Role) → or_cause Shape (role_named (role_word r)) ≡ Ok r
 role_named_word role.Supervisor = refl
 role_named_word role.Booth = refl
 
+-- the first word of a form names it
 pub head_named_word : (h : Head) → head_named (head_word h) ≡ Some h
 head_named_word begins.ForEvery = refl
 head_named_word begins.ForSome = refl
@@ -71,6 +74,7 @@ head_named_word begins.OfKind = refl
 head_named_word begins.Equal = refl
 head_named_word begins.Less = refl
 
+-- what is denied by a test that holds fails
 pub not_true : (b : Bool) → not b ≡ true → b ≡ false
 not_true true e = absurd (cc)
 not_true false e = refl
@@ -82,6 +86,7 @@ variable_passes scope v rest bound =
     let b = both_true (is_letter v) (is_some (kind_in scope v)) bound in
     rw b.0 (rw b.1 refl)
 
+-- a variable that may be bound passes as a new one, and its kind is wanted next
 pub new_passes : (scope : Scope) (depth v : ℕ) (rest : List Want) → can_bind scope v ≡ true
     → meets (new_variable scope depth ∷ rest) (variable v) ≡ Ok (kind_of v scope depth ∷ rest)
 new_passes scope depth v rest can =
@@ -89,24 +94,30 @@ new_passes scope depth v rest can =
     let d = both_true (not (is_some (kind_in scope v))) (nat_lt (length scope) 4) b.1 in
     rw b.0 (rw (not_true (is_some (kind_in scope v)) d.0) refl)
 
+-- the kind of a quantifier passes, and `before` or the body is wanted next
 pub kind_of_passes : (scope : Scope) (depth v : ℕ) (k : Kind) (rest : List Want)
     → meets (kind_of v scope depth ∷ rest) (kind_word k) ≡ Ok (before_or_body v k scope depth ∷ rest)
 kind_of_passes scope depth v k rest = rw (kind_named_word k) refl
 
+-- the word of a kind passes where a kind is wanted
 pub kind_passes : (k : Kind) (rest : List Want) → meets (a_kind ∷ rest) (kind_word k) ≡ Ok rest
 kind_passes k rest = rw (kind_named_word k) refl
 
+-- the word of a role passes where a role is wanted
 pub role_passes : (r : Role) (rest : List Want) → meets (a_role ∷ rest) (role_word r) ≡ Ok rest
 role_passes r rest = rw (role_named_word r) refl
 
+-- a term with its sort, as it was read
 abbrev typed_of : Typed → Result Typed RuleWhy
 typed_of typed = Ok typed
 
 -- a term that has a sort is found
-field_is : (v : ℕ) (o : Option Kind) (f : Field) (s : Sort) → field_sort o f ≡ Some s → of_variable v o (field_word f) ≡ Ok (Of v f, s)
+field_is : (v : ℕ) (o : Option Kind) (f : Field) (s : Sort) → field_sort o f ≡ Some s
+    → of_variable v o (field_word f) ≡ Ok (Of v f, s)
 field_is v None f s e = absurd (cc)
 field_is v (Some k) f s e = rw (field_named_word f) (has (has_field k f) e)
   where
+    -- the same by whether the kind has the field
     has : (b : Bool) → (if b then Some (sort_of_field f) else None) ≡ Some s
         → (if b then Ok (Of v f, sort_of_field f) else Err WrongField) ≡ typed_of (Of v f, s)
     has true e = let same : sort_of_field f ≡ s = cc in rw same refl
@@ -116,9 +127,11 @@ field_is v (Some k) f s e = rw (field_named_word f) (has (has_field k f) e)
 pub no_number : (v : ℕ) (word : Token) → is_letter v ≡ true → number_in (v ∷ word) ≡ None
 no_number v word letter = cases (number_in (v ∷ word)) refl
   where
+    -- a word that is a decimal is made of digits
     digits : (n : ℕ) → n < 2 ^ 32 → v ∷ word ≡ decimal n → AreDigits (v ∷ word)
     digits n small is = subst AreDigits (sym is) (decimal_digits n (omega arith))
 
+    -- no number can have been read
     cases : (o : Option ℕ) → number_in (v ∷ word) ≡ o → o ≡ None
     cases None is = refl
     cases (Some n) is =
@@ -128,9 +141,11 @@ no_number v word letter = cases (number_in (v ∷ word)) refl
         let d = digits n spelt.1 spelt.0 in
         absurd (omega (arith, d.0, d.1))
 
+-- a term that has a sort is read from its word, with that sort
 pub term_is : (scope : Scope) (t : Term) (s : Sort) → sort_of scope t ≡ Some s → term_in scope (term_word t) ≡ Ok (t, s)
 term_is scope (Number n) s e = number (nat_lt n (2 ^ 32)) refl e
   where
+    -- the same of a number, by whether it has 32 bits
     number : (b : Bool) → nat_lt n (2 ^ 32) ≡ b → (if b then Some sort.Count else None) ≡ Some s
         → term_in scope (decimal n) ≡ Ok (Number n, s)
     number true is e =
@@ -139,6 +154,7 @@ term_is scope (Number n) s e = number (nat_lt n (2 ^ 32)) refl e
     number false is e = absurd (cc)
 term_is scope (Of v f) s e = letter (is_letter v) refl e
   where
+    -- the same of a field, by whether the variable is a letter
     letter : (b : Bool) → is_letter v ≡ b → (if b then field_sort (kind_in scope v) f else None) ≡ Some s
         → term_in scope (v ∷ 46 ∷ field_word f) ≡ Ok (Of v f, s)
     letter true is e = rw (no_number v (46 ∷ field_word f) is) (rw is (field_is v (kind_in scope v) f s e))
@@ -151,6 +167,7 @@ open_passes scope depth rest shallow =
     let lt : depth < 32 = ltb-true depth 32 shallow in
     rw (le-ltb 31 depth (omega arith)) refl
 
+-- the first word of a form that may begin leaves what that word asks for
 pub head_passes : (scope : Scope) (depth : ℕ) (h : Head) (rest : List Want) → nested scope (Some h) ≡ Ok h
     → meets (head scope depth ∷ rest) (head_word h) ≡ Ok (behind_head scope depth rest h)
 head_passes scope depth h rest good = rw (head_named_word h) (rw good refl)
@@ -164,6 +181,7 @@ step wants next token tokens e = ap (λ met. behind met tokens) e
 abbrev pub IsEnclosed : Form → Type 0
 IsEnclosed f = (inside after : List Token) → spelt f inside after ≡ left ∷ (form_words f ++ (inside ++ right ∷ after))
 
+-- a form is `true`, or it stands in parentheses and has to be shallow
 pub spelt_cases : (f : Form) → (f ≡ form.True) ⊎ (IsEnclosed f × ((depth : ℕ) → is_shallow depth f ≡ nat_lt depth 32))
 spelt_cases form.True = inl refl
 spelt_cases (form.ForEvery v k) = inr (λ x y. refl, λ d. refl)
@@ -182,6 +200,7 @@ spelt_cases (form.OfKind v k) = inr (λ x y. refl, λ d. refl)
 spelt_cases (form.Equal t u) = inr (λ x y. refl, λ d. refl)
 spelt_cases (form.Less t u) = inr (λ x y. refl, λ d. refl)
 
+-- what follows a form stands behind its tokens
 spelt_append : (f : Form) (inside a b : List Token) → spelt f inside (a ++ b) ≡ spelt f inside a ++ b
 spelt_append f inside a b =
     elim (spelt_cases f) [
@@ -193,6 +212,7 @@ spelt_append f inside a b =
           ∙ sym (ap (λ ts. ts ++ b) (other.0 inside a))
     ]
 
+-- what follows a row stands behind its tokens
 pub tokens_append : (trees : Trees) (a b : List Token) → tokens_then trees (a ++ b) ≡ tokens_then trees a ++ b
 tokens_append no_trees a b = refl
 tokens_append (tree_then f parts rest) a b =
@@ -204,12 +224,14 @@ abbrev pub wants_for : Trees → Scope → ℕ → List Want → List Want
 wants_for no_trees scope depth rest = rest
 wants_for (tree_then f parts trees) scope depth rest = formula scope depth ∷ wants_for trees scope depth rest
 
+-- a row of one formula asks for one
 pub one_wanted : (trees : Trees) (scope : Scope) (depth : ℕ) (rest : List Want) → count_of trees ≡ 1
     → wants_for trees scope depth rest ≡ formula scope depth ∷ rest
 one_wanted no_trees scope depth rest e = absurd (omega arith)
 one_wanted (tree_then f parts no_trees) scope depth rest e = refl
 one_wanted (tree_then f parts (tree_then g inner trees)) scope depth rest e = absurd (omega arith)
 
+-- a row of two formulas asks for two
 pub two_wanted : (trees : Trees) (scope : Scope) (depth : ℕ) (rest : List Want) → count_of trees ≡ 2
     → wants_for trees scope depth rest ≡ formula scope depth ∷ formula scope depth ∷ rest
 two_wanted no_trees scope depth rest e = absurd (omega arith)
@@ -217,7 +239,8 @@ two_wanted (tree_then f parts trees) scope depth rest e =
     ap (λ wants. formula scope depth ∷ wants) (one_wanted trees scope depth rest (omega arith))
 
 -- a formula may stand where another token might
-pub body_wanted : (f : Form) (inside after : List Token) (v : ℕ) (k : Kind) (scope : Scope) (depth : ℕ) (rest : List Want)
+pub body_wanted : (f : Form) (inside after : List Token) (v : ℕ) (k : Kind) (scope : Scope) (depth : ℕ)
+    (rest : List Want)
     → behind (Ok (before_or_body v k scope depth ∷ rest)) (spelt f inside after)
     ≡ behind (Ok (formula ((v, k) ∷ scope) depth ∷ close ∷ rest)) (spelt f inside after)
 body_wanted f inside after v k scope depth rest =
@@ -226,7 +249,9 @@ body_wanted f inside after v k scope depth rest =
       | inr other ↦ rw (other.0 inside after) refl
     ]
 
-pub more_wanted : (f : Form) (inside after : List Token) (n : ℕ) (scope : Scope) (depth : ℕ) (rest : List Want) → (n == 0) ≡ false
+-- where there is room, a formula passes as a further one
+pub more_wanted : (f : Form) (inside after : List Token) (n : ℕ) (scope : Scope) (depth : ℕ) (rest : List Want)
+    → (n == 0) ≡ false
     → behind (Ok (more n scope depth ∷ rest)) (spelt f inside after)
     ≡ behind (Ok (formula scope depth ∷ more (n - 1) scope depth ∷ rest)) (spelt f inside after)
 more_wanted f inside after n scope depth rest some =
@@ -238,6 +263,7 @@ more_wanted f inside after n scope depth rest some =
           (otherwise (n == 0) (meets_formula scope depth (more (n - 1) scope depth ∷ rest) left) some))
     ]
   where
+    -- where the test fails, its cause isn't told
     otherwise : (b : Bool) (met : Met) → b ≡ false → (if b then Err Shape else met) ≡ met
     otherwise true met e = absurd (cc)
     otherwise false met e = refl
@@ -256,12 +282,14 @@ MembersPass trees =
     → behind (Ok (more n scope depth ∷ rest)) (tokens_then trees (right ∷ after)) ≡ behind (Ok rest) after
 
 -- the parenthesis and the first word
-pub begin_passes : (scope : Scope) (depth : ℕ) (h : Head) (rest : List Want) (tokens : List Token) → nat_lt depth 32 ≡ true
+pub begin_passes : (scope : Scope) (depth : ℕ) (h : Head) (rest : List Want) (tokens : List Token)
+    → nat_lt depth 32 ≡ true
     → nested scope (Some h) ≡ Ok h
     → behind (Ok (formula scope depth ∷ rest)) (left ∷ head_word h ∷ tokens)
     ≡ behind (Ok (behind_head scope (depth + 1) rest h)) tokens
 begin_passes scope depth h rest tokens shallow good =
-    step (formula scope depth ∷ rest) (head scope (depth + 1) ∷ rest) left (head_word h ∷ tokens) (open_passes scope depth rest shallow)
+    step (formula scope depth ∷ rest) (head scope (depth + 1) ∷ rest) left (head_word h ∷ tokens)
+    (open_passes scope depth rest shallow)
     ∙ step (head scope (depth + 1) ∷ rest) (behind_head scope (depth + 1) rest h) (head_word h) tokens
     (head_passes scope (depth + 1) h rest good)
 
@@ -274,6 +302,7 @@ quantifier_begins scope v h can =
     let few : nat_le 4 (length scope) ≡ false = le-ltb 3 (length scope) (omega arith) in
     test (is_quantifier h) (nat_le 4 (length scope)) few
   where
+    -- a quantifier with fewer than four around it isn't too deep
     test : (a b : Bool) → b ≡ false → (if a && b then Err TooDeep else Ok h) ≡ Ok h
     test a true e = absurd (cc)
     test true false e = refl
@@ -284,17 +313,23 @@ pub one_passes : (parts : Trees) (scope : Scope) (depth : ℕ) (rest : List Want
     → count_of parts ≡ 1 → are_formulas scope depth parts ≡ true
     → behind (Ok (formula scope depth ∷ close ∷ rest)) (tokens_then parts (right ∷ after)) ≡ behind (Ok rest) after
 one_passes parts scope depth rest after row one good =
-    ap (λ wants. behind (Ok wants) (tokens_then parts (right ∷ after))) (sym (one_wanted parts scope depth (close ∷ rest) one))
+    ap (λ wants. behind (Ok wants) (tokens_then parts (right ∷ after)))
+    (sym (one_wanted parts scope depth (close ∷ rest) one))
     ∙ row scope depth (close ∷ rest) (right ∷ after) good
 
+-- two formulas, and the parenthesis behind them
 pub two_pass : (parts : Trees) (scope : Scope) (depth : ℕ) (rest : List Want) (after : List Token) → RowPasses parts
     → count_of parts ≡ 2 → are_formulas scope depth parts ≡ true
-    → behind (Ok (formula scope depth ∷ formula scope depth ∷ close ∷ rest)) (tokens_then parts (right ∷ after)) ≡ behind (Ok rest) after
+    → behind (Ok (formula scope depth ∷ formula scope depth ∷ close ∷ rest)) (tokens_then parts (right ∷ after))
+    ≡ behind (Ok rest) after
 two_pass parts scope depth rest after row two good =
-    ap (λ wants. behind (Ok wants) (tokens_then parts (right ∷ after))) (sym (two_wanted parts scope depth (close ∷ rest) two))
+    ap (λ wants. behind (Ok wants) (tokens_then parts (right ∷ after)))
+    (sym (two_wanted parts scope depth (close ∷ rest) two))
     ∙ row scope depth (close ∷ rest) (right ∷ after) good
 
-pub body_row : (parts : Trees) (after : List Token) (v : ℕ) (k : Kind) (scope : Scope) (depth : ℕ) (rest : List Want) → count_of parts ≡ 1
+-- a row of one formula passes as the body of a quantifier
+pub body_row : (parts : Trees) (after : List Token) (v : ℕ) (k : Kind) (scope : Scope) (depth : ℕ) (rest : List Want)
+    → count_of parts ≡ 1
     → behind (Ok (before_or_body v k scope depth ∷ rest)) (tokens_then parts after)
     ≡ behind (Ok (formula ((v, k) ∷ scope) depth ∷ close ∷ rest)) (tokens_then parts after)
 body_row no_trees after v k scope depth rest e = absurd (omega arith)
@@ -302,7 +337,8 @@ body_row (tree_then f parts trees) after v k scope depth rest e =
     body_wanted f (tokens_then parts []) (tokens_then trees after) v k scope depth rest
 
 -- the variable and the kind of a quantifier
-pub quantified : (scope : Scope) (depth v : ℕ) (k : Kind) (rest : List Want) (tokens : List Token) → can_bind scope v ≡ true
+pub quantified : (scope : Scope) (depth v : ℕ) (k : Kind) (rest : List Want) (tokens : List Token)
+    → can_bind scope v ≡ true
     → behind (Ok (new_variable scope depth ∷ rest)) (variable v ∷ kind_word k ∷ tokens)
     ≡ behind (Ok (before_or_body v k scope depth ∷ rest)) tokens
 quantified scope depth v k rest tokens can =
@@ -312,58 +348,76 @@ quantified scope depth v k rest tokens can =
     (kind_of_passes scope depth v k rest)
 
 -- two variables
-pub pair_passes : (scope : Scope) (v u : ℕ) (rest : List Want) (after : List Token) → (is_bound scope v && is_bound scope u) ≡ true
-    → behind (Ok (a_variable scope ∷ a_variable scope ∷ close ∷ rest)) (variable v ∷ variable u ∷ right ∷ after) ≡ behind (Ok rest) after
+pub pair_passes : (scope : Scope) (v u : ℕ) (rest : List Want) (after : List Token)
+    → (is_bound scope v && is_bound scope u) ≡ true
+    → behind (Ok (a_variable scope ∷ a_variable scope ∷ close ∷ rest)) (variable v ∷ variable u ∷ right ∷ after)
+    ≡ behind (Ok rest) after
 pair_passes scope v u rest after bound =
     let b = both_true (is_bound scope v) (is_bound scope u) bound in
-    step (a_variable scope ∷ a_variable scope ∷ close ∷ rest) (a_variable scope ∷ close ∷ rest) (variable v) (variable u ∷ right ∷ after)
+    step (a_variable scope ∷ a_variable scope ∷ close ∷ rest) (a_variable scope ∷ close ∷ rest) (variable v)
+    (variable u ∷ right ∷ after)
     (variable_passes scope v (a_variable scope ∷ close ∷ rest) b.0)
     ∙ step (a_variable scope ∷ close ∷ rest) (close ∷ rest) (variable u) (right ∷ after)
     (variable_passes scope u (close ∷ rest) b.1)
 
 -- two terms
 pub first_passes : (scope : Scope) (ordered : Bool) (t : Term) (s : Sort) (rest : List Want) → sort_of scope t ≡ Some s
-    → may_begin ordered s ≡ true → meets (first_term ordered scope ∷ rest) (term_word t) ≡ Ok (second_term s scope ∷ rest)
+    → may_begin ordered s ≡ true → meets (first_term ordered scope ∷ rest) (term_word t) ≡ Ok
+    (second_term s scope ∷ rest)
 first_passes scope ordered t s rest sorted may =
-    ap (λ r. then_want (whose_sort (may_begin ordered) r) (λ term. second_term term.1 scope ∷ rest)) (term_is scope t s sorted)
+    ap (λ r. then_want (whose_sort (may_begin ordered) r) (λ term. second_term term.1 scope ∷ rest))
+    (term_is scope t s sorted)
     ∙ ap (λ r. then_want r (λ term. second_term term.1 scope ∷ rest)) (test (may_begin ordered s) may)
   where
+    -- a term whose sort is allowed there is taken
     test : (b : Bool) → b ≡ true → (if b then typed_of (t, s) else Err WrongField) ≡ typed_of (t, s)
     test true e = refl
     test false e = absurd (cc)
 
+-- a second term passes that has the first one's sort
 pub second_passes : (scope : Scope) (wanted : Sort) (u : Term) (s : Sort) (rest : List Want) → sort_of scope u ≡ Some s
     → is_same_sort wanted s ≡ true → meets (second_term wanted scope ∷ rest) (term_word u) ≡ Ok rest
 second_passes scope wanted u s rest sorted same =
     ap (λ r. then_want (whose_sort (is_same_sort wanted) r) (λ term. rest)) (term_is scope u s sorted)
     ∙ ap (λ r. then_want r (λ term. rest)) (test (is_same_sort wanted s) same)
   where
+    -- a term whose sort is allowed there is taken
     test : (b : Bool) → b ≡ true → (if b then typed_of (u, s) else Err WrongField) ≡ typed_of (u, s)
     test true e = refl
     test false e = absurd (cc)
 
+-- two terms of one sort pass, with the parenthesis behind them
 pub terms_pass : (scope : Scope) (ordered : Bool) (t u : Term) (rest : List Want) (after : List Token)
-    → are_of_one_sort (sort_of scope t) (sort_of scope u) ≡ true → ((s : Sort) → sort_of scope t ≡ Some s → may_begin ordered s ≡ true)
-    → behind (Ok (first_term ordered scope ∷ close ∷ rest)) (term_word t ∷ term_word u ∷ right ∷ after) ≡ behind (Ok rest) after
+    → are_of_one_sort (sort_of scope t) (sort_of scope u) ≡ true
+    → ((s : Sort) → sort_of scope t ≡ Some s → may_begin ordered s ≡ true)
+    → behind (Ok (first_term ordered scope ∷ close ∷ rest)) (term_word t ∷ term_word u ∷ right ∷ after) ≡ behind
+    (Ok rest) after
 terms_pass scope ordered t u rest after same may = sorts (sort_of scope t) (sort_of scope u) refl refl same
   where
+    -- the same by the sorts of the two terms
     sorts : (a b : Option Sort) → sort_of scope t ≡ a → sort_of scope u ≡ b → are_of_one_sort a b ≡ true
-        → behind (Ok (first_term ordered scope ∷ close ∷ rest)) (term_word t ∷ term_word u ∷ right ∷ after) ≡ behind (Ok rest) after
+        → behind (Ok (first_term ordered scope ∷ close ∷ rest)) (term_word t ∷ term_word u ∷ right ∷ after) ≡ behind
+        (Ok rest) after
     sorts None b ta ub one = absurd (cc)
     sorts (Some s) None ta ub one = absurd (cc)
     sorts (Some s) (Some o) ta ub one =
-        step (first_term ordered scope ∷ close ∷ rest) (second_term s scope ∷ close ∷ rest) (term_word t) (term_word u ∷ right ∷ after)
+        step (first_term ordered scope ∷ close ∷ rest) (second_term s scope ∷ close ∷ rest) (term_word t)
+        (term_word u ∷ right ∷ after)
         (first_passes scope ordered t s (close ∷ rest) ta (may s ta))
         ∙ step (second_term s scope ∷ close ∷ rest) (close ∷ rest) (term_word u) (right ∷ after)
         (second_passes scope s u o (close ∷ rest) ub one)
 
-pub order_begins : (scope : Scope) (t : Term) → has_order (sort_of scope t) ≡ true → (s : Sort) → sort_of scope t ≡ Some s → is_ordered s ≡ true
+-- the sort of a term that has an order is one that has an order
+pub order_begins : (scope : Scope) (t : Term) → has_order (sort_of scope t) ≡ true → (s : Sort)
+    → sort_of scope t ≡ Some s → is_ordered s ≡ true
 order_begins scope t has s is = rw is at has
 
 -- the formulas of an `and` or an `or`
-pub several_pass : (parts : Trees) (scope : Scope) (depth : ℕ) (rest : List Want) (after : List Token) → MembersPass parts
+pub several_pass : (parts : Trees) (scope : Scope) (depth : ℕ) (rest : List Want) (after : List Token)
+    → MembersPass parts
     → (nat_lt 0 (count_of parts) && nat_le (count_of parts) 64) ≡ true → are_formulas scope depth parts ≡ true
-    → behind (Ok (formula scope depth ∷ more 63 scope depth ∷ rest)) (tokens_then parts (right ∷ after)) ≡ behind (Ok rest) after
+    → behind (Ok (formula scope depth ∷ more 63 scope depth ∷ rest)) (tokens_then parts (right ∷ after)) ≡ behind
+    (Ok rest) after
 several_pass no_trees scope depth rest after members arity good = absurd (cc)
 several_pass (tree_then f parts trees) scope depth rest after members arity good =
     let b = both_true (nat_lt 0 (count_of trees + 1)) (nat_le (count_of trees + 1) 64) arity in

@@ -22,17 +22,22 @@ pub cause_there : (text : List ℕ) (token : Span) (wants : List Want) (reason :
 cause_there text token wants reason next against going =
     ends (token.start == length text) refl
   where
+    -- a place neither before nor behind another is that place
     whole : (start end : ℕ) → start ≤ end → end ≤ start → start ≡ end
     whole start end a b = omega arith
 
+    -- within the text the cause is the bad byte that is there, or else the token's
     bad : (b : Bool) → nat_le token.end token.start ≡ b → token.start < length text
         → IsCause text token.start wants (if b then BadByte else reason)
     bad true none within = inl (within, next.none (leb-true token.end token.start none) within, refl)
     bad false some within = inr (inl (token.end, next.some (leb-false token.end token.start some), against))
 
+    -- the cause is the text's end where it is there, or else that of the byte or the token
     ends : (b : Bool) → (token.start == length text) ≡ b
-        → IsCause text token.start wants (if b then Shape else (if nat_le token.end token.start then BadByte else reason))
-    ends true at_end = let e : token.start ≡ length text = eqb-true token.start (length text) at_end in inr (inr (e, going e, refl))
+        → IsCause text token.start wants
+        (if b then Shape else (if nat_le token.end token.start then BadByte else reason))
+    ends true at_end = let e : token.start ≡ length text = eqb-true token.start (length text) at_end in
+        inr (inr (e, going e, refl))
     ends false not_end =
         let order : token.start ≤ token.end = next.order in
         let inside : token.end ≤ length text = next.inside in
@@ -40,7 +45,8 @@ cause_there text token wants reason next against going =
         bad (nat_le token.end token.start) refl (omega arith)
 
 -- it is a fault of the wants there
-pub fails_there : (text : List ℕ) (token : Span) (wants : List Want) (why : RuleWhy) → IsCause text token.start wants why
+pub fails_there : (text : List ℕ) (token : Span) (wants : List Want) (why : RuleWhy)
+    → IsCause text token.start wants why
     → Fails text token.start wants token.start why
 fails_there text token wants why cause = record {
   tokens = [];
@@ -51,7 +57,9 @@ fails_there text token wants why cause = record {
   cause = cause;
 }
 
-pub refuse : {A : Type 0} (text : List ℕ) (token : Span) (found : Result A RuleWhy) (wants : List Want) (at : ℕ) (why : RuleWhy)
+-- a token that was refused for a cause is a fault of the wants that it meets with that cause
+pub refuse : {A : Type 0} (text : List ℕ) (token : Span) (found : Result A RuleWhy) (wants : List Want)
+    (at : ℕ) (why : RuleWhy)
     → IsNext text token → IsRefused text token found at why
     → ((reason : RuleWhy) → found ≡ Err reason → meets wants (piece text token) ≡ Err reason)
     → (token.start ≡ length text → is_end wants ≡ false) → Fails text token.start wants at why
@@ -61,8 +69,10 @@ refuse text token found wants at why next refused against going =
     rw refused.place (rw refused.is_told here)
 
 -- the same of a test of one token
-pub asked : {A : Type 0} (text : List ℕ) (token : Span) (found : Token → Result A RuleWhy) (wants : List Want → List Want)
-    (at : ℕ) (why : RuleWhy) → IsNext text token → Asks found wants → IsRefused text token (found (piece text token)) at why
+pub asked : {A : Type 0} (text : List ℕ) (token : Span) (found : Token → Result A RuleWhy)
+    (wants : List Want → List Want)
+    (at : ℕ) (why : RuleWhy) → IsNext text token → Asks found wants
+    → IsRefused text token (found (piece text token)) at why
     → FailsAt text token.start wants at why
 asked text token found wants at why next asks refused rest =
     refuse text token (found (piece text token)) (wants rest) at why next refused
@@ -70,14 +80,16 @@ asked text token found wants at why next asks refused rest =
     (λ e. asks.going rest)
 
 -- a fact of a fault that follows from another
-pub if_fault : {A : Type 0} {P Q : ℕ → RuleWhy → Type 0} (answer : Result A RuleFault) → ((at : ℕ) (why : RuleWhy) → P at why → Q at why)
+pub if_fault : {A : Type 0} {P Q : ℕ → RuleWhy → Type 0} (answer : Result A RuleFault)
+    → ((at : ℕ) (why : RuleWhy) → P at why → Q at why)
     → IfFault answer P → IfFault answer Q
 if_fault (Ok a) follows fact = tt
 if_fault (Err (At at why)) follows fact = follows at why fact
 if_fault (Err Memory) follows fact = tt
 
 -- what a token that was taken says
-pub taken : {A : Type 0} (text : List ℕ) (old new : Span) (found : Result A RuleWhy) (answer : Result A RuleFault) (word : A → Token) (Good : A → Type 0)
+pub taken : {A : Type 0} (text : List ℕ) (old new : Span) (found : Result A RuleWhy) (answer : Result A RuleFault)
+    (word : A → Token) (Good : A → Type 0)
     → IfOk answer (λ value. (found ≡ Ok value) × (piece text old ≢ [] → Takes text old new (piece text old ∷ [])))
     → ((value : A) → found ≡ Ok value → (piece text old ≡ word value) × (word value ≢ []) × Good value)
     → IfOk answer (λ value. Takes text old new (word value ∷ []) × Good value)
@@ -93,21 +105,26 @@ pub spell_more : (text : List ℕ) (a b c : ℕ) (first second : List Token) →
 spell_more text a b c first second to on before stand =
     subst (StandBefore text c) (append_assoc before first second) (on (before ++ first) (to before stand))
 
+-- wants as the answer to a token
 abbrev pub met_of : List Want → Met
 met_of wants = Ok wants
 
+-- the cause against a token stays, whatever follows
 pub stuck : (reason : RuleWhy) (ts : List Token) → behind (Err reason) ts ≡ Err reason
 stuck reason [] = refl
 stuck reason (t ∷ ts) = refl
 
+-- tokens behind others meet the wants that those left
 pub behind_more : (wants left : List Want) (first second : List Token) → behind (Ok wants) first ≡ Ok left
     → behind (Ok wants) (first ++ second) ≡ behind (Ok left) second
 behind_more wants left [] second e = ap (λ w. behind w second) e
 behind_more wants left (token ∷ tokens) second e =
     step (meets wants token) refl (λ more later. behind_more more left tokens second later)
   where
+    -- the same by what the first token meets
     step : (met : Result (List Want) RuleWhy) → meets wants token ≡ met
-        → ((more : List Want) → behind (Ok more) tokens ≡ Ok left → behind (Ok more) (tokens ++ second) ≡ behind (Ok left) second)
+        → ((more : List Want) → behind (Ok more) tokens ≡ Ok left
+        → behind (Ok more) (tokens ++ second) ≡ behind (Ok left) second)
         → behind (meets wants token) (tokens ++ second) ≡ behind (Ok left) second
     step (Ok more) is later = rw is (later more (rw is at e))
     step (Err reason) is later =
@@ -115,17 +132,23 @@ behind_more wants left (token ∷ tokens) second e =
         let no : other ≡ Ok left = sym (stuck reason tokens) ∙ (rw is at e) in absurd (cc)
 
 -- tokens were passed that meet the wants, and others are left
-pub record Passed (text : List ℕ) (from to : ℕ) (tokens : List Token) (wants next : List Want → List Want) : Type 0 where
+pub record Passed (text : List ℕ) (from to : ℕ) (tokens : List Token)
+    (wants next : List Want → List Want) : Type 0 where
+  -- the tokens stand between the two places
   pub spell : Spell text from to tokens
+  -- there is one token at least
   pub some : tokens ≢ []
+  -- the tokens meet the first wants and leave the others
   pub met : (rest : List Want) → behind (Ok (wants rest)) tokens ≡ Ok (next rest)
 
+-- of two lists that make up an empty one the first is empty
 append_none : (xs ys : List Token) → xs ++ ys ≡ [] → xs ≡ []
 append_none [] ys e = refl
 append_none (x ∷ xs) ys e = absurd (cc)
 
 -- a fault behind tokens that were passed
-pub fails_behind : (text : List ℕ) (a b : ℕ) (tokens : List Token) (wants next : List Want → List Want) (at : ℕ) (why : RuleWhy)
+pub fails_behind : (text : List ℕ) (a b : ℕ) (tokens : List Token) (wants next : List Want → List Want)
+    (at : ℕ) (why : RuleWhy)
     → Passed text a b tokens wants next → FailsAt text b next at why → FailsAt text a wants at why
 fails_behind text a b tokens wants next at why passed fails rest =
     let f = fails rest in
@@ -140,7 +163,8 @@ fails_behind text a b tokens wants next at why passed fails rest =
 
 -- tokens one behind another
 pub passed_more : (text : List ℕ) (a b c : ℕ) (first second : List Token) (wants between next : List Want → List Want)
-    → Passed text a b first wants between → Passed text b c second between next → Passed text a c (first ++ second) wants next
+    → Passed text a b first wants between → Passed text b c second between next
+    → Passed text a c (first ++ second) wants next
 passed_more text a b c first second wants between next one two = record {
   spell = spell_more text a b c first second one.spell two.spell;
   some = λ none. one.some (append_none first second none);
@@ -148,30 +172,39 @@ passed_more text a b c first second wants between next one two = record {
 }
 
 -- one token was passed
-pub one_passed : (text : List ℕ) (old new : Span) (token : Token) (wants next : List Want → List Want) → Takes text old new (token ∷ [])
-    → ((rest : List Want) → meets (wants rest) token ≡ Ok (next rest)) → Passed text old.start new.start (token ∷ []) wants next
+pub one_passed : (text : List ℕ) (old new : Span) (token : Token) (wants next : List Want → List Want)
+    → Takes text old new (token ∷ [])
+    → ((rest : List Want) → meets (wants rest) token ≡ Ok (next rest))
+    → Passed text old.start new.start (token ∷ []) wants next
 one_passed text old new token wants next takes met = record {
   spell = takes.0;
   some = λ none. absurd (cc);
   met = met;
 }
 
+-- the result of a call that failed
 abbrev pub failed : {A : Type 0} → Result A RuleFault → Result A RuleFault
 failed r = r
 
+-- failed calls with the same result have one fault
 pub err_same : {A : Type 0} (x y : RuleFault) → failed {A = A} (Err x) ≡ Err y → x ≡ y
 err_same x y h = cc
 
+-- faults that are the same have one place
 pub at_same : (at place : ℕ) (why cause : RuleWhy) → At at why ≡ At place cause → at ≡ place
 at_same at place why cause e = cc
 
+-- and one cause
 pub why_same : (at place : ℕ) (why cause : RuleWhy) → At at why ≡ At place cause → why ≡ cause
 why_same at place why cause e = cc
 
 -- the exit of a call that failed behind tokens that were passed
-pub exit_behind : {A B : Type 0} (inner : Result A RuleFault) (fault : RuleFault) (outer : Result B RuleFault) (text : List ℕ) (a b : ℕ)
-    (tokens : List Token) (wants base further : List Want → List Want) → inner ≡ Err fault → IsErrAnd outer (λ e. e ≡ fault)
-    → Passed text a b tokens wants (λ rest. base (further rest)) → IfFault inner (FailsAt text b base) → IfFault outer (FailsAt text a wants)
+pub exit_behind : {A B : Type 0} (inner : Result A RuleFault) (fault : RuleFault) (outer : Result B RuleFault)
+    (text : List ℕ) (a b : ℕ)
+    (tokens : List Token) (wants base further : List Want → List Want) → inner ≡ Err fault
+    → IsErrAnd outer (λ e. e ≡ fault)
+    → Passed text a b tokens wants (λ rest. base (further rest)) → IfFault inner (FailsAt text b base)
+    → IfFault outer (FailsAt text a wants)
 exit_behind (Ok x) fault outer text a b tokens wants base further is same passed fact = absurd (cc)
 exit_behind (Err f) fault (Ok y) text a b tokens wants base further is same passed fact = absurd same
 exit_behind (Err (At at why)) fault (Err (At place cause)) text a b tokens wants base further is same passed fact =
@@ -184,7 +217,8 @@ exit_behind (Err Memory) fault (Err (At place cause)) text a b tokens wants base
 exit_behind (Err f) fault (Err Memory) text a b tokens wants base further is same passed fact = tt
 
 -- the same of the first call
-pub exit_first : {A B : Type 0} (inner : Result A RuleFault) (fault : RuleFault) (outer : Result B RuleFault) (text : List ℕ) (a : ℕ)
+pub exit_first : {A B : Type 0} (inner : Result A RuleFault) (fault : RuleFault) (outer : Result B RuleFault)
+    (text : List ℕ) (a : ℕ)
     (base further : List Want → List Want) → inner ≡ Err fault → IsErrAnd outer (λ e. e ≡ fault)
     → IfFault inner (FailsAt text a base) → IfFault outer (FailsAt text a (λ rest. base (further rest)))
 exit_first (Ok x) fault outer text a base further is same fact = absurd (cc)
@@ -198,7 +232,8 @@ exit_first (Err Memory) fault (Err (At place cause)) text a base further is same
 exit_first (Err f) fault (Err Memory) text a base further is same fact = tt
 
 -- the token that begins at the place is the next one
-next_is : (text : List ℕ) (token : Span) (end : ℕ) → IsNext text token → IsToken text (record { start = token.start; end = end })
+next_is : (text : List ℕ) (token : Span) (end : ℕ) → IsNext text token
+    → IsToken text (record { start = token.start; end = end })
     → record { start = token.start; end = end } ≡ token
 next_is text token end next is =
     ⊎_elim
@@ -207,7 +242,8 @@ next_is text token end next is =
     let bytes = some_bytes text (record { start = token.start; end = end }) is in
     let some : token.start < end = bytes.0 in
     let inside : end ≤ length text = bytes.1 in
-    absurd (next.none none (omega arith) (token_good text (record { start = token.start; end = end }) is token.start (omega arith) some)))
+    absurd (next.none none (omega arith)
+    (token_good text (record { start = token.start; end = end }) is token.start (omega arith) some)))
     (cases_lt token.start token.end)
 
 -- a cause against other wants that the next token meets alike
@@ -221,15 +257,19 @@ same_cause text token wants other why next here going (inr (inl stands)) =
     inr (inl (stands.0, stands.1, ap (meets wants) one ∙ sym here ∙ sym (ap (meets other) one) ∙ stands.2))
 same_cause text token wants other why next here going (inr (inr ended)) = inr (inr (ended.0, going, ended.2))
 
+-- answers that are the same leave the same wants
 pub ok_wants : (x y : List Want) → met_of x ≡ met_of y → x ≡ y
 ok_wants x y e = cc
 
 -- the first token that was met shows what is left
-pub first_met : (wants : List Want) (t : Token) (ts : List Token) (left : List Want) → behind (Ok wants) (t ∷ ts) ≡ Ok left
+pub first_met : (wants : List Want) (t : Token) (ts : List Token) (left : List Want)
+    → behind (Ok wants) (t ∷ ts) ≡ Ok left
     → (next : List Want) × (meets wants t ≡ Ok next) × (behind (Ok next) ts ≡ Ok left)
 first_met wants t ts left e = cases (meets wants t) refl
   where
-    cases : (met : Met) → meets wants t ≡ met → (next : List Want) × (meets wants t ≡ Ok next) × (behind (Ok next) ts ≡ Ok left)
+    -- the same by what the token meets
+    cases : (met : Met) → meets wants t ≡ met → (next : List Want) × (meets wants t ≡ Ok next)
+        × (behind (Ok next) ts ≡ Ok left)
     cases (Ok next) is = (next, is, rw is at e)
     cases (Err reason) is =
         let other : Met = Err reason in
@@ -242,7 +282,9 @@ pub transfer : (text : List ℕ) (token : Span) (wants other : List Want) (at : 
     → is_end wants ≡ false → Fails text token.start other at why → Fails text token.start wants at why
 transfer text token wants other at why next here agree going f = by f.tokens f.spell f.there f.met
   where
-    by : (ts : List Token) → Spell text token.start at ts → (ts ≡ [] → at ≡ token.start) → behind (Ok other) ts ≡ Ok f.left
+    -- the same by whether any token stands before the fault
+    by : (ts : List Token) → Spell text token.start at ts → (ts ≡ [] → at ≡ token.start)
+        → behind (Ok other) ts ≡ Ok f.left
         → Fails text token.start wants at why
     by [] spell there met =
         let place : at ≡ token.start = there refl in
@@ -261,7 +303,8 @@ transfer text token wants other at why next here agree going f = by f.tokens f.s
         }
 
 -- the exit of a call whose faults are those of other wants
-pub exit_by : {A B : Type 0} (inner : Result A RuleFault) (fault : RuleFault) (outer : Result B RuleFault) (text : List ℕ) (a b : ℕ)
+pub exit_by : {A B : Type 0} (inner : Result A RuleFault) (fault : RuleFault) (outer : Result B RuleFault)
+    (text : List ℕ) (a b : ℕ)
     (wants base : List Want → List Want) → inner ≡ Err fault → IsErrAnd outer (λ e. e ≡ fault)
     → ((at : ℕ) (why : RuleWhy) → FailsAt text b base at why → FailsAt text a wants at why)
     → IfFault inner (FailsAt text b base) → IfFault outer (FailsAt text a wants)

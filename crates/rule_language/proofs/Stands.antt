@@ -14,7 +14,8 @@ none_begins byte separator begins =
     ⊎_elim (λ (e : byte ≡ 32). omega arith)
     (λ (more : (byte ≡ 9) ⊎ ((byte ≡ 10) ⊎ (byte ≡ 13))).
     ⊎_elim (λ (e : byte ≡ 9). omega arith)
-    (λ (last : (byte ≡ 10) ⊎ (byte ≡ 13)). ⊎_elim (λ (e : byte ≡ 10). omega arith) (λ (e : byte ≡ 13). omega arith) last)
+    (λ (last : (byte ≡ 10) ⊎ (byte ≡ 13)). ⊎_elim (λ (e : byte ≡ 10). omega arith)
+    (λ (e : byte ≡ 13). omega arith) last)
     more) separator in
     ⊎_elim (λ (word : IsWordByte byte). let low = word.0 in omega arith)
     (λ (p : IsParenthesis byte). ⊎_elim (λ (e : byte ≡ 40). omega arith) (λ (e : byte ≡ 41). omega arith) p) begins
@@ -24,7 +25,8 @@ good_more : (text : List ℕ) (at : ℕ) → ((i : ℕ) → i < at → IsGoodByt
     → (i : ℕ) → i < at + 1 → IsGoodByte (get_or text i 0)
 good_more text at good here i lt =
     ⊎_elim (λ (less : i < at). good i less)
-    (λ (more : at ≤ i). let e : at ≡ i = omega arith in subst (λ k. IsGoodByte (get_or text k 0)) e here) (cases_lt i at)
+    (λ (more : at ≤ i). let e : at ≡ i = omega arith in subst (λ k. IsGoodByte (get_or text k 0)) e here)
+    (cases_lt i at)
 
 -- a separator more
 pub separator_more : (text : List ℕ) (at : ℕ) (tokens : List Token) → at < length text → IsSeparator (get_or text at 0)
@@ -51,9 +53,12 @@ token_good text token is i from to =
     let e : token.start ≡ i = omega arith in
     inr (inl (subst (λ k. IsParenthesis (get_or text k 0)) e alone.byte))) is
 
+-- a token ends within its text
 token_inside : (text : List ℕ) (token : Span) → IsToken text token → token.end ≤ length text
-token_inside text token is = ⊎_elim (λ (word : IsWord text token). word.inside) (λ (alone : IsAlone text token). alone.inside) is
+token_inside text token is = ⊎_elim (λ (word : IsWord text token). word.inside)
+    (λ (alone : IsAlone text token). alone.inside) is
 
+-- a span more gives one token more, behind the others
 map_push : (f : Span → Token) (spans : List Span) (new : Span) → map f (spans ++ new ∷ []) ≡ map f spans ++ f new ∷ []
 map_push f [] new = refl
 map_push f (span ∷ spans) new = ap (λ rest. f span ∷ rest) (map_push f spans new)

@@ -10,51 +10,72 @@ use Rattle.rule_language.specs.declared.form.Form.TheVariants as form
 use Rattle.rule_language.specs.Trees.{Trees, no_trees, tree_then}
 use Rattle.rule_language.specs.Forms.{tree_of, trees_of, in_front, all_in_front, tree_step}
 
+-- `true` is a form without formulas in it
 pub view-True : tree_of True ≡ tree_then form.True no_trees no_trees
 view-True = search (rules, the_lemmas)
 
+-- the formulas of an `and` are its list, in order
 pub view-And : (v : Vec Formula Global) → tree_of (And v) ≡ tree_then form.And (trees_of v.items) no_trees
 view-And v = search (rules, the_lemmas)
 
+-- and those of an `or`
 pub view-Or : (v : Vec Formula Global) → tree_of (Or v) ≡ tree_then form.Or (trees_of v.items) no_trees
 view-Or v = search (rules, the_lemmas)
 
+-- a `not` has one formula in it
 pub view-Not : (b : Box Formula Global) → tree_of (Not b) ≡ tree_then form.Not (tree_of b.value) no_trees
 view-Not b = search (rules, the_lemmas)
 
-pub view-Implies : (a b : Box Formula Global) → tree_of (Implies a b) ≡ tree_then form.Implies (in_front a.value (tree_of b.value)) no_trees
+-- an `implies` has its two formulas in it, the condition first
+pub view-Implies : (a b : Box Formula Global) → tree_of (Implies a b) ≡ tree_then form.Implies
+    (in_front a.value (tree_of b.value)) no_trees
 view-Implies a b = search (rules, the_lemmas)
 
-pub view-ForEvery : (v : ℕ) (k : Kind) (b : Box Formula Global) → tree_of (ForEvery v k b) ≡ tree_then (form.ForEvery v k) (tree_of b.value) no_trees
+-- the body of an `every` is the one formula in it
+pub view-ForEvery : (v : ℕ) (k : Kind) (b : Box Formula Global)
+    → tree_of (ForEvery v k b) ≡ tree_then (form.ForEvery v k) (tree_of b.value) no_trees
 view-ForEvery v k b = search (rules, the_lemmas)
 
-pub view-ForSome : (v : ℕ) (k : Kind) (b : Box Formula Global) → tree_of (ForSome v k b) ≡ tree_then (form.ForSome v k) (tree_of b.value) no_trees
+-- and that of a `some`
+pub view-ForSome : (v : ℕ) (k : Kind) (b : Box Formula Global) → tree_of (ForSome v k b) ≡ tree_then (form.ForSome v k)
+    (tree_of b.value) no_trees
 view-ForSome v k b = search (rules, the_lemmas)
 
-pub view-EveryBefore : (v : ℕ) (k : Kind) (u : ℕ) (b : Box Formula Global) → tree_of (EveryBefore v k u b) ≡ tree_then (form.EveryBefore v k u) (tree_of b.value) no_trees
+-- the body of an `every` with `before` is the one formula in it
+pub view-EveryBefore : (v : ℕ) (k : Kind) (u : ℕ) (b : Box Formula Global)
+    → tree_of (EveryBefore v k u b) ≡ tree_then (form.EveryBefore v k u) (tree_of b.value) no_trees
 view-EveryBefore v k u b = search (rules, the_lemmas)
 
-pub view-SomeBefore : (v : ℕ) (k : Kind) (u : ℕ) (b : Box Formula Global) → tree_of (SomeBefore v k u b) ≡ tree_then (form.SomeBefore v k u) (tree_of b.value) no_trees
+-- and that of a `some` with `before`
+pub view-SomeBefore : (v : ℕ) (k : Kind) (u : ℕ) (b : Box Formula Global)
+    → tree_of (SomeBefore v k u b) ≡ tree_then (form.SomeBefore v k u) (tree_of b.value) no_trees
 view-SomeBefore v k u b = search (rules, the_lemmas)
 
+-- `same` has no formulas in it
 pub view-Same : (v u : ℕ) → tree_of (Same v u) ≡ tree_then (form.Same v u) no_trees no_trees
 view-Same v u = search (rules, the_lemmas)
 
+-- `before` has none
 pub view-Before : (v u : ℕ) → tree_of (Before v u) ≡ tree_then (form.Before v u) no_trees no_trees
 view-Before v u = search (rules, the_lemmas)
 
+-- `next` has none
 pub view-Next : (v u : ℕ) → tree_of (Next v u) ≡ tree_then (form.Next v u) no_trees no_trees
 view-Next v u = search (rules, the_lemmas)
 
+-- a test of the role has none
 pub view-Is : (v : ℕ) (r : Role) → tree_of (Is v r) ≡ tree_then (form.Is v r) no_trees no_trees
 view-Is v r = search (rules, the_lemmas)
 
+-- a test of the kind has none
 pub view-OfKind : (v : ℕ) (k : Kind) → tree_of (OfKind v k) ≡ tree_then (form.OfKind v k) no_trees no_trees
 view-OfKind v k = search (rules, the_lemmas)
 
+-- a test of equal terms has none
 pub view-Equal : (t u : Term) → tree_of (Equal t u) ≡ tree_then (form.Equal t u) no_trees no_trees
 view-Equal t u = search (rules, the_lemmas)
 
+-- a test of order has none
 pub view-Less : (t u : Term) → tree_of (Less t u) ≡ tree_then (form.Less t u) no_trees no_trees
 view-Less t u = search (rules, the_lemmas)
 
@@ -62,6 +83,7 @@ view-Less t u = search (rules, the_lemmas)
 abbrev pub IsInFront : (Trees → Trees) → Form → Trees → Type 0
 IsInFront put form parts = (rest : Trees) → put rest ≡ tree_then form parts rest
 
+-- one level puts one form with its parts in front, whatever stands inside
 shape_step : (x : Formula-F (Trees → Trees)) → (form : Form) × (parts : Trees) × IsInFront (tree_step x) form parts
 shape_step Formula-F.True = (form.True, no_trees, λ rest. refl)
 shape_step (Formula-F.ForEvery v kind body) = (form.ForEvery v kind, body.value no_trees, λ rest. refl)
@@ -80,6 +102,7 @@ shape_step (Formula-F.OfKind v kind) = (form.OfKind v kind, no_trees, λ rest. r
 shape_step (Formula-F.Equal t s) = (form.Equal t s, no_trees, λ rest. refl)
 shape_step (Formula-F.Less t s) = (form.Less t s, no_trees, λ rest. refl)
 
+-- each formula puts one form with its parts in front
 pub shape : (f : Formula) → (form : Form) × (parts : Trees) × IsInFront (in_front f) form parts
 shape f =
     let s = shape_step (map-Formula Formula (Trees → Trees) in_front (out-Formula f)) in

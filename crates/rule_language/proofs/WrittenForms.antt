@@ -10,7 +10,8 @@ use Rattle.rule_language.specs.Written.{joined, form_text, row_text}
 use Rattle.rule_language.proofs.Views.{shape}
 
 -- all but `true` stands in parentheses
-pub enclosed_text : (f : Form) (inside : List ℕ) → f ≢ form.True → form_text f inside ≡ 40 ∷ (joined (form_words f) ++ (inside ++ 41 ∷ []))
+pub enclosed_text : (f : Form) (inside : List ℕ) → f ≢ form.True
+    → form_text f inside ≡ 40 ∷ (joined (form_words f) ++ (inside ++ 41 ∷ []))
 enclosed_text form.True inside other = absurd (other refl)
 enclosed_text (form.ForEvery v k) inside other = refl
 enclosed_text (form.ForSome v k) inside other = refl
@@ -29,13 +30,15 @@ enclosed_text (form.Equal t u) inside other = refl
 enclosed_text (form.Less t u) inside other = refl
 
 -- a formula in parentheses, piece by piece
-pub written_form : (tree : Trees) (f : Form) (parts : Trees) (old : List ℕ) → tree ≡ tree_then f parts no_trees → f ≢ form.True
+pub written_form : (tree : Trees) (f : Form) (parts : Trees) (old : List ℕ)
+    → tree ≡ tree_then f parts no_trees → f ≢ form.True
     → ((old ++ 32 ∷ 40 ∷ []) ++ joined (form_words f)) ++ row_text parts ++ 41 ∷ [] ≡ old ++ row_text tree
 written_form tree f parts old is other =
     append_assoc ((old ++ 32 ∷ 40 ∷ []) ++ joined (form_words f)) (row_text parts) (41 ∷ [])
     ∙ append_assoc (old ++ 32 ∷ 40 ∷ []) (joined (form_words f)) (row_text parts ++ 41 ∷ [])
     ∙ append_assoc old (32 ∷ 40 ∷ []) (joined (form_words f) ++ (row_text parts ++ 41 ∷ []))
-    ∙ ap (λ xs. old ++ 32 ∷ xs) (sym (enclosed_text f (row_text parts) other) ∙ sym (append-nil (form_text f (row_text parts))))
+    ∙ ap (λ xs. old ++ 32 ∷ xs) (sym (enclosed_text f (row_text parts) other)
+    ∙ sym (append-nil (form_text f (row_text parts))))
     ∙ ap (λ t. old ++ row_text t) (sym is)
 
 -- a row is written formula by formula

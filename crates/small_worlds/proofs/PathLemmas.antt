@@ -50,6 +50,7 @@ module _ {T : Type 0} (node : T → Node) (given : List T) where
   survives g c free =
       Contains-filter (λ e. not (is_stray node given e)) given g c (not_from_false (is_stray node given g) free)
 
+  -- where the search says so there is a path among the survivors
   from_leads : (n : ℕ) (f e : T) → leads node given n f e ≡ true →
       (between : List T) × IsPath node (survivors node given) f between e
   from_leads zero f e t = ([], names_digest_from node e (node f).digest t)
@@ -69,6 +70,7 @@ module _ {T : Type 0} (node : T → Node) (given : List T) where
         | inr t ↦ on t
       ]
 
+  -- a path of so many entries is found in so many steps
   to_leads : (n : ℕ) (f : T) (between : List T) (e : T) → length between ≤ n →
       IsPath node (survivors node given) f between e → leads node given n f e ≡ true
   to_leads zero f [] e l p = names_digest_of node e (node f).digest p
@@ -95,6 +97,7 @@ module _ {T : Type 0} (node : T → Node) (given : List T) where
       let rest = long g gs e p.0 ce p.2 in
       omega arith
 
+  -- the search of as many steps as the end's stamp finds a path exactly where there is one
   leads_is_path : (f e : T) → Contains (survivors node given) f → Contains (survivors node given) e →
       (leads node given (node e).stamp f e ≡ true) ↔ Precedes node (survivors node given) f e
   leads_is_path f e cf ce = (

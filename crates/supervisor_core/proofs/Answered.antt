@@ -26,32 +26,40 @@ use Rattle.supervisor_core.specs.Table.{causes_of, Refuses}
 abbrev has_opened : ℕ → List Entry → Bool
 has_opened owner entries = holds_own owner is_opened entries
 
+-- it is so exactly where the supervisor has opened
 opened_is : (owner : ℕ) (entries : List Entry) → Decides (has_opened owner entries) (HasOpened owner entries)
 opened_is owner entries = own_decides owner is_opened (λ deed. deed ≡ Opened) opened_decides entries
 
+-- whether it has closed
 abbrev has_closed : ℕ → List Entry → Bool
 has_closed owner entries = holds_own owner is_closed entries
 
+-- it is so exactly where the supervisor has closed
 closed_is : (owner : ℕ) (entries : List Entry) → Decides (has_closed owner entries) (HasClosed owner entries)
 closed_is owner entries = own_decides owner is_closed (λ deed. deed ≡ Closed) closed_decides entries
 
+-- whether it has authorised the session
 abbrev has_authorised : ℕ → List Entry → ℕ → Bool
 has_authorised owner entries session = holds_own owner (authorises session) entries
 
+-- it is so exactly where the supervisor has authorised the session
 authorised_is : (owner : ℕ) (entries : List Entry) (session : ℕ)
     → Decides (has_authorised owner entries session) (HasAuthorised owner entries session)
 authorised_is owner entries session =
     own_decides owner (authorises session) (Authorises session) (authorises_decides session) entries
 
+-- a test decides whether it has overridden the session with this word
 overridden_is : (owner : ℕ) (entries : List Entry) (session : ℕ) (how : How)
     → Decides (holds_own owner (overrides_by session how) entries) (HasOverridden owner entries session how)
 overridden_is owner entries session how =
     own_decides owner (overrides_by session how) (λ deed. deed ≡ Override session how)
     (overrides_by_decides session how) entries
 
+-- whether a booth has committed in the session
 abbrev is_committed : List Entry → ℕ → Bool
 is_committed entries session = list_any (λ entry. commits session entry.deed) entries
 
+-- it is so exactly where a booth has committed
 committed_is : (entries : List Entry) (session : ℕ)
     → Decides (is_committed entries session) (IsCommitted entries session)
 committed_is entries session = holds_decides (commits session) (Commits session) (commits_decides session) entries
@@ -61,9 +69,11 @@ abbrev runs_at : List Entry → ℕ → Deed → Bool
 runs_at entries booth (Authorise b s) = (b == booth) && not (has_ended entries s)
 runs_at entries booth _ = false
 
+-- the sentence of which that is the test
 abbrev RunsAt : List Entry → ℕ → Deed → Type 0
 RunsAt entries booth deed = (session : ℕ) × (deed ≡ Authorise booth session) × (HasEnded entries session → ⊥)
 
+-- the test decides it
 runs_decides : (entries : List Entry) (booth : ℕ) (deed : Deed)
     → Decides (runs_at entries booth deed) (RunsAt entries booth deed)
 runs_decides entries booth (Authorise b s) =
@@ -79,6 +89,7 @@ runs_decides entries booth (Authorise b s) =
     )
 runs_decides entries booth _ = (λ yes. cc, λ runs. cc (runs.1))
 
+-- a test decides whether a booth is busy
 busy_is : (owner : ℕ) (entries : List Entry) (booth : ℕ)
     → Decides (holds_own owner (runs_at entries booth) entries) (IsBusy owner entries booth)
 busy_is owner entries booth =
@@ -94,9 +105,11 @@ abbrev runs : List Entry → Deed → Bool
 runs entries (Authorise b s) = not (has_ended entries s)
 runs entries _ = false
 
+-- the sentence of which that is the test
 abbrev Runs : List Entry → Deed → Type 0
 Runs entries deed = (booth : ℕ) × RunsAt entries booth deed
 
+-- the test decides it
 left_decides : (entries : List Entry) (deed : Deed) → Decides (runs entries deed) (Runs entries deed)
 left_decides entries (Authorise b s) =
     let left = Decides-not (has_ended entries s) (ended_decides entries s) in (
@@ -107,6 +120,7 @@ left_decides entries (Authorise b s) =
     )
 left_decides entries _ = (λ yes. cc, λ here. cc (here.1.1))
 
+-- a test decides whether the supervisor has a session left
 left_is : (owner : ℕ) (entries : List Entry)
     → Decides (holds_own owner (runs entries) entries) (HasSessionsLeft owner entries)
 left_is owner entries =
@@ -141,6 +155,7 @@ tests owner entries Closed =
     ∷ []
 tests owner entries _ = []
 
+-- each test decides the cause of its place in the row
 are_tests : (owner : ℕ) (entries : List Entry) (deed : Deed)
     → AreTestsOf (tests owner entries deed) (causes_of owner entries deed)
 are_tests owner entries Opened = (opened_is owner entries, refl, tt)

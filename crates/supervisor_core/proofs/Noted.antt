@@ -23,16 +23,24 @@ use Rattle.supervisor_core.specs.State.{StandsFor}
 
 -- the deed is none that the supervisor's state depends on by itself
 pub record IsOther (owner : ℕ) (entry : Entry) : Type 0 where
+  -- it isn't the supervisor's opening
   pub opened : IsOwnSuch owner (λ deed. deed ≡ Opened) entry → ⊥
+  -- nor its closing
   pub closed : IsOwnSuch owner (λ deed. deed ≡ Closed) entry → ⊥
+  -- nor its authorising of a session
   pub authorised : (booth session : ℕ) → IsOwnSuch owner (λ deed. deed ≡ Authorise booth session) entry → ⊥
+  -- nor its override of one
   pub overridden : (session : ℕ) (how : How) → IsOwnSuch owner (λ deed. deed ≡ Override session how) entry → ⊥
+  -- it is nobody's commitment
   pub committed : (session : ℕ) → Commits session entry.deed → ⊥
+  -- and ends no session
   pub ended : (session : ℕ) → Ends session entry.deed → ⊥
 
+-- the entry is the supervisor's override of the session with this word
 abbrev OwnOverride : ℕ → ℕ → How → Entry → Type 0
 OwnOverride owner session how = IsOwnSuch owner (λ deed. deed ≡ Override session how)
 
+-- the entry is its authorising of the session for the booth
 abbrev OwnAuthorise : ℕ → ℕ → ℕ → Entry → Type 0
 OwnAuthorise owner booth session = IsOwnSuch owner (λ deed. deed ≡ Authorise booth session)
 
@@ -54,10 +62,12 @@ running_stays A owner entries entry booth session before none lasts = (
   ],
 )
 
+-- an entry that authorises no booth for the session doesn't authorise the session
 authorises_stays : (owner session : ℕ) (entry : Entry) →
     ((booth : ℕ) → OwnAuthorise owner booth session entry → ⊥) → IsOwnSuch owner (Authorises session) entry → ⊥
 authorises_stays owner session entry none such = none such.1.0 (such.0, such.1.1)
 
+-- another entry leaves the notes standing for what was heard
 pub noted_other : (notes : Notes) (spare owner : ℕ) (entries : List Entry) (entry : Entry) →
     StandsFor notes owner entries → IsOther owner entry →
     StandsFor (record notes { spare = spare }) owner (entries ++ entry ∷ [])
@@ -70,7 +80,8 @@ noted_other notes spare owner entries entry stands other = record {
   running = λ booth session. running_stays (Contains notes.running (record { booth = booth; session = session })) owner
       entries entry booth session (stands.running booth session) (other.authorised booth session) (other.ended session);
   ended = λ session. stays (IsSuchEntry (Ends session)) entries entry (stands.ended session) (other.ended session);
-  to_cancel = λ s. stays (OwnOverride owner s word.Cancel) entries entry (stands.to_cancel s) (other.overridden s word.Cancel);
+  to_cancel = λ s. stays (OwnOverride owner s word.Cancel) entries entry (stands.to_cancel s)
+      (other.overridden s word.Cancel);
   to_cast = λ s. stays (OwnOverride owner s word.Cast) entries entry (stands.to_cast s) (other.overridden s word.Cast);
   committed = λ s. stays (IsSuchEntry (Commits s)) entries entry (stands.committed s) (other.committed s);
 }
@@ -84,6 +95,7 @@ is_own notes owner entries entry deed stands is = (
   λ own. eq-eqb entry.maker notes.owner (own.0 ∙ sym stands.same_owner),
 )
 
+-- an opening is noted where it is the supervisor's own
 pub noted_opened : (notes : Notes) (spare owner : ℕ) (entries : List Entry) (entry : Entry) →
     StandsFor notes owner entries → entry.deed ≡ Opened →
     StandsFor (record notes { opened = notes.opened || nat_eq entry.maker notes.owner; spare = spare }) owner
@@ -105,6 +117,7 @@ noted_opened notes spare owner entries entry stands is = record {
   committed = λ s. stays (IsSuchEntry (Commits s)) entries entry (stands.committed s) (λ such. cc (such.1));
 }
 
+-- a closing is noted where it is the supervisor's own
 pub noted_closed : (notes : Notes) (spare owner : ℕ) (entries : List Entry) (entry : Entry) →
     StandsFor notes owner entries → entry.deed ≡ Closed →
     StandsFor (record notes { closed = notes.closed || nat_eq entry.maker notes.owner; spare = spare }) owner
@@ -126,6 +139,7 @@ noted_closed notes spare owner entries entry stands is = record {
   committed = λ s. stays (IsSuchEntry (Commits s)) entries entry (stands.committed s) (λ such. cc (such.1));
 }
 
+-- a session at a booth
 abbrev run : ℕ → ℕ → Running
 run booth session = record { booth = booth; session = session }
 
@@ -134,6 +148,7 @@ lasts_before : (entries : List Entry) (entry : Entry) (session : ℕ) → (HasEn
     HasEnded entries session → ⊥
 lasts_before entries entry session lasts ended = lasts (any_kept (IsSuchEntry (Ends session)) entries entry ended)
 
+-- a session that hasn't ended hasn't with an entry that doesn't end it
 lasts_after : (entries : List Entry) (entry : Entry) (session : ℕ) → (HasEnded entries session → ⊥) →
     (Ends session entry.deed → ⊥) → HasEnded (entries ++ entry ∷ []) session → ⊥
 lasts_after entries entry session lasts none ended = elim (any_cases (IsSuchEntry (Ends session)) entries entry ended) [
@@ -198,6 +213,7 @@ running_same notes owner entries entry booth session b s stands is ended =
 other_session : (m n : ℕ) → IsTrue (not (m == n)) → m ≡ n → ⊥
 other_session m n told same = let equal : nat_eq m n ≡ true = eq-eqb m n same in cc
 
+-- a different session passes the test
 is_other_session : (m n : ℕ) → (m ≡ n → ⊥) → IsTrue (not (m == n))
 is_other_session m n other = elim (eqb_tells m n) [ inl told ↦ absurd (other told.1) | inr told ↦ cc ]
 
@@ -305,7 +321,8 @@ noted_end notes spare owner entries entry session stands ends =
 -- the supervisor overrides a session by cancelling
 pub noted_to_cancel : (notes : Notes) (spare owner : ℕ) (entries : List Entry) (entry : Entry) (session : ℕ) →
     StandsFor notes owner entries → entry.deed ≡ Override session word.Cancel → entry.maker ≡ owner →
-    StandsFor (record notes { to_cancel = notes.to_cancel ++ session ∷ []; spare = spare }) owner (entries ++ entry ∷ [])
+    StandsFor (record notes { to_cancel = notes.to_cancel ++ session ∷ []; spare = spare }) owner
+    (entries ++ entry ∷ [])
 noted_to_cancel notes spare owner entries entry session stands is own = record {
   same_owner = stands.same_owner;
   opened = stays (IsOwnSuch owner (λ deed. deed ≡ Opened)) entries entry stands.opened (λ such. cc);
@@ -317,7 +334,8 @@ noted_to_cancel notes spare owner entries entry session stands is own = record {
       (no_end entry.deed session (λ ballot e. cc) (λ e. cc) (λ ballot e. cc));
   ended = λ session. stays (IsSuchEntry (Ends session)) entries entry (stands.ended session)
       (no_end entry.deed session (λ ballot e. cc) (λ e. cc) (λ ballot e. cc));
-  to_cancel = λ s. is_added (OwnOverride owner s word.Cancel) entries entry notes.to_cancel session s (stands.to_cancel s)
+  to_cancel = λ s. is_added (OwnOverride owner s word.Cancel) entries entry notes.to_cancel session s
+      (stands.to_cancel s)
       (λ same. (own, cc), λ such. cc (such.1));
   to_cast = λ s. stays (OwnOverride owner s word.Cast) entries entry (stands.to_cast s) (λ such. cc);
   committed = λ s. stays (IsSuchEntry (Commits s)) entries entry (stands.committed s) (λ such. cc (such.1));
@@ -347,7 +365,8 @@ noted_to_cast notes spare owner entries entry session stands is own = record {
 -- a booth commits to a ballot
 pub noted_committed : (notes : Notes) (spare owner : ℕ) (entries : List Entry) (entry : Entry) (session : ℕ)
     (ballot : List ℕ) → StandsFor notes owner entries → entry.deed ≡ Commit session ballot →
-    StandsFor (record notes { committed = notes.committed ++ session ∷ []; spare = spare }) owner (entries ++ entry ∷ [])
+    StandsFor (record notes { committed = notes.committed ++ session ∷ []; spare = spare }) owner
+    (entries ++ entry ∷ [])
 noted_committed notes spare owner entries entry session ballot stands is = record {
   same_owner = stands.same_owner;
   opened = stays (IsOwnSuch owner (λ deed. deed ≡ Opened)) entries entry stands.opened (λ such. cc);

@@ -17,15 +17,18 @@ use Rattle.supervisor_core.specs.Table.{causes_of}
 use Rattle.supervisor_core.specs.VersionOne.{HasEndedInVersion1, IsBusyInVersion1, HasSessionsLeftInVersion1}
 use Rattle.supervisor_core.specs.VersionOne.{causes_in_version_1}
 
+-- the entries have deeds of version 1 alone
 abbrev AreOfVersion1 : List Entry → Type 0
 AreOfVersion1 entries = All (λ entry. IsDeedIn 1 entry.deed) entries
 
+-- a session has ended by the table exactly where it has by that of version 1
 ended_alike : (entries : List Entry) (session : ℕ) → AreOfVersion1 entries →
     HasEnded entries session ↔ HasEndedInVersion1 entries session
 ended_alike entries session all =
     any_alike (λ entry. IsDeedIn 1 entry.deed) (λ entry. Ends session entry.deed)
     (λ entry. EndsInVersion1 session entry.deed) entries all (λ entry one. ends_alike entry.deed session one)
 
+-- a booth is busy by the table exactly where it is by that of version 1
 busy_alike : (owner : ℕ) (entries : List Entry) (booth : ℕ) → AreOfVersion1 entries →
     IsBusy owner entries booth ↔ IsBusyInVersion1 owner entries booth
 busy_alike owner entries booth all = (
@@ -33,6 +36,7 @@ busy_alike owner entries booth all = (
   λ busy. (busy.0, (busy.1.0, λ ended. busy.1.1 ((ended_alike entries busy.0 all).0 ended))),
 )
 
+-- sessions are left by the table exactly where they are by that of version 1
 left_alike : (owner : ℕ) (entries : List Entry) → AreOfVersion1 entries →
     HasSessionsLeft owner entries ↔ HasSessionsLeftInVersion1 owner entries
 left_alike owner entries all = (
@@ -47,6 +51,7 @@ none_casts owner entries session all any =
     let one : IsDeedIn 1 any.1.deed = subst (λ entry. IsDeedIn 1 entry.deed) any.3 (all any.0 any.1 any.2) in
     no_cast_override any.1.deed session one any.4.1
 
+-- the causes of a deed are those of version 1, beside such as don't apply
 pub rows_alike : (owner : ℕ) (entries : List Entry) (deed : Deed) → AreOfVersion1 entries → IsDeedIn 1 deed →
     IsAlike (causes_of owner entries deed) (causes_in_version_1 owner entries deed)
 rows_alike owner entries Opened all one = ((λ is. is, λ is. is), refl, tt)
@@ -77,6 +82,7 @@ rows_alike owner entries (Cast session ballot) all one = tt
 rows_alike owner entries (Cancel session) all one = tt
 rows_alike owner entries (Challenge session ballot) all one = tt
 
+-- in version 1 no override is refused for another one
 pub no_other_override : (owner : ℕ) (entries : List Entry) (deed : Deed) →
     IsNoneOf (causes_in_version_1 owner entries deed) OtherOverride
 no_other_override owner entries Opened = (λ e. cc, tt)
@@ -85,6 +91,7 @@ no_other_override owner entries (Override session how) = (λ e. cc, (λ e. cc, t
 no_other_override owner entries Closed = (λ e. cc, (λ e. cc, (λ e. cc, tt)))
 no_other_override owner entries _ = tt
 
+-- nor because nothing was committed
 pub no_nothing_committed : (owner : ℕ) (entries : List Entry) (deed : Deed) →
     IsNoneOf (causes_in_version_1 owner entries deed) NothingCommitted
 no_nothing_committed owner entries Opened = (λ e. cc, tt)

@@ -25,6 +25,7 @@ some_member : (running : List Running) →
 some_member [] = (λ some. absurd (omega arith), λ one. absurd (omega arith))
 some_member (one ∷ rest) = (λ some. (one.booth, one.session, (0, omega arith, refl)), λ any. omega arith)
 
+-- the first cause that the notes tell against an authorising is the first that applies
 pub authorise_row : (notes : Notes) (owner : ℕ) (entries : List Entry) (booth session : ℕ) (used busy : Bool)
     (answer : Result (Unit {0}) SupervisorNot) → StandsFor notes owner entries →
     IsTrue used ↔ Contains notes.authorised session →
@@ -53,6 +54,7 @@ authorise_row notes owner entries booth session used busy answer stands listed a
       ),
     )
 
+-- the first cause that the notes tell against an override is the first that applies
 pub override_row : (notes : Notes) (owner : ℕ) (entries : List Entry) (session : ℕ) (how : How)
     (used over otherwise lacking : Bool) (answer : Result (Unit {0}) SupervisorNot) → StandsFor notes owner entries →
     IsTrue used ↔ Contains notes.authorised session → IsTrue over ↔ Contains notes.ended session →
@@ -79,6 +81,7 @@ override_row notes owner entries session how used over otherwise lacking answer 
       ),
     )
 
+-- the first cause that the notes tell against a closing is the first that applies
 pub closed_row : (notes : Notes) (owner : ℕ) (entries : List Entry) (left : Bool)
     (answer : Result (Unit {0}) SupervisorNot) → StandsFor notes owner entries →
     IsTrue left ↔ (0 < length notes.running) →

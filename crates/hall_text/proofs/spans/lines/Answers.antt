@@ -15,7 +15,9 @@ loop-at-preserved c =
           let new : Span = record { start = c.loop-at.start; end = c.loop-at.at } in
           let items : c.if-text-at-eq10.spans.items ≡ spans ++ new ∷ [] = rw w.spans-is w.in_ok-push.ensures.items in
           record {
-            found = rw (w.start-is, items) (line_more text spans c.loop-at.start c.loop-at.at inv.found inv.going_on c.loop-at-test.true w.if-text-at-eq10.true);
+            found = rw (w.start-is, items)
+                (line_more text spans c.loop-at.start c.loop-at.at inv.found inv.going_on c.loop-at-test.true
+                w.if-text-at-eq10.true);
             going_on = rw w.start-is (open_behind text c.loop-at.at w.if-text-at-eq10.true);
           }
       | else-text-at-eq10 w ↦
@@ -32,11 +34,13 @@ returns c =
     let spans : List Span = c.loop-at.spans.items in
     let inv = c.loop-at.invariant in
     let at_end : c.loop-at.at ≡ length text = omega arith in
-    let going_on : IsOpen text c.loop-at.start (length text) = subst (λ at. IsOpen text c.loop-at.start at) at_end inv.going_on in
+    let going_on : IsOpen text c.loop-at.start (length text) =
+    subst (λ at. IsOpen text c.loop-at.start at) at_end inv.going_on in
     elim c.if-start-text.branch [
       | then-start-text+in_ok-push-2 w ↦
           let last : Span = record { start = c.loop-at.start; end = length text } in
           let items : c.if-start-text.spans.items ≡ spans ++ last ∷ [] = rw w.spans-is w.in_ok-push-2.ensures.items in
           rw items (all_lines_and_last text spans c.loop-at.start inv.found going_on w.if-start-text.true)
-      | else-start-text w ↦ rw w.spans-is (all_lines text spans c.loop-at.start inv.found going_on w.if-start-text.false)
+      | else-start-text w ↦ rw w.spans-is
+          (all_lines text spans c.loop-at.start inv.found going_on w.if-start-text.false)
     ]

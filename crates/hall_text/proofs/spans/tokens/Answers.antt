@@ -10,7 +10,8 @@ loop-at-preserved-then-at-end c =
     let end : ℕ = c.token_end-end.result in
     let token = c.token_end-end.ensures.token c.if-at-end.true in
     record {
-      found = rw c.in_ok-push.ensures.items (token_more text c.loop-at.spans.items at end c.loop-at.invariant.found c.if-at-end.true token);
+      found = rw c.in_ok-push.ensures.items
+          (token_more text c.loop-at.spans.items at end c.loop-at.invariant.found c.if-at-end.true token);
       between = between_behind text at end c.if-at-end.true token;
     }
 

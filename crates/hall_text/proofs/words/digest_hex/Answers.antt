@@ -21,7 +21,9 @@ returns-else-eq c = λ value text.
     let found : c.ok.result ≡ Some value = rw decodes at c.ok.ensures.value in
     let digest : c.ok.result ≡ Some c.in_ok-digest.digest = c.in_ok-digest.was in
     let same : c.in_ok-digest.digest ≡ value = cc in
-    let text_is : c.encode_to_slice.new.output ≡ encode_lower c.as_slice.result.now = ok_holds c.encode_to_slice.result _ _ (sym c.ok-2.ensures.value ∙ c.in_ok-ok.was) c.encode_to_slice.ensures.written in
-    let word_is : c.as_slice-2.result.now ≡ c.args.word.now = c.as_slice-2.ensures ∙ text_is ∙ ap encode_lower (c.as_slice.ensures ∙ same) ∙ sym text.digits in
+    let text_is : c.encode_to_slice.new.output ≡ encode_lower c.as_slice.result.now = ok_holds c.encode_to_slice.result
+    _ _ (sym c.ok-2.ensures.value ∙ c.in_ok-ok.was) c.encode_to_slice.ensures.written in
+    let word_is : c.as_slice-2.result.now ≡ c.args.word.now =
+    c.as_slice-2.ensures ∙ text_is ∙ ap encode_lower (c.as_slice.ensures ∙ same) ∙ sym text.digits in
     let equal : bytes_eq c.as_slice-2.result.now c.args.word.now ≡ true = equal_bytes _ _ word_is in
     true≢false (sym equal ∙ sym c.eq.ensures ∙ c.if-eq.false)

@@ -95,7 +95,8 @@ value-returns-in-Next t c =
     c.as_three.ensures ∙ ap as_three (c.is_next.ensures
     ∙ ap (λ x. is_next x c.row_at-in-Next.result)
     (c.row_at.ensures ∙ ap (row_at rows) c.place_of-in-Next.ensures.is)
-    ∙ ap (is_next (row_at rows (env c.in-Next.v))) (c.row_at-in-Next.ensures ∙ ap (row_at rows) c.place_of-in-Next-2.ensures.is))
+    ∙ ap (is_next (row_at rows (env c.in-Next.v)))
+    (c.row_at-in-Next.ensures ∙ ap (row_at rows) c.place_of-in-Next-2.ensures.is))
     ∙ sym (ap (λ f. value_of rows P R f env) c.in-Next.is ∙ value-Next rows P R env c.in-Next.v c.in-Next.u)
 
 pub value-returns-in-Is : goal.value-returns-in-Is
@@ -216,7 +217,8 @@ over_bucket-bucket-init t c =
     let R = known_whole c.args.survivors.now.order.now in
     let env = env_of c.args.scope.now in
     let body = c.args.body.now in
-    bucket_starts rows P R c.args.quantifier body env c.args.bucket.now c.requires.bucket c.first-i.result c.first-i.ensures
+    bucket_starts rows P R c.args.quantifier body env c.args.bucket.now c.requires.bucket c.first-i.result
+    c.first-i.ensures
 
 pub over_bucket-returns-then-is_false : goal.over_bucket-returns-then-is_false
 over_bucket-returns-then-is_false t c =

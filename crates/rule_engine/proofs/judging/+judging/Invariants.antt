@@ -38,7 +38,8 @@ invariant-over_bucket-bucket l =
     let count = length l.bucket.index.now.firsts.items in
     (over_rows rows P R q.some l.body q.v q.kind q.within env
     ≡ both l.least (rest rows P R q.some l.body q.v q.kind q.within env l.i))
-    × ((row : Row) → slice_get rows l.i ≡ Some row → number_in l.bucket.index.now.key row % count ≡ l.bucket.number % count)
+    × ((row : Row) → slice_get rows l.i ≡ Some row
+    → number_in l.bucket.index.now.key row % count ≡ l.bucket.number % count)
 
 abbrev pub decreases-over_bucket-bucket : goal.decreases-over_bucket-bucket
 decreases-over_bucket-bucket l = length l.survivors.rows.now - l.i

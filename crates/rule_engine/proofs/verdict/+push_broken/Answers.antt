@@ -15,7 +15,8 @@ returns-in-None t c =
     let R = known_whole c.args.survivors.now.order.now in
     let env = env_of c.args.scope.now in
     let a = c.in-ForEvery in
-    let first : None ≡ first_false rows P R a.kind (λ i. value_of rows P R a.body.value (bind a.v i env)) 0 (length rows) =
+    let first : None ≡ first_false rows P R a.kind (λ i. value_of rows P R a.body.value (bind a.v i env)) 0
+    (length rows) =
     sym c.in-None.is ∙ c.first_broken.ensures.first
     ∙ ap (λ f. first_false rows P R a.kind (λ i. value_of rows P R f (bind a.v i env)) 0 (length rows))
     c.deref.ensures in

@@ -44,7 +44,8 @@ returns-then-is_false-clause-first c =
     let inside : i < length rows =
     subst (λ (n : ℕ). i < n) (c.count-i-end.ensures.count ∙ sym c.requires.same) c.loop-i-test.true in
     sym (c.loop-i.invariant
-    ∙ find_here (λ j. has_kind c.args.kind (slice_get rows j) && is_false (value j)) i (length rows - i) (omega (arith, inside))
+    ∙ find_here (λ j. has_kind c.args.kind (slice_get rows j) && is_false (value j)) i (length rows - i)
+    (omega (arith, inside))
     (each_true (has_kind c.args.kind (slice_get rows i)) (is_false (value i))
     (at_row rows c.args.kind i _ inside ∙ sym c.has_kind.ensures ∙ c.if-has_kind.true)
     (sym (c.is_false.ensures ∙ ap is_false c.value.ensures) ∙ c.if-is_false.true)))

@@ -14,5 +14,7 @@ returns-clause-ok c = λ depth shallow.
     let v = c.in_ok-v.v in
     let u = c.in_ok-v.u in
     let pair = c.in_ok-v.ensures.ok in
-    atom_read c.args.text.now c.args.token.now c.read_pair.new.token (bindings c.args.scope.now) depth (Before v u) (form.Before v u) head.Before
-    (variable v ∷ variable u ∷ []) (view-Before v u) refl (λ x y. refl) (lt-ltb depth 32 shallow) pair.bound refl pair.taken
+    atom_read c.args.text.now c.args.token.now c.read_pair.new.token (bindings c.args.scope.now) depth (Before v u)
+    (form.Before v u) head.Before
+    (variable v ∷ variable u ∷ []) (view-Before v u) refl (λ x y. refl) (lt-ltb depth 32 shallow) pair.bound
+    refl pair.taken

@@ -17,23 +17,30 @@ pub returns-in_err-role-clause-err : goal.returns-in_err-role-clause-err
 returns-in_err-role-clause-err c = λ depth.
     let text = c.args.text.now in
     let scope = bindings c.args.scope.now in
-    exit_behind c.read_role.result c.in_err-role.field-0.0 c.from_residual-in_err-role.result text c.args.token.now.start
+    exit_behind c.read_role.result c.in_err-role.field-0.0 c.from_residual-in_err-role.result text
+    c.args.token.now.start
     c.read_variable.new.token.start (variable c.in_ok-v.v ∷ []) (λ rest. a_variable scope ∷ a_role ∷ close ∷ rest)
     (λ rest. a_role ∷ rest) (λ rest. close ∷ rest) c.in_err-role.was c.from_residual-in_err-role.ensures.1
-    (variable_step text c.args.token.now c.read_variable.new.token (λ rest. a_role ∷ close ∷ rest) scope c.in_ok-v.v c.in_ok-v.ensures.ok.0 c.in_ok-v.ensures.ok.1)
+    (variable_step text c.args.token.now c.read_variable.new.token (λ rest. a_role ∷ close ∷ rest) scope c.in_ok-v.v
+    c.in_ok-v.ensures.ok.0 c.in_ok-v.ensures.ok.1)
     c.read_role.ensures.err
 
 pub returns-in_err-read_only-clause-err : goal.returns-in_err-read_only-clause-err
 returns-in_err-read_only-clause-err c = λ depth.
     let text = c.args.text.now in
     let scope = bindings c.args.scope.now in
-    exit_behind c.read_only.result c.in_err-read_only.field-0.0 c.from_residual-in_err-read_only.result text c.args.token.now.start
-    c.read_role.new.token.start ((variable c.in_ok-v.v ∷ []) ++ (role_word c.in_ok-role.role ∷ [])) (λ rest. a_variable scope ∷ a_role ∷ close ∷ rest)
+    exit_behind c.read_only.result c.in_err-read_only.field-0.0 c.from_residual-in_err-read_only.result text
+    c.args.token.now.start
+    c.read_role.new.token.start ((variable c.in_ok-v.v ∷ []) ++ (role_word c.in_ok-role.role ∷ []))
+    (λ rest. a_variable scope ∷ a_role ∷ close ∷ rest)
     (λ rest. close ∷ rest) (λ rest. rest) c.in_err-read_only.was c.from_residual-in_err-read_only.ensures.1
-    (passed_more text c.args.token.now.start c.read_variable.new.token.start c.read_role.new.token.start (variable c.in_ok-v.v ∷ []) (role_word c.in_ok-role.role ∷ [])
+    (passed_more text c.args.token.now.start c.read_variable.new.token.start c.read_role.new.token.start
+    (variable c.in_ok-v.v ∷ []) (role_word c.in_ok-role.role ∷ [])
     (λ rest. a_variable scope ∷ a_role ∷ close ∷ rest) (λ rest. a_role ∷ close ∷ rest) (λ rest. close ∷ rest)
-    (variable_step text c.args.token.now c.read_variable.new.token (λ rest. a_role ∷ close ∷ rest) scope c.in_ok-v.v c.in_ok-v.ensures.ok.0 c.in_ok-v.ensures.ok.1)
-    (role_step text c.read_variable.new.token c.read_role.new.token (λ rest. close ∷ rest) c.in_ok-role.role c.in_ok-role.ensures.ok.0))
+    (variable_step text c.args.token.now c.read_variable.new.token (λ rest. a_role ∷ close ∷ rest) scope c.in_ok-v.v
+    c.in_ok-v.ensures.ok.0 c.in_ok-v.ensures.ok.1)
+    (role_step text c.read_variable.new.token c.read_role.new.token (λ rest. close ∷ rest) c.in_ok-role.role
+    c.in_ok-role.ensures.ok.0))
     (c.read_only.ensures.err (λ rest. close ∷ rest) close_asks)
 
 pub returns-clause-ok : goal.returns-clause-ok
@@ -47,8 +54,10 @@ returns-clause-ok c = λ depth shallow.
     let d = c.read_role.new.token in
     let e = c.read_only.new.token in
     let one = c.in_ok-v.ensures.ok in
-    atom_read text a e scope depth (Is c.in_ok-v.v c.in_ok-role.role) (form.Is c.in_ok-v.v c.in_ok-role.role) head.Is (v ∷ u ∷ []) (view-Is c.in_ok-v.v c.in_ok-role.role) refl (λ x y. refl) (lt-ltb depth 32 shallow) one.1 refl (
+    atom_read text a e scope depth (Is c.in_ok-v.v c.in_ok-role.role) (form.Is c.in_ok-v.v c.in_ok-role.role) head.Is
+    (v ∷ u ∷ []) (view-Is c.in_ok-v.v c.in_ok-role.role) refl (λ x y. refl) (lt-ltb depth 32 shallow) one.1 refl (
       spell_more text a.start b.start e.start (v ∷ []) (u ∷ right ∷ []) one.0.0
-          (spell_more text b.start d.start e.start (u ∷ []) (right ∷ []) c.in_ok-role.ensures.ok.0.0 c.in_ok-read_only.ensures.ok.0.0),
+          (spell_more text b.start d.start e.start (u ∷ []) (right ∷ []) c.in_ok-role.ensures.ok.0.0
+          c.in_ok-read_only.ensures.ok.0.0),
       c.in_ok-read_only.ensures.ok.0.1,
     )

@@ -14,5 +14,7 @@ returns-clause-ok c = λ depth shallow.
     let t = c.in_ok-first.first in
     let u = c.in_ok-first.second in
     let terms = c.in_ok-first.ensures.ok in
-    atom_read c.args.text.now c.args.token.now c.read_terms.new.token (bindings c.args.scope.now) depth (Less t u) (form.Less t u) head.Less
-    (term_word t ∷ term_word u ∷ []) (view-Less t u) refl (λ x y. refl) (lt-ltb depth 32 shallow) (rw (terms.order refl) terms.same) refl terms.taken
+    atom_read c.args.text.now c.args.token.now c.read_terms.new.token (bindings c.args.scope.now) depth (Less t u)
+    (form.Less t u) head.Less
+    (term_word t ∷ term_word u ∷ []) (view-Less t u) refl (λ x y. refl) (lt-ltb depth 32 shallow)
+    (rw (terms.order refl) terms.same) refl terms.taken

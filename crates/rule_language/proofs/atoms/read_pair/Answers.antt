@@ -11,10 +11,13 @@ returns-in_err-u-clause-err c =
     let text = c.args.text.now in
     let scope = bindings c.args.scope.now in
     let one = c.in_ok-v.ensures.ok in
-    exit_behind c.read_variable-2.result c.in_err-u.field-0.0 c.from_residual-in_err-u.result text c.args.token.now.start
-    c.read_variable.new.token.start (variable c.in_ok-v.v ∷ []) (λ rest. a_variable scope ∷ a_variable scope ∷ close ∷ rest)
+    exit_behind c.read_variable-2.result c.in_err-u.field-0.0 c.from_residual-in_err-u.result text
+    c.args.token.now.start
+    c.read_variable.new.token.start (variable c.in_ok-v.v ∷ [])
+    (λ rest. a_variable scope ∷ a_variable scope ∷ close ∷ rest)
     (λ rest. a_variable scope ∷ rest) (λ rest. close ∷ rest) c.in_err-u.was c.from_residual-in_err-u.ensures.1
-    (variable_step text c.args.token.now c.read_variable.new.token (λ rest. a_variable scope ∷ close ∷ rest) scope c.in_ok-v.v one.0 one.1)
+    (variable_step text c.args.token.now c.read_variable.new.token (λ rest. a_variable scope ∷ close ∷ rest) scope
+    c.in_ok-v.v one.0 one.1)
     c.read_variable-2.ensures.err
 
 pub returns-in_err-read_only-clause-err : goal.returns-in_err-read_only-clause-err
@@ -23,14 +26,19 @@ returns-in_err-read_only-clause-err c =
     let scope = bindings c.args.scope.now in
     let one = c.in_ok-v.ensures.ok in
     let two = c.in_ok-u.ensures.ok in
-    exit_behind c.read_only.result c.in_err-read_only.field-0.0 c.from_residual-in_err-read_only.result text c.args.token.now.start
-    c.read_variable-2.new.token.start (variable c.in_ok-v.v ∷ variable c.in_ok-u.u ∷ []) (λ rest. a_variable scope ∷ a_variable scope ∷ close ∷ rest)
+    exit_behind c.read_only.result c.in_err-read_only.field-0.0 c.from_residual-in_err-read_only.result text
+    c.args.token.now.start
+    c.read_variable-2.new.token.start (variable c.in_ok-v.v ∷ variable c.in_ok-u.u ∷ [])
+    (λ rest. a_variable scope ∷ a_variable scope ∷ close ∷ rest)
     (λ rest. close ∷ rest) (λ rest. rest) c.in_err-read_only.was c.from_residual-in_err-read_only.ensures.1
     (passed_more text c.args.token.now.start c.read_variable.new.token.start c.read_variable-2.new.token.start
     (variable c.in_ok-v.v ∷ []) (variable c.in_ok-u.u ∷ [])
-    (λ rest. a_variable scope ∷ a_variable scope ∷ close ∷ rest) (λ rest. a_variable scope ∷ close ∷ rest) (λ rest. close ∷ rest)
-    (variable_step text c.args.token.now c.read_variable.new.token (λ rest. a_variable scope ∷ close ∷ rest) scope c.in_ok-v.v one.0 one.1)
-    (variable_step text c.read_variable.new.token c.read_variable-2.new.token (λ rest. close ∷ rest) scope c.in_ok-u.u two.0 two.1))
+    (λ rest. a_variable scope ∷ a_variable scope ∷ close ∷ rest) (λ rest. a_variable scope ∷ close ∷ rest)
+    (λ rest. close ∷ rest)
+    (variable_step text c.args.token.now c.read_variable.new.token (λ rest. a_variable scope ∷ close ∷ rest) scope
+    c.in_ok-v.v one.0 one.1)
+    (variable_step text c.read_variable.new.token c.read_variable-2.new.token (λ rest. close ∷ rest) scope c.in_ok-u.u
+    two.0 two.1))
     (c.read_only.ensures.err (λ rest. close ∷ rest) close_asks)
 
 pub returns-clause-ok : goal.returns-clause-ok

@@ -10,23 +10,36 @@ pub returns-in_err-second-clause-err : goal.returns-in_err-second-clause-err
 returns-in_err-second-clause-err c =
     let text = c.args.text.now in
     let scope = bindings c.args.scope.now in
-    exit_behind c.read_second.result c.in_err-second.field-0.0 c.from_residual-in_err-second.result text c.args.token.now.start
-    c.read_first.new.token.start (term_word c.in_ok-first.first ∷ []) (λ rest. first_term c.args.ordered scope ∷ close ∷ rest)
-    (λ rest. second_term c.in_ok-first.sort scope ∷ rest) (λ rest. close ∷ rest) c.in_err-second.was c.from_residual-in_err-second.ensures.1
-    (first_step text c.args.token.now c.read_first.new.token (λ rest. close ∷ rest) c.args.ordered scope c.in_ok-first.first c.in_ok-first.sort c.in_ok-first.ensures.ok.0 c.in_ok-first.ensures.ok.1.0 c.in_ok-first.ensures.ok.1.1)
+    exit_behind c.read_second.result c.in_err-second.field-0.0 c.from_residual-in_err-second.result text
+    c.args.token.now.start
+    c.read_first.new.token.start (term_word c.in_ok-first.first ∷ [])
+    (λ rest. first_term c.args.ordered scope ∷ close ∷ rest)
+    (λ rest. second_term c.in_ok-first.sort scope ∷ rest) (λ rest. close ∷ rest) c.in_err-second.was
+    c.from_residual-in_err-second.ensures.1
+    (first_step text c.args.token.now c.read_first.new.token (λ rest. close ∷ rest) c.args.ordered scope
+    c.in_ok-first.first c.in_ok-first.sort c.in_ok-first.ensures.ok.0 c.in_ok-first.ensures.ok.1.0
+    c.in_ok-first.ensures.ok.1.1)
     c.read_second.ensures.err
 
 pub returns-in_err-read_only-clause-err : goal.returns-in_err-read_only-clause-err
 returns-in_err-read_only-clause-err c =
     let text = c.args.text.now in
     let scope = bindings c.args.scope.now in
-    exit_behind c.read_only.result c.in_err-read_only.field-0.0 c.from_residual-in_err-read_only.result text c.args.token.now.start
-    c.read_second.new.token.start ((term_word c.in_ok-first.first ∷ []) ++ (term_word c.in_ok-second.second ∷ [])) (λ rest. first_term c.args.ordered scope ∷ close ∷ rest)
+    exit_behind c.read_only.result c.in_err-read_only.field-0.0 c.from_residual-in_err-read_only.result text
+    c.args.token.now.start
+    c.read_second.new.token.start ((term_word c.in_ok-first.first ∷ []) ++ (term_word c.in_ok-second.second ∷ []))
+    (λ rest. first_term c.args.ordered scope ∷ close ∷ rest)
     (λ rest. close ∷ rest) (λ rest. rest) c.in_err-read_only.was c.from_residual-in_err-read_only.ensures.1
-    (passed_more text c.args.token.now.start c.read_first.new.token.start c.read_second.new.token.start (term_word c.in_ok-first.first ∷ []) (term_word c.in_ok-second.second ∷ [])
-    (λ rest. first_term c.args.ordered scope ∷ close ∷ rest) (λ rest. second_term c.in_ok-first.sort scope ∷ close ∷ rest) (λ rest. close ∷ rest)
-    (first_step text c.args.token.now c.read_first.new.token (λ rest. close ∷ rest) c.args.ordered scope c.in_ok-first.first c.in_ok-first.sort c.in_ok-first.ensures.ok.0 c.in_ok-first.ensures.ok.1.0 c.in_ok-first.ensures.ok.1.1)
-    (second_step text c.read_first.new.token c.read_second.new.token (λ rest. close ∷ rest) c.in_ok-first.sort scope c.in_ok-second.second c.in_ok-second.field-0-1 c.in_ok-second.ensures.ok.0 c.in_ok-second.ensures.ok.1.0 c.in_ok-second.ensures.ok.1.1))
+    (passed_more text c.args.token.now.start c.read_first.new.token.start c.read_second.new.token.start
+    (term_word c.in_ok-first.first ∷ []) (term_word c.in_ok-second.second ∷ [])
+    (λ rest. first_term c.args.ordered scope ∷ close ∷ rest)
+    (λ rest. second_term c.in_ok-first.sort scope ∷ close ∷ rest) (λ rest. close ∷ rest)
+    (first_step text c.args.token.now c.read_first.new.token (λ rest. close ∷ rest) c.args.ordered scope
+    c.in_ok-first.first c.in_ok-first.sort c.in_ok-first.ensures.ok.0 c.in_ok-first.ensures.ok.1.0
+    c.in_ok-first.ensures.ok.1.1)
+    (second_step text c.read_first.new.token c.read_second.new.token (λ rest. close ∷ rest) c.in_ok-first.sort scope
+    c.in_ok-second.second c.in_ok-second.field-0-1 c.in_ok-second.ensures.ok.0 c.in_ok-second.ensures.ok.1.0
+    c.in_ok-second.ensures.ok.1.1))
     (c.read_only.ensures.err (λ rest. close ∷ rest) close_asks)
 
 pub returns-clause-ok : goal.returns-clause-ok

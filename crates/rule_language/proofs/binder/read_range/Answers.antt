@@ -17,10 +17,12 @@ returns-in_err-u-clause-err c = λ v kind depth.
     let is = c.is_word.ensures.0 c.if-not-is_word.false in
     let taken : Takes text c.args.token.now c.advance.new.token (codes "before" ∷ []) =
     rw is at (c.advance.ensures (is_some (piece text c.args.token.now) is)) in
-    exit_behind c.read_variable.result c.in_err-u.field-0.0 c.from_residual.result text c.args.token.now.start c.advance.new.token.start
+    exit_behind c.read_variable.result c.in_err-u.field-0.0 c.from_residual.result text c.args.token.now.start
+    c.advance.new.token.start
     (codes "before" ∷ []) (λ rest. before_or_body v kind scope depth ∷ rest) (λ rest. a_variable scope ∷ rest)
     (λ rest. formula ((v, kind) ∷ scope) depth ∷ close ∷ rest) c.in_err-u.was c.from_residual.ensures.1
-    (one_passed text c.args.token.now c.advance.new.token (codes "before") (λ rest. before_or_body v kind scope depth ∷ rest)
+    (one_passed text c.args.token.now c.advance.new.token (codes "before")
+    (λ rest. before_or_body v kind scope depth ∷ rest)
     (λ rest. a_variable scope ∷ formula ((v, kind) ∷ scope) depth ∷ close ∷ rest) taken (λ rest. refl))
     c.read_variable.ensures.err
 
@@ -32,7 +34,8 @@ returns-clause-ok c =
     rw is at (c.advance.ensures (is_some (piece text c.args.token.now) is)) in
     let u = c.in_ok-u.ensures.ok in (
       (
-        spell_more text c.args.token.now.start c.advance.new.token.start c.read_variable.new.token.start (codes "before" ∷ [])
+        spell_more text c.args.token.now.start c.advance.new.token.start c.read_variable.new.token.start
+            (codes "before" ∷ [])
             (variable c.in_ok-u.u ∷ []) taken.0 u.0.0,
         u.0.1,
       ),

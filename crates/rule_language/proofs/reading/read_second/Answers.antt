@@ -10,16 +10,25 @@ use Rattle.rule_language.proofs.reading.read_second.Goals as goal
 -- what was found is the token that was taken
 pub returns-clause-ok : goal.returns-clause-ok
 returns-clause-ok c =
-    taken c.args.text.now c.args.token.now c.take.new.token c.second_term_in-found.result c.take.result (λ value. term_word value.0) (λ value. IsTyped (bindings c.args.scope.now) (is_same_sort c.args.sort) value)
+    taken c.args.text.now c.args.token.now c.take.new.token c.second_term_in-found.result c.take.result
+    (λ value. term_word value.0) (λ value. IsTyped (bindings c.args.scope.now) (is_same_sort c.args.sort) value)
     c.take.ensures.ok
-    (λ value is. term_found (bindings c.args.scope.now) (is_same_sort c.args.sort) (piece c.args.text.now c.args.token.now) value (sym (c.second_term_in-found.ensures ∙ ap (λ word. whose_sort (is_same_sort c.args.sort) (term_in (bindings c.args.scope.now) word)) c.word_of.ensures) ∙ is))
+    (λ value is. term_found (bindings c.args.scope.now) (is_same_sort c.args.sort)
+    (piece c.args.text.now c.args.token.now) value
+    (sym (c.second_term_in-found.ensures
+    ∙ ap (λ word. whose_sort (is_same_sort c.args.sort) (term_in (bindings c.args.scope.now) word))
+    c.word_of.ensures) ∙ is))
 
 -- the token is refused for what was found against it
 pub returns-clause-err : goal.returns-clause-err
 returns-clause-err c =
     if_fault c.take.result
     (λ at why refused.
-    asked c.args.text.now c.args.token.now (λ word. whose_sort (is_same_sort c.args.sort) (term_in (bindings c.args.scope.now) word)) (λ rest. second_term c.args.sort (bindings c.args.scope.now) ∷ rest) at why c.requires
+    asked c.args.text.now c.args.token.now
+    (λ word. whose_sort (is_same_sort c.args.sort) (term_in (bindings c.args.scope.now) word))
+    (λ rest. second_term c.args.sort (bindings c.args.scope.now) ∷ rest) at why c.requires
     (record { after = λ rest value. rest; met = λ rest token. refl; going = λ rest. refl })
-    (rw (c.second_term_in-found.ensures ∙ ap (λ word. whose_sort (is_same_sort c.args.sort) (term_in (bindings c.args.scope.now) word)) c.word_of.ensures) at refused))
+    (rw (c.second_term_in-found.ensures
+    ∙ ap (λ word. whose_sort (is_same_sort c.args.sort) (term_in (bindings c.args.scope.now) word))
+    c.word_of.ensures) at refused))
     c.take.ensures.err

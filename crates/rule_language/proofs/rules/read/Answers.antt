@@ -13,8 +13,10 @@ rules-init c = record {
 
 pub returns-in_err-rule : goal.returns-in_err-rule
 returns-in_err-rule c =
-    reads_fault c.args.text.now c.rules.token.start c.rules.rules.items c.read_rule.result c.in_err-rule.field-0.0 c.from_residual.result
-    c.rules.invariant.stand c.rules.invariant.good c.in_err-rule.was c.from_residual.ensures.1 (rw c.as_slice.ensures.value at c.read_rule.ensures.err)
+    reads_fault c.args.text.now c.rules.token.start c.rules.rules.items c.read_rule.result c.in_err-rule.field-0.0
+    c.from_residual.result
+    c.rules.invariant.stand c.rules.invariant.good c.in_err-rule.was c.from_residual.ensures.1
+    (rw c.as_slice.ensures.value at c.read_rule.ensures.err)
 
 pub rules-preserved : goal.rules-preserved
 rules-preserved c =
@@ -23,7 +25,13 @@ rules-preserved c =
     let read = rw c.as_slice.ensures.value at c.in_ok-rule.ensures.ok in
     record {
       next = read.0.1;
-      stand = rw c.in_ok-push.ensures.items (stand_more c.args.text.now c.rules.token c.read_rule.new.token before rule c.rules.invariant.stand read.0);
+      stand = rw c.in_ok-push.ensures.items
+          (stand_more c.args.text.now c.rules.token c.read_rule.new.token before rule c.rules.invariant.stand read.0);
       good = rw c.in_ok-push.ensures.items (good_more_rules before rule c.rules.invariant.good read.1);
-      few = omega (arith, few_rules c.as_slice.result.now rule c.in_ok-rule.ensures.ok.1, c.as_slice.ensures.len, c.in_ok-push.ensures.len);
+      few = omega (
+        arith,
+        few_rules c.as_slice.result.now rule c.in_ok-rule.ensures.ok.1,
+        c.as_slice.ensures.len,
+        c.in_ok-push.ensures.len,
+      );
     }

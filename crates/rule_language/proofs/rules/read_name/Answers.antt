@@ -12,13 +12,15 @@ returns-in_err-take-clause-err c =
     let token = c.args.token.now in
     let names = rule_names c.args.rules.now in
     let word = piece text token in
-    exit_first c.take.result c.in_err-take.field-0.0 c.from_residual.result text token.start (λ rest. rule_name names ∷ rest) (λ rest. rest)
+    exit_first c.take.result c.in_err-take.field-0.0 c.from_residual.result text token.start
+    (λ rest. rule_name names ∷ rest) (λ rest. rest)
     c.in_err-take.was c.from_residual.ensures.1
     (if_fault c.take.result
     (λ at why refused rest.
     refuse text token c.check_name.result (rule_name names ∷ rest) at why c.requires refused
     (λ reason against. ap (λ r. then_want r (λ name. formula [] 1 ∷ close ∷ more_rules (names ++ name ∷ []) ∷ rest))
-    (unchecked (name_in names word) reason (ap (λ w. checked (name_in names w)) (sym c.word_of-word.ensures) ∙ sym c.check_name.ensures ∙ against)))
+    (unchecked (name_in names word) reason (ap (λ w. checked (name_in names w)) (sym c.word_of-word.ensures)
+    ∙ sym c.check_name.ensures ∙ against)))
     (λ e. refl))
     c.take.ensures.err)
 
@@ -27,6 +29,7 @@ returns-clause-ok c =
     let word = piece c.args.text.now c.args.token.now in
     let names = rule_names c.args.rules.now in
     let taken = c.in_ok-take.ensures.ok in
-    let found = name_found names word c.in_ok-take.field-0 (ap (λ w. checked (name_in names w)) (sym c.word_of-word.ensures) ∙ sym c.check_name.ensures ∙ taken.0) in
+    let found = name_found names word c.in_ok-take.field-0
+    (ap (λ w. checked (name_in names w)) (sym c.word_of-word.ensures) ∙ sym c.check_name.ensures ∙ taken.0) in
     let same = c.in_ok-name_from.ensures ∙ c.word_of-word.ensures in
     (rw same (taken.1 (name_some word found.1)), rw same found.0)

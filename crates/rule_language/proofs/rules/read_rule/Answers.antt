@@ -16,8 +16,10 @@ returns-in_err-read_only-clause-err c =
     let a = c.args.token.now in
     let b = c.read_opening.new.token in
     let one = c.in_ok-read_opening.ensures.ok in
-    exit_behind c.read_only.result c.in_err-read_only.field-0.0 c.from_residual-in_err-read_only.result text a.start b.start (left ∷ [])
-    (λ rest. more_rules names ∷ []) (λ rest. rule_word names ∷ rest) (λ rest. []) c.in_err-read_only.was c.from_residual-in_err-read_only.ensures.1
+    exit_behind c.read_only.result c.in_err-read_only.field-0.0 c.from_residual-in_err-read_only.result text a.start
+    b.start (left ∷ [])
+    (λ rest. more_rules names ∷ []) (λ rest. rule_word names ∷ rest)
+    (λ rest. []) c.in_err-read_only.was c.from_residual-in_err-read_only.ensures.1
     (opened text names a b one.0 one.1)
     (c.read_only.ensures.err (λ rest. rule_word names ∷ rest) (rule_word_asks names))
 
@@ -29,8 +31,10 @@ returns-in_err-name-clause-err c =
     let b = c.read_opening.new.token in
     let d = c.read_only.new.token in
     let one = c.in_ok-read_opening.ensures.ok in
-    exit_behind c.read_name.result c.in_err-name.field-0.0 c.from_residual-in_err-name.result text a.start d.start (left ∷ codes "rule" ∷ [])
-    (λ rest. more_rules names ∷ []) (λ rest. rule_name names ∷ rest) (λ rest. []) c.in_err-name.was c.from_residual-in_err-name.ensures.1
+    exit_behind c.read_name.result c.in_err-name.field-0.0 c.from_residual-in_err-name.result text a.start d.start
+    (left ∷ codes "rule" ∷ [])
+    (λ rest. more_rules names ∷ []) (λ rest. rule_name names ∷ rest)
+    (λ rest. []) c.in_err-name.was c.from_residual-in_err-name.ensures.1
     (worded text names a b d one.0 one.1 c.in_ok-read_only.ensures.ok.0)
     c.read_name.ensures.err
 
@@ -44,9 +48,12 @@ returns-in_err-body-clause-err c =
     let e = c.read_name.new.token in
     let one = c.in_ok-read_opening.ensures.ok in
     let name = string_bytes c.in_ok-name.name in
-    exit_behind c.read_formula.result c.in_err-body.field-0.0 c.from_residual-in_err-body.result text a.start e.start (left ∷ codes "rule" ∷ name ∷ [])
-    (λ rest. more_rules names ∷ []) (λ rest. formula [] 1 ∷ rest) (λ rest. close ∷ more_rules (names ++ name ∷ []) ∷ []) c.in_err-body.was c.from_residual-in_err-body.ensures.1
-    (called text names a b d e name one.0 one.1 c.in_ok-read_only.ensures.ok.0 c.in_ok-name.ensures.ok.0 c.in_ok-name.ensures.ok.1)
+    exit_behind c.read_formula.result c.in_err-body.field-0.0 c.from_residual-in_err-body.result text a.start e.start
+    (left ∷ codes "rule" ∷ name ∷ [])
+    (λ rest. more_rules names ∷ []) (λ rest. formula [] 1 ∷ rest) (λ rest. close ∷ more_rules (names ++ name ∷ []) ∷ [])
+    c.in_err-body.was c.from_residual-in_err-body.ensures.1
+    (called text names a b d e name one.0 one.1 c.in_ok-read_only.ensures.ok.0 c.in_ok-name.ensures.ok.0
+    c.in_ok-name.ensures.ok.1)
     c.read_formula.ensures.err
 
 pub returns-in_err-read_only-2-clause-err : goal.returns-in_err-read_only-2-clause-err
@@ -61,11 +68,14 @@ returns-in_err-read_only-2-clause-err c =
     let one = c.in_ok-read_opening.ensures.ok in
     let name = string_bytes c.in_ok-name.name in
     let body = c.in_ok-body.body in
-    exit_behind c.read_only-2.result c.in_err-read_only-2.field-0.0 c.from_residual-in_err-read_only-2.result text a.start f.start
+    exit_behind c.read_only-2.result c.in_err-read_only-2.field-0.0 c.from_residual-in_err-read_only-2.result text
+    a.start f.start
     ((left ∷ codes "rule" ∷ name ∷ []) ++ tokens_then (tree_of body) [])
-    (λ rest. more_rules names ∷ []) (λ rest. close ∷ rest) (λ rest. more_rules (names ++ name ∷ []) ∷ []) c.in_err-read_only-2.was c.from_residual-in_err-read_only-2.ensures.1
+    (λ rest. more_rules names ∷ []) (λ rest. close ∷ rest) (λ rest. more_rules (names ++ name ∷ []) ∷ [])
+    c.in_err-read_only-2.was c.from_residual-in_err-read_only-2.ensures.1
     (said text names a e f name body
-    (called text names a b d e name one.0 one.1 c.in_ok-read_only.ensures.ok.0 c.in_ok-name.ensures.ok.0 c.in_ok-name.ensures.ok.1) c.in_ok-body.ensures.ok)
+    (called text names a b d e name one.0 one.1 c.in_ok-read_only.ensures.ok.0 c.in_ok-name.ensures.ok.0
+    c.in_ok-name.ensures.ok.1) c.in_ok-body.ensures.ok)
     (c.read_only-2.ensures.err (λ rest. close ∷ rest) close_asks)
 
 pub returns-clause-ok : goal.returns-clause-ok
@@ -84,7 +94,8 @@ returns-clause-ok c =
     let read = c.in_ok-body.ensures.ok in (
       rule_read text names a f g (record { name = name; body = body })
           (said text names a e f (string_bytes name) body
-          (called text names a b d e (string_bytes name) one.0 one.1 c.in_ok-read_only.ensures.ok.0 c.in_ok-name.ensures.ok.0 c.in_ok-name.ensures.ok.1) read)
+          (called text names a b d e (string_bytes name) one.0 one.1 c.in_ok-read_only.ensures.ok.0
+          c.in_ok-name.ensures.ok.0 c.in_ok-name.ensures.ok.1) read)
           c.in_ok-read_only-2.ensures.ok.0,
       rule_is names (string_bytes name) body one.1 c.in_ok-name.ensures.ok.1 read.lawful read.one,
     )

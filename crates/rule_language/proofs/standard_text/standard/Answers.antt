@@ -14,14 +14,17 @@ pub unreachable-requires : goal.unreachable-requires
 unreachable-requires c =
     let text = c.as_bytes.result.now in
     let spelt : rules_text standard_rules ≡ text = standard_written ∙ sym c.as_bytes.ensures.value in
-    let is : IsTextOf text standard_rules = subst (λ t. IsTextOf t standard_rules) spelt (written_is_text standard_rules refl) in
+    let is : IsTextOf text standard_rules =
+    subst (λ t. IsTextOf t standard_rules) spelt (written_is_text standard_rules refl) in
     let h = rw c.in-Err-At.field-0-is at c.in-Err-At.ensures in
-    fault_or_none text c.in-Err-At.field-0-0 c.in-Err-At.field-0-1 (h (λ e. absurd (cc))) (no_fault text standard_rules is)
+    fault_or_none text c.in-Err-At.field-0-0 c.in-Err-At.field-0-1 (h (λ e. absurd (cc)))
+    (no_fault text standard_rules is)
 
 -- and it is that of no others
 pub returns-in-Ok : goal.returns-in-Ok
 returns-in-Ok c =
     let text = c.as_bytes.result.now in
     let spelt : rules_text standard_rules ≡ text = standard_written ∙ sym c.as_bytes.ensures.value in
-    let is : IsTextOf text standard_rules = subst (λ t. IsTextOf t standard_rules) spelt (written_is_text standard_rules refl) in
+    let is : IsTextOf text standard_rules =
+    subst (λ t. IsTextOf t standard_rules) spelt (written_is_text standard_rules refl) in
     one_text text _ standard_rules (c.in-Ok.ensures (λ e. absurd (cc))) is
