@@ -18,6 +18,7 @@ module _ {T : Type 0} (node : T → Node) (E : List T) where
       Contains-flat_map_cases (λ e. (node e).names) E d
       (subst P is (Contains-permutation named names d (IsPermutation-sym names named moved) h))
 
+  -- and what is named is among the sorted names
   named_by : (names named : List (List ℕ)) (d : List ℕ) → names ≡ flat_map (λ e. (node e).names) E
       → IsPermutation names named → IsNamedIn node E d → Contains named d
   named_by names named d is moved (e, among, names_d) =
@@ -33,6 +34,7 @@ module _ {T : Type 0} (node : T → Node) (E : List T) where
       Contains-map_cases (λ e. (node e).digest) E d
       (subst P is (Contains-permutation borne digests d (IsPermutation-sym digests borne moved) h))
 
+  -- and what is borne is among the sorted digests
   borne_by : (digests borne : List (List ℕ)) (d : List ℕ) → digests ≡ map (λ e. (node e).digest) E
       → IsPermutation digests borne → IsBorneIn node E d → Contains borne d
   borne_by digests borne d is moved (e, among, bears_d) =

@@ -28,6 +28,7 @@ compare = slice_cmp nat_cmp
 below : (x y : List ℕ) → is_lt (compare y x) ≡ false → x ≢ y → compare x y ≡ Less
 below x y not_lt differ = by (compare y x) refl not_lt
   where
+    -- the same by how the two compare
     by : (o : Ordering) → compare y x ≡ o → is_lt o ≡ false → compare x y ≡ Less
     by Less e h = cc
     by Equal e h = absurd (differ (sym (exact_bytes y x e)))
@@ -43,6 +44,7 @@ not_below xs sorted i j d le within = sorted_far (λ x y. is_lt (compare x y))
 compare_self : (x : List ℕ) → compare x x ≡ Equal
 compare_self x = by (compare x x) refl
   where
+    -- the same by what the comparison says
     by : (o : Ordering) → compare x x ≡ o → compare x x ≡ Equal
     by Less e = let f : Less ≡ Greater = sym e ∙ nat_list_cmp_total.antisymm x x ∙ ap ordering_reverse e in cc
     by Equal e = e
@@ -52,6 +54,7 @@ compare_self x = by (compare x x) refl
 same_level : (x y : List ℕ) → is_lt (compare y x) ≡ false → is_lt (compare x y) ≡ false → x ≡ y
 same_level x y not_above not_below = by (compare x y) refl
   where
+    -- the same by how the two compare
     by : (o : Ordering) → compare x y ≡ o → x ≡ y
     by Less e = absurd (false≢true (sym not_below ∙ ap is_lt e))
     by Equal e = exact_bytes x y e
@@ -104,6 +107,7 @@ taken_cases xs i d c within is h =
     let P : List (List ℕ) → Type 0 = λ ys. Contains ys c in
     pushed_cases (take i xs) d c (subst P (take_more xs i d within ∙ ap (λ x. take i xs ++ x ∷ []) (sym is)) h)
 
+-- the digest at a place is among those up to it
 taken_last : (xs : List (List ℕ)) (i : ℕ) (d c : List ℕ) → i < length xs → d ≡ get_or xs i d → d ≡ c
     → Contains (take (i + 1) xs) c
 taken_last xs i d c within is same =
@@ -112,6 +116,7 @@ taken_last xs i d c within is same =
     subst P (sym (take_more xs i d within ∙ ap (λ x. take i xs ++ x ∷ []) (sym is)))
     (subst Q same (Contains-push (take i xs) d))
 
+-- what stands before a place is among those up to it
 taken_before : (xs : List (List ℕ)) (i : ℕ) (d c : List ℕ) → i < length xs → Contains (take i xs) c
     → Contains (take (i + 1) xs) c
 taken_before xs i d c within h =
