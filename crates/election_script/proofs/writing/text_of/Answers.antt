@@ -23,7 +23,8 @@ joined v s k l n m d o t p = simp (append_assoc, append-nil)
 pub returns : goal.returns
 returns c =
     let script = c.args.script.now in
-    let f : Kind → List (List (List ℕ)) = lines_of_kind (not (script.version == 1)) script (deeds_from 0 script.machines) in
+    let f : Kind → List (List (List ℕ)) =
+    lines_of_kind (not (script.version == 1)) script (deeds_from 0 script.machines) in
     let t : Kind → List ℕ = λ k. text_of_lines (f k) in
     rw (
       c.in_ok-push_steps.ensures,

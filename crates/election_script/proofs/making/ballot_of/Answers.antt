@@ -1,0 +1,32 @@
+use Rattle.std.proofs.Common.{◌≡◌, ◌+◌, ◌*◌, ◌++◌, length, take, replicate, arith, ap, sym, ◌∙◌}
+use Rattle.std.proofs.lemmas.List.{take_all}
+use Rattle.std.specs.List.{concat}
+use Rattle.lms_ots.specs.Ots.{u32str}
+use Rattle.lms_ots.proofs.Candidates.{length-u32str}
+use Rattle.election_script.proofs.DaySessions.{copies_more}
+use Rattle.election_script.proofs.making.ballot_of.Goals as goal
+
+-- one copy more
+pub loop-copy-preserved : goal.loop-copy-preserved
+loop-copy-preserved c =
+    let copy = c.loop-copy.copy in
+    let octets = u32str c.args.session in
+    let four : length c.u32_bytes-octets.result ≡ 4 =
+    ap length c.u32_bytes-octets.ensures ∙ length-u32str c.args.session in
+    let at : 4 * (copy + 1) ≡ 4 * copy + length c.u32_bytes-octets.result = omega arith in
+    record {
+      long = omega arith;
+      copies = ap (λ k. take k c.write_at.new.bytes) at ∙ c.write_at.ensures.written
+          ∙ ap (λ l. l ++ c.u32_bytes-octets.result) c.loop-copy.invariant.copies
+          ∙ ap (λ l. concat (replicate copy octets) ++ l) c.u32_bytes-octets.ensures
+          ∙ sym (copies_more copy octets);
+    }
+
+-- all eight
+pub returns : goal.returns
+returns c =
+    let ballot = c.loop-copy.ballot in
+    let all : c.loop-copy.copy ≡ 8 = omega arith in
+    sym (take_all 32 ballot (omega (arith, c.loop-copy.invariant.long)))
+    ∙ ap (λ k. take (4 * k) ballot) (sym all) ∙ c.loop-copy.invariant.copies
+    ∙ ap (λ k. concat (replicate k (u32str c.args.session))) all

@@ -1,0 +1,7 @@
+use Rattle.std.proofs.Common.{◌≡◌, ◌++◌, replicate}
+use Rattle.entry_order.specs.declared.step.Step.TheVariants.{Act}
+use Rattle.election_script.proofs.making.push_acts.Given as goal
+
+-- the acts so far
+abbrev pub invariant-loop-done : goal.invariant-loop-done
+invariant-loop-done l = l.steps.items ≡ l.fn.steps.items ++ replicate l.done (Act l.machine)

@@ -1,0 +1,12 @@
+use Rattle.std.proofs.Common.{◌≡◌, ◌≤◌, ◌-◌, ◌++◌, reverse}
+use Rattle.std.specs.List.{range_with_len}
+use Rattle.election_script.specs.Generated.{supervisor, hears}
+use Rattle.election_script.proofs.making.push_back_hears.Given as goal
+
+-- the numbers so far, which are the last
+abbrev pub invariant-loop-number : goal.invariant-loop-number
+invariant-loop-number l = record {
+  within : l.first ≤ l.number;
+  heard : l.steps.items ≡ l.fn.steps.items
+      ++ hears supervisor l.from (reverse (range_with_len l.number (l.end - l.number)));
+}

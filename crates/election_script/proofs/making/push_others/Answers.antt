@@ -1,0 +1,39 @@
+use Rattle.std.proofs.Common.{◌≡◌, ℕ, ◌-◌, ◌++◌, List, ◌==◌, Bool, not, filter, arith, ap, sym, ◌∙◌, eq-eqb}
+use Rattle.std.proofs.lemmas.Bool.{ne_eqb}
+use Rattle.std.specs.List.{flat_map, range_with_len}
+use Rattle.entry_order.specs.declared.step.Step.{Step}
+use Rattle.election_script.specs.Generated.{hears}
+use Rattle.election_script.proofs.DaySessions.{joined_more, kept_one, kept_none}
+use Rattle.election_script.proofs.making.push_others.Goals as goal
+use Rattle.election_script.proofs.making.push_others.Goals.{then-at-from+in_ok-push_hears, else-at-from}
+
+-- one booth more, which hears the entries where it isn't their maker
+pub loop-at-preserved : goal.loop-at-preserved
+loop-at-preserved c =
+    let at = c.loop-at.at in
+    let from = c.args.from in
+    let is_other : ℕ → Bool = λ other. not (other == from) in
+    let heard : ℕ → List Step = λ other. hears other from (range_with_len c.args.first (c.args.end - c.args.first)) in
+    let front : List Step = flat_map heard (filter is_other (range_with_len 1 (at - 1))) in
+    elim c.if-at-from.branch [
+      | then-at-from+in_ok-push_hears w ↦
+          rw w.steps-is
+          (joined_more c.args.steps.now.items c.loop-at.steps.items _ front (heard at) _
+          c.loop-at.invariant w.in_ok-push_hears.ensures
+          (kept_one heard is_other 1 at c.loop-at.auto.at (ap not (ne_eqb at from w.if-at-from.true))))
+      | else-at-from w ↦
+          rw w.steps-is
+          (c.loop-at.invariant
+          ∙ ap (λ l. c.args.steps.now.items ++ l)
+          (sym (kept_none heard is_other 1 at c.loop-at.auto.at (ap not (eq-eqb at from w.if-at-from.false)))))
+    ]
+
+-- all three
+pub returns : goal.returns
+returns c =
+    let at : c.loop-at.at ≡ 4 = omega arith in
+    let heard : ℕ → List Step = λ other.
+    hears other c.args.from (range_with_len c.args.first (c.args.end - c.args.first)) in
+    c.loop-at.invariant
+    ∙ ap (λ k. c.args.steps.now.items
+    ++ flat_map heard (filter (λ other. not (other == c.args.from)) (range_with_len 1 (k - 1)))) at

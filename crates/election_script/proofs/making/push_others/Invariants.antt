@@ -1,0 +1,10 @@
+use Rattle.std.proofs.Common.{◌≡◌, ◌-◌, ◌++◌, ◌==◌, not, filter}
+use Rattle.std.specs.List.{flat_map, range_with_len}
+use Rattle.election_script.specs.Generated.{hears}
+use Rattle.election_script.proofs.making.push_others.Given as goal
+
+-- the booths so far
+abbrev pub invariant-loop-at : goal.invariant-loop-at
+invariant-loop-at l = l.steps.items ≡ l.fn.steps.items ++ flat_map
+    (λ other. hears other l.from (range_with_len l.first (l.end - l.first)))
+    (filter (λ other. not (other == l.from)) (range_with_len 1 (l.at - 1)))

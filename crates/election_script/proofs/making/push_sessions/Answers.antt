@@ -1,0 +1,26 @@
+use Rattle.std.proofs.Common.{◌-◌, ◌%◌, refl, sym, ◌∙◌}
+use Rattle.std.proofs.lemmas.List.{append-nil, length-set}
+use Rattle.std.specs.List.{flat_map}
+use Rattle.election_script.specs.Generated.{session_steps, sessions}
+use Rattle.election_script.proofs.DaySessions.{joined_more, pieces_more}
+use Rattle.election_script.proofs.DayCounts.{made_more, none_made}
+use Rattle.election_script.proofs.making.push_sessions.Goals as goal
+
+-- nothing is made before the first
+pub loop-session-init : goal.loop-session-init
+loop-session-init c = record { steps = sym (append-nil c.args.steps.now.items); three = refl; made = none_made }
+
+-- one session more
+pub loop-session-preserved : goal.loop-session-preserved
+loop-session-preserved c =
+    let session = c.loop-session.session in
+    record {
+      steps = joined_more c.args.steps.now.items c.loop-session.steps.items c.push_session.new.steps.items
+          (flat_map session_steps (sessions (session - 1))) (session_steps session) _
+          c.loop-session.invariant.steps c.in_ok-made.ensures.steps
+          (pieces_more session_steps 1 session c.loop-session.auto.session);
+      three = length-set c.loop-session.made ((session - 1) % 3) c.in_ok-made.field-0 ∙ c.loop-session.invariant.three;
+      made = made_more c.loop-session.made session c.in_ok-made.field-0 c.loop-session.auto.session
+          c.loop-session.invariant.three
+          c.loop-session.invariant.made c.in_ok-made.ensures.end;
+    }

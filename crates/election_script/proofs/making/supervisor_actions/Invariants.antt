@@ -1,0 +1,8 @@
+use Rattle.std.proofs.Common.{◌≡◌, ◌-◌, ◌∷◌, map}
+use Rattle.entry_format.specs.declared.deed.Deed.TheVariants.{Opened}
+use Rattle.election_script.specs.Generated.{authorise_of, sessions}
+use Rattle.election_script.proofs.making.supervisor_actions.Given as goal
+
+-- the opening, and the sessions so far
+abbrev pub invariant-loop-session : goal.invariant-loop-session
+invariant-loop-session l = l.deeds.items ≡ Opened ∷ map authorise_of (sessions (l.session - 1))

@@ -1,0 +1,96 @@
+//! Days of sessions as texts. The expected ones are those of an independent program.
+use crate::{make, write};
+use std::alloc::Global;
+use std::test::Fail;
+
+const ONE_SESSION: &str = "seed 61756469746f7269756d
+key w4 h10
+log 6
+link 3
+machine sv supervisor
+machine b1 booth
+machine b2 booth
+machine b3 booth
+do sv open
+do sv authorise b1 1
+do sv close
+do b1 activate 1
+do b1 commit 1 0000000100000001000000010000000100000001000000010000000100000001
+do b1 cast 1 0000000100000001000000010000000100000001000000010000000100000001
+step act sv
+step hear b1 sv 0
+step hear b2 sv 0
+step hear b3 sv 0
+step act sv
+step hear b1 sv 1
+step hear b2 sv 1
+step hear b3 sv 1
+step act b1
+step act b1
+step act b1
+step hear sv b1 2
+step hear sv b1 1
+step hear sv b1 0
+step hear b2 b1 0
+step hear b2 b1 1
+step hear b2 b1 2
+step hear b3 b1 0
+step hear b3 b1 1
+step hear b3 b1 2
+step act sv
+step hear b1 sv 2
+step hear b2 sv 2
+step hear b3 sv 2
+";
+
+/// Lines of a day of ten sessions, by their numbers from 0.
+const TEN_SESSIONS: &str = "2 log 41
+3 link 12
+18 do sv authorise b1 10
+30 do b1 cancel 10
+203 step hear sv b1 10
+205 step hear b2 b1 9
+208 step hear b3 b1 10
+212 step hear b3 sv 11";
+
+/// Lines of a day of as many sessions as there may be.
+const MOST_SESSIONS: &str = "2 log 3122
+3 link 802
+808 do sv authorise b2 800
+2357 do b2 cancel 800
+15609 step hear sv b2 772
+15611 step hear b1 b2 773
+15617 step hear b3 sv 801";
+
+/// Whether the text has so many bytes, and each row's line at the number before it.
+fn has_lines(alloc: Global, text: &[u8], bytes: usize, rows: &str) -> Result<bool, Fail> {
+    let lines: Vec<&str> = std::str::from_utf8(text)?.lines().collect(alloc)?;
+    for row in rows.lines() {
+        let Some((number, want)) = row.split_once(' ') else {
+            return Ok(false);
+        };
+        let number: usize = number.parse()?;
+        if lines.get(number) != Some(&want) {
+            return Ok(false);
+        }
+    }
+    Ok(text.len() == bytes)
+}
+
+#[test]
+fn a_day_of_one_session_has_this_text(rt: HostRuntime) -> Result<(), Fail> {
+    let alloc = rt.alloc();
+    let text = write(alloc, &make(alloc, 1)?)?;
+    assert_eq!(rt; text.as_slice(), ONE_SESSION.as_bytes());
+    Ok(())
+}
+
+#[test]
+fn longer_days_have_these_lines(rt: HostRuntime) -> Result<(), Fail> {
+    let alloc = rt.alloc();
+    let ten = write(alloc, &make(alloc, 10)?)?;
+    assert!(rt; has_lines(alloc, ten.as_slice(), 4683, TEN_SESSIONS)?);
+    let most = write(alloc, &make(alloc, 800)?)?;
+    assert!(rt; has_lines(alloc, most.as_slice(), 374792, MOST_SESSIONS)?);
+    Ok(())
+}
