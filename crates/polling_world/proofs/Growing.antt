@@ -18,6 +18,7 @@ use Rattle.entry_order.proofs.Histories.{IsLegal-push, sent-append, sent_few}
 module _ {T : Type 0} where
   -- ---- a machine that has stopped
 
+  -- a machine that stops leaves all histories as they were
   history_stop : (w : World T) (at n : ℕ) → history (with_machine at stop w) n ≡ history w n
   history_stop [] at n = refl
   history_stop (a ∷ w) zero zero = refl
@@ -69,12 +70,14 @@ module _ {T : Type 0} where
             ]
       ]
 
+  -- what was sent is still sent with one event more
   pub sent_in-grown : (w : World T) (at : ℕ) (x : Event T) (a : Machine T) → slice_get w at ≡ Some a → (e : T) →
       Contains (sent_in w) e → Contains (sent_in (with_machine at (append x) w)) e
   sent_in-grown w at x a is e c =
       let r = sent_in_cases w e c in
       sent_in_from (with_machine at (append x) w) r.0 e (Contains-grown w at r.0 x (Sent e) a is r.1)
 
+  -- and what is sent with it was sent before, or is that event
   pub sent_in-grown_cases : (w : World T) (at : ℕ) (x : Event T) (a : Machine T) → slice_get w at ≡ Some a → (e : T) →
       Contains (sent_in (with_machine at (append x) w)) e → Contains (sent_in w) e ⊎ (x ≡ Sent e)
   sent_in-grown_cases w at x a is e c =
@@ -107,6 +110,7 @@ module _ {T : Type 0} where
       omega (arith, rest, here, sent_few a.history, length-append (sent a.history) (sent_in w))
 
 module _ {T : Type 0} (node : T → Node) where
+  -- a greatest stamp that begins below a bound stays below it where all stamps are
   fold_at_most : (most top : ℕ) (es : List T) → top ≤ most → ((e : T) → Contains es e → (node e).stamp ≤ most) →
       fold (λ top e. max top (node e).stamp) top es ≤ most
   fold_at_most most top [] le all = le
@@ -114,6 +118,7 @@ module _ {T : Type 0} (node : T → Node) where
       let here = all e (Contains-head e es) in
       fold_at_most most (max top (node e).stamp) es (omega (arith, here)) (λ f c. all f (Contains-later e es f c))
 
+  -- the greatest of stamps up to a bound is up to it
   greatest_at_most : (most : ℕ) (es : List T) → ((e : T) → Contains es e → (node e).stamp ≤ most) →
       greatest_stamp node es ≤ most
   greatest_at_most most es all = fold_at_most most 0 es (omega arith) all
@@ -126,10 +131,12 @@ module _ {T : Type 0} (node : T → Node) where
         let r = Contains-map_cases entry_of (history w n) e c in
         subst (λ (f : T). (node f).stamp ≤ most) r.2 (by r.0 r.1)
       where
+        -- the same of each event that is held
         by : (y : Event T) → Contains (history w n) y → (node (entry_of y)).stamp ≤ most
         by (Sent f) h = all f (sent_in_from w n f h)
         by (Got f) h = all f (orderly.heard n f h)
 
+    -- so the greatest stamp that a machine holds is as small
     pub held_greatest : (most n : ℕ) → ((e : T) → Contains (sent_in w) e → (node e).stamp ≤ most) →
         greatest_stamp node (held (history w n)) ≤ most
     held_greatest most n all = greatest_at_most most (held (history w n)) (held_stamps most n all)
@@ -148,6 +155,7 @@ module _ {T : Type 0} (node : T → Node) where
           ((e : T) → x ≡ Got e → Contains (sent_in w) e) → IsOrderly node (with_machine at (append x) w)
       IsOrderly-append x a is may was_sent = record { legal = legal; heard = heard }
         where
+          -- each history is legal with the event
           legal : (n : ℕ) → IsLegal node n (history (with_machine at (append x) w) n)
           legal n =
               elim (grown w at n x a is) [
@@ -158,6 +166,7 @@ module _ {T : Type 0} (node : T → Node) where
                     (subst (λ (i : ℕ). MayFollow node i a.history x) (sym r.0) may))
               ]
 
+          -- what is got in it was sent
           heard : (n : ℕ) (e : T) → Contains (history (with_machine at (append x) w) n) (Got e) →
               Contains (sent_in (with_machine at (append x) w)) e
           heard n e c =

@@ -43,17 +43,20 @@ entries_push h x =
     ap (map (λ (sealed : SealedEntry). sealed.entry)) (map_push (λ (x : Event SealedEntry). entry_of x) h x)
     ∙ map_push (λ (sealed : SealedEntry). sealed.entry) (held h) (entry_of x)
 
+-- a digest that is put into its place makes at most one more
 length-inserted : (o : Ordering) (d c : List ℕ) (cs after : List (List ℕ)) → length after ≤ length cs + 1 →
     length (inserted o d c cs after) ≤ length cs + 2
 length-inserted Less d c cs after few = omega arith
 length-inserted Equal d c cs after few = omega arith
 length-inserted Greater d c cs after few = omega (arith, few)
 
+-- so inserting a digest adds at most one
 length-insert_digest : (d : List ℕ) (ds : List (List ℕ)) → length (insert_digest d ds) ≤ length ds + 1
 length-insert_digest d [] = omega arith
 length-insert_digest d (c ∷ cs) =
     omega (arith, length-inserted (slice_cmp nat_cmp d c) d c cs (insert_digest d cs) (length-insert_digest d cs))
 
+-- in order digests are no more than they were
 length-ascending : (ds : List (List ℕ)) → length (ascending ds) ≤ length ds
 length-ascending [] = omega arith
 length-ascending (d ∷ ds) = omega (arith, length-insert_digest d (ascending ds), length-ascending ds)

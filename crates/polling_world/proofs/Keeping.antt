@@ -40,11 +40,13 @@ one_more : (stop : Option ℕ) (count : ℕ) → is_reached stop count ≡ false
 one_more None count going = tt
 one_more (Some stop) count going = omega (arith, leb-false stop count going)
 
+-- where neither of two holds the second doesn't
 or_false : (a b : Bool) → IsTrue (not (a || b)) → b ≡ false
 or_false true b going = cc
 or_false false true going = cc
 or_false false false going = refl
 
+-- a machine that is going hasn't reached its number of events
 not_reached : (m : MachineState) → IsGoing m → is_reached m.stop (length m.events) ≡ false
 not_reached m going = or_false m.marked (is_reached m.stop (length m.events)) going
 
@@ -150,6 +152,7 @@ none_yet : (stop : Option ℕ) → IsWithinStop stop 0
 none_yet None = tt
 none_yet (Some stop) = omega arith
 
+-- the machine of a lawful script is one before anything happened
 IsMachine-fresh : (script : Script) (at : ℕ) (cast : Cast0) (stop : Option ℕ) → IsLawful script →
     slice_get script.machines at ≡ Some cast → IsMachine (fresh script at cast stop)
 IsMachine-fresh script at cast stop lawful is =
@@ -213,6 +216,7 @@ module _ (m : MachineState) (election : List ℕ) (next capacity : ℕ) (before 
     few = kept.few;
   }
 
+  -- it keeps what it has to, whatever the log answered
   heard_kept : IsGoing m → (e : SealedEntry) (heard : Heard SealedEntry) →
       IsAnswer node_of_sealed (log_of m) e heard →
       StandFor after m.config.role m.config.number (entries_in (log_after heard e (log_of m)).events) →

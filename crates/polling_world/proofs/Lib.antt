@@ -13,3 +13,5 @@ pub mod WorldSteps
 pub mod WorldMaking
 pub mod Played
 pub mod Taking
+pub mod Ranking
+pub mod Sorting

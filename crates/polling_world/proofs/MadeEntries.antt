@@ -28,6 +28,7 @@ pub entry-made : (config : Config) (k stamp : ℕ) (names : List (List ℕ)) (de
 unfolding made
 entry-made config k stamp names deed = refl
 
+-- a sealed entry of these parts
 abbrev sealed_of : Entry → List ℕ → List ℕ → List ℕ → List ℕ → SealedEntry
 sealed_of entry signature text digest key =
     record { entry = entry; signature = signature; text = text; digest = digest; key = key }
@@ -70,6 +71,7 @@ entry_of_parts version election maker number stamp names deed = record {
   deed = deed;
 }
 
+-- entries with the same parts are the same
 pub same_entry : (e f : Entry) → e.version ≡ f.version → e.election ≡ f.election → e.maker ≡ f.maker →
     e.number ≡ f.number → e.stamp ≡ f.stamp → e.names ≡ f.names → e.deed ≡ f.deed → e ≡ f
 same_entry e f version election maker number stamp names deed =

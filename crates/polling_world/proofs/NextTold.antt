@@ -33,6 +33,7 @@ use Rattle.polling_world.specs.Sending.{MaySend, next_action}
 abbrev Either : Type 0 → Type 0
 Either P = P ⊎ (P → ⊥)
 
+-- what a test decides holds or doesn't
 either : (b : Bool) (P : Type 0) → Decides b P → Either P
 either true P is = inl (is.0 refl)
 either false P is = inr (λ p. let yes : false ≡ true = is.1 p in cc)
@@ -44,12 +45,14 @@ supervisor_by owner entries deed (Ok done) is = inl is
 supervisor_by owner entries deed (Err why) is = inr
     (λ may. let same = one_first (supervisor.causes_of owner entries deed) (Ok tt) (Err why) may is in cc)
 
+-- and so do a booth's rules
 booth_by : (owner : ℕ) (entries : List Entry) (IsWhole : Type 0) (deed : Deed) (answer : Result (Unit {0}) BoothNot)
     → booth.Refuses owner entries IsWhole deed answer → Either (booth.Refuses owner entries IsWhole deed (Ok tt))
 booth_by owner entries IsWhole deed (Ok done) is = inl is
 booth_by owner entries IsWhole deed (Err why) is = inr
     (λ may. let same = one_first (booth.causes_of owner entries IsWhole deed) (Ok tt) (Err why) may is in cc)
 
+-- so whatever the role, the rules allow a deed or they don't
 role_either : (role : Role) (owner : ℕ) (h : List (Event SealedEntry)) (deed : Deed)
     → Either (RoleRefuses role owner h deed (Ok tt))
 role_either Supervisor owner h deed =
@@ -60,9 +63,11 @@ role_either Booth owner h deed =
     let first = booth_answer.answered owner (entries_in h) (IsWhole h) whole.0 deed whole.1 in
     booth_by owner (entries_in h) (IsWhole h) deed first.0 first.1
 
+-- an entry's digest is new among those held or it isn't
 new_either : (h : List (Event SealedEntry)) (e : SealedEntry) → Either (IsNew node_of_sealed (held h) e)
 new_either h e = new_by h e (has_digest node_of_sealed (held h) e.digest) refl
   where
+    -- the same by the test whether it is held
     new_by : (h : List (Event SealedEntry)) (e : SealedEntry) (b : Bool)
         → has_digest node_of_sealed (held h) e.digest ≡ b → Either (IsNew node_of_sealed (held h) e)
     new_by h e false is = inl (IsNew-from_test node_of_sealed (held h) e is)
@@ -78,6 +83,7 @@ same_deed : (config : Config) (h : List (Event SealedEntry)) (deed : Deed) → n
     → (e : SealedEntry) → (may : MaySend config h e) → may.deed ≡ deed
 same_deed config h deed is e may = let action = may.action in cc
 
+-- where each part is decided, it is told what the machine sends
 told_by : (config : Config) (h : List (Event SealedEntry)) (deed : Deed) → next_action config h ≡ Some deed
     → Either (MayDo config h deed) → Either (length h < config.log) → Either (length (sent h) < 2 ^ config.key.height)
     → Either (IsNew node_of_sealed (held h) (next_entry config h deed)) → Told config h
@@ -99,6 +105,7 @@ told_by config h deed is (inl allowed) (inl room) (inl unspent) (inr held_alread
       held_already (subst (λ f. IsNew node_of_sealed (held h) f) same may.new),
 )
 
+-- the same by whether the machine has an action left
 told_at : (config : Config) (h : List (Event SealedEntry)) (action : Option Deed) → next_action config h ≡ action
     → Told config h
 told_at config h None is = (None, λ e may. let action = may.action in cc)
@@ -109,6 +116,7 @@ told_at config h (Some deed) is =
     (Decides-ltb (length (sent h)) (2 ^ config.key.height)))
     (new_either h (next_entry config h deed))
 
+-- of each history it is told what the machine may send
 told : (config : Config) (h : List (Event SealedEntry)) → Told config h
 told config h = told_at config h (next_action config h) refl
 
@@ -117,6 +125,7 @@ told_of : Option Config → List (Event SealedEntry) → Option SealedEntry
 told_of None h = None
 told_of (Some config) h = (told config h).0
 
+-- what is told of a machine, if it is there, is what it may send
 told_is : (o : Option Config) (h : List (Event SealedEntry)) → IsNextAt o h (told_of o h)
 unfolding told_of
 told_is None h = refl
@@ -126,6 +135,7 @@ told_is (Some config) h = (told config h).1
 pub next_of : List Config → ℕ → List (Event SealedEntry) → Option SealedEntry
 next_of configs m h = told_of (slice_get configs m) h
 
+-- that function tells it of each machine
 pub tells_next : (configs : List Config) → TellsNext configs (next_of configs)
 unfolding next_of
 tells_next configs = λ m h. told_is (slice_get configs m) h
@@ -140,11 +150,13 @@ one_next config h (Some e) (Some f) first second =
     let deed : first.deed ≡ second.deed = same_deed config h second.deed second.action e first in
     ap Some (first.made ∙ ap (λ d. next_entry config h d) deed ∙ sym second.made)
 
+-- and so for a machine that may not be there
 one_at : (at : Option Config) (h : List (Event SealedEntry)) (o p : Option SealedEntry) → IsNextAt at h o
     → IsNextAt at h p → o ≡ p
 one_at None h o p first second = first ∙ sym second
 one_at (Some config) h o p first second = one_next config h o p first second
 
+-- so two such functions are one, history by history
 pub tells_same : (configs : List Config) (next other : ℕ → List (Event SealedEntry) → Option SealedEntry)
     → TellsNext configs next → TellsNext configs other → (m : ℕ) (h : List (Event SealedEntry)) → next m h ≡ other m h
 tells_same configs next other first second m h =

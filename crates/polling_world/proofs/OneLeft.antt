@@ -16,6 +16,7 @@ use Rattle.polling_world.specs.Machines.{MachineState, has_stopped}
 use Rattle.polling_world.specs.Rules.{RoleRefuses, IsWhole, entries_in}
 use Rattle.polling_world.specs.Waiting.{IsWhy, IsLeft}
 
+-- what holds isn't denied
 clash : (b : Bool) → IsTrue b → IsTrue (not b) → ⊥
 clash true so none = cc
 clash false so none = cc
@@ -34,6 +35,7 @@ supervisor_rule owner h deed (Err (why.SupervisorNot v)) (Err (why.SupervisorNot
 supervisor_rule owner h deed (Err (why.SupervisorNot v)) (Err _) p q = absurd q
 supervisor_rule owner h deed (Err _) b p q = absurd p
 
+-- and so do those of a booth
 booth_rule : (owner : ℕ) (h : List (Event SealedEntry)) (deed : Deed) (a b : Result (Unit {0}) LeftWhy)
     → RoleRefuses Booth owner h deed a → RoleRefuses Booth owner h deed b → a ≡ b
 booth_rule owner h deed (Ok x) (Ok y) p q = refl
@@ -47,6 +49,7 @@ booth_rule owner h deed (Err (why.BoothNot v)) (Err (why.BoothNot w)) p q =
 booth_rule owner h deed (Err (why.BoothNot v)) (Err _) p q = absurd q
 booth_rule owner h deed (Err _) b p q = absurd p
 
+-- so the rules give one answer, whatever the role
 one_rule : (role : Role) (owner : ℕ) (h : List (Event SealedEntry)) (deed : Deed) (a b : Result (Unit {0}) LeftWhy)
     → RoleRefuses role owner h deed a → RoleRefuses role owner h deed b → a ≡ b
 one_rule Supervisor owner h deed a b p q = supervisor_rule owner h deed a b p q
@@ -137,6 +140,7 @@ one_why m deed why.Ready why.StampSpent x y = absurd (x.stamp y.3)
 one_why m deed why.Ready why.Spent x y = absurd (let spent = y.4 in let unspent = x.unspent in omega arith)
 one_why m deed why.Ready why.Ready x y = refl
 
+-- what is left of a machine's actions is told in one way
 pub one_left : (m : MachineState) (a b : Option Left) → IsLeft m a → IsLeft m b → a ≡ b
 one_left m None None p q = refl
 one_left m None (Some k) p q = let there = q.1 in cc

@@ -60,6 +60,7 @@ same_machines script ms ns p q worlds =
     ∙ get_or-map machine_of ns k d (machine_of d) (omega arith) in
     same_machine m n config (p.no_stop k m at) (q.no_stop k n there) same)
 
+-- machines that have played one script are the same machines
 pub one_play : (script : Script) (ms ns : List MachineState) → IsPlayed script ms → IsPlayed script ns → ms ≡ ns
 one_play script ms ns p q =
     let (next, tells, played) = p.played in

@@ -20,11 +20,13 @@ sent_at_sent w m n e is =
     (n, slice_get_within (sent (history w m)) n e is, get_or_from_slice_get (sent (history w m)) n e e is))
 
 module _ {X Y : Type 0} (f : X → Y) where
+  -- the value at a place is that of the item there
   pub get-map : (xs : List X) (i : ℕ) (x : X) → slice_get xs i ≡ Some x → slice_get (map f xs) i ≡ Some (f x)
   get-map [] i x e = cc
   get-map (y ∷ xs) zero x e = let same : y ≡ x = cc in ap (λ (z : X). Some (f z)) same
   get-map (y ∷ xs) (suc i) x e = get-map xs i x e
 
+  -- and each value at a place is of an item there
   pub get-map_from : (xs : List X) (i : ℕ) (y : Y) → slice_get (map f xs) i ≡ Some y →
       (x : X) × (slice_get xs i ≡ Some x) × (f x ≡ y)
   get-map_from [] i y e = cc
@@ -40,11 +42,13 @@ module _ {X Y : Type 0} (f : X → Y) where
   map-set_same (z ∷ xs) (suc i) x y e same = ap (λ (vs : List Y). f z ∷ vs) (map-set_same xs i x y e same)
 
 module _ {X : Type 0} where
+  -- an item that is put back where it stands changes nothing
   pub set_same : (xs : List X) (i : ℕ) (x : X) → slice_get xs i ≡ Some x → slice_set xs i x ≡ xs
   set_same [] i x e = cc
   set_same (y ∷ xs) zero x e = let same : y ≡ x = cc in ap (λ (z : X). z ∷ xs) (sym same)
   set_same (y ∷ xs) (suc i) x e = ap (λ (zs : List X). y ∷ zs) (set_same xs i x e)
 
+  -- what was put in a place stands there
   pub set_get : (xs : List X) (i : ℕ) (x y : X) → slice_get xs i ≡ Some x → slice_get (slice_set xs i y) i ≡ Some y
   set_get [] i x y e = cc
   set_get (z ∷ xs) zero x y e = refl
@@ -83,6 +87,7 @@ history_there [] at m e = cc
 history_there (n ∷ ms) zero m e = let here : n ≡ m = cc in ap (λ (u : MachineState). u.events) here
 history_there (n ∷ ms) (suc at) m e = history_there ms at m e
 
+-- the history of a machine by its place
 pub history_at : (ms : List MachineState) (at : ℕ) (d : MachineState) → at < length ms →
     history (world_of ms) at ≡ (slice_index_or ms at d).events
 history_at [] at d l = absurd (omega arith)
@@ -94,6 +99,7 @@ pub stopped_by_mark : (m : MachineState) → m.stop ≡ None → has_stopped m �
 stopped_by_mark m none =
     ap (λ (stop : Option ℕ). m.marked || is_reached stop (length m.events)) none ∙ or_false m.marked
   where
+    -- with a test that fails the other decides
     or_false : (b : Bool) → (b || false) ≡ b
     or_false true = refl
     or_false false = refl
@@ -105,5 +111,6 @@ machine_of-event m x none =
     ap (λ (b : Bool). record { history = m.events ++ x ∷ []; stopped = b })
     (stopped_by_mark (with_event x m) none ∙ sym (stopped_by_mark m none))
 
+-- a machine that is marked as stopped is stopped in the world
 pub machine_of-stop : (m : MachineState) → machine_of (record m { marked = true }) ≡ stop (machine_of m)
 machine_of-stop m = refl

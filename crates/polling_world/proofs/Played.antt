@@ -28,6 +28,7 @@ same_by : {X Y : Type 0} (f : X → Y) (x : X) (o : Option X) → option_map f o
 same_by f x None is = cc
 same_by f x (Some y) is = (y, refl, cc)
 
+-- the same at a place of two lists that are mapped to one
 same_at : {X Y : Type 0} (f : X → Y) (xs ys : List X) (k : ℕ) (x : X) → map f xs ≡ map f ys → slice_get xs k ≡ Some x
     → (y : X) × (slice_get ys k ≡ Some y) × (f x ≡ f y)
 same_at {X} {Y} f xs ys k x same at =
@@ -37,13 +38,18 @@ same_at {X} {Y} f xs ys k x same at =
 
 -- what steps leave of what the machines are made of
 pub record Stays (script : Script) (first now : List MachineState) : Type 0 where
+  -- the first machines are the script's, before anything happened
   pub fresh : AreFresh script first
+  -- they are made of what the first ones were
   pub configs : configs_of now ≡ configs_of first
+  -- they stop where the first ones would
   pub stops : stops_of now ≡ stops_of first
 
+-- before the first step nothing has changed
 pub stays_first : (script : Script) (first : List MachineState) → AreFresh script first → Stays script first first
 stays_first script first fresh = record { fresh = fresh; configs = refl; stops = refl }
 
+-- a step that leaves what machines are made of and where they stop leaves this so
 pub stays_more : (script : Script) (first now new : List MachineState) → Stays script first now
     → configs_of new ≡ configs_of now → stops_of new ≡ stops_of now → Stays script first new
 stays_more script first now new stays configs stops =
@@ -62,6 +68,7 @@ made_at : (script : Script) (first now : List MachineState) (k : ℕ) (m : Machi
     → (f : MachineState) × (slice_get first k ≡ Some f) × (m.config ≡ f.config)
 made_at script first now k m stays at = same_at (λ (u : MachineState). u.config) now first k m stays.configs at
 
+-- the machines are the script's, each at its place
 pub are_of : (script : Script) (first now : List MachineState) → Stays script first now → AreOf script now
 are_of script first now stays = record {
   count = count_stays script first now stays;
@@ -84,6 +91,7 @@ are_of script first now stays = record {
       was.2 ∙ ap (λ (f : MachineState). f.stop) fresh.2;
 }
 
+-- each has a log of the script's size
 pub have_log : (script : Script) (first now : List MachineState) → Stays script first now → HaveLog script.log now
 have_log script first now stays = λ k d within.
     let at = slice_get-get_or now k d within in
@@ -98,6 +106,7 @@ step_in machines count (Act machine) same is = omega arith
 step_in machines count (Hear at from number) same is = (omega arith, omega arith)
 step_in machines count (Stop machine) same is = omega arith
 
+-- each step of a lawful script is one of the machines
 pub step_of : (script : Script) (first now : List MachineState) (steps : List Step) (i : ℕ) (d : Step)
     → IsLawful script → Stays script first now → steps ≡ script.steps → i < length steps
     → IsStepOf (length now) (get_or steps i d)
@@ -118,6 +127,7 @@ starts script first k d fresh within =
       | inr past ↦ absurd (omega arith)
     ]
 
+-- so the world is at its start
 pub at_start : (script : Script) (first : List MachineState) → AreFresh script first
     → world_of first ≡ start (length script.machines)
 at_start script first fresh =
@@ -135,11 +145,13 @@ Leads script first now steps =
     play node_of_sealed next script.log (world_of now) steps
     ≡ play node_of_sealed next script.log (world_of first) script.steps
 
+-- before the first step all steps are left
 pub leads_first : (script : Script) (first : List MachineState) (steps : List Step) → steps ≡ script.steps
     → Leads script first first steps
 leads_first script first steps same next tells =
     ap (λ (ss : List Step). play node_of_sealed next script.log (world_of first) ss) same
 
+-- a step that is the world's leads on to where the others lead
 pub leads_more : (script : Script) (first now new : List MachineState) (steps : List Step) (i : ℕ) (d : Step)
     → i < length steps → Stays script first now
     → ((next : ℕ → List (Event SealedEntry) → Option SealedEntry) (log : ℕ) → TellsNext (configs_of now) next
@@ -153,6 +165,7 @@ leads_more script first now new steps i d within stays happened leads next tells
     ap (λ (w : World SealedEntry). play node_of_sealed next script.log w rest) same
     ∙ ap (λ (ss : List Step). play node_of_sealed next script.log (world_of now) ss) here ∙ leads next tells
 
+-- once no step is left the machines have played the script
 pub played_whole : (script : Script) (first now : List MachineState) (steps : List Step) (i : ℕ)
     → length steps ≤ i → Stays script first now → Leads script first now (drop i steps) → IsPlayed script now
 played_whole script first now steps i past stays leads =

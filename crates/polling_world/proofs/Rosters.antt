@@ -27,6 +27,7 @@ use Rattle.election_script.specs.Lawful.{IsLawful}
 use Rattle.polling_world.specs.Keys.{machine_id, key_of, post_of, roster_of}
 use Rattle.polling_world.specs.Making.{election_of}
 
+-- a node of the key's tree has 32 octets
 length-node : (kind : OtsKind) (h : ℕ) (id seed : List ℕ) (n r : ℕ) → length (node kind h id seed n r) ≡ 32
 unfolding node leaf interior
 length-node kind h id seed zero r = length-sha256 _
@@ -50,19 +51,23 @@ length-public s sixteen =
       length-node s.kind s.height s.id s.seed s.height 1,
     )
 
+-- a machine's identifier has 16 octets
 length-id : (seed name : List ℕ) → length (machine_id seed name) ≡ 16
 unfolding machine_id
 length-id seed name =
     let hash = sha256 (codes "auditorium id" ++ seed ++ name) in
     length-take-le 16 hash (omega (arith, length-sha256 (codes "auditorium id" ++ seed ++ name)))
 
+-- each machine of the roster has a key
 has_key : (script : Script) (cast : Cast0) → HasKey (post_of script cast)
 has_key script cast = length-public (key_of script cast) (length-id script.seed cast.name)
 
+-- the machine at a place of the script
 some_of : (casts : List Cast0) (k : ℕ) → k < length casts → Cast0
 some_of [] k within = absurd (omega arith)
 some_of (cast ∷ casts) k within = cast
 
+-- no two machines of the roster have one name
 distinct_posts : (script : Script) → IsLawful script → AreDistinct (roster_of script)
 distinct_posts script lawful i j d before within same =
     let casts = script.machines in
@@ -75,12 +80,14 @@ distinct_posts script lawful i j d before within same =
     lawful.machines.distinct i j cast before long
     (sym (ap (λ (post : Post). post.name) first) ∙ same ∙ ap (λ (post : Post). post.name) second)
 
+-- as many supervisors are counted in the roster as in the script
 sums : (script : Script) (casts : List Cast0) (n : ℕ) →
     fold (λ n (post : Post). n + (if is_supervisor post.role then 1 else 0)) n (map (post_of script) casts)
     ≡ fold (λ n (cast : Cast0). n + (if is_supervisor cast.role then 1 else 0)) n casts
 sums script [] n = refl
 sums script (cast ∷ casts) n = sums script casts (n + (if is_supervisor cast.role then 1 else 0))
 
+-- so the roster has as many supervisors as the script
 supervisors : (script : Script) → count_by (λ (post : Post). is_supervisor post.role) (roster_of script)
     ≡ count_by (λ (cast : Cast0). is_supervisor cast.role) script.machines
 supervisors script = sums script script.machines 0

@@ -41,6 +41,7 @@ IsOfRules (left.SupervisorNot why) = Unit {0}
 IsOfRules (left.BoothNot why) = Unit {0}
 IsOfRules _ = ⊥
 
+-- a cause against a deed that a role's rules give is one of theirs
 of_rules : (role : Role) (owner : ℕ) (h : List (Event SealedEntry)) (deed : Deed) (why : LeftWhy) →
     RoleRefuses role owner h deed (Err why) → IsOfRules why
 of_rules Supervisor owner h deed (left.SupervisorNot why) refused = tt
@@ -85,6 +86,7 @@ same_whole A B owner entries (Cancel session) answer same first = first
 same_whole A B owner entries (Challenge session ballot) answer same first =
     fifth_alike A B _ _ _ _ _ _ _ _ _ answer (same refl) first
 
+-- notes that stand for a supervisor's entries stand for them with one more
 supervisor_row : (before after : supervisor_notes.Notes) (entry : Entry) →
     ((owner : ℕ) (entries : List Entry) → supervisor_state.StandsFor before owner entries →
     supervisor_state.StandsFor after owner (entries ++ entry ∷ [])) →
@@ -104,6 +106,7 @@ supervisor_noted state before after entry is kept role owner entries stand =
     supervisor_row before after entry kept role owner entries
     (subst (λ (s : Rules). StandFor s role owner entries) is stand)
 
+-- notes that stand for a booth's entries stand for them with one more
 booth_row : (before after : booth_notes.Notes) (entry : Entry) →
     ((owner : ℕ) (entries : List Entry) → booth_state.StandsFor before owner entries →
     booth_state.StandsFor after owner (entries ++ entry ∷ [])) →

@@ -36,6 +36,7 @@ use Rattle.polling_world.proofs.Placing.{machine_of-event}
 
 -- ---- one answer
 
+-- a row without a cause that applies has no first cause
 one_first : {Cause : Type 0} (row : List (Type 0 × Cause)) (cause : Cause) → IsFirstOf row (Ok tt) →
     IsFirstOf row (Err cause) → ⊥
 one_first [] cause h k = cc
@@ -53,26 +54,31 @@ refuses_one Booth owner h deed (left.BoothNot why) ok err =
     one_first (booth.causes_of owner (entries_in h) (IsWhole h) deed) why ok err
 refuses_one Booth owner h deed _ ok err = err
 
+-- what is denied by a test that holds fails
 not_true : (b : Bool) → not b ≡ true → b ≡ false
 not_true true e = cc
 not_true false e = refl
 
 -- ---- what is sent
 
+-- where nothing may be sent a machine stays as it is
 send_none : (o : Option SealedEntry) (a : Machine SealedEntry) → ((e : SealedEntry) → o ≡ Some e → ⊥) → send o a ≡ a
 send_none None a none = refl
 send_none (Some e) a none = absurd (none e refl)
 
+-- a stopped machine sends nothing
 send_stopped : (o : Option SealedEntry) (a : Machine SealedEntry) → a.stopped ≡ true → send o a ≡ a
 send_stopped None a is = refl
 send_stopped (Some e) a is = ap (λ (b : Bool). cond b a (append (Sent e) a)) is
 
+-- a machine that is going sends what it is told
 send_going : (o : Option SealedEntry) (a : Machine SealedEntry) (e : SealedEntry) → o ≡ Some e → a.stopped ≡ false →
     send o a ≡ append (Sent e) a
 send_going o a e is going =
     ap (λ (p : Option SealedEntry). send p a) is ∙ ap (λ (b : Bool). cond b a (append (Sent e) a)) going
 
 module _ (config : Config) (h : List (Event SealedEntry)) where
+  -- a machine has one next action
   same_deed : (deed other : Deed) → next_action config h ≡ Some deed → next_action config h ≡ Some other → deed ≡ other
   same_deed deed other is also = let same : Some deed ≡ Some other = sym is ∙ also in cc
 
@@ -81,10 +87,12 @@ module _ (config : Config) (h : List (Event SealedEntry)) where
   one_may e f may also =
       may.made ∙ ap (next_entry config h) (same_deed may.deed also.deed may.action also.action) ∙ sym also.made
 
+  -- what is told to be sent is what may be
   next_is : (o : Option SealedEntry) (e : SealedEntry) → IsNextOf config h o → MaySend config h e → o ≡ Some e
   next_is None e told may = absurd (told e may)
   next_is (Some f) e told may = ap (λ (g : SealedEntry). Some g) (one_may f e told may)
 
+  -- where nothing may be sent nothing is
   next_not : (o : Option SealedEntry) (a : Machine SealedEntry) → IsNextOf config h o →
       ((e : SealedEntry) → MaySend config h e → ⊥) → send o a ≡ a
   next_not o a told none =
@@ -138,33 +146,41 @@ act_is m new acted.SameDigest o alone spent told (already, same) =
 
 -- ---- what is heard
 
+-- a test of three that all fail fails
 none_of : (x y z : Bool) → x ≡ false → y ≡ false → z ≡ false → (x || y || z) ≡ false
 none_of x y z ex ey ez = ap (λ (b : Bool). b || y || z) ex ∙ ap (λ (b : Bool). b || z) ey ∙ ez
 
+-- a test whose second part holds holds
 or_true : (b : Bool) → (b || true) ≡ true
 or_true true = refl
 or_true false = refl
 
+-- the digest of a new entry isn't found among those held
 new_is_not_borne : (es : List SealedEntry) (e : SealedEntry) → IsNew node_of_sealed es e →
     has_digest node_of_sealed es (node_of_sealed e).digest ≡ false
 new_is_not_borne es e new = by (has_digest node_of_sealed es (node_of_sealed e).digest) refl
   where
+    -- the test can't have held
     by : (b : Bool) → has_digest node_of_sealed es (node_of_sealed e).digest ≡ b → b ≡ false
     by true is =
         let (g, there, digest) = has_digest_from node_of_sealed es (node_of_sealed e).digest is in
         absurd (new g there digest)
     by false is = refl
 
+-- the greater of two numbers isn't at most the lesser
 not_at_most : (n m : ℕ) → m < n → nat_le n m ≡ false
 not_at_most n m less = by (nat_le n m) refl
   where
+    -- the test can't have held
     by : (b : Bool) → nat_le n m ≡ b → b ≡ false
     by true is = let le = leb-true n m is in absurd (omega (arith, le, less))
     by false is = refl
 
+-- a number is at most what it equals
 at_most_itself : (n m : ℕ) → m ≡ n → nat_le n m ≡ true
 at_most_itself n m same = by (nat_le n m) refl
   where
+    -- the test can't have failed
     by : (b : Bool) → nat_le n m ≡ b → b ≡ true
     by true is = refl
     by false is = let less = leb-false n m is in absurd (omega (arith, less, same))

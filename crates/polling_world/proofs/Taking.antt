@@ -30,16 +30,20 @@ abbrev pub IsTold : MachineState → SealedEntry → Bool → Type 0
 IsTold m e told = (answer : MachineHeard) × IsHeard m e answer × (IsTrue told ↔ (answer ≡ Taken))
 
 module _ (m : MachineState) (e : SealedEntry) where
+  -- a machine that has stopped takes nothing
   pub told_stopped : IsTrue (has_stopped m) → IsTold m e false
   told_stopped is = (Stopped e, (is, refl), (λ t. cc, λ taken. cc))
 
+  -- a machine doesn't take its own entry
   pub told_own : IsGoing m → (node_of_sealed e).maker ≡ m.config.number → IsTold m e false
   told_own going own = (Own e, (going, (refl, own)), (λ t. cc, λ taken. cc))
 
+  -- nor one that it holds
   pub told_already : IsGoing m → (node_of_sealed e).maker ≢ m.config.number →
       IsBorneIn node_of_sealed (held m.events) (node_of_sealed e).digest → IsTold m e false
   told_already going other borne = (Already e, (going, (refl, other, borne)), (λ t. cc, λ taken. cc))
 
+  -- it takes a new entry of another's exactly where its log has room
   pub told_room : IsGoing m → (node_of_sealed e).maker ≢ m.config.number → IsNew node_of_sealed (held m.events) e →
       length m.events ≤ m.config.log → (room : Bool) → (IsTrue room ↔ (length m.events < m.config.log)) →
       IsTold m e room

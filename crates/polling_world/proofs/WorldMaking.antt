@@ -33,6 +33,7 @@ rest_step f [] (suc n) y ys e = cc
 rest_step f (x ∷ xs) zero y ys e = (x, refl, cc, cc)
 rest_step f (x ∷ xs) (suc n) y ys e = rest_step f xs n y ys e
 
+-- where nothing is left of the mapped list, the list is at its end
 pub rest_none : {X Y : Type 0} (f : X → Y) (xs : List X) (n : ℕ) → map f (drop n xs) ≡ [] → length xs ≤ n
 rest_none f [] n e = omega arith
 rest_none f (x ∷ xs) zero e = cc
@@ -46,6 +47,7 @@ push_cases [] x y (suc n) e = cc
 push_cases (z ∷ xs) x y zero e = inl e
 push_cases (z ∷ xs) x y (suc n) e = elim (push_cases xs x y n e) [ inl s ↦ inl s | inr r ↦ inr (ap suc r.0, r.1) ]
 
+-- machines without events have no history in the world
 no_history : (ms : List MachineState) →
     ((place : ℕ) (m : MachineState) → slice_get ms place ≡ Some m → m.events ≡ []) → (n : ℕ) →
     history (world_of ms) n ≡ []
@@ -55,9 +57,11 @@ no_history (m ∷ ms) none (suc n) = no_history ms (λ place u is. none (suc pla
 
 module _ (script : Script) (ms : List MachineState)
     (each : (place : ℕ) (m : MachineState) → slice_get ms place ≡ Some m → IsFresh script place None m) where
+  -- no machine of such a world has a history
   no_events : (n : ℕ) → history (world_of ms) n ≡ []
   no_events = no_history ms (λ place m is. ap (λ (u : MachineState). u.events) (each place m is).2)
 
+  -- each machine is in its place under the script's roster
   fresh_placed : (place : ℕ) (m : MachineState) → slice_get ms place ≡ Some m →
       IsPlaced (roster_of script) script.log place m
   fresh_placed place m is =
@@ -70,10 +74,12 @@ module _ (script : Script) (ms : List MachineState)
         within = omega arith;
       })
 
+  -- nothing has happened there
   none_there : (n : ℕ) (x : Event SealedEntry) → Contains (history (world_of ms) n) x → ⊥
   none_there n x c =
       Contains-none x (subst (λ (h : List (Event SealedEntry)). Contains h x) (no_events n) c)
 
+  -- so the machines are a world
   pub fresh_world : IsLawful script → length ms ≤ length script.machines → IsWorld (roster_of script) ms
   fresh_world lawful count = record {
     log = script.log;
@@ -90,8 +96,11 @@ module _ (script : Script) (ms : List MachineState)
 
 -- the first machines of the script, and the keys of those that are left
 pub record AreFirst (script : Script) (ms : List MachineState) (left : List Secret) : Type 0 where
+  -- there are no more of them than the script has
   pub within : length ms ≤ length script.machines
+  -- the keys that are left are those of the further machines
   pub rest : map (key_of script) (drop (length ms) script.machines) ≡ left
+  -- each is the script's machine at its place
   pub each : (place : ℕ) (m : MachineState) → slice_get ms place ≡ Some m → IsFresh script place None m
 
 module _ (script : Script) (ms : List MachineState) (left more : List Secret) (key : Secret) (at : ℕ)

@@ -51,9 +51,13 @@ state_of posts machines = record { roster = posts; machines = machines }
 -- what becomes of a world by a step, however it comes about
 pub record KeepsWorld (posts : List Post) (old : List MachineState) (stepped : Stepped) (new : List MachineState)
     : Type 0 where
+  -- the machines are a world again
   pub world : IsWorld posts new
+  -- nothing happened exactly where no machine has changed
   pub nothing : (stepped ≡ Nothing) ↔ (new ≡ old)
+  -- they are made of what they were
   pub configs : configs_of new ≡ configs_of old
+  -- and stop where they would
   pub stops : stops_of new ≡ stops_of old
 
 -- it is the world's step
@@ -105,6 +109,7 @@ module _ (posts : List Post) (ms : List MachineState) (world : IsWorld posts ms)
       let few = world.few in
       omega (arith, all, count, few)
     where
+      -- the log of each has room for at most 4,096 events
       small : (n : ℕ) (a : Machine SealedEntry) → slice_get (world_of ms) n ≡ Some a → length a.history ≤ 4096
       small n a is =
           let r = get-map_from machine_of ms n a is in
@@ -125,9 +130,11 @@ module _ (posts : List Post) (ms : List MachineState) (world : IsWorld posts ms)
   }
 
   module _ (at : ℕ) (m : MachineState) (there : slice_get ms at ≡ Some m) where
+    -- the world's machine at the place is this one
     seen : slice_get (world_of ms) at ≡ Some (machine_of m)
     seen = get-map machine_of ms at m there
 
+    -- it is in its place under the roster
     placed : IsPlaced posts world.log at m
     placed = world.placed at m there
 
@@ -151,6 +158,7 @@ module _ (posts : List Post) (ms : List MachineState) (world : IsWorld posts ms)
           | inr s ↦ world.placed n u s
         ]
 
+    -- there are still at most 16 machines
     still_few : (new : MachineState) → length (slice_set ms at new) ≤ 16
     still_few new = let few = world.few in omega (arith, few, length-set ms at new)
 
@@ -158,6 +166,7 @@ module _ (posts : List Post) (ms : List MachineState) (world : IsWorld posts ms)
     module _ (x : Event SealedEntry) (may : MayFollow node_of_sealed at m.events x)
         (was_sent : (e : SealedEntry) → x ≡ Got e → Contains (sent_in (world_of ms)) e)
         (room : length m.events < m.config.log) where
+      -- the machine with the event is in its place
       longer : IsPlaced posts world.log at (with_event x m)
       longer = record {
         number = placed.number;
@@ -167,9 +176,11 @@ module _ (posts : List Post) (ms : List MachineState) (world : IsWorld posts ms)
         within = let size = placed.of_size in omega (arith, size, room, length-append m.events (x ∷ []));
       }
 
+      -- the world is the old one with the event
       appended : world_of (slice_set ms at (with_event x m)) ≡ with_machine at (append x) (world_of ms)
       appended = world_of-set ms at m (with_event x m) (append x) there (machine_of-event m x placed.no_stop)
 
+      -- the stamp of an entry that is sent is at most how many were sent with it
       last_stamp : (e : SealedEntry) → x ≡ Sent e →
           (node_of_sealed e).stamp ≤ length (sent_in (with_machine at (append x) (world_of ms)))
       last_stamp e is =
@@ -181,6 +192,7 @@ module _ (posts : List Post) (ms : List MachineState) (world : IsWorld posts ms)
           let one : length (sent (x ∷ [])) ≡ 1 = ap (λ (y : Event SealedEntry). length (sent (y ∷ []))) is in
           omega (arith, next, greatest, count, one)
 
+      -- so is that of each entry that was sent
       stamped : (e : SealedEntry) → Contains (sent_in (with_machine at (append x) (world_of ms))) e →
           (node_of_sealed e).stamp ≤ length (sent_in (with_machine at (append x) (world_of ms)))
       stamped e c =
@@ -191,6 +203,7 @@ module _ (posts : List Post) (ms : List MachineState) (world : IsWorld posts ms)
             | inr s ↦ last_stamp e s
           ]
 
+      -- the machines are a world with the event
       keeps_event : IsWorld posts (slice_set ms at (with_event x m))
       keeps_event = record {
         log = world.log;
@@ -203,6 +216,7 @@ module _ (posts : List Post) (ms : List MachineState) (world : IsWorld posts ms)
             (node_of_sealed e).stamp ≤ length (sent_in v)) (sym appended) (stamped e);
       }
 
+      -- so a step that adds the event keeps the world
       event_kept : (stepped : Stepped) (new : List MachineState) → stepped ≡ Did →
           new ≡ slice_set ms at (with_event x m) → KeepsWorld posts ms stepped new
       event_kept stepped new told changed = record {
@@ -226,6 +240,7 @@ module _ (posts : List Post) (ms : List MachineState) (world : IsWorld posts ms)
     halted : world_of (slice_set ms at (record m { marked = true })) ≡ with_machine at stop (world_of ms)
     halted = world_of-set ms at m (record m { marked = true }) stop there (machine_of-stop m)
 
+    -- the machines are a world with the one that stopped
     keeps_stop : IsWorld posts (slice_set ms at (record m { marked = true }))
     keeps_stop = record {
       log = world.log;
@@ -244,6 +259,7 @@ module _ (posts : List Post) (ms : List MachineState) (world : IsWorld posts ms)
           (node_of_sealed e).stamp ≤ length es) (sym (ap sent_in halted ∙ sent_in_stop (world_of ms) at)) world.stamps;
     }
 
+    -- so a step that stops a machine keeps the world
     stop_kept : (stepped : Stepped) (new : List MachineState) → has_stopped m ≡ false → stepped ≡ Did →
         new ≡ slice_set ms at (record m { marked = true }) → KeepsWorld posts ms stepped new
     stop_kept stepped new going told changed = record {
@@ -263,6 +279,7 @@ module _ (posts : List Post) (ms : List MachineState) (world : IsWorld posts ms)
 
   -- ---- a machine acts
 
+  -- a machine that acts keeps the world
   acts_kept : (at : ℕ) (stepped : Stepped) (new : List MachineState) → ActsAt at ms stepped new →
       KeepsWorld posts ms stepped new
   acts_kept at stepped new h =
@@ -276,6 +293,7 @@ module _ (posts : List Post) (ms : List MachineState) (world : IsWorld posts ms)
             (h.changed ∙ ap (slice_set ms at) r.1.2)
       ]
 
+  -- and does what the world's machine does
   act_happens : (at : ℕ) (stepped : Stepped) (new : List MachineState) → ActsAt at ms stepped new →
       Happens ms (Act at) new
   act_happens at stepped new h next log tells size =
@@ -301,6 +319,7 @@ module _ (posts : List Post) (ms : List MachineState) (world : IsWorld posts ms)
       (Contains-sent_cases (history (world_of ms) from) e c) in
       (world.orderly.legal from s.0 (Sent e) s.1 s.2).1.maker
 
+  -- an entry that is given to another machine keeps the world
   given_kept : (at from number : ℕ) (e : SealedEntry) (stepped : Stepped) (new : List MachineState) → at ≢ from →
       slice_get (sent (history (world_of ms) from)) number ≡ Some e → IsGiven at e ms stepped new →
       KeepsWorld posts ms stepped new
@@ -316,6 +335,7 @@ module _ (posts : List Post) (ms : List MachineState) (world : IsWorld posts ms)
             (h.changed ∙ ap (slice_set ms at) r.1)
       ]
 
+  -- a machine that hears keeps the world
   hears_kept : (at from number : ℕ) (stepped : Stepped) (new : List MachineState) →
       HearsAt at from number ms stepped new → KeepsWorld posts ms stepped new
   hears_kept at from number stepped new (inl (why, (told, same))) = stays_kept stepped new told same
@@ -330,13 +350,16 @@ module _ (posts : List Post) (ms : List MachineState) (world : IsWorld posts ms)
   with_machine_same (suc at) change (a ∷ w) same =
       ap (λ (v : World SealedEntry). a ∷ v) (with_machine_same at change w same)
 
+  -- and does what the world's machine does
   hear_happens : (at from number : ℕ) (stepped : Stepped) (new : List MachineState) →
       HearsAt at from number ms stepped new → Happens ms (Hear at from number) new
   hear_happens at from number stepped new h next log tells size = by (at == from) refl h
     where
+      -- the world before the step
       w : World SealedEntry
       w = world_of ms
 
+      -- the same by whether the machine would hear itself
       by : (b : Bool) → (at == from) ≡ b → HearsAt at from number ms stepped new →
           world_of new
           ≡ cond b (world_of ms) (with_machine at (hear node_of_sealed log
@@ -360,6 +383,7 @@ module _ (posts : List Post) (ms : List MachineState) (world : IsWorld posts ms)
 
   -- ---- a machine stops
 
+  -- a machine that stops keeps the world
   stops_kept : (at : ℕ) (stepped : Stepped) (new : List MachineState) → StopsAt at ms stepped new →
       KeepsWorld posts ms stepped new
   stops_kept at stepped new h =
@@ -368,6 +392,7 @@ module _ (posts : List Post) (ms : List MachineState) (world : IsWorld posts ms)
         | inr r ↦ stays_kept stepped new r.1.0 r.1.1
       ]
 
+  -- and does what the world's machine does
   stop_happens : (at : ℕ) (stepped : Stepped) (new : List MachineState) → StopsAt at ms stepped new →
       Happens ms (Stop at) new
   stop_happens at stepped new h next log tells size =
@@ -380,12 +405,14 @@ module _ (posts : List Post) (ms : List MachineState) (world : IsWorld posts ms)
 
   -- ---- any step
 
+  -- any step keeps the world
   step_kept : (step : Step) (stepped : Stepped) (new : List MachineState) → StepsBy step ms stepped new →
       KeepsWorld posts ms stepped new
   step_kept (Act at) stepped new h = acts_kept at stepped new h
   step_kept (Hear at from number) stepped new h = hears_kept at from number stepped new h
   step_kept (Stop at) stepped new h = stops_kept at stepped new h
 
+  -- and is the world's step
   step_happens : (step : Step) (stepped : Stepped) (new : List MachineState) → StepsBy step ms stepped new →
       Happens ms step new
   step_happens (Act at) stepped new h = act_happens at stepped new h
@@ -395,12 +422,18 @@ module _ (posts : List Post) (ms : List MachineState) (world : IsWorld posts ms)
 -- what contracts say of a step of the world `old`
 pub record AfterStep (posts : List Post) (old : WorldState) (step : Step) (result : Result Stepped AllocError)
     (new : List MachineState) : Type 0 where
+  -- the machines are a world
   pub world : IsWorld posts new
+  -- where no memory is wanting, they did the world's step
   pub ok : IfOk result (λ _. Happens old.machines step new)
+  -- nothing happened exactly where the state is as it was
   pub nothing : IfOk result (λ stepped. (stepped ≡ Nothing) ↔ (state_of posts new ≡ old))
+  -- the machines are made of what they were
   pub configs : configs_of new ≡ configs_of old.machines
+  -- and stop where they would
   pub stops : stops_of new ≡ stops_of old.machines
 
+-- a step that was taken, or failed and left all as it was, is as contracts say
 after_step_of : (posts : List Post) (ms : List MachineState) (step : Step) (result : Result Stepped AllocError)
     (new : List MachineState) → IsWorld posts ms → IfOk result (λ stepped. StepsBy step ms stepped new) →
     OnErr result (new ≡ ms) → AfterStep posts (state_of posts ms) step result new
@@ -424,6 +457,7 @@ after_step_of posts ms step (Err e) new world by same = record {
   stops = ap stops_of same;
 }
 
+-- the same of the state that the code holds
 pub after_step : (posts : List Post) (ms : List MachineState) (old : WorldState) (step : Step)
     (result : Result Stepped AllocError) (new : List MachineState) → state_of posts ms ≡ old → IsWorld posts ms →
     IfOk result (λ stepped. StepsBy step ms stepped new) → OnErr result (new ≡ ms) →

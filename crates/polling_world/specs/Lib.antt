@@ -13,3 +13,5 @@ pub mod Worlds
 pub mod Steps
 pub mod Playing
 pub mod CauseWords
+pub mod Merging
+pub mod inside

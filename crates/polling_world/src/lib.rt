@@ -8,6 +8,7 @@ mod keys;
 mod laws;
 mod left;
 mod machine;
+mod merging;
 mod parts;
 mod playing;
 mod rules;
@@ -23,10 +24,13 @@ pub use laws::{
 };
 pub use left::{Left, LeftWhy};
 pub use machine::{Machine, Memory};
+pub use merging::merge;
 pub use playing::play;
 pub use stepped::Stepped;
 pub use world::World;
 
+#[cfg(test)]
+mod merge_tests;
 #[cfg(test)]
 mod tests;
 #[cfg(test)]

@@ -1,0 +1,218 @@
+-- The events of a world, each once, and the steps that make them.
+use Rattle.std.proofs.Common.{◌≡◌, ◌≢◌, ◌∙◌, ℕ, zero, suc, ◌+◌, ◌<◌, max, List, [], ◌∷◌, ◌++◌, map, take, get_or}
+use Rattle.std.proofs.Common.{length, false, refl, sym, ap, subst, inl, inr, arith, append_assoc, length-append}
+use Rattle.std.specs.List.{Contains, IsDistinct, AllByRecursion, enumerate_from}
+use Rattle.std.specs.Str.{bytes_eq}
+use Rattle.std.proofs.lemmas.Bool.{cases_lt, false_from_ne_true}
+use Rattle.std.proofs.lemmas.List.{append-nil, map-append, take_at, take_more, length-take-le}
+use Rattle.std.proofs.lemmas.List.Elements.{Contains-append_left, Contains-append_right, Contains-append_cases}
+use Rattle.std.proofs.lemmas.Map.Keys.{IsDistinct-cons, IsDistinct-from_apart}
+use Rattle.std.proofs.lemmas.Slice.Eq.{bytes_eq-Decides}
+use Rattle.entry_order.specs.declared.event.Event.{Event}
+use Rattle.entry_order.specs.Node.{Node}
+use Rattle.entry_order.specs.History.{entry_of, held, greatest_stamp}
+use Rattle.entry_order.specs.World.{World, history}
+use Rattle.entry_order.specs.Merged.{PlacedEvent, kind, rank, placed, IsEventOf, step_of}
+use Rattle.entry_order.proofs.Histories.{greatest_push}
+use Rattle.entry_order.proofs.Lists.{Contains-none, Contains-head, Contains-later}
+use Rattle.entry_order.proofs.Machines.{in_world}
+use Rattle.entry_order.proofs.Merged.{placed_of, has_placed, placed_cases}
+use Rattle.polling_world.specs.declared.merging.RankedStep.{RankedStep}
+use Rattle.polling_world.specs.inside.Ranked.{ranked_step, ranked_steps, AreRanked}
+
+-- ---- no two of one rank
+
+module _ {T : Type 0} where
+  -- each has another rank than all later ones
+  abbrev IsOnce : List (PlacedEvent T) → Type 0
+  IsOnce [] = Unit {0}
+  IsOnce (x ∷ xs) = ((y : PlacedEvent T) → Contains xs y → rank x ≢ rank y) × IsOnce xs
+
+  -- two lists of which none of the one has a rank of the other
+  once_append : (xs ys : List (PlacedEvent T)) → IsOnce xs → IsOnce ys →
+      ((x y : PlacedEvent T) → Contains xs x → Contains ys y → rank x ≢ rank y) → IsOnce (xs ++ ys)
+  once_append [] ys a b differ = b
+  once_append (x ∷ xs) ys a b differ = (
+    λ y c. elim (Contains-append_cases xs ys y c)
+        [ inl h ↦ a.0 y h | inr h ↦ differ x y (Contains-head x xs) h ],
+    once_append xs ys a.1 b (λ u v cu cv. differ u v (Contains-later x xs u cu) cv),
+  )
+
+  -- a rank is none of these where it is found to differ from each
+  none_of : (x : PlacedEvent T) (xs : List (PlacedEvent T)) →
+      ((y : PlacedEvent T) → Contains xs y → rank x ≢ rank y) →
+      AllByRecursion (λ r. bytes_eq (rank x) r ≡ false) (map rank xs)
+  none_of x [] differ = tt
+  none_of x (y ∷ xs) differ = (
+    false_from_ne_true (bytes_eq (rank x) (rank y))
+        (λ t. differ y (Contains-head y xs) ((bytes_eq-Decides (rank x) (rank y)).0 t)),
+    none_of x xs (λ z c. differ z (Contains-later y xs z c)),
+  )
+
+  -- the ranks differ
+  distinct_ranks : (xs : List (PlacedEvent T)) → IsOnce xs → IsDistinct bytes_eq (map rank xs)
+  distinct_ranks [] once = IsDistinct-from_apart bytes_eq [] (λ i j d less within. absurd (omega arith))
+  distinct_ranks (x ∷ xs) once =
+      IsDistinct-cons bytes_eq (rank x) (map rank xs) (none_of x xs once.0) (distinct_ranks xs once.1)
+
+module _ {T : Type 0} (node : T → Node) where
+  -- ---- the events of one machine
+
+  -- one event more is placed behind the others
+  placed_push : (m : ℕ) (before h : List (Event T)) (x : Event T) →
+      placed_of node m before (h ++ x ∷ []) ≡ placed_of node m before h ++ placed node m (before ++ h) x ∷ []
+  placed_push m before [] x = ap (λ p. placed node m p x ∷ []) (sym (append-nil before))
+  placed_push m before (y ∷ h) x =
+      ap (λ xs. placed node m before y ∷ xs)
+      (placed_push m (before ++ y ∷ []) h x
+      ∙ ap (λ p. placed_of node m (before ++ y ∷ []) h ++ placed node m p x ∷ []) (append_assoc before (y ∷ []) h))
+
+  -- no two events of a history have one rank
+  placed_once : (m : ℕ) (before h : List (Event T)) → IsOnce (placed_of node m before h)
+  placed_once m before [] = tt
+  placed_once m before (x ∷ h) = (
+    λ y c same.
+        let r = placed_cases node m (before ++ x ∷ []) h y c in
+        let place : y.place ≡ length ((before ++ x ∷ []) ++ r.0) = ap (λ u. u.place) r.3 in
+        let one : length before ≡ y.place = cc in
+        absurd (omega (arith, length-append (before ++ x ∷ []) r.0, length-append before (x ∷ []))),
+    placed_once m (before ++ x ∷ []) h,
+  )
+
+  -- the event at a place of a history that begins with others
+  abbrev at_place : ℕ → List (Event T) → ℕ × Event T → RankedStep
+  at_place m h at = ranked_step node (placed node m (take at.0 h) at.1)
+
+  -- the events by their places are the events placed
+  by_places : (m : ℕ) (before h : List (Event T)) →
+      map (at_place m (before ++ h)) (enumerate_from (length before) h)
+      ≡ map (ranked_step node) (placed_of node m before h)
+  by_places m before [] = refl
+  by_places m before (x ∷ h) =
+      let same : (before ++ x ∷ []) ++ h ≡ before ++ x ∷ h = append_assoc before (x ∷ []) h in
+      let count : length (before ++ x ∷ []) ≡ length before + 1 = length-append before (x ∷ []) in
+      let head : at_place m (before ++ x ∷ h) (length before, x) ≡ ranked_step node (placed node m before x) =
+      ap (λ p. ranked_step node (placed node m p x)) (take_at before (x ∷ h) (length before) refl) in
+      let tail : map (at_place m (before ++ x ∷ h)) (enumerate_from (length before + 1) h)
+      ≡ map (ranked_step node) (placed_of node m (before ++ x ∷ []) h) =
+      (λ i. map (at_place m (sym same i)) (enumerate_from (sym count i) h)) ∙ by_places m (before ++ x ∷ []) h in
+      λ i. head i ∷ tail i
+
+  -- the steps of a whole history
+  pub steps_by_places : (m : ℕ) (old : List RankedStep) (h : List (Event T)) (i : ℕ) (ranked : List RankedStep) →
+      take i h ≡ h → ranked ≡ old ++ map (ranked_step node) (placed_of node m [] (take i h)) →
+      ranked ≡ old ++ ranked_steps node m h
+  steps_by_places m old h i ranked all is =
+      is ∙ ap (λ k. old ++ map (ranked_step node) (placed_of node m [] k)) all
+      ∙ ap (λ steps. old ++ steps) (sym (by_places m [] h))
+
+  -- the step of one event more
+  pub steps_more : (m : ℕ) (old : List RankedStep) (h : List (Event T)) (i : ℕ) (x : Event T)
+      (ranked : List RankedStep) (clock : ℕ) → i < length h → x ≡ get_or h i x →
+      ranked ≡ old ++ map (ranked_step node) (placed_of node m [] (take i h)) →
+      clock ≡ greatest_stamp node (held (take (i + 1) h)) →
+      ranked ++ record { rank = clock ∷ kind x ∷ m ∷ i ∷ []; step = step_of node m x } ∷ []
+      ≡ old ++ map (ranked_step node) (placed_of node m [] (take (i + 1) h))
+  steps_more m old h i x ranked clock within at is clocked =
+      let p = take i h in
+      let more : take (i + 1) h ≡ p ++ x ∷ [] = take_more h i x within ∙ ap (λ y. p ++ y ∷ []) (sym at) in
+      let this : record { rank = clock ∷ kind x ∷ m ∷ i ∷ []; step = step_of node m x }
+      ≡ ranked_step node (placed node m p x) =
+      λ k. record {
+        rank = (clocked ∙ ap (λ q. greatest_stamp node (held q)) more) k ∷ kind x ∷ m
+            ∷ sym (length-take-le i h (omega arith)) k ∷ [];
+        step = step_of node m x;
+      } in
+      ap (λ rs. rs ++ record { rank = clock ∷ kind x ∷ m ∷ i ∷ []; step = step_of node m x } ∷ []) is
+      ∙ append_assoc old (map (ranked_step node) (placed_of node m [] p)) _
+      ∙ ap (λ r. old ++ (map (ranked_step node) (placed_of node m [] p) ++ r ∷ [])) this
+      ∙ ap (λ rs. old ++ rs) (sym (map-append (ranked_step node) (placed_of node m [] p) (placed node m p x ∷ [])))
+      ∙ ap (λ xs. old ++ map (ranked_step node) xs) (sym (placed_push m [] p x))
+      ∙ ap (λ q. old ++ map (ranked_step node) (placed_of node m [] q)) (sym more)
+
+  -- the greatest stamp with one event more
+  pub clock_more : (h : List (Event T)) (i : ℕ) (x : Event T) (clock : ℕ) → i < length h → x ≡ get_or h i x →
+      clock ≡ greatest_stamp node (held (take i h)) →
+      max clock (node (entry_of x)).stamp ≡ greatest_stamp node (held (take (i + 1) h))
+  clock_more h i x clock within at is =
+      let more : take (i + 1) h ≡ take i h ++ x ∷ [] =
+      take_more h i x within ∙ ap (λ y. take i h ++ y ∷ []) (sym at) in
+      ap (λ c. max c (node (entry_of x)).stamp) is ∙ sym (greatest_push node (take i h) x)
+      ∙ ap (λ q. greatest_stamp node (held q)) (sym more)
+
+  -- ---- the events of all machines
+
+  module _ (w : World T) where
+    -- the events of the first machines, a machine after the other
+    abbrev pub events_to : ℕ → List (PlacedEvent T)
+    events_to zero = []
+    events_to (suc m) = events_to m ++ placed_of node m [] (history w m)
+
+    -- each is an event of one of these machines
+    events_to_cases : (n : ℕ) (x : PlacedEvent T) → Contains (events_to n) x → IsEventOf node w x × (x.machine < n)
+    events_to_cases zero x c = absurd (Contains-none x c)
+    events_to_cases (suc m) x c =
+        elim (Contains-append_cases (events_to m) (placed_of node m [] (history w m)) x c) [
+          | inl h ↦ let r = events_to_cases m x h in (r.0, (let l = r.1 in omega arith))
+          | inr h ↦
+              let r = placed_cases node m [] (history w m) x h in
+              let mine : x.machine ≡ m = ap (λ u. u.machine) r.3 in
+              ((r.0, r.1, ap (history w) mine ∙ r.2, r.3 ∙ ap (λ k. placed node k r.0 x.event) (sym mine)), omega arith)
+        ]
+
+    -- no two have one rank
+    events_once : (n : ℕ) → IsOnce (events_to n)
+    events_once zero = tt
+    events_once (suc m) =
+        once_append (events_to m) (placed_of node m [] (history w m)) (events_once m) (placed_once m [] (history w m))
+        (λ x y cx cy same.
+        let below = (events_to_cases m x cx).1 in
+        let mine : y.machine ≡ m = ap (λ u. u.machine) (placed_cases node m [] (history w m) y cy).3 in
+        let one : x.machine ≡ y.machine = cc in
+        absurd (omega arith))
+
+    -- a history's events are among them
+    events_kept : (n m : ℕ) (x : PlacedEvent T) → m < n → Contains (placed_of node m [] (history w m)) x →
+        Contains (events_to n) x
+    events_kept zero m x l c = absurd (omega arith)
+    events_kept (suc n) m x l c =
+        elim (cases_lt m n) [
+          | inl less ↦ Contains-append_left (events_to n) (placed_of node n [] (history w n)) x
+              (events_kept n m x less c)
+          | inr more ↦
+              let same : m ≡ n = omega arith in
+              Contains-append_right (events_to n) (placed_of node n [] (history w n)) x
+              (subst (λ (k : ℕ). Contains (placed_of node k [] (history w k)) x) same c)
+        ]
+
+    -- and so is every event of the world
+    events_all : (x : PlacedEvent T) → IsEventOf node w x → Contains (events_to (length w)) x
+    events_all x (b, l, is, at) =
+        let here : Contains (placed_of node x.machine [] (b ++ x.event ∷ l)) (placed node x.machine b x.event) =
+        has_placed node x.machine [] b x.event l in
+        events_kept (length w) x.machine x (in_world w x.machine b x.event l is)
+        (subst (λ (u : PlacedEvent T). Contains (placed_of node x.machine [] (history w x.machine)) u) (sym at)
+        (subst (λ (h : List (Event T)). Contains (placed_of node x.machine [] h) (placed node x.machine b x.event))
+        (sym is) here))
+
+    -- the steps of all machines' events
+    pub ranked_all : (n : ℕ) (ranked : List RankedStep) → n ≡ length w →
+        ranked ≡ map (ranked_step node) (events_to n) → AreRanked node w ranked
+    ranked_all n ranked all is = record {
+      xs = events_to (length w);
+      are = is ∙ ap (λ k. map (ranked_step node) (events_to k)) all;
+      events = λ x. (λ c. (events_to_cases (length w) x c).0, events_all x);
+      once = distinct_ranks (events_to (length w)) (events_once (length w));
+    }
+
+    -- the steps of one machine's events more
+    pub ranked_more : (m : ℕ) (h : List (Event T)) (old ranked : List RankedStep) → history w m ≡ h →
+        old ≡ map (ranked_step node) (events_to m) → ranked ≡ old ++ ranked_steps node m h →
+        ranked ≡ map (ranked_step node) (events_to (m + 1))
+    ranked_more m h old ranked here is more =
+        let next : suc m ≡ m + 1 = omega arith in
+        more ∙ ap (λ rs. rs ++ ranked_steps node m h) is
+        ∙ ap (λ rs. map (ranked_step node) (events_to m) ++ rs) (by_places m [] h)
+        ∙ ap (λ k. map (ranked_step node) (events_to m) ++ map (ranked_step node) (placed_of node m [] k)) (sym here)
+        ∙ sym (map-append (ranked_step node) (events_to m) (placed_of node m [] (history w m)))
+        ∙ ap (λ k. map (ranked_step node) (events_to k)) next

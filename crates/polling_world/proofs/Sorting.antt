@@ -1,0 +1,138 @@
+-- Ranked steps, once they are sorted by rank, are the steps of the merged order.
+use Rattle.std.proofs.Common.{◌≡◌, ◌≢◌, ◌∙◌, ℕ, suc, ◌+◌, Bool, false, List, [], ◌∷◌, map, length, get_or, set}
+use Rattle.std.proofs.Common.{refl, sym, ap, subst, arith, swap}
+use Rattle.std.specs.List.{Contains, IsDistinct}
+use Rattle.std.specs.List.Sorted.{IsPermutation, IsSortedBy, IsSortedByKey}
+use Rattle.std.specs.Str.{bytes_eq}
+use Rattle.std.specs.Cmp.Lexicographic.{slice_cmp}
+use Rattle.std.specs.Ordering.{nat_cmp, ordering_reverse, is_lt}
+use Rattle.std.specs.declared.cmp.Ordering.{Ordering}
+use Rattle.std.specs.declared.cmp.Ordering.TheVariants.{Less, Equal, Greater}
+use Rattle.std.proofs.Math.ListN.{get_or-map}
+use Rattle.std.proofs.lemmas.Bool.{true≢false}
+use Rattle.std.proofs.lemmas.Cmp.{nat_list_cmp_total, nat_list_eq_equiv}
+use Rattle.std.proofs.lemmas.List.{map-set, length-map}
+use Rattle.std.proofs.lemmas.List.Sorted.{sorted_far, ranks_by, IsPermutation-map, IsPermutation-refl}
+use Rattle.std.proofs.lemmas.List.Sorted.{IsPermutation-swap, IsPermutation-trans, IsPermutation-keeps}
+use Rattle.std.proofs.lemmas.List.Sorted.{IsPermutation-sym, Contains-permutation}
+use Rattle.std.proofs.lemmas.Map.Keys.{IsDistinct-IsPermutation, IsDistinct-tail, apart_from_distinct}
+use Rattle.std.proofs.lemmas.Map.Lookups.{exact_bytes}
+use Rattle.std.proofs.lemmas.Slice.Eq.{bytes_eq-Decides}
+use Rattle.entry_order.specs.Node.{Node}
+use Rattle.entry_order.specs.World.{World}
+use Rattle.entry_order.specs.Merged.{PlacedEvent, rank, IsSortedByRank, IsMergedOf, step_of}
+use Rattle.polling_world.specs.declared.merging.RankedStep.{RankedStep}
+use Rattle.polling_world.specs.inside.Ranked.{ranked_step, AreRanked}
+
+-- ---- what moves behind a function
+
+module _ {X Y : Type 0} (f : X → Y) where
+  -- two elements change places behind a function
+  map-swap : (xs : List X) (i j : ℕ) → map f (swap xs i j) ≡ swap (map f xs) i j
+  map-swap [] i j = refl
+  map-swap (d ∷ xs) i j =
+      let a = get_or (d ∷ xs) j d in
+      let b = get_or (d ∷ xs) i d in
+      map-set f (set (d ∷ xs) i a) j b
+      ∙ ap (λ l. set l j (f b)) (map-set f (d ∷ xs) i a)
+      ∙ (λ k. set (set (map f (d ∷ xs)) i (sym (get_or-map f (d ∷ xs) j d) k)) j (sym (get_or-map f (d ∷ xs) i d) k))
+
+  -- what is the images in another order is the images of the elements in another order
+  moved_behind : (xs : List X) (ys : List Y) → IsPermutation (map f xs) ys →
+      (zs : List X) × IsPermutation xs zs × (map f zs ≡ ys)
+  moved_behind xs ys moved =
+      IsPermutation-keeps (map f xs) (λ l. (zs : List X) × IsPermutation xs zs × (map f zs ≡ l))
+      (xs, IsPermutation-refl xs, refl)
+      (λ l i j il jl r.
+      let long : length r.0 ≡ length l = sym (length-map r.0 f) ∙ ap length r.2 in (
+        swap r.0 i j,
+        IsPermutation-trans xs r.0 (swap r.0 i j) r.1
+            (IsPermutation-swap r.0 (swap r.0 i j) i j (omega arith) (omega arith) refl),
+        map-swap r.0 i j ∙ ap (λ k. swap k i j) r.2,
+      ))
+      ys moved
+
+-- ---- what rises
+
+-- what isn't below and isn't the same is above
+below : (x y : List ℕ) → is_lt (slice_cmp nat_cmp y x) ≡ false → x ≢ y → slice_cmp nat_cmp x y ≡ Less
+below x y not_lt differ = by (slice_cmp nat_cmp y x) refl not_lt
+  where
+    by : (o : Ordering) → slice_cmp nat_cmp y x ≡ o → is_lt o ≡ false → slice_cmp nat_cmp x y ≡ Less
+    by Less e h = absurd (true≢false h)
+    by Equal e h = absurd (differ (sym (exact_bytes y x e)))
+    by Greater e h = nat_list_cmp_total.antisymm x y ∙ ap ordering_reverse e
+
+-- the rank by which a step is sorted
+abbrev pub rank_of : RankedStep → List ℕ
+rank_of r = r.rank
+
+-- what is sorted is so without its first
+sorted_rest : {X : Type 0} (lt : X → X → Bool) (x : X) (xs : List X) → IsSortedBy lt (x ∷ xs) → IsSortedBy lt xs
+sorted_rest lt x xs sorted k d low within =
+    let next : suc k + 1 ≡ suc (k + 1) = omega arith in
+    subst (λ (n : ℕ). lt (get_or (x ∷ xs) n d) (get_or (x ∷ xs) (suc k) d) ≡ false) next
+    (sorted (suc k) d (omega arith) (omega arith))
+
+-- the order of ranked steps, by their ranks
+abbrev lower : RankedStep → RankedStep → Bool
+lower a b = is_lt (slice_cmp nat_cmp (rank_of a) (rank_of b))
+
+module _ {T : Type 0} (node : T → Node) where
+  -- of sorted events of which no two have one rank the first is lower than each later one
+  first_lower : (x : PlacedEvent T) (xs : List (PlacedEvent T)) (y : PlacedEvent T) → Contains xs y →
+      IsDistinct bytes_eq (map rank (x ∷ xs)) → IsSortedBy lower (map (ranked_step node) (x ∷ xs)) →
+      slice_cmp nat_cmp (rank x) (rank y) ≡ Less
+  first_lower x xs y (k, l, at) once sorted =
+      let list = map (ranked_step node) (x ∷ xs) in
+      let long : length (map (ranked_step node) xs) ≡ length xs = length-map xs (ranked_step node) in
+      let ranks : length (map rank xs) ≡ length xs = length-map xs rank in
+      let there : get_or (map (ranked_step node) xs) k (ranked_step node y) ≡ ranked_step node y =
+      get_or-map (ranked_step node) xs k y ∙ ap (ranked_step node) at in
+      let far : lower (get_or (map (ranked_step node) xs) k (ranked_step node y)) (ranked_step node x) ≡ false =
+      sorted_far lower (ranks_by nat_list_cmp_total rank_of) list sorted 0 (suc k) (ranked_step node y) (omega arith)
+      (omega arith) in
+      let other : bytes_eq (rank x) (get_or (map rank xs) k (rank y)) ≡ false =
+      apart_from_distinct bytes_eq (map rank (x ∷ xs)) 0 (suc k) (rank y) once (omega arith) (omega arith) in
+      below (rank x) (rank y) (ap (λ r. lower r (ranked_step node x)) (sym there) ∙ far)
+      (λ same. true≢false
+      (sym ((bytes_eq-Decides (rank x) (rank y)).1 same)
+      ∙ ap (bytes_eq (rank x)) (sym (get_or-map rank xs k y ∙ ap rank at)) ∙ other))
+
+  -- so they rise
+  rises : (xs : List (PlacedEvent T)) → IsDistinct bytes_eq (map rank xs) →
+      IsSortedBy lower (map (ranked_step node) xs) → IsSortedByRank xs
+  rises [] once sorted = tt
+  rises (x ∷ xs) once sorted = (
+    λ y c. first_lower x xs y c once sorted,
+    rises xs (IsDistinct-tail bytes_eq (rank x) (map rank xs) once)
+        (sorted_rest lower (ranked_step node x) (map (ranked_step node) xs) sorted),
+  )
+
+  -- the steps of ranked steps
+  steps_behind : (xs : List (PlacedEvent T)) →
+      map (λ (r : RankedStep). r.step) (map (ranked_step node) xs) ≡ map (λ x. step_of node x.machine x.event) xs
+  steps_behind [] = refl
+  steps_behind (x ∷ xs) = ap (λ steps. step_of node x.machine x.event ∷ steps) (steps_behind xs)
+
+  -- ranked steps of a world's events, sorted, are the steps of its merged order
+  pub merged_from : (w : World T) (ranked sorted : List RankedStep) → AreRanked node w ranked →
+      IsPermutation ranked sorted → IsSortedByKey rank_of (slice_cmp nat_cmp) sorted →
+      (xs : List (PlacedEvent T)) × IsMergedOf node w xs
+      × (map (λ (r : RankedStep). r.step) sorted ≡ map (λ x. step_of node x.machine x.event) xs)
+  merged_from w ranked sorted of moved rising =
+      let r = moved_behind (ranked_step node) of.xs sorted
+      (subst (λ (l : List RankedStep). IsPermutation l sorted) of.are moved) in (
+        r.0,
+        record {
+          sorted = rises r.0
+              (IsDistinct-IsPermutation bytes_eq nat_list_eq_equiv.symm (map rank of.xs) (map rank r.0)
+              (IsPermutation-map rank of.xs r.0 r.1) of.once)
+              (subst (IsSortedBy lower) (sym r.2) rising);
+          events = λ x. (
+            λ c. (of.events x).0 (Contains-permutation r.0 of.xs x (IsPermutation-sym of.xs r.0 r.1) c),
+            λ e. Contains-permutation of.xs r.0 x r.1 ((of.events x).1 e),
+          );
+        },
+        ap (map (λ (s : RankedStep). s.step)) (sym r.2) ∙ steps_behind r.0,
+      )

@@ -1,0 +1,34 @@
+use Rattle.std.proofs.Common.{rules, ◌≡◌, ◌∙◌, get_or, sym, ap, arith}
+use Rattle.std.proofs.lemmas.List.{length-map}
+use Rattle.entangled_log.specs.Logs.{History}
+use Rattle.entry_format.specs.Nodes.{node_of_sealed}
+use Rattle.entry_format.specs.SealedEntry.{SealedEntry}
+use Rattle.entry_order.specs.World.{history}
+use Rattle.polling_world.specs.Machines.{MachineState}
+use Rattle.polling_world.specs.Worlds.{machine_of, world_of}
+use Rattle.polling_world.proofs.Placing.{history_at}
+use Rattle.polling_world.proofs.Ranking.{ranked_all, ranked_more}
+use Rattle.polling_world.proofs.merging.rank_all.Goals as goal
+
+-- the steps of one machine's events more
+pub loop-at-preserved : goal.loop-at-preserved
+loop-at-preserved c =
+    let machines = c.args.machines.now in
+    let at = c.loop-at.at in
+    let m = c.index-machines-at.result in
+    let is : m ≡ get_or machines at m = search rules in
+    let here : history (world_of machines) at ≡ c.events.result.now =
+    history_at machines at m c.loop-at-test.true ∙ ap (λ (n : MachineState). n.events) (sym is)
+    ∙ sym (ap (λ (h : History SealedEntry). h.events) c.log.ensures.log) ∙ sym c.events.ensures.events in
+    record {
+      within = omega (arith, c.loop-at-test.true);
+      ranked = ranked_more node_of_sealed (world_of machines) at c.events.result.now c.loop-at.ranked.items
+          c.rank_events.new.ranked.items here c.loop-at.invariant.ranked c.in_ok-rank_events.ensures;
+    }
+
+pub returns : goal.returns
+returns c =
+    let machines = c.args.machines.now in
+    ranked_all node_of_sealed (world_of machines) c.loop-at.at c.loop-at.ranked.items
+    (omega (arith, length-map machines machine_of, c.loop-at-test.false, c.loop-at.invariant.within))
+    c.loop-at.invariant.ranked

@@ -1,0 +1,14 @@
+use Rattle.std.proofs.Common.{◌≡◌, ◌≤◌, length, map}
+use Rattle.entry_format.specs.Nodes.{node_of_sealed}
+use Rattle.polling_world.specs.Worlds.{world_of}
+use Rattle.polling_world.specs.inside.Ranked.{ranked_step}
+use Rattle.polling_world.proofs.Ranking.{events_to}
+use Rattle.polling_world.proofs.merging.rank_all.Given as goal
+
+-- the steps of the machines so far
+abbrev pub invariant-loop-at : goal.invariant-loop-at
+invariant-loop-at l = record {
+  within : l.at ≤ length l.machines;
+  ranked : l.ranked.items ≡ map (ranked_step node_of_sealed)
+      (events_to node_of_sealed (world_of l.machines) l.at);
+}

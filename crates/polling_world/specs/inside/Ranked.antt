@@ -1,0 +1,25 @@
+-- Steps with the ranks of their events.
+use Rattle.std.specs.Prelude.{◌≡◌, ◌↔◌, ℕ, List, map, take}
+use Rattle.std.specs.List.{Contains, IsDistinct, enumerate_from}
+use Rattle.std.specs.Str.{bytes_eq}
+use Rattle.entry_order.specs.declared.event.Event.{Event}
+use Rattle.entry_order.specs.Node.{Node}
+use Rattle.entry_order.specs.World.{World}
+use Rattle.entry_order.specs.Merged.{PlacedEvent, rank, placed, IsEventOf, step_of}
+use Rattle.polling_world.specs.declared.merging.RankedStep.{RankedStep}
+
+module _ {T : Type 0} (node : T → Node) where
+  -- the step that makes the event, with the event's rank
+  abbrev pub ranked_step : PlacedEvent T → RankedStep
+  ranked_step x = record { rank = rank x; step = step_of node x.machine x.event }
+
+  -- those of the events of machine m's history
+  abbrev pub ranked_steps : ℕ → List (Event T) → List RankedStep
+  ranked_steps m h = map (λ at. ranked_step (placed node m (take at.0 h) at.1)) (enumerate_from 0 h)
+
+  -- these are the ranked steps of the events of w, each once
+  pub record AreRanked (w : World T) (ranked : List RankedStep) : Type 0 where
+    pub xs : List (PlacedEvent T)
+    pub are : ranked ≡ map ranked_step xs
+    pub events : (x : PlacedEvent T) → Contains xs x ↔ IsEventOf node w x
+    pub once : IsDistinct bytes_eq (map rank xs)
