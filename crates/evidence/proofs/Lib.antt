@@ -3,3 +3,4 @@ pub mod LogLists
 pub mod OneLogs
 pub mod OneGraph
 pub mod Survivors
+pub mod Repeats

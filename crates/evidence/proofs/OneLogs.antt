@@ -1,5 +1,5 @@
 -- The files of logs give at most one answer.
-use Rattle.std.proofs.Common.{◌≡◌, ◌∙◌, ◌⊎◌, ℕ, ◌<◌, ◌≤◌, List, [], ◌∷◌, ◌++◌, Option, Some, None, length, inl, inr, refl, sym, ap, subst, arith}
+use Rattle.std.proofs.Common.{◌≡◌, ◌∙◌, ◌⊎◌, ℕ, ◌<◌, ◌≤◌, List, [], ◌∷◌, ◌++◌, Option, Some, None, length, inl, inr, refl, sym, ap, arith}
 use Rattle.std.specs.Prelude.{Result, Ok, Err, codes}
 use Rattle.hall_outside.specs.Files.{Files}
 use Rattle.roster.specs.declared.post.Post.{Post}
@@ -11,7 +11,7 @@ use Rattle.log_files.specs.LogText.{HasHeader}
 use Rattle.log_files.specs.SealedLog.{SaysSealed}
 use Rattle.evidence.specs.Refusal.{Refusal, absent, refused, too_long}
 use Rattle.evidence.specs.NamedFiles.{AreFiles}
-use Rattle.evidence.specs.Logs.{IsLogRefusal, GivesLogs, GivesLogsIn}
+use Rattle.evidence.specs.Logs.{IsLogRefusal, GivesLogs}
 use Rattle.evidence.specs.Graphs.{entries_in, entries_of}
 use Rattle.evidence.specs.Same.{Agree, SameLog, SameLogs}
 

@@ -1,5 +1,5 @@
 -- The survivors of a graph: no two have one digest, and none is its own ancestor.
-use Rattle.std.proofs.Common.{◌≡◌, ◌∙◌, ℕ, List, [], ◌∷◌, Bool, true, not, inl, inr, refl, sym, ap, subst}
+use Rattle.std.proofs.Common.{◌≡◌, ◌∙◌, List, [], ◌∷◌, true, not, inl, inr, sym, ap}
 use Rattle.std.specs.Prelude.{Ok}
 use Rattle.std.specs.List.{Contains, filter}
 use Rattle.std.specs.Str.{bytes_eq}

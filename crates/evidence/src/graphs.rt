@@ -5,13 +5,15 @@ ghost use Rattle.evidence.specs.Graphs.{GivesGraph, collision_cause, entries_in,
 ghost use Rattle.evidence.specs.Refusal.{IsFaultOf, refusal_of, refused};
 ghost use Rattle.evidence.specs.inside.Faults.{IsGraphFault};
 
+use crate::copies::copies_of;
 use crate::fault::AuditFault;
 use entry_format::Sealed;
 use entry_graph::{Graph, GraphFault};
 use log_files::{Kept, LogRead};
 use std::alloc::{AllocError, Global};
 
-/// The graph of the entries that the logs keep, which are copied. Equal entries count once.
+/// The graph of the entries that the logs keep, which are copied, each distinct one once. It takes
+/// time and memory for the copies, and for each entry the time of comparing its text.
 ///
 /// # Errors
 ///
@@ -24,7 +26,7 @@ pub fn graph_of(alloc: Global, logs: &[LogRead]) -> Result<Graph, AuditFault>
         (λ refusal. GivesGraph (entries_of logs.now) (Err refusal))) }
     ensures no_read { ¬ IsErrOf result AuditFault.ReadFault }
 {
-    match copies(alloc, logs) {
+    match copies_of(alloc, logs) {
         Ok(entries) => made(alloc, entries),
         Err(_) => Err(AuditFault::Memory),
     }
@@ -87,27 +89,6 @@ fn cause_of(alloc: Global, digest: &[u8; 32]) -> Result<String, AllocError>
 {
     let digits = hex::encode(alloc, *digest)?;
     format!(in alloc; "Collision {digits}")
-}
-
-/// The entries that the logs keep, copied.
-fn copies(alloc: Global, logs: &[LogRead]) -> Result<Vec<Sealed>, AllocError>
-    ensures { IfOk result (λ entries. entries.items ≡ entries_of logs.now) }
-{
-    let mut entries = Vec::new(alloc);
-    for log in logs {
-        add_copies(alloc, &mut entries, log.kept.as_slice())?;
-    }
-    Ok(entries)
-}
-
-/// Adds the entries of these records, copied.
-fn add_copies(alloc: Global, entries: &mut Vec<Sealed>, kept: &[Kept]) -> Result<(), AllocError>
-    ensures { OnOk result (entries.new.items ≡ entries.old.items ++ entries_in kept.now) }
-{
-    for record in kept {
-        entries.push(record.entry.copy(alloc)?)?;
-    }
-    Ok(())
 }
 
 /// The entries that the logs keep.

@@ -2,6 +2,7 @@
 //! they keep. Each is what the files say that the store tells, or the first refusal.
 #![tactic(auto)]
 
+mod copies;
 mod fault;
 mod graphs;
 mod laws;
