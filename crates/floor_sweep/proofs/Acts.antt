@@ -100,6 +100,7 @@ module _ (loses : List Lose) (old : List MachineState) (before : List Loss) (ms 
         grown = event.grown_event ms at m (Sent e) stood done.going done.may.room old is.grown;
         placed = event.placed_event ms at m (Sent e) stood done.going done.may.room follows
             (λ f s. subst (λ (g : SealedEntry). MaySend m.config m.events g) (cc s) done.may) is.placed;
+        makers = λ had. event.makers_event ms at m (Sent e) stood (λ f s. cc) (is.makers had);
         balanced = balance_same (length (world_of ms)) (length (slice_set ms at n))
             (history (with_machine at (append (Sent e)) (world_of ms))) (history (world_of (slice_set ms at n))) losses
             (waits_from at e 0) (world ∙ sym len) (history_event ms at m (Sent e) stood)

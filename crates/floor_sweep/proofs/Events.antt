@@ -5,15 +5,16 @@ use Rattle.std.specs.Prelude.{slice_get, slice_set, All}
 use Rattle.std.specs.List.{Contains}
 use Rattle.std.proofs.lemmas.Bool.{cases_eq, le-leb, or_right, true≢false, not_from_true}
 use Rattle.std.proofs.lemmas.List.{append_assoc, map-append}
-use Rattle.std.proofs.lemmas.List.Elements.{All-weaker, Contains-append_left}
+use Rattle.std.proofs.lemmas.List.Elements.{All-weaker, Contains-append_left, Contains-append_cases}
 use Rattle.entry_format.specs.Nodes.{node_of_sealed}
 use Rattle.entry_format.specs.SealedEntry.{SealedEntry}
 use Rattle.entry_order.specs.declared.event.Event.{Event}
-use Rattle.entry_order.specs.declared.event.Event.TheVariants.{Sent}
+use Rattle.entry_order.specs.declared.event.Event.TheVariants.{Sent, Got}
 use Rattle.entry_order.specs.History.{MayFollow, entry_of, held, sent}
 use Rattle.entry_order.specs.Naming.{IsBorneIn}
 use Rattle.entry_order.specs.World.{history}
 use Rattle.entry_order.proofs.Histories.{sent-append}
+use Rattle.entry_order.proofs.Lists.{Contains-none, Contains-cons_cases}
 use Rattle.election_script.specs.declared.script.Lose.{Lose}
 use Rattle.floor_losses.specs.declared.loss.Loss.{Loss}
 use Rattle.floor_losses.specs.declared.loss.LossWhy.{LossWhy}
@@ -23,7 +24,7 @@ use Rattle.polling_world.specs.Sending.{MaySend}
 use Rattle.polling_world.specs.Waiting.{IsGoing}
 use Rattle.polling_world.specs.Worlds.{world_of}
 use Rattle.polling_world.proofs.Placing.{set_cases, set_get, one_there}
-use Rattle.floor_sweep.specs.Places.{IsAt, ArePlaced, AreOfSent, HasGrown, HaveGrown, count_sent}
+use Rattle.floor_sweep.specs.Places.{IsAt, ArePlaced, AreMadeByThese, AreOfSent, HasGrown, HaveGrown, count_sent}
 use Rattle.floor_sweep.specs.Swept.{HoldsSame, IsCause, IsLicensed}
 use Rattle.floor_sweep.proofs.Places.{IsMachine-event, get_others, history_more, length_set}
 
@@ -44,6 +45,24 @@ going_on m going at =
     let reached : is_reached m.stop n ≡ true = ap (λ o. is_reached o n) at ∙ le-leb n n (omega arith) in
     let has : has_stopped m ≡ true = or_right m.marked (is_reached m.stop n) reached in
     true≢false (sym going ∙ not_from_true (has_stopped m) has)
+
+-- what was got is of their making where what is got is
+pub makers_event : (ms : List MachineState) (at : ℕ) (m : MachineState) (x : Event SealedEntry) →
+    slice_get ms at ≡ Some m → ((e : SealedEntry) → x ≡ Got e → e.entry.maker < length ms) → AreMadeByThese ms →
+    AreMadeByThese (slice_set ms at (with_event x m))
+makers_event ms at m x stood new had place n e is c =
+    let len = length_set ms at (with_event x m) in
+    elim (set_cases ms at place m (with_event x m) n stood is) [
+      | inl s ↦ (let there = subst (λ (u : MachineState). Contains u.events (Got e)) (sym s.1) c in
+          elim (Contains-append_cases m.events (x ∷ []) (Got e) there) [
+            | inl was ↦ (let k = had at m e stood was in omega arith)
+            | inr last ↦ elim (Contains-cons_cases x [] (Got e) last) [
+              | inl same ↦ (let k = new e same in omega arith)
+              | inr none ↦ absurd (Contains-none (Got e) none)
+            ]
+          ])
+      | inr s ↦ (let k = had place n e s c in omega arith)
+    ]
 
 module _ (ms : List MachineState) (at : ℕ) (m : MachineState) (x : Event SealedEntry)
     (stood : slice_get ms at ≡ Some m) (going : IsGoing m) (room : length m.events < m.config.log) where

@@ -164,6 +164,9 @@ module _ (loses : List Lose) (old : List MachineState) (before : List Loss) (wai
       record {
         grown = event.grown_event ms to m (Got e) stood going answer.2 old is.grown;
         placed = event.placed_event ms to m (Got e) stood going answer.2 (answer.1, answer.0) (λ f s. cc) is.placed;
+        makers = λ had. event.makers_event ms to m (Got e) stood
+            (λ f s. let same : e ≡ f = cc in subst (λ (g : SealedEntry). g.entry.maker < length ms) same lf)
+            (is.makers had);
         balanced = balance_same (length (world_of ms)) (length after)
             (history (with_machine to (append (Got e)) (world_of ms))) (history (world_of after)) losses later
             (world ∙ sym len) (history_event ms to m (Got e) stood)
@@ -205,6 +208,7 @@ module _ (loses : List Lose) (old : List MachineState) (before : List Loss) (wai
       record {
         grown = is.grown;
         placed = is.placed;
+        makers = is.makers;
         balanced = balance_same (length (world_of ms)) (length ms) (history (world_of ms)) (history (world_of ms))
             (losses ++ loss ∷ []) later world (λ i. refl)
             (balanced_lost node_of_sealed (world_of ms) losses waits loss from to e later
@@ -324,6 +328,7 @@ pub swept_waits : (loses : List Lose) (old : List MachineState) (before : List L
 swept_waits loses old before waits others ms losses same is = record {
   grown = is.grown;
   placed = is.placed;
+  makers = is.makers;
   balanced = λ a b la lb apart.
       ap (λ l. got_from node_of_sealed a (history (world_of ms) b) ++ l) (same a b la lb apart)
       ∙ is.balanced a b la lb apart;

@@ -144,6 +144,7 @@ swept_none loses ms losses waits placed balanced once of = record {
         (record { config = refl; stop = refl; later = []; events = sym (append-nil m.events) });
   };
   placed = placed;
+  makers = λ had. had;
   balanced = balanced;
   lost = [];
   losses = sym (append-nil losses);

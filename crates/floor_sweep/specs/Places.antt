@@ -1,7 +1,9 @@
 -- Machines in their places.
 use Rattle.std.specs.Prelude.{◌≡◌, ℕ, ◌<◌, false, List, ◌++◌, length, All, Some, slice_get}
+use Rattle.std.specs.List.{Contains}
 use Rattle.entry_format.specs.SealedEntry.{SealedEntry}
 use Rattle.entry_order.specs.declared.event.Event.{Event}
+use Rattle.entry_order.specs.declared.event.Event.TheVariants.{Got}
 use Rattle.entry_order.specs.History.{sent}
 use Rattle.entry_order.specs.World.{history}
 use Rattle.floor_losses.specs.declared.loss.Loss.{Loss}
@@ -30,6 +32,12 @@ pub record HaveGrown (old new : List MachineState) : Type 0 where
   pub count : length new ≡ length old
   pub each : (place : ℕ) (m n : MachineState) → slice_get old place ≡ Some m → slice_get new place ≡ Some n →
       HasGrown m n
+
+-- each entry that one of the machines got was made by one of them
+abbrev pub AreMadeByThese : List MachineState → Type 0
+AreMadeByThese machines =
+    (place : ℕ) (m : MachineState) (e : SealedEntry) → slice_get machines place ≡ Some m →
+    Contains m.events (Got e) → e.entry.maker < length machines
 
 -- how many entries the machine sent
 abbrev pub count_sent : List MachineState → ℕ → ℕ

@@ -8,7 +8,7 @@ ghost use Rattle.polling_world.specs.Worlds.{world_of};
 ghost use Rattle.floor_losses.specs.declared.loss.Loss.{Loss};
 ghost use Rattle.floor_losses.specs.Balance.{IsBalanced};
 ghost use Rattle.floor_losses.specs.Losses.{AreOnce};
-ghost use Rattle.floor_sweep.specs.Places.{AreOfSent, ArePlaced, HaveGrown};
+ghost use Rattle.floor_sweep.specs.Places.{AreMadeByThese, AreOfSent, ArePlaced, HaveGrown};
 ghost use Rattle.floor_sweep.specs.Swept.{AreScripted, IsLicensed};
 ghost use Rattle.floor_sweep.specs.Waits.{AreOnWay, waits_of};
 ghost use Rattle.floor_sweep.specs.Wholes.{IsWholeRun};
@@ -60,6 +60,8 @@ pub fn sweep(
         (history (world_of machines.new.items)) losses.new.items (λ a b. [])) }
     ensures grown { IfOk result (λ _. HaveGrown machines.old.items machines.new.items) }
     ensures placed { IfOk result (λ _. ArePlaced machines.new.items) }
+    ensures makers { IfOk result (λ _. AreMadeByThese machines.old.items →
+        AreMadeByThese machines.new.items) }
 
     // Each new loss has its cause.
     ensures licensed { IfOk result (λ _. (lost : List Loss)

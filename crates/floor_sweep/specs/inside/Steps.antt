@@ -16,7 +16,7 @@ use Rattle.polling_world.specs.declared.acted.Acted.TheVariants as acted
 use Rattle.polling_world.specs.Acting.{IsActed}
 use Rattle.polling_world.specs.Machines.{MachineState}
 use Rattle.polling_world.specs.Worlds.{world_of}
-use Rattle.floor_sweep.specs.Places.{ArePlaced, AreOfSent, HaveGrown, count_sent}
+use Rattle.floor_sweep.specs.Places.{ArePlaced, AreMadeByThese, AreOfSent, HaveGrown, count_sent}
 use Rattle.floor_sweep.specs.Swept.{IsLicensed, is_scripted}
 
 -- what waits on each way
@@ -35,13 +35,14 @@ waits_from maker e below from to = cond ((from == maker) && nat_le below to) (e 
 abbrev pub IsWaiting : Waits → ℕ → ℕ → ℕ → Type 0
 IsWaiting waits from number to = (e : SealedEntry) × Contains (waits from to) e × (e.entry.number ≡ number)
 
--- The machines have grown and are in their places, each entry is heard, lost or waiting, what is lost since `before`
--- has its cause, no entry is lost twice on one way, and each entry sent since `old` that a line of the script names is
--- lost so, or still waits.
+-- The machines have grown and are in their places, what they got is of their making, each entry is heard, lost or
+-- waiting, what is lost since `before` has its cause, no entry is lost twice on one way, and each entry sent since `old`
+-- that a line of the script names is lost so, or still waits.
 pub record IsSwept (loses : List Lose) (old : List MachineState) (before : List Loss) (waits : Waits)
     (new : List MachineState) (after : List Loss) : Type 0 where
   pub grown : HaveGrown old new
   pub placed : ArePlaced new
+  pub makers : AreMadeByThese old → AreMadeByThese new
   pub balanced : IsBalanced node_of_sealed (length new) (history (world_of new)) after waits
   pub lost : List Loss
   pub losses : after ≡ before ++ lost

@@ -45,6 +45,10 @@ pub returns-clause-placed : goal.returns-clause-placed
 returns-clause-placed c =
     (c.in_ok-round.ensures.swept c.args.machines.now.items c.args.losses.now.items c.loop.invariant.swept).placed
 
+pub returns-clause-makers : goal.returns-clause-makers
+returns-clause-makers c =
+    (c.in_ok-round.ensures.swept c.args.machines.now.items c.args.losses.now.items c.loop.invariant.swept).makers
+
 pub returns-clause-licensed : goal.returns-clause-licensed
 returns-clause-licensed c =
     let is = c.in_ok-round.ensures.swept c.args.machines.now.items c.args.losses.now.items c.loop.invariant.swept in
