@@ -1,0 +1,203 @@
+-- What was lost before a sweep and in it: each loss keeps its cause, in whatever order they are told.
+use Rattle.std.proofs.Common.{◌≡◌, ◌⊎◌, ◌∙◌, ℕ, ◌<◌, ◌≤◌, inl, inr, Bool, true, List}
+use Rattle.std.proofs.Common.{◌++◌, length, Option, Some, get_or, refl, sym, ap, subst, arith, length-append}
+use Rattle.std.specs.Prelude.{nat_lt, ◌&&◌, not, All}
+use Rattle.std.specs.List.{Contains, filter}
+use Rattle.std.specs.List.Sorted.{IsPermutation}
+use Rattle.std.proofs.lemmas.Bool.{cases_Bool, cases_lt, and_parts, and_from, true≢false}
+use Rattle.std.proofs.lemmas.List.Elements.{All-contains, Contains-append_cases, Contains-append_left, Contains-get_or}
+use Rattle.std.proofs.lemmas.List.Elements.{filter-append}
+use Rattle.std.proofs.lemmas.List.Sorted.{Contains-permutation, IsPermutation-sym}
+use Rattle.entry_format.specs.SealedEntry.{SealedEntry}
+use Rattle.entry_order.specs.History.{sent}
+use Rattle.entry_order.specs.World.{history}
+use Rattle.entry_order.proofs.Lists.{list_any_of, list_any_some}
+use Rattle.election_script.specs.declared.script.Script.{Script}
+use Rattle.floor_losses.specs.declared.loss.Loss.{Loss}
+use Rattle.floor_losses.specs.declared.loss.LossWhy.{LossWhy}
+use Rattle.floor_losses.specs.declared.loss.LossWhy.TheVariants.{Scripted, LinkFull, ToStopped, LogFull, SameDigest}
+use Rattle.floor_losses.specs.Losses.{is_of}
+use Rattle.floor_losses.proofs.Arriving.{is_of_parts, itself}
+use Rattle.floor_losses.proofs.Lists.{filter_same}
+use Rattle.floor_sweep.specs.Places.{ArePlaced, HaveGrown, count_sent}
+use Rattle.floor_sweep.specs.Swept.{AreScripted, IsCause, IsLicensed}
+use Rattle.floor_sweep.proofs.Handed.{legal_at}
+use Rattle.floor_sweep.proofs.Numbers.{numbers_below}
+use Rattle.polling_world.specs.Machines.{MachineState, IsWithinStop}
+use Rattle.polling_world.specs.Worlds.{world_of}
+use Rattle.finished_floor.specs.Places.{AreMachinesOf}
+use Rattle.finished_floor.specs.Losses.{AreLostAsScripted, IsCauseOf, IsOnWay, is_before_link, is_kept_off, put_before}
+use Rattle.finished_floor.proofs.Grown.{are_placed, count_more, held_still, log_is, longer, machines_still}
+use Rattle.finished_floor.proofs.Grown.{now_at, sent_more, sent_still}
+
+-- what is true of each member is true of all
+pub all_by : {X : Type 0} (P : X → Type 0) (xs : List X) → ((x : X) → Contains xs x → P x) → All P xs
+all_by P xs each k d lt = each (get_or xs k d) (Contains-get_or xs k d lt)
+
+module _ (script : Script) (ms ns : List MachineState) (of : AreMachinesOf script ms) (grown : HaveGrown ms ns)
+    (placed : ArePlaced ns) (before lost after told : List Loss) (losses : after ≡ before ++ lost)
+    (moved : IsPermutation after told) (only : All (IsOnWay ms) before)
+    (causes : All (λ loss. IsCauseOf script ms before loss loss.why) before)
+    (scripted : AreLostAsScripted script ms before) (licensed : All (IsLicensed script.loses ns) lost) where
+  -- the machines are the script's still
+  now_of : AreMachinesOf script ns
+  now_of = machines_still ms ns grown script of placed
+
+  -- what is told was lost before, or since
+  pub told_cases : (l : Loss) → Contains told l → Contains before l ⊎ Contains lost l
+  told_cases l c =
+      Contains-append_cases before lost l
+      (subst (λ (xs : List Loss). Contains xs l) losses
+      (Contains-permutation told after l (IsPermutation-sym after told moved) c))
+
+  told_before : (l : Loss) → Contains before l → Contains told l
+  told_before l c =
+      Contains-permutation after told l moved
+      (subst (λ (xs : List Loss). Contains xs l) (sym losses) (Contains-append_left before lost l c))
+
+  -- each loss is of an entry that was sent, on its way to another machine
+  on_way_still : (l : Loss) → IsOnWay ms l → IsOnWay ns l
+  on_way_still l is =
+      let count = grown.count in
+      let more = count_more ms ns grown l.from in
+      let a = is.from in
+      let b = is.to in
+      let c = is.number in
+      record { from = omega arith; to = omega arith; other = is.other; number = omega arith }
+
+  on_way_new : (l : Loss) → IsLicensed script.loses ns l → IsOnWay ns l
+  on_way_new l is = record { from = is.from; to = is.to; other = is.other; number = is.number }
+
+  pub all_on_way : All (IsOnWay ns) told
+  all_on_way =
+      all_by (IsOnWay ns) told
+      (λ l c. elim (told_cases l c) [
+        | inl old ↦ on_way_still l (All-contains (IsOnWay ms) before l only old)
+        | inr new ↦ on_way_new l (All-contains (IsLicensed script.loses ns) lost l licensed new)
+      ])
+
+  module _ (from number to : ℕ) (sent_then : number < count_sent ms from) where
+    abbrev is_off : Loss → Bool
+    is_off loss = is_of from number to loss && is_before_link loss.why
+
+    -- of what was sent before, nothing more is kept off a link
+    scripted_before : (l : Loss) → IsLicensed script.loses ns l → is_of from number to l ≡ true → (why : LossWhy) →
+        IsCause script.loses ns l why → is_before_link why ≡ true → is_kept_off before from number to ≡ true
+    scripted_before l is of_this Scripted cause off =
+        let parts = is_of_parts l from number to of_this in
+        let many = ap (count_sent ms) parts.0 in
+        let n = parts.1 in
+        let count = grown.count in
+        let a = is.from in
+        let b = is.to in
+        let this : Loss = record { from = l.from; number = l.number; to = l.to; why = Scripted } in
+        list_any_of is_off before this
+        (scripted l.from l.number l.to (omega arith) (omega arith) is.other (omega arith) cause)
+        (and_from (is_of from number to this) true (itself this from number to parts.0 parts.1 parts.2) refl)
+    scripted_before l is of_this LinkFull cause off = absurd cause
+    scripted_before l is of_this ToStopped cause off = cc
+    scripted_before l is of_this LogFull cause off = cc
+    scripted_before l is of_this SameDigest cause off = cc
+
+    kept_off_same : is_kept_off told from number to ≡ is_kept_off before from number to
+    kept_off_same =
+        elim (cases_Bool (is_kept_off before from number to)) [
+          | inl off ↦ (let some = list_any_some is_off before off in
+              list_any_of is_off told some.0 (told_before some.0 some.1) some.2 ∙ sym off)
+          | inr on ↦ elim (cases_Bool (is_kept_off told from number to)) [
+            | inl off ↦ (let some = list_any_some is_off told off in
+                let parts = and_parts (is_of from number to some.0) (is_before_link some.0.why) some.2 in
+                absurd (true≢false (sym (elim (told_cases some.0 some.1) [
+                  | inl old ↦ list_any_of is_off before some.0 old some.2
+                  | inr new ↦ (let is = All-contains (IsLicensed script.loses ns) lost some.0 licensed new in
+                      scripted_before some.0 is parts.0 some.0.why is.cause parts.1)
+                ]) ∙ on)))
+            | inr still ↦ still ∙ sym on
+          ]
+        ]
+
+  -- so as many entries with lower numbers were put on a link
+  put_more : (from number to : ℕ) → from < length ms →
+      length (put_before ms before from number to) ≤ length (put_before ns told from number to)
+  put_more from number to lf =
+      let legal = legal_at ms (are_placed script ms of) from lf in
+      let es : List SealedEntry = sent (history (world_of ms) from) in
+      let more = sent_more ms ns grown from in
+      let p : SealedEntry → Bool =
+      λ e. nat_lt e.entry.number number && not (is_kept_off before from e.entry.number to) in
+      let q : SealedEntry → Bool =
+      λ e. nat_lt e.entry.number number && not (is_kept_off told from e.entry.number to) in
+      let same : filter q es ≡ filter p es =
+      filter_same q p es
+      (λ e c. ap (λ b. nat_lt e.entry.number number && not b)
+      (kept_off_same from e.entry.number to (numbers_below from (history (world_of ms) from) legal e c).0)) in
+      let all : put_before ns told from number to ≡ filter p es ++ filter q more.0 =
+      ap (filter q) more.1 ∙ filter-append q es more.0 ∙ ap (λ l. l ++ filter q more.0) same in
+      let k = ap length all in
+      let both = length-append (filter p es) (filter q more.0) in
+      omega arith
+
+  -- a machine that has as many events as it stops at stays so
+  stop_still : (m n : MachineState) → m.stop ≡ Some (length m.events) → n.stop ≡ m.stop →
+      length m.events ≤ length n.events → IsWithinStop n.stop (length n.events) → n.stop ≡ Some (length n.events)
+  stop_still m n at same low within =
+      let high : length n.events ≤ length m.events =
+      subst (λ (o : Option ℕ). IsWithinStop o (length n.events)) (same ∙ at) within in
+      same ∙ at ∙ ap (λ (i : ℕ). Some i) (omega arith)
+
+  -- a cause stays
+  cause_still : (l : Loss) → IsOnWay ms l → (why : LossWhy) → IsCauseOf script ms before l why →
+      IsCauseOf script ns told l why
+  cause_still l way Scripted cause = cause
+  cause_still l way LinkFull cause =
+      let more = put_more l.from l.number l.to way.from in
+      let was = cause.1 in
+      (cause.0, omega arith)
+  cause_still l way ToStopped cause =
+      let n = now_at ms ns grown l.to cause.0 cause.1 in (
+        n.0,
+        n.1,
+        stop_still cause.0 n.0 cause.2 n.2.stop (longer cause.0 n.0 n.2) (placed l.to n.0 n.1).machine.stop,
+      )
+  cause_still l way LogFull cause =
+      let n = now_at ms ns grown l.to cause.0 cause.1 in
+      let low = longer cause.0 n.0 n.2 in
+      let within = (placed l.to n.0 n.1).machine.within in
+      let log = log_is script l.to n.0 (now_of.each l.to n.0 n.1) in
+      let full = cause.2 in
+      (n.0, n.1, omega arith)
+  cause_still l way SameDigest cause =
+      let n = now_at ms ns grown l.to cause.0 cause.1 in
+      let same = cause.2 in (
+        n.0,
+        n.1,
+        (same.0, sent_still ms ns grown l.from same.0 same.1, same.2, held_still cause.0 n.0 _ n.2 same.3),
+      )
+
+  -- and what is lost in the sweep has one
+  cause_new : (l : Loss) (why : LossWhy) → IsCause script.loses ns l why → IsCauseOf script ns told l why
+  cause_new l Scripted cause = cause
+  cause_new l LinkFull cause = absurd cause
+  cause_new l ToStopped cause = cause
+  cause_new l LogFull cause =
+      (cause.0, cause.1, cause.2 ∙ log_is script l.to cause.0 (now_of.each l.to cause.0 cause.1))
+  cause_new l SameDigest cause = cause
+
+  pub all_caused : All (λ loss. IsCauseOf script ns told loss loss.why) told
+  all_caused =
+      all_by (λ loss. IsCauseOf script ns told loss loss.why) told
+      (λ l c. elim (told_cases l c) [
+        | inl old ↦ cause_still l (All-contains (IsOnWay ms) before l only old) l.why
+            (All-contains (λ loss. IsCauseOf script ms before loss loss.why) before l causes old)
+        | inr new ↦ cause_new l l.why (All-contains (IsLicensed script.loses ns) lost l licensed new).cause
+      ])
+
+  -- each entry that a line names is lost so
+  pub all_scripted : AreScripted script.loses ms ns after → AreLostAsScripted script ns told
+  all_scripted since from number to lf lt differs low named =
+      let count = grown.count in
+      let this : Loss = record { from = from; number = number; to = to; why = Scripted } in
+      elim (cases_lt number (count_sent ms from)) [
+        | inl then ↦ told_before this (scripted from number to (omega arith) (omega arith) differs then named)
+        | inr later ↦ Contains-permutation after told this moved (since from number to lf lt differs later low named)
+      ]

@@ -1,0 +1,85 @@
+-- How many members a list has at most.
+use Rattle.std.proofs.Common.{◌≡◌, ◌∙◌, ℕ, suc, ◌+◌, ◌-◌, ◌<◌, ◌≤◌, inl, inr, Bool, true, false, List, []}
+use Rattle.std.proofs.Common.{◌∷◌, ◌++◌, length, get_or, refl, sym, ap, subst, arith, length-append, append_assoc}
+use Rattle.std.specs.Prelude.{nat_lt, ◌&&◌, cond}
+use Rattle.std.specs.List.{AllPairs, Contains, filter}
+use Rattle.std.proofs.lemmas.Bool.{cases_lt, and_left, le-ltb}
+use Rattle.std.proofs.lemmas.List.Elements.{Contains-append_left, Contains-append_right, Contains-append_cases}
+use Rattle.entry_order.specs.declared.event.Event.{Event}
+use Rattle.entry_order.specs.Node.{Node}
+use Rattle.entry_order.specs.History.{IsLegal, entry_of, held}
+use Rattle.entry_order.proofs.Histories.{new_from_may}
+use Rattle.entry_order.proofs.Lists.{Contains-head, Contains-later, Contains-cons_cases, Contains-map}
+use Rattle.entry_order.proofs.Lists.{Contains-map_cases}
+use Rattle.entry_order.proofs.Orders.{member_split}
+
+module _ {X : Type 0} where
+  -- no member is among the later ones
+  abbrev pub AreDifferent : List X → Type 0
+  AreDifferent [] = Unit {0}
+  AreDifferent (x ∷ xs) = (Contains xs x → ⊥) × AreDifferent xs
+
+  -- different members of a list are at most as many as the list has
+  pub different_few : (xs ys : List X) → AreDifferent xs → ((x : X) → Contains xs x → Contains ys x) →
+      length xs ≤ length ys
+  different_few [] ys differ all = omega arith
+  different_few (x ∷ xs) ys differ all =
+      let split = member_split ys x (all x (Contains-head x xs)) in
+      let rest : List X = split.0 ++ split.1 in
+      let others : (y : X) → Contains xs y → Contains rest y =
+      λ y c.
+      elim (Contains-append_cases split.0 (x ∷ split.1) y
+      (subst (λ (l : List X). Contains l y) split.2 (all y (Contains-later x xs y c)))) [
+        | inl h ↦ Contains-append_left split.0 split.1 y h
+        | inr h ↦ elim (Contains-cons_cases x split.1 y h) [
+          | inl same ↦ absurd (differ.0 (subst (λ (z : X). Contains xs z) (sym same) c))
+          | inr k ↦ Contains-append_right split.0 split.1 y k
+        ]
+      ] in
+      let fewer = different_few xs rest differ.1 others in
+      omega (arith, ap length split.2, length-append split.0 (x ∷ split.1), length-append split.0 split.1)
+
+  -- where numbers rise from k on, fewer than n - k of them are below n
+  pub rising_few : (number : X → ℕ) (test : X → Bool) (n k : ℕ) (xs : List X) →
+      AllPairs (λ x y. number x < number y) xs → ((x : X) → Contains xs x → k ≤ number x) →
+      length (filter (λ x. nat_lt (number x) n && test x) xs) ≤ n - k
+  rising_few number test n k [] rises above = omega arith
+  rising_few number test n k (x ∷ xs) rises above =
+      let p : X → Bool = λ x. nat_lt (number x) n && test x in
+      let first = above x (Contains-head x xs) in
+      let rest : length (filter p xs) ≤ n - (k + 1) =
+      rising_few number test n (k + 1) xs (λ i j d lt within. rises (suc i) (suc j) d (omega arith) (omega arith))
+      (λ y c.
+      let at : number x < number (get_or xs c.0 y) = rises 0 (suc c.0) y (omega arith) (let l = c.1 in omega arith) in
+      let is = ap number c.2 in omega arith) in
+      elim (cases_lt (number x) n) [
+        | inl low ↦ (let most = at_most_one (p x) x (filter p xs) in omega arith)
+        | inr high ↦ (let none : p x ≡ false = and_left (nat_lt (number x) n) (test x) (le-ltb (number x) n high) in
+            let same = ap (λ b. length (cond b (x ∷ filter p xs) (filter p xs))) none in omega arith)
+      ]
+    where
+      at_most_one : (b : Bool) (x : X) (xs : List X) → length (cond b (x ∷ xs) xs) ≤ 1 + length xs
+      at_most_one true x xs = omega arith
+      at_most_one false x xs = omega arith
+
+module _ {T : Type 0} (node : T → Node) where
+  -- what a machine holds is different from what it held before
+  different_from : (owner : ℕ) (h p q : List (Event T)) → h ≡ p ++ q → IsLegal node owner h → AreDifferent (held q)
+  different_from owner h p [] is legal = tt
+  different_from owner h p (x ∷ q) is legal = (
+    (λ c.
+        let at = Contains-map_cases entry_of q (entry_of x) c in
+        let split = member_split q at.0 at.1 in
+        let before : List (Event T) = p ++ x ∷ split.0 in
+        let there : h ≡ before ++ at.0 ∷ split.1 =
+        is ∙ ap (λ (l : List (Event T)). p ++ x ∷ l) split.2
+        ∙ sym (append_assoc p (x ∷ split.0) (at.0 ∷ split.1)) in
+        let new = new_from_may node owner before at.0 (legal before at.0 split.1 there) in
+        new (entry_of x)
+        (Contains-map entry_of before x (Contains-append_right p (x ∷ split.0) x (Contains-head x split.0)))
+        (ap (λ (e : T). (node e).digest) (sym at.2))),
+    different_from owner h (p ++ x ∷ []) q (is ∙ sym (append_assoc p (x ∷ []) q)) legal,
+  )
+
+  pub held_different : (owner : ℕ) (h : List (Event T)) → IsLegal node owner h → AreDifferent (held h)
+  held_different owner h legal = different_from owner h [] h refl legal

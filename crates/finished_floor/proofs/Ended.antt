@@ -1,0 +1,65 @@
+-- A whole run of a floor's machines has no stamp that is spent.
+use Rattle.std.proofs.Common.{◌≡◌, ℕ, ◌*◌, ◌≤◌, inl, inr, List, length, Some, ap, arith}
+use Rattle.std.specs.Prelude.{slice_get, All}
+use Rattle.std.proofs.lemmas.Option.{slice_get-get_or}
+use Rattle.std.specs.Prelude.{slice_index_or}
+use Rattle.entry_format.specs.Nodes.{node_of_sealed}
+use Rattle.entry_format.specs.SealedEntry.{SealedEntry}
+use Rattle.entry_order.specs.Receipt.{IsOrderly}
+use Rattle.entry_order.specs.World.{Machine, sent_in}
+use Rattle.election_script.specs.declared.script.Script.{Script}
+use Rattle.election_script.specs.Lawful.{IsLawful}
+use Rattle.floor_losses.specs.Laws.{StampsAreFew}
+use Rattle.floor_sweep.specs.Wholes.{IsWholeRun}
+use Rattle.floor_sweep.proofs.Places.{length_world}
+use Rattle.polling_world.specs.Machines.{MachineState}
+use Rattle.polling_world.specs.Waiting.{IsStampSpent}
+use Rattle.polling_world.specs.Worlds.{machine_of, world_of}
+use Rattle.polling_world.proofs.Growing.{sent_in_few}
+use Rattle.polling_world.proofs.Placing.{get-map_from}
+use Rattle.finished_floor.specs.Places.{AreMachinesOf, IsAtEnd}
+use Rattle.finished_floor.proofs.Grown.{are_placed, log_is}
+use Rattle.finished_floor.proofs.Roomy.{held_sent}
+
+module _ (script : Script) (lawful : IsLawful script) (ms : List MachineState) (of : AreMachinesOf script ms)
+    (orderly : IsOrderly node_of_sealed (world_of ms)) (law : StampsAreFew node_of_sealed) where
+  -- there are at most 16 machines, and each has at most 4,096 events
+  few_sent : length (sent_in (world_of ms)) ≤ 4096 * length (world_of ms)
+  few_sent =
+      sent_in_few (world_of ms)
+      (λ k a is.
+      let m = get-map_from machine_of ms k a is in
+      let within = (are_placed script ms of k m.0 m.1).machine.within in
+      let log = log_is script k m.0 (of.each k m.0 m.1) in
+      let most = lawful.log.1 in
+      let same = ap (λ (b : Machine SealedEntry). length b.history) m.2 in
+      omega arith)
+
+  not_spent : (k : ℕ) (m : MachineState) → slice_get ms k ≡ Some m → IsStampSpent m → ⊥
+  not_spent k m is spent =
+      let low = law (world_of ms) orderly spent.0 (held_sent ms orderly k m is spent.0 spent.1) in
+      let few = few_sent in
+      let world = length_world ms in
+      let count = of.count in
+      let most = lawful.machines.few.1 in
+      let stamp = spent.2 in
+      omega arith
+
+  -- nothing that a machine could do was left
+  end_of : (k : ℕ) (m : MachineState) → slice_get ms k ≡ Some m → IsWholeRun m → IsAtEnd m
+  end_of k m is whole =
+      elim whole [
+        | inl none ↦ inl none
+        | inr (inl stopped) ↦ inr (inl stopped)
+        | inr (inr (inl refused)) ↦ inr (inr (inl refused))
+        | inr (inr (inr (inl full))) ↦ inr (inr (inr (inl full)))
+        | inr (inr (inr (inr (inl spent)))) ↦ absurd (not_spent k m is spent)
+        | inr (inr (inr (inr (inr (inl signed))))) ↦ inr (inr (inr (inr (inl signed))))
+        | inr (inr (inr (inr (inr (inr before))))) ↦ inr (inr (inr (inr (inr before))))
+      ]
+
+  pub all_at_end : ((place : ℕ) (m : MachineState) → slice_get ms place ≡ Some m → IsWholeRun m) → All IsAtEnd ms
+  all_at_end whole k d lt =
+      let m : MachineState = slice_index_or ms k d in
+      let is = slice_get-get_or ms k d lt in
+      end_of k m is (whole k m is)

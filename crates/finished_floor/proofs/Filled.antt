@@ -1,0 +1,142 @@
+-- Lists that are filled up, and lists place by place.
+use Rattle.std.proofs.Common.{◌≡◌, ◌≢◌, ◌∙◌, ℕ, zero, suc, ◌+◌, ◌-◌, ◌<◌, ◌≤◌, inl, inr, List, [], ◌∷◌, ◌++◌, length}
+use Rattle.std.proofs.Common.{map, replicate, Option, Some, None, refl, sym, ap, subst, arith, get_or, length-append}
+use Rattle.std.specs.Prelude.{slice_get, slice_set}
+use Rattle.std.specs.List.{AllZip}
+use Rattle.std.proofs.lemmas.Bool.{cases_eq}
+use Rattle.std.proofs.lemmas.List.{append_assoc, length-map, replicate-append-replicate}
+use Rattle.std.proofs.lemmas.Option.{slice_get_within, slice_get-get_or}
+use Rattle.entry_format.specs.SealedEntry.{SealedEntry}
+use Rattle.entry_order.specs.declared.event.Event.{Event}
+use Rattle.polling_world.specs.Machines.{MachineState}
+use Rattle.polling_world.proofs.Placing.{one_there, set_cases, set_get}
+use Rattle.finished_floor.specs.Floors.{IsBy, pass_of, passes_of}
+use Rattle.finished_floor.specs.inside.Begun.{IsBegunBy}
+
+module _ {X : Type 0} (row : List X) (x : X) where
+  -- one more is added
+  pub filled_more : (now more : List X) (at : ℕ) → length row ≤ at → now ≡ row ++ replicate (at - length row) x →
+      more ≡ now ++ x ∷ [] → more ≡ row ++ replicate (at + 1 - length row) x
+  filled_more now more at low is pushed =
+      let next : (at - length row) + 1 ≡ at + 1 - length row = omega arith in
+      pushed ∙ ap (λ (l : List X). l ++ x ∷ []) is ∙ append_assoc row (replicate (at - length row) x) (x ∷ [])
+      ∙ ap (λ (l : List X). row ++ l)
+      (replicate-append-replicate (at - length row) 1 x ∙ ap (λ n. replicate n x) next)
+
+-- what an index reads
+pub stands : {X : Type 0} (xs : List X) (i : ℕ) (x : X) → i < length xs → x ≡ get_or xs i x → slice_get xs i ≡ Some x
+stands {X} xs i x within is = slice_get-get_or xs i x within ∙ ap (λ (y : X). Some y) (sym is)
+
+module _ {A B C : Type 0} (R : A → C → Type 0) (f : B → C) where
+  -- what holds place by place holds at each place
+  pub zip_at : (xs : List A) (ys : List B) → AllZip R xs (map f ys) → (k : ℕ) (x : A) (y : B) →
+      slice_get xs k ≡ Some x → slice_get ys k ≡ Some y → R x (f y)
+  zip_at [] [] all k x y is there = cc
+  zip_at [] (v ∷ ys) all k x y is there = cc
+  zip_at (u ∷ xs) [] all k x y is there = cc
+  zip_at (u ∷ xs) (v ∷ ys) all zero x y is there =
+      let a : u ≡ x = cc in
+      let b : v ≡ y = cc in
+      subst (λ (z : A). R z (f y)) a (subst (λ (z : B). R u (f z)) b all.0)
+  zip_at (u ∷ xs) (v ∷ ys) all (suc k) x y is there = zip_at xs ys all.1 k x y is there
+
+  -- there are as many
+  pub zip_many : (xs : List A) (ys : List B) → AllZip R xs (map f ys) → length ys ≡ length xs
+  zip_many [] [] all = refl
+  zip_many [] (v ∷ ys) all = absurd all
+  zip_many (u ∷ xs) [] all = absurd all
+  zip_many (u ∷ xs) (v ∷ ys) all = ap suc (zip_many xs ys all.1)
+
+  -- and the other way round
+  pub zip_from : (xs : List A) (ys : List B) → length ys ≡ length xs →
+      ((k : ℕ) (x : A) (y : B) → slice_get xs k ≡ Some x → slice_get ys k ≡ Some y → R x (f y)) →
+      AllZip R xs (map f ys)
+  zip_from [] [] many each = tt
+  zip_from [] (v ∷ ys) many each = cc
+  zip_from (u ∷ xs) [] many each = cc
+  zip_from (u ∷ xs) (v ∷ ys) many each = (
+    each zero u v refl refl,
+    zip_from xs ys (omega arith) (λ k x y is there. each (suc k) x y is there),
+  )
+
+-- what the workers did is told, and that none did the rest
+by_filled : (events : List (Event SealedEntry)) (row filled : List (Option ℕ)) → IsBegunBy events row →
+    filled ≡ row ++ replicate (length events - length row) None → IsBy events filled
+by_filled events row filled begun is =
+    let first = begun.0 in
+    let later = begun.1 in
+    let all = ap length begun.2 in
+    let both = length-append first later in
+    let told = ap length begun.3 in
+    let many = length-map first (λ x. Some (pass_of x)) in
+    let rest : length events - length row ≡ length later = omega arith in (
+      first,
+      later,
+      begun.2,
+      is ∙ ap (λ (l : List (Option ℕ)). l ++ replicate (length events - length row) None) begun.3
+          ∙ ap (λ n. passes_of first ++ replicate n None) rest,
+    )
+
+-- it tells of no more events than there are
+pub begun_few : (events : List (Event SealedEntry)) (row : List (Option ℕ)) → IsBegunBy events row →
+    length row ≤ length events
+begun_few events row begun =
+    let all = ap length begun.2 in
+    let both = length-append begun.0 begun.1 in
+    let told = ap length begun.3 in
+    let many = length-map begun.0 (λ x. Some (pass_of x)) in
+    omega arith
+
+module _ {B : Type 0} (f : B → List (Option ℕ)) (ms : List MachineState) where
+  -- the lists of the machines below `at` are filled up
+  pub record Filling (at : ℕ) (by : List B) : Type 0 where
+    pub many : length by ≡ length ms
+    pub done : (k : ℕ) (m : MachineState) (row : B) → slice_get ms k ≡ Some m → slice_get by k ≡ Some row → k < at →
+        IsBy m.events (f row)
+    pub rest : (k : ℕ) (m : MachineState) (row : B) → slice_get ms k ≡ Some m → slice_get by k ≡ Some row → at ≤ k →
+        IsBegunBy m.events (f row)
+
+  pub filling_none : (by : List B) → AllZip (λ m row. IsBegunBy m.events row) ms (map f by) → Filling 0 by
+  filling_none by all = record {
+    many = zip_many (λ (m : MachineState) row. IsBegunBy m.events row) f ms by all;
+    done = λ k m row is there lt. absurd (omega arith);
+    rest = λ k m row is there le.
+        zip_at (λ (m : MachineState) row. IsBegunBy m.events row) f ms by all k m row is there;
+  }
+
+  -- one list more
+  pub filling_more : (at : ℕ) (by : List B) (m : MachineState) (row new : B) → Filling at by →
+      slice_get ms at ≡ Some m → slice_get by at ≡ Some row →
+      f new ≡ f row ++ replicate (length m.events - length (f row)) None → Filling (at + 1) (slice_set by at new)
+  filling_more at by m row new filling stood there is = record {
+    many = set_many by at new ∙ filling.many;
+    done = λ k u z here has lt.
+        elim (cases_eq k at) [
+          | inl s ↦ (let a : m ≡ u = one_there ms at m u stood (ap (slice_get ms) (sym s) ∙ here) in
+              let b : new ≡ z = one_there (slice_set by at new) at new z (set_get by at row new there)
+              (ap (slice_get (slice_set by at new)) (sym s) ∙ has) in
+              subst (λ (v : MachineState). IsBy v.events (f z)) a
+              (subst (λ (v : B). IsBy m.events (f v)) b
+              (by_filled m.events (f row) (f new)
+              (filling.rest at m row stood there (omega arith)) is)))
+          | inr differs ↦ filling.done k u z here (others k z differs has) (omega arith)
+        ];
+    rest = λ k u z here has le.
+        filling.rest k u z here (others k z (λ s. absurd (omega arith)) has) (omega arith);
+  }
+    where
+      set_many : (xs : List B) (i : ℕ) (y : B) → length (slice_set xs i y) ≡ length xs
+      set_many [] i y = refl
+      set_many (x ∷ xs) zero y = refl
+      set_many (x ∷ xs) (suc i) y = ap suc (set_many xs i y)
+
+      others : (k : ℕ) (z : B) → k ≢ at → slice_get (slice_set by at new) k ≡ Some z → slice_get by k ≡ Some z
+      others k z differs has =
+          elim (set_cases by at k row new z there has) [ inl s ↦ absurd (differs s.0) | inr s ↦ s ]
+
+  -- all are
+  pub filling_all : (at : ℕ) (by : List B) → Filling at by → length ms ≤ at →
+      AllZip (λ m row. IsBy m.events row) ms (map f by)
+  filling_all at by filling past =
+      zip_from (λ (m : MachineState) row. IsBy m.events row) f ms by filling.many
+      (λ k m row is there. let lt = slice_get_within ms k m is in filling.done k m row is there (omega arith))

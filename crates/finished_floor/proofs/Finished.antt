@@ -1,0 +1,98 @@
+-- What the sweep leaves, sorted, is what a run comes to.
+use Rattle.std.proofs.Common.{◌≡◌, ◌∙◌, ℕ, List, [], ◌++◌, length, map, Option, Some, sym}
+use Rattle.std.specs.Prelude.{slice_get, All}
+use Rattle.std.specs.List.{AllPairs, AllZip}
+use Rattle.std.specs.List.Sorted.{IsPermutation}
+use Rattle.entry_format.specs.Nodes.{node_of_sealed}
+use Rattle.entry_order.specs.Receipt.{IsOrderly}
+use Rattle.entry_order.specs.World.{history}
+use Rattle.election_script.specs.Lawful.{IsLawful}
+use Rattle.election_script.specs.declared.script.Script.{Script}
+use Rattle.floor_losses.specs.declared.loss.Loss.{Loss}
+use Rattle.floor_losses.specs.Balance.{IsBalanced}
+use Rattle.floor_losses.specs.Losses.{AreOnce}
+use Rattle.floor_losses.proofs.Once.{each_is_heard_or_lost}
+use Rattle.floor_losses.proofs.Stamps.{stamps_are_few}
+use Rattle.floor_sweep.specs.declared.sweeping.Waiting.{Waiting}
+use Rattle.floor_sweep.specs.Places.{AreMadeByThese, ArePlaced, HaveGrown}
+use Rattle.floor_sweep.specs.Swept.{AreScripted, IsLicensed}
+use Rattle.floor_sweep.specs.Wholes.{IsWholeRun}
+use Rattle.polling_world.specs.Machines.{MachineState}
+use Rattle.polling_world.specs.Worlds.{world_of}
+use Rattle.roster.specs.declared.post.Post.{Post}
+use Rattle.finished_floor.specs.Floors.{AreGathered, IsBy, IsFloorOf, passes_of}
+use Rattle.finished_floor.specs.Losses.{IsToldBefore}
+use Rattle.finished_floor.specs.Places.{AreMachinesOf}
+use Rattle.finished_floor.specs.inside.Begun.{IsBegunBy}
+use Rattle.finished_floor.proofs.Caused.{all_caused, all_on_way, all_scripted}
+use Rattle.finished_floor.proofs.Ended.{all_at_end}
+use Rattle.finished_floor.proofs.Filled.{zip_from, zip_at, zip_many}
+use Rattle.finished_floor.proofs.Grown.{machines_still, was_at}
+use Rattle.finished_floor.proofs.Heard.{all_others, balanced_moved, got_or_lost}
+use Rattle.finished_floor.proofs.Played.{are_orderly, played_again}
+use Rattle.finished_floor.proofs.Roomy.{loses_nothing}
+use Rattle.finished_floor.proofs.Sorted.{told_once}
+
+-- the lists of workers tell of the first events of the machines that have grown
+pub rows_begun : {B : Type 0} (f : B → List (Option ℕ)) (ms ns : List MachineState) (rows : List B) →
+    HaveGrown ms ns → AllZip (λ (m : MachineState) row. row ≡ passes_of m.events) ms (map f rows) →
+    AllZip (λ (n : MachineState) row. IsBegunBy n.events row) ns (map f rows)
+rows_begun f ms ns rows grown all =
+    zip_from (λ (n : MachineState) row. IsBegunBy n.events row) f ns rows
+    (zip_many (λ (m : MachineState) row. row ≡ passes_of m.events) f ms rows all ∙ sym grown.count)
+    (λ k n row is there.
+    let m = was_at ms ns grown k n is in (
+      m.0.events,
+      m.2.later,
+      m.2.events,
+      zip_at (λ (m : MachineState) row. row ≡ passes_of m.events) f ms rows all k m.0 row m.1 there,
+    ))
+
+-- what the sweep leaves
+module _ (script : Script) (lawful : IsLawful script) (roster : List Post) (ms ns : List MachineState)
+    (waits : List Waiting) (before after told : List Loss) (rows by : List (List (Option ℕ)))
+    (left : AreGathered script roster ms waits before rows) (grown : HaveGrown ms ns) (placed : ArePlaced ns)
+    (makers : AreMadeByThese ms → AreMadeByThese ns)
+    (balanced : IsBalanced node_of_sealed (length ns) (history (world_of ns)) after (λ a b. []))
+    (losses : (lost : List Loss) × (after ≡ before ++ lost) × All (IsLicensed script.loses ns) lost)
+    (scripted : AreScripted script.loses ms ns after)
+    (whole : (place : ℕ) (m : MachineState) → slice_get ns place ≡ Some m → IsWholeRun m)
+    (moved : IsPermutation after told) (sorted : AllPairs IsToldBefore told)
+    (filled : AllZip (λ (m : MachineState) row. IsBy m.events row) ns by) where
+  now_of : AreMachinesOf script ns
+  now_of = machines_still ms ns grown script left.machines placed
+
+  once : AreOnce told
+  once = told_once told sorted
+
+  orderly : IsOrderly node_of_sealed (world_of ns)
+  orderly = are_orderly ns placed after (λ a b. []) (makers left.makers) balanced
+
+  -- it is what a run comes to
+  pub floor_of : IsFloorOf script roster ns told by
+  floor_of =
+      let each = got_or_lost ns told (each_is_heard_or_lost node_of_sealed) once
+      (balanced_moved node_of_sealed (length ns) (history (world_of ns)) after told (λ a b. []) moved balanced) in
+      let only = all_on_way script ms ns left.machines grown placed before losses.0 after told losses.1 moved left.only
+      left.causes left.scripted losses.2 in
+      let causes = all_caused script ms ns left.machines grown placed before losses.0 after told losses.1 moved
+      left.only left.causes left.scripted losses.2 in
+      let others = all_others ns placed told once each only script causes in
+      record {
+        roster = left.roster;
+        machines = now_of;
+        orderly = orderly;
+        played = played_again ns placed script now_of orderly;
+        losses = record {
+          sorted = sorted;
+          each = each;
+          only = only;
+          causes = causes;
+          others = others;
+          scripted = all_scripted script ms ns left.machines grown placed before losses.0 after told losses.1 moved
+              left.only left.causes left.scripted losses.2 scripted;
+        };
+        roomy = loses_nothing script ns now_of orderly told once each only causes others;
+        at_end = all_at_end script lawful ns now_of orderly (stamps_are_few node_of_sealed) whole;
+        by = filled;
+      }

@@ -1,0 +1,148 @@
+-- Machines that have grown: what they are made of stays, and so does what they sent and held.
+use Rattle.std.proofs.Common.{◌≡◌, ◌∙◌, ℕ, zero, suc, ◌≤◌, inl, inr, Bool, List, [], ◌∷◌, ◌++◌, length, Some, None}
+use Rattle.std.proofs.Common.{refl, sym, ap, subst, arith, length-append}
+use Rattle.std.specs.Prelude.{slice_get}
+use Rattle.std.specs.List.{Contains}
+use Rattle.std.proofs.lemmas.List.{map-append}
+use Rattle.std.proofs.lemmas.List.Elements.{Contains-append_left}
+use Rattle.std.proofs.lemmas.Option.{slice_get_cases, slice_get_past, slice_get_within}
+use Rattle.entry_format.specs.Nodes.{node_of_sealed}
+use Rattle.entry_format.specs.SealedEntry.{SealedEntry}
+use Rattle.entry_order.specs.declared.event.Event.{Event}
+use Rattle.entry_order.specs.History.{entry_of, held, sent}
+use Rattle.entry_order.specs.Naming.{IsBorneIn}
+use Rattle.entry_order.specs.World.{history}
+use Rattle.entry_order.proofs.Histories.{sent-append}
+use Rattle.election_script.specs.declared.script.Cast0.{Cast0}
+use Rattle.election_script.specs.declared.script.Script.{Script}
+use Rattle.floor_sweep.specs.Places.{IsAt, ArePlaced, HasGrown, HaveGrown, count_sent}
+use Rattle.floor_sweep.proofs.Places.{get_within}
+use Rattle.polling_world.specs.Configs.{Config, config_of}
+use Rattle.polling_world.specs.Machines.{MachineState}
+use Rattle.polling_world.specs.Worlds.{world_of}
+use Rattle.polling_world.proofs.Placing.{history_there}
+use Rattle.finished_floor.specs.Places.{IsStopOf, IsMachineOf, AreMachinesOf}
+
+-- where there is no machine there is no history
+pub nothing_at : (ms : List MachineState) (k : ℕ) → slice_get ms k ≡ None → history (world_of ms) k ≡ []
+nothing_at [] k none = refl
+nothing_at (m ∷ ms) zero none = cc
+nothing_at (m ∷ ms) (suc k) none = nothing_at ms k none
+
+module _ (script : Script) (place : ℕ) (m : MachineState) (of : IsMachineOf script place m) where
+  -- what the script's machine is made of
+  pub config_is :
+      (cast : Cast0) × (slice_get script.machines place ≡ Some cast) × (m.config ≡ config_of script place cast)
+  config_is = (of.made.0, of.made.1, ap (λ (u : MachineState). u.config) of.made.2)
+
+  pub log_is : m.config.log ≡ script.log
+  log_is = ap (λ (c : Config). c.log) config_is.2
+
+  pub number_is : m.config.number ≡ place
+  number_is = ap (λ (c : Config). c.number) config_is.2
+
+  -- no call stopped it, and it has its place
+  pub is_at : IsAt place m
+  is_at = record {
+    number = number_is;
+    machine = of.machine;
+    unmarked = ap (λ (u : MachineState). u.marked) of.made.2;
+  }
+
+  -- so is what has grown of it
+  pub grown_of : (n : MachineState) → HasGrown m n → IsAt place n → IsMachineOf script place n
+  grown_of n grown at =
+      let fresh : Config → Bool → MachineState =
+      λ config marked. record { config = config; stop = n.stop; marked = marked; events = [] } in
+      record {
+        stop = subst (IsStopOf script.stops place) (sym grown.stop) of.stop;
+        made = (
+          config_is.0,
+          config_is.1,
+          ap (λ (c : Config). fresh c n.marked) (grown.config ∙ config_is.2)
+              ∙ ap (fresh (config_of script place config_is.0)) at.unmarked,
+        );
+        machine = at.machine;
+      }
+
+-- the script's machines are in their places
+pub are_placed : (script : Script) (ms : List MachineState) → AreMachinesOf script ms → ArePlaced ms
+are_placed script ms of place m is = is_at script place m (of.each place m is)
+
+-- what was held is still held
+pub held_still : (m n : MachineState) (d : List ℕ) → HasGrown m n → IsBorneIn node_of_sealed (held m.events) d →
+    IsBorneIn node_of_sealed (held n.events) d
+held_still m n d grown borne = (
+  borne.0,
+  subst (λ (l : List SealedEntry). Contains l borne.0)
+      (sym (ap held grown.events ∙ map-append entry_of m.events grown.later))
+      (Contains-append_left (held m.events) (held grown.later) borne.0 borne.1),
+  borne.2,
+)
+
+-- there are at least as many events
+pub longer : (m n : MachineState) → HasGrown m n → length m.events ≤ length n.events
+longer m n grown =
+    let all = ap length grown.events in let both = length-append m.events grown.later in omega arith
+
+module _ (ms ns : List MachineState) (grown : HaveGrown ms ns) where
+  -- the machine that has grown
+  pub now_at : (k : ℕ) (m : MachineState) → slice_get ms k ≡ Some m →
+      (n : MachineState) × (slice_get ns k ≡ Some n) × HasGrown m n
+  now_at k m is =
+      let lt = slice_get_within ms k m is in
+      let n = get_within ns k (let c = grown.count in omega arith) in (n.0, n.1, grown.each k m n.0 is n.1)
+
+  -- and the one that it was
+  pub was_at : (k : ℕ) (n : MachineState) → slice_get ns k ≡ Some n →
+      (m : MachineState) × (slice_get ms k ≡ Some m) × HasGrown m n
+  was_at k n is =
+      let lt = slice_get_within ns k n is in
+      let m = get_within ms k (let c = grown.count in omega arith) in (m.0, m.1, grown.each k m.0 n m.1 is)
+
+  -- they are the script's still
+  pub machines_still : (script : Script) → AreMachinesOf script ms → ArePlaced ns → AreMachinesOf script ns
+  machines_still script of placed = record {
+    count = grown.count ∙ of.count;
+    each = λ k n is. let m = was_at k n is in
+        grown_of script k m.0 (of.each k m.0 m.1) n m.2 (placed k n is);
+  }
+
+  -- each history has what it had
+  pub history_more : (k : ℕ) →
+      (later : List (Event SealedEntry)) × (history (world_of ns) k ≡ history (world_of ms) k ++ later)
+  history_more k =
+      elim ((slice_get_cases ms k).1) [
+        | inl found ↦ (let n = now_at k found.0 found.2 in (
+          n.2.later,
+          history_there ns k n.0 n.1 ∙ n.2.events
+              ∙ ap (λ (h : List (Event SealedEntry)). h ++ n.2.later) (sym (history_there ms k found.0 found.2)),
+        ))
+        | inr none ↦ (
+          [],
+          (let c = grown.count in let l = none.0 in
+              nothing_at ns k (slice_get_past ns k (omega arith)))
+              ∙ ap (λ (h : List (Event SealedEntry)). h ++ []) (sym (nothing_at ms k none.1)),
+        )
+      ]
+
+  -- each machine sent what it had sent, and more
+  pub sent_more : (k : ℕ) →
+      (more : List SealedEntry) × (sent (history (world_of ns) k) ≡ sent (history (world_of ms) k) ++ more)
+  sent_more k =
+      let more = history_more k in
+      (sent more.0, ap sent more.1 ∙ sent-append (history (world_of ms) k) more.0)
+
+  pub sent_still : (k : ℕ) (e : SealedEntry) → Contains (sent (history (world_of ms) k)) e →
+      Contains (sent (history (world_of ns) k)) e
+  sent_still k e c =
+      let more = sent_more k in
+      subst (λ (l : List SealedEntry). Contains l e) (sym more.1)
+      (Contains-append_left (sent (history (world_of ms) k)) more.0 e c)
+
+  pub count_more : (k : ℕ) → count_sent ms k ≤ count_sent ns k
+  count_more k =
+      let more = sent_more k in
+      let n = ap length more.1 in
+      let l = length-append (sent (history (world_of ms) k)) more.0 in
+      omega arith

@@ -1,0 +1,132 @@
+-- An entry that is lost on its way isn't held where it was to go.
+use Rattle.std.proofs.Common.{◌≡◌, ◌∙◌, ℕ, inl, inr, cond, List, [], length, Some, refl, sym, ap, subst, arith}
+use Rattle.std.specs.Prelude.{slice_get, ◌==◌, All}
+use Rattle.std.specs.List.{Contains}
+use Rattle.std.specs.List.Sorted.{IsPermutation}
+use Rattle.std.proofs.lemmas.Bool.{eq-eqb}
+use Rattle.std.proofs.lemmas.List.Elements.{All-contains}
+use Rattle.std.proofs.lemmas.List.Sorted.{list_any-IsPermutation}
+use Rattle.entry_format.specs.Nodes.{node_of_sealed}
+use Rattle.entry_format.specs.SealedEntry.{SealedEntry}
+use Rattle.entry_order.specs.declared.event.Event.{Event}
+use Rattle.entry_order.specs.declared.event.Event.TheVariants.{Sent, Got}
+use Rattle.entry_order.specs.Node.{Node}
+use Rattle.entry_order.specs.History.{entry_of, held, sent}
+use Rattle.entry_order.specs.World.{history}
+use Rattle.entry_order.proofs.Lists.{Contains-filter, Contains-map_cases, list_any_of}
+use Rattle.entry_order.proofs.Orders.{Contains-sent}
+use Rattle.floor_losses.specs.declared.loss.Loss.{Loss}
+use Rattle.floor_losses.specs.declared.loss.LossWhy.TheVariants.{SameDigest}
+use Rattle.floor_losses.specs.Balance.{IsBalanced}
+use Rattle.floor_losses.specs.Losses.{AreOnce, got, is_of}
+use Rattle.floor_losses.specs.Laws.{EachIsHeardOrLost, times_lost}
+use Rattle.floor_losses.proofs.Arriving.{arriving_same, itself}
+use Rattle.floor_losses.proofs.Once.{lost_once}
+use Rattle.floor_losses.proofs.Orderly.{Contains-got}
+use Rattle.floor_sweep.specs.Places.{ArePlaced}
+use Rattle.floor_sweep.proofs.Handed.{balance_same, legal_at}
+use Rattle.floor_sweep.proofs.Numbers.{numbers_below}
+use Rattle.floor_sweep.proofs.Places.{length_world}
+use Rattle.polling_world.specs.Machines.{MachineState}
+use Rattle.polling_world.specs.Worlds.{world_of}
+use Rattle.polling_world.proofs.Placing.{history_there}
+use Rattle.election_script.specs.declared.script.Script.{Script}
+use Rattle.finished_floor.specs.Losses.{HoldsAnother, IsCauseOf, IsGotOrLost, IsOnWay}
+use Rattle.finished_floor.proofs.Caused.{all_by}
+
+-- losses that change places lose the same
+pub balanced_moved : {T : Type 0} (node : T → Node) (count : ℕ) (h : ℕ → List (Event T)) (after told : List Loss)
+    (waits : ℕ → ℕ → List T) → IsPermutation after told → IsBalanced node count h after waits →
+    IsBalanced node count h told waits
+balanced_moved node count h after told waits moved balanced a b la lb apart =
+    balanced a b la lb apart
+    ∙ sym (arriving_same node after told a b (sent (h a))
+    (λ e c. sym (list_any-IsPermutation (is_of a (node e).number b) after told moved)))
+
+-- each entry was got, or is lost once, by the law
+pub got_or_lost : (ms : List MachineState) (told : List Loss) → EachIsHeardOrLost node_of_sealed → AreOnce told →
+    IsBalanced node_of_sealed (length ms) (history (world_of ms)) told (λ a b. []) → IsGotOrLost ms told
+got_or_lost ms told law once balanced from to e lf lt apart c =
+    let world = length_world ms in
+    law (world_of ms) told once
+    (balance_same (length ms) (length (world_of ms)) (history (world_of ms)) (history (world_of ms)) told
+    (λ a b. []) (sym world) (λ i. refl) balanced) from to e (omega arith) (omega arith) apart c
+
+module _ (ms : List MachineState) (placed : ArePlaced ms) (told : List Loss) (once : AreOnce told)
+    (each : IsGotOrLost ms told) (only : All (IsOnWay ms) told) where
+  -- a loss that is told is one
+  lost_then : (l : Loss) → Contains told l → times_lost told l.from l.number l.to ≡ 1
+  lost_then l c =
+      lost_once told l.from l.number l.to once
+      ∙ ap (λ b. cond b 1 0)
+      (list_any_of (is_of l.from l.number l.to) told l c (itself l l.from l.number l.to refl refl refl))
+
+  module _ (l : Loss) (c : Contains told l) (m : MachineState) (is : slice_get ms l.to ≡ Some m) (e : SealedEntry)
+      (was_sent : Contains (sent (history (world_of ms) l.from)) e) (numbered : e.entry.number ≡ l.number) where
+    way : IsOnWay ms l
+    way = All-contains (IsOnWay ms) told l only c
+
+    -- the receiver didn't send it
+    not_its_own : Contains m.events (Sent e) → ⊥
+    not_its_own there =
+        let way_is = way in
+        let mine = (numbers_below l.from (history (world_of ms) l.from) (legal_at ms placed l.from way_is.from) e
+        was_sent).1 in
+        let its = (numbers_below l.to (history (world_of ms) l.to) (legal_at ms placed l.to way_is.to) e
+        (subst (λ (h : List (Event SealedEntry)). Contains (sent h) e) (sym (history_there ms l.to m is))
+        (Contains-sent m.events e there))).1 in
+        way_is.other (sym mine ∙ its)
+
+    -- nor did it get it
+    not_got : Contains m.events (Got e) → ⊥
+    not_got there =
+        let way_is = way in
+        let mine = (numbers_below l.from (history (world_of ms) l.from) (legal_at ms placed l.from way_is.from) e
+        was_sent).1 in
+        let h = history (world_of ms) l.to in
+        let here : Contains h (Got e) =
+        subst (λ (h : List (Event SealedEntry)). Contains h (Got e)) (sym (history_there ms l.to m is)) there in
+        let got_it = Contains-filter (λ (x : SealedEntry). x.entry.maker == l.from) (got h) e
+        (Contains-got node_of_sealed h e here)
+        (eq-eqb e.entry.maker l.from mine) in
+        let lost : times_lost told l.from e.entry.number l.to ≡ 1 =
+        ap (λ n. times_lost told l.from n l.to) numbered ∙ lost_then l c in
+        elim (each l.from l.to e way_is.from way_is.to way_is.other was_sent) [
+          | inl heard ↦ (let none = heard.1 in absurd (omega arith))
+          | inr not ↦ not.0 got_it
+        ]
+
+    pub not_held : Contains (held m.events) e → ⊥
+    not_held there =
+        let at = Contains-map_cases entry_of m.events e there in by at.0 at.1 at.2
+      where
+        by : (x : Event SealedEntry) → Contains m.events x → entry_of x ≡ e → ⊥
+        by (Sent f) at same = not_its_own (subst (λ (g : SealedEntry). Contains m.events (Sent g)) same at)
+        by (Got f) at same = not_got (subst (λ (g : SealedEntry). Contains m.events (Got g)) same at)
+
+  -- of two entries with one digest, the second is lost where the first is held
+  pub all_others : (script : Script) → All (λ loss. IsCauseOf script ms told loss loss.why) told →
+      All (λ loss. loss.why ≡ SameDigest → (m : MachineState) × (slice_get ms loss.to ≡ Some m)
+      × HoldsAnother ms loss.from loss.number m) told
+  all_others script causes =
+      all_by (λ (loss : Loss). loss.why ≡ SameDigest → (m : MachineState) × (slice_get ms loss.to ≡ Some m)
+      × HoldsAnother ms loss.from loss.number m) told
+      (λ l c why.
+      let cause : IsCauseOf script ms told l SameDigest =
+      subst (IsCauseOf script ms told l) why
+      (All-contains (λ (loss : Loss). IsCauseOf script ms told loss loss.why) told l causes c) in
+      let same = cause.2 in
+      let borne = same.3 in (
+        cause.0,
+        cause.1,
+        record {
+          entry = same.0;
+          was_sent = same.1;
+          numbered = same.2;
+          other = borne.0;
+          is_held = borne.1;
+          differs = λ one. not_held l c cause.0 cause.1 same.0 same.1 same.2
+              (subst (λ (g : SealedEntry). Contains (held cause.0.events) g) one borne.1);
+          same = borne.2;
+        },
+      ))

@@ -1,0 +1,11 @@
+pub mod Sorted
+pub mod Counts
+pub mod Filled
+pub mod Grown
+pub mod Caused
+pub mod Heard
+pub mod Played
+pub mod Roomy
+pub mod Ended
+pub mod Finished
+pub mod News

@@ -1,0 +1,102 @@
+-- Machines of a script before anything happened, of which nothing is gathered.
+use Rattle.std.proofs.Common.{◌≡◌, ◌∙◌, ℕ, zero, suc, ◌+◌, inl, inr, List, [], ◌∷◌, ◌++◌, length, map, Option, Some}
+use Rattle.std.proofs.Common.{refl, sym, ap, subst, arith, length-append}
+use Rattle.std.specs.Prelude.{slice_get, All}
+use Rattle.std.specs.List.{Contains}
+use Rattle.std.proofs.lemmas.List.Elements.{All-nil}
+use Rattle.std.proofs.lemmas.Option.{slice_get_cases}
+use Rattle.entry_format.specs.SealedEntry.{SealedEntry}
+use Rattle.entry_order.specs.declared.event.Event.{Event}
+use Rattle.entry_order.specs.declared.event.Event.TheVariants.{Got}
+use Rattle.entry_order.specs.History.{sent}
+use Rattle.entry_order.proofs.Lists.{Contains-none}
+use Rattle.election_script.specs.declared.script.Script.{Script}
+use Rattle.floor_losses.specs.declared.loss.Loss.{Loss}
+use Rattle.floor_sweep.specs.Places.{count_sent}
+use Rattle.floor_sweep.specs.declared.sweeping.Waiting.{Waiting}
+use Rattle.floor_sweep.proofs.News.{each_push, start_balanced, start_on_way, start_once}
+use Rattle.polling_world.specs.Keys.{roster_of}
+use Rattle.polling_world.specs.Machines.{MachineState, IsFresh, IsMachine}
+use Rattle.polling_world.proofs.Placing.{history_there}
+use Rattle.roster.specs.declared.post.Post.{Post}
+use Rattle.finished_floor.specs.Floors.{AreGathered, passes_of}
+use Rattle.finished_floor.specs.Losses.{IsCauseOf, IsOnWay}
+use Rattle.finished_floor.specs.Places.{IsMachineOf, IsStopOf}
+use Rattle.finished_floor.proofs.Filled.{zip_from}
+use Rattle.finished_floor.proofs.Grown.{nothing_at}
+
+-- a fresh machine is the script's
+pub new_of : (script : Script) (at : ℕ) (stop : Option ℕ) (m : MachineState) → IsStopOf script.stops at stop →
+    IsFresh script at stop m → IsMachine m → IsMachineOf script at m
+new_of script at stop m stops fresh machine = record {
+  stop = subst (IsStopOf script.stops at) (sym (ap (λ (u : MachineState). u.stop) fresh.2)) stops;
+  made = subst (λ (u : MachineState). IsFresh script at u.stop (record u { events = [] })) (sym fresh.2)
+      (fresh.0, fresh.1, refl);
+  machine = machine;
+}
+
+-- the machines so far are the script's, without events, and as many lists are empty
+pub record AreNew {B : Type 0} (f : B → List (Option ℕ)) (script : Script) (at : ℕ) (ms : List MachineState)
+    (by : List B) : Type 0 where
+  pub count : length ms ≡ at
+  pub each : (k : ℕ) (m : MachineState) → slice_get ms k ≡ Some m → IsMachineOf script k m × (m.events ≡ [])
+  pub many : length by ≡ at
+  pub none : (k : ℕ) (row : B) → slice_get by k ≡ Some row → f row ≡ []
+
+module _ {B : Type 0} (f : B → List (Option ℕ)) (script : Script) where
+  pub new_none : AreNew f script 0 [] []
+  new_none = record { count = refl; each = λ k m is. cc; many = refl; none = λ k row is. cc }
+
+  -- one machine more
+  pub new_more : (at : ℕ) (ms : List MachineState) (by : List B) (m : MachineState) (row : B) →
+      AreNew f script at ms by → IsMachineOf script at m → m.events ≡ [] → f row ≡ [] →
+      AreNew f script (at + 1) (ms ++ m ∷ []) (by ++ row ∷ [])
+  new_more at ms by m row is of empty none =
+      let a = length-append ms (m ∷ []) in
+      let b = length-append by (row ∷ []) in
+      let here = is.count in
+      let there = is.many in
+      record {
+        count = omega arith;
+        each = each_push (λ k u. IsMachineOf script k u × (u.events ≡ [])) ms m is.each
+            (subst (λ k. IsMachineOf script k m) (sym here) of, empty);
+        many = omega arith;
+        none = last by is.none;
+      }
+    where
+      last : (by : List B) → ((k : ℕ) (r : B) → slice_get by k ≡ Some r → f r ≡ []) →
+          (k : ℕ) (r : B) → slice_get (by ++ row ∷ []) k ≡ Some r → f r ≡ []
+      last [] each zero r there = let same : row ≡ r = cc in subst (λ (v : B). f v ≡ []) same none
+      last [] each (suc k) r there = cc
+      last (x ∷ by) each zero r there = each zero r there
+      last (x ∷ by) each (suc k) r there = last by (λ i v h. each (suc i) v h) k r there
+
+  -- nothing is gathered of them
+  pub new_gathered : (roster : List Post) (at : ℕ) (ms : List MachineState) (waits : List Waiting)
+      (losses : List Loss) (by : List B) → AreNew f script at ms by → at ≡ length script.machines →
+      roster ≡ roster_of script → waits ≡ [] → losses ≡ [] →
+      AreGathered script roster ms waits losses (map f by)
+  new_gathered roster at ms waits losses by is all posts no_waits no_losses = record {
+    roster = posts;
+    machines = record { count = is.count ∙ all; each = λ k m there. (is.each k m there).0 };
+    makers = λ k m e there c. absurd (Contains-none (Got e)
+        (subst (λ (h : List (Event SealedEntry)). Contains h (Got e)) (is.each k m there).1 c));
+    on_way = start_on_way ms losses waits no_losses no_waits;
+    balanced = start_balanced ms losses waits no_losses no_waits (λ k m there. (is.each k m there).1);
+    once = start_once ms losses waits no_losses no_waits;
+    only = subst (All (IsOnWay ms)) (sym no_losses) (All-nil (IsOnWay ms));
+    causes = subst (λ (l : List Loss). All (λ loss. IsCauseOf script ms l loss loss.why) l) (sym no_losses)
+        (All-nil (λ loss. IsCauseOf script ms [] loss loss.why));
+    scripted = λ from number to lf lt differs low named.
+        let none = none_sent from in absurd (omega arith);
+    by = zip_from (λ (m : MachineState) row. row ≡ passes_of m.events) f ms by (is.many ∙ sym is.count)
+        (λ k m row there at_row. is.none k row at_row ∙ ap passes_of (sym (is.each k m there).1));
+  }
+    where
+      none_sent : (k : ℕ) → count_sent ms k ≡ 0
+      none_sent k =
+          elim ((slice_get_cases ms k).1) [
+            | inl found ↦ ap (λ h. length (sent h))
+                (history_there ms k found.0 found.2 ∙ (is.each k found.0 found.2).1)
+            | inr nothing ↦ ap (λ h. length (sent h)) (nothing_at ms k nothing.1)
+          ]

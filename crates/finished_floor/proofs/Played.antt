@@ -1,0 +1,154 @@
+-- The merged events of machines can be played on one thread.
+use Rattle.std.proofs.Common.{◌≡◌, ◌∙◌, ℕ, ◌≤◌, List, [], ◌∷◌, ◌++◌, length, map, refl, sym, ap}
+use Rattle.std.proofs.Common.{subst, arith, false, Option, Some, None, inl, inr}
+use Rattle.std.specs.Prelude.{slice_get}
+use Rattle.std.specs.List.{Contains}
+use Rattle.std.proofs.lemmas.List.{length-map}
+use Rattle.std.proofs.lemmas.Option.{slice_get_cases, same_Some}
+use Rattle.entry_format.specs.Nodes.{node_of_sealed}
+use Rattle.entry_format.specs.SealedEntry.{SealedEntry}
+use Rattle.entry_order.specs.declared.event.Event.{Event}
+use Rattle.entry_order.specs.declared.event.Event.TheVariants.{Sent, Got}
+use Rattle.entry_order.specs.declared.step.Step.{Step}
+use Rattle.entry_order.specs.History.{IsLegal}
+use Rattle.entry_order.specs.World.{World, history, start, play}
+use Rattle.entry_order.specs.Made.{IsMadeBy}
+use Rattle.entry_order.specs.Merged.{PlacedEvent, step_of}
+use Rattle.entry_order.specs.Receipt.{IsOrderly}
+use Rattle.entry_order.proofs.Machines.{in_world}
+use Rattle.entry_order.proofs.Merged.{merged_is_played_again}
+use Rattle.floor_losses.specs.declared.loss.Loss.{Loss}
+use Rattle.floor_losses.specs.Balance.{IsBalanced}
+use Rattle.floor_losses.proofs.Orderly.{IsOrderly-balanced}
+use Rattle.floor_sweep.specs.Places.{AreMadeByThese, ArePlaced}
+use Rattle.floor_sweep.proofs.Handed.{balance_same}
+use Rattle.floor_sweep.proofs.Places.{get_within, length_world}
+use Rattle.polling_world.specs.Configs.{Config, script_configs}
+use Rattle.polling_world.specs.Machines.{MachineState}
+use Rattle.polling_world.specs.Making.{next_entry}
+use Rattle.polling_world.specs.Sending.{MaySend}
+use Rattle.polling_world.specs.Worlds.{world_of, configs_of, TellsNext, IsNextAt, IsNextOf}
+use Rattle.polling_world.proofs.Placing.{get-map, get-map_from, history_there}
+use Rattle.polling_world.proofs.WorldMaking.{fresh_configs}
+use Rattle.election_script.specs.declared.script.Script.{Script}
+use Rattle.finished_floor.specs.Floors.{ArePlayedAgain}
+use Rattle.finished_floor.specs.Places.{AreMachinesOf}
+use Rattle.finished_floor.proofs.Grown.{config_is, log_is, nothing_at}
+
+-- a machine may send one entry at most
+sends_one : (config : Config) (h : List (Event SealedEntry)) (e f : SealedEntry) → MaySend config h e →
+    MaySend config h f → e ≡ f
+sends_one config h e f a b =
+    let same : a.deed ≡ b.deed = same_Some a.deed b.deed (sym a.action ∙ b.action) in
+    a.made ∙ ap (next_entry config h) same ∙ sym b.made
+
+told_by : (config : Config) (h : List (Event SealedEntry)) (e : SealedEntry) (told : Option SealedEntry) →
+    MaySend config h e → IsNextOf config h told → told ≡ Some e
+told_by config h e None may is = absurd (is e may)
+told_by config h e (Some f) may is = ap (λ (x : SealedEntry). Some x) (sends_one config h f e is may)
+
+at_place : (config : Config) (h : List (Event SealedEntry)) (e : SealedEntry) (there : Option Config)
+    (told : Option SealedEntry) → there ≡ Some config → MaySend config h e → IsNextAt there h told → told ≡ Some e
+at_place config h e there told is may next =
+    told_by config h e told may (subst (λ (o : Option Config). IsNextAt o h told) is next)
+
+no_event : (before : List (Event SealedEntry)) (x : Event SealedEntry) (later : List (Event SealedEntry)) →
+    [] ≡ before ++ x ∷ later → ⊥
+no_event [] x later e = cc
+no_event (y ∷ before) x later e = cc
+
+-- an event is of a machine that is there
+pub event_at : (ms : List MachineState) (k : ℕ) (x : Event SealedEntry) → Contains (history (world_of ms) k) x →
+    (m : MachineState) × (slice_get ms k ≡ Some m) × Contains m.events x
+event_at ms k x c =
+    elim ((slice_get_cases ms k).1) [
+      | inl found ↦ (
+        found.0,
+        found.2,
+        subst (λ (h : List (Event SealedEntry)). Contains h x) (history_there ms k found.0 found.2) c,
+      )
+      | inr none ↦ (let n = subst (λ (h : List (Event SealedEntry)). Contains h x) (nothing_at ms k none.1) c in
+          absurd (let l = n.1 in omega arith))
+    ]
+
+-- the machine as it was made, with no stop of its own
+abbrev made : MachineState → MachineState
+made m = record { config = m.config; stop = None; marked = false; events = [] }
+
+configs_made : (ms : List MachineState) → configs_of (map made ms) ≡ configs_of ms
+configs_made [] = refl
+configs_made (m ∷ ms) = ap (λ (cs : List Config). m.config ∷ cs) (configs_made ms)
+
+-- what the script's machines are made of
+pub configs_are : (script : Script) (ms : List MachineState) → AreMachinesOf script ms →
+    configs_of ms ≡ script_configs script
+configs_are script ms of =
+    sym (configs_made ms)
+    ∙ fresh_configs script (map made ms) (record {
+      count = length-map ms made ∙ of.count;
+      each = λ place m is.
+          let u = get-map_from made ms place m is in
+          let config = config_is script place u.0 (of.each place u.0 u.1) in (
+            config.0,
+            config.1,
+            sym u.2
+                ∙ ap (λ (c : Config). record { config = c; stop = None; marked = false; events = [] }) config.2,
+          );
+    })
+
+module _ (ms : List MachineState) (placed : ArePlaced ms) where
+  -- each entry is what its machine sends next
+  made_by : (next : ℕ → List (Event SealedEntry) → Option SealedEntry) → TellsNext (configs_of ms) next →
+      IsMadeBy next (world_of ms)
+  made_by next tells k before e later is =
+      let lt = in_world (world_of ms) k before (Sent e) later is in
+      let world = length_world ms in
+      let m = get_within ms k (omega arith) in
+      let may = (placed k m.0 m.1).machine.sent before e later (sym (history_there ms k m.0 m.1) ∙ is) in
+      at_place m.0.config before e (slice_get (configs_of ms) k) (next k before)
+      (get-map (λ (x : MachineState). x.config) ms k m.0 m.1) may (tells k before)
+
+  all_legal : (k : ℕ) → IsLegal node_of_sealed k (history (world_of ms) k)
+  all_legal k =
+      elim ((slice_get_cases ms k).1) [
+        | inl found ↦ (let at = placed k found.0 found.2 in
+            subst (λ (h : List (Event SealedEntry)). IsLegal node_of_sealed k h)
+            (sym (history_there ms k found.0 found.2))
+            (subst (λ n. IsLegal node_of_sealed n found.0.events) at.number at.machine.legal))
+        | inr none ↦ (λ before x later e. absurd (no_event before x later (sym (nothing_at ms k none.1) ∙ e)))
+      ]
+
+  -- where each entry is heard or lost, what was heard was sent
+  pub are_orderly : (losses : List Loss) (waits : ℕ → ℕ → List SealedEntry) → AreMadeByThese ms →
+      IsBalanced node_of_sealed (length ms) (history (world_of ms)) losses waits →
+      IsOrderly node_of_sealed (world_of ms)
+  are_orderly losses waits makers balanced =
+      let world = length_world ms in
+      IsOrderly-balanced node_of_sealed (world_of ms) losses waits all_legal
+      (λ b e c. let m = event_at ms b (Got e) c in let lt = makers b m.0 e m.1 m.2 in omega arith)
+      (balance_same (length ms) (length (world_of ms)) (history (world_of ms)) (history (world_of ms)) losses waits
+      (sym world) (λ i. refl) balanced)
+
+  module _ (script : Script) (of : AreMachinesOf script ms) where
+    all_within : (k : ℕ) → length (history (world_of ms) k) ≤ script.log
+    all_within k =
+        elim ((slice_get_cases ms k).1) [
+          | inl found ↦ (let at = placed k found.0 found.2 in
+              let l = log_is script k found.0 (of.each k found.0 found.2) in
+              let n = at.machine.within in
+              let same = ap length (history_there ms k found.0 found.2) in omega arith)
+          | inr none ↦ (let same = ap length (nothing_at ms k none.1) in omega arith)
+        ]
+
+    -- playing the merged events of an orderly world of the script's machines gives their histories again
+    pub played_again : IsOrderly node_of_sealed (world_of ms) → ArePlayedAgain script ms
+    played_again orderly xs merged w comes k =
+        let steps : List Step = map (λ (x : PlacedEvent SealedEntry). step_of node_of_sealed x.machine x.event) xs in
+        let next = comes.0 in
+        let tells : TellsNext (configs_of ms) next =
+        subst (λ (cs : List Config). TellsNext cs next) (sym (configs_are script ms of)) comes.1 in
+        let many : length script.machines ≡ length (world_of ms) = sym (length_world ms ∙ of.count) in
+        ap (λ (v : World SealedEntry). history v k) comes.2
+        ∙ ap (λ n. history (play node_of_sealed next script.log (start n) steps) k) many
+        ∙ merged_is_played_again node_of_sealed next script.log (world_of ms) orderly (made_by next tells) all_within
+        xs merged k

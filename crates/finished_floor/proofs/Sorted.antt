@@ -1,0 +1,132 @@
+-- Losses that are sorted.
+use Rattle.std.proofs.Common.{◌≡◌, ◌∙◌, ℕ, suc, ◌<◌, inl, inr, Bool, false, List, [], ◌∷◌}
+use Rattle.std.proofs.Common.{get_or, refl, sym, ap, arith}
+use Rattle.std.specs.Prelude.{nat_lt, ◌==◌, cond}
+use Rattle.std.specs.List.{AllPairs, IsDistinct}
+use Rattle.std.specs.List.Sorted.{IsPermutation, IsSortedByKey}
+use Rattle.std.specs.Cmp.{IsTotalOrder, on_total, then_total}
+use Rattle.std.specs.Ordering.{nat_cmp, ordering_then, is_lt}
+use Rattle.std.specs.declared.cmp.Ordering.{Ordering}
+use Rattle.std.specs.declared.cmp.Ordering.TheVariants.{Less, Equal, Greater}
+use Rattle.std.proofs.lemmas.Bool.{cases_Bool, cases_order, true≢false, cond-true, cond-false, lt-ltb, le-ltb, eq-eqb}
+use Rattle.std.proofs.lemmas.Cmp.{nat_cmp_total}
+use Rattle.std.proofs.lemmas.List.Elements.{All-from_recursion, recursion_from_All}
+use Rattle.std.proofs.lemmas.List.Kept.{AllPairs-cons}
+use Rattle.std.proofs.lemmas.List.Sorted.{sorted_far, ranks_by}
+use Rattle.std.proofs.lemmas.Map.Keys.{IsDistinct-IsPermutation}
+use Rattle.floor_losses.specs.declared.loss.Loss.{Loss}
+use Rattle.floor_losses.specs.Losses.{is_of, Differ, AreOnce}
+use Rattle.floor_losses.proofs.Arriving.{is_of_parts, itself}
+use Rattle.floor_losses.proofs.Once.{differ_sym}
+use Rattle.finished_floor.specs.Losses.{IsToldBefore}
+
+-- a sender, a receiver and a number, and their order
+abbrev pub Key : Type 0
+Key = ℕ × ℕ × ℕ
+
+abbrev pub compare : Key → Key → Ordering
+compare p q = ordering_then (ordering_then (nat_cmp p.0 q.0) (nat_cmp p.1 q.1)) (nat_cmp p.2 q.2)
+
+compare_total : IsTotalOrder compare
+compare_total =
+    then_total (then_total (on_total (λ (p : Key). p.0) nat_cmp_total) (on_total (λ (p : Key). p.1) nat_cmp_total))
+    (on_total (λ (p : Key). p.2) nat_cmp_total)
+
+abbrev pub key_of : Loss → Key
+key_of loss = (loss.from, loss.to, loss.number)
+
+-- the first two and the third, or the first and the other two
+regroup : (a b c : Ordering) → ordering_then (ordering_then a b) c ≡ ordering_then a (ordering_then b c)
+regroup Less b c = refl
+regroup Equal b c = refl
+regroup Greater b c = refl
+
+-- how numbers compare
+level : (m n : ℕ) → m ≡ n → nat_cmp m n ≡ Equal
+level m n same = cond-false (nat_lt m n) Less (cond (m == n) Equal Greater) (le-ltb m n (omega arith))
+    ∙ cond-true (m == n) Equal Greater (eq-eqb m n same)
+
+less : (m n : ℕ) → m < n → nat_cmp m n ≡ Less
+less m n lower = cond-true (nat_lt m n) Less (cond (m == n) Equal Greater) (lt-ltb m n lower)
+
+-- of two losses on different ways or of different entries, the one that isn't above is told first
+told_from : (a b : Loss) → is_lt (compare (key_of b) (key_of a)) ≡ false → Differ a b → IsToldBefore a b
+told_from a b not_lt differ =
+    let last : Ordering = nat_cmp b.number a.number in
+    let second : Ordering = ordering_then (nat_cmp b.to a.to) last in
+    let first_not : is_lt (ordering_then (nat_cmp b.from a.from) second) ≡ false =
+    sym (ap is_lt (regroup (nat_cmp b.from a.from) (nat_cmp b.to a.to) last)) ∙ not_lt in
+    elim (cases_order a.from b.from) [
+      | inl f ↦ (let later : is_lt second ≡ false =
+          sym (ap (λ o. is_lt (ordering_then o second)) (level b.from a.from (sym f))) ∙ first_not in
+          elim (cases_order a.to b.to) [
+            | inl t ↦ (let last_not : is_lt last ≡ false =
+                sym (ap (λ o. is_lt (ordering_then o last)) (level b.to a.to (sym t))) ∙ later in
+                elim (cases_order a.number b.number) [
+                  | inl n ↦ absurd (true≢false
+                      (sym (itself b a.from a.number a.to (sym f) (sym n) (sym t)) ∙ differ))
+                  | inr (inl lower) ↦ inr (f, inr (t, lower))
+                  | inr (inr higher) ↦
+                      absurd (true≢false (sym (ap is_lt (less b.number a.number higher)) ∙ last_not))
+                ])
+            | inr (inl lower) ↦ inr (f, inl lower)
+            | inr (inr higher) ↦
+                absurd (true≢false (sym (ap (λ o. is_lt (ordering_then o last)) (less b.to a.to higher)) ∙ later))
+          ])
+      | inr (inl lower) ↦ inl lower
+      | inr (inr higher) ↦
+          absurd (true≢false (sym (ap (λ o. is_lt (ordering_then o second)) (less b.from a.from higher)) ∙ first_not))
+    ]
+
+-- sorted losses are told in order
+pub told_from_sorted : (xs : List Loss) → AreOnce xs → IsSortedByKey key_of compare xs → AllPairs IsToldBefore xs
+told_from_sorted xs once sorted i j d lt within =
+    told_from (get_or xs i d) (get_or xs j d)
+    (sorted_far (λ x y. is_lt (compare (key_of x) (key_of y))) (ranks_by compare_total key_of) xs sorted i j d
+    (omega arith) within) (once i j d lt within)
+
+-- what is told in order is told once
+pub told_once : (xs : List Loss) → AllPairs IsToldBefore xs → AreOnce xs
+told_once xs told i j d lt within = by (get_or xs i d) (get_or xs j d) (told i j d lt within)
+  where
+    by : (a b : Loss) → IsToldBefore a b → Differ a b
+    by a b before =
+        elim (cases_Bool (is_of a.from a.number a.to b)) [
+          | inl is ↦ (let p = is_of_parts b a.from a.number a.to is in absurd (elim before [
+            | inl lower ↦ (let q = p.0 in omega arith)
+            | inr (f, inl lower) ↦ (let q = p.2 in omega arith)
+            | inr (f, inr (t, lower)) ↦ (let q = p.1 in omega arith)
+          ]))
+          | inr isnt ↦ isnt
+        ]
+
+-- whether two losses are of one entry on one way
+abbrev same_way : Loss → Loss → Bool
+same_way a b = is_of a.from a.number a.to b
+
+flips : (a b : Loss) → same_way a b ≡ same_way b a
+flips a b =
+    elim (cases_Bool (same_way a b)) [
+      | inl is ↦ (let p = is_of_parts b a.from a.number a.to is in
+          is ∙ sym (itself a b.from b.number b.to (sym p.0) (sym p.1) (sym p.2)))
+      | inr isnt ↦ isnt ∙ sym (differ_sym a b isnt)
+    ]
+
+distinct_of : (xs : List Loss) → AreOnce xs → IsDistinct same_way xs
+unfolding IsDistinct
+distinct_of [] once = tt
+distinct_of (x ∷ xs) once = (
+  recursion_from_All (λ y. same_way x y ≡ false) xs (λ k d lt. once 0 (suc k) d (omega arith) (omega arith)),
+  distinct_of xs (λ i j d lt within. once (suc i) (suc j) d (omega arith) (omega arith)),
+)
+
+once_of : (xs : List Loss) → IsDistinct same_way xs → AreOnce xs
+unfolding IsDistinct
+once_of [] distinct = λ i j d lt within. absurd (omega arith)
+once_of (x ∷ xs) distinct =
+    AllPairs-cons Differ x xs (All-from_recursion (λ y. same_way x y ≡ false) xs distinct.0) (once_of xs distinct.1)
+
+-- losses that differ still differ when they change places
+pub once_moved : (xs ys : List Loss) → IsPermutation xs ys → AreOnce xs → AreOnce ys
+once_moved xs ys moved once =
+    once_of ys (IsDistinct-IsPermutation same_way flips xs ys moved (distinct_of xs once))

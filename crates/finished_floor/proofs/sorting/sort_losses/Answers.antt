@@ -1,0 +1,13 @@
+use Rattle.std.proofs.Common.{rules, ◌≡◌}
+use Rattle.std.proofs.lemmas.Fn.{always_returns_same}
+use Rattle.finished_floor.proofs.Sorted.{key_of, once_moved, told_from_sorted}
+use Rattle.finished_floor.proofs.sorting.sort_losses.Goals as goal
+
+-- the closure computes the key
+pub returns-clause-sorted : goal.returns-clause-sorted
+returns-clause-sorted c =
+    told_from_sorted c.sort_unstable_by_key.new.self.items
+    (once_moved c.args.losses.now.items c.sort_unstable_by_key.new.self.items
+    c.sort_unstable_by_key.ensures.permutation c.requires)
+    (c.sort_unstable_by_key.ensures.sorted key_of
+    (always_returns_same _ (λ a r. r ≡ key_of a.0.now) _ (λ a r q k. search rules)))

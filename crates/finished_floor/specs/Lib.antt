@@ -1,0 +1,4 @@
+pub mod Places
+pub mod Losses
+pub mod Floors
+pub mod inside
