@@ -22,6 +22,7 @@ pub none_of : (losses : List Loss) (from number to : ℕ) →
     All (λ (loss : Loss). is_of from number to loss ≡ false) losses → is_lost losses from number to ≡ false
 none_of losses from number to none = list_any_none (is_of from number to) losses none
 
+-- with a test that fails the other decides
 pub or_false : (b : Bool) → (b || false) ≡ b
 or_false true = refl
 or_false false = refl
@@ -80,16 +81,19 @@ got-push [] x = refl
 got-push (Sent e ∷ h) x = got-push h x
 got-push (Got e ∷ h) x = ap (λ l. e ∷ l) (got-push h x)
 
+-- what was sent isn't got
 pub got-sent : (h : List (Event SealedEntry)) (x : SealedEntry) → got (h ++ Sent x ∷ []) ≡ got h
 got-sent [] x = refl
 got-sent (Sent e ∷ h) x = got-sent h x
 got-sent (Got e ∷ h) x = ap (λ l. e ∷ l) (got-sent h x)
 
+-- what was sent comes behind what was sent before
 pub sent-push : (h : List (Event SealedEntry)) (x : SealedEntry) → sent (h ++ Sent x ∷ []) ≡ sent h ++ x ∷ []
 sent-push [] x = refl
 sent-push (Sent e ∷ h) x = ap (λ l. e ∷ l) (sent-push h x)
 sent-push (Got e ∷ h) x = sent-push h x
 
+-- what was got isn't sent
 pub sent-got : (h : List (Event SealedEntry)) (x : SealedEntry) → sent (h ++ Got x ∷ []) ≡ sent h
 sent-got [] x = refl
 sent-got (Sent e ∷ h) x = ap (λ l. e ∷ l) (sent-got h x)
@@ -103,6 +107,7 @@ got_from-here h x from maker =
     ∙ filter-append (λ (e : SealedEntry). e.entry.maker == from) (got h) (x ∷ [])
     ∙ ap (λ b. got_from node_of_sealed from h ++ cond b (x ∷ []) []) (eq-eqb x.entry.maker from maker)
 
+-- what another machine made isn't got of this one
 pub got_from-other : (h : List (Event SealedEntry)) (x : SealedEntry) (from : ℕ) → x.entry.maker ≢ from →
     got_from node_of_sealed from (h ++ Got x ∷ []) ≡ got_from node_of_sealed from h
 got_from-other h x from maker =
@@ -111,6 +116,7 @@ got_from-other h x from maker =
     ∙ ap (λ b. got_from node_of_sealed from h ++ cond b (x ∷ []) []) (ne_eqb x.entry.maker from maker)
     ∙ append-nil (got_from node_of_sealed from h)
 
+-- nor is what was sent
 pub got_from-sent : (h : List (Event SealedEntry)) (x : SealedEntry) (from : ℕ) →
     got_from node_of_sealed from (h ++ Sent x ∷ []) ≡ got_from node_of_sealed from h
 got_from-sent h x from = ap (filter (λ (e : SealedEntry). e.entry.maker == from)) (got-sent h x)

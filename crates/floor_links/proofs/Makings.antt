@@ -12,9 +12,11 @@ use Rattle.broadcast_queues.specs.Ends.{LinkView, OutView, InView, IsNewOut, IsN
 use Rattle.floor_links.specs.Fresh.{out_of, in_of, IsLinkOf, AreNewRows}
 use Rattle.floor_links.specs.inside.Growing.{IsRowBelow}
 
+-- the ends of one machine that put
 abbrev pub Outs : Type 0
 Outs = List (OutView SealedEntry)
 
+-- the ends of one machine that take
 abbrev pub Inns : Type 0
 Inns = List (InView SealedEntry)
 
@@ -22,6 +24,7 @@ Inns = List (InView SealedEntry)
 abbrev pub lists_of : {X : Type 0} → List (Vec X Global) → List (List X)
 lists_of {X} vs = map (λ (v : Vec X Global). v.items) vs
 
+-- a vector more is a list more
 pub lists_push : {X : Type 0} (vs new : List (Vec X Global)) (v : Vec X Global) → new ≡ vs ++ v ∷ [] →
     lists_of new ≡ lists_of vs ++ v.items ∷ []
 lists_push {X} vs new v is = ap lists_of is ∙ map-append (λ (v : Vec X Global). v.items) vs (v ∷ [])
@@ -78,9 +81,12 @@ row_more from capacity most row outs before after link out inn is within of new_
 
 -- so many lists, all of them empty
 pub record AreEmpty (many : ℕ) (inns : List Inns) : Type 0 where
+  -- there are so many lists
   pub count : length inns ≡ many
+  -- each of them is empty
   pub empty : All (λ (l : Inns). l ≡ []) inns
 
+-- with another empty list there is one more, and all are empty
 pub empty_more : (n : ℕ) (inns : List Inns) → AreEmpty n inns → AreEmpty (n + 1) (inns ++ [] ∷ [])
 empty_more n inns are = record {
   count = (let c = are.count in omega (arith, length-append inns ([] ∷ [])));
@@ -123,7 +129,8 @@ rows_more most count capacity rows outs inns after row ends are is =
       ];
       puts_count = (let c = are.puts_count in omega (arith, length-append outs (ends ∷ [])));
       puts = λ a d lt. elim (cases_eq a most) [
-        | inl s ↦ last_of outs ends d a (let c = are.puts_count in omega arith) ∙ is.puts ∙ ap (map out_of) (sym (last a s))
+        | inl s ↦ last_of outs ends d a (let c = are.puts_count in omega arith) ∙ is.puts
+            ∙ ap (map out_of) (sym (last a s))
         | inr n ↦ get_or_append_left outs (ends ∷ []) d a (let c = are.puts_count in omega arith)
             ∙ are.puts a d (omega arith) ∙ ap (map out_of) (sym (first a (omega arith)))
       ];

@@ -21,6 +21,7 @@ use Rattle.floor_links.specs.Rows.{HaveCapacity, link_at}
 use Rattle.floor_links.specs.Sendings.{is_scripted, loss_of, lost_by, IsWay, IsSentTo, IsTold, IsSentOn, IsSentBelow}
 use Rattle.floor_links.specs.Sendings.{AreCopies}
 
+-- the end of a link that puts
 abbrev End : Type 0
 End = OutView SealedEntry
 
@@ -38,10 +39,16 @@ none_there lost from number to most below above =
 
 -- what one machine more adds to the losses
 record AddsOne (lost : List Loss) (most : ℕ) (e : SealedEntry) (cause : Option LossWhy) : Type 0 where
+  -- it is at most one loss
   short : length (lost_by e most cause) ≤ 1
+  -- it is of this entry, on its way to this machine
   are : AreOn e most (lost_by e most cause)
+  -- what became of the entry on this way is told
   told : IsTold (lost ++ lost_by e most cause) e most cause
-  others : (to : ℕ) → to ≢ most → (c : Option LossWhy) → IsTold lost e to c → IsTold (lost ++ lost_by e most cause) e to c
+  -- what became of it on other ways is told as before
+  others : (to : ℕ) → to ≢ most → (c : Option LossWhy) → IsTold lost e to c
+      → IsTold (lost ++ lost_by e most cause) e to c
+  -- the losses ascend by their receivers
   rising : AllPairs (λ (a b : Loss). a.to < b.to) (lost ++ lost_by e most cause)
 
 -- a loss on another way is told as before
@@ -53,6 +60,7 @@ told_kept lost e most to why n None told =
 told_kept lost e most to why n (Some w) told =
     Contains-append_left lost (loss_of e most why ∷ []) (loss_of e to w) told
 
+-- one machine more adds one loss at most, which leaves all others as they are told
 adds_one : (lost : List Loss) (most : ℕ) (e : SealedEntry) (cause : Option LossWhy) →
     All (λ (loss : Loss). loss.to < most) lost → AllPairs (λ (a b : Loss). a.to < b.to) lost →
     AddsOne lost most e cause
@@ -102,7 +110,8 @@ module _ (loses : List Lose) (capacity : ℕ) where
   }
 
   -- one machine more
-  sent_to_one_more : (most : ℕ) (e : SealedEntry) (outs new : List End) (lost before after : List Loss) (old end : End) →
+  sent_to_one_more : (most : ℕ) (e : SealedEntry) (outs new : List End) (lost before after : List Loss)
+      (old end : End) →
       most < length outs → most ≢ e.entry.maker → IsSentBelow loses capacity most e outs new lost →
       ((d : End) → get_or new most d ≡ old) →
       IsSentTo (is_scripted loses e.entry.maker e.entry.number most) capacity most e old end before after →
@@ -128,7 +137,8 @@ module _ (loses : List Lose) (capacity : ℕ) where
           losses = All-append (λ (loss : Loss). (loss.from ≡ e.entry.maker) × (loss.number ≡ e.entry.number) ×
               (loss.to < most + 1) × (loss.to ≢ e.entry.maker)) lost more
               (λ k d lt. let h = is.losses k d lt in (h.0, h.1, (let g = h.2 in omega arith), h.3))
-              (λ k d lt. let h = adds.are k d lt in (h.0, h.1, (let g = h.2 in omega arith), λ s. differs (sym h.2 ∙ s)));
+              (λ k d lt. let h = adds.are k d lt in
+              (h.0, h.1, (let g = h.2 in omega arith), λ s. differs (sym h.2 ∙ s)));
           queues = λ to d lt.
               elim (cases_eq to most) [
                 | inl s ↦ (let now : get_or (set new most end) to d ≡ end =
@@ -167,15 +177,23 @@ few_by e to None = omega arith
 few_by e to (Some why) = omega arith
 
 -- where sending to one machine after another has come
-pub record Sending (links : List (List LinkView)) (loses : List Lose) (own number count : ℕ) (copies0 : List SealedEntry)
+pub record Sending (links : List (List LinkView)) (loses : List Lose) (own number count : ℕ)
+    (copies0 : List SealedEntry)
     (outs0 : List End) (losses0 : List Loss) (to : ℕ) (copies : List SealedEntry) (outs : List End) (losses : List Loss)
     : Type 0 where
+  -- there is an end for each machine
   pub as_many : length outs ≡ count
+  -- as there was before
   pub in_all : count ≡ length outs0
+  -- what is left are copies of the entry
   pub are_copies : AreCopies own number copies
+  -- up to the maker itself there is a copy for each machine that is left but it
   pub before : to ≤ own → length copies + to + 1 ≡ count
+  -- behind it there is one for each that is left
   pub behind : own < to → length copies + to ≡ count
+  -- the ends of the machines that are left are as they were
   pub left : (k : ℕ) (d : End) → to ≤ k → k < count → get_or outs k d ≡ get_or outs0 k d
+  -- there are no more new losses than machines were reached
   pub room : length losses ≤ length losses0 + to
   pub sent : (e : SealedEntry) (capacity : ℕ) → (e.entry.maker ≡ own) → (e.entry.number ≡ number) →
       All (λ (x : SealedEntry). x ≡ e) copies0 → HaveCapacity links own count capacity →
@@ -184,6 +202,7 @@ pub record Sending (links : List (List LinkView)) (loses : List Lose) (own numbe
 
 module _ (links : List (List LinkView)) (loses : List Lose) (own number count : ℕ) (copies0 : List SealedEntry)
     (outs0 : List End) (losses0 : List Loss) where
+  -- before the first machine nothing was sent
   pub sending_none : count ≡ length outs0 → AreCopies own number copies0 → length copies0 + 1 ≡ length outs0 →
       Sending links loses own number count copies0 outs0 losses0 0 copies0 outs0 losses0
   sending_none in_all copies many = record {
@@ -198,6 +217,7 @@ module _ (links : List (List LinkView)) (loses : List Lose) (own number count : 
         (all, ([], sym (append-nil losses0), sent_to_none loses capacity e outs0));
   }
 
+  -- the maker itself is passed over
   pub sending_past : (to : ℕ) (copies : List SealedEntry) (outs : List End) (losses : List Loss) → to ≡ own →
       to < count → Sending links loses own number count copies0 outs0 losses0 to copies outs losses →
       Sending links loses own number count copies0 outs0 losses0 (to + 1) copies outs losses
@@ -216,6 +236,7 @@ module _ (links : List (List LinkView)) (loses : List Lose) (own number count : 
         );
   }
 
+  -- one copy more is sent, to the next machine
   pub sending_more : (to : ℕ) (copies rest : List SealedEntry) (copy : SealedEntry) (outs : List End)
       (losses after : List Loss) (old end : End) (scripted : Bool) (link : LinkView) →
       to ≢ own → to < count → copies ≡ rest ++ copy ∷ [] → ((d : End) → get_or outs to d ≡ old) →
@@ -227,7 +248,8 @@ module _ (links : List (List LinkView)) (loses : List Lose) (own number count : 
       is =
       let shorter : length copies ≡ length rest + 1 = omega (arith, ap length split, length-append rest (copy ∷ [])) in
       let added : length after ≤ length losses + 1 =
-      (let f = few_by copy to sends.cause in omega (arith, ap length sends.losses, length-append losses (lost_by copy to sends.cause)))
+      (let f = few_by copy to sends.cause in
+      omega (arith, ap length sends.losses, length-append losses (lost_by copy to sends.cause)))
       in
       record {
         as_many = length-set outs to end ∙ is.as_many;

@@ -42,11 +42,13 @@ told_lost lost e to why c =
     (itself (loss_of e to why) e.entry.maker e.entry.number to refl refl refl)
 
 module _ (scripted : Bool) (capacity to : ℕ) (e : SealedEntry) (old new : OutView SealedEntry) where
+  -- the entry was put and isn't lost, or it is lost and nothing was put
   abbrev PutOrLost : List Loss → Type 0
   PutOrLost lost =
       ((new.put ≡ old.put ++ e ∷ []) × (is_lost lost e.entry.maker e.entry.number to ≡ false))
       ⊎ ((new.put ≡ old.put) × (is_lost lost e.entry.maker e.entry.number to ≡ true))
 
+  -- the same by the cause for which it was lost, if there is one
   by_cause : (lost : List Loss) (cause : Option LossWhy) → IsWay scripted capacity e old new cause →
       IsTold lost e to cause → PutOrLost lost
   by_cause lost None way told = inl (way.1.put, told)
@@ -61,6 +63,7 @@ module _ (scripted : Bool) (capacity to : ℕ) (e : SealedEntry) (old new : OutV
   pub put_or_lost : (lost : List Loss) → IsSentOn scripted capacity to e old new lost → PutOrLost lost
   put_or_lost lost on = by_cause lost on.cause on.way on.told
 
+  -- the same by the cause for which the entry was lost, if there is one
   grows_by : (cause : Option LossWhy) → IsWay scripted capacity e old new cause →
       (more : List SealedEntry) × (new.put ≡ old.put ++ more)
   grows_by None way = (e ∷ [], way.1.put)
@@ -75,6 +78,7 @@ module _ (scripted : Bool) (capacity to : ℕ) (e : SealedEntry) (old new : OutV
       (more : List SealedEntry) × (new.put ≡ old.put ++ more)
   put_grows lost on = grows_by on.cause on.way
 
+  -- the same by the cause that is told of this way
   found_by : (lost : List Loss) → AllPairs (λ (a b : Loss). a.to < b.to) lost → (loss : Loss) → Contains lost loss →
       loss.from ≡ e.entry.maker → loss.number ≡ e.entry.number → loss.to ≡ to →
       (cause : Option LossWhy) → IsWay scripted capacity e old new cause → IsTold lost e to cause →
@@ -96,6 +100,7 @@ module _ (scripted : Bool) (capacity to : ℕ) (e : SealedEntry) (old new : OutV
   way_of_loss lost rises loss c from number there on =
       found_by lost rises loss c from number there on.cause on.way on.told
 
+  -- the same by the cause that is told of this way
   named_by : (lost : List Loss) (cause : Option LossWhy) → IsWay scripted capacity e old new cause →
       IsTold lost e to cause → scripted ≡ true → Contains lost (loss_of e to Scripted)
   named_by lost None way told is = absurd (true≢false (sym is ∙ way.0))

@@ -29,6 +29,14 @@ impl Links {
         Links { rows }
     }
 
+    /// The rows, as they were given.
+    pub fn into_rows(self) -> Vec<Vec<Link<Broadcast>>>
+        ensures { map (λ row. row.items) result.items ≡ self }
+    {
+        let Links { rows } = self;
+        rows
+    }
+
     /// The link from machine `from` to machine `to`.
     pub fn link(&self, from: usize, to: usize) -> &Link<Broadcast>
         requires from { from < length self.now }

@@ -24,7 +24,8 @@ use Rattle.floor_links.specs.Rows.{link_at}
 use Rattle.polling_world.specs.Machines.{MachineState, IsMachine, IsFresh}
 use Rattle.machine_floor.specs.Stations.{StationState, IsStation, IsTakenWell, IsOfLinks, new_out, new_in}
 use Rattle.machine_floor.specs.Stations.{ticks_from}
-use Rattle.machine_floor.specs.Fresh.{lines_of, IsStopOf, IsNewStation}
+use Rattle.finished_floor.specs.Places.{IsStopOf}
+use Rattle.machine_floor.specs.Fresh.{lines_of, IsNewStation}
 use Rattle.machine_floor.specs.inside.Beginning.{begun, IsBeginning}
 
 module _ (script : Script) (m : MachineState) (outs : List (OutView SealedEntry)) (inns : List (InView SealedEntry))

@@ -13,23 +13,12 @@ use Rattle.floor_links.proofs.Makings.{Outs, Inns}
 use Rattle.polling_world.specs.Keys.{key_of, IsKeyOf}
 use Rattle.polling_world.specs.Machines.{MachineState, IsFresh}
 use Rattle.polling_world.proofs.WorldMaking.{rest_step, rest_none, push_cases}
+use Rattle.finished_floor.specs.Places.{IsStopOf}
 use Rattle.machine_floor.specs.Stations.{StationState, IsOfLinks, made_of}
-use Rattle.machine_floor.specs.Fresh.{IsStopOf, IsNewStation, AreNewStations}
+use Rattle.machine_floor.specs.Fresh.{IsNewStation, AreNewStations}
 use Rattle.machine_floor.specs.inside.Beginning.{begun, IsBeginning}
+use Rattle.machine_floor.proofs.Drops.{drop_step, drop_none}
 use Rattle.machine_floor.proofs.Beginnings.{beginning, new_station, the_outs, the_inns, inside, l}
-
--- what stands first in the rest of a list
-drop_step : {X : Type 0} (xs : List X) (n : ℕ) (y : X) (ys : List X) → drop n xs ≡ y ∷ ys →
-    ((d : X) → get_or xs n d ≡ y) × (drop (suc n) xs ≡ ys)
-drop_step [] zero y ys e = cc
-drop_step [] (suc n) y ys e = cc
-drop_step (x ∷ xs) zero y ys e = (λ d. cc, cc)
-drop_step (x ∷ xs) (suc n) y ys e = drop_step xs n y ys e
-
-drop_none : {X : Type 0} (xs : List X) (n : ℕ) → drop n xs ≡ [] → length xs ≤ n
-drop_none [] n e = omega arith
-drop_none (x ∷ xs) zero e = cc
-drop_none (x ∷ xs) (suc n) e = let rest = drop_none xs n e in omega (arith, rest)
 
 pub record AreFirst (script : Script) (links : List (List LinkView)) (outs : List Outs) (inns : List Inns)
     (stations : List StationState) (keys : List Secret) (outs_left : List Outs) (inns_left : List Inns) : Type 0 where
@@ -132,10 +121,12 @@ first_none script links outs inns keys is = record {
 pub all_new : (script : Script) (links : List (List LinkView)) (outs : List Outs) (inns : List Inns)
     (stations : List StationState) (keys : List Secret) (outs_left : List Outs) (inns_left : List Inns) →
     AreFirst script links outs inns stations keys outs_left inns_left → length keys ≡ 0 →
-    AreNewStations script links stations
-all_new script links outs inns stations (key ∷ keys) outs_left inns_left first none = absurd (omega arith)
-all_new script links outs inns stations [] outs_left inns_left first none = record {
+    length links ≡ length script.machines → AreNewStations script links stations
+all_new script links outs inns stations (key ∷ keys) outs_left inns_left first none rows = absurd (omega arith)
+all_new script links outs inns stations [] outs_left inns_left first none rows = record {
   count = let past = rest_none (key_of script) script.machines (length stations) first.rest in
+      let within = first.within in omega (arith, past, within);
+  rows = let past = rest_none (key_of script) script.machines (length stations) first.rest in
       let within = first.within in omega (arith, past, within);
   each = first.each;
 }

@@ -9,6 +9,11 @@ pub mod Works
 pub mod HandTurns
 pub mod EarTurns
 pub mod Gathers
-pub mod Merging
 pub mod Beginnings
+pub mod Drops
 pub mod FirstStations
+pub mod Parted
+pub mod Rests
+pub mod Collected
+pub mod Worked
+pub mod Counted

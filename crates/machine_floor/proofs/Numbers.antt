@@ -9,7 +9,8 @@ use Rattle.entry_order.specs.declared.event.Event.{Event}
 use Rattle.entry_order.specs.declared.event.Event.TheVariants.{Sent, Got}
 use Rattle.entry_order.specs.History.{sent, IsLegal}
 use Rattle.entry_order.proofs.Orders.{member_split, Contains-sent_cases}
-use Rattle.machine_floor.specs.Stations.{ticks_from, pass_of}
+use Rattle.finished_floor.specs.Floors.{pass_of}
+use Rattle.machine_floor.specs.Stations.{ticks_from}
 
 fewer : (before : List (Event SealedEntry)) (e : SealedEntry) (later : List (Event SealedEntry)) →
     length (sent before) < length (sent (before ++ Sent e ∷ later))

@@ -17,6 +17,7 @@ use Rattle.floor_losses.specs.declared.loss.LossWhy.TheVariants.{Scripted, LinkF
 use Rattle.floor_losses.specs.Losses.{arriving, got_from, AreOnce}
 use Rattle.floor_links.specs.Rows.{link_at}
 use Rattle.floor_links.specs.Sendings.{is_scripted}
+use Rattle.finished_floor.specs.Floors.{pass_of}
 use Rattle.polling_world.specs.Machines.{MachineState, IsMachine}
 
 -- the machine, how many entries a link may hold, the script's lines on losses, the ends of the links to and from each
@@ -51,11 +52,6 @@ made_of s = record {
   losses = [];
   ticks = [];
 }
-
--- the pass that did it: 0 sent, 1 heard
-abbrev pub pass_of : Event SealedEntry → ℕ
-pass_of (Sent e) = 0
-pass_of (Got e) = 1
 
 -- one tick for each event, in order, of the pass that did it, with the event's place, the first of which is given
 abbrev pub ticks_from : ℕ → List (Event SealedEntry) → List Tick

@@ -3,12 +3,22 @@
 //! Nothing that was sent is lost without a cause that the station keeps.
 #![tactic(auto)]
 
+mod finishing;
+mod gathering;
 mod laws;
 mod making;
+mod running;
 mod station;
 mod work;
 
-pub use laws::{floor_is_played_again, link_accounts_for_all};
+pub use finished_floor::Floor;
+pub use floor_links::Links;
+pub use floor_losses::{Loss, LossWhy};
+pub use laws::link_accounts_for_all;
 pub use making::stations;
+pub use running::run_floor;
 pub use station::Station;
 pub use work::work_all;
+
+#[cfg(test)]
+mod tests;

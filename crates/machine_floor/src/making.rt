@@ -1,14 +1,24 @@
 //! The stations of a script.
 ghost use Rattle.std.specs.Prelude.{◌≡◌, [], All, IfOk};
 ghost use Rattle.election_script.specs.Lawful.{IsLawful};
-ghost use Rattle.machine_floor.specs.Fresh.{AreNewStations, IsStopOf};
+ghost use Rattle.finished_floor.specs.Places.{IsStopOf};
+ghost use Rattle.machine_floor.specs.Fresh.{AreNewStations};
+ghost use Rattle.polling_world.specs.Keys.{roster_of};
 ghost use Rattle.machine_floor.specs.Stations.{IsOfLinks, made_of};
 
 use crate::station::Station;
 use election_script::{Script, StopAt};
 use floor_links::{Links, NewLinks, make_links};
 use polling_world::{Machine, Memory, keys_of, roster_of};
+use roster::Roster;
 use std::alloc::Global;
+
+/// The stations of a script with its roster, and the links between them.
+pub(crate) struct Prepared {
+    pub(crate) roster: Roster,
+    pub(crate) stations: Vec<Station>,
+    pub(crate) links: Links,
+}
 
 /// One station for each machine of the script, in its order, and the links between them. All memory
 /// that turns need beside that for entries is taken here. Making the machines' keys takes a while.
@@ -19,6 +29,24 @@ pub fn stations(alloc: Global, script: &Script) -> Result<(Vec<Station>, Links),
     // So they can be worked.
     ensures links { IfOk result (λ made. All (λ s. IsOfLinks made.1 (made_of s)) made.0.items) }
     ensures first { IfOk result (λ made. All (λ s. s.ticks ≡ []) made.0.items) }
+{
+    let Prepared {
+        roster: _,
+        stations,
+        links,
+    } = prepare(alloc, script)?;
+    Ok((stations, links))
+}
+
+/// The same with the roster.
+pub(crate) fn prepare(alloc: Global, script: &Script) -> Result<Prepared, Memory>
+    requires { IsLawful script.now }
+    ensures roster { IfOk result (λ p. p.roster.machines ≡ roster_of script.now) }
+    ensures new { IfOk result (λ p. AreNewStations script.now p.links p.stations.items) }
+
+    // So they can be worked.
+    ensures links { IfOk result (λ p. All (λ s. IsOfLinks p.links (made_of s)) p.stations.items) }
+    ensures first { IfOk result (λ p. All (λ s. s.ticks ≡ []) p.stations.items) }
 {
     let keys = keys_of(alloc, script)?;
     let roster = roster_of(alloc, script, &keys)?;
@@ -39,7 +67,11 @@ pub fn stations(alloc: Global, script: &Script) -> Result<(Vec<Station>, Links),
         };
         all.push(Station::new(alloc, script, machine, ends_out, ends_in)?)?;
     }
-    Ok((all, links))
+    Ok(Prepared {
+        roster,
+        stations: all,
+        links,
+    })
 }
 
 // The number of events at which the machine stops, if a line says so.

@@ -8,7 +8,7 @@ ghost use Rattle.polling_world.specs.declared.acted.Acted.{Acted};
 ghost use Rattle.polling_world.specs.Acting.{IsActed};
 ghost use Rattle.machine_floor.specs.Fresh.{lines_of};
 ghost use Rattle.machine_floor.specs.inside.Beginning.{IsBeginning, begun};
-ghost use Rattle.machine_floor.specs.Stations.{IsOfLinks, made_of};
+ghost use Rattle.machine_floor.specs.Stations.{IsOfLinks, IsStation, made_of};
 ghost use Rattle.machine_floor.specs.Turns.{cause_of, did, EarDid, HandDid, HasLooked};
 
 use broadcast_queues::{Link, LinkIn, LinkOut, Parcel};
@@ -41,6 +41,16 @@ pub struct Station {
     inns: Vec<LinkIn<Broadcast>>,
     losses: Vec<Loss>,
     ticks: Vec<Tick>,
+}
+
+/// What a station holds, once no thread works it any more.
+#[derive(Drop)]
+pub(crate) struct Parts {
+    pub(crate) machine: Machine,
+    pub(crate) outs: Vec<LinkOut<Broadcast>>,
+    pub(crate) inns: Vec<LinkIn<Broadcast>>,
+    pub(crate) losses: Vec<Loss>,
+    pub(crate) ticks: Vec<Tick>,
 }
 
 impl Model for Station {
@@ -91,6 +101,33 @@ impl Station {
             losses,
             ticks,
         })
+    }
+
+    /// Takes it apart.
+    pub(crate) fn into_parts(self) -> Parts
+        ensures is { IsStation self }
+        ensures machine { result.machine ≡ self.machine }
+        ensures outs { result.outs.items ≡ self.outs }
+        ensures inns { result.inns.items ≡ self.inns }
+        ensures losses { result.losses.items ≡ self.losses }
+        ensures ticks { result.ticks.items ≡ self.ticks }
+    {
+        let Station {
+            machine,
+            link: _,
+            loses: _,
+            outs,
+            inns,
+            losses,
+            ticks,
+        } = self;
+        Parts {
+            machine,
+            outs,
+            inns,
+            losses,
+            ticks,
+        }
     }
 
     /// Its machine.

@@ -5,8 +5,8 @@ ghost use Rattle.machine_floor.specs.Stations.{StationState, IsOfLinks, made_of}
 ghost use Rattle.machine_floor.specs.declared.station.Station.{Station};
 
 use crate::station::Station;
-use floor_gate::Gate;
 use floor_links::Links;
+use hall_outside::Gate;
 use log_lock::{LogLock, Pass};
 use polling_world::Memory;
 use std::alloc::{AllocError, Global};

@@ -35,7 +35,8 @@ loop-to-preserved c =
     let outs : Outs = c.loop-to.outs.items ++ c.in_ok-link.out ∷ [] in
     let P : List LinkView → Outs → List Inns → Type 0 = λ r o i.
     IsRowBelow c.args.from c.args.capacity (c.loop-to.to + 1) r o before i in
-    subst (λ r. P r c.push-in-loop-to.new.self.items (lists_of c.push_at.new.inns.items)) (sym c.in_ok-push.ensures.items)
+    subst (λ r. P r c.push-in-loop-to.new.self.items (lists_of c.push_at.new.inns.items))
+    (sym c.in_ok-push.ensures.items)
     (subst (λ o. P row o (lists_of c.push_at.new.inns.items)) (sym c.in_ok-push-2.ensures.items)
     (subst (λ i. P row outs i) (sym c.in_ok-push_at.ensures)
     (row_more c.args.from c.args.capacity c.loop-to.to c.loop-to.row.items c.loop-to.outs.items before

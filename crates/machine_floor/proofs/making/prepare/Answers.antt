@@ -7,10 +7,10 @@ use Rattle.election_script.specs.declared.script.Script.{Script}
 use Rattle.entry_format.specs.SealedEntry.{SealedEntry}
 use Rattle.floor_links.specs.Fresh.{AreNewLinks}
 use Rattle.floor_links.proofs.Makings.{lists_of}
-use Rattle.machine_floor.specs.Fresh.{IsStopOf}
+use Rattle.finished_floor.specs.Places.{IsStopOf}
 use Rattle.machine_floor.proofs.FirstStations.{AreFirst, first_none, next_key, next_within, outs_there, inns_there}
 use Rattle.machine_floor.proofs.FirstStations.{may_begin, one_more, all_new, all_workable}
-use Rattle.machine_floor.proofs.making.stations.Goals as goal
+use Rattle.machine_floor.proofs.making.prepare.Goals as goal
 
 pub loop-key-init : goal.loop-key-init
 loop-key-init c = λ links are.
@@ -131,7 +131,7 @@ returns-clause-new c =
     c.in_ok-links.field-0.inns _ _ c.as_slice-count.ensures c.into_iter-outs.ensures.rest
     c.into_iter-inns.ensures.rest c.in_ok-links.ensures in
     all_new c.args.script.now links _ _ c.loop-key.all.items _ _ _ (c.loop-key.invariant links are)
-    (omega (arith, c.in-None.ensures.steps.0))
+    (omega (arith, c.in-None.ensures.steps.0)) are.rows
 
 pub returns-clause-links : goal.returns-clause-links
 returns-clause-links c =
@@ -141,7 +141,7 @@ returns-clause-links c =
     c.into_iter-inns.ensures.rest c.in_ok-links.ensures in
     (all_workable c.args.script.now links c.loop-key.all.items
     (all_new c.args.script.now links _ _ c.loop-key.all.items _ _ _
-    (c.loop-key.invariant links are) (omega (arith, c.in-None.ensures.steps.0)))).0
+    (c.loop-key.invariant links are) (omega (arith, c.in-None.ensures.steps.0)) are.rows)).0
 
 pub returns-clause-first : goal.returns-clause-first
 returns-clause-first c =
@@ -151,4 +151,4 @@ returns-clause-first c =
     c.into_iter-inns.ensures.rest c.in_ok-links.ensures in
     (all_workable c.args.script.now links c.loop-key.all.items
     (all_new c.args.script.now links _ _ c.loop-key.all.items _ _ _
-    (c.loop-key.invariant links are) (omega (arith, c.in-None.ensures.steps.0)))).1
+    (c.loop-key.invariant links are) (omega (arith, c.in-None.ensures.steps.0)) are.rows)).1

@@ -4,7 +4,7 @@ use Rattle.broadcast_queues.specs.Ends.{LinkView}
 use Rattle.floor_links.specs.Fresh.{AreNewLinks}
 use Rattle.floor_links.proofs.Makings.{lists_of}
 use Rattle.machine_floor.proofs.FirstStations.{AreFirst}
-use Rattle.machine_floor.proofs.making.stations.Given as goal
+use Rattle.machine_floor.proofs.making.prepare.Given as goal
 
 -- the stations of the first machines over these links, and what is left for the others
 abbrev pub invariant-loop-key : goal.invariant-loop-key

@@ -1,0 +1,626 @@
+-- What the stations of a script leave together, once the links between them are finished.
+use Rattle.std.proofs.Common.{◌≡◌, ◌≢◌, ℕ, zero, suc, ◌+◌, ◌<◌, ◌≤◌, Bool, true, false, cond, List, [], ◌∷◌, ◌++◌}
+use Rattle.std.proofs.Common.{length, map, refl, sym, ap, ◌∙◌, subst, arith, ◌⊎◌, inl, inr, get_or, Option, Some}
+use Rattle.std.specs.Prelude.{All, slice_get, nat_lt, ◌==◌, ◌&&◌, ◌||◌, not}
+use Rattle.std.specs.List.{Contains, AllZip, filter, flat_map}
+use Rattle.std.proofs.lemmas.Bool.{and_parts, and_from, or_cases, or_left, or_right, not-true, true≢false}
+use Rattle.std.proofs.lemmas.Bool.{not_from_false, cases_Bool}
+use Rattle.std.proofs.lemmas.List.{length-map}
+use Rattle.std.proofs.lemmas.List.Elements.{All-contains, Contains-append_left, Contains-get_or, at_from_Contains}
+use Rattle.std.proofs.lemmas.Option.{get_or_from_slice_get, slice_get-get_or, slice_get_within, same_Some}
+use Rattle.entry_order.proofs.Lists.{Contains-filter_cases, list_any_some, list_any_of, Contains-flat_map}
+use Rattle.entry_order.proofs.Lists.{Contains-flat_map_cases, Contains-head, Contains-later}
+use Rattle.entry_format.specs.Nodes.{node_of_sealed}
+use Rattle.entry_format.specs.SealedEntry.{SealedEntry}
+use Rattle.entry_order.specs.declared.event.Event.{Event}
+use Rattle.entry_order.specs.declared.event.Event.TheVariants.{Sent, Got}
+use Rattle.entry_order.specs.History.{sent, IsLegal}
+use Rattle.entry_order.specs.World.{history, history_of}
+use Rattle.entry_order.proofs.Orders.{member_split, Contains-sent_cases}
+use Rattle.election_script.specs.declared.script.Lose.{Lose}
+use Rattle.election_script.specs.declared.script.Script.{Script}
+use Rattle.broadcast_queues.specs.Ends.{OutView, InView, LinkView, IsOutOf, IsInOf}
+use Rattle.floor_losses.specs.declared.loss.Loss.{Loss}
+use Rattle.floor_losses.specs.declared.loss.LossWhy.{LossWhy}
+use Rattle.floor_losses.specs.declared.loss.LossWhy.TheVariants.{Scripted, LinkFull, ToStopped, LogFull, SameDigest}
+use Rattle.floor_losses.specs.Losses.{arriving, got_from, is_lost, is_of, Differ, AreOnce}
+use Rattle.floor_losses.specs.Balance.{IsBalanced}
+use Rattle.floor_losses.proofs.Arriving.{is_of_parts, itself, other_from, other_to}
+use Rattle.floor_losses.proofs.Lists.{filter_twice}
+use Rattle.floor_losses.proofs.Once.{once_append, differ_sym}
+use Rattle.floor_links.specs.Sendings.{is_scripted}
+use Rattle.floor_links.specs.Rows.{link_at}
+use Rattle.floor_sweep.specs.declared.sweeping.Waiting.{Waiting}
+use Rattle.floor_sweep.specs.Places.{count_sent}
+use Rattle.floor_sweep.specs.Waits.{AreOnWay, waits_of}
+use Rattle.finished_floor.specs.Floors.{AreGathered, pass_of, passes_of}
+use Rattle.finished_floor.specs.Losses.{IsCauseOf, IsOnWay, AreLostAsScripted, is_before_link, is_kept_off, put_before}
+use Rattle.finished_floor.specs.Places.{IsMachineOf, IsStopOf}
+use Rattle.polling_world.specs.Keys.{roster_of}
+use Rattle.polling_world.specs.Machines.{MachineState, IsFresh}
+use Rattle.polling_world.specs.Worlds.{world_of, machine_of}
+use Rattle.polling_world.proofs.Placing.{get-map, get-map_from}
+use Rattle.roster.specs.declared.post.Post.{Post}
+use Rattle.machine_floor.specs.Stations.{StationState, IsStation, IsOfHand, IsOfEar, IsOutCause, IsInCause}
+use Rattle.machine_floor.specs.Stations.{made_of, numbered_below, ticks_from}
+use Rattle.machine_floor.specs.Fresh.{lines_of, IsNewStation, AreNewStations}
+use Rattle.machine_floor.specs.inside.Gathering.{by_of, AreMadeBy, AreEndsOf, AreRests}
+use Rattle.machine_floor.proofs.Gathers.{gather_pair}
+use Rattle.machine_floor.proofs.Linked.{rows_are, row_is, ends_out, ends_in}
+use Rattle.machine_floor.proofs.Numbers.{numbers_below}
+
+-- two tests that hold together are one
+same_test : (x y : Bool) → (x ≡ true → y ≡ true) → (y ≡ true → x ≡ true) → x ≡ y
+same_test true y to from = sym (to refl)
+same_test false true to from = from refl
+same_test false false to from = refl
+
+-- a member stands at a place
+place_of : {X : Type 0} (xs : List X) (x : X) → Contains xs x → (k : ℕ) × (slice_get xs k ≡ Some x)
+place_of xs x c =
+    let p = at_from_Contains xs x c in
+    (p.0, slice_get-get_or xs p.0 x p.1 ∙ ap Some (p.2 x))
+
+-- and what stands at a place is a member
+member_at : {X : Type 0} (xs : List X) (k : ℕ) (x : X) → slice_get xs k ≡ Some x → Contains xs x
+member_at xs k x stands =
+    subst (Contains xs) (get_or_from_slice_get xs k x x stands)
+    (Contains-get_or xs k x (slice_get_within xs k x stands))
+
+-- what is true of all is true of what stands at a place
+all_at : {X : Type 0} (P : X → Type 0) (xs : List X) (k : ℕ) (x : X) → All P xs → slice_get xs k ≡ Some x → P x
+all_at P xs k x all stands = All-contains P xs x all (member_at xs k x stands)
+
+-- what is true of each member is true of all
+all_of : {X : Type 0} (P : X → Type 0) (xs : List X) → ((x : X) → Contains xs x → P x) → All P xs
+all_of P xs each k d lt = each (get_or xs k d) (Contains-get_or xs k d lt)
+
+-- an element at a place within the list
+element : {X : Type 0} (xs : List X) (k : ℕ) → k < length xs → (x : X) × (slice_get xs k ≡ Some x)
+element [] k lt = absurd (omega arith)
+element (x ∷ xs) zero lt = (x, refl)
+element (x ∷ xs) (suc k) lt = element xs k (omega arith)
+
+-- of lists that differ in all pairs of places nothing is lost twice
+once_all : {X : Type 0} (f : X → List Loss) (xs : List X) →
+    ((k : ℕ) (x : X) → slice_get xs k ≡ Some x → AreOnce (f x)) →
+    ((k j : ℕ) (x y : X) → k ≢ j → slice_get xs k ≡ Some x → slice_get xs j ≡ Some y → (a b : Loss) →
+    Contains (f x) a → Contains (f y) b → Differ a b) → AreOnce (flat_map f xs)
+once_all f [] each across = λ i j d lt within. absurd (omega arith)
+once_all f (x ∷ xs) each across =
+    once_append (f x) (flat_map f xs) (each 0 x refl)
+    (once_all f xs (λ k y s. each (suc k) y s)
+    (λ k j y z differs s t. across (suc k) (suc j) y z (λ e. differs (omega arith)) s t))
+    (λ i j d li lj.
+    let b = get_or (flat_map f xs) j d in
+    let c = Contains-flat_map_cases f xs b (Contains-get_or (flat_map f xs) j d lj) in
+    let p = place_of xs c.0 c.1 in
+    across 0 (suc p.0) x c.0 (λ e. absurd (omega arith)) refl p.1 (get_or (f x) i d) b (Contains-get_or (f x) i d li)
+    c.2)
+
+-- the lines on one machine name its losses as all lines do
+lines_name : (own : ℕ) (loses : List Lose) (number to : ℕ) →
+    is_scripted (lines_of own loses) own number to ≡ is_scripted loses own number to
+lines_name own [] number to = refl
+lines_name own (lose ∷ loses) number to =
+    let rest = lines_name own loses number to in
+    let more : Bool = (lose.number == number) && (lose.to == to) in
+    let P : Bool → Type 0 = λ b.
+    is_scripted (cond b (lose ∷ lines_of own loses) (lines_of own loses)) own number to
+    ≡ ((b && more) || is_scripted loses own number to) in
+    elim (cases_Bool (lose.from == own)) [
+      | inl is ↦ subst P (sym is)
+          (ap (λ b. (b && more) || is_scripted (lines_of own loses) own number to) is
+          ∙ ap (λ b. more || b) rest)
+      | inr isnt ↦ subst P (sym isnt) rest
+    ]
+
+-- what passes one test of many that pass another
+fewer_pass : {X : Type 0} (p q : X → Bool) (xs : List X) → ((x : X) → Contains xs x → p x ≡ true → q x ≡ true) →
+    length (filter p xs) ≤ length (filter q xs)
+fewer_pass p q [] weaker = omega arith
+fewer_pass {X} p q (x ∷ xs) weaker =
+    let rest = fewer_pass p q xs (λ y c. weaker y (Contains-later x xs y c)) in
+    let here = weaker x (Contains-head x xs) in
+    let P : Bool → Bool → Type 0 = λ a b.
+    length (cond a (x ∷ filter p xs) (filter p xs)) ≤ length (cond b (x ∷ filter q xs) (filter q xs)) in
+    elim (cases_Bool (p x)) [
+      | inl is ↦ subst (λ a. P a (q x)) (sym is) (subst (λ b. P true b) (sym (here is)) (omega arith))
+      | inr isnt ↦ subst (λ a. P a (q x)) (sym isnt)
+          (elim (cases_Bool (q x)) [
+            | inl also ↦ subst (λ b. P false b) (sym also) (omega arith)
+            | inr not_so ↦ subst (λ b. P false b) (sym not_so) rest
+          ])
+    ]
+
+-- each entry that a machine sent has its number as maker
+makers_sent : (owner : ℕ) (h : List (Event SealedEntry)) → IsLegal node_of_sealed owner h → (x : SealedEntry) →
+    Contains (sent h) x → x.entry.maker ≡ owner
+makers_sent owner h legal x c =
+    let split = member_split h (Sent x) (Contains-sent_cases h x c) in
+    (legal split.0 (Sent x) split.1 split.2).1.maker
+
+-- the ticks tell who did the events
+by_ticks : (place : ℕ) (h : List (Event SealedEntry)) → by_of (ticks_from place h) ≡ passes_of h
+by_ticks place [] = refl
+by_ticks place (x ∷ h) = ap (λ l. Some (pass_of x) ∷ l) (by_ticks (place + 1) h)
+
+zip_maps : {X A B : Type 0} (R : A → B → Type 0) (f : X → A) (g : X → B) (xs : List X) →
+    ((x : X) → Contains xs x → R (f x) (g x)) → AllZip R (map f xs) (map g xs)
+zip_maps R f g [] each = tt
+zip_maps R f g (x ∷ xs) each =
+    (each x (Contains-head x xs), zip_maps R f g xs (λ y c. each y (Contains-later x xs y c)))
+
+-- no cause of an ear is one of a hand
+not_before : (m : MachineState) (x : SealedEntry) (why : LossWhy) → IsInCause m x why → is_before_link why ≡ true → ⊥
+not_before m x Scripted cause is = cause
+not_before m x LinkFull cause is = cause
+not_before m x ToStopped cause is = true≢false (sym is)
+not_before m x LogFull cause is = true≢false (sym is)
+not_before m x SameDigest cause is = true≢false (sym is)
+
+module _ (script : Script) (links : List (List LinkView)) (ss : List StationState) (all : All IsStation ss)
+    (new : AreNewStations script links (map made_of ss)) where
+  -- their machines
+  abbrev pub machines : List MachineState
+  machines = map (λ (s : StationState). s.machine) ss
+
+  -- their ends that put
+  abbrev pub outs : List (List (OutView SealedEntry))
+  outs = map (λ (s : StationState). s.outs) ss
+
+  -- their ends that take
+  abbrev pub inns : List (List (InView SealedEntry))
+  inns = map (λ (s : StationState). s.inns) ss
+
+  -- all that they lost
+  abbrev pub lost : List Loss
+  lost = flat_map (λ (s : StationState). s.losses) ss
+
+  rows : length links ≡ length ss
+  rows = new.rows ∙ length-map ss made_of
+
+  count : length machines ≡ length ss
+  count = length-map ss (λ (s : StationState). s.machine)
+
+  -- what is known of the station at a place
+  module _ (a : ℕ) (s : StationState) (stands : slice_get ss a ≡ Some s) where
+    there : IsStation s
+    there = all_at IsStation ss a s all stands
+
+    made : IsNewStation script links a (made_of s)
+    made = new.each a (made_of s) (get-map made_of ss a s stands)
+
+    number_is : s.machine.config.number ≡ a
+    number_is = ap (λ (m : MachineState). m.config.number) made.machine.2
+
+    log_is : s.machine.config.log ≡ script.log
+    log_is = ap (λ (m : MachineState). m.config.log) made.machine.2
+
+    stop_is : s.machine.stop ≡ made.stop
+    stop_is = ap (λ (m : MachineState). m.stop) made.machine.2
+
+    outs_long : length s.outs ≡ length ss
+    outs_long = sym (rows_are links s made.ends there) ∙ rows
+
+    inns_long : length s.inns ≡ length ss
+    inns_long = there.as_many ∙ outs_long
+
+    machine_at : slice_get machines a ≡ Some s.machine
+    machine_at = get-map (λ (s : StationState). s.machine) ss a s stands
+
+    history_at : history (world_of machines) a ≡ s.machine.events
+    history_at = ap history_of (get-map machine_of machines a s.machine machine_at)
+
+    sent_at : sent (history (world_of machines) a) ≡ sent s.machine.events
+    sent_at = ap sent history_at
+
+    count_at : count_sent machines a ≡ length (sent s.machine.events)
+    count_at = ap length sent_at
+
+    outs_at : get_or outs a [] ≡ s.outs
+    outs_at = get_or_from_slice_get outs a s.outs [] (get-map (λ (s : StationState). s.outs) ss a s stands)
+
+    inns_at : get_or inns a [] ≡ s.inns
+    inns_at = get_or_from_slice_get inns a s.inns [] (get-map (λ (s : StationState). s.inns) ss a s stands)
+
+    -- its machine is the script's
+    machine_of_script : IsMachineOf script a s.machine
+    machine_of_script = record {
+      stop = subst (IsStopOf script.stops a) (sym stop_is) made.stops;
+      made = subst (λ t. IsFresh script a t (record s.machine { events = [] })) (sym stop_is) made.machine;
+      machine = there.machine;
+    }
+
+    named : (number to : ℕ) → is_scripted s.loses a number to ≡ is_scripted script.loses a number to
+    named number to =
+        ap (λ l. is_scripted l a number to) made.loses ∙ lines_name a script.loses number to
+
+    -- what it lost is of its hand or of its ear
+    whose : (x : Loss) → Contains s.losses x → IsOfHand s x ⊎ IsOfEar s x
+    whose x c = All-contains (λ (loss : Loss). IsOfHand s loss ⊎ IsOfEar s loss) s.losses x there.fits c
+
+    lost_too : (x : Loss) → Contains s.losses x → Contains lost x
+    lost_too x c = Contains-flat_map (λ (s : StationState). s.losses) ss s x (member_at ss a s stands) c
+
+  -- the station at a place is one
+  same_station : (a b : ℕ) (s t : StationState) → slice_get ss a ≡ Some s → slice_get ss b ≡ Some t → a ≡ b → s ≡ t
+  same_station a b s t p q e = same_Some s t (sym p ∙ ap (slice_get ss) e ∙ q)
+
+  -- each loss is one station's
+  loser : (x : Loss) → Contains lost x →
+      (a : ℕ) × (s : StationState) × (slice_get ss a ≡ Some s) × Contains s.losses x
+  loser x c =
+      let p = Contains-flat_map_cases (λ (s : StationState). s.losses) ss x c in
+      let q = place_of ss p.0 p.1 in
+      (q.0, p.0, q.1, p.2)
+
+  -- so what is lost between two machines is what one of the two lost
+  either : (a b : ℕ) (s t : StationState) → slice_get ss a ≡ Some s → slice_get ss b ≡ Some t → (k : ℕ) →
+      is_lost lost a k b ≡ (is_lost s.losses a k b || is_lost t.losses a k b)
+  either a b s t p q k =
+      same_test (is_lost lost a k b) (is_lost s.losses a k b || is_lost t.losses a k b)
+      (λ is.
+      let x = list_any_some (is_of a k b) lost is in
+      let l = loser x.0 x.1 in
+      let of = is_of_parts x.0 a k b x.2 in
+      let number = number_is l.0 l.1 l.2 in
+      elim (whose l.0 l.1 l.2 x.0 l.3) [
+        | inl hand ↦ (let same : l.1 ≡ s = same_station l.0 a l.1 s l.2 p (sym number ∙ sym hand.0 ∙ of.0) in
+            or_left (is_lost s.losses a k b) (is_lost t.losses a k b)
+            (list_any_of (is_of a k b) s.losses x.0
+            (subst (λ (u : StationState). Contains u.losses x.0) same l.3) x.2))
+        | inr ear ↦ (let same : l.1 ≡ t = same_station l.0 b l.1 t l.2 q (sym number ∙ sym ear.0 ∙ of.2) in
+            or_right (is_lost s.losses a k b) (is_lost t.losses a k b)
+            (list_any_of (is_of a k b) t.losses x.0
+            (subst (λ (u : StationState). Contains u.losses x.0) same l.3) x.2))
+      ])
+      (λ is. elim (or_cases (is_lost s.losses a k b) (is_lost t.losses a k b) is) [
+        | inl mine ↦ (let x = list_any_some (is_of a k b) s.losses mine in
+            list_any_of (is_of a k b) lost x.0 (lost_too a s p x.0 x.1) x.2)
+        | inr theirs ↦ (let x = list_any_some (is_of a k b) t.losses theirs in
+            list_any_of (is_of a k b) lost x.0 (lost_too b t q x.0 x.1) x.2)
+      ])
+
+  few_rows : (xs : List StationState) → All IsStation xs →
+      ((k : ℕ) (s : StationState) → slice_get xs k ≡ Some s → length s.outs ≡ length ss) → length links ≡ length xs →
+      length links ≡ length ss → length links ≤ 16
+  few_rows [] is long n m = omega arith
+  few_rows (s ∷ xs) is long n m =
+      let one : IsStation s = is 0 s (omega arith) in
+      let few = one.few in let l = long 0 s refl in omega arith
+
+  -- the ends of the stations are those of the links
+  pub ends_are : AreEndsOf links outs inns
+  ends_are = record {
+    few = few_rows ss all outs_long rows rows;
+    senders = length-map ss (λ (s : StationState). s.outs) ∙ sym rows;
+    receivers = length-map ss (λ (s : StationState). s.inns) ∙ sym rows;
+    row = λ a lt.
+        let s = element ss a (omega (arith, rows)) in
+        let long = outs_long a s.0 s.1 in
+        row_is links s.0 (made a s.0 s.1).ends (there a s.0 s.1) a (omega (arith, rows)) ∙ long ∙ sym rows;
+    outs_row = λ a lt.
+        let s = element ss a (omega (arith, rows)) in
+        ap length (outs_at a s.0 s.1) ∙ outs_long a s.0 s.1 ∙ sym rows;
+    inns_row = λ b lt.
+        let s = element ss b (omega (arith, rows)) in
+        ap length (inns_at b s.0 s.1) ∙ inns_long b s.0 s.1 ∙ sym rows;
+    puts = λ a b l d la lb.
+        let s = element ss a (omega (arith, rows)) in
+        let long = outs_long a s.0 s.1 in
+        let h = ends_out links s.0 (made a s.0 s.1).ends (there a s.0 s.1) b l d (omega (arith, rows)) in
+        subst (λ (o : List (OutView SealedEntry)). IsOutOf (link_at links a b l) (get_or o b d)) (sym (outs_at a s.0 s.1))
+        (subst (λ n. IsOutOf (link_at links n b l) (get_or s.0.outs b d)) (number_is a s.0 s.1) h);
+    takes = λ a b l e la lb.
+        let t = element ss b (omega (arith, rows)) in
+        let long = inns_long b t.0 t.1 in
+        let h = ends_in links t.0 (made b t.0 t.1).ends (there b t.0 t.1) a l e (omega (arith, rows)) in
+        subst (λ (i : List (InView SealedEntry)). IsInOf (link_at links a b l) (get_or i a e)) (sym (inns_at b t.0 t.1))
+        (subst (λ n. IsInOf (link_at links a n l) (get_or t.0.inns a e)) (number_is b t.0 t.1) h);
+    makers = λ a b d la lb differs.
+        let s = element ss a (omega (arith, rows)) in
+        let long = outs_long a s.0 s.1 in
+        let number = number_is a s.0 s.1 in
+        let is = there a s.0 s.1 in
+        subst (λ (o : List (OutView SealedEntry)). AreMadeBy a (get_or o b d).put) (sym (outs_at a s.0 s.1))
+        (subst (AreMadeBy a)
+        (sym (is.puts b d (omega (arith, rows)) (λ e. differs (sym (e ∙ number)))))
+        (all_of (λ (x : SealedEntry). x.entry.maker ≡ a)
+        (arriving node_of_sealed s.0.losses s.0.machine.config.number b (sent s.0.machine.events))
+        (λ x c. makers_sent s.0.machine.config.number s.0.machine.events is.machine.legal x
+        (Contains-filter_cases
+        (λ (e : SealedEntry). not (is_lost s.0.losses s.0.machine.config.number e.entry.number b))
+        (sent s.0.machine.events) x c).0 ∙ number)));
+  }
+
+  module _ (waits : List Waiting) (rests : AreRests (length ss) outs inns waits) where
+    -- what was put on a link is what was taken and what waits
+    finished : (a b : ℕ) (s t : StationState) → slice_get ss a ≡ Some s → slice_get ss b ≡ Some t → a ≢ b →
+        (d : OutView SealedEntry) (e : InView SealedEntry) →
+        (get_or s.outs b d).put ≡ (get_or t.inns a e).taken ++ waits_of waits a b
+    finished a b s t p q differs d e =
+        ap (λ (o : List (OutView SealedEntry)). (get_or o b d).put) (sym (outs_at a s p))
+        ∙ rests.rest a b d e (slice_get_within ss a s p) (slice_get_within ss b t q) differs
+        ∙ ap (λ (i : List (InView SealedEntry)). (get_or i a e).taken ++ waits_of waits a b) (inns_at b t q)
+
+    -- what was taken was sent, and its sender didn't lose it
+    taken_sent : (a b : ℕ) (s t : StationState) → slice_get ss a ≡ Some s → slice_get ss b ≡ Some t → a ≢ b →
+        (i : InView SealedEntry) (x : SealedEntry) → Contains (get_or t.inns a i).taken x →
+        Contains (sent s.machine.events) x × (is_lost s.losses a x.entry.number b ≡ false)
+    taken_sent a b s t p q differs i x c =
+        let is = there a s p in
+        let number = number_is a s p in
+        let out = element s.outs b (let l = outs_long a s p in let w = slice_get_within ss b t q in omega arith) in
+        let put : Contains (get_or s.outs b out.0).put x =
+        subst (λ (l : List SealedEntry). Contains l x) (sym (finished a b s t p q differs out.0 i))
+        (Contains-append_left (get_or t.inns a i).taken (waits_of waits a b) x c) in
+        let kept = Contains-filter_cases
+        (λ (e : SealedEntry). not (is_lost s.losses s.machine.config.number e.entry.number b)) (sent s.machine.events) x
+        (subst (λ (l : List SealedEntry). Contains l x)
+        (is.puts b out.0 (let l = outs_long a s p in let w = slice_get_within ss b t q in omega arith)
+        (λ e. differs (sym (e ∙ number)))) put) in (
+          kept.0,
+          ap (λ n. is_lost s.losses n x.entry.number b) (sym number)
+              ∙ not-true (is_lost s.losses s.machine.config.number x.entry.number b) kept.1,
+        )
+
+    -- the entry of a loss of an ear
+    record HeardOff (x : Loss) (b : ℕ) (t : StationState) : Type 0 where
+      pub sender : StationState
+      pub sends : slice_get ss x.from ≡ Some sender
+      pub to : x.to ≡ b
+      pub apart : x.from ≢ b
+      pub entry : SealedEntry
+      pub was_sent : Contains (sent sender.machine.events) entry
+      pub kept : is_lost sender.losses x.from entry.entry.number b ≡ false
+      pub number : entry.entry.number ≡ x.number
+      pub cause : IsInCause t.machine entry x.why
+
+    heard_off : (b : ℕ) (t : StationState) → slice_get ss b ≡ Some t → (x : Loss) → IsOfEar t x → HeardOff x b t
+    heard_off b t q x ear =
+        let number = number_is b t q in
+        let s = element ss x.from (let l = outs_long b t q in let f = ear.1 in omega arith) in
+        let apart : x.from ≢ b = λ e. ear.2 (e ∙ sym number) in
+        let inn = element t.inns x.from (let l = inns_long b t q in let o = outs_long b t q in
+        let f = ear.1 in omega arith) in
+        let y = ear.3 inn.0 in
+        let c = taken_sent x.from b s.0 t s.1 q apart inn.0 y.0 y.1 in
+        record {
+          sender = s.0;
+          sends = s.1;
+          to = ear.0 ∙ number;
+          apart = apart;
+          entry = y.0;
+          was_sent = c.0;
+          kept = c.1;
+          number = y.2;
+          cause = y.3;
+        }
+
+    balanced : IsBalanced node_of_sealed (length machines) (history (world_of machines)) lost (waits_of waits)
+    balanced a b la lb apart =
+        let s = element ss a (omega (arith, count)) in
+        let t = element ss b (omega (arith, count)) in
+        let out = element s.0.outs b (let l = outs_long a s.0 s.1 in omega (arith, count)) in
+        let inn = element t.0.inns a (let l = inns_long b t.0 t.1 in omega (arith, count)) in
+        let out_is = get_or_from_slice_get s.0.outs b out.0 out.0 out.1 in
+        let inn_is = get_or_from_slice_get t.0.inns a inn.0 inn.0 inn.1 in
+        let whole = gather_pair s.0 t.0 lost a b (waits_of waits a b) (there a s.0 s.1) (there b t.0 t.1)
+        (number_is a s.0 s.1) (number_is b t.0 t.1) apart (slice_get_within s.0.outs b out.0 out.1)
+        (slice_get_within t.0.inns a inn.0 inn.1) out.0 inn.0 out_is inn_is
+        (ap (λ (o : OutView SealedEntry). o.put) (sym out_is) ∙ finished a b s.0 t.0 s.1 t.1 apart out.0 inn.0
+        ∙ ap (λ (i : InView SealedEntry). i.taken ++ waits_of waits a b) inn_is)
+        (either a b s.0 t.0 s.1 t.1) in
+        ap (λ (h : List (Event SealedEntry)). got_from node_of_sealed a h ++ waits_of waits a b)
+        (history_at b t.0 t.1) ∙ whole
+        ∙ ap (arriving node_of_sealed lost a b) (sym (sent_at a s.0 s.1))
+
+    -- a loss of a hand and one of an ear are of different entries
+    hand_ear : (a b : ℕ) (s t : StationState) → slice_get ss a ≡ Some s → slice_get ss b ≡ Some t → (x y : Loss) →
+        Contains s.losses x → IsOfHand s x → IsOfEar t y → Differ x y
+    hand_ear a b s t p q x y c hand ear =
+        elim (cases_Bool (is_of x.from x.number x.to y)) [
+          | inl is ↦ (let of = is_of_parts y x.from x.number x.to is in
+              let off = heard_off b t q y ear in
+              let from : y.from ≡ a = of.0 ∙ hand.0 ∙ number_is a s p in
+              let sender : off.sender ≡ s = same_station y.from a off.sender s off.sends p from in
+              let lost_there : is_lost off.sender.losses y.from off.entry.entry.number b ≡ true =
+              list_any_of (is_of y.from off.entry.entry.number b) off.sender.losses x
+              (subst (λ (u : StationState). Contains u.losses x) (sym sender) c)
+              (itself x y.from off.entry.entry.number b (sym of.0) (sym (off.number ∙ of.1)) (sym of.2 ∙ off.to)) in
+              absurd (true≢false (sym lost_there ∙ off.kept)))
+          | inr isnt ↦ isnt
+        ]
+
+    across : (a b : ℕ) (s t : StationState) → a ≢ b → slice_get ss a ≡ Some s → slice_get ss b ≡ Some t →
+        (x y : Loss) → Contains s.losses x → Contains t.losses y → Differ x y
+    across a b s t apart p q x y c d =
+        elim (whose a s p x c) [
+          | inl hand ↦ elim (whose b t q y d) [
+            | inl other ↦ other_from y x.from x.number x.to (λ e. apart (sym (number_is a s p) ∙ sym hand.0 ∙ sym e
+                ∙ other.0 ∙ number_is b t q))
+            | inr ear ↦ hand_ear a b s t p q x y c hand ear
+          ]
+          | inr ear ↦ elim (whose b t q y d) [
+            | inl hand ↦ differ_sym y x (hand_ear b a t s q p y x d hand ear)
+            | inr other ↦ other_to y x.from x.number x.to (λ e. apart (sym (number_is a s p) ∙ sym ear.0 ∙ sym e
+                ∙ other.0 ∙ number_is b t q))
+          ]
+        ]
+
+    once : AreOnce lost
+    once =
+        once_all (λ (s : StationState). s.losses) ss (λ k s p. (there k s p).once)
+        (λ k j s t apart p q x y c d. across k j s t apart p q x y c d)
+
+    on_way_hand : (a : ℕ) (s : StationState) → slice_get ss a ≡ Some s → (x : Loss) → IsOfHand s x → IsOnWay machines x
+    on_way_hand a s p x hand =
+        let number = number_is a s p in
+        let from : x.from ≡ a = hand.0 ∙ number in
+        let n = count_at a s p in
+        let sends : count_sent machines x.from ≡ length (sent s.machine.events) = ap (count_sent machines) from ∙ n in
+        record {
+          from = let w = slice_get_within ss a s p in omega (arith, count);
+          to = let w = hand.2 in let l = outs_long a s p in omega (arith, count);
+          other = λ e. hand.3 (sym e ∙ hand.0);
+          number = let w = hand.1 in omega arith;
+        }
+
+    on_way_ear : (b : ℕ) (t : StationState) → slice_get ss b ≡ Some t → (x : Loss) → IsOfEar t x → IsOnWay machines x
+    on_way_ear b t q x ear =
+        let off = heard_off b t q x ear in
+        let is = there x.from off.sender off.sends in
+        let low = numbers_below off.sender.machine.config.number off.sender.machine.events is.machine.legal off.entry
+        off.was_sent in
+        let n = count_at x.from off.sender off.sends in
+        let k = off.number in
+        record {
+          from = let w = slice_get_within ss x.from off.sender off.sends in omega (arith, count);
+          to = let w = slice_get_within ss b t q in let e = off.to in omega (arith, count);
+          other = λ e. off.apart (e ∙ off.to);
+          number = omega arith;
+        }
+
+    -- what was kept off a link was lost by its sender
+    kept_off : (a b number : ℕ) (s : StationState) → slice_get ss a ≡ Some s → is_kept_off lost a number b ≡ true →
+        is_lost s.losses a number b ≡ true
+    kept_off a b number s p is =
+        let test : Loss → Bool = λ loss. is_of a number b loss && is_before_link loss.why in
+        let x = list_any_some test lost is in
+        let parts = and_parts (is_of a number b x.0) (is_before_link x.0.why) x.2 in
+        let of = is_of_parts x.0 a number b parts.0 in
+        let l = loser x.0 x.1 in
+        let at = number_is l.0 l.1 l.2 in
+        elim (whose l.0 l.1 l.2 x.0 l.3) [
+          | inl hand ↦ (let same : l.1 ≡ s = same_station l.0 a l.1 s l.2 p (sym at ∙ sym hand.0 ∙ of.0) in
+              list_any_of (is_of a number b) s.losses x.0
+              (subst (λ (u : StationState). Contains u.losses x.0) same l.3) parts.0)
+          | inr ear ↦ (let off = heard_off l.0 l.1 l.2 x.0 ear in
+              absurd (not_before l.1.machine off.entry x.0.why off.cause parts.1))
+        ]
+
+    -- so what was put on the link before counts as put
+    put_counts : (a b number : ℕ) (s : StationState) → slice_get ss a ≡ Some s → b < length ss → b ≢ a →
+        (d : OutView SealedEntry) →
+        length (numbered_below number (get_or s.outs b d).put) ≤ length (put_before machines lost a number b)
+    put_counts a b number s p lb apart d =
+        let is = there a s p in
+        let at = number_is a s p in
+        let below : SealedEntry → Bool = λ e. nat_lt e.entry.number number in
+        let kept : SealedEntry → Bool = λ e. not (is_lost s.losses a e.entry.number b) in
+        let test : SealedEntry → Bool = λ e. nat_lt e.entry.number number
+        && not (is_kept_off lost a e.entry.number b) in
+        let es : List SealedEntry = sent s.machine.events in
+        let puts : (get_or s.outs b d).put ≡ filter kept es =
+        is.puts b d (let l = outs_long a s p in omega arith) (λ e. apart (e ∙ at))
+        ∙ ap (λ n. arriving node_of_sealed s.losses n b es) at in
+        let both : numbered_below number (get_or s.outs b d).put ≡ filter (λ e. kept e && below e) es =
+        ap (filter below) puts ∙ filter_twice kept below es in
+        let fewer = fewer_pass (λ e. kept e && below e) test es (λ e c h.
+        let parts = and_parts (kept e) (below e) h in
+        and_from (below e) (not (is_kept_off lost a e.entry.number b)) parts.1
+        (elim (cases_Bool (is_kept_off lost a e.entry.number b)) [
+          | inl off ↦ absurd (true≢false (sym (kept_off a b e.entry.number s p off)
+              ∙ not-true (is_lost s.losses a e.entry.number b) parts.0))
+          | inr on ↦ not_from_false (is_kept_off lost a e.entry.number b) on
+        ])) in
+        let there_are : length (put_before machines lost a number b) ≡ length (filter test es) =
+        ap (λ l. length (filter test l)) (sent_at a s p) in
+        let here = ap length both in
+        omega arith
+
+    hand_cause : (a : ℕ) (s : StationState) → slice_get ss a ≡ Some s → (x : Loss) (why : LossWhy) → x.from ≡ a →
+        x.to < length ss → x.to ≢ a → IsOutCause s.loses s.link s.outs x why → IsCauseOf script machines lost x why
+    hand_cause a s p x Scripted from lb apart cause =
+        subst (λ n. is_scripted script.loses n x.number x.to ≡ true) (sym from)
+        (sym (named a s p x.number x.to) ∙ ap (λ n. is_scripted s.loses n x.number x.to) (sym from) ∙ cause)
+    hand_cause a s p x LinkFull from lb apart cause =
+        let out = element s.outs x.to (let l = outs_long a s p in omega arith) in
+        let many = cause.1 out.0 in
+        let link = (made a s p).link in
+        let fewer = put_counts a x.to x.number s p lb apart out.0 in (
+          subst (λ n. is_scripted script.loses n x.number x.to ≡ false) (sym from)
+              (sym (named a s p x.number x.to) ∙ ap (λ n. is_scripted s.loses n x.number x.to) (sym from) ∙ cause.0),
+          subst (λ n. script.link ≤ length (put_before machines lost n x.number x.to)) (sym from) (omega arith),
+        )
+    hand_cause a s p x ToStopped from lb apart cause = absurd cause
+    hand_cause a s p x LogFull from lb apart cause = absurd cause
+    hand_cause a s p x SameDigest from lb apart cause = absurd cause
+
+    ear_cause : (b : ℕ) (t : StationState) → slice_get ss b ≡ Some t → (x : Loss) (why : LossWhy) →
+        (off : HeardOff x b t) → IsInCause t.machine off.entry why → IsCauseOf script machines lost x why
+    ear_cause b t q x Scripted off cause = absurd cause
+    ear_cause b t q x LinkFull off cause = absurd cause
+    ear_cause b t q x ToStopped off cause =
+        (t.machine, ap (slice_get machines) off.to ∙ machine_at b t q, cause)
+    ear_cause b t q x LogFull off cause =
+        (t.machine, ap (slice_get machines) off.to ∙ machine_at b t q, cause ∙ log_is b t q)
+    ear_cause b t q x SameDigest off cause = (
+      t.machine,
+      ap (slice_get machines) off.to ∙ machine_at b t q,
+      (
+        off.entry,
+        subst (λ (l : List SealedEntry). Contains l off.entry) (sym (sent_at x.from off.sender off.sends))
+            off.was_sent,
+        off.number,
+        cause,
+      ),
+    )
+
+    only : (x : Loss) → Contains lost x → IsOnWay machines x
+    only x c =
+        let l = loser x c in
+        elim (whose l.0 l.1 l.2 x l.3) [
+          | inl hand ↦ on_way_hand l.0 l.1 l.2 x hand
+          | inr ear ↦ on_way_ear l.0 l.1 l.2 x ear
+        ]
+
+    caused : (x : Loss) → Contains lost x → IsCauseOf script machines lost x x.why
+    caused x c =
+        let l = loser x c in
+        let number = number_is l.0 l.1 l.2 in
+        elim (whose l.0 l.1 l.2 x l.3) [
+          | inl hand ↦ hand_cause l.0 l.1 l.2 x x.why (hand.0 ∙ number)
+              (let w = hand.2 in let o = outs_long l.0 l.1 l.2 in omega arith) (λ e. hand.3 (e ∙ sym number)) hand.4
+          | inr ear ↦ (let off = heard_off l.0 l.1 l.2 x ear in ear_cause l.0 l.1 l.2 x x.why off off.cause)
+        ]
+
+    scripted : AreLostAsScripted script machines lost
+    scripted from number to lf lt apart low named_there =
+        let s = element ss from (omega (arith, count)) in
+        let is = there from s.0 s.1 in
+        let at = number_is from s.0 s.1 in
+        let n = count_at from s.0 s.1 in
+        let c = is.scripted number to (omega arith) (let l = outs_long from s.0 s.1 in omega (arith, count))
+        (λ e. apart (sym (e ∙ at)))
+        (ap (λ m. is_scripted s.0.loses m number to) at ∙ named from s.0 s.1 number to ∙ named_there) in
+        lost_too from s.0 s.1 (record { from = from; number = number; to = to; why = Scripted })
+        (subst (λ m. Contains s.0.losses (record { from = m; number = number; to = to; why = Scripted })) at c)
+
+    -- all that threads leave
+    pub collected : (posts : List Post) → posts ≡ roster_of script →
+        AreGathered script posts machines waits lost (map (λ (s : StationState). by_of s.ticks) ss)
+    collected posts is = record {
+      roster = is;
+      machines = record {
+        count = count ∙ sym (length-map ss made_of) ∙ new.count;
+        each = λ place m stands.
+            let s = get-map_from (λ (s : StationState). s.machine) ss place m stands in
+            subst (IsMachineOf script place) s.2 (machine_of_script place s.0 s.1);
+      };
+      makers = λ place m e stands c.
+          let s = get-map_from (λ (s : StationState). s.machine) ss place m stands in
+          let low = (there place s.0 s.1).makers e (subst (λ (u : MachineState). Contains u.events (Got e)) (sym s.2) c) in
+          let l = outs_long place s.0 s.1 in omega (arith, count);
+      on_way = subst (λ n. AreOnWay n waits) (sym count) rests.on_way;
+      balanced = balanced;
+      once = once;
+      only = all_of (IsOnWay machines) lost only;
+      causes = all_of (λ (x : Loss). IsCauseOf script machines lost x x.why) lost caused;
+      scripted = scripted;
+      by = zip_maps (λ (m : MachineState) (row : List (Option ℕ)). row ≡ passes_of m.events)
+          (λ (s : StationState). s.machine) (λ (s : StationState). by_of s.ticks) ss
+          (λ s c. let p = place_of ss s c in
+          ap by_of (there p.0 s p.1).ticks ∙ by_ticks 0 s.machine.events);
+    }

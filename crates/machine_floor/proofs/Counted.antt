@@ -1,0 +1,26 @@
+-- How many actions a script has, counted machine by machine.
+use Rattle.std.proofs.Common.{◌≡◌, ℕ, ◌+◌, ◌<◌, ◌≤◌, List, [], ◌∷◌, length, take, drop, sym, ap, ◌∙◌, arith, get_or}
+use Rattle.std.proofs.Common.{length-append}
+use Rattle.std.specs.List.{flat_map}
+use Rattle.std.proofs.lemmas.Grind.{flat_map-append}
+use Rattle.std.proofs.lemmas.List.{append-nil, take_more, take-append-drop}
+
+module _ {X A : Type 0} (f : X → List A) (xs : List X) (i : ℕ) where
+  -- one machine more
+  pub counted_more : (x : X) → i < length xs → x ≡ get_or xs i x →
+      length (flat_map f (take (i + 1) xs)) ≡ length (flat_map f (take i xs)) + length (f x)
+  counted_more x lt is =
+      let all = ap (λ l. length (flat_map f l)) (take_more xs i x lt)
+      ∙ ap length (flat_map-append f (take i xs) (get_or xs i x ∷ [])) in
+      let both = length-append (flat_map f (take i xs)) (flat_map f (get_or xs i x ∷ [])) in
+      let one : length (flat_map f (get_or xs i x ∷ [])) ≡ length (f x) =
+      ap length (append-nil (f (get_or xs i x))) ∙ ap (λ y. length (f y)) (sym is) in
+      omega arith
+
+  -- the first machines have no more than all
+  pub counted_few : length (flat_map f (take i xs)) ≤ length (flat_map f xs)
+  counted_few =
+      let all = ap (λ l. length (flat_map f l)) (sym (take-append-drop i xs))
+      ∙ ap length (flat_map-append f (take i xs) (drop i xs)) in
+      let both = length-append (flat_map f (take i xs)) (flat_map f (drop i xs)) in
+      omega arith

@@ -1,0 +1,16 @@
+-- What is left of a list once as many were passed.
+use Rattle.std.proofs.Common.{◌≡◌, ℕ, zero, suc, ◌≤◌, List, [], ◌∷◌, length, drop, get_or, arith}
+
+-- what stands first in the rest of a list
+pub drop_step : {X : Type 0} (xs : List X) (n : ℕ) (y : X) (ys : List X) → drop n xs ≡ y ∷ ys →
+    ((d : X) → get_or xs n d ≡ y) × (drop (suc n) xs ≡ ys)
+drop_step [] zero y ys e = cc
+drop_step [] (suc n) y ys e = cc
+drop_step (x ∷ xs) zero y ys e = (λ d. cc, cc)
+drop_step (x ∷ xs) (suc n) y ys e = drop_step xs n y ys e
+
+-- where nothing is left of a list, as many as it has were passed
+pub drop_none : {X : Type 0} (xs : List X) (n : ℕ) → drop n xs ≡ [] → length xs ≤ n
+drop_none [] n e = omega arith
+drop_none (x ∷ xs) zero e = cc
+drop_none (x ∷ xs) (suc n) e = let rest = drop_none xs n e in omega (arith, rest)

@@ -1,0 +1,26 @@
+-- The stations of a script after they were worked.
+use Rattle.std.proofs.Common.{◌≡◌, ℕ, ◌<◌, List, length, map, sym, ap, ◌∙◌, subst, arith, get_or}
+use Rattle.std.proofs.lemmas.List.{length-map}
+use Rattle.std.proofs.lemmas.Option.{get_or_from_slice_get, slice_get-get_or, slice_get_within}
+use Rattle.broadcast_queues.specs.Ends.{LinkView}
+use Rattle.election_script.specs.declared.script.Script.{Script}
+use Rattle.polling_world.proofs.Placing.{get-map_from}
+use Rattle.machine_floor.specs.Fresh.{IsNewStation, AreNewStations}
+use Rattle.machine_floor.specs.Stations.{StationState, made_of}
+
+-- they are still made as the script's new ones
+pub still_made : (script : Script) (links : List (List LinkView)) (before after : List StationState) →
+    AreNewStations script links before → length after ≡ length before →
+    ((i : ℕ) (d : StationState) → i < length before → made_of (get_or after i d) ≡ made_of (get_or before i d)) →
+    AreNewStations script links (map made_of after)
+still_made script links before after new count same = record {
+  count = length-map after made_of ∙ count ∙ new.count;
+  rows = new.rows ∙ sym count ∙ sym (length-map after made_of);
+  each = λ at s stands.
+      let u = get-map_from made_of after at s stands in
+      let inside : at < length before = (let w = slice_get_within after at u.0 u.1 in omega arith) in
+      let one = new.each at (get_or before at u.0) (slice_get-get_or before at u.0 inside) in
+      let is : get_or before at u.0 ≡ s =
+      sym one.fresh ∙ sym (same at u.0 inside) ∙ ap made_of (get_or_from_slice_get after at u.0 u.0 u.1) ∙ u.2 in
+      subst (IsNewStation script links at) is one;
+}

@@ -1,0 +1,10 @@
+use Rattle.std.specs.Vec.Iter.{into_iter_items}
+use Rattle.floor_links.proofs.Makings.{lists_of}
+use Rattle.machine_floor.proofs.Rests.{IsRowing}
+use Rattle.machine_floor.proofs.finishing.finish_row.Given as goal
+
+-- the links to the machines below `to` are finished
+abbrev pub invariant-loop-to : goal.invariant-loop-to
+invariant-loop-to g l =
+    IsRowing l.from l.to l.fn.row.items l.fn.outs.items (lists_of l.fn.inns.items) l.fn.waits.items
+    (into_iter_items l.row) (into_iter_items l.outs) (lists_of l.inns.items) l.waits.items
