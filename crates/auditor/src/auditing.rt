@@ -8,7 +8,9 @@ ghost use Rattle.evidence.specs.Reading.{IsReadFrom, store_seen};
 ghost use Rattle.evidence.specs.Refusal.{IsAbsent, refusal_of};
 ghost use Rattle.auditor.specs.Rows.{HaveMakers};
 ghost use Rattle.auditor.specs.Report.{report_of};
+ghost use Rattle.rule_language.specs.Standard.{standard_rules};
 ghost use Rattle.auditor.specs.Sources.{source_of, source_word, max_rules, GivesRules, rule_files};
+ghost use Rattle.auditor.specs.Sources.{standard as standard_source};
 ghost use Rattle.auditor.specs.Audits.{OnFiles, WithGraph, WithLogs, WithRules, WithRoster, GivesReportIn};
 
 use crate::judging::{Unjudged, judge_all};
@@ -162,6 +164,34 @@ fn with_logs(
     match graph_of(alloc, logs.as_slice()) {
         Ok(graph) => with_graph(alloc, roster, from, rules, files, logs, graph),
         Err(fault) => Err(fault),
+    }
+}
+
+/// The report by the standard rules on these logs, which have these names and were read under the
+/// roster.
+///
+/// # Errors
+///
+/// `Refused` of the file `entries` with what the graph is refused for, or of `standard` with
+/// `TooWide` and the place of the rule from 0; or `Memory`.
+pub fn audit_logs(
+    alloc: Global,
+    roster: Roster,
+    names: &[String],
+    logs: Vec<LogRead>,
+) -> Result<Report, AuditFault>
+    requires one_each { length names.now ≡ length logs.items }
+    requires makers { HaveMakers roster.machines (entries_of logs.items) }
+    ensures ok { IfOk result (λ report. WithLogs roster.machines standard_source standard_rules
+        (map string_bytes names.now) logs.items (Ok (report_of report))) }
+    ensures err { IfErr result (λ fault. IfSome (refusal_of fault) (λ refusal.
+        WithLogs roster.machines standard_source standard_rules (map string_bytes names.now) logs.items
+        (Err refusal))) }
+    ensures only { IfErr result (λ fault. (fault ≢ AuditFault.ReadFault) × (¬ IsAbsent fault)) }
+{
+    match standard(alloc) {
+        Ok(rules) => with_logs(alloc, roster, RulesFrom::Standard, rules, names, logs),
+        Err(_) => Err(AuditFault::Memory),
     }
 }
 

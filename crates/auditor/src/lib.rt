@@ -10,7 +10,7 @@ mod outcome;
 mod report;
 mod row;
 
-pub use auditing::{RulesFrom, audit};
+pub use auditing::{RulesFrom, audit, audit_logs};
 pub use evidence::AuditFault;
 pub use laws::files_give_one_report;
 pub use outcome::Outcome;

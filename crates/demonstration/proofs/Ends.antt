@@ -1,0 +1,118 @@
+-- The last event that ends a session.
+use Rattle.std.proofs.Common.{◌≡◌, ◌∙◌, ℕ, ◌+◌, ◌<◌, true, false, List, [], ◌∷◌, ◌++◌, length, drop, take, refl, sym, ap, subst, arith}
+use Rattle.std.proofs.Common.{length-append, get_or, Some, None, Option, MatchOption, ◌⊎◌, inl, inr, Bool}
+use Rattle.std.specs.Prelude.{All, slice_get}
+use Rattle.std.proofs.lemmas.List.{take_more, length-take-le}
+use Rattle.std.proofs.lemmas.List.Elements.{All-nil, All-cons, All-append}
+use Rattle.std.proofs.lemmas.Option.{slice_get_within, slice_get-get_or, get_or_from_slice_get}
+use Rattle.std.proofs.lemmas.Bool.{cases_lt}
+use Rattle.std.proofs.Math.Seq.{get_or-append_seam}
+use Rattle.std.proofs.lemmas.List.{get_or_append_left}
+use Rattle.entry_order.specs.declared.event.Event.{Event}
+use Rattle.entry_format.specs.SealedEntry.{SealedEntry}
+use Rattle.demonstration.specs.Kept.{HasNoEnd, IsLastEnd, ends_session}
+
+-- what stands in front of one more event is what stood there, and behind it that event
+in_front : (events : List (Event SealedEntry)) (more : Event SealedEntry) (k : ℕ) (e : Event SealedEntry) →
+    k < length events → slice_get (events ++ more ∷ []) k ≡ Some e → slice_get events k ≡ Some e
+in_front events more k e within at =
+    slice_get-get_or events k e within
+    ∙ ap Some (sym (get_or_append_left events (more ∷ []) e k within)
+    ∙ get_or_from_slice_get (events ++ more ∷ []) k e e at)
+
+still_there : (events : List (Event SealedEntry)) (more : Event SealedEntry) (k : ℕ) (e : Event SealedEntry) →
+    slice_get events k ≡ Some e → slice_get (events ++ more ∷ []) k ≡ Some e
+still_there events more k e at =
+    let within = slice_get_within events k e at in
+    slice_get-get_or (events ++ more ∷ []) k e (omega (arith, within, length-append events (more ∷ [])))
+    ∙ ap Some (get_or_append_left events (more ∷ []) e k within ∙ get_or_from_slice_get events k e e at)
+
+at_seam : (events : List (Event SealedEntry)) (more : Event SealedEntry) →
+    slice_get (events ++ more ∷ []) (length events) ≡ Some more
+at_seam events more =
+    slice_get-get_or (events ++ more ∷ []) (length events) more (omega (arith, length-append events (more ∷ [])))
+    ∙ ap Some (get_or-append_seam events more [] more)
+
+module _ (session : ℕ) (events : List (Event SealedEntry)) (more : Event SealedEntry) where
+  -- one more event that doesn't end the session leaves none
+  pub none_more : HasNoEnd session events → ends_session session more ≡ false → HasNoEnd session (events ++ more ∷ [])
+  none_more none differs =
+      All-append (λ e. ends_session session e ≡ false) events (more ∷ []) none
+      (All-cons (λ e. ends_session session e ≡ false) more [] differs (All-nil (λ e. ends_session session e ≡ false)))
+
+  -- one that ends it is the last
+  pub last_is_here : ends_session session more ≡ true → IsLastEnd session (events ++ more ∷ []) (length events)
+  last_is_here is_end = record {
+    event = more;
+    stands = at_seam events more;
+    ends = is_end;
+    last = λ later other behind at. absurd (omega (
+      arith,
+      behind,
+      slice_get_within (events ++ more ∷ []) later other at,
+      length-append events (more ∷ []),
+    ));
+  }
+
+  -- one that doesn't end it leaves the last where it is
+  pub last_stays : (place : ℕ) → IsLastEnd session events place → ends_session session more ≡ false →
+      IsLastEnd session (events ++ more ∷ []) place
+  last_stays place is differs = record {
+    event = is.event;
+    stands = still_there events more place is.event is.stands;
+    ends = is.ends;
+    last = later_no;
+  }
+    where
+      either : (later : ℕ) (other : Event SealedEntry) → slice_get (events ++ more ∷ []) later ≡ Some other →
+          (later < length events) ⊎ (later ≡ length events)
+      either later other at =
+          let within = slice_get_within (events ++ more ∷ []) later other at in
+          elim (cases_lt later (length events)) [
+            | inl less ↦ inl less
+            | inr more_than ↦ inr (omega (arith, within, more_than, length-append events (more ∷ [])))
+          ]
+
+      here : (later : ℕ) (other : Event SealedEntry) → later ≡ length events →
+          slice_get (events ++ more ∷ []) later ≡ Some other → more ≡ other
+      here later other same at =
+          let found : Some more ≡ Some other =
+          sym (at_seam events more) ∙ ap (slice_get (events ++ more ∷ [])) (sym same) ∙ at in cc
+
+      later_no : (later : ℕ) (other : Event SealedEntry) → place < later →
+          slice_get (events ++ more ∷ []) later ≡ Some other → ends_session session other ≡ false
+      later_no later other behind at = elim (either later other at) [
+        | inl inside ↦ is.last later other behind (in_front events more later other inside at)
+        | inr same ↦ subst (λ (e : Event SealedEntry). ends_session session e ≡ false) (here later other same at) differs
+      ]
+
+-- the last of these that ends the session stands there, or none does
+abbrev pub IsLastOf : ℕ → List (Event SealedEntry) → Option ℕ → Type 0
+IsLastOf session events last = MatchOption last (HasNoEnd session events) (IsLastEnd session events)
+
+-- the same with one event more that doesn't end it
+stays : (session : ℕ) (events : List (Event SealedEntry)) (more : Event SealedEntry) (last : Option ℕ) →
+    IsLastOf session events last → ends_session session more ≡ false → IsLastOf session (events ++ more ∷ []) last
+stays session events more None is differs = none_more session events more is differs
+stays session events more (Some place) is differs =
+    last_stays session events more place is differs
+
+module _ (session : ℕ) (events : List (Event SealedEntry)) (place : ℕ) (more : Event SealedEntry) (last : Option ℕ)
+    (within : place < length events) (at : slice_get events place ≡ Some more) where
+  one_more : take (place + 1) events ≡ take place events ++ more ∷ []
+  one_more =
+      take_more events place more within
+      ∙ ap (λ (e : Event SealedEntry). take place events ++ e ∷ []) (get_or_from_slice_get events place more more at)
+
+  -- so it is of the events up to a place, once that place's is looked at
+  pub kept_last : IsLastOf session (take place events) last → ends_session session more ≡ false →
+      IsLastOf session (take (place + 1) events) last
+  kept_last is differs =
+      subst (λ (es : List (Event SealedEntry)). IsLastOf session es last) (sym one_more)
+      (stays session (take place events) more last is differs)
+
+  pub new_last : ends_session session more ≡ true → IsLastOf session (take (place + 1) events) (Some place)
+  new_last is_end =
+      subst (λ (es : List (Event SealedEntry)). IsLastEnd session es place) (sym one_more)
+      (subst (λ (p : ℕ). IsLastEnd session (take place events ++ more ∷ []) p)
+      (length-take-le place events (omega (arith, within))) (last_is_here session (take place events) more is_end))

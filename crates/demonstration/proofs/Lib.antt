@@ -1,0 +1,4 @@
+mod Ends
+mod Records
+mod Plays
+mod Reports

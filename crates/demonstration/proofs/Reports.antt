@@ -1,0 +1,49 @@
+-- What an audit gives of a roster and one log.
+use Rattle.std.proofs.Common.{◌≡◌, ℕ, ◌≤◌, inl, inr, List, [], ◌∷◌, length, refl, Some}
+use Rattle.std.specs.Prelude.{Result, Ok, Err, codes}
+use Rattle.sha2.specs.Sha256.{sha256}
+use Rattle.canonical_sexp.specs.Text.{text_of}
+use Rattle.roster.specs.declared.post.Post.{Post}
+use Rattle.roster.specs.Machines.{HaveText}
+use Rattle.roster.specs.RosterText.{roster_tree}
+use Rattle.roster.proofs.Fits.{roster_fits}
+use Rattle.rule_language.specs.Standard.{standard_rules}
+use Rattle.log_files.specs.declared.sealed_log.LogRead.{LogRead}
+use Rattle.log_files.specs.LogFile.{IsSealedLogOf}
+use Rattle.evidence.specs.declared.roster_file.RosterRead.{RosterRead}
+use Rattle.evidence.specs.Logs.{IsLogRefusal}
+use Rattle.evidence.specs.Refusal.{Refusal}
+use Rattle.evidence.specs.RosterFile.{GivesRoster, max_roster}
+use Rattle.auditor.specs.Audits.{WithLogs}
+use Rattle.auditor.specs.Report.{AuditReport}
+use Rattle.auditor.specs.Sources.{standard}
+use Rattle.demonstration.specs.Shown.{GivesAudit, log_name}
+
+module _ (posts : List Post) (have : HaveText posts) (short : length (text_of (roster_tree posts)) ≤ max_roster)
+    (bytes : List ℕ) where
+  abbrev text : List ℕ
+  text = text_of (roster_tree posts)
+
+  abbrev read : RosterRead
+  read = record { roster = record { machines = posts }; election = sha256 text }
+
+  -- the roster's file gives the roster
+  given : GivesRoster (codes "roster") (Some text) (Ok read)
+  given = inr (
+    short,
+    (
+      Ok (record { machines = posts }),
+      (record { keys = have.keys; within = roster_fits posts have; spelt = refl }, have.roster),
+      refl,
+    ),
+  )
+
+  -- what the log is read as gives what the audit gives
+  pub of_log : (log : LogRead) (answer : Result AuditReport Refusal) →
+      IsSealedLogOf posts (sha256 text) log (Some bytes) →
+      WithLogs posts standard standard_rules (log_name ∷ []) (log ∷ []) answer → GivesAudit posts bytes answer
+  of_log log answer is gives = inl (read, given, inl (log ∷ [], (is, tt), gives))
+
+  -- a log that is refused refuses the audit
+  pub of_refusal : (refusal : Refusal) → IsLogRefusal log_name (Some bytes) refusal → GivesAudit posts bytes (Err refusal)
+  of_refusal refusal is = inl (read, given, inr (refusal, inl is, refl))

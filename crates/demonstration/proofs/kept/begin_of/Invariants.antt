@@ -1,0 +1,10 @@
+use Rattle.std.proofs.Common.{◌≡◌, ◌+◌, ◌≤◌, length, drop}
+use Rattle.std.specs.List.{flat_map}
+use Rattle.log_files.specs.Written.{record_text}
+use Rattle.demonstration.proofs.kept.begin_of.Given as goal
+
+-- the records from here on aren't counted yet
+abbrev pub invariant-loop-event : goal.invariant-loop-event
+invariant-loop-event l =
+    l.begin + length (flat_map record_text l.events)
+    ≡ l.fn.bytes + length (flat_map record_text (drop l.event-index l.events))

@@ -1,0 +1,37 @@
+use Rattle.std.proofs.Common.{◌∙◌, ◌+◌, List, length, ap, subst, inl, inr, arith}
+use Rattle.entry_format.specs.SealedEntry.{SealedEntry}
+use Rattle.entry_order.specs.declared.event.Event.{Event}
+use Rattle.demonstration.specs.Kept.{HasNoEnd, IsLastEnd}
+use Rattle.demonstration.proofs.Records.{behind_within, cut_is}
+use Rattle.demonstration.proofs.kept.kept_text.Goals as goal
+
+pub begin_of-end-requires : goal.begin_of-end-requires
+begin_of-end-requires c =
+    let log = c.args.log.now in
+    omega (
+      arith,
+      behind_within log.owner c.events-events.result.now log.events (c.in-Some.place + 1) c.as_slice.result.now
+          c.events-events.ensures.events (c.as_slice.ensures.value ∙ c.in_ok-text.ensures.text),
+    )
+
+pub returns-in-Some : goal.returns-in-Some
+returns-in-Some c =
+    let log = c.args.log.now in
+    let place = c.in-Some.place in
+    inl (
+      place,
+      subst (λ (es : List (Event SealedEntry)). IsLastEnd c.args.session es place) c.events-events.ensures.events
+          c.in-Some.ensures,
+      c.truncate.ensures.items
+          ∙ cut_is log.owner c.events-events.result.now log.events (place + 1) c.in_ok-text.text.items
+          c.events-events.ensures.events c.in_ok-text.ensures.text c.begin_of-end.result
+          (omega (arith, c.begin_of-end.ensures, ap length c.as_slice.ensures.value)),
+    )
+
+pub returns-in-None : goal.returns-in-None
+returns-in-None c =
+    inr (
+      subst (λ (es : List (Event SealedEntry)). HasNoEnd c.args.session es) c.events-events.ensures.events
+          c.in-None.ensures,
+      c.in_ok-text.ensures.text,
+    )

@@ -1,0 +1,13 @@
+//! The demonstration: a script is played in memory, the log of its first machine is kept alone and
+//! cut behind the end of a session, and what the standard rules say of the rest is counted.
+#![tactic(auto)]
+
+mod kept;
+mod lines;
+mod shown;
+
+pub use lines::write_demonstration;
+pub use shown::{Demonstration, demonstrate};
+
+#[cfg(test)]
+mod tests;
