@@ -16,3 +16,4 @@ pub mod AuditAnswers
 pub mod HonestWords
 pub mod HonestOrders
 pub mod HonestAudits
+pub mod Completeness

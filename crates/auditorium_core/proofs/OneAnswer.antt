@@ -1,6 +1,8 @@
 -- Words and files have at most one answer.
 use Rattle.std.proofs.Common.{◌≡◌, ◌∙◌, ℕ, ◌<◌, ◌≤◌, ◌⊎◌, inl, inr, List, ◌++◌, [], ◌∷◌, Option, Some, None, length, get_or, ap, sym, subst, arith}
 use Rattle.std.specs.Prelude.{codes, Result, Ok, Err}
+use Rattle.std.specs.Fmt.{decimal}
+use Rattle.std.proofs.lemmas.Fmt.{decimal_injective}
 use Rattle.entry_order.specs.Survivors.{gaps as gaps_of}
 use Rattle.entry_format.specs.Nodes.{node_of}
 use Rattle.entry_format.specs.declared.plain.Plain.{Plain}
@@ -23,7 +25,7 @@ use Rattle.auditor.specs.Same.{SameReport}
 use Rattle.auditor.specs.Sources.{RuleSource}
 use Rattle.auditor.specs.Audits.{GivesReport}
 use Rattle.auditorium_core.specs.Audit.{status_by, report_answer, IsAuditOver}
-use Rattle.auditorium_core.specs.Words.{Command, gaps, play, order, audit, source_named, words_of, files_of, Means}
+use Rattle.auditorium_core.specs.Words.{Command, gaps, play, order, audit, generate, source_named, words_of, files_of, Means}
 use Rattle.auditorium_core.specs.Lines.{Answer, absent_answer, refused_answer, refusal_answer}
 use Rattle.auditorium_core.specs.Gaps.{log_lines, findings_answer, IsRefusal, IsGapsAnswer}
 use Rattle.auditorium_core.specs.Answer.{IsAnswer, IsAnswerTo, Answers}
@@ -53,7 +55,7 @@ same_lines name log other kept refused end =
     (gaps_of node_of k)) kept
 
 -- what an answer of `gaps` is, where there is a file
-abbrev Cases : List ℕ → List ℕ → Answer → Type 0
+abbrev pub Cases : List ℕ → List ℕ → Answer → Type 0
 Cases name bytes answer =
     ((max_bytes < length bytes) × (answer ≡ refused_answer name 0 (codes "TooLong")))
     ⊎ (((length bytes ≤ max_bytes) × (HasHeader bytes → ⊥) × (answer ≡ refused_answer name 0 (codes "Header")))
@@ -68,7 +70,7 @@ refusal_cases name bytes answer Header is e = inr (inl (is.0, is.1, e))
 refusal_cases name bytes answer ReadFault is e = absurd e
 refusal_cases name bytes answer Memory is e = absurd e
 
-cases : (name bytes : List ℕ) (answer : Answer) → IsGapsAnswer name (Some bytes) answer → Cases name bytes answer
+pub cases : (name bytes : List ℕ) (answer : Answer) → IsGapsAnswer name (Some bytes) answer → Cases name bytes answer
 cases name bytes answer (inl (log, is, e)) = inr (inr (log, is.0, is.1, e))
 cases name bytes answer (inr (fault, is, e)) = refusal_cases name bytes answer fault is e
 
@@ -106,8 +108,12 @@ same_gaps : SayOne → (name : List ℕ) (file : Option (List ℕ)) (a b : Answe
 same_gaps one name None a b x y = no_file name a x ∙ sym (no_file name b y)
 same_gaps one name (Some bytes) a b x y = same_case one name bytes a b (cases name bytes a x) (cases name bytes b y)
 
+-- the first byte of the first word
+abbrev first_byte : List (List ℕ) → ℕ
+first_byte words = get_or (get_or words 0 []) 0 0
+
 -- words mean one command
-same_command : (words : List (List ℕ)) (a b : Command) → Means words a → Means words b → a ≡ b
+pub same_command : (words : List (List ℕ)) (a b : Command) → Means words a → Means words b → a ≡ b
 same_command words (gaps x) (gaps y) m n =
     let e : words_of (gaps x) ≡ words_of (gaps y) = sym m.spelt ∙ n.spelt in
     let f : x ≡ y = cc in
@@ -150,15 +156,51 @@ same_command words (play script prefix) (audit r u logs) m n =
     cc
 same_command words (audit r u logs) (order s w z others) m n =
     let e : words_of (audit r u logs) ≡ words_of (order s w z others) = sym m.spelt ∙ n.spelt in
-    let first : 97 ≡ 111 = ap (λ (ws : List (List ℕ)). get_or (get_or ws 0 []) 0 0) e in
+    let first : 97 ≡ 111 = ap first_byte e in
     absurd (omega (arith, first))
 same_command words (order s w z others) (audit r u logs) m n =
     let e : words_of (order s w z others) ≡ words_of (audit r u logs) = sym m.spelt ∙ n.spelt in
-    let first : 111 ≡ 97 = ap (λ (ws : List (List ℕ)). get_or (get_or ws 0 []) 0 0) e in
+    let first : 111 ≡ 97 = ap first_byte e in
     absurd (omega (arith, first))
 same_command words (audit r u logs) (audit s w others) m n =
     let e : words_of (audit r u logs) ≡ words_of (audit s w others) = sym m.spelt ∙ n.spelt in
     cc
+same_command words (generate n) (gaps x) m k =
+    let e : words_of (generate n) ≡ words_of (gaps x) = sym m.spelt ∙ k.spelt in
+    let first : 109 ≡ 103 = ap first_byte e in
+    absurd (omega (arith, first))
+same_command words (gaps x) (generate n) m k =
+    let e : words_of (gaps x) ≡ words_of (generate n) = sym m.spelt ∙ k.spelt in
+    let first : 103 ≡ 109 = ap first_byte e in
+    absurd (omega (arith, first))
+same_command words (generate n) (play script prefix) m k =
+    let e : words_of (generate n) ≡ words_of (play script prefix) = sym m.spelt ∙ k.spelt in
+    let first : 109 ≡ 112 = ap first_byte e in
+    absurd (omega (arith, first))
+same_command words (play script prefix) (generate n) m k =
+    let e : words_of (play script prefix) ≡ words_of (generate n) = sym m.spelt ∙ k.spelt in
+    let first : 112 ≡ 109 = ap first_byte e in
+    absurd (omega (arith, first))
+same_command words (generate n) (order r u v logs) m k =
+    let e : words_of (generate n) ≡ words_of (order r u v logs) = sym m.spelt ∙ k.spelt in
+    let first : 109 ≡ 111 = ap first_byte e in
+    absurd (omega (arith, first))
+same_command words (order r u v logs) (generate n) m k =
+    let e : words_of (order r u v logs) ≡ words_of (generate n) = sym m.spelt ∙ k.spelt in
+    let first : 111 ≡ 109 = ap first_byte e in
+    absurd (omega (arith, first))
+same_command words (generate n) (audit r u logs) m k =
+    let e : words_of (generate n) ≡ words_of (audit r u logs) = sym m.spelt ∙ k.spelt in
+    let first : 109 ≡ 97 = ap first_byte e in
+    absurd (omega (arith, first))
+same_command words (audit r u logs) (generate n) m k =
+    let e : words_of (audit r u logs) ≡ words_of (generate n) = sym m.spelt ∙ k.spelt in
+    let first : 97 ≡ 109 = ap first_byte e in
+    absurd (omega (arith, first))
+same_command words (generate n) (generate l) m k =
+    let e : words_of (generate n) ≡ words_of (generate l) = sym m.spelt ∙ k.spelt in
+    let word : decimal n ≡ decimal l = cc in
+    ap generate (decimal_injective n l (omega (arith, m.parts.at_most)) (omega (arith, k.parts.at_most)) word)
 
 -- files give at most one report
 abbrev pub ReportOne : Type 0
@@ -196,6 +238,8 @@ same_answer one way orders reports (play script prefix) (file ∷ next ∷ files
 same_answer one way orders reports (order roster u v logs) [] a b x y = absurd x
 same_answer one way orders reports (order roster u v logs) (file ∷ files) a b x y = same_order orders roster u v logs file files a b x y
 same_answer one way orders reports (audit roster rules logs) files a b x y = same_audit reports roster rules logs files a b x.right y.right
+same_answer one way orders reports (generate sessions) [] a b x y = x ∙ sym y
+same_answer one way orders reports (generate sessions) (file ∷ files) a b x y = absurd x
 
 same_answer_to : SayOne → PlayOne → OrderOne → ReportOne → (command : Command) (told : Files) (a b : Answer)
     → IsAnswerTo command (Some told) a → IsAnswerTo command (Some told) b → a ≡ b

@@ -13,7 +13,7 @@ use Rattle.auditor.specs.declared.outcome.Outcome.{Outcome}
 use Rattle.auditor.specs.declared.outcome.Outcome.TheVariants as outcome
 use Rattle.auditor.specs.Outcomes.{outcome_of}
 use Rattle.auditorium_core.specs.Audit.{status_by, IsAuditOver}
-use Rattle.auditorium_core.specs.Words.{Command, gaps, play, order, audit, Means}
+use Rattle.auditorium_core.specs.Words.{Command, gaps, play, order, audit, generate, Means}
 use Rattle.auditorium_core.specs.Lines.{Answer, usage_answer, absent_answer, refusal_answer}
 use Rattle.auditorium_core.specs.Gaps.{status_of, IsRefusal, IsGapsAnswer}
 use Rattle.auditorium_core.specs.Play.{status_of_undone, IsPlayAnswer, IsOfPlay}
@@ -264,6 +264,21 @@ audit_words words roster rules logs answer means is = record {
     some status.Absent h = tt
     some how h = absurd h
 
+-- what the status of a script that was made says of the words
+made_words : (words : List (List ℕ)) (sessions : ℕ) (answer : Answer) → Means words (generate sessions) →
+    answer.status ≡ status.Done → HasItsWords words answer
+made_words words sessions answer means is = record {
+  some = subst IsOfAnswers (sym is) tt;
+  usage = (λ same. absurd (done_is_not status.Usage same (λ e. cc)), λ bad. absurd (bad (generate sessions, means)));
+  findings = λ same. absurd (done_is_not status.Findings same (λ e. cc));
+  unsettled = λ same. absurd (done_is_not status.Unsettled same (λ e. cc));
+  broken = λ same. absurd (done_is_not status.Broken same (λ e. cc));
+  undone = λ same. absurd (done_is_not status.Undone same (λ e. cc));
+}
+  where
+    done_is_not : (how : Status) → answer.status ≡ how → (status.Done ≡ how → ⊥) → ⊥
+    done_is_not how same differ = differ (sym is ∙ same)
+
 command_words : (words : List (List ℕ)) (command : Command) (files : List (Option (List ℕ))) (answer : Answer) →
     Means words command → IsAnswer command files answer → HasItsWords words answer
 command_words words (gaps log) [] answer means is = absurd is
@@ -279,6 +294,9 @@ command_words words (order roster x y logs) (file ∷ files) answer means is =
     order_words words roster x y logs answer means (of_order roster x y logs file files answer is)
 command_words words (audit roster rules logs) files answer means is =
     audit_words words roster rules logs answer means (of_audit roster rules logs files answer is.right)
+command_words words (generate sessions) [] answer means is =
+    made_words words sessions answer means (ap (λ (a : Answer). a.status) is)
+command_words words (generate sessions) (file ∷ files) answer means is = absurd is
 
 -- the same of the words of any command, and of words that aren't good
 pub status_words : (words : List (List ℕ)) (told : Option Files) (answer : Answer) → Answers words told answer →

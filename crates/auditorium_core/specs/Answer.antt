@@ -5,9 +5,10 @@ use Rattle.hall_outside.specs.Files.{Files}
 use Rattle.evidence.specs.NamedFiles.{AreFiles}
 use Rattle.auditorium_core.specs.declared.status.Status.{Status}
 use Rattle.auditorium_core.specs.declared.status.Status.TheVariants as status
-use Rattle.auditorium_core.specs.Words.{Command, gaps, play, order, audit, files_of, Means, AreGood}
+use Rattle.auditorium_core.specs.Words.{Command, gaps, play, order, audit, generate, files_of, Means, AreGood}
 use Rattle.auditorium_core.specs.Lines.{Answer, usage_answer}
 use Rattle.auditorium_core.specs.Gaps.{IsGapsAnswer}
+use Rattle.auditorium_core.specs.Made.{made_answer}
 use Rattle.auditorium_core.specs.Play.{IsPlayAnswer}
 use Rattle.auditorium_core.specs.Order.{IsOrderAnswer}
 use Rattle.auditorium_core.specs.HonestAudit.{IsAuditAnswer}
@@ -18,6 +19,7 @@ IsAnswer (gaps log) (file ∷ []) answer = IsGapsAnswer log file answer
 IsAnswer (play script prefix) (file ∷ []) answer = IsPlayAnswer script prefix file answer
 IsAnswer (order roster x y logs) (file ∷ files) answer = IsOrderAnswer roster x y logs file files answer
 IsAnswer (audit roster rules logs) files answer = IsAuditAnswer roster rules logs files answer
+IsAnswer (generate sessions) [] answer = answer ≡ made_answer sessions
 IsAnswer command others answer = ⊥
 
 -- what a command gives, over these files or, where none are told, over some

@@ -3,6 +3,7 @@ pub mod EntryWords
 pub mod Words
 pub mod Lines
 pub mod Gaps
+pub mod Made
 pub mod Play
 pub mod Honest
 pub mod Order
@@ -10,5 +11,6 @@ pub mod Audit
 pub mod HonestAudit
 pub mod Answer
 pub mod Outcome
+pub mod Complete
 pub mod Meaning
 pub mod inside

@@ -1,6 +1,7 @@
 -- Which words of the command line are good, and what each command's words are.
 use Rattle.std.specs.Prelude.{◌≡◌, ◌≢◌, ℕ, ◌<◌, ◌≤◌, List, [], ◌∷◌, length, slice_get, Some, All, codes, if◌then◌else◌, ⊤}
 use Rattle.std.specs.Str.{bytes_eq}
+use Rattle.std.specs.Fmt.{decimal}
 use Rattle.auditor.specs.Sources.{RuleSource, standard, in_file}
 use Rattle.auditor.specs.Audits.{audit_files}
 use Rattle.auditorium_core.specs.EntryWords.{IsEntryWord}
@@ -15,6 +16,8 @@ pub data Command : Type 0 where
   order : (roster x y : List ℕ) (logs : List (List ℕ)) → Command
   -- the report by a roster, rules and logs; the word `standard` names rules that no file has
   audit : (roster rules : List ℕ) (logs : List (List ℕ)) → Command
+  -- the script of a day of so many sessions
+  generate : (sessions : ℕ) → Command
 
 -- the rules that a word names: the standard ones, or those in a file
 abbrev pub source_named : List ℕ → RuleSource
@@ -26,6 +29,7 @@ words_of (gaps log) = codes "gaps" ∷ log ∷ []
 words_of (play script prefix) = codes "play" ∷ script ∷ prefix ∷ []
 words_of (order roster x y logs) = codes "order" ∷ roster ∷ x ∷ y ∷ logs
 words_of (audit roster rules logs) = codes "audit" ∷ roster ∷ rules ∷ logs
+words_of (generate sessions) = codes "make" ∷ decimal sessions ∷ []
 
 -- the files that a command reads, in order
 abbrev pub files_of : Command → List (List ℕ)
@@ -33,6 +37,7 @@ files_of (gaps log) = log ∷ []
 files_of (play script prefix) = script ∷ []
 files_of (order roster x y logs) = roster ∷ logs
 files_of (audit roster rules logs) = audit_files roster (source_named rules) logs
+files_of (generate sessions) = []
 
 -- the form of a word: 1 to 1,024 bytes, each from `!` to `~`, of which the first isn't `-`
 pub record IsWord (word : List ℕ) : Type 0 where
@@ -53,10 +58,16 @@ pub record AreLogs (logs : List (List ℕ)) : Type 0 where
   pub some : 0 < length logs
   pub at_most : length logs ≤ 16
 
+-- 1 to 800 sessions
+pub record AreSessions (sessions : ℕ) : Type 0 where
+  pub some : 1 ≤ sessions
+  pub at_most : sessions ≤ 800
+
 -- what a command asks of its words beside the form of each
 abbrev pub HasParts : Command → Type 0
 HasParts (order roster x y logs) = AreOrdered x y logs
 HasParts (audit roster rules logs) = AreLogs logs
+HasParts (generate sessions) = AreSessions sessions
 HasParts other = ⊤
 
 -- the words are this command's, and each has the form of a word

@@ -1,12 +1,14 @@
 //! The command `audit`. The lines are those of the worked rows, and were computed by a separate plain
 //! program.
 use super::*;
+use crate::play_tests::{Parts, joined};
 use hall_outside::{MemorySink, MemoryStore};
 use std::alloc::Global;
 use std::test::Fail;
 
 /// A session of a supervisor and a booth, all of which both hear.
-const TWO: &str = "seed 0102\nkey w4 h5\nlog 64\nlink 64\nmachine sv supervisor\nmachine b1 booth\n\
+pub(super) const TWO: &str =
+    "seed 0102\nkey w4 h5\nlog 64\nlink 64\nmachine sv supervisor\nmachine b1 booth\n\
     do sv open\ndo sv authorise b1 1\ndo sv close\ndo b1 activate 1\n\
     do b1 commit 1 0707070707070707070707070707070707070707070707070707070707070707\n\
     do b1 cast 1 0707070707070707070707070707070707070707070707070707070707070707\n\
@@ -34,6 +36,9 @@ const THREE: &str = "seed 0102\nkey w4 h5\nlog 64\nlink 64\n\
     step hear b2 sv 0\nstep hear b2 sv 1\nstep hear b2 sv 2\n\
     step act b1\nstep act b1\nstep hear b2 b1 1\nstep act b2\n";
 
+/// The digest of the supervisor's first entry in `TWO`.
+const FIRST: &str = "2fed14e03229333b1998551e1e3c05a921656bade300ea337364b17d51e2f1f0";
+
 /// The files with these bytes are there beside those of the plays.
 const FILES: &[(&str, &str)] = &[
     (
@@ -44,7 +49,7 @@ const FILES: &[(&str, &str)] = &[
 ];
 
 /// The program's status for words that stand in one text.
-fn answer(
+pub(super) fn answer(
     alloc: Global,
     words: &str,
     store: &mut MemoryStore,
@@ -58,7 +63,12 @@ fn answer(
 }
 
 /// Plays the script into files whose names begin so.
-fn play(alloc: Global, script: &str, prefix: &str, store: &mut MemoryStore) -> Result<(), Fail> {
+pub(super) fn play(
+    alloc: Global,
+    script: &str,
+    prefix: &str,
+    store: &mut MemoryStore,
+) -> Result<(), Fail> {
     store.place(alloc, "script", script.as_bytes())?;
     let words = format!(in alloc; "play script {prefix}")?;
     let mut out = MemorySink::make(alloc, 1000, Vec::new(alloc));
@@ -84,6 +94,49 @@ fn cut(
     Ok(store.place(alloc, name, &bytes)?)
 }
 
+/// The text of the supervisor's second entry of `election`, unsigned: it names the first by this
+/// digest, and has its stamp.
+fn stray_body(alloc: Global, election: &[u8], digest: &str) -> Result<Vec<u8>, Fail> {
+    let mut body = Vec::from_slice(alloc, b"(5:entry1:132:")?;
+    body.extend_from_slice(election)?;
+    body.extend_from_slice(b"1:01:11:1(32:")?;
+    if let Some(digest) = hex::decode(alloc, digest).ok() {
+        body.extend_from_slice(digest.as_slice())?;
+    }
+    body.extend_from_slice(b")(9:authorise1:11:1))")?;
+    Ok(body)
+}
+
+/// The signature of the supervisor of `TWO` with its key's second index.
+fn signed(alloc: Global, body: &[u8]) -> Result<Vec<u8>, Fail> {
+    if let Ok(script) = election_script::read(alloc, TWO.as_bytes()) {
+        if !script.machines.as_slice().is_empty() {
+            let mut secret = polling_world::key_of(alloc, &script, 0)?;
+            if secret.sign(alloc, body).is_ok() {
+                if let Ok(signature) = secret.sign(alloc, body) {
+                    return Ok(signature);
+                }
+            }
+        }
+    }
+    Err(Fail::from("the entry is signed"))
+}
+
+/// Puts into a file the supervisor's log up to its first entry, and then a stray.
+fn place_stray(alloc: Global, name: &str, store: &mut MemoryStore) -> Result<(), Fail> {
+    let log = store.file("p.sv.log").unwrap_or(b"");
+    let mut bytes = Vec::from_slice(alloc, &log[..log.len().min(2452)])?;
+    let election = &log[log.len().min(43)..log.len().min(75)];
+    let body = stray_body(alloc, election, FIRST)?;
+    let signature = signed(alloc, &body)?;
+    bytes.extend_from_slice(b"(4:sent(6:sealed")?;
+    bytes.extend_from_slice(&body)?;
+    bytes.extend_from_slice(b"2348:")?;
+    bytes.extend_from_slice(&signature)?;
+    bytes.extend_from_slice(b"))")?;
+    Ok(store.place(alloc, name, &bytes)?)
+}
+
 /// A store with the files of all plays, and with cut and changed logs.
 fn hall(alloc: Global) -> Result<MemoryStore, Fail> {
     let mut store = MemoryStore::make(alloc, Vec::new(alloc), Vec::new(alloc));
@@ -94,6 +147,7 @@ fn hall(alloc: Global) -> Result<MemoryStore, Fail> {
     cut(alloc, 14906, 20000, "torn.log", &mut store)?;
     cut(alloc, 12433, 20000, "ends.log", &mut store)?;
     cut(alloc, 20000, 12430, "bit.log", &mut store)?;
+    place_stray(alloc, "stray.log", &mut store)?;
     for (name, bytes) in FILES {
         store.place(alloc, name, bytes.as_bytes())?;
     }
@@ -163,6 +217,14 @@ const AUDITS: &[(&str, Status, &str)] = &[
             gap 628e5112466668856b29d6f9c7f3a840b204acd10ffed85a3d7a2d45388d2659\n\
             broken N\nverdict broken\n",
     ),
+    // An entry that names another and isn't later is set aside.
+    (
+        "audit p.roster standard stray.log",
+        Status::Findings,
+        "log stray.log owner 0 kept 2 refused 0\nbreak stray.log 1\nentries 1\n\
+            stray 2b1d113529eda7b07eb7caf331f7cca871f0e74cead8483997fa4434cc7d913c\n\
+            verdict findings\n",
+    ),
     // The first refusal ends it, in the order of the words.
     (
         "audit p.roster free p.sv.log",
@@ -217,5 +279,107 @@ fn each_audit_has_its_lines_and_status(rt: HostRuntime) -> Result<(), Fail> {
         let found = without_kept(alloc, out.bytes())?;
         assert!(rt; found.as_str() == *lines, "{words}");
     }
+    Ok(())
+}
+
+/// Rules, with the place and the cause of their refusal.
+const RULES: &[(Parts, &str)] = &[
+    (&[(1, "(rule A true) \u{1}")], "14 Token"),
+    (&[], "0 Shape"),
+    (&[(1, "(rule A)")], "7 Shape"),
+    (&[(1, "(rule A-B true)")], "6 Shape"),
+    (&[(1, "(rule ABCDEFGHIJKLMNOPQ true)")], "6 Shape"),
+    (&[(1, "(rule A (every x opened true)))")], "30 Shape"),
+    (
+        &[(1, "(rule A (every x cast (= x.number 4294967296)))")],
+        "34 Shape",
+    ),
+    (&[(1, "(rule A (every x vote true))")], "17 UnknownKind"),
+    (&[(2, "(rule A true)")], "19 SameName"),
+    (
+        &[(1, "(rule A (every x opened (every x opened true)))")],
+        "31 SameName",
+    ),
+    (&[(1, "(rule A (every x opened (same x y)))")], "32 Unbound"),
+    (
+        &[(1, "(rule A (every x opened (= x.session 1)))")],
+        "27 WrongField",
+    ),
+    (
+        &[(1, "(rule A (every x cast (= x.session x.maker)))")],
+        "35 WrongField",
+    ),
+    (
+        &[(1, "(rule A (every x cast (< x.ballot x.ballot)))")],
+        "25 WrongField",
+    ),
+    // The 33rd parenthesis, the fifth quantifier, and parentheses alone.
+    (&[(1, "(rule A "), (32, "(not ")], "163 TooDeep"),
+    (
+        &[
+            (1, "(rule A (every v entry (every w entry (every x entry "),
+            (1, "(every y entry (some z entry true))))))"),
+        ],
+        "69 TooDeep",
+    ),
+    (&[(33, "(")], "1 Shape"),
+    (&[(1, "(rule A "), (32, "(")], "9 Shape"),
+];
+
+#[test]
+fn rules_are_refused_at_their_first_fault(rt: HostRuntime) -> Result<(), Fail> {
+    let alloc = rt.alloc();
+    let mut store = MemoryStore::make(alloc, Vec::new(alloc), Vec::new(alloc));
+    play(alloc, OTHER, "o", &mut store)?;
+    for (parts, refusal) in RULES {
+        let rules = joined(alloc, parts)?;
+        store.place(alloc, "own", rules.as_bytes())?;
+        let mut out = MemorySink::make(alloc, 1000, Vec::new(alloc));
+        let status = answer(alloc, "audit o.roster own gone", &mut store, &mut out)?;
+        let line = format!(in alloc; "refused own {refusal}\n")?;
+        assert_eq!(rt; status, Status::Refused, "{refusal}");
+        assert!(rt; out.bytes() == line.as_bytes(), "{refusal}");
+    }
+    Ok(())
+}
+
+/// The supervisor opens, authorises a session and overrides it, with keys that sign at once.
+const MANY: &str =
+    "seed 0102\nkey w1 h5\nlog 64\nlink 64\nmachine sv supervisor\nmachine b1 booth\n\
+    do sv open\n";
+
+/// Five plays, each with its session and how often that is overridden, together of 129 entries: the
+/// first entry is the same in each.
+const OVERRIDES: &[(usize, usize)] = &[(1, 30), (2, 30), (3, 30), (4, 30), (5, 3)];
+
+/// Four quantifiers over 129 entries each are over the limit.
+const WIDE: &str = "(rule A1 (every x opened true))\
+    (rule W (every a entry (every b entry (every c entry (every d entry true)))))";
+
+#[test]
+fn a_rule_over_too_many_entries_is_too_wide(rt: HostRuntime) -> Result<(), Fail> {
+    let alloc = rt.alloc();
+    let mut store = MemoryStore::make(alloc, Vec::new(alloc), Vec::new(alloc));
+    for (session, count) in OVERRIDES {
+        let authorise = format!(in alloc; "do sv authorise b1 {session}\n")?;
+        let again = format!(in alloc; "do sv override {session}\n")?;
+        let script = joined(
+            alloc,
+            &[
+                (1, MANY),
+                (1, authorise.as_str()),
+                (*count, again.as_str()),
+                (*count + 2, "step act sv\n"),
+            ],
+        )?;
+        let prefix = format!(in alloc; "w{session}")?;
+        play(alloc, script.as_str(), prefix.as_str(), &mut store)?;
+    }
+    store.place(alloc, "wide", WIDE.as_bytes())?;
+    let words = "audit w1.roster wide w1.sv.log w2.sv.log w3.sv.log w4.sv.log w5.sv.log";
+    let mut out = MemorySink::make(alloc, 1000, Vec::new(alloc));
+    let status = answer(alloc, words, &mut store, &mut out)?;
+    assert_eq!(rt; status, Status::Refused);
+    assert!(rt; out.bytes() == "refused wide 1 TooWide\n".as_bytes());
     Ok(())
 }

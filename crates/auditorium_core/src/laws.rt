@@ -1,8 +1,11 @@
 // Laws about answers, which hold of the definitions alone.
-ghost use Rattle.std.specs.Prelude.{◌≡◌, ℕ, List, Option, Some};
+ghost use Rattle.std.specs.Prelude.{◌≡◌, ℕ, List, Option, Some, ⊤};
 ghost use Rattle.hall_outside.specs.Files.{Files};
+ghost use Rattle.auditorium_core.specs.declared.status.Status.{Status};
 ghost use Rattle.auditorium_core.specs.Lines.{Answer};
 ghost use Rattle.auditorium_core.specs.Answer.{Answers, HasItsWords};
+ghost use Rattle.auditorium_core.specs.Outcome.{Outside, HasDone};
+ghost use Rattle.auditorium_core.specs.Complete.{IsComplete};
 
 use auditor::files_give_one_report;
 use election_script::one_reading_is_right;
@@ -34,3 +37,21 @@ pub fn statuses_have_their_words()
     ensures { (words : List (List ℕ)) (told : Option Files) (answer : Answer) →
         Answers words told answer → HasItsWords words answer }
 {}
+
+/// What the program has done is complete, by whatever calls it was written: where no count of faults
+/// rose, a command over files that are all accepted is carried out, or memory was wanting. It does
+/// nothing.
+pub fn answers_are_complete()
+    ensures { (words : List (List ℕ)) (old : Outside) (how : Status) (new : Outside) →
+        HasDone words (λ _ _. ⊤) old how new → IsComplete words old how new }
+{
+    bytes_say_one_log();
+    one_reading_is_right();
+    scripts_are_played_in_one_way();
+    what_is_left_is_told_in_one_way();
+    roster_files_give_one_answer();
+    log_files_give_one_answer();
+    entries_give_one_graph();
+    survivors_are_sound();
+    files_give_one_report();
+}

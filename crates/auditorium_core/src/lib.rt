@@ -10,6 +10,7 @@ mod entry_word;
 mod gaps;
 mod honest;
 mod laws;
+mod make;
 mod order;
 mod order_word;
 mod play;
@@ -18,12 +19,20 @@ mod status;
 mod words;
 mod writing;
 
-pub use laws::{one_answer_is_right, statuses_have_their_words};
+pub use laws::{answers_are_complete, one_answer_is_right, statuses_have_their_words};
 pub use program::auditorium_still;
 pub use status::Status;
 
 #[cfg(test)]
 mod audit_tests;
+#[cfg(test)]
+mod damage_tests;
+#[cfg(test)]
+mod fault_tests;
+#[cfg(test)]
+mod hostile_tests;
+#[cfg(test)]
+mod make_tests;
 #[cfg(test)]
 mod order_tests;
 #[cfg(test)]

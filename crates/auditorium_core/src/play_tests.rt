@@ -70,10 +70,10 @@ const COMMITTED: &str = "step act sv\nstep act sv\nstep hear b1 sv 0\nstep hear 
 const OVERRIDDEN: &str = "step act sv\nstep hear b1 sv 2\nstep act b1\n";
 
 /// Parts of a text, each so many times over.
-type Parts = &'static [(usize, &'static str)];
+pub(super) type Parts = &'static [(usize, &'static str)];
 
 /// The text of the parts, one behind the other.
-fn joined(alloc: Global, parts: &[(usize, &str)]) -> Result<String, Fail> {
+pub(super) fn joined(alloc: Global, parts: &[(usize, &str)]) -> Result<String, Fail> {
     let mut text = String::new(alloc);
     for (count, part) in parts {
         for _ in 0..*count {

@@ -8,6 +8,7 @@ ghost use Rattle.auditorium_core.specs.inside.Promise.{IsAnswered};
 use crate::answer::{Answer, Fault};
 use crate::audit::audit;
 use crate::gaps::gaps;
+use crate::make::make;
 use crate::order::order;
 use crate::play::play;
 use crate::status::Status;
@@ -58,5 +59,6 @@ fn answer_of<S: Store>(alloc: Global, words: &[String], store: &mut S) -> Result
         Request::Play(script, prefix) => play(alloc, store, script, prefix),
         Request::Order(roster, x, y, logs) => order(alloc, store, roster, x, y, logs),
         Request::Audit(roster, rules, logs) => audit(alloc, store, roster, rules, logs),
+        Request::Make(sessions) => Ok(make(alloc, sessions)?),
     }
 }

@@ -1,9 +1,12 @@
 // The words of the command line.
-ghost use Rattle.std.specs.Prelude.{◌↔◌, ℕ, List, map, string_bytes, IsTrue, All};
-ghost use Rattle.auditorium_core.specs.Words.{IsWord, AreOrdered, AreLogs, Means, gaps, play, order};
+ghost use Rattle.std.specs.Prelude.{◌≡◌, ◌≢◌, ◌↔◌, ℕ, List, map, string_bytes, IsTrue, IfSome, IfNone, All};
+ghost use Rattle.std.specs.Fmt.{decimal};
+ghost use Rattle.auditorium_core.specs.Words.{IsWord, AreOrdered, AreLogs, AreSessions};
+ghost use Rattle.auditorium_core.specs.Words.{Means, gaps, play, order, audit};
 ghost use Rattle.auditorium_core.specs.Meaning.{Asks};
 
 use crate::entry_word::is_entry_word;
+use hall_text::decimal;
 
 /// What the words ask for.
 #[derive(Clone, Copy)]
@@ -20,6 +23,8 @@ pub(crate) enum Request<'a> {
     /// The report by the roster in the first file, the rules that the second word names, and the logs
     /// in the other files.
     Audit(&'a str, &'a str, &'a [String]),
+    /// The script of a day of so many sessions.
+    Make(u32),
 }
 
 /// What the words ask for.
@@ -69,7 +74,39 @@ fn audit_of(words: &[String]) -> Request<'_>
         [command, roster, rules, logs @ ..] if command.as_str() == "audit" && are_logs(logs) => {
             Request::Audit(roster.as_str(), rules.as_str(), logs)
         }
+        _ => make_of(words),
+    }
+}
+
+/// What the words ask for, likewise.
+fn make_of(words: &[String]) -> Request<'_>
+    requires form { All IsWord (map string_bytes words.now) }
+    requires others { (log : List ℕ) → ¬ Means (map string_bytes words.now) (gaps log) }
+    requires no_play { (script prefix : List ℕ) →
+        ¬ Means (map string_bytes words.now) (play script prefix) }
+    requires no_order { (roster x y : List ℕ) (logs : List (List ℕ)) →
+        ¬ Means (map string_bytes words.now) (order roster x y logs) }
+    requires no_audit { (roster rules : List ℕ) (logs : List (List ℕ)) →
+        ¬ Means (map string_bytes words.now) (audit roster rules logs) }
+    ensures { Asks (map string_bytes words.now) result }
+{
+    match words {
+        [command, word] if command.as_str() == "make" => match sessions_of(word.as_str()) {
+            Some(sessions) => Request::Make(sessions),
+            None => Request::Usage,
+        },
         _ => Request::Usage,
+    }
+}
+
+/// How many sessions the word says: 1 to 800, in decimal. Of any other word `None`.
+fn sessions_of(word: &str) -> Option<u32>
+    ensures found { IfSome result (λ n. AreSessions n × (word.now ≡ decimal n)) }
+    ensures none { IfNone result ((n : ℕ) → AreSessions n → word.now ≢ decimal n) }
+{
+    match decimal(word.as_bytes()) {
+        Some(sessions) if sessions >= 1 && sessions <= 800 => Some(sessions),
+        _ => None,
     }
 }
 

@@ -1,0 +1,202 @@
+-- A command whose inputs are all accepted is carried out.
+use Rattle.std.proofs.Common.{◌≡◌, ◌⊎◌, inl, inr, ℕ, List, [], ◌∷◌, Option, Some, None, refl, ap, sym, subst, arith}
+use Rattle.std.specs.Prelude.{Ok, Err, ⊤}
+use Rattle.hall_outside.specs.Counts.{HasRisen}
+use Rattle.roster.specs.declared.post.Post.{Post}
+use Rattle.election_script.specs.declared.faults.ScriptFault.TheVariants.{At}
+use Rattle.entry_format.specs.SealedEntry.{SealedEntry}
+use Rattle.log_files.specs.declared.plain_log.PlainLog.{PlainLog}
+use Rattle.log_files.specs.LogFile.{IsLogOf}
+use Rattle.evidence.specs.declared.roster_file.RosterRead.{RosterRead}
+use Rattle.evidence.specs.Graphs.{entries_of}
+use Rattle.evidence.proofs.OneLogs.{same_entries}
+use Rattle.auditor.specs.declared.outcome.Outcome.{Outcome}
+use Rattle.auditor.specs.declared.outcome.Outcome.TheVariants as outcome
+use Rattle.auditor.specs.Report.{AuditReport}
+use Rattle.auditor.specs.Outcomes.{outcome_of}
+use Rattle.auditor.specs.Audits.{GivesReport}
+use Rattle.auditorium_core.specs.declared.status.Status.{Status}
+use Rattle.auditorium_core.specs.declared.status.Status.TheVariants as status
+use Rattle.auditorium_core.specs.Words.{Command, gaps, play, order, audit, generate, source_named, Means}
+use Rattle.auditorium_core.specs.Lines.{Answer}
+use Rattle.auditorium_core.specs.EntryWords.{MeansEntry}
+use Rattle.auditorium_core.specs.Gaps.{status_of, IsGapsAnswer}
+use Rattle.auditorium_core.specs.Play.{status_of_undone, IsPlayAnswer}
+use Rattle.auditorium_core.specs.Order.{IsOrderAmong, IsOrderOver, IsOrderOverLogs, IsOrderUnder, IsOrderAnswer}
+use Rattle.auditorium_core.specs.Audit.{status_by, IsAuditOver}
+use Rattle.auditorium_core.specs.Answer.{IsAnswer, IsAnswerTo, Answers}
+use Rattle.auditorium_core.specs.Outcome.{Outside, GivesAnswer, IsWritten, HasDone}
+use Rattle.auditorium_core.specs.Complete.{IsCarriedOut, IsScriptFile, GiveEntries, AreAccepted, HasNoFailure, IsComplete}
+use Rattle.auditorium_core.proofs.OnePlayAnswer.{PlayOne}
+use Rattle.auditorium_core.proofs.OneOrderAnswer.{OrderOne}
+use Rattle.auditorium_core.proofs.OneAnswer.{SayOne, ReportOne, Cases, cases, same_command}
+
+-- an answer with such a status is carried out
+with_status : (answer : Answer) (how : Status) → answer.status ≡ how → IsCarriedOut how → IsCarriedOut answer.status
+with_status answer how e is = subst IsCarriedOut (sym e) is
+
+-- an answer that is an equal one has its status
+status_is : (answer other : Answer) → answer ≡ other → answer.status ≡ other.status
+status_is answer other e = ap (λ (a : Answer). a.status) e
+
+-- each status of lines is of a command that was carried out
+of_lines : (lines : List ℕ) → IsCarriedOut (status_of lines)
+of_lines [] = tt
+of_lines (byte ∷ bytes) = tt
+
+of_undone : (lines : List ℕ) → IsCarriedOut (status_of_undone lines)
+of_undone [] = tt
+of_undone (byte ∷ bytes) = tt
+
+of_outcome : (came : Outcome) → IsCarriedOut (status_by came)
+of_outcome outcome.Kept = tt
+of_outcome outcome.Findings = tt
+of_outcome outcome.Unsettled = tt
+of_outcome outcome.Broken = tt
+
+-- `gaps` is carried out over a log
+gaps_complete : SayOne → (name : List ℕ) (file : Option (List ℕ)) (answer : Answer) → (read : PlainLog) →
+    IsLogOf read file → IsGapsAnswer name file answer → IsCarriedOut answer.status
+gaps_complete one name None answer read is right = absurd is
+gaps_complete one name (Some bytes) answer read is right = by (cases name bytes answer right)
+  where
+    by : Cases name bytes answer → IsCarriedOut answer.status
+    by (inl (long, e)) = absurd (omega (arith, is.0))
+    by (inr (inl (short, none, e))) = absurd (none (one.header bytes read is.1))
+    by (inr (inr (log, short, says, e))) = with_status answer _ (status_is answer _ e) (of_lines _)
+
+-- `play` is carried out over a script
+play_complete : PlayOne → (name prefix : List ℕ) (file : Option (List ℕ)) (answer : Answer) → IsScriptFile file →
+    IsPlayAnswer name prefix file answer → IsCarriedOut answer.status
+play_complete one name prefix None answer is right = absurd is
+play_complete one name prefix (Some bytes) answer (fits, (script, reads)) (inl (long, e)) = absurd (omega arith)
+play_complete one name prefix (Some bytes) answer (fits, (script, reads)) (inr (inl (short, (number, why, fault, e)))) =
+    let same : Err (At number why) ≡ Ok script = one.reading bytes (Err (At number why)) (Ok script) fault reads in
+    absurd (let no : ⊥ = cc in no)
+play_complete one name prefix (Some bytes) answer (fits, (script, reads)) (inr (inr (short, (other, also, done)))) =
+    with_status answer _ (status_is answer _ done.told) (of_undone done.undone)
+
+module _ (one : OrderOne) (x y : List ℕ) (answer : Answer) where
+  -- two words that mean survivors have a word of order
+  among_complete : (machines : List Post) (S : List SealedEntry) (e f : SealedEntry) → MeansEntry machines S x e →
+      MeansEntry machines S y f → IsOrderAmong machines S x y answer → IsCarriedOut answer.status
+  among_complete machines S e f first second (inl (none, p)) = absurd (none e first)
+  among_complete machines S e f first second (inr (g, means, inl (none, p))) = absurd (none f second)
+  among_complete machines S e f first second (inr (g, means, inr (h, meant, is))) =
+      with_status answer status.Done (status_is answer _ is.told) tt
+
+  -- `order` is carried out over a roster and logs
+  order_complete : (roster : List ℕ) (logs : List (List ℕ)) (file : Option (List ℕ)) (files : List (Option (List ℕ))) →
+      GiveEntries roster x y logs file files → IsOrderAnswer roster x y logs file files answer →
+      IsCarriedOut answer.status
+  order_complete roster logs file files given (inl (refusal, gives, e)) =
+      let same : Err refusal ≡ Ok given.read = one.roster roster file (Err refusal) (Ok given.read) gives given.of_roster in
+      absurd (let no : ⊥ = cc in no)
+  order_complete roster logs file files given (inr (read, gives, is)) =
+      let same : Ok read ≡ Ok given.read = one.roster roster file (Ok read) (Ok given.read) gives given.of_roster in
+      let read_is : read ≡ given.read = cc in
+      let P : RosterRead → Type 0 = λ r. IsOrderUnder r x y logs files answer in
+      let right : IsOrderUnder given.read x y logs files answer = subst P read_is is in
+      over_logs right.right
+    where
+      machines : List Post
+      machines = given.read.roster.machines
+
+      over : IsOrderOver machines x y (entries_of given.found) answer → IsCarriedOut answer.status
+      over (inl (refusal, gives, e)) =
+          absurd (one.graph (entries_of given.found) (Err refusal) (Ok given.graph) gives given.of_entries)
+      over (inr (graph, gives, is)) =
+          let same = one.graph (entries_of given.found) (Ok graph) (Ok given.graph) gives given.of_entries in
+          let P : List SealedEntry → Type 0 = λ S. IsOrderAmong machines S x y answer in
+          among_complete machines given.graph.survivors given.e given.f given.first given.second
+          (subst P same.survivors is)
+
+      over_logs : IsOrderOverLogs given.read x y logs files answer → IsCarriedOut answer.status
+      over_logs (inl (refusal, gives, e)) =
+          absurd (one.logs machines given.read.election logs files (Err refusal) (Ok given.found) gives given.of_logs)
+      over_logs (inr (found, gives, is)) =
+          let same = one.logs machines given.read.election logs files (Ok found) (Ok given.found) gives given.of_logs in
+          let P : List SealedEntry → Type 0 = λ es. IsOrderOver machines x y es answer in
+          over (subst P (same_entries found given.found same) is)
+
+-- `audit` is carried out over what gives a report
+audit_complete : ReportOne → (roster rules : List ℕ) (logs : List (List ℕ)) (files : List (Option (List ℕ)))
+    (answer : Answer) (report : AuditReport) → GivesReport roster (source_named rules) logs files (Ok report) →
+    IsAuditOver roster rules logs files answer → IsCarriedOut answer.status
+audit_complete one roster rules logs files answer report given (inl (refusal, gives, e)) =
+    absurd (one roster (source_named rules) logs files (Err refusal) (Ok report) gives given)
+audit_complete one roster rules logs files answer report given (inr (other, gives, is)) =
+    with_status answer _ (status_is answer _ is.told) (of_outcome (outcome_of other))
+
+-- so is each command
+command_complete : SayOne → PlayOne → OrderOne → ReportOne → (command : Command) (files : List (Option (List ℕ)))
+    (answer : Answer) → IsAnswer command files answer → AreAccepted command files → IsCarriedOut answer.status
+command_complete one way orders reports (gaps log) [] answer right given = absurd right
+command_complete one way orders reports (gaps log) (file ∷ []) answer right (read, is) =
+    gaps_complete one log file answer read is right
+command_complete one way orders reports (gaps log) (file ∷ next ∷ files) answer right given = absurd right
+command_complete one way orders reports (play script prefix) [] answer right given = absurd right
+command_complete one way orders reports (play script prefix) (file ∷ []) answer right given =
+    play_complete way script prefix file answer given right
+command_complete one way orders reports (play script prefix) (file ∷ next ∷ files) answer right given = absurd right
+command_complete one way orders reports (order roster x y logs) [] answer right given = absurd right
+command_complete one way orders reports (order roster x y logs) (file ∷ files) answer right given =
+    order_complete orders x y answer roster logs file files given right
+command_complete one way orders reports (audit roster rules logs) files answer right (report, given) =
+    audit_complete reports roster rules logs files answer report given right.right
+command_complete one way orders reports (generate sessions) [] answer right given =
+    with_status answer status.Done (status_is answer _ right) tt
+command_complete one way orders reports (generate sessions) (file ∷ files) answer right given = absurd right
+
+-- where no count rose, no write failed
+no_cut : (old new : Outside) → HasNoFailure old new →
+    HasRisen old.store.write_faults new.store.write_faults ⊎ HasRisen old.output_faults new.output_faults → ⊥
+no_cut old new fault (inl risen) = fault.writes risen
+no_cut old new fault (inr risen) = fault.output risen
+
+-- what was done where no count of faults rose is complete
+pub complete : SayOne → PlayOne → OrderOne → ReportOne → (words : List (List ℕ)) (old : Outside) (how : Status)
+    (new : Outside) → HasDone words (λ _ _. ⊤) old how new → IsComplete words old how new
+complete one way orders reports words old how new = by how
+  where
+    -- the answer of good words is the command's
+    of_command : (command : Command) (answer : Answer) → Means words command → Answers words old.store.files answer →
+        IsAnswerTo command old.store.files answer
+    of_command command answer means (inl (other, means', is)) =
+        let P : Command → Type 0 = λ c. IsAnswerTo c old.store.files answer in
+        subst P (same_command words other command means' means) is
+    of_command command answer means (inr (bad, e)) = absurd (bad (command, means))
+
+    -- what was done with an answer
+    IsDone : Status → Type 0
+    IsDone how =
+        (answer : Answer) × GivesAnswer words old new answer × (how ≡ answer.status) × ⊤ × IsWritten answer old new
+
+    answered : (how : Status) → IsDone how → IsComplete words old how new
+    answered how (answer, gives, told, calls, written) command means fault =
+        let (files, are, right) = of_command command answer means gives.answers in
+        inl (
+          files,
+          are,
+          record {
+            answer = answer;
+            right = right;
+            told = told;
+            carried_out = λ given.
+                subst IsCarriedOut (sym told) (command_complete one way orders reports command files answer right given);
+            written = written;
+          },
+        )
+
+    by : (how : Status) → HasDone words (λ _ _. ⊤) old how new → IsComplete words old how new
+    by status.ReadFault (risen, unwritten) command means fault = absurd (fault.reads risen)
+    by status.WriteFault (answer, gives, calls, cut) command means fault = absurd (no_cut old new fault cut.cause)
+    by status.Memory unwritten command means fault = inr (refl, unwritten)
+    by status.Done done command means fault = answered status.Done done command means fault
+    by status.Findings done command means fault = answered status.Findings done command means fault
+    by status.Unsettled done command means fault = answered status.Unsettled done command means fault
+    by status.Broken done command means fault = answered status.Broken done command means fault
+    by status.Usage done command means fault = answered status.Usage done command means fault
+    by status.Refused done command means fault = answered status.Refused done command means fault
+    by status.Absent done command means fault = answered status.Absent done command means fault
+    by status.Undone done command means fault = answered status.Undone done command means fault
