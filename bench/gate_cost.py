@@ -10,7 +10,7 @@ the edits of a crate begin with, elsewhere. Programs and compilers count for the
 At the end a row a crate is printed, the dearest first, and what no row has: processes that ended between two
 looks, and `rt` itself. Wall times aren't printed: they depend on what else the machine does.
 
-What an earlier run kept isn't proved again. `rt ci --anew` as the command measures the gate from nothing.
+Where the toolchain's gate keeps what passed before, this measures what was proved anew.
 """
 import os
 import pathlib
