@@ -22,7 +22,7 @@ use Rattle.floor_losses.proofs.Lists.{filter_same}
 use Rattle.floor_sweep.specs.Places.{ArePlaced, HaveGrown, count_sent}
 use Rattle.floor_sweep.specs.Swept.{AreScripted, IsCause, IsLicensed}
 use Rattle.floor_sweep.proofs.Handed.{legal_at}
-use Rattle.floor_sweep.proofs.Numbers.{numbers_below}
+use Rattle.floor_losses.proofs.Numbers.{numbers_below}
 use Rattle.polling_world.specs.Machines.{MachineState, IsWithinStop}
 use Rattle.polling_world.specs.Worlds.{world_of}
 use Rattle.finished_floor.specs.Places.{AreMachinesOf}

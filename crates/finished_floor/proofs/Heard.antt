@@ -25,7 +25,7 @@ use Rattle.floor_losses.proofs.Once.{lost_once}
 use Rattle.floor_losses.proofs.Orderly.{Contains-got}
 use Rattle.floor_sweep.specs.Places.{ArePlaced}
 use Rattle.floor_sweep.proofs.Handed.{balance_same, legal_at}
-use Rattle.floor_sweep.proofs.Numbers.{numbers_below}
+use Rattle.floor_losses.proofs.Numbers.{numbers_below}
 use Rattle.floor_sweep.proofs.Places.{length_world}
 use Rattle.polling_world.specs.Machines.{MachineState}
 use Rattle.polling_world.specs.Worlds.{world_of}

@@ -27,9 +27,9 @@ use Rattle.floor_losses.specs.declared.loss.LossWhy.{LossWhy}
 use Rattle.floor_losses.specs.declared.loss.LossWhy.TheVariants.{Scripted, LinkFull, ToStopped, LogFull, SameDigest}
 use Rattle.floor_losses.specs.Losses.{AreOnce}
 use Rattle.floor_sweep.specs.Places.{ArePlaced}
-use Rattle.floor_sweep.specs.Swept.{is_scripted}
+use Rattle.floor_losses.specs.Scripted.{is_scripted}
 use Rattle.floor_sweep.proofs.Handed.{legal_at}
-use Rattle.floor_sweep.proofs.Numbers.{rising_sent}
+use Rattle.floor_losses.proofs.Numbers.{rising_sent}
 use Rattle.floor_sweep.proofs.Places.{get_within}
 use Rattle.polling_world.specs.Configs.{Config}
 use Rattle.polling_world.specs.Machines.{MachineState, IsMachine}

@@ -14,7 +14,8 @@ use Rattle.floor_losses.specs.declared.loss.LossWhy.TheVariants.{Scripted, LinkF
 use Rattle.floor_losses.specs.Losses.{got_from, is_of}
 use Rattle.floor_losses.specs.Laws.{times_lost}
 use Rattle.floor_sweep.specs.Places.{count_sent}
-use Rattle.floor_sweep.specs.Swept.{is_scripted, HoldsSame}
+use Rattle.floor_losses.specs.Scripted.{is_scripted}
+use Rattle.floor_sweep.specs.Swept.{HoldsSame}
 use Rattle.polling_world.specs.Machines.{MachineState}
 use Rattle.polling_world.specs.Worlds.{world_of}
 

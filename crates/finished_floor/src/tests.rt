@@ -8,7 +8,6 @@ ghost use Rattle.finished_floor.specs.Places.{IsMachineOf, IsStopOf};
 
 use super::*;
 use election_script::{Script, StopAt, read};
-use floor_losses::LossWhy;
 use polling_world::{Machine, key_of, keys_of, roster_of};
 use roster::Roster;
 use std::alloc::{AllocError, Global};
@@ -92,17 +91,6 @@ fn gathered(alloc: Global, script: &Script) -> Result<Gathered, AllocError>
     })
 }
 
-/// The word of why an entry is lost.
-fn loss_word(why: LossWhy) -> &'static str {
-    match why {
-        LossWhy::Scripted => "Scripted",
-        LossWhy::LinkFull => "LinkFull",
-        LossWhy::ToStopped => "ToStopped",
-        LossWhy::LogFull => "LogFull",
-        LossWhy::SameDigest => "SameDigest",
-    }
-}
-
 /// How many entries each machine sent and holds, and how many of them no worker sent or heard; and
 /// the losses.
 fn outcome(alloc: Global, floor: &Floor) -> Result<String, AllocError> {
@@ -118,7 +106,7 @@ fn outcome(alloc: Global, floor: &Floor) -> Result<String, AllocError> {
     }
     for loss in &floor.losses {
         let (from, number, to) = (loss.from, loss.number, loss.to);
-        let word = loss_word(loss.why);
+        let word = loss.why.word();
         text.push_str(&format!(in alloc; "; {from} {to} {number} {word}")?)?;
     }
     Ok(text)

@@ -11,10 +11,10 @@ use Rattle.entry_format.specs.Nodes.{node_of_sealed}
 use Rattle.entry_format.specs.SealedEntry.{SealedEntry}
 use Rattle.entry_order.specs.declared.event.Event.{Event}
 use Rattle.entry_order.specs.declared.event.Event.TheVariants.{Sent, Got}
-use Rattle.entry_order.specs.History.{sent}
 use Rattle.floor_losses.specs.declared.loss.Loss.{Loss}
 use Rattle.floor_losses.specs.Losses.{is_lost, is_of, arriving, got, got_from}
 use Rattle.floor_losses.proofs.Arriving.{lost_either, lost_push, lost_now, other_number, other_from, other_to}
+use Rattle.floor_losses.proofs.Pushes.{got-push, got-sent}
 use Rattle.floor_losses.proofs.Arriving.{arriving_same, arriving_kept, arriving_lost}
 
 -- no loss is of this entry
@@ -74,30 +74,6 @@ other_way losses lost from to es other =
       | inr n ↦ other_to (get_or lost j d) from x.entry.number to n
     ]))
     ∙ or_false (is_lost losses from x.entry.number to))
-
--- what was got
-pub got-push : (h : List (Event SealedEntry)) (x : SealedEntry) → got (h ++ Got x ∷ []) ≡ got h ++ x ∷ []
-got-push [] x = refl
-got-push (Sent e ∷ h) x = got-push h x
-got-push (Got e ∷ h) x = ap (λ l. e ∷ l) (got-push h x)
-
--- what was sent isn't got
-pub got-sent : (h : List (Event SealedEntry)) (x : SealedEntry) → got (h ++ Sent x ∷ []) ≡ got h
-got-sent [] x = refl
-got-sent (Sent e ∷ h) x = got-sent h x
-got-sent (Got e ∷ h) x = ap (λ l. e ∷ l) (got-sent h x)
-
--- what was sent comes behind what was sent before
-pub sent-push : (h : List (Event SealedEntry)) (x : SealedEntry) → sent (h ++ Sent x ∷ []) ≡ sent h ++ x ∷ []
-sent-push [] x = refl
-sent-push (Sent e ∷ h) x = ap (λ l. e ∷ l) (sent-push h x)
-sent-push (Got e ∷ h) x = sent-push h x
-
--- what was got isn't sent
-pub sent-got : (h : List (Event SealedEntry)) (x : SealedEntry) → sent (h ++ Got x ∷ []) ≡ sent h
-sent-got [] x = refl
-sent-got (Sent e ∷ h) x = ap (λ l. e ∷ l) (sent-got h x)
-sent-got (Got e ∷ h) x = sent-got h x
 
 -- of its maker, and of others
 pub got_from-here : (h : List (Event SealedEntry)) (x : SealedEntry) (from : ℕ) → x.entry.maker ≡ from →

@@ -1,6 +1,6 @@
 -- Links are added row by row, each with its ends.
-use Rattle.std.proofs.Common.{◌≡◌, ℕ, ◌+◌, ◌<◌, ◌≤◌, zero, suc, List, [], ◌∷◌, ◌++◌, length, map, refl, sym}
-use Rattle.std.proofs.Common.{ap, ◌∙◌, subst, arith, ◌⊎◌, inl, inr, set, get_or, get_or-set_same, get_or-set_other}
+use Rattle.std.proofs.Common.{◌≡◌, ℕ, ◌+◌, ◌<◌, zero, suc, List, [], ◌∷◌, ◌++◌, length, map, refl, sym}
+use Rattle.std.proofs.Common.{ap, ◌∙◌, subst, arith, inl, inr, set, get_or, get_or-set_same, get_or-set_other}
 use Rattle.std.proofs.Common.{length-append, Vec, Global}
 use Rattle.std.specs.Prelude.{All}
 use Rattle.std.proofs.lemmas.Bool.{cases_eq}
@@ -30,7 +30,7 @@ pub lists_push : {X : Type 0} (vs new : List (Vec X Global)) (v : Vec X Global) 
 lists_push {X} vs new v is = ap lists_of is ∙ map-append (λ (v : Vec X Global). v.items) vs (v ∷ [])
 
 -- the last of a list with one more
-last_of : {X : Type 0} (xs : List X) (x d : X) (k : ℕ) → k ≡ length xs → get_or (xs ++ x ∷ []) k d ≡ x
+pub last_of : {X : Type 0} (xs : List X) (x d : X) (k : ℕ) → k ≡ length xs → get_or (xs ++ x ∷ []) k d ≡ x
 last_of [] x d zero s = refl
 last_of [] x d (suc k) s = absurd (omega arith)
 last_of (y ∷ xs) x d zero s = absurd (omega arith)

@@ -18,7 +18,9 @@ use Rattle.floor_losses.specs.declared.loss.LossWhy.{LossWhy}
 use Rattle.floor_losses.specs.Losses.{is_lost, is_of}
 use Rattle.floor_losses.proofs.Arriving.{lost_push, other_to}
 use Rattle.floor_links.specs.Rows.{HaveCapacity, link_at}
-use Rattle.floor_links.specs.Sendings.{is_scripted, loss_of, lost_by, IsWay, IsSentTo, IsTold, IsSentOn, IsSentBelow}
+use Rattle.floor_losses.specs.OfEntries.{loss_of, lost_by}
+use Rattle.floor_losses.specs.Scripted.{is_scripted}
+use Rattle.floor_links.specs.Sendings.{IsWay, IsSentTo, IsTold, IsSentOn, IsSentBelow}
 use Rattle.floor_links.specs.Sendings.{AreCopies}
 
 -- the end of a link that puts

@@ -1,7 +1,7 @@
 -- What became of an entry on its way to a machine.
-use Rattle.std.proofs.Common.{◌≡◌, ℕ, ◌+◌, ◌<◌, ◌≤◌, Bool, true, false, List, [], ◌∷◌, ◌++◌, length, refl, sym, ap, ◌∙◌}
+use Rattle.std.proofs.Common.{◌≡◌, ℕ, ◌<◌, Bool, true, false, List, [], ◌∷◌, ◌++◌, refl, sym, ap, ◌∙◌}
 use Rattle.std.proofs.Common.{subst, arith, ◌⊎◌, inl, inr, Option, Some, None, get_or}
-use Rattle.std.specs.Prelude.{All, AllPairs}
+use Rattle.std.specs.Prelude.{AllPairs}
 use Rattle.std.specs.List.{Contains}
 use Rattle.std.proofs.lemmas.Bool.{cases_lt, true≢false}
 use Rattle.std.proofs.lemmas.List.{append-nil}
@@ -14,7 +14,8 @@ use Rattle.floor_losses.specs.declared.loss.LossWhy.{LossWhy}
 use Rattle.floor_losses.specs.declared.loss.LossWhy.TheVariants.{Scripted, LinkFull, ToStopped, LogFull, SameDigest}
 use Rattle.floor_losses.specs.Losses.{is_lost, is_of}
 use Rattle.floor_losses.proofs.Arriving.{itself}
-use Rattle.floor_links.specs.Sendings.{loss_of, IsWay, IsTold, IsSentOn}
+use Rattle.floor_losses.specs.OfEntries.{loss_of}
+use Rattle.floor_links.specs.Sendings.{IsWay, IsTold, IsSentOn}
 
 -- of losses by ascending receivers, two with one receiver are one
 pub once_there : (xs : List Loss) → AllPairs (λ (a b : Loss). a.to < b.to) xs → (x y : Loss) → Contains xs x →

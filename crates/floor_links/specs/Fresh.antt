@@ -1,8 +1,7 @@
 -- The links of a place and their ends, before anything was put.
-use Rattle.std.specs.Prelude.{◌≡◌, ℕ, ◌<◌, List, [], ◌∷◌, ◌++◌, length, map, All, slice_index_or}
+use Rattle.std.specs.Prelude.{◌≡◌, ℕ, ◌<◌, List, [], length, map, All, slice_index_or}
 use Rattle.entry_format.specs.SealedEntry.{SealedEntry}
 use Rattle.broadcast_queues.specs.Ends.{LinkView, OutView, InView}
-use Rattle.floor_links.specs.Rows.{link_at}
 
 -- the end that puts, of a link that nothing was put on
 abbrev pub out_of : LinkView → OutView SealedEntry

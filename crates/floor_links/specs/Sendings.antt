@@ -1,7 +1,7 @@
 -- What becomes of an entry that is sent to all other machines.
-use Rattle.std.specs.Prelude.{◌≡◌, ◌≢◌, ℕ, ◌<◌, ◌≤◌, ◌==◌, ◌&&◌, Bool, true, false, List, [], ◌∷◌, ◌++◌, length, All}
+use Rattle.std.specs.Prelude.{◌≡◌, ◌≢◌, ℕ, ◌<◌, ◌≤◌, Bool, true, false, List, ◌++◌, length, All}
 use Rattle.std.specs.Prelude.{AllPairs, Option, Some, None, slice_index_or}
-use Rattle.std.specs.List.{Contains, list_any}
+use Rattle.std.specs.List.{Contains}
 use Rattle.entry_format.specs.SealedEntry.{SealedEntry}
 use Rattle.election_script.specs.declared.script.Lose.{Lose}
 use Rattle.broadcast_queues.specs.Ends.{OutView, PutItem, FoundLinkFull}
@@ -9,20 +9,8 @@ use Rattle.floor_losses.specs.declared.loss.Loss.{Loss}
 use Rattle.floor_losses.specs.declared.loss.LossWhy.{LossWhy}
 use Rattle.floor_losses.specs.declared.loss.LossWhy.TheVariants.{Scripted, LinkFull, ToStopped, LogFull, SameDigest}
 use Rattle.floor_losses.specs.Losses.{is_lost}
-
--- a line of the script says that the machine's entry with this number is lost on its way to `to`
-abbrev pub is_scripted : List Lose → ℕ → ℕ → ℕ → Bool
-is_scripted loses from number to =
-    list_any (λ lose. (lose.from == from) && ((lose.number == number) && (lose.to == to))) loses
-
--- the loss of an entry on its way to a machine
-abbrev pub loss_of : SealedEntry → ℕ → LossWhy → Loss
-loss_of e to why = record { from = e.entry.maker; number = e.entry.number; to = to; why = why }
-
--- the same where there is a cause
-abbrev pub lost_by : SealedEntry → ℕ → Option LossWhy → List Loss
-lost_by e to None = []
-lost_by e to (Some why) = loss_of e to why ∷ []
+use Rattle.floor_losses.specs.OfEntries.{loss_of, lost_by}
+use Rattle.floor_losses.specs.Scripted.{is_scripted}
 
 -- What becomes of an entry at the end that leads to a machine, by the cause of its loss: where a line of the script says
 -- so it is lost and the end stays; otherwise it is put, or it is lost because the link was found full.

@@ -10,4 +10,4 @@ mod sending;
 pub use links::Links;
 pub use making::{Memory, NewLinks, make_links};
 pub use parcel::Broadcast;
-pub use sending::{is_scripted, send_all};
+pub use sending::send_all;

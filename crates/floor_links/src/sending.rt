@@ -4,7 +4,7 @@ ghost use Rattle.std.specs.Prelude.{length, slice_index_or, vec_capacity, vec_le
 ghost use Rattle.entry_format.specs.SealedEntry.{SealedEntry};
 ghost use Rattle.broadcast_queues.specs.Ends.{IsOutOf, OutView, LinkView};
 ghost use Rattle.floor_losses.specs.declared.loss.Loss.{Loss};
-ghost use Rattle.floor_links.specs.Sendings.{is_scripted, AreCopies, IsSentBelow, IsSentTo};
+ghost use Rattle.floor_links.specs.Sendings.{AreCopies, IsSentBelow, IsSentTo};
 ghost use Rattle.floor_links.specs.Rows.{HaveCapacity, IsRowOf, link_at};
 
 use crate::links::Links;
@@ -13,7 +13,7 @@ use broadcast_queues::{Link, LinkOut};
 use election_script::Lose;
 use entry_format::Sealed;
 use entry_order::Knot;
-use floor_losses::{Loss, LossWhy};
+use floor_losses::{Loss, LossWhy, is_scripted};
 use std::sync::Wait;
 
 // Sends one copy, or notes why it isn't sent.
@@ -55,13 +55,6 @@ fn send_one<R: Wait>(
             why: LossWhy::LinkFull,
         }),
     }
-}
-
-/// Whether a line of the script says that the entry is lost on its way to `to`.
-pub fn is_scripted(loses: &[Lose], from: u32, number: u32, to: u32) -> bool
-    ensures { result ≡ is_scripted loses.now from number to }
-{
-    loses.iter().any(|lose| lose.from == from && lose.number == number && lose.to == to)
 }
 
 /// Sends a copy of machine `own`'s entry to each other machine, in ascending order, and notes each

@@ -1,6 +1,6 @@
 -- What the steps of a sweep keep: each entry is heard, lost or waiting.
 use Rattle.std.proofs.Common.{◌≡◌, ◌≢◌, ℕ, suc, ◌+◌, ◌<◌, true, false, cond, List, [], ◌∷◌, ◌++◌}
-use Rattle.std.proofs.Common.{length, refl, sym, ap, ◌∙◌, subst, arith, inl, inr}
+use Rattle.std.proofs.Common.{length, sym, ap, ◌∙◌, subst, arith, inl, inr}
 use Rattle.std.proofs.Common.{get_or, length-append}
 use Rattle.std.specs.Prelude.{◌==◌, not}
 use Rattle.std.specs.List.{Contains, filter, AllPairs, HoldsAt}
@@ -18,6 +18,7 @@ use Rattle.entry_order.proofs.Machines.{get_same, get_other}
 use Rattle.floor_losses.specs.declared.loss.Loss.{Loss}
 use Rattle.floor_losses.specs.Losses.{is_of, is_lost, got, got_from, arriving}
 use Rattle.floor_losses.specs.Balance.{IsBalanced}
+use Rattle.floor_losses.proofs.Pushes.{got-push, got-sent, sent-push, sent-got}
 use Rattle.floor_losses.proofs.Arriving.{other_from, other_to, lost_push, arriving_same, arriving_kept, lost_on_arrival}
 
 -- a read of what is there
@@ -75,30 +76,6 @@ module _ {T : Type 0} (node : T → Node) where
   pub history_other : (w : World T) (m n : ℕ) (x : Event T) → n ≢ m →
       history (with_machine m (append x) w) n ≡ history w n
   history_other w m n x differs = ap history_of (get_other m n (append x) w differs)
-
-  -- what is got comes behind what was got before
-  got-push : (h : List (Event T)) (x : T) → got (h ++ Got x ∷ []) ≡ got h ++ x ∷ []
-  got-push [] x = refl
-  got-push (Sent e ∷ h) x = got-push h x
-  got-push (Got e ∷ h) x = ap (λ l. e ∷ l) (got-push h x)
-
-  -- what was sent isn't got
-  got-sent : (h : List (Event T)) (x : T) → got (h ++ Sent x ∷ []) ≡ got h
-  got-sent [] x = refl
-  got-sent (Sent e ∷ h) x = got-sent h x
-  got-sent (Got e ∷ h) x = ap (λ l. e ∷ l) (got-sent h x)
-
-  -- what is sent comes behind what was sent before
-  sent-push : (h : List (Event T)) (x : T) → sent (h ++ Sent x ∷ []) ≡ sent h ++ x ∷ []
-  sent-push [] x = refl
-  sent-push (Sent e ∷ h) x = ap (λ l. e ∷ l) (sent-push h x)
-  sent-push (Got e ∷ h) x = sent-push h x
-
-  -- what was got isn't sent
-  sent-got : (h : List (Event T)) (x : T) → sent (h ++ Got x ∷ []) ≡ sent h
-  sent-got [] x = refl
-  sent-got (Sent e ∷ h) x = ap (λ l. e ∷ l) (sent-got h x)
-  sent-got (Got e ∷ h) x = sent-got h x
 
   module _ (w : World T) (losses : List Loss) (waits : ℕ → ℕ → List T) where
     -- the first that waits for b from a is heard

@@ -28,7 +28,8 @@ use Rattle.polling_world.proofs.MadeEntries.{may_follow}
 use Rattle.polling_world.proofs.Placing.{history_there, one_there, set_same}
 use Rattle.floor_sweep.specs.Places.{AreOfSent, count_sent}
 use Rattle.floor_sweep.specs.inside.Fates.{AreNumbered}
-use Rattle.floor_sweep.specs.inside.Steps.{IsStill, IsStillAt, IsSwept, actions_left, did, no_waits, waits_from}
+use Rattle.floor_sweep.specs.Done.{did}
+use Rattle.floor_sweep.specs.inside.Steps.{IsStill, IsStillAt, IsSwept, actions_left, no_waits, waits_from}
 use Rattle.floor_sweep.proofs.Events as event
 use Rattle.floor_sweep.proofs.Handed.{balance_same, numbered_set}
 use Rattle.floor_sweep.proofs.Left.{left_done}

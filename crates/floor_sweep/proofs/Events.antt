@@ -29,17 +29,19 @@ use Rattle.floor_sweep.specs.Swept.{HoldsSame, IsCause, IsLicensed}
 use Rattle.floor_sweep.proofs.Places.{IsMachine-event, get_others, history_more, length_set}
 
 -- what was held is still held
-held_more : (h : List (Event SealedEntry)) (x : Event SealedEntry) (d : List ℕ) →
+pub held_more : (h : List (Event SealedEntry)) (x : Event SealedEntry) (g : SealedEntry) → Contains (held h) g →
+    Contains (held (h ++ x ∷ [])) g
+held_more h x g c =
+    subst (λ (l : List SealedEntry). Contains l g) (sym (map-append entry_of h (x ∷ [])))
+    (Contains-append_left (held h) (held (x ∷ [])) g c)
+
+-- and a digest that was borne is still borne
+borne_more : (h : List (Event SealedEntry)) (x : Event SealedEntry) (d : List ℕ) →
     IsBorneIn node_of_sealed (held h) d → IsBorneIn node_of_sealed (held (h ++ x ∷ [])) d
-held_more h x d borne = (
-  borne.0,
-  subst (λ (l : List SealedEntry). Contains l borne.0) (sym (map-append entry_of h (x ∷ [])))
-      (Contains-append_left (held h) (held (x ∷ [])) borne.0 borne.1),
-  borne.2,
-)
+borne_more h x d borne = (borne.0, held_more h x borne.0 borne.1, borne.2)
 
 -- a machine that goes on isn't where it is to stop
-going_on : (m : MachineState) → IsGoing m → m.stop ≢ Some (length m.events)
+pub going_on : (m : MachineState) → IsGoing m → m.stop ≢ Some (length m.events)
 going_on m going at =
     let n : ℕ = length m.events in
     let reached : is_reached m.stop n ≡ true = ap (λ o. is_reached o n) at ∙ le-leb n n (omega arith) in
@@ -157,7 +159,7 @@ module _ (ms : List MachineState) (at : ℕ) (m : MachineState) (x : Event Seale
         | inl s ↦ (let one = one_there ms at cause.0 m (ap (slice_get ms) (sym s) ∙ cause.1) stood in (
           with_event x m,
           ap (slice_get after) s ∙ set_get ms at m (with_event x m) stood,
-          same_event loss.from loss.number m (with_event x m) (λ d b. held_more m.events x d b)
+          same_event loss.from loss.number m (with_event x m) (λ d b. borne_more m.events x d b)
               (subst (λ (u : MachineState). HoldsSame ms loss.from loss.number u) one cause.2),
         ))
         | inr n ↦ (

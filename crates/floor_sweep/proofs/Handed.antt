@@ -30,11 +30,13 @@ use Rattle.polling_world.specs.Worlds.{world_of}
 use Rattle.polling_world.proofs.Placing.{history_there, set_cases, set_same}
 use Rattle.polling_world.specs.Configs.{Config}
 use Rattle.floor_sweep.specs.Places.{ArePlaced, count_sent}
-use Rattle.floor_sweep.specs.Swept.{IsCause, IsLicensed, is_scripted}
-use Rattle.floor_sweep.specs.inside.Fates.{AreNumbered, IsFate, IsHanded, lost_by}
+use Rattle.floor_losses.specs.Scripted.{is_scripted}
+use Rattle.floor_losses.specs.OfEntries.{lost_by}
+use Rattle.floor_sweep.specs.Swept.{IsCause, IsLicensed}
+use Rattle.floor_sweep.specs.inside.Fates.{AreNumbered, IsFate, IsHanded}
 use Rattle.floor_sweep.specs.inside.Steps.{IsSwept, IsWaiting, Waits}
 use Rattle.floor_sweep.proofs.Events as event
-use Rattle.floor_sweep.proofs.Numbers.{numbers_below, rising_sent}
+use Rattle.floor_losses.proofs.Numbers.{numbers_below, rising_sent}
 use Rattle.floor_sweep.proofs.Places.{get_within, history_event, history_others, history_set, length_set, length_world}
 
 -- what balances balances for the same histories and as many of them

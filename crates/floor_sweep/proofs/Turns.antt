@@ -22,7 +22,8 @@ use Rattle.floor_sweep.specs.Places.{ArePlaced, AreOfSent, HasGrown, IsAt}
 use Rattle.floor_sweep.specs.Swept.{IsLicensed}
 use Rattle.floor_sweep.specs.Wholes.{IsWholeRun}
 use Rattle.floor_sweep.specs.inside.Fates.{AreNumbered}
-use Rattle.floor_sweep.specs.inside.Steps.{AreStillBelow, IsStillAt, IsSwept, Waits, actions_left, did, no_waits}
+use Rattle.floor_sweep.specs.Done.{did}
+use Rattle.floor_sweep.specs.inside.Steps.{AreStillBelow, IsStillAt, IsSwept, Waits, actions_left, no_waits}
 use Rattle.floor_sweep.proofs.Handed.{stopped_there}
 
 -- the machines below `at` acted, or none of them could

@@ -1,23 +1,19 @@
 -- What may be lost in a sweep, and why.
-use Rattle.std.specs.Prelude.{◌≡◌, ◌≢◌, ℕ, ◌<◌, ◌≤◌, ◌==◌, ◌&&◌, Bool, true, List, length, Some, slice_get}
-use Rattle.std.specs.List.{Contains, list_any}
+use Rattle.std.specs.Prelude.{◌≡◌, ◌≢◌, ℕ, ◌<◌, ◌≤◌, true, List, length, Some, slice_get}
+use Rattle.std.specs.List.{Contains}
 use Rattle.entry_format.specs.Nodes.{node_of_sealed}
 use Rattle.entry_format.specs.SealedEntry.{SealedEntry}
 use Rattle.entry_order.specs.History.{held, sent}
 use Rattle.entry_order.specs.Naming.{IsBorneIn}
 use Rattle.entry_order.specs.World.{history}
 use Rattle.election_script.specs.declared.script.Lose.{Lose}
+use Rattle.floor_losses.specs.Scripted.{is_scripted}
 use Rattle.floor_losses.specs.declared.loss.Loss.{Loss}
 use Rattle.floor_losses.specs.declared.loss.LossWhy.{LossWhy}
 use Rattle.floor_losses.specs.declared.loss.LossWhy.TheVariants.{Scripted, LinkFull, ToStopped, LogFull, SameDigest}
 use Rattle.polling_world.specs.Machines.{MachineState}
 use Rattle.polling_world.specs.Worlds.{world_of}
 use Rattle.floor_sweep.specs.Places.{count_sent}
-
--- a line of the script says that the machine's entry with this number is lost on its way to `to`
-abbrev pub is_scripted : List Lose → ℕ → ℕ → ℕ → Bool
-is_scripted loses from number to =
-    list_any (λ lose. (lose.from == from) && ((lose.number == number) && (lose.to == to))) loses
 
 -- an entry of the machine `from` with this number has a digest that m holds
 abbrev pub HoldsSame : List MachineState → ℕ → ℕ → MachineState → Type 0

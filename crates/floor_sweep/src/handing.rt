@@ -4,7 +4,6 @@ ghost use Rattle.entry_format.specs.SealedEntry.{SealedEntry};
 ghost use Rattle.polling_world.specs.Machines.{MachineState};
 ghost use Rattle.floor_losses.specs.declared.loss.Loss.{Loss};
 ghost use Rattle.floor_sweep.specs.Waits.{AreOnWay, waits_of};
-ghost use Rattle.floor_sweep.specs.Swept.{is_scripted};
 ghost use Rattle.floor_sweep.specs.inside.Fates.{AreNumbered, IsFate, IsHanded};
 ghost use Rattle.floor_sweep.specs.inside.Steps.{IsSwept, actions_left, no_waits, waits_from};
 
@@ -12,15 +11,8 @@ use crate::sweeping::{Memory, Waiting};
 use election_script::Lose;
 use entry_format::Sealed;
 use entry_order::Knot;
-use floor_losses::{Loss, LossWhy};
+use floor_losses::{Loss, LossWhy, is_scripted};
 use polling_world::{Machine, MachineHeard};
-
-/// Whether a line of the script says that the entry is lost on its way to `to`.
-pub fn is_scripted(loses: &[Lose], from: u32, number: u32, to: u32) -> bool
-    ensures { result ≡ is_scripted loses.now from number to }
-{
-    loses.iter().any(|lose| lose.from == from && lose.number == number && lose.to == to)
-}
 
 // The machine hears the entry, unless a line says that it is lost. Tells why it isn't heard.
 fn fate(machine: &mut Machine, s: Sealed, scripted: bool) -> Option<LossWhy>

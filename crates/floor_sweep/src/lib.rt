@@ -6,7 +6,6 @@ mod handing;
 mod rounds;
 mod sweeping;
 
-pub use handing::is_scripted;
 pub use sweeping::{Memory, Waiting, sweep};
 
 #[cfg(test)]

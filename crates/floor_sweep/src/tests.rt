@@ -8,7 +8,7 @@ ghost use Rattle.floor_sweep.specs.Places.{IsAt};
 
 use super::*;
 use election_script::{Script, StopAt, read};
-use floor_losses::{Loss, LossWhy};
+use floor_losses::Loss;
 use polling_world::{Left, Machine, key_of, keys_of, roster_of};
 use roster::Roster;
 use std::alloc::{AllocError, Global};
@@ -88,17 +88,6 @@ fn left_word(left: Option<Left>) -> &'static str {
     }
 }
 
-/// The word of why an entry is lost.
-fn loss_word(why: LossWhy) -> &'static str {
-    match why {
-        LossWhy::Scripted => "Scripted",
-        LossWhy::LinkFull => "LinkFull",
-        LossWhy::ToStopped => "ToStopped",
-        LossWhy::LogFull => "LogFull",
-        LossWhy::SameDigest => "SameDigest",
-    }
-}
-
 /// How many entries each machine sent and holds, why its next action isn't done, and the losses.
 fn outcome(alloc: Global, machines: &[Machine], losses: &[Loss]) -> Result<String, AllocError> {
     let mut text = String::new(alloc);
@@ -110,7 +99,7 @@ fn outcome(alloc: Global, machines: &[Machine], losses: &[Loss]) -> Result<Strin
     }
     for loss in losses {
         let (from, number, to) = (loss.from, loss.number, loss.to);
-        let word = loss_word(loss.why);
+        let word = loss.why.word();
         text.push_str(&format!(in alloc; " {from}.{number} {to} {word}")?)?;
     }
     Ok(text)

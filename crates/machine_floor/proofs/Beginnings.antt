@@ -27,6 +27,7 @@ use Rattle.machine_floor.specs.Stations.{ticks_from}
 use Rattle.finished_floor.specs.Places.{IsStopOf}
 use Rattle.machine_floor.specs.Fresh.{lines_of, IsNewStation}
 use Rattle.machine_floor.specs.inside.Beginning.{begun, IsBeginning}
+use Rattle.machine_floor.proofs.Hands.{some_of}
 
 module _ (script : Script) (m : MachineState) (outs : List (OutView SealedEntry)) (inns : List (InView SealedEntry))
     (is : IsBeginning script m outs inns) (kept : IsMachine m) where
@@ -85,11 +86,6 @@ none_taken links at l k d lt =
     (get_or-map (λ (row : List LinkView). in_of (get_or row at l)) links k [] d
     (omega (arith, length-map links (λ (row : List LinkView). in_of (get_or row at l)))))
 
--- a member of a list that has one
-one_of : {X : Type 0} (xs : List X) (k : ℕ) → k < length xs → X
-one_of [] k lt = absurd (omega arith)
-one_of (x ∷ xs) k lt = x
-
 module _ (script : Script) (lawful : IsLawful script) (links : List (List LinkView))
     (outs : List (List (OutView SealedEntry))) (inns : List (List (InView SealedEntry)))
     (are : AreNewLinks (length script.machines) script.link links outs inns) (at : ℕ) (stop : Option ℕ)
@@ -102,7 +98,7 @@ module _ (script : Script) (lawful : IsLawful script) (links : List (List LinkVi
   row = get_or links at []
 
   pub l : LinkView
-  l = one_of (get_or links at []) at (let s = are.square at inside in let k = inside in omega arith)
+  l = some_of (get_or links at []) at (let s = are.square at inside in let k = inside in omega arith)
 
   abbrev pub the_outs : List (OutView SealedEntry)
   the_outs = map out_of (get_or links at [])

@@ -16,12 +16,15 @@ use Rattle.floor_losses.specs.declared.loss.Loss.{Loss}
 use Rattle.floor_losses.specs.declared.loss.LossWhy.{LossWhy}
 use Rattle.floor_losses.specs.declared.loss.LossWhy.TheVariants.{Scripted, LinkFull, ToStopped, LogFull, SameDigest}
 use Rattle.floor_losses.proofs.Lists.{filter_all}
-use Rattle.floor_links.specs.Sendings.{is_scripted, IsWay}
+use Rattle.floor_losses.specs.Scripted.{is_scripted}
+use Rattle.floor_links.specs.Sendings.{IsWay}
 use Rattle.polling_world.specs.declared.heard.MachineHeard.{MachineHeard}
 use Rattle.polling_world.specs.declared.heard.MachineHeard.TheVariants as heard
 use Rattle.polling_world.specs.Hearing.{IsHeard}
 use Rattle.polling_world.specs.Machines.{MachineState, IsMachine, IsWithinStop, is_reached, has_stopped, with_event}
 use Rattle.polling_world.specs.Waiting.{IsGoing}
+use Rattle.floor_sweep.proofs.Events.{going_on, held_more}
+use Rattle.floor_sweep.proofs.Handed.{stopped_there}
 use Rattle.machine_floor.specs.Stations.{numbered_below, IsOutCause, IsInCause}
 use Rattle.machine_floor.specs.Turns.{cause_of}
 
@@ -91,21 +94,6 @@ out_new loses link e outs new loss ToStopped some from number way lower = way so
 out_new loses link e outs new loss LogFull some from number way lower = way some
 out_new loses link e outs new loss SameDigest some from number way lower = way some
 
--- what was held is still held
-held_more : (h : List (Event SealedEntry)) (x : Event SealedEntry) (g : SealedEntry) → Contains (held h) g →
-    Contains (held (h ++ x ∷ [])) g
-held_more h x g c =
-    subst (λ (l : List SealedEntry). Contains l g) (sym (map-append entry_of h (x ∷ [])))
-    (Contains-append_left (held h) (held (x ∷ [])) g c)
-
--- a machine that goes on isn't where it is to stop
-going_on : (m : MachineState) → IsGoing m → m.stop ≢ Some (length m.events)
-going_on m going at =
-    let n : ℕ = length m.events in
-    let reached : is_reached m.stop n ≡ true = ap (λ o. is_reached o n) at ∙ le-leb n n (omega arith) in
-    let has : has_stopped m ≡ true = or_right m.marked (is_reached m.stop n) reached in
-    true≢false (sym going ∙ not_from_true (has_stopped m) has)
-
 -- a cause on a link in stays when the machine goes on
 pub in_stays : (m : MachineState) (x : Event SealedEntry) (y : SealedEntry) (why : LossWhy) → IsGoing m →
     length m.events < m.config.log → IsInCause m y why → IsInCause (with_event x m) y why
@@ -115,21 +103,12 @@ in_stays m x y ToStopped going room cause = absurd (going_on m going cause)
 in_stays m x y LogFull going room cause = absurd (omega arith)
 in_stays m x y SameDigest going room cause = (cause.0, held_more m.events x cause.0 cause.1, cause.2)
 
-stop_at : (stop : Option ℕ) (n : ℕ) → is_reached stop n ≡ true → IsWithinStop stop n → stop ≡ Some n
-stop_at None n reached within = absurd (true≢false (sym reached))
-stop_at (Some k) n reached within = ap (λ i. Some i) (let l = leb-true k n reached in omega arith)
-
-unmarked : (marked reached : Bool) → marked ≡ false → (marked || reached) ≡ true → reached ≡ true
-unmarked marked reached is has = sym (ap (λ b. b || reached) is) ∙ has
-
 -- what isn't heard has its cause
 pub in_new : (m : MachineState) (x : SealedEntry) (answer : MachineHeard) (why : LossWhy) → IsMachine m →
     m.marked ≡ false → IsHeard m x answer → cause_of answer ≡ Some why → IsInCause m x why
 in_new m x heard.Taken why is marked h some = cc
 in_new m x (heard.Stopped back) why is marked h some =
-    let n : ℕ = length m.events in
-    let at : m.stop ≡ Some n = stop_at m.stop n (unmarked m.marked (is_reached m.stop n) marked h.0) is.stop in
-    subst (λ (w : LossWhy). IsInCause m x w) (same_Some ToStopped why some) at
+    subst (λ (w : LossWhy). IsInCause m x w) (same_Some ToStopped why some) (stopped_there m is marked h.0)
 in_new m x (heard.Own back) why is marked h some = cc
 in_new m x (heard.Already back) why is marked h some =
     subst (λ (w : LossWhy). IsInCause m x w) (same_Some SameDigest why some) h.1.2

@@ -28,7 +28,7 @@ use Rattle.floor_losses.specs.Balance.{IsBalanced}
 use Rattle.floor_losses.proofs.Arriving.{is_of_parts, itself, other_from, other_to}
 use Rattle.floor_losses.proofs.Lists.{filter_twice}
 use Rattle.floor_losses.proofs.Once.{once_append, differ_sym}
-use Rattle.floor_links.specs.Sendings.{is_scripted}
+use Rattle.floor_losses.specs.Scripted.{is_scripted}
 use Rattle.floor_links.specs.Rows.{link_at}
 use Rattle.floor_sweep.specs.declared.sweeping.Waiting.{Waiting}
 use Rattle.floor_sweep.specs.Places.{count_sent}
@@ -47,7 +47,8 @@ use Rattle.machine_floor.specs.Fresh.{lines_of, IsNewStation, AreNewStations}
 use Rattle.machine_floor.specs.inside.Gathering.{by_of, AreMadeBy, AreEndsOf, AreRests}
 use Rattle.machine_floor.proofs.Gathers.{gather_pair}
 use Rattle.machine_floor.proofs.Linked.{rows_are, row_is, ends_out, ends_in}
-use Rattle.machine_floor.proofs.Numbers.{numbers_below}
+use Rattle.floor_losses.proofs.Numbers.{numbers_below}
+use Rattle.finished_floor.proofs.Caused.{all_by}
 
 -- two tests that hold together are one
 same_test : (x y : Bool) → (x ≡ true → y ≡ true) → (y ≡ true → x ≡ true) → x ≡ y
@@ -70,10 +71,6 @@ member_at xs k x stands =
 -- what is true of all is true of what stands at a place
 all_at : {X : Type 0} (P : X → Type 0) (xs : List X) (k : ℕ) (x : X) → All P xs → slice_get xs k ≡ Some x → P x
 all_at P xs k x all stands = All-contains P xs x all (member_at xs k x stands)
-
--- what is true of each member is true of all
-all_of : {X : Type 0} (P : X → Type 0) (xs : List X) → ((x : X) → Contains xs x → P x) → All P xs
-all_of P xs each k d lt = each (get_or xs k d) (Contains-get_or xs k d lt)
 
 -- an element at a place within the list
 element : {X : Type 0} (xs : List X) (k : ℕ) → k < length xs → (x : X) × (slice_get xs k ≡ Some x)
@@ -326,7 +323,7 @@ module _ (script : Script) (links : List (List LinkView)) (ss : List StationStat
         subst (λ (o : List (OutView SealedEntry)). AreMadeBy a (get_or o b d).put) (sym (outs_at a s.0 s.1))
         (subst (AreMadeBy a)
         (sym (is.puts b d (omega (arith, rows)) (λ e. differs (sym (e ∙ number)))))
-        (all_of (λ (x : SealedEntry). x.entry.maker ≡ a)
+        (all_by (λ (x : SealedEntry). x.entry.maker ≡ a)
         (arriving node_of_sealed s.0.losses s.0.machine.config.number b (sent s.0.machine.events))
         (λ x c. makers_sent s.0.machine.config.number s.0.machine.events is.machine.legal x
         (Contains-filter_cases
@@ -471,8 +468,8 @@ module _ (script : Script) (links : List (List LinkView)) (ss : List StationStat
     on_way_ear b t q x ear =
         let off = heard_off b t q x ear in
         let is = there x.from off.sender off.sends in
-        let low = numbers_below off.sender.machine.config.number off.sender.machine.events is.machine.legal off.entry
-        off.was_sent in
+        let low = (numbers_below off.sender.machine.config.number off.sender.machine.events is.machine.legal off.entry
+        off.was_sent).0 in
         let n = count_at x.from off.sender off.sends in
         let k = off.number in
         record {
@@ -616,8 +613,8 @@ module _ (script : Script) (links : List (List LinkView)) (ss : List StationStat
       on_way = subst (λ n. AreOnWay n waits) (sym count) rests.on_way;
       balanced = balanced;
       once = once;
-      only = all_of (IsOnWay machines) lost only;
-      causes = all_of (λ (x : Loss). IsCauseOf script machines lost x x.why) lost caused;
+      only = all_by (IsOnWay machines) lost only;
+      causes = all_by (λ (x : Loss). IsCauseOf script machines lost x x.why) lost caused;
       scripted = scripted;
       by = zip_maps (λ (m : MachineState) (row : List (Option ℕ)). row ≡ passes_of m.events)
           (λ (s : StationState). s.machine) (λ (s : StationState). by_of s.ticks) ss

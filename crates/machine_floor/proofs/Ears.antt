@@ -23,13 +23,14 @@ use Rattle.floor_losses.specs.Losses.{arriving, got_from, is_of, Differ}
 use Rattle.floor_losses.proofs.Once.{differ_sym}
 use Rattle.std.proofs.lemmas.List.Quantifiers.{all_pairs_push}
 use Rattle.floor_losses.proofs.Arriving.{other_from, other_number, itself}
-use Rattle.floor_links.proofs.Ends.{other_way, got_from-here, got_from-other, sent-got, takes_heard, takes_lost}
+use Rattle.floor_losses.proofs.Pushes.{sent-got}
+use Rattle.floor_links.proofs.Ends.{other_way, got_from-here, got_from-other, takes_heard, takes_lost}
 use Rattle.polling_world.specs.Machines.{IsMachine, with_event}
 use Rattle.polling_world.specs.Waiting.{IsGoing}
 use Rattle.machine_floor.specs.Stations.{StationState, IsStation, IsInCause, IsOfHand, IsOfEar, IsTakenWell}
 use Rattle.machine_floor.specs.Stations.{ticks_from}
 use Rattle.machine_floor.proofs.Causes.{in_stays}
-use Rattle.machine_floor.proofs.Numbers.{ticks_push}
+use Rattle.machine_floor.proofs.Ticks.{ticks_push}
 
 abbrev pub Inn : Type 0
 Inn = InView SealedEntry

@@ -16,7 +16,7 @@ use Rattle.floor_losses.specs.Losses.{arriving, got_from, is_lost}
 use Rattle.floor_losses.proofs.Arriving.{gathered, other_from, other_number}
 use Rattle.floor_links.proofs.Ends.{none_of}
 use Rattle.machine_floor.specs.Stations.{StationState, IsStation}
-use Rattle.machine_floor.proofs.Numbers.{rising_sent}
+use Rattle.floor_losses.proofs.Numbers.{rising_sent}
 
 abbrev Rising : List SealedEntry → Type 0
 Rising es = AllPairs (λ (x y : SealedEntry). x.entry.number < y.entry.number) es

@@ -18,7 +18,8 @@ use Rattle.polling_world.specs.Machines.{MachineState, IsMachine, with_event}
 use Rattle.polling_world.proofs.MadeEntries.{may_follow}
 use Rattle.machine_floor.specs.Stations.{StationState, IsStation}
 use Rattle.machine_floor.specs.Turns.{HandDid}
-use Rattle.machine_floor.proofs.Numbers.{numbers_below, length_ticks}
+use Rattle.floor_losses.proofs.Numbers.{numbers_below}
+use Rattle.machine_floor.proofs.Ticks.{length_ticks}
 use Rattle.machine_floor.proofs.Ears.{few_taken}
 use Rattle.machine_floor.proofs.Hands.{IsStation-hand}
 use Rattle.machine_floor.proofs.Made.{outs_same, made_same}
@@ -77,7 +78,7 @@ module _ (old : StationState) (is : IsStation old) where
         subst (All (λ (x : SealedEntry). x.entry.number < number)) (sym (is.puts to d lt differs))
         (All-filter _ (λ (x : SealedEntry). x.entry.number < number) (sent old.machine.events)
         (All-weaker (Contains (sent old.machine.events)) (λ (x : SealedEntry). x.entry.number < number)
-        (λ x c. let n = numbers_below old.machine.config.number old.machine.events is.machine.legal x c in
+        (λ x c. let n = (numbers_below old.machine.config.number old.machine.events is.machine.legal x c).0 in
         omega (arith, done.counted)) (sent old.machine.events) (All-contains_itself (sent old.machine.events))))
 
     module _ (outs : List (OutView SealedEntry)) (losses : List Loss) (ticks : List Tick) (kept : IsMachine new)

@@ -18,17 +18,21 @@ use Rattle.floor_losses.specs.declared.loss.LossWhy.TheVariants.{Scripted}
 use Rattle.floor_losses.specs.Losses.{arriving, is_lost}
 use Rattle.floor_losses.proofs.Arriving.{other_from, other_number, other_to}
 use Rattle.floor_losses.proofs.Once.{once_append}
-use Rattle.floor_links.specs.Sendings.{is_scripted, loss_of, IsWay, IsSentBelow}
+use Rattle.floor_losses.specs.OfEntries.{loss_of}
+use Rattle.floor_losses.specs.Scripted.{is_scripted}
+use Rattle.floor_links.specs.Sendings.{IsWay, IsSentBelow}
 use Rattle.floor_links.proofs.Ways.{put_or_lost, put_grows, way_of_loss, named_is_lost}
-use Rattle.floor_links.proofs.Ends.{puts_more, other_way, got_from-sent, sent-push}
+use Rattle.floor_losses.proofs.Pushes.{sent-push}
+use Rattle.floor_links.proofs.Ends.{puts_more, other_way, got_from-sent}
 use Rattle.polling_world.specs.Machines.{IsMachine, with_event}
 use Rattle.machine_floor.specs.Stations.{StationState, IsStation, IsOfHand, IsOfEar, ticks_from}
 use Rattle.polling_world.specs.Waiting.{IsGoing}
 use Rattle.machine_floor.proofs.Causes.{End, out_stays, out_new, in_stays}
-use Rattle.machine_floor.proofs.Numbers.{numbers_below, ticks_push}
+use Rattle.floor_losses.proofs.Numbers.{numbers_below}
+use Rattle.machine_floor.proofs.Ticks.{ticks_push}
 
 -- a member of a list that has one
-some_of : {X : Type 0} (xs : List X) (k : ℕ) → k < length xs → X
+pub some_of : {X : Type 0} (xs : List X) (k : ℕ) → k < length xs → X
 some_of [] k lt = absurd (omega arith)
 some_of (x ∷ xs) k lt = x
 
@@ -60,7 +64,7 @@ module _ (old : StationState) (e : SealedEntry) (outs : List (OutView SealedEntr
         subst (All (λ (x : SealedEntry). x.entry.number < e.entry.number)) (sym (is.puts to d lt differs))
         (All-filter _ (λ (x : SealedEntry). x.entry.number < e.entry.number) (sent old.machine.events)
         (All-weaker (Contains (sent old.machine.events)) (λ (x : SealedEntry). x.entry.number < e.entry.number)
-        (λ x c. let n = numbers_below old.machine.config.number old.machine.events is.machine.legal x c in
+        (λ x c. let n = (numbers_below old.machine.config.number old.machine.events is.machine.legal x c).0 in
         omega (arith, number)) (sent old.machine.events) (All-contains_itself (sent old.machine.events))))
 
     -- what was put before is still there
@@ -101,7 +105,7 @@ module _ (old : StationState) (e : SealedEntry) (outs : List (OutView SealedEntr
               subst (λ (es : List SealedEntry). (get_or outs to d).put
               ≡ arriving node_of_sealed (old.losses ++ lost) own to es) (sym one_more)
               (puts_more old.losses lost own to k (sent h) e (get_or old.outs to d).put (get_or outs to d).put number
-              (numbers_below own h is.machine.legal)
+              (λ x c. (numbers_below own h is.machine.legal x c).0)
               (λ j loss below from. elim (is.fits j loss below) [ inl hand ↦ hand.1 | inr ear ↦ absurd (ear.2 from) ])
               (λ j loss below. (sends.losses j loss below).1 ∙ number)
               (is.puts to d (omega (arith, sends.count)) differs)

@@ -1,4 +1,4 @@
-pub mod Numbers
+pub mod Ticks
 pub mod Causes
 pub mod Hands
 pub mod Ears

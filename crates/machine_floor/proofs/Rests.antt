@@ -10,7 +10,7 @@ use Rattle.std.proofs.Math.ListN.{length-set}
 use Rattle.entry_format.specs.SealedEntry.{SealedEntry}
 use Rattle.broadcast_queues.specs.Ends.{OutView, InView, LinkView, IsOutOf, IsInOf}
 use Rattle.floor_links.specs.Rows.{link_at}
-use Rattle.floor_links.proofs.Makings.{Outs, Inns, lists_of}
+use Rattle.floor_links.proofs.Makings.{Outs, Inns, lists_of, last_of}
 use Rattle.floor_sweep.specs.declared.sweeping.Waiting.{Waiting}
 use Rattle.floor_sweep.specs.Waits.{AreOnWay, waits_of}
 use Rattle.machine_floor.specs.inside.Gathering.{waiting, out_at, in_at, AreMadeBy, AreEndsOf, AreRests, IsAdded}
@@ -99,16 +99,10 @@ none_added from to put taken before after same is = record {
   on_way = λ count lf lt on. subst (AreOnWay count) (sym is) on;
 }
 
-none_in : {X : Type 0} (xs : List X) → length xs ≡ 0 → xs ≡ []
+-- a list of no length has none
+pub none_in : {X : Type 0} (xs : List X) → length xs ≡ 0 → xs ≡ []
 none_in [] e = refl
 none_in (x ∷ xs) e = absurd (omega arith)
-
--- the last of a list
-last_of : {X : Type 0} (xs : List X) (x d : X) (k : ℕ) → k ≡ length xs → get_or (xs ++ x ∷ []) k d ≡ x
-last_of [] x d zero s = refl
-last_of [] x d (suc k) s = absurd (omega arith)
-last_of (y ∷ xs) x d zero s = absurd (omega arith)
-last_of (y ∷ xs) x d (suc k) s = last_of xs x d k (omega arith)
 
 -- the last of one of the lists is taken, as vectors have it
 pub popped_at : (vs : List (Vec (InView SealedEntry) Global)) (at : ℕ) (v w : Vec (InView SealedEntry) Global)

@@ -16,7 +16,7 @@ use Rattle.floor_losses.specs.declared.loss.LossWhy.{LossWhy}
 use Rattle.floor_losses.specs.declared.loss.LossWhy.TheVariants.{Scripted, LinkFull, ToStopped, LogFull, SameDigest}
 use Rattle.floor_losses.specs.Losses.{arriving, got_from, AreOnce}
 use Rattle.floor_links.specs.Rows.{link_at}
-use Rattle.floor_links.specs.Sendings.{is_scripted}
+use Rattle.floor_losses.specs.Scripted.{is_scripted}
 use Rattle.finished_floor.specs.Floors.{pass_of}
 use Rattle.polling_world.specs.Machines.{MachineState, IsMachine}
 
@@ -40,8 +40,7 @@ abbrev pub new_in : InView SealedEntry → InView SealedEntry
 new_in end = record end { taken = []; seen_put = 0; bares = 0 }
 
 -- the station as it was made, which no turn changes: its machine's configuration and stop, the script's lines, and
--- whose
--- links the ends are
+-- whose links the ends are
 abbrev pub made_of : StationState → StationState
 made_of s = record {
   machine = record s.machine { events = [] };
@@ -76,8 +75,7 @@ abbrev pub numbered_below : ℕ → List SealedEntry → List SealedEntry
 numbered_below number es = filter (λ e. nat_lt e.entry.number number) es
 
 -- Why an entry of a machine is lost on a link out: a line of the script names it; or none does, and as many entries
--- with
--- lower numbers were put on the link as it holds at most.
+-- with lower numbers were put on the link as it holds at most.
 abbrev pub IsOutCause : List Lose → ℕ → List (OutView SealedEntry) → Loss → LossWhy → Type 0
 IsOutCause loses link outs loss Scripted = is_scripted loses loss.from loss.number loss.to ≡ true
 IsOutCause loses link outs loss LinkFull =
@@ -88,8 +86,7 @@ IsOutCause loses link outs loss LogFull = ⊥
 IsOutCause loses link outs loss SameDigest = ⊥
 
 -- why the machine doesn't hear an entry that it took: it has stopped where it is to stop, it has as many events as it
--- can,
--- or it holds another entry with the same digest
+-- can, or it holds another entry with the same digest
 abbrev pub IsInCause : MachineState → SealedEntry → LossWhy → Type 0
 IsInCause m x Scripted = ⊥
 IsInCause m x LinkFull = ⊥
@@ -118,8 +115,7 @@ pub record IsTakenWell (from : ℕ) (taken : List SealedEntry) : Type 0 where
 
 -- What is true of every station. Its machine is one; each link out has what was sent and isn't lost on it, in order;
 -- what was got of each machine is what was taken of it and isn't lost, in order; each loss is of an entry that was
--- sent or
--- taken, has its cause, and is told once; and there is one tick for each event, in order.
+-- sent or taken, has its cause, and is told once; and there is one tick for each event, in order.
 pub record IsStation (s : StationState) : Type 0 where
   pub machine : IsMachine s.machine
   pub going : s.machine.marked ≡ false

@@ -8,26 +8,12 @@ use Rattle.floor_losses.specs.declared.loss.Loss.{Loss}
 use Rattle.floor_losses.specs.declared.loss.LossWhy.{LossWhy}
 use Rattle.floor_losses.specs.declared.loss.LossWhy.TheVariants.{ToStopped, LogFull, SameDigest}
 use Rattle.floor_links.specs.Sendings.{IsSentBelow}
-use Rattle.polling_world.specs.declared.acted.Acted.{Acted}
-use Rattle.polling_world.specs.declared.acted.Acted.TheVariants as acted
 use Rattle.polling_world.specs.declared.heard.MachineHeard.{MachineHeard}
 use Rattle.polling_world.specs.declared.heard.MachineHeard.TheVariants as heard
 use Rattle.polling_world.specs.Hearing.{IsHeard}
 use Rattle.polling_world.specs.Machines.{with_event}
 use Rattle.polling_world.specs.Sending.{MaySend}
 use Rattle.machine_floor.specs.Stations.{StationState, made_of}
-
--- whether the action was done
-abbrev pub did : Acted → Bool
-did (acted.Did number copies) = true
-did acted.Stopped = false
-did acted.NoMore = false
-did (acted.SupervisorNot cause) = false
-did (acted.BoothNot cause) = false
-did acted.Full = false
-did acted.StampSpent = false
-did acted.Spent = false
-did acted.SameDigest = false
 
 -- The machine sent its next entry, with one tick more, of pass 0; and each other machine's link has it, or there is one
 -- loss more by its cause. The ends in and the brand stay.

@@ -9,7 +9,8 @@ ghost use Rattle.polling_world.specs.Acting.{IsActed};
 ghost use Rattle.machine_floor.specs.Fresh.{lines_of};
 ghost use Rattle.machine_floor.specs.inside.Beginning.{IsBeginning, begun};
 ghost use Rattle.machine_floor.specs.Stations.{IsOfLinks, IsStation, made_of};
-ghost use Rattle.machine_floor.specs.Turns.{cause_of, did, EarDid, HandDid, HasLooked};
+ghost use Rattle.floor_sweep.specs.Done.{did};
+ghost use Rattle.machine_floor.specs.Turns.{cause_of, EarDid, HandDid, HasLooked};
 
 use broadcast_queues::{Link, LinkIn, LinkOut, Parcel};
 use election_script::{Lose, Script};

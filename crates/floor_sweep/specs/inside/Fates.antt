@@ -1,5 +1,5 @@
 -- What becomes of an entry that is handed to a machine.
-use Rattle.std.specs.Prelude.{◌≡◌, ℕ, Bool, true, false, IsTrue, List, [], ◌∷◌, ◌++◌, length, Option, Some, None}
+use Rattle.std.specs.Prelude.{◌≡◌, ℕ, Bool, true, false, IsTrue, List, ◌++◌, length, Option, Some, None}
 use Rattle.std.specs.Prelude.{slice_get, slice_set}
 use Rattle.entry_format.specs.Nodes.{node_of_sealed}
 use Rattle.entry_format.specs.SealedEntry.{SealedEntry}
@@ -7,13 +7,14 @@ use Rattle.entry_order.specs.declared.event.Event.TheVariants.{Got}
 use Rattle.entry_order.specs.History.{held}
 use Rattle.entry_order.specs.Naming.{IsBorneIn}
 use Rattle.election_script.specs.declared.script.Lose.{Lose}
+use Rattle.floor_losses.specs.OfEntries.{lost_by}
 use Rattle.floor_losses.specs.declared.loss.Loss.{Loss}
 use Rattle.floor_losses.specs.declared.loss.LossWhy.{LossWhy}
 use Rattle.floor_losses.specs.declared.loss.LossWhy.TheVariants.{Scripted, LinkFull, ToStopped, LogFull, SameDigest}
 use Rattle.polling_world.specs.declared.heard.MachineHeard.TheVariants as heard
 use Rattle.polling_world.specs.Hearing.{IsHeard}
 use Rattle.polling_world.specs.Machines.{MachineState, has_stopped, with_event}
-use Rattle.floor_sweep.specs.Swept.{is_scripted}
+use Rattle.floor_losses.specs.Scripted.{is_scripted}
 
 -- each machine has its place as its number
 abbrev pub AreNumbered : List MachineState → Type 0
@@ -29,11 +30,6 @@ IsFate scripted old e (Some LogFull) new =
     (scripted ≡ false) × (length old.events ≡ old.config.log) × (new ≡ old)
 IsFate scripted old e (Some SameDigest) new =
     (scripted ≡ false) × IsBorneIn node_of_sealed (held old.events) (node_of_sealed e).digest × (new ≡ old)
-
--- the loss of the entry, where there is a cause
-abbrev pub lost_by : SealedEntry → ℕ → Option LossWhy → List Loss
-lost_by e to None = []
-lost_by e to (Some why) = record { from = e.entry.maker; number = e.entry.number; to = to; why = why } ∷ []
 
 -- the machine at the place `to` was handed the entry
 pub record IsHanded (loses : List Lose) (to : ℕ) (e : SealedEntry) (old : List MachineState) (before : List Loss)

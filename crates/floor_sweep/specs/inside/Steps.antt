@@ -1,5 +1,5 @@
 -- What each step of a sweep keeps.
-use Rattle.std.specs.Prelude.{◌≡◌, ◌≢◌, ◌⊎◌, ℕ, ◌+◌, ◌-◌, ◌<◌, ◌≤◌, ◌==◌, ◌&&◌, nat_le, cond, true, false, Bool}
+use Rattle.std.specs.Prelude.{◌≡◌, ◌≢◌, ◌⊎◌, ℕ, ◌+◌, ◌-◌, ◌<◌, ◌≤◌, ◌==◌, ◌&&◌, nat_le, cond, true, false}
 use Rattle.std.specs.Prelude.{List, [], ◌∷◌, ◌++◌, length, All, Some, slice_get}
 use Rattle.std.specs.List.{Contains}
 use Rattle.entry_format.specs.Nodes.{node_of_sealed}
@@ -12,12 +12,13 @@ use Rattle.floor_losses.specs.declared.loss.LossWhy.TheVariants.{Scripted}
 use Rattle.floor_losses.specs.Balance.{IsBalanced}
 use Rattle.floor_losses.specs.Losses.{AreOnce}
 use Rattle.polling_world.specs.declared.acted.Acted.{Acted}
-use Rattle.polling_world.specs.declared.acted.Acted.TheVariants as acted
 use Rattle.polling_world.specs.Acting.{IsActed}
 use Rattle.polling_world.specs.Machines.{MachineState}
 use Rattle.polling_world.specs.Worlds.{world_of}
 use Rattle.floor_sweep.specs.Places.{ArePlaced, AreMadeByThese, AreOfSent, HaveGrown, count_sent}
-use Rattle.floor_sweep.specs.Swept.{IsLicensed, is_scripted}
+use Rattle.floor_losses.specs.Scripted.{is_scripted}
+use Rattle.floor_sweep.specs.Done.{did}
+use Rattle.floor_sweep.specs.Swept.{IsLicensed}
 
 -- what waits on each way
 abbrev pub Waits : Type 0
@@ -53,18 +54,6 @@ pub record IsSwept (loses : List Lose) (old : List MachineState) (before : List 
       count_sent old from ≤ number → number < count_sent new from → is_scripted loses from number to ≡ true →
       Contains after (record { from = from; number = number; to = to; why = Scripted })
       ⊎ IsWaiting waits from number to
-
--- whether the action was done
-abbrev pub did : Acted → Bool
-did (acted.Did number copies) = true
-did acted.Stopped = false
-did acted.NoMore = false
-did (acted.SupervisorNot cause) = false
-did (acted.BoothNot cause) = false
-did acted.Full = false
-did acted.StampSpent = false
-did acted.Spent = false
-did acted.SameDigest = false
 
 -- it was to do its next action, and didn't
 abbrev pub IsStill : MachineState → Type 0

@@ -1,9 +1,8 @@
-use Rattle.std.proofs.Common.{◌≡◌, ℕ, ◌+◌, ◌<◌, ◌++◌, [], ◌∷◌, List, length, map, Vec, Global, refl, sym, ap}
+use Rattle.std.proofs.Common.{◌≡◌, ◌+◌, ◌++◌, [], ◌∷◌, List, Vec, Global, refl, sym, ap}
 use Rattle.std.proofs.Common.{◌∙◌, subst, arith, vec_len}
-use Rattle.std.specs.Prelude.{All}
 use Rattle.std.proofs.lemmas.List.{length-map}
 use Rattle.entry_format.specs.SealedEntry.{SealedEntry}
-use Rattle.broadcast_queues.specs.Ends.{InView, OutView, LinkView}
+use Rattle.broadcast_queues.specs.Ends.{InView, LinkView}
 use Rattle.floor_links.specs.Fresh.{AreNewRows}
 use Rattle.floor_links.specs.inside.Growing.{IsRowBelow}
 use Rattle.floor_links.proofs.Makings.{AreEmpty, Inns, Outs, lists_of, lists_push, empty_more, rows_none, rows_more}

@@ -1,8 +1,8 @@
-use Rattle.std.proofs.Common.{◌≡◌, ℕ, ◌+◌, ◌<◌, ◌++◌, [], ◌∷◌, List, length, map, set, get_or, Vec, Global, refl, sym, ap}
-use Rattle.std.proofs.Common.{◌∙◌, subst, arith, vec_len}
+use Rattle.std.proofs.Common.{◌≡◌, ◌+◌, ◌<◌, ◌++◌, [], ◌∷◌, List, length, Vec, Global, sym}
+use Rattle.std.proofs.Common.{subst, arith, vec_len}
 use Rattle.std.proofs.lemmas.List.{length-map}
 use Rattle.entry_format.specs.SealedEntry.{SealedEntry}
-use Rattle.broadcast_queues.specs.Ends.{InView, OutView, LinkView}
+use Rattle.broadcast_queues.specs.Ends.{InView, LinkView}
 use Rattle.floor_links.specs.inside.Growing.{IsRowBelow}
 use Rattle.floor_links.proofs.Makings.{Inns, Outs, lists_of, row_none, row_more}
 use Rattle.floor_links.proofs.making.make_row.Goals as goal

@@ -3,7 +3,7 @@ use Rattle.entry_format.specs.SealedEntry.{SealedEntry}
 use Rattle.floor_losses.specs.declared.loss.Loss.{Loss}
 use Rattle.floor_losses.specs.declared.loss.LossWhy.{LossWhy}
 use Rattle.floor_losses.specs.declared.loss.LossWhy.TheVariants.{Scripted, LinkFull}
-use Rattle.floor_links.specs.Sendings.{loss_of}
+use Rattle.floor_losses.specs.OfEntries.{loss_of}
 use Rattle.floor_links.proofs.sending.send_one.Goals as goal
 
 -- the loss that was written is that of the entry

@@ -6,8 +6,9 @@ use Rattle.floor_losses.specs.declared.loss.Loss.{Loss}
 use Rattle.floor_losses.specs.declared.loss.LossWhy.{LossWhy}
 use Rattle.polling_world.specs.Machines.{MachineState}
 use Rattle.polling_world.proofs.Taking.{stands_at}
-use Rattle.floor_sweep.specs.Swept.{is_scripted}
-use Rattle.floor_sweep.specs.inside.Fates.{IsFate, lost_by}
+use Rattle.floor_losses.specs.Scripted.{is_scripted}
+use Rattle.floor_losses.specs.OfEntries.{lost_by}
+use Rattle.floor_sweep.specs.inside.Fates.{IsFate}
 use Rattle.floor_sweep.proofs.handing.hand_to.Goals as goal
 
 -- what became of the entry, by its own maker and number

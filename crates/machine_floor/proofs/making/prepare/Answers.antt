@@ -8,6 +8,7 @@ use Rattle.entry_format.specs.SealedEntry.{SealedEntry}
 use Rattle.floor_links.specs.Fresh.{AreNewLinks}
 use Rattle.floor_links.proofs.Makings.{lists_of}
 use Rattle.finished_floor.specs.Places.{IsStopOf}
+use Rattle.machine_floor.proofs.Rests.{none_in}
 use Rattle.machine_floor.proofs.FirstStations.{AreFirst, first_none, next_key, next_within, outs_there, inns_there}
 use Rattle.machine_floor.proofs.FirstStations.{may_begin, one_more, all_new, all_workable}
 use Rattle.machine_floor.proofs.making.prepare.Goals as goal
@@ -22,10 +23,6 @@ loop-key-init c = λ links are.
     (first_none script links (lists_of (into_iter_items c.into_iter-outs.result))
     (lists_of (into_iter_items c.into_iter-inns.result)) (into_iter_items c.into_iter-key-iterator.result)
     (c.into_iter-key-iterator.ensures.into_iter_gives.0 ∙ c.in_ok-keys.ensures))
-
-none_in : {X : Type 0} (xs : List X) → length xs ≡ 0 → xs ≡ []
-none_in [] e = refl
-none_in (x ∷ xs) e = absurd (omega arith)
 
 -- the links that were made are those of the ends that are left to be given
 given : (casts : List Cast0) (script : Script) (links : List (List LinkView))
