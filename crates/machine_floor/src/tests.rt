@@ -1,12 +1,15 @@
-//! Runs of a small script in threads. What they come to is a worked play of the same script.
-ghost use Rattle.std.specs.Prelude.{IfOk};
+//! Runs of a small script in threads, and turns of its stations on one thread. What they come to is
+//! a worked play of the same script.
+ghost use Rattle.std.specs.Prelude.{◌≡◌, All, IfOk};
 ghost use Rattle.election_script.specs.Lawful.{IsLawful};
+ghost use Rattle.machine_floor.specs.Stations.{IsOfLinks, made_of};
 
 use super::*;
 use election_script::{Script, read};
 use finished_floor::Floor;
 use hall_outside::{MeetGate, OpenGate};
 use std::alloc::{AllocError, Global};
+use std::sync::Wait;
 use std::test::Fail;
 
 /// One session at one booth.
@@ -42,10 +45,77 @@ fn counts(alloc: Global, floor: &Floor) -> Result<String, AllocError> {
     Ok(text)
 }
 
+/// The last of the stations, which are of these links.
+fn last(links: &Links, all: &mut Vec<Station>) -> Result<Station, Fail>
+    requires { All (λ s. IsOfLinks links.now (made_of s)) all.old.items }
+    ensures of { IfOk result (λ s. IsOfLinks links.now (made_of s)) }
+    ensures rest { IfOk result (λ _. All (λ s. IsOfLinks links.now (made_of s)) all.new.items) }
+{
+    match all.pop() {
+        Some(station) => Ok(station),
+        None => Err(Fail::from("there is a station")),
+    }
+}
+
+/// A turn of the station's hand.
+fn hand<R: Wait>(
+    rt: &R,
+    alloc: Global,
+    links: &Links,
+    station: &mut Station,
+) -> Result<bool, AllocError>
+    requires { IsOfLinks links.now (made_of station.old) }
+    ensures { made_of station.new ≡ made_of station.old }
+{
+    station.hand_turn(rt, alloc, links)
+}
+
+/// What turns of the first station's hand, and of the second's ear, hand and ear again, answer.
+fn turns<R: Wait>(
+    rt: &R,
+    alloc: Global,
+    links: &Links,
+    sv: &mut Station,
+    b1: &mut Station,
+) -> [u32; 4]
+    requires sv { IsOfLinks links.now (made_of sv.old) }
+    requires b1 { IsOfLinks links.now (made_of b1.old) }
+{
+    let opened = hand(rt, alloc, links, sv);
+    let heard = b1.ear_turn(rt, links);
+    let acted = hand(rt, alloc, links, b1);
+    let more = b1.ear_turn(rt, links);
+    [count(opened), heard, count(acted), more]
+}
+
+/// How many actions a hand did in a turn, or 2 where memory was refused.
+fn count(did: Result<bool, AllocError>) -> u32 {
+    match did {
+        Ok(did) => u32::from(did),
+        Err(_) => 2,
+    }
+}
+
 /// Which worker did the first event of a machine.
 fn first_worker(floor: &Floor, machine: usize) -> Option<u32> {
     let row = floor.by.get(machine)?;
     if row.is_empty() { None } else { row[0] }
+}
+
+/// The supervisor opens the place, which the booth hears; it isn't authorised yet, and no more was
+/// sent.
+#[test]
+fn a_booth_hears_the_opening_and_waits(rt: HostRuntime) -> Result<(), Fail> {
+    let script = session(rt.alloc())?;
+    let (mut all, links) = stations(rt.alloc(), &script)?;
+    let mut b1 = last(&links, &mut all)?;
+    let mut sv = last(&links, &mut all)?;
+    assert_eq!(rt;
+        turns(&rt, rt.alloc(), &links, &mut sv, &mut b1),
+        [1, 1, 0, 0]
+    );
+    assert_eq!(rt; sv.losses().len() + b1.losses().len(), 0);
+    Ok(())
 }
 
 #[test]
