@@ -1,15 +1,12 @@
 -- The causes of losses: they stay as a station goes on, and new losses have one.
-use Rattle.std.proofs.Common.{◌≡◌, ◌≢◌, ℕ, ◌<◌, ◌≤◌, Bool, true, false, List, [], ◌∷◌, ◌++◌, length, sym, ap}
-use Rattle.std.proofs.Common.{◌∙◌, subst, arith, Option, Some, None, get_or, length-append}
-use Rattle.std.specs.Prelude.{All, ◌||◌, nat_lt}
-use Rattle.std.specs.List.{Contains}
-use Rattle.std.proofs.lemmas.Bool.{lt-ltb, le-leb, leb-true, or_right, true≢false, not_from_true}
-use Rattle.std.proofs.lemmas.List.Elements.{filter-append, All-contains, Contains-append_left}
-use Rattle.std.proofs.lemmas.List.{map-append}
+use Rattle.std.proofs.Common.{◌≡◌, ℕ, ◌<◌, ◌≤◌, false, List, ◌++◌, length, ap}
+use Rattle.std.proofs.Common.{◌∙◌, subst, arith, Some, get_or, length-append}
+use Rattle.std.specs.Prelude.{All, nat_lt}
+use Rattle.std.proofs.lemmas.Bool.{lt-ltb}
+use Rattle.std.proofs.lemmas.List.Elements.{filter-append, All-contains}
 use Rattle.std.proofs.lemmas.Option.{same_Some}
 use Rattle.entry_format.specs.SealedEntry.{SealedEntry}
 use Rattle.entry_order.specs.declared.event.Event.{Event}
-use Rattle.entry_order.specs.History.{held, entry_of}
 use Rattle.election_script.specs.declared.script.Lose.{Lose}
 use Rattle.broadcast_queues.specs.Ends.{OutView}
 use Rattle.floor_losses.specs.declared.loss.Loss.{Loss}
@@ -21,7 +18,7 @@ use Rattle.floor_links.specs.Sendings.{IsWay}
 use Rattle.polling_world.specs.declared.heard.MachineHeard.{MachineHeard}
 use Rattle.polling_world.specs.declared.heard.MachineHeard.TheVariants as heard
 use Rattle.polling_world.specs.Hearing.{IsHeard}
-use Rattle.polling_world.specs.Machines.{MachineState, IsMachine, IsWithinStop, is_reached, has_stopped, with_event}
+use Rattle.polling_world.specs.Machines.{MachineState, IsMachine, with_event}
 use Rattle.polling_world.specs.Waiting.{IsGoing}
 use Rattle.floor_sweep.proofs.Events.{going_on, held_more}
 use Rattle.floor_sweep.proofs.Handed.{stopped_there}

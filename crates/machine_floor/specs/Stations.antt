@@ -5,7 +5,7 @@ use Rattle.std.specs.List.{Contains, filter, sum_by}
 use Rattle.entry_format.specs.Nodes.{node_of_sealed}
 use Rattle.entry_format.specs.SealedEntry.{SealedEntry}
 use Rattle.entry_order.specs.declared.event.Event.{Event}
-use Rattle.entry_order.specs.declared.event.Event.TheVariants.{Sent, Got}
+use Rattle.entry_order.specs.declared.event.Event.TheVariants.{Got}
 use Rattle.entry_order.specs.History.{held, sent}
 use Rattle.entry_order.specs.Naming.{IsBorneIn}
 use Rattle.election_script.specs.declared.script.Lose.{Lose}
