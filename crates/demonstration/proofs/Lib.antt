@@ -1,4 +1,5 @@
 mod Ends
 mod Records
-mod Plays
+pub mod Plays
 mod Reports
+pub mod OneShown

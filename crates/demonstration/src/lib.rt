@@ -3,9 +3,11 @@
 #![tactic(auto)]
 
 mod kept;
+mod laws;
 mod lines;
 mod shown;
 
+pub use laws::scripts_are_shown_in_one_way;
 pub use lines::write_demonstration;
 pub use shown::{Demonstration, demonstrate};
 
