@@ -1,0 +1,4 @@
+pub mod NamedOnce
+pub mod HeldSums
+pub mod TextSizes
+pub mod ShortLogs
