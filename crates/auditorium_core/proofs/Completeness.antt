@@ -3,7 +3,8 @@ use Rattle.std.proofs.Common.{◌≡◌, ◌⊎◌, inl, inr, ℕ, List, [], ◌
 use Rattle.std.specs.Prelude.{Ok, Err, ⊤}
 use Rattle.hall_outside.specs.Counts.{HasRisen}
 use Rattle.roster.specs.declared.post.Post.{Post}
-use Rattle.election_script.specs.declared.faults.ScriptFault.TheVariants.{At}
+use Rattle.election_script.specs.declared.script.Script.{Script}
+use Rattle.election_script.specs.Generated.{generated}
 use Rattle.entry_format.specs.SealedEntry.{SealedEntry}
 use Rattle.log_files.specs.declared.plain_log.PlainLog.{PlainLog}
 use Rattle.log_files.specs.LogFile.{IsLogOf}
@@ -17,18 +18,23 @@ use Rattle.auditor.specs.Outcomes.{outcome_of}
 use Rattle.auditor.specs.Audits.{GivesReport}
 use Rattle.auditorium_core.specs.declared.status.Status.{Status}
 use Rattle.auditorium_core.specs.declared.status.Status.TheVariants as status
-use Rattle.auditorium_core.specs.Words.{Command, gaps, play, order, audit, generate, source_named, Means}
-use Rattle.auditorium_core.specs.Lines.{Answer}
+use Rattle.demonstration.specs.Shown.{IsRefusedSo}
+use Rattle.auditorium_core.specs.Words.{Command, gaps, play, order, audit, generate, demonstrate, run, source_named, Means}
+use Rattle.auditorium_core.specs.Lines.{Answer, OrRefused}
 use Rattle.auditorium_core.specs.EntryWords.{MeansEntry}
 use Rattle.auditorium_core.specs.Gaps.{status_of, IsGapsAnswer}
-use Rattle.auditorium_core.specs.Play.{status_of_undone, IsPlayAnswer}
+use Rattle.auditorium_core.specs.ScriptFile.{GivesScript}
+use Rattle.auditorium_core.specs.Play.{status_of_undone, IsPlayOf}
+use Rattle.auditorium_core.specs.Run.{IsRunOf}
+use Rattle.auditorium_core.specs.Demonstrated.{GivesDemonstration, demonstration_answer, IsDemonstrationAnswer, ShowsReport}
 use Rattle.auditorium_core.specs.Order.{IsOrderAmong, IsOrderOver, IsOrderOverLogs, IsOrderUnder, IsOrderAnswer}
 use Rattle.auditorium_core.specs.Audit.{status_by, IsAuditOver}
 use Rattle.auditorium_core.specs.Answer.{IsAnswer, IsAnswerTo, Answers}
 use Rattle.auditorium_core.specs.Outcome.{Outside, GivesAnswer, IsWritten, HasDone}
 use Rattle.auditorium_core.specs.Complete.{IsCarriedOut, IsScriptFile, GiveEntries, AreAccepted, HasNoFailure, IsComplete}
-use Rattle.auditorium_core.proofs.OnePlayAnswer.{PlayOne}
+use Rattle.auditorium_core.proofs.OnePlayAnswer.{PlayOne, one_script}
 use Rattle.auditorium_core.proofs.OneOrderAnswer.{OrderOne}
+use Rattle.auditorium_core.proofs.OneDemonstrationAnswer.{ShowOne, same_half}
 use Rattle.auditorium_core.proofs.OneAnswer.{SayOne, ReportOne, Cases, cases, same_command}
 
 -- an answer with such a status is carried out
@@ -65,16 +71,17 @@ gaps_complete one name (Some bytes) answer read is right = by (cases name bytes 
     by (inr (inl (short, none, e))) = absurd (none (one.header bytes read is.1))
     by (inr (inr (log, short, says, e))) = with_status answer _ (status_is answer _ e) (of_lines _)
 
--- `play` is carried out over a script
-play_complete : PlayOne → (name prefix : List ℕ) (file : Option (List ℕ)) (answer : Answer) → IsScriptFile file →
-    IsPlayAnswer name prefix file answer → IsCarriedOut answer.status
-play_complete one name prefix None answer is right = absurd is
-play_complete one name prefix (Some bytes) answer (fits, (script, reads)) (inl (long, e)) = absurd (omega arith)
-play_complete one name prefix (Some bytes) answer (fits, (script, reads)) (inr (inl (short, (number, why, fault, e)))) =
-    let same : Err (At number why) ≡ Ok script = one.reading bytes (Err (At number why)) (Ok script) fault reads in
+-- what is done with a script is carried out over its file
+script_complete : PlayOne → (name : List ℕ) (file : Option (List ℕ)) (IsFor : Script → Answer → Type 0)
+    (answer : Answer) → IsScriptFile file →
+    ((script : Script) → IsFor script answer → IsCarriedOut answer.status) →
+    OrRefused (GivesScript name file) IsFor answer → IsCarriedOut answer.status
+script_complete one name None IsFor answer is done right = absurd is
+script_complete one name (Some bytes) IsFor answer (fits, (script, reads)) done (inl (refusal, gives, e)) =
+    let same : Err refusal ≡ Ok script = one_script one name (Some bytes) (Err refusal) (Ok script) gives
+    (inr (inr (fits, (script, reads, refl)))) in
     absurd (let no : ⊥ = cc in no)
-play_complete one name prefix (Some bytes) answer (fits, (script, reads)) (inr (inr (short, (other, also, done)))) =
-    with_status answer _ (status_is answer _ done.told) (of_undone done.undone)
+script_complete one name (Some bytes) IsFor answer is done (inr (script, gives, right)) = done script right
 
 module _ (one : OrderOne) (x y : List ℕ) (answer : Answer) where
   -- two words that mean survivors have a word of order
@@ -90,7 +97,8 @@ module _ (one : OrderOne) (x y : List ℕ) (answer : Answer) where
       GiveEntries roster x y logs file files → IsOrderAnswer roster x y logs file files answer →
       IsCarriedOut answer.status
   order_complete roster logs file files given (inl (refusal, gives, e)) =
-      let same : Err refusal ≡ Ok given.read = one.roster roster file (Err refusal) (Ok given.read) gives given.of_roster in
+      let same : Err refusal ≡ Ok given.read =
+      one.roster roster file (Err refusal) (Ok given.read) gives given.of_roster in
       absurd (let no : ⊥ = cc in no)
   order_complete roster logs file files given (inr (read, gives, is)) =
       let same : Ok read ≡ Ok given.read = one.roster roster file (Ok read) (Ok given.read) gives given.of_roster in
@@ -128,25 +136,43 @@ audit_complete one roster rules logs files answer report given (inl (refusal, gi
 audit_complete one roster rules logs files answer report given (inr (other, gives, is)) =
     with_status answer _ (status_is answer _ is.told) (of_outcome (outcome_of other))
 
+-- `demo` is carried out where what is kept gives a report
+demonstration_complete : ShowOne → (sessions : ℕ) (answer : Answer) → ShowsReport sessions →
+    IsDemonstrationAnswer sessions answer → IsCarriedOut answer.status
+demonstration_complete one sessions answer (half, is_half, machines, report, audited) given = by given.right
+  where
+    same : given.half ≡ half
+    same = same_half sessions given.half half given.is_half is_half
+
+    by : OrRefused (GivesDemonstration (generated sessions) given.half)
+        (λ shown told. told ≡ demonstration_answer sessions shown) answer → IsCarriedOut answer.status
+    by (inl (refusal, refused, e)) =
+        absurd (one.either (generated sessions) half machines report refusal audited
+        (subst (λ h. IsRefusedSo (generated sessions) h refusal) same refused))
+    by (inr (shown, shows, e)) =
+        with_status answer _ (status_is answer (demonstration_answer sessions shown) e) (of_outcome shown.outcome)
+
 -- so is each command
-command_complete : SayOne → PlayOne → OrderOne → ReportOne → (command : Command) (files : List (Option (List ℕ)))
-    (answer : Answer) → IsAnswer command files answer → AreAccepted command files → IsCarriedOut answer.status
-command_complete one way orders reports (gaps log) [] answer right given = absurd right
-command_complete one way orders reports (gaps log) (file ∷ []) answer right (read, is) =
+command_complete : SayOne → PlayOne → OrderOne → ReportOne → ShowOne → (command : Command)
+    (files : List (Option (List ℕ))) (answer : Answer) → IsAnswer command files answer → AreAccepted command files →
+    IsCarriedOut answer.status
+command_complete one way orders reports shows (gaps log) (file ∷ []) answer right (read, is) =
     gaps_complete one log file answer read is right
-command_complete one way orders reports (gaps log) (file ∷ next ∷ files) answer right given = absurd right
-command_complete one way orders reports (play script prefix) [] answer right given = absurd right
-command_complete one way orders reports (play script prefix) (file ∷ []) answer right given =
-    play_complete way script prefix file answer given right
-command_complete one way orders reports (play script prefix) (file ∷ next ∷ files) answer right given = absurd right
-command_complete one way orders reports (order roster x y logs) [] answer right given = absurd right
-command_complete one way orders reports (order roster x y logs) (file ∷ files) answer right given =
+command_complete one way orders reports shows (play script prefix) (file ∷ []) answer right given =
+    script_complete way script file (IsPlayOf prefix) answer given
+    (λ (read : Script) done. with_status answer _ (status_is answer _ done.told) (of_undone done.undone)) right
+command_complete one way orders reports shows (run script prefix) (file ∷ []) answer right given =
+    script_complete way script file (IsRunOf prefix) answer given
+    (λ (read : Script) done. with_status answer _ (status_is answer _ done.told) (of_undone done.undone)) right
+command_complete one way orders reports shows (order roster x y logs) (file ∷ files) answer right given =
     order_complete orders x y answer roster logs file files given right
-command_complete one way orders reports (audit roster rules logs) files answer right (report, given) =
+command_complete one way orders reports shows (audit roster rules logs) files answer right (report, given) =
     audit_complete reports roster rules logs files answer report given right.right
-command_complete one way orders reports (generate sessions) [] answer right given =
+command_complete one way orders reports shows (generate sessions) [] answer right given =
     with_status answer status.Done (status_is answer _ right) tt
-command_complete one way orders reports (generate sessions) (file ∷ files) answer right given = absurd right
+command_complete one way orders reports shows (demonstrate sessions) [] answer right given =
+    demonstration_complete shows sessions answer given right
+command_complete one way orders reports shows command files answer right given = absurd right
 
 -- where no count rose, no write failed
 no_cut : (old new : Outside) → HasNoFailure old new →
@@ -155,26 +181,28 @@ no_cut old new fault (inl risen) = fault.writes risen
 no_cut old new fault (inr risen) = fault.output risen
 
 -- what was done where no count of faults rose is complete
-pub complete : SayOne → PlayOne → OrderOne → ReportOne → (words : List (List ℕ)) (old : Outside) (how : Status)
-    (new : Outside) → HasDone words (λ _ _. ⊤) old how new → IsComplete words old how new
-complete one way orders reports words old how new = by how
+pub complete : SayOne → PlayOne → OrderOne → ReportOne → ShowOne → (IsDone : Command → Type 0)
+    (words : List (List ℕ)) (old : Outside) (how : Status) (new : Outside) →
+    HasDone (Answers IsDone words) (λ _ _. ⊤) old how new → IsComplete IsDone words old how new
+complete one way orders reports shows IsDone words old how new = by how
   where
     -- the answer of good words is the command's
-    of_command : (command : Command) (answer : Answer) → Means words command → Answers words old.store.files answer →
-        IsAnswerTo command old.store.files answer
-    of_command command answer means (inl (other, means', is)) =
+    of_command : (command : Command) (answer : Answer) → IsDone command → Means words command →
+        Answers IsDone words old.store.files answer → IsAnswerTo command old.store.files answer
+    of_command command answer done means (inl (other, done', means', is)) =
         let P : Command → Type 0 = λ c. IsAnswerTo c old.store.files answer in
         subst P (same_command words other command means' means) is
-    of_command command answer means (inr (bad, e)) = absurd (bad (command, means))
+    of_command command answer done means (inr (bad, e)) = absurd (bad (command, done, means))
 
     -- what was done with an answer
-    IsDone : Status → Type 0
-    IsDone how =
-        (answer : Answer) × GivesAnswer words old new answer × (how ≡ answer.status) × ⊤ × IsWritten answer old new
+    IsAnswered : Status → Type 0
+    IsAnswered how =
+        (answer : Answer) × GivesAnswer (Answers IsDone words) old new answer × (how ≡ answer.status) × ⊤
+        × IsWritten answer old new
 
-    answered : (how : Status) → IsDone how → IsComplete words old how new
-    answered how (answer, gives, told, calls, written) command means fault =
-        let (files, are, right) = of_command command answer means gives.answers in
+    answered : (how : Status) → IsAnswered how → IsComplete IsDone words old how new
+    answered how (answer, gives, told, calls, written) command done means fault =
+        let (files, are, right) = of_command command answer done means gives.answers in
         inl (
           files,
           are,
@@ -183,20 +211,22 @@ complete one way orders reports words old how new = by how
             right = right;
             told = told;
             carried_out = λ given.
-                subst IsCarriedOut (sym told) (command_complete one way orders reports command files answer right given);
+                subst IsCarriedOut (sym told)
+                (command_complete one way orders reports shows command files answer right given);
             written = written;
           },
         )
 
-    by : (how : Status) → HasDone words (λ _ _. ⊤) old how new → IsComplete words old how new
-    by status.ReadFault (risen, unwritten) command means fault = absurd (fault.reads risen)
-    by status.WriteFault (answer, gives, calls, cut) command means fault = absurd (no_cut old new fault cut.cause)
-    by status.Memory unwritten command means fault = inr (refl, unwritten)
-    by status.Done done command means fault = answered status.Done done command means fault
-    by status.Findings done command means fault = answered status.Findings done command means fault
-    by status.Unsettled done command means fault = answered status.Unsettled done command means fault
-    by status.Broken done command means fault = answered status.Broken done command means fault
-    by status.Usage done command means fault = answered status.Usage done command means fault
-    by status.Refused done command means fault = answered status.Refused done command means fault
-    by status.Absent done command means fault = answered status.Absent done command means fault
-    by status.Undone done command means fault = answered status.Undone done command means fault
+    by : (how : Status) → HasDone (Answers IsDone words) (λ _ _. ⊤) old how new →
+        IsComplete IsDone words old how new
+    by status.ReadFault (risen, unwritten) command done means fault = absurd (fault.reads risen)
+    by status.WriteFault (answer, gives, calls, cut) command done means fault = absurd (no_cut old new fault cut.cause)
+    by status.Memory unwritten command done means fault = inr (refl, unwritten)
+    by status.Done was command done means fault = answered status.Done was command done means fault
+    by status.Findings was command done means fault = answered status.Findings was command done means fault
+    by status.Unsettled was command done means fault = answered status.Unsettled was command done means fault
+    by status.Broken was command done means fault = answered status.Broken was command done means fault
+    by status.Usage was command done means fault = answered status.Usage was command done means fault
+    by status.Refused was command done means fault = answered status.Refused was command done means fault
+    by status.Absent was command done means fault = answered status.Absent was command done means fault
+    by status.Undone was command done means fault = answered status.Undone was command done means fault

@@ -9,8 +9,7 @@ use Rattle.evidence.specs.Reading.{StoreSeen, IsReadFrom}
 use Rattle.auditorium_core.specs.declared.answer.Fault.{Fault}
 use Rattle.auditorium_core.specs.declared.answer.Fault.TheVariants.{ReadFault, Memory}
 use Rattle.auditorium_core.specs.declared.status.Status.TheVariants as status
-use Rattle.auditorium_core.specs.Lines.{Answer, refusal_answer}
-use Rattle.auditorium_core.specs.Order.{OrRefused}
+use Rattle.auditorium_core.specs.Lines.{Answer, OrRefused, refusal_answer}
 use Rattle.auditorium_core.specs.inside.Promise.{IsAnswered}
 
 -- the answer of a fault is a refusal's

@@ -1,5 +1,5 @@
 -- What `audit` answers over what is left of an honest place's logs.
-use Rattle.std.proofs.Common.{◌≡◌, ◌∙◌, ℕ, List, [], ◌∷◌, Option, inl, inr, refl, ap, sym, subst}
+use Rattle.std.proofs.Common.{◌≡◌, ◌∙◌, ◌⊎◌, ℕ, List, [], ◌∷◌, Option, inl, inr, refl, ap, sym, subst}
 use Rattle.std.specs.Prelude.{Result, Ok, Err}
 use Rattle.entry_format.specs.Nodes.{node_of_sealed}
 use Rattle.entry_format.specs.SealedEntry.{SealedEntry}
@@ -17,13 +17,14 @@ use Rattle.auditor.specs.ReportText.{report_text}
 use Rattle.auditor.specs.Sources.{RuleSource, standard}
 use Rattle.honest_reports.specs.Kept.{FindsNothing, SaysAllKept, SaysNoneBroken, kept_text}
 use Rattle.honest_reports.specs.Places.{IsRosterOf, files_read}
-use Rattle.honest_reports.specs.Refusals.{IsHonestRefusal}
+use Rattle.honest_reports.specs.Refusals.{IsHonestRefusal, IsRefusalOfRules, IsTooWideFor}
 use Rattle.honest_reports.specs.Reports.{IsHonestReport}
 use Rattle.auditorium_core.specs.declared.status.Status.TheVariants as status
 use Rattle.auditorium_core.specs.Words.{source_named}
 use Rattle.auditorium_core.specs.Lines.{Answer, refusal_answer}
 use Rattle.auditorium_core.specs.Audit.{IsAuditOver, report_answer, status_by}
 use Rattle.auditorium_core.specs.HonestAudit.{IsAuditAnswer, IsAuditOfPlace, IsOfReport}
+use Rattle.auditorium_core.proofs.ShortFiles.{none_over_limit}
 
 -- what is known of the audits of what is left of honest places
 pub record AreKnown : Type 0 where
@@ -57,7 +58,7 @@ no_report (absent file) how = absurd how
 no_report (refused file place cause) how = absurd how
 
 -- the status is Broken only where the report comes to that
-only_broken : (came : Outcome) → status_by came ≡ status.Broken → came ≡ outcome.Broken
+pub only_broken : (came : Outcome) → status_by came ≡ status.Broken → came ≡ outcome.Broken
 only_broken outcome.Broken e = refl
 only_broken outcome.Kept e = let no : status.Done ≡ status.Broken = e in cc
 only_broken outcome.Findings e = let no : status.Findings ≡ status.Broken = e in cc
@@ -77,6 +78,14 @@ module _ (known : AreKnown) (script : Script) (w : World SealedEntry) (roster : 
   abbrev Gives : Result AuditReport Refusal → Type 0
   Gives = GivesReport name source names (files_read roster source rules files)
 
+  -- no file is over its limit, so the file of the rules is refused or a rule is too wide
+  refused_so : (refusal : Refusal) → IsHonestRefusal script w source rules names files refusal →
+      IsRefusalOfRules source rules refusal ⊎ IsTooWideFor script w source rules files refusal
+  refused_so refusal (inl of_rules) = inl of_rules
+  refused_so refusal (inr (inl over)) =
+      absurd (none_over_limit script is.lawful is.steps w is.comes names files left refusal over)
+  refused_so refusal (inr (inr too_wide)) = inr too_wide
+
   of_refusal : (refusal : Refusal) → Gives (Err refusal) → answer ≡ refusal_answer refusal →
       IsAuditOfPlace script w source rules names files answer
   of_refusal refusal gives told =
@@ -86,7 +95,8 @@ module _ (known : AreKnown) (script : Script) (w : World SealedEntry) (roster : 
         honest = λ apart.
             inl (
               refusal,
-              known.refuses script w roster is apart files left name source rules names refusal gives,
+              refused_so refusal
+                  (known.refuses script w roster is apart files left name source rules names refusal gives),
               told,
             );
         shown = λ all how. absurd (none how);

@@ -25,10 +25,11 @@ use Rattle.honest_logs.specs.OfScript.{IsOfScript}
 use Rattle.auditorium_core.specs.declared.status.Status.TheVariants as status
 use Rattle.auditorium_core.specs.Lines.{Answer, refusal_answer}
 use Rattle.auditorium_core.specs.Honest.{IsHonestOrder, IsHonestWord, IsOrderOfPlace}
-use Rattle.auditorium_core.specs.Honest.{over_limit, no_first, no_second, both}
+use Rattle.auditorium_core.specs.Honest.{no_first, no_second, both}
 use Rattle.auditorium_core.specs.Order.{IsOrderAmong, IsOrderOf, IsOrderOver, IsOrderOverLogs, IsOrderUnder}
 use Rattle.auditorium_core.proofs.EntryTexts.{named_has}
 use Rattle.auditorium_core.proofs.HonestWords.{word_exact, word_in, word_known}
+use Rattle.auditorium_core.proofs.ShortFiles.{none_over_limit}
 
 -- what is known of the worlds of scripts, of the orders in them, and of what their files give
 pub record AreKnown : Type 0 where
@@ -141,12 +142,9 @@ module _ (known : AreKnown) (read : RosterRead) (x y : List ℕ) (names : List (
   of_place : (w : World SealedEntry) → IsOfScript machines read.election w → AreFilesOf w files →
       IsOrderOverLogs read x y names files answer →
       IsOrderOfPlace machines read.election w x y names files answer
-  of_place w is left (inl (refusal, gives, told)) = record {
-    honest = λ apart.
-        subst (IsHonestOrder machines read.election w x y names files) (sym told)
-        (over_limit refusal (known.over machines read.election w is names files left refusal gives));
-    shown = λ whole done. absurd (refusal_not_done refusal (sym (ap (λ (a : Answer). a.status) told) ∙ done));
-  }
+  of_place w is left (inl (refusal, gives, told)) =
+      absurd (none_over_limit is.script is.lawful is.steps w is.comes names files left refusal
+      (known.over machines read.election w is names files left refusal gives))
   of_place w is left (inr (logs, gives, over)) = record {
     honest = λ apart. honest_over known machines read.election w is x y names files left answer apart logs gives over;
     shown = λ whole done.

@@ -1,9 +1,11 @@
 pub mod WordLists
 pub mod Told
+pub mod SameOr
 pub mod OneAnswer
 pub mod Cuts
 pub mod Undone
 pub mod OnePlayAnswer
+pub mod OneDemonstrationAnswer
 pub mod Calls
 pub mod Statuses
 pub mod EntryTexts
@@ -14,6 +16,14 @@ pub mod Faults
 pub mod OneOrderAnswer
 pub mod AuditAnswers
 pub mod HonestWords
+pub mod ShortFiles
 pub mod HonestOrders
 pub mod HonestAudits
+pub mod Demonstrations
 pub mod Completeness
+pub mod ScriptFiles
+pub mod HonestPlaces
+pub mod Endings
+pub mod Runs
+pub mod PlayAnswers
+pub mod StillAnswers

@@ -1,6 +1,6 @@
 -- Words and files have at most one answer.
 use Rattle.std.proofs.Common.{◌≡◌, ◌∙◌, ℕ, ◌<◌, ◌≤◌, ◌⊎◌, inl, inr, List, ◌++◌, [], ◌∷◌, Option, Some, None, length, get_or, ap, sym, subst, arith}
-use Rattle.std.specs.Prelude.{codes, Result, Ok, Err}
+use Rattle.std.specs.Prelude.{codes, Result}
 use Rattle.std.specs.Fmt.{decimal}
 use Rattle.std.proofs.lemmas.Fmt.{decimal_injective}
 use Rattle.entry_order.specs.Survivors.{gaps as gaps_of}
@@ -24,14 +24,17 @@ use Rattle.auditor.specs.ReportText.{report_text}
 use Rattle.auditor.specs.Same.{SameReport}
 use Rattle.auditor.specs.Sources.{RuleSource}
 use Rattle.auditor.specs.Audits.{GivesReport}
-use Rattle.auditorium_core.specs.Audit.{status_by, report_answer, IsAuditOver}
-use Rattle.auditorium_core.specs.Words.{Command, gaps, play, order, audit, generate, source_named, words_of, files_of, Means}
-use Rattle.auditorium_core.specs.Lines.{Answer, absent_answer, refused_answer, refusal_answer}
+use Rattle.auditorium_core.specs.Audit.{status_by, report_answer, IsAuditOf, IsAuditOver}
+use Rattle.auditorium_core.specs.Words.{Command, gaps, play, order, audit, generate, demonstrate, run, source_named, words_of}
+use Rattle.auditorium_core.specs.Words.{files_of, AreSessions, IsStill, Means}
+use Rattle.auditorium_core.specs.Lines.{Answer, absent_answer, refused_answer}
 use Rattle.auditorium_core.specs.Gaps.{log_lines, findings_answer, IsRefusal, IsGapsAnswer}
 use Rattle.auditorium_core.specs.Answer.{IsAnswer, IsAnswerTo, Answers}
 use Rattle.evidence.proofs.OneLogs.{same_files}
 use Rattle.auditorium_core.proofs.OnePlayAnswer.{PlayOne, same_play}
 use Rattle.auditorium_core.proofs.OneOrderAnswer.{OrderOne, same_order}
+use Rattle.auditorium_core.proofs.OneDemonstrationAnswer.{ShowOne, same_demonstration}
+use Rattle.auditorium_core.proofs.SameOr.{same_or}
 
 -- bytes say at most one log, and only where they have a header
 pub record SayOne : Type 0 where
@@ -62,6 +65,7 @@ Cases name bytes answer =
     ⊎ ((log : PlainLog) × (length bytes ≤ max_bytes) × Says bytes log
     × (answer ≡ findings_answer (log_lines name log))))
 
+-- a refusal is one of these
 refusal_cases : (name bytes : List ℕ) (answer : Answer) (fault : LogFault) → IsRefused fault (Some bytes)
     → IsRefusal name fault answer → Cases name bytes answer
 refusal_cases name bytes answer Absent is e = cc
@@ -70,6 +74,7 @@ refusal_cases name bytes answer Header is e = inr (inl (is.0, is.1, e))
 refusal_cases name bytes answer ReadFault is e = absurd e
 refusal_cases name bytes answer Memory is e = absurd e
 
+-- so is every answer
 pub cases : (name bytes : List ℕ) (answer : Answer) → IsGapsAnswer name (Some bytes) answer → Cases name bytes answer
 cases name bytes answer (inl (log, is, e)) = inr (inr (log, is.0, is.1, e))
 cases name bytes answer (inr (fault, is, e)) = refusal_cases name bytes answer fault is e
@@ -83,10 +88,12 @@ absent_alone name answer Header is e = absurd is
 absent_alone name answer ReadFault is e = absurd e
 absent_alone name answer Memory is e = absurd e
 
+-- so it is the answer
 no_file : (name : List ℕ) (answer : Answer) → IsGapsAnswer name None answer → answer ≡ absent_answer name
 no_file name answer (inl (log, is, e)) = absurd is
 no_file name answer (inr (fault, is, e)) = absent_alone name answer fault is e
 
+-- where there is a file, one answer is right
 same_case : SayOne → (name bytes : List ℕ) (a b : Answer) → Cases name bytes a → Cases name bytes b → a ≡ b
 same_case one name bytes a b (inl (long, e)) (inl (long', f)) = e ∙ sym f
 same_case one name bytes a b (inl (long, e)) (inr (inl (short, none, f))) = absurd (omega arith)
@@ -103,6 +110,7 @@ same_case one name bytes a b (inr (inr (log, short, says, e))) (inr (inr (other,
     (same_lines name log other (one.entries bytes log other says says') (one.refused bytes log other says says')
     (one.end bytes log other says says')) ∙ sym f
 
+-- so one is in any case
 same_gaps : SayOne → (name : List ℕ) (file : Option (List ℕ)) (a b : Answer) → IsGapsAnswer name file a
     → IsGapsAnswer name file b → a ≡ b
 same_gaps one name None a b x y = no_file name a x ∙ sym (no_file name b y)
@@ -112,95 +120,40 @@ same_gaps one name (Some bytes) a b x y = same_case one name bytes a b (cases na
 abbrev first_byte : List (List ℕ) → ℕ
 first_byte words = get_or (get_or words 0 []) 0 0
 
--- words mean one command
+-- a word that says a number of sessions says no other
+same_sessions : (n l : ℕ) → AreSessions n → AreSessions l → decimal n ≡ decimal l → n ≡ l
+same_sessions n l some also word =
+    decimal_injective n l (omega (arith, some.at_most)) (omega (arith, also.at_most)) word
+
+-- Words mean one command. The first words of two that differ begin with different bytes.
 pub same_command : (words : List (List ℕ)) (a b : Command) → Means words a → Means words b → a ≡ b
 same_command words (gaps x) (gaps y) m n =
     let e : words_of (gaps x) ≡ words_of (gaps y) = sym m.spelt ∙ n.spelt in
     let f : x ≡ y = cc in
     ap gaps f
-same_command words (gaps x) (play script prefix) m n =
-    let e : words_of (gaps x) ≡ words_of (play script prefix) = sym m.spelt ∙ n.spelt in
-    cc
-same_command words (play script prefix) (gaps y) m n =
-    let e : words_of (play script prefix) ≡ words_of (gaps y) = sym m.spelt ∙ n.spelt in
-    cc
 same_command words (play script prefix) (play other start) m n =
     let e : words_of (play script prefix) ≡ words_of (play other start) = sym m.spelt ∙ n.spelt in
-    cc
-same_command words (gaps x) (order r u v logs) m n =
-    let e : words_of (gaps x) ≡ words_of (order r u v logs) = sym m.spelt ∙ n.spelt in
-    cc
-same_command words (order r u v logs) (gaps x) m n =
-    let e : words_of (order r u v logs) ≡ words_of (gaps x) = sym m.spelt ∙ n.spelt in
-    cc
-same_command words (play script prefix) (order r u v logs) m n =
-    let e : words_of (play script prefix) ≡ words_of (order r u v logs) = sym m.spelt ∙ n.spelt in
-    cc
-same_command words (order r u v logs) (play script prefix) m n =
-    let e : words_of (order r u v logs) ≡ words_of (play script prefix) = sym m.spelt ∙ n.spelt in
     cc
 same_command words (order r u v logs) (order s w z others) m n =
     let e : words_of (order r u v logs) ≡ words_of (order s w z others) = sym m.spelt ∙ n.spelt in
     cc
-same_command words (audit r u logs) (gaps x) m n =
-    let e : words_of (audit r u logs) ≡ words_of (gaps x) = sym m.spelt ∙ n.spelt in
-    cc
-same_command words (gaps x) (audit r u logs) m n =
-    let e : words_of (gaps x) ≡ words_of (audit r u logs) = sym m.spelt ∙ n.spelt in
-    cc
-same_command words (audit r u logs) (play script prefix) m n =
-    let e : words_of (audit r u logs) ≡ words_of (play script prefix) = sym m.spelt ∙ n.spelt in
-    cc
-same_command words (play script prefix) (audit r u logs) m n =
-    let e : words_of (play script prefix) ≡ words_of (audit r u logs) = sym m.spelt ∙ n.spelt in
-    cc
-same_command words (audit r u logs) (order s w z others) m n =
-    let e : words_of (audit r u logs) ≡ words_of (order s w z others) = sym m.spelt ∙ n.spelt in
-    let first : 97 ≡ 111 = ap first_byte e in
-    absurd (omega (arith, first))
-same_command words (order s w z others) (audit r u logs) m n =
-    let e : words_of (order s w z others) ≡ words_of (audit r u logs) = sym m.spelt ∙ n.spelt in
-    let first : 111 ≡ 97 = ap first_byte e in
-    absurd (omega (arith, first))
 same_command words (audit r u logs) (audit s w others) m n =
     let e : words_of (audit r u logs) ≡ words_of (audit s w others) = sym m.spelt ∙ n.spelt in
     cc
-same_command words (generate n) (gaps x) m k =
-    let e : words_of (generate n) ≡ words_of (gaps x) = sym m.spelt ∙ k.spelt in
-    let first : 109 ≡ 103 = ap first_byte e in
+same_command words (generate s) (generate t) m n =
+    let e : words_of (generate s) ≡ words_of (generate t) = sym m.spelt ∙ n.spelt in
+    let word : decimal s ≡ decimal t = cc in
+    ap generate (same_sessions s t m.parts n.parts word)
+same_command words (demonstrate s) (demonstrate t) m n =
+    let e : words_of (demonstrate s) ≡ words_of (demonstrate t) = sym m.spelt ∙ n.spelt in
+    let word : decimal s ≡ decimal t = cc in
+    ap demonstrate (same_sessions s t m.parts n.parts word)
+same_command words (run script prefix) (run other start) m n =
+    let e : words_of (run script prefix) ≡ words_of (run other start) = sym m.spelt ∙ n.spelt in
+    cc
+same_command words a b m n =
+    let first : first_byte (words_of a) ≡ first_byte (words_of b) = ap first_byte (sym m.spelt ∙ n.spelt) in
     absurd (omega (arith, first))
-same_command words (gaps x) (generate n) m k =
-    let e : words_of (gaps x) ≡ words_of (generate n) = sym m.spelt ∙ k.spelt in
-    let first : 103 ≡ 109 = ap first_byte e in
-    absurd (omega (arith, first))
-same_command words (generate n) (play script prefix) m k =
-    let e : words_of (generate n) ≡ words_of (play script prefix) = sym m.spelt ∙ k.spelt in
-    let first : 109 ≡ 112 = ap first_byte e in
-    absurd (omega (arith, first))
-same_command words (play script prefix) (generate n) m k =
-    let e : words_of (play script prefix) ≡ words_of (generate n) = sym m.spelt ∙ k.spelt in
-    let first : 112 ≡ 109 = ap first_byte e in
-    absurd (omega (arith, first))
-same_command words (generate n) (order r u v logs) m k =
-    let e : words_of (generate n) ≡ words_of (order r u v logs) = sym m.spelt ∙ k.spelt in
-    let first : 109 ≡ 111 = ap first_byte e in
-    absurd (omega (arith, first))
-same_command words (order r u v logs) (generate n) m k =
-    let e : words_of (order r u v logs) ≡ words_of (generate n) = sym m.spelt ∙ k.spelt in
-    let first : 111 ≡ 109 = ap first_byte e in
-    absurd (omega (arith, first))
-same_command words (generate n) (audit r u logs) m k =
-    let e : words_of (generate n) ≡ words_of (audit r u logs) = sym m.spelt ∙ k.spelt in
-    let first : 109 ≡ 97 = ap first_byte e in
-    absurd (omega (arith, first))
-same_command words (audit r u logs) (generate n) m k =
-    let e : words_of (audit r u logs) ≡ words_of (generate n) = sym m.spelt ∙ k.spelt in
-    let first : 97 ≡ 109 = ap first_byte e in
-    absurd (omega (arith, first))
-same_command words (generate n) (generate l) m k =
-    let e : words_of (generate n) ≡ words_of (generate l) = sym m.spelt ∙ k.spelt in
-    let word : decimal n ≡ decimal l = cc in
-    ap generate (decimal_injective n l (omega (arith, m.parts.at_most)) (omega (arith, k.parts.at_most)) word)
 
 -- files give at most one report
 abbrev pub ReportOne : Type 0
@@ -215,44 +168,48 @@ same_told report other same =
     ap (λ (o : Outcome). record { status = status_by o; files = []; output = report_text report }) same.outcome
     ∙ ap (λ (t : List ℕ). record { status = status_by (outcome_of other); files = []; output = t }) same.text
 
+-- so an audit has
 same_audit : ReportOne → (roster rules : List ℕ) (logs : List (List ℕ)) (files : List (Option (List ℕ)))
     (a b : Answer) → IsAuditOver roster rules logs files a → IsAuditOver roster rules logs files b → a ≡ b
-same_audit one roster rules logs files a b (inl (r, gives, e)) (inl (s, also, f)) =
-    e ∙ ap refusal_answer (one roster (source_named rules) logs files (Err r) (Err s) gives also) ∙ sym f
-same_audit one roster rules logs files a b (inl (r, gives, e)) (inr (report, also, f)) =
-    absurd (one roster (source_named rules) logs files (Err r) (Ok report) gives also)
-same_audit one roster rules logs files a b (inr (report, gives, e)) (inl (s, also, f)) =
-    absurd (one roster (source_named rules) logs files (Ok report) (Err s) gives also)
-same_audit one roster rules logs files a b (inr (report, gives, e)) (inr (other, also, f)) =
-    e.told ∙ same_told report other (one roster (source_named rules) logs files (Ok report) (Ok other) gives also)
-    ∙ sym f.told
+same_audit one roster rules logs files a b =
+    same_or SameReport (GivesReport roster (source_named rules) logs files) IsAuditOf a b
+    (one roster (source_named rules) logs files)
+    (λ f g gives same x y. x.told ∙ same_told f g same ∙ sym y.told)
 
-same_answer : SayOne → PlayOne → OrderOne → ReportOne → (command : Command) (files : List (Option (List ℕ))) (a b : Answer)
-    → IsAnswer command files a → IsAnswer command files b → a ≡ b
-same_answer one way orders reports (gaps log) [] a b x y = absurd x
-same_answer one way orders reports (gaps log) (file ∷ []) a b x y = same_gaps one log file a b x y
-same_answer one way orders reports (gaps log) (file ∷ next ∷ files) a b x y = absurd x
-same_answer one way orders reports (play script prefix) [] a b x y = absurd x
-same_answer one way orders reports (play script prefix) (file ∷ []) a b x y = same_play way script prefix file a b x y
-same_answer one way orders reports (play script prefix) (file ∷ next ∷ files) a b x y = absurd x
-same_answer one way orders reports (order roster u v logs) [] a b x y = absurd x
-same_answer one way orders reports (order roster u v logs) (file ∷ files) a b x y = same_order orders roster u v logs file files a b x y
-same_answer one way orders reports (audit roster rules logs) files a b x y = same_audit reports roster rules logs files a b x.right y.right
-same_answer one way orders reports (generate sessions) [] a b x y = x ∙ sym y
-same_answer one way orders reports (generate sessions) (file ∷ files) a b x y = absurd x
+-- without threads a command has one answer over files
+same_answer : SayOne → PlayOne → OrderOne → ReportOne → ShowOne → (command : Command) → IsStill command →
+    (files : List (Option (List ℕ))) (a b : Answer) → IsAnswer command files a → IsAnswer command files b → a ≡ b
+same_answer one way orders reports shows (gaps log) still (file ∷ []) a b x y = same_gaps one log file a b x y
+same_answer one way orders reports shows (play script prefix) still (file ∷ []) a b x y =
+    same_play way script prefix file a b x y
+same_answer one way orders reports shows (order roster u v logs) still (file ∷ files) a b x y =
+    same_order orders roster u v logs file files a b x y
+same_answer one way orders reports shows (audit roster rules logs) still files a b x y =
+    same_audit reports roster rules logs files a b x.right y.right
+same_answer one way orders reports shows (generate sessions) still [] a b x y = x ∙ sym y
+same_answer one way orders reports shows (demonstrate sessions) still [] a b x y =
+    same_demonstration shows sessions a b x y
+same_answer one way orders reports shows (run script prefix) still files a b x y = absurd still
+same_answer one way orders reports shows command still files a b x y = absurd x
 
-same_answer_to : SayOne → PlayOne → OrderOne → ReportOne → (command : Command) (told : Files) (a b : Answer)
-    → IsAnswerTo command (Some told) a → IsAnswerTo command (Some told) b → a ≡ b
-same_answer_to one way orders reports command told a b (files, are, is) (others, are', is') =
+-- and over files that are told
+same_answer_to : SayOne → PlayOne → OrderOne → ReportOne → ShowOne → (command : Command) → IsStill command →
+    (told : Files) (a b : Answer) → IsAnswerTo command (Some told) a → IsAnswerTo command (Some told) b → a ≡ b
+same_answer_to one way orders reports shows command still told a b (files, are, is) (others, are', is') =
     let P : List (Option (List ℕ)) → Type 0 = λ fs. IsAnswer command fs b in
-    same_answer one way orders reports command files a b is
+    same_answer one way orders reports shows command still files a b is
     (subst P (same_files told (files_of command) others files are' are) is')
 
-pub one_answer : SayOne → PlayOne → OrderOne → ReportOne → (words : List (List ℕ)) (files : Files) (a b : Answer)
-    → Answers words (Some files) a → Answers words (Some files) b → a ≡ b
-one_answer one way orders reports words files a b (inl (command, means, is)) (inl (other, means', is')) =
+-- so have any words
+pub one_answer : SayOne → PlayOne → OrderOne → ReportOne → ShowOne → (words : List (List ℕ)) (files : Files)
+    (a b : Answer) → Answers IsStill words (Some files) a → Answers IsStill words (Some files) b → a ≡ b
+one_answer one way orders reports shows words files a b (inl (command, still, means, is))
+    (inl (other, still', means', is')) =
     let P : Command → Type 0 = λ c. IsAnswerTo c (Some files) b in
-    same_answer_to one way orders reports command files a b is (subst P (same_command words other command means' means) is')
-one_answer one way orders reports words files a b (inl (command, means, is)) (inr (bad, f)) = absurd (bad (command, means))
-one_answer one way orders reports words files a b (inr (bad, e)) (inl (command, means, is)) = absurd (bad (command, means))
-one_answer one way orders reports words files a b (inr (bad, e)) (inr (bad', f)) = e ∙ sym f
+    same_answer_to one way orders reports shows command still files a b is
+    (subst P (same_command words other command means' means) is')
+one_answer one way orders reports shows words files a b (inl (command, still, means, is)) (inr (bad, f)) =
+    absurd (bad (command, still, means))
+one_answer one way orders reports shows words files a b (inr (bad, e)) (inl (command, still, means, is)) =
+    absurd (bad (command, still, means))
+one_answer one way orders reports shows words files a b (inr (bad, e)) (inr (bad', f)) = e ∙ sym f

@@ -1,6 +1,6 @@
 -- Files have at most one answer to `order`.
 use Rattle.std.proofs.Common.{◌≡◌, ◌≢◌, ◌∙◌, ℕ, inl, inr, List, [], ◌∷◌, ◌++◌, Option, refl, ap, sym, subst}
-use Rattle.std.specs.Prelude.{Result, Ok, Err}
+use Rattle.std.specs.Prelude.{Result, Ok}
 use Rattle.std.specs.List.{Contains}
 use Rattle.std.specs.Cmp.Lexicographic.{slice_cmp}
 use Rattle.std.specs.Ordering.{nat_cmp, ordering_reverse}
@@ -25,10 +25,11 @@ use Rattle.evidence.proofs.OneLogs.{same_entries}
 use Rattle.auditorium_core.specs.declared.order_word.OrderWord.{OrderWord}
 use Rattle.auditorium_core.specs.declared.order_word.OrderWord.TheVariants as says
 use Rattle.auditorium_core.specs.declared.status.Status.TheVariants.{Done}
-use Rattle.auditorium_core.specs.Lines.{Answer, line_answer, order_word, refusal_answer}
+use Rattle.auditorium_core.specs.Lines.{Answer, line_answer, order_word}
 use Rattle.auditorium_core.specs.EntryWords.{EntryName, by_digest, by_number, IsNamedBy, MeansEntry}
-use Rattle.auditorium_core.specs.Order.{IsBefore, IsWordOf, OrRefused, IsOrderAmong, IsOrderOver, IsOrderUnder, IsOrderAnswer}
+use Rattle.auditorium_core.specs.Order.{IsBefore, IsWordOf, IsOrderAmong, IsOrderOver, IsOrderUnder, IsOrderAnswer}
 use Rattle.auditorium_core.proofs.EntryTexts.{one_name}
+use Rattle.auditorium_core.proofs.SameOr.{same_or, agree_equal}
 
 -- files give one roster and one list of logs, entries give one graph, and its survivors are sound
 pub record OrderOne : Type 0 where
@@ -131,18 +132,7 @@ module _ (S : List SealedEntry) (no_cycle : (e : SealedEntry) → ¬ Precedes no
       let word : p.word ≡ q.word = same_word e g p.word q.word p.right other in
       p.told ∙ ap (λ w. line_answer Done (order_word w)) word ∙ sym q.told
 
--- what is read in one way has one answer, where what is found has
-same_or : {T : Type 0} (Same : T → T → Type 0) (Gives : Result T Refusal → Type 0) (IsFor : T → Answer → Type 0)
-    (a b : Answer) → ((p q : Result T Refusal) → Gives p → Gives q → Agree Same p q) →
-    ((f g : T) → Gives (Ok f) → Same f g → IsFor f a → IsFor g b → a ≡ b) → OrRefused Gives IsFor a →
-    OrRefused Gives IsFor b → a ≡ b
-same_or Same Gives IsFor a b one next (inl (r, gives, e)) (inl (s, gives', e')) =
-    e ∙ ap refusal_answer (one (Err r) (Err s) gives gives') ∙ sym e'
-same_or Same Gives IsFor a b one next (inl (r, gives, e)) (inr (g, gives', is)) = absurd (one (Err r) (Ok g) gives gives')
-same_or Same Gives IsFor a b one next (inr (f, gives, is)) (inl (s, gives', e)) = absurd (one (Ok f) (Err s) gives gives')
-same_or Same Gives IsFor a b one next (inr (f, gives, is)) (inr (g, gives', is')) =
-    next f g gives (one (Ok f) (Ok g) gives gives') is is'
-
+-- over given entries there is one answer
 same_over : OrderOne → (machines : List Post) (u v : List ℕ) (given : List SealedEntry) (a b : Answer) →
     IsOrderOver machines u v given a → IsOrderOver machines u v given b → a ≡ b
 same_over one machines u v given a b =
@@ -161,13 +151,7 @@ same_under one read u v logs files a b first second =
     (λ f g gives same x y. same_over one read.roster.machines u v (entries_of f) a b x
     (subst (λ es. IsOrderOver read.roster.machines u v es b) (sym (same_entries f g same)) y)) first.right second.right
 
--- two equal answers agree
-agree_equal : {T : Type 0} (p q : Result T Refusal) → p ≡ q → Agree (λ (f g : T). f ≡ g) p q
-agree_equal (Ok f) (Ok g) e = cc
-agree_equal (Ok f) (Err s) e = cc
-agree_equal (Err r) (Ok g) e = cc
-agree_equal (Err r) (Err s) e = cc
-
+-- so there is over files
 pub same_order : OrderOne → (roster u v : List ℕ) (logs : List (List ℕ)) (file : Option (List ℕ))
     (files : List (Option (List ℕ))) (a b : Answer) → IsOrderAnswer roster u v logs file files a →
     IsOrderAnswer roster u v logs file files b → a ≡ b

@@ -11,9 +11,12 @@ use Rattle.polling_world.specs.Keys.{roster_of}
 use Rattle.polling_world.specs.Machines.{MachineState}
 use Rattle.polling_world.specs.Playing.{IsPlayed}
 use Rattle.polling_world.specs.Waiting.{IsLeft}
-use Rattle.auditorium_core.specs.Lines.{Answer, refused_answer}
 use Rattle.election_script.specs.CauseWords.{script_why_word}
+use Rattle.evidence.specs.Refusal.{Refusal, refused}
+use Rattle.auditorium_core.specs.Lines.{Answer}
 use Rattle.auditorium_core.specs.Play.{undone_line, SayUndone, play_answer, IsPlayOf, IsPlayAnswer}
+use Rattle.auditorium_core.specs.ScriptFile.{GivesScript}
+use Rattle.auditorium_core.proofs.SameOr.{same_or, agree_equal}
 
 -- a text is read in one way, a script is played in one way, and what is left is told in one way
 pub record PlayOne : Type 0 where
@@ -34,6 +37,7 @@ same_undone one (m ∷ machines) lines others p q =
     p.4 ∙ ap (λ (l : Option Left). undone_line m.config.name l ++ p.1) left
     ∙ ap (λ (r : List ℕ). undone_line m.config.name q.0 ++ r) rest ∙ sym q.4
 
+-- machines that have played have one answer
 same_play_of : PlayOne → (prefix : List ℕ) (script : Script) (a b : Answer) → IsPlayOf prefix script a
     → IsPlayOf prefix script b → a ≡ b
 same_play_of one prefix script a b p q =
@@ -43,28 +47,36 @@ same_play_of one prefix script a b p q =
     p.told ∙ ap (λ (ks : List MachineState). play_answer prefix (roster_of script) ks p.undone) same
     ∙ ap (λ (ls : List ℕ). play_answer prefix (roster_of script) q.machines ls) lines ∙ sym q.told
 
-pub same_play : PlayOne → (name prefix : List ℕ) (file : Option (List ℕ)) (a b : Answer)
-    → IsPlayAnswer name prefix file a → IsPlayAnswer name prefix file b → a ≡ b
-same_play one name prefix None a b p q = p ∙ sym q
-same_play one name prefix (Some bytes) a b (inl (long, e)) (inl (long', f)) = e ∙ sym f
-same_play one name prefix (Some bytes) a b (inl (long, e)) (inr (inl (short, q))) = absurd (omega arith)
-same_play one name prefix (Some bytes) a b (inl (long, e)) (inr (inr (short, q))) = absurd (omega arith)
-same_play one name prefix (Some bytes) a b (inr (inl (short, p))) (inl (long, f)) = absurd (omega arith)
-same_play one name prefix (Some bytes) a b (inr (inr (short, p))) (inl (long, f)) = absurd (omega arith)
-same_play one name prefix (Some bytes) a b (inr (inl (short, (n, why, is, e)))) (inr (inl (short', (k, other, also, f)))) =
+-- a script's file gives one answer
+pub one_script : PlayOne → (name : List ℕ) (file : Option (List ℕ)) (p q : Result Script Refusal) →
+    GivesScript name file p → GivesScript name file q → p ≡ q
+one_script one name None p q x y = x ∙ sym y
+one_script one name (Some bytes) p q (inl (long, e)) (inl (long', f)) = e ∙ sym f
+one_script one name (Some bytes) p q (inl (long, e)) (inr (inl (short, y))) = absurd (omega arith)
+one_script one name (Some bytes) p q (inl (long, e)) (inr (inr (short, y))) = absurd (omega arith)
+one_script one name (Some bytes) p q (inr (inl (short, x))) (inl (long, f)) = absurd (omega arith)
+one_script one name (Some bytes) p q (inr (inr (short, x))) (inl (long, f)) = absurd (omega arith)
+one_script one name (Some bytes) p q (inr (inl (short, (n, why, is, e)))) (inr (inl (short', (k, other, also, f)))) =
     let same : Err (At n why) ≡ Err (At k other) = one.reading bytes (Err (At n why)) (Err (At k other)) is also in
     let number : n ≡ k = cc in
     let cause : why ≡ other = cc in
-    e ∙ ap (λ (m : ℕ). refused_answer name m (script_why_word why)) number
-    ∙ ap (λ (w : ScriptWhy). refused_answer name k (script_why_word w)) cause ∙ sym f
-same_play one name prefix (Some bytes) a b (inr (inl (short, (n, why, is, e)))) (inr (inr (short', (script, also, q)))) =
+    e ∙ ap (λ (m : ℕ). Err (refused name m (script_why_word why))) number
+    ∙ ap (λ (w : ScriptWhy). Err (refused name k (script_why_word w))) cause ∙ sym f
+one_script one name (Some bytes) p q (inr (inl (short, (n, why, is, e)))) (inr (inr (short', (script, also, f)))) =
     let same : Err (At n why) ≡ Ok script = one.reading bytes (Err (At n why)) (Ok script) is also in
     cc
-same_play one name prefix (Some bytes) a b (inr (inr (short, (script, is, p)))) (inr (inl (short', (k, other, also, f)))) =
+one_script one name (Some bytes) p q (inr (inr (short, (script, is, e)))) (inr (inl (short', (k, other, also, f)))) =
     let same : Ok script ≡ Err (At k other) = one.reading bytes (Ok script) (Err (At k other)) is also in
     cc
-same_play one name prefix (Some bytes) a b (inr (inr (short, (script, is, p)))) (inr (inr (short', (other, also, q)))) =
+one_script one name (Some bytes) p q (inr (inr (short, (script, is, e)))) (inr (inr (short', (other, also, f)))) =
     let read : Ok script ≡ Ok other = one.reading bytes (Ok script) (Ok other) is also in
     let same : script ≡ other = cc in
-    let P : Script → Type 0 = λ s. IsPlayOf prefix s a in
-    same_play_of one prefix other a b (subst P same p) q
+    e ∙ ap (λ (s : Script). Ok s) same ∙ sym f
+
+-- so its play has one answer
+pub same_play : PlayOne → (name prefix : List ℕ) (file : Option (List ℕ)) (a b : Answer)
+    → IsPlayAnswer name prefix file a → IsPlayAnswer name prefix file b → a ≡ b
+same_play one name prefix file a b =
+    same_or (λ (f g : Script). f ≡ g) (GivesScript name file) (IsPlayOf prefix) a b
+    (λ p q x y. agree_equal p q (one_script one name file p q x y))
+    (λ f g gives same x y. same_play_of one prefix g a b (subst (λ s. IsPlayOf prefix s a) same x) y)

@@ -1,318 +1,254 @@
 -- What the status of an answer says of the words.
-use Rattle.std.proofs.Common.{◌≡◌, ◌∙◌, ℕ, List, [], ◌∷◌, Option, Some, None, inl, inr, sym, ap, subst, Bool, true}
+use Rattle.std.proofs.Common.{◌≡◌, ◌∙◌, ◌⊎◌, ℕ, List, [], ◌∷◌, Option, inl, inr, sym, ap, subst, Bool, true}
+use Rattle.std.specs.Prelude.{codes, Result}
 use Rattle.hall_outside.specs.Files.{Files}
 use Rattle.log_files.specs.declared.plain_log.LogFault.{LogFault}
 use Rattle.log_files.specs.declared.plain_log.LogFault.TheVariants as log_fault
 use Rattle.roster.specs.declared.post.Post.{Post}
+use Rattle.election_script.specs.declared.script.Script.{Script}
 use Rattle.entry_format.specs.SealedEntry.{SealedEntry}
+use Rattle.log_files.specs.declared.sealed_log.LogRead.{LogRead}
+use Rattle.entry_graph.specs.EntryGraph.{EntryGraph}
 use Rattle.evidence.specs.declared.roster_file.RosterRead.{RosterRead}
 use Rattle.evidence.specs.Refusal.{Refusal, absent, refused}
-use Rattle.auditorium_core.specs.declared.status.Status.{Status}
-use Rattle.auditorium_core.specs.declared.status.Status.TheVariants as status
+use Rattle.evidence.specs.RosterFile.{GivesRoster}
+use Rattle.evidence.specs.Logs.{GivesLogs}
+use Rattle.evidence.specs.Graphs.{entries_of, GivesGraph}
 use Rattle.auditor.specs.declared.outcome.Outcome.{Outcome}
 use Rattle.auditor.specs.declared.outcome.Outcome.TheVariants as outcome
 use Rattle.auditor.specs.Outcomes.{outcome_of}
-use Rattle.auditorium_core.specs.Audit.{status_by, IsAuditOver}
-use Rattle.auditorium_core.specs.Words.{Command, gaps, play, order, audit, generate, Means}
-use Rattle.auditorium_core.specs.Lines.{Answer, usage_answer, absent_answer, refusal_answer}
-use Rattle.auditorium_core.specs.Gaps.{status_of, IsRefusal, IsGapsAnswer}
-use Rattle.auditorium_core.specs.Play.{status_of_undone, IsPlayAnswer, IsOfPlay}
-use Rattle.auditorium_core.specs.Order.{IsOrderAmong, IsOrderOver, IsOrderOverLogs, IsOrderAnswer}
+use Rattle.auditor.specs.Report.{AuditReport}
+use Rattle.auditor.specs.Audits.{GivesReport}
+use Rattle.demonstration.specs.declared.shown.Demonstration.{Demonstration}
+use Rattle.election_script.specs.Generated.{generated}
+use Rattle.auditorium_core.specs.declared.status.Status.{Status}
+use Rattle.auditorium_core.specs.declared.status.Status.TheVariants as status
+use Rattle.auditorium_core.specs.Audit.{status_by, report_answer, IsAuditOf}
+use Rattle.auditorium_core.specs.Words.{Command, gaps, play, order, audit, generate, demonstrate, run, source_named, Means, AreGood}
+use Rattle.auditorium_core.specs.Lines.{Answer, OrRefused, usage_answer, absent_answer, refused_answer, refusal_answer}
+use Rattle.auditorium_core.specs.Lines.{line_answer, no_entry, order_word}
+use Rattle.auditorium_core.specs.Gaps.{log_lines, findings_answer, status_of, IsRefusal, IsGapsAnswer}
+use Rattle.auditorium_core.specs.ScriptFile.{GivesScript}
+use Rattle.auditorium_core.specs.Play.{status_of_undone, IsPlayOf}
+use Rattle.auditorium_core.specs.Run.{IsRunOf}
+use Rattle.auditorium_core.specs.Demonstrated.{GivesDemonstration, demonstration_answer}
+use Rattle.auditorium_core.specs.Order.{IsOrderAmong, IsOrderOver, IsOrderOverLogs, IsOrderUnder}
+use Rattle.auditorium_core.specs.Made.{made_answer}
 use Rattle.auditorium_core.specs.Outcome.{Outside, GivesAnswer, IsWritten, HasDone}
-use Rattle.auditorium_core.specs.Answer.{Answers, IsAnswer, IsOfAnswers, HasItsWords}
+use Rattle.auditorium_core.specs.Answer.{Answers, IsAnswer, IsOfAnswers, IsAudited, IsPlayed, HasItsWords}
 
--- the statuses with which `gaps` answers
-abbrev IsOfGaps : Status → Type 0
-IsOfGaps status.Done = Unit {0}
-IsOfGaps status.Findings = Unit {0}
-IsOfGaps status.Refused = Unit {0}
-IsOfGaps status.Absent = Unit {0}
-IsOfGaps other = ⊥
+-- the command may have findings
+abbrev MayFind : Command → Type 0
+MayFind (gaps log) = Unit {0}
+MayFind (audit roster rules logs) = Unit {0}
+MayFind (demonstrate sessions) = Unit {0}
+MayFind other = ⊥
 
-of_lines : (lines : List ℕ) → IsOfGaps (status_of lines)
-of_lines [] = tt
-of_lines (byte ∷ bytes) = tt
+-- it audits
+abbrev DoesAudit : Command → Type 0
+DoesAudit (audit roster rules logs) = Unit {0}
+DoesAudit (demonstrate sessions) = Unit {0}
+DoesAudit other = ⊥
 
-of_refusal : (name : List ℕ) (fault : LogFault) (answer : Answer) → IsRefusal name fault answer → IsOfGaps answer.status
-of_refusal name log_fault.Absent answer e = subst IsOfGaps (sym (ap (λ (a : Answer). a.status) e)) tt
-of_refusal name log_fault.TooLong answer e = subst IsOfGaps (sym (ap (λ (a : Answer). a.status) e)) tt
-of_refusal name log_fault.Header answer e = subst IsOfGaps (sym (ap (λ (a : Answer). a.status) e)) tt
-of_refusal name log_fault.ReadFault answer e = absurd e
-of_refusal name log_fault.Memory answer e = absurd e
+-- it plays a script's machines
+abbrev DoesPlay : Command → Type 0
+DoesPlay (play script prefix) = Unit {0}
+DoesPlay (run script prefix) = Unit {0}
+DoesPlay other = ⊥
 
-of_gaps : (name : List ℕ) (file : Option (List ℕ)) (answer : Answer) → IsGapsAnswer name file answer →
-    IsOfGaps answer.status
-of_gaps name file answer (inl (log, is, e)) =
-    subst IsOfGaps (sym (ap (λ (a : Answer). a.status) e)) (of_lines _)
-of_gaps name file answer (inr (fault, is, refusal)) = of_refusal name fault answer refusal
+-- the statuses with which a command answers
+abbrev IsStatusOf : Command → Status → Type 0
+IsStatusOf command status.Done = Unit {0}
+IsStatusOf command status.Findings = MayFind command
+IsStatusOf command status.Unsettled = DoesAudit command
+IsStatusOf command status.Broken = DoesAudit command
+IsStatusOf command status.Refused = Unit {0}
+IsStatusOf command status.Absent = Unit {0}
+IsStatusOf command status.Undone = DoesPlay command
+IsStatusOf command other = ⊥
 
--- what that status says of the words of `gaps`
-gaps_words : (words : List (List ℕ)) (log : List ℕ) (answer : Answer) → Means words (gaps log) → IsOfGaps answer.status →
-    HasItsWords words answer
-gaps_words words log answer means is = record {
+-- words that mean a command that may have findings
+found_words : (words : List (List ℕ)) (command : Command) → Means words command → MayFind command →
+    ((log : List ℕ) × Means words (gaps log)) ⊎ IsAudited words
+found_words words (gaps log) means may = inl (log, means)
+found_words words (audit roster rules logs) means may = inr (inl (roster, rules, logs, means))
+found_words words (demonstrate sessions) means may = inr (inr (sessions, means))
+found_words words command means may = absurd may
+
+-- that mean one that audits
+audited_words : (words : List (List ℕ)) (command : Command) → Means words command → DoesAudit command → IsAudited words
+audited_words words (audit roster rules logs) means does = inl (roster, rules, logs, means)
+audited_words words (demonstrate sessions) means does = inr (sessions, means)
+audited_words words command means does = absurd does
+
+-- and that mean one that plays
+played_words : (words : List (List ℕ)) (command : Command) → Means words command → DoesPlay command → IsPlayed words
+played_words words (play script prefix) means does = (script, prefix, inl means)
+played_words words (run script prefix) means does = (script, prefix, inr means)
+played_words words command means does = absurd does
+
+-- what a command's status says of its words
+command_words : (IsDone : Command → Type 0) (words : List (List ℕ)) (command : Command) (answer : Answer) →
+    IsDone command → Means words command → IsStatusOf command answer.status → HasItsWords IsDone words answer
+command_words IsDone words command answer done means is = record {
   some = some answer.status is;
-  usage = (λ e. absurd (no_usage answer.status is e), λ bad. absurd (bad (gaps log, means)));
-  findings = λ e. inl (log, means);
-  unsettled = λ e. absurd (let at : IsOfGaps status.Unsettled = subst IsOfGaps e is in at);
-  broken = λ e. absurd (let at : IsOfGaps status.Broken = subst IsOfGaps e is in at);
-  undone = λ e. absurd (no_undone answer.status is e);
+  usage = (λ e. absurd (at status.Usage e), λ bad. absurd (bad (command, done, means)));
+  findings = λ e. found_words words command means (at status.Findings e);
+  unsettled = λ e. audited_words words command means (at status.Unsettled e);
+  broken = λ e. audited_words words command means (at status.Broken e);
+  undone = λ e. played_words words command means (at status.Undone e);
 }
   where
-    some : (how : Status) → IsOfGaps how → IsOfAnswers how
-    some status.Done h = tt
-    some status.Findings h = tt
-    some status.Refused h = tt
-    some status.Absent h = tt
-    some how h = absurd h
+    at : (how : Status) → answer.status ≡ how → IsStatusOf command how
+    at how e = subst (IsStatusOf command) e is
 
-    no_usage : (how : Status) → IsOfGaps how → how ≡ status.Usage → ⊥
-    no_usage how h e = let at : IsOfGaps status.Usage = subst IsOfGaps e h in at
+    some : (how : Status) → IsStatusOf command how → IsOfAnswers how
+    some status.Usage h = absurd h
+    some status.ReadFault h = absurd h
+    some status.WriteFault h = absurd h
+    some status.Memory h = absurd h
+    some how h = tt
 
-    no_undone : (how : Status) → IsOfGaps how → how ≡ status.Undone → ⊥
-    no_undone how h e = let at : IsOfGaps status.Undone = subst IsOfGaps e h in at
-
-usage_words : (words : List (List ℕ)) (answer : Answer) → (bad : ((command : Command) × Means words command) → ⊥) →
-    answer ≡ usage_answer → HasItsWords words answer
-usage_words words answer bad e = record {
+-- what the status of words that aren't good says
+usage_words : (IsDone : Command → Type 0) (words : List (List ℕ)) (answer : Answer) → ¬ AreGood IsDone words →
+    answer ≡ usage_answer → HasItsWords IsDone words answer
+usage_words IsDone words answer bad e = record {
   some = subst IsOfAnswers (sym is) tt;
   usage = (λ same. bad, λ none. is);
-  findings = λ same. absurd (usage_is same);
-  unsettled = λ same. absurd (let no : status.Usage ≡ status.Unsettled = sym is ∙ same in cc);
-  broken = λ same. absurd (let no : status.Usage ≡ status.Broken = sym is ∙ same in cc);
-  undone = λ same. absurd (usage_is_not same);
+  findings = λ same. absurd (other status.Findings same (λ f. cc));
+  unsettled = λ same. absurd (other status.Unsettled same (λ f. cc));
+  broken = λ same. absurd (other status.Broken same (λ f. cc));
+  undone = λ same. absurd (other status.Undone same (λ f. cc));
 }
   where
     is : answer.status ≡ status.Usage
     is = ap (λ (a : Answer). a.status) e
 
-    usage_is : answer.status ≡ status.Findings → ⊥
-    usage_is same = cc
+    other : (how : Status) → answer.status ≡ how → (status.Usage ≡ how → ⊥) → ⊥
+    other how same differ = differ (sym is ∙ same)
 
-    usage_is_not : answer.status ≡ status.Undone → ⊥
-    usage_is_not same = cc
+module _ (command : Command) where
+  -- an answer that is an equal one has its status
+  answer_is : (answer other : Answer) → answer ≡ other → IsStatusOf command other.status →
+      IsStatusOf command answer.status
+  answer_is answer other e is = subst (λ (a : Answer). IsStatusOf command a.status) (sym e) is
 
-of_undone : (lines : List ℕ) → IsOfPlay (status_of_undone lines)
-of_undone [] = tt
-of_undone (byte ∷ bytes) = tt
+  -- any command may answer with a refusal
+  of_refusal : (refusal : Refusal) → IsStatusOf command (refusal_answer refusal).status
+  of_refusal (absent file) = tt
+  of_refusal (refused file place cause) = tt
 
--- where there is a script, `play` answers with a status of its own
-of_script : (name prefix bytes : List ℕ) (answer : Answer) → IsPlayAnswer name prefix (Some bytes) answer →
-    IsOfPlay answer.status
-of_script name prefix bytes answer (inl (long, e)) = subst IsOfPlay (sym (ap (λ (a : Answer). a.status) e)) tt
-of_script name prefix bytes answer (inr (inl (fits, (number, why, reads, e)))) =
-    subst IsOfPlay (sym (ap (λ (a : Answer). a.status) e)) tt
-of_script name prefix bytes answer (inr (inr (fits, (script, reads, done)))) =
-    subst IsOfPlay (sym (ap (λ (a : Answer). a.status) done.told)) (of_undone done.undone)
+  -- so what is read or refused is answered so where what is read is
+  of_read : {T : Type 0} (Gives : Result T Refusal → Type 0) (IsFor : T → Answer → Type 0) (answer : Answer) →
+      ((found : T) → IsFor found answer → IsStatusOf command answer.status) → OrRefused Gives IsFor answer →
+      IsStatusOf command answer.status
+  of_read Gives IsFor answer next (inl (refusal, gives, e)) =
+      answer_is answer (refusal_answer refusal) e (of_refusal refusal)
+  of_read Gives IsFor answer next (inr (found, gives, is)) = next found is
 
--- what that status says of the words of `play`
-play_words : (words : List (List ℕ)) (script prefix : List ℕ) (answer : Answer) → Means words (play script prefix) →
-    IsOfPlay answer.status → HasItsWords words answer
-play_words words script prefix answer means is = record {
-  some = some answer.status is;
-  usage = (λ e. absurd (no_usage answer.status is e), λ bad. absurd (bad (play script prefix, means)));
-  findings = λ e. absurd (no_findings answer.status is e);
-  unsettled = λ e. absurd (let at : IsOfPlay status.Unsettled = subst IsOfPlay e is in at);
-  broken = λ e. absurd (let at : IsOfPlay status.Broken = subst IsOfPlay e is in at);
-  undone = λ e. (script, prefix, means);
-}
-  where
-    some : (how : Status) → IsOfPlay how → IsOfAnswers how
-    some status.Done h = tt
-    some status.Undone h = tt
-    some status.Refused h = tt
-    some how h = absurd h
+  -- of what is left of machines a command that plays tells
+  of_undone : DoesPlay command → (lines : List ℕ) → IsStatusOf command (status_of_undone lines)
+  of_undone does [] = tt
+  of_undone does (byte ∷ bytes) = does
 
-    no_usage : (how : Status) → IsOfPlay how → how ≡ status.Usage → ⊥
-    no_usage how h e = let at : IsOfPlay status.Usage = subst IsOfPlay e h in at
+  -- of what a report comes to one that audits tells
+  of_outcome : MayFind command → DoesAudit command → (came : Outcome) → IsStatusOf command (status_by came)
+  of_outcome may does outcome.Kept = tt
+  of_outcome may does outcome.Findings = may
+  of_outcome may does outcome.Unsettled = does
+  of_outcome may does outcome.Broken = does
 
-    no_findings : (how : Status) → IsOfPlay how → how ≡ status.Findings → ⊥
-    no_findings how h e = let at : IsOfPlay status.Findings = subst IsOfPlay e h in at
+  -- an order is told, or one of its words is refused
+  of_among : (machines : List Post) (S : List SealedEntry) (x y : List ℕ) (answer : Answer) →
+      IsOrderAmong machines S x y answer → IsStatusOf command answer.status
+  of_among machines S x y answer (inl (none, e)) = answer_is answer (no_entry x) e tt
+  of_among machines S x y answer (inr (entry, means, inl (none, e))) = answer_is answer (no_entry y) e tt
+  of_among machines S x y answer (inr (entry, means, inr (other, means', is))) =
+      answer_is answer (line_answer status.Done (order_word is.word)) is.told tt
 
--- an absent script is told as any absent file is
-absent_words : (words : List (List ℕ)) (script prefix : List ℕ) (answer : Answer) → Means words (play script prefix) →
-    answer ≡ absent_answer script → HasItsWords words answer
-absent_words words script prefix answer means e = record {
-  some = subst IsOfAnswers (sym is) tt;
-  usage = (λ same. absurd (no_usage same), λ bad. absurd (bad (play script prefix, means)));
-  findings = λ same. absurd (no_findings same);
-  unsettled = λ same. absurd (let no : status.Absent ≡ status.Unsettled = sym is ∙ same in cc);
-  broken = λ same. absurd (let no : status.Absent ≡ status.Broken = sym is ∙ same in cc);
-  undone = λ same. (script, prefix, means);
-}
-  where
-    is : answer.status ≡ status.Absent
-    is = ap (λ (a : Answer). a.status) e
+  -- or what it goes on is refused
+  of_over_logs : (read : RosterRead) (x y : List ℕ) (logs : List (List ℕ)) (files : List (Option (List ℕ)))
+      (answer : Answer) → IsOrderOverLogs read x y logs files answer → IsStatusOf command answer.status
+  of_over_logs read x y logs files answer =
+      let machines = read.roster.machines in
+      of_read (GivesLogs machines read.election logs files)
+      (λ (found : List LogRead). IsOrderOver machines x y (entries_of found)) answer
+      (λ found. of_read (GivesGraph (entries_of found))
+      (λ (graph : EntryGraph SealedEntry). IsOrderAmong machines graph.survivors x y) answer
+      (λ graph. of_among machines graph.survivors x y answer))
 
-    no_usage : answer.status ≡ status.Usage → ⊥
-    no_usage same = cc
+-- `gaps` tells of lines
+of_lines : (log lines : List ℕ) → IsStatusOf (gaps log) (status_of lines)
+of_lines log [] = tt
+of_lines log (byte ∷ bytes) = tt
 
-    no_findings : answer.status ≡ status.Findings → ⊥
-    no_findings same = cc
+-- or the log is refused
+of_log_refusal : (log : List ℕ) (fault : LogFault) (answer : Answer) → IsRefusal log fault answer →
+    IsStatusOf (gaps log) answer.status
+of_log_refusal log log_fault.Absent answer e = answer_is (gaps log) answer (absent_answer log) e tt
+of_log_refusal log log_fault.TooLong answer e =
+    answer_is (gaps log) answer (refused_answer log 0 (codes "TooLong")) e tt
+of_log_refusal log log_fault.Header answer e =
+    answer_is (gaps log) answer (refused_answer log 0 (codes "Header")) e tt
+of_log_refusal log log_fault.ReadFault answer e = absurd e
+of_log_refusal log log_fault.Memory answer e = absurd e
 
--- the statuses with which `order` answers
-abbrev IsOfOrder : Status → Type 0
-IsOfOrder status.Done = Unit {0}
-IsOfOrder status.Refused = Unit {0}
-IsOfOrder status.Absent = Unit {0}
-IsOfOrder other = ⊥
+-- so it answers
+of_gaps : (log : List ℕ) (file : Option (List ℕ)) (answer : Answer) → IsGapsAnswer log file answer →
+    IsStatusOf (gaps log) answer.status
+of_gaps log file answer (inl (read, is, e)) =
+    answer_is (gaps log) answer (findings_answer (log_lines log read)) e (of_lines log (log_lines log read))
+of_gaps log file answer (inr (fault, is, refusal)) = of_log_refusal log fault answer refusal
 
-as_order : (answer : Answer) (how : Status) → answer.status ≡ how → IsOfOrder how → IsOfOrder answer.status
-as_order answer how e is = subst IsOfOrder (sym e) is
+-- so each command answers
+of_command : (command : Command) (files : List (Option (List ℕ))) (answer : Answer) → IsAnswer command files answer →
+    IsStatusOf command answer.status
+of_command (gaps log) (file ∷ []) answer is = of_gaps log file answer is
+of_command (play script prefix) (file ∷ []) answer is =
+    let command = play script prefix in
+    of_read command (GivesScript script file) (IsPlayOf prefix) answer
+    (λ (read : Script) right. subst (λ (a : Answer). IsStatusOf command a.status) (sym right.told)
+    (of_undone command tt right.undone)) is
+of_command (run script prefix) (file ∷ []) answer is =
+    let command = run script prefix in
+    of_read command (GivesScript script file) (IsRunOf prefix) answer
+    (λ (read : Script) right. subst (λ (a : Answer). IsStatusOf command a.status) (sym right.told)
+    (of_undone command tt right.undone)) is
+of_command (order roster x y logs) (file ∷ files) answer is =
+    let command = order roster x y logs in
+    of_read command (GivesRoster roster file) (λ (read : RosterRead). IsOrderUnder read x y logs files) answer
+    (λ (read : RosterRead) under. of_over_logs command read x y logs files answer under.right) is
+of_command (audit roster rules logs) files answer is =
+    let command = audit roster rules logs in
+    of_read command (GivesReport roster (source_named rules) logs files) IsAuditOf answer
+    (λ (report : AuditReport) right. answer_is command answer (report_answer report) right.told
+    (of_outcome command tt tt (outcome_of report))) is.right
+of_command (generate sessions) [] answer is = answer_is (generate sessions) answer (made_answer sessions) is tt
+of_command (demonstrate sessions) [] answer is =
+    let command = demonstrate sessions in
+    of_read command (GivesDemonstration (generated sessions) is.half)
+    (λ shown told. told ≡ demonstration_answer sessions shown) answer
+    (λ (shown : Demonstration) e. answer_is command answer (demonstration_answer sessions shown) e
+    (of_outcome command tt tt shown.outcome)) is.right
+of_command command files answer is = absurd is
 
-order_refused : (refusal : Refusal) (answer : Answer) → answer ≡ refusal_answer refusal → IsOfOrder answer.status
-order_refused (absent file) answer e = as_order answer status.Absent (ap (λ (a : Answer). a.status) e) tt
-order_refused (refused file place cause) answer e = as_order answer status.Refused (ap (λ (a : Answer). a.status) e) tt
-
-of_among : (machines : List Post) (S : List SealedEntry) (x y : List ℕ) (answer : Answer) →
-    IsOrderAmong machines S x y answer → IsOfOrder answer.status
-of_among machines S x y answer (inl (none, e)) = as_order answer status.Refused (ap (λ (a : Answer). a.status) e) tt
-of_among machines S x y answer (inr (entry, means, inl (none, e))) =
-    as_order answer status.Refused (ap (λ (a : Answer). a.status) e) tt
-of_among machines S x y answer (inr (entry, means, inr (other, means', is))) =
-    as_order answer status.Done (ap (λ (a : Answer). a.status) is.told) tt
-
-of_over : (machines : List Post) (x y : List ℕ) (given : List SealedEntry) (answer : Answer) →
-    IsOrderOver machines x y given answer → IsOfOrder answer.status
-of_over machines x y given answer (inl (refusal, gives, e)) = order_refused refusal answer e
-of_over machines x y given answer (inr (graph, gives, is)) = of_among machines graph.survivors x y answer is
-
-of_over_logs : (read : RosterRead) (x y : List ℕ) (logs : List (List ℕ)) (files : List (Option (List ℕ))) (answer : Answer) →
-    IsOrderOverLogs read x y logs files answer → IsOfOrder answer.status
-of_over_logs read x y logs files answer (inl (refusal, gives, e)) = order_refused refusal answer e
-of_over_logs read x y logs files answer (inr (found, gives, is)) = of_over read.roster.machines x y _ answer is
-
-of_order : (roster x y : List ℕ) (logs : List (List ℕ)) (file : Option (List ℕ)) (files : List (Option (List ℕ)))
-    (answer : Answer) → IsOrderAnswer roster x y logs file files answer → IsOfOrder answer.status
-of_order roster x y logs file files answer (inl (refusal, gives, e)) = order_refused refusal answer e
-of_order roster x y logs file files answer (inr (read, gives, is)) = of_over_logs read x y logs files answer is.right
-
--- what that status says of the words of `order`
-order_words : (words : List (List ℕ)) (roster x y : List ℕ) (logs : List (List ℕ)) (answer : Answer) →
-    Means words (order roster x y logs) → IsOfOrder answer.status → HasItsWords words answer
-order_words words roster x y logs answer means is = record {
-  some = some answer.status is;
-  usage = (λ e. absurd (no_usage answer.status is e), λ bad. absurd (bad (order roster x y logs, means)));
-  findings = λ e. absurd (no_findings answer.status is e);
-  unsettled = λ e. absurd (let at : IsOfOrder status.Unsettled = subst IsOfOrder e is in at);
-  broken = λ e. absurd (let at : IsOfOrder status.Broken = subst IsOfOrder e is in at);
-  undone = λ e. absurd (no_undone answer.status is e);
-}
-  where
-    some : (how : Status) → IsOfOrder how → IsOfAnswers how
-    some status.Done h = tt
-    some status.Refused h = tt
-    some status.Absent h = tt
-    some how h = absurd h
-
-    no_usage : (how : Status) → IsOfOrder how → how ≡ status.Usage → ⊥
-    no_usage how h e = let at : IsOfOrder status.Usage = subst IsOfOrder e h in at
-
-    no_findings : (how : Status) → IsOfOrder how → how ≡ status.Findings → ⊥
-    no_findings how h e = let at : IsOfOrder status.Findings = subst IsOfOrder e h in at
-
-    no_undone : (how : Status) → IsOfOrder how → how ≡ status.Undone → ⊥
-    no_undone how h e = let at : IsOfOrder status.Undone = subst IsOfOrder e h in at
-
--- the statuses with which `audit` answers
-abbrev IsOfAudit : Status → Type 0
-IsOfAudit status.Done = Unit {0}
-IsOfAudit status.Findings = Unit {0}
-IsOfAudit status.Unsettled = Unit {0}
-IsOfAudit status.Broken = Unit {0}
-IsOfAudit status.Refused = Unit {0}
-IsOfAudit status.Absent = Unit {0}
-IsOfAudit other = ⊥
-
-of_outcome : (came : Outcome) → IsOfAudit (status_by came)
-of_outcome outcome.Kept = tt
-of_outcome outcome.Findings = tt
-of_outcome outcome.Unsettled = tt
-of_outcome outcome.Broken = tt
-
-audit_refusal : (refusal : Refusal) → IsOfAudit (refusal_answer refusal).status
-audit_refusal (absent file) = tt
-audit_refusal (refused file place cause) = tt
-
-of_audit : (roster rules : List ℕ) (logs : List (List ℕ)) (files : List (Option (List ℕ))) (answer : Answer) →
-    IsAuditOver roster rules logs files answer → IsOfAudit answer.status
-of_audit roster rules logs files answer (inl (refusal, gives, e)) =
-    subst IsOfAudit (sym (ap (λ (a : Answer). a.status) e)) (audit_refusal refusal)
-of_audit roster rules logs files answer (inr (report, gives, is)) =
-    subst IsOfAudit (sym (ap (λ (a : Answer). a.status) is.told)) (of_outcome (outcome_of report))
-
--- what that status says of the words of `audit`
-audit_words : (words : List (List ℕ)) (roster rules : List ℕ) (logs : List (List ℕ)) (answer : Answer) →
-    Means words (audit roster rules logs) → IsOfAudit answer.status → HasItsWords words answer
-audit_words words roster rules logs answer means is = record {
-  some = some answer.status is;
-  usage = (
-    λ e. absurd (let at : IsOfAudit status.Usage = subst IsOfAudit e is in at),
-    λ bad. absurd (bad (audit roster rules logs, means)),
-  );
-  findings = λ e. inr (roster, rules, logs, means);
-  unsettled = λ e. (roster, rules, logs, means);
-  broken = λ e. (roster, rules, logs, means);
-  undone = λ e. absurd (let at : IsOfAudit status.Undone = subst IsOfAudit e is in at);
-}
-  where
-    some : (how : Status) → IsOfAudit how → IsOfAnswers how
-    some status.Done h = tt
-    some status.Findings h = tt
-    some status.Unsettled h = tt
-    some status.Broken h = tt
-    some status.Refused h = tt
-    some status.Absent h = tt
-    some how h = absurd h
-
--- what the status of a script that was made says of the words
-made_words : (words : List (List ℕ)) (sessions : ℕ) (answer : Answer) → Means words (generate sessions) →
-    answer.status ≡ status.Done → HasItsWords words answer
-made_words words sessions answer means is = record {
-  some = subst IsOfAnswers (sym is) tt;
-  usage = (λ same. absurd (done_is_not status.Usage same (λ e. cc)), λ bad. absurd (bad (generate sessions, means)));
-  findings = λ same. absurd (done_is_not status.Findings same (λ e. cc));
-  unsettled = λ same. absurd (done_is_not status.Unsettled same (λ e. cc));
-  broken = λ same. absurd (done_is_not status.Broken same (λ e. cc));
-  undone = λ same. absurd (done_is_not status.Undone same (λ e. cc));
-}
-  where
-    done_is_not : (how : Status) → answer.status ≡ how → (status.Done ≡ how → ⊥) → ⊥
-    done_is_not how same differ = differ (sym is ∙ same)
-
-command_words : (words : List (List ℕ)) (command : Command) (files : List (Option (List ℕ))) (answer : Answer) →
-    Means words command → IsAnswer command files answer → HasItsWords words answer
-command_words words (gaps log) [] answer means is = absurd is
-command_words words (gaps log) (file ∷ []) answer means is = gaps_words words log answer means (of_gaps log file answer is)
-command_words words (gaps log) (file ∷ next ∷ files) answer means is = absurd is
-command_words words (play script prefix) [] answer means is = absurd is
-command_words words (play script prefix) (None ∷ []) answer means is = absent_words words script prefix answer means is
-command_words words (play script prefix) (Some bytes ∷ []) answer means is =
-    play_words words script prefix answer means (of_script script prefix bytes answer is)
-command_words words (play script prefix) (file ∷ next ∷ files) answer means is = absurd is
-command_words words (order roster x y logs) [] answer means is = absurd is
-command_words words (order roster x y logs) (file ∷ files) answer means is =
-    order_words words roster x y logs answer means (of_order roster x y logs file files answer is)
-command_words words (audit roster rules logs) files answer means is =
-    audit_words words roster rules logs answer means (of_audit roster rules logs files answer is.right)
-command_words words (generate sessions) [] answer means is =
-    made_words words sessions answer means (ap (λ (a : Answer). a.status) is)
-command_words words (generate sessions) (file ∷ files) answer means is = absurd is
-
--- the same of the words of any command, and of words that aren't good
-pub status_words : (words : List (List ℕ)) (told : Option Files) (answer : Answer) → Answers words told answer →
-    HasItsWords words answer
-status_words words told answer (inl (command, means, (files, are, is))) = command_words words command files answer means is
-status_words words told answer (inr (bad, e)) = usage_words words answer bad e
+-- what the status says of the words of any command, and of words that aren't good
+pub status_words : (IsDone : Command → Type 0) (words : List (List ℕ)) (told : Option Files) (answer : Answer) →
+    Answers IsDone words told answer → HasItsWords IsDone words answer
+status_words IsDone words told answer (inl (command, done, means, (files, are, is))) =
+    command_words IsDone words command answer done means (of_command command files answer is)
+status_words IsDone words told answer (inr (bad, e)) = usage_words IsDone words answer bad e
 
 -- the program is done with an answer, and ends with its status
-pub is_done : (words : List (List ℕ)) (is_written_by : Answer → Bool → Type 0) (old new : Outside) (answer : Answer)
-    (how : Status) → how ≡ answer.status → GivesAnswer words old new answer → is_written_by answer true →
-    IsWritten answer old new → HasDone words is_written_by old how new
-is_done words is_written_by old new answer how same gives calls written =
-    by_status how same (status_words words old.store.files answer gives.answers).some
+pub is_done : (IsDone : Command → Type 0) (words : List (List ℕ)) (is_written_by : Answer → Bool → Type 0)
+    (old new : Outside) (answer : Answer) (how : Status) → how ≡ answer.status →
+    GivesAnswer (Answers IsDone words) old new answer → is_written_by answer true → IsWritten answer old new →
+    HasDone (Answers IsDone words) is_written_by old how new
+is_done IsDone words is_written_by old new answer how same gives calls written =
+    by_status how same (status_words IsDone words old.store.files answer gives.answers).some
   where
     by_status : (how : Status) → how ≡ answer.status → IsOfAnswers answer.status →
-        HasDone words is_written_by old how new
+        HasDone (Answers IsDone words) is_written_by old how new
     by_status status.ReadFault e some = absurd (subst IsOfAnswers (sym e) some)
     by_status status.WriteFault e some = absurd (subst IsOfAnswers (sym e) some)
     by_status status.Memory e some = absurd (subst IsOfAnswers (sym e) some)

@@ -1,19 +1,21 @@
 -- What commands answer, over files that may not be told.
-use Rattle.std.proofs.Common.{◌≡◌, List, [], ◌∷◌, Option, Some, None, ℕ, inl, inr, subst}
-use Rattle.std.specs.Prelude.{Result, Ok, Err, IfOk, codes}
-use Rattle.hall_outside.specs.Files.{Files, OnFile, OnSomeFile}
-use Rattle.hall_outside.specs.ReadFile.{IsRefused as FileIsRefused}
-use Rattle.hall_outside.specs.declared.reading.FileFault.{FileFault}
-use Rattle.hall_outside.specs.declared.reading.FileFault.TheVariants.{Absent, TooLong}
-use Rattle.auditorium_core.specs.declared.answer.Fault.{Fault}
-use Rattle.auditorium_core.specs.Words.{gaps, play}
-use Rattle.auditorium_core.specs.Lines.{Answer, absent_answer, refused_answer}
-use Rattle.hall_outside.proofs.SomeFile.{some_file, on_some, refused_file, is_refused_file}
+use Rattle.std.proofs.Common.{◌≡◌, ◌≢◌, ◌∙◌, List, [], ◌∷◌, Option, ℕ, inl, inr, refl, sym, ap, subst}
+use Rattle.std.specs.Prelude.{Ok, Err}
+use Rattle.hall_outside.specs.Files.{Files, OnSomeFile}
+use Rattle.hall_outside.proofs.SomeFile.{on_some}
+use Rattle.election_script.specs.declared.script.Script.{Script}
 use Rattle.log_files.specs.declared.plain_log.PlainLog.{PlainLog}
 use Rattle.log_files.specs.declared.plain_log.LogFault.{LogFault}
 use Rattle.log_files.specs.LogFile.{IsLogOf, IsRefused}
+use Rattle.evidence.specs.Refusal.{Refusal}
+use Rattle.auditorium_core.specs.declared.status.Status.{Status}
+use Rattle.auditorium_core.specs.declared.status.Status.TheVariants as status
+use Rattle.auditorium_core.specs.Words.{gaps, play, run}
+use Rattle.auditorium_core.specs.Lines.{Answer, refusal_answer}
 use Rattle.auditorium_core.specs.Gaps.{log_lines, findings_answer, IsRefusal, IsGapsAnswer}
-use Rattle.auditorium_core.specs.Play.{max_script, IsPlayAnswer}
+use Rattle.auditorium_core.specs.Play.{IsPlayOf, status_of_undone}
+use Rattle.auditorium_core.specs.Run.{IsRunOf}
+use Rattle.auditorium_core.specs.ScriptFile.{GivesScriptIn}
 use Rattle.auditorium_core.specs.Answer.{IsAnswerTo}
 
 -- the answer for the one file that a command reads
@@ -35,37 +37,32 @@ gaps_refusal told log fault given answer same is said =
     (on_some told log (IsRefused fault) (λ file. IsGapsAnswer log file answer) (λ file refused. inr (fault, refused, is))
     (subst P same said))
 
-pub play_to : (told : Option Files) (script prefix : List ℕ) (answer : Answer) →
-    OnSomeFile told script (λ file. IsPlayAnswer script prefix file answer) →
-    IsAnswerTo (play script prefix) told answer
-play_to told script prefix answer (file, is, right) = (file ∷ [], (is, tt), right)
+-- the answers of `play` and of `run`, where the script is refused and where it is read
+pub play_refused : (name prefix : List ℕ) (told : Option Files) (refusal : Refusal) →
+    GivesScriptIn name told (Err refusal) → IsAnswerTo (play name prefix) told (refusal_answer refusal)
+play_refused name prefix told refusal (file, is, gives) = (file ∷ [], (is, tt), inl (refusal, gives, refl))
 
--- the answer for a script that was read
-pub play_for : (result : Result Answer Fault) (told : Option Files) (script prefix bytes : List ℕ) →
-    OnFile told script (λ file. file ≡ Some bytes) → IfOk result (IsPlayAnswer script prefix (Some bytes)) →
-    IfOk result (IsAnswerTo (play script prefix) told)
-play_for (Ok answer) told script prefix bytes whole is = play_to told script prefix answer (Some bytes, whole, is)
-play_for (Err fault) told script prefix bytes whole is = tt
+pub play_told : (name prefix : List ℕ) (told : Option Files) (script : Script) (answer : Answer) →
+    GivesScriptIn name told (Ok script) → IsPlayOf prefix script answer → IsAnswerTo (play name prefix) told answer
+play_told name prefix told script answer (file, is, gives) of = (file ∷ [], (is, tt), inr (script, gives, of))
 
--- the answer where there is no script
-pub play_absent : (told : Option Files) (script prefix : List ℕ) (given : FileFault) (answer : Answer) →
-    given ≡ Absent → answer ≡ absent_answer script → OnFile told script (FileIsRefused max_script given) →
-    IsAnswerTo (play script prefix) told answer
-play_absent told script prefix given answer same is said =
-    let P : FileFault → Type 0 = λ f. OnFile told script (FileIsRefused max_script f) in
-    play_to told script prefix answer (None, subst P same said, is)
+pub run_refused : (name prefix : List ℕ) (told : Option Files) (refusal : Refusal) →
+    GivesScriptIn name told (Err refusal) → IsAnswerTo (run name prefix) told (refusal_answer refusal)
+run_refused name prefix told refusal (file, is, gives) = (file ∷ [], (is, tt), inl (refusal, gives, refl))
 
--- the answer where the script is too long
-pub play_too_long : (told : Option Files) (script prefix : List ℕ) (given : FileFault) (answer : Answer) →
-    given ≡ TooLong → answer ≡ refused_answer script 0 (codes "TooLong") →
-    OnFile told script (FileIsRefused max_script given) → IsAnswerTo (play script prefix) told answer
-play_too_long told script prefix given answer same is said =
-    let P : FileFault → Type 0 = λ f. OnFile told script (FileIsRefused max_script f) in
-    play_to told script prefix answer
-    (on_some told script (FileIsRefused max_script TooLong) (λ file. IsPlayAnswer script prefix file answer) step
-    (some_file told script (FileIsRefused max_script TooLong) (refused_file max_script TooLong)
-    (is_refused_file max_script TooLong) (subst P same said)))
-  where
-    step : (file : Option (List ℕ)) → FileIsRefused max_script TooLong file → IsPlayAnswer script prefix file answer
-    step None long = absurd long
-    step (Some bytes) long = inl (long, is)
+pub run_told : (name prefix : List ℕ) (told : Option Files) (script : Script) (answer : Answer) →
+    GivesScriptIn name told (Ok script) → IsRunOf prefix script answer → IsAnswerTo (run name prefix) told answer
+run_told name prefix told script answer (file, is, gives) of = (file ∷ [], (is, tt), inr (script, gives, of))
+
+-- the status of lines on what is left isn't that of an absent file
+not_absent : (lines : List ℕ) (how : Status) → how ≡ status_of_undone lines → how ≢ status.Absent
+not_absent [] how is e = let no : status.Done ≡ status.Absent = sym is ∙ e in cc
+not_absent (byte ∷ lines) how is e = let no : status.Undone ≡ status.Absent = sym is ∙ e in cc
+
+pub play_is_there : (prefix : List ℕ) (script : Script) (answer : Answer) → IsPlayOf prefix script answer →
+    answer.status ≢ status.Absent
+play_is_there prefix script answer of = not_absent of.undone answer.status (ap (λ (a : Answer). a.status) of.told)
+
+pub run_is_there : (prefix : List ℕ) (script : Script) (answer : Answer) → IsRunOf prefix script answer →
+    answer.status ≢ status.Absent
+run_is_there prefix script answer of = not_absent of.undone answer.status (ap (λ (a : Answer). a.status) of.told)

@@ -5,11 +5,13 @@ use Rattle.hall_outside.specs.Files.{Files}
 use Rattle.evidence.specs.NamedFiles.{AreFiles}
 use Rattle.auditorium_core.specs.declared.status.Status.{Status}
 use Rattle.auditorium_core.specs.declared.status.Status.TheVariants as status
-use Rattle.auditorium_core.specs.Words.{Command, gaps, play, order, audit, generate, files_of, Means, AreGood}
+use Rattle.auditorium_core.specs.Words.{Command, gaps, play, order, audit, generate, demonstrate, run, files_of, Means, AreGood}
 use Rattle.auditorium_core.specs.Lines.{Answer, usage_answer}
 use Rattle.auditorium_core.specs.Gaps.{IsGapsAnswer}
 use Rattle.auditorium_core.specs.Made.{made_answer}
 use Rattle.auditorium_core.specs.Play.{IsPlayAnswer}
+use Rattle.auditorium_core.specs.Run.{IsRunAnswer}
+use Rattle.auditorium_core.specs.Demonstrated.{IsDemonstrationAnswer}
 use Rattle.auditorium_core.specs.Order.{IsOrderAnswer}
 use Rattle.auditorium_core.specs.HonestAudit.{IsAuditAnswer}
 
@@ -20,6 +22,8 @@ IsAnswer (play script prefix) (file ∷ []) answer = IsPlayAnswer script prefix 
 IsAnswer (order roster x y logs) (file ∷ files) answer = IsOrderAnswer roster x y logs file files answer
 IsAnswer (audit roster rules logs) files answer = IsAuditAnswer roster rules logs files answer
 IsAnswer (generate sessions) [] answer = answer ≡ made_answer sessions
+IsAnswer (demonstrate sessions) [] answer = IsDemonstrationAnswer sessions answer
+IsAnswer (run script prefix) (file ∷ []) answer = IsRunAnswer script prefix file answer
 IsAnswer command others answer = ⊥
 
 -- what a command gives, over these files or, where none are told, over some
@@ -27,16 +31,16 @@ abbrev pub IsAnswerTo : Command → Option Files → Answer → Type 0
 IsAnswerTo command told answer =
     (files : List (Option (List ℕ))) × AreFiles told (files_of command) files × IsAnswer command files answer
 
--- what words give, likewise
-abbrev pub Answers : List (List ℕ) → Option Files → Answer → Type 0
-Answers words told answer =
-    ((command : Command) × Means words command × IsAnswerTo command told answer)
-    ⊎ ((¬ AreGood words) × (answer ≡ usage_answer))
+-- what words give where these are the commands, likewise
+abbrev pub Answers : (Command → Type 0) → List (List ℕ) → Option Files → Answer → Type 0
+Answers IsDone words told answer =
+    ((command : Command) × IsDone command × Means words command × IsAnswerTo command told answer)
+    ⊎ ((¬ AreGood IsDone words) × (answer ≡ usage_answer))
 
--- The answer is that of the words and the files, and Absent comes exactly where the store said so in the call.
-pub record IsAnswerOf (words : List (List ℕ)) (told : Option Files) (absences_before absences_now : ℕ)
-    (answer : Answer) : Type 0 where
-  pub answers : Answers words told answer
+-- The answer is right for the files, and Absent comes exactly where the store said so in the call.
+pub record IsAnswerOf (IsRight : Option Files → Answer → Type 0) (told : Option Files)
+    (absences_before absences_now : ℕ) (answer : Answer) : Type 0 where
+  pub answers : IsRight told answer
   pub absent : ComesExactly absences_before absences_now (answer.status ≡ status.Absent)
 
 -- the statuses that an answer can have
@@ -46,15 +50,21 @@ IsOfAnswers status.WriteFault = ⊥
 IsOfAnswers status.Memory = ⊥
 IsOfAnswers other = Unit {0}
 
--- the words are those of an audit
-abbrev pub IsAudit : List (List ℕ) → Type 0
-IsAudit words = (roster rules : List ℕ) × (logs : List (List ℕ)) × Means words (audit roster rules logs)
+-- the words are those of an audit, or of a demonstration, which ends with one
+abbrev pub IsAudited : List (List ℕ) → Type 0
+IsAudited words =
+    ((roster rules : List ℕ) × (logs : List (List ℕ)) × Means words (audit roster rules logs))
+    ⊎ ((sessions : ℕ) × Means words (demonstrate sessions))
 
--- what the status of an answer says of the words
-pub record HasItsWords (words : List (List ℕ)) (answer : Answer) : Type 0 where
+-- the words are those of a script's machines, on one thread or in several
+abbrev pub IsPlayed : List (List ℕ) → Type 0
+IsPlayed words = (script prefix : List ℕ) × (Means words (play script prefix) ⊎ Means words (run script prefix))
+
+-- what the status of an answer says of the words, where these are the commands
+pub record HasItsWords (IsDone : Command → Type 0) (words : List (List ℕ)) (answer : Answer) : Type 0 where
   pub some : IsOfAnswers answer.status
-  pub usage : (answer.status ≡ status.Usage) ↔ ¬ AreGood words
-  pub findings : answer.status ≡ status.Findings → ((log : List ℕ) × Means words (gaps log)) ⊎ IsAudit words
-  pub unsettled : answer.status ≡ status.Unsettled → IsAudit words
-  pub broken : answer.status ≡ status.Broken → IsAudit words
-  pub undone : answer.status ≡ status.Undone → (script prefix : List ℕ) × Means words (play script prefix)
+  pub usage : (answer.status ≡ status.Usage) ↔ ¬ AreGood IsDone words
+  pub findings : answer.status ≡ status.Findings → ((log : List ℕ) × Means words (gaps log)) ⊎ IsAudited words
+  pub unsettled : answer.status ≡ status.Unsettled → IsAudited words
+  pub broken : answer.status ≡ status.Broken → IsAudited words
+  pub undone : answer.status ≡ status.Undone → IsPlayed words

@@ -18,8 +18,7 @@ use Rattle.auditor.specs.Audits.{GivesReport}
 use Rattle.auditorium_core.specs.declared.status.Status.{Status}
 use Rattle.auditorium_core.specs.declared.status.Status.TheVariants as status
 use Rattle.auditorium_core.specs.Words.{source_named}
-use Rattle.auditorium_core.specs.Lines.{Answer}
-use Rattle.auditorium_core.specs.Order.{OrRefused}
+use Rattle.auditorium_core.specs.Lines.{Answer, OrRefused}
 
 -- the status of what a report comes to
 abbrev pub status_by : Outcome → Status

@@ -18,10 +18,11 @@ use Rattle.auditor.specs.Audits.{GivesReport}
 use Rattle.auditorium_core.specs.declared.status.Status.{Status}
 use Rattle.auditorium_core.specs.declared.status.Status.TheVariants as status
 use Rattle.auditorium_core.specs.EntryWords.{MeansEntry}
-use Rattle.auditorium_core.specs.Words.{Command, gaps, play, order, audit, generate, source_named, files_of, Means}
+use Rattle.auditorium_core.specs.Words.{Command, gaps, play, order, audit, generate, demonstrate, run, source_named, files_of, Means}
 use Rattle.auditorium_core.specs.Lines.{Answer}
-use Rattle.auditorium_core.specs.Play.{max_script}
+use Rattle.auditorium_core.specs.ScriptFile.{max_script}
 use Rattle.auditorium_core.specs.Answer.{IsAnswer}
+use Rattle.auditorium_core.specs.Demonstrated.{ShowsReport}
 use Rattle.auditorium_core.specs.Outcome.{Outside, IsUnwritten, IsWritten}
 
 -- the statuses of a command that was carried out: 0, 1, 2, 3 and 7
@@ -61,6 +62,8 @@ AreAccepted (order roster x y logs) (file ∷ files) = GiveEntries roster x y lo
 AreAccepted (audit roster rules logs) files =
     (report : AuditReport) × GivesReport roster (source_named rules) logs files (Ok report)
 AreAccepted (generate sessions) [] = ⊤
+AreAccepted (demonstrate sessions) [] = ShowsReport sessions
+AreAccepted (run script prefix) (file ∷ []) = IsScriptFile file
 AreAccepted command others = ⊥
 
 -- no count of faults rose
@@ -79,11 +82,11 @@ pub record IsAnsweredOver (command : Command) (files : List (Option (List ℕ)))
   pub carried_out : AreAccepted command files → IsCarriedOut how
   pub written : IsWritten answer old new
 
--- Where the words are a command's and no count of faults rose in the call, the command was answered over its files,
--- which are those of the store or, where none are told, some; or memory was wanting, and nothing was written.
-abbrev pub IsComplete : List (List ℕ) → Outside → Status → Outside → Type 0
-IsComplete words old how new =
-    (command : Command) → Means words command → HasNoFailure old new →
+-- Where the words are one of these commands' and no count of faults rose in the call, the command was answered over
+-- its files, which are those of the store or, where none are told, some; or memory was wanting, and nothing was written.
+abbrev pub IsComplete : (Command → Type 0) → List (List ℕ) → Outside → Status → Outside → Type 0
+IsComplete IsDone words old how new =
+    (command : Command) → IsDone command → Means words command → HasNoFailure old new →
     ((files : List (Option (List ℕ))) × AreFiles old.store.files (files_of command) files
     × IsAnsweredOver command files old how new)
     ⊎ ((how ≡ status.Memory) × IsUnwritten old new)

@@ -9,14 +9,13 @@ use Rattle.entry_order.specs.HeldBefore.{HeldBefore}
 use Rattle.entry_order.specs.Naming.{Distinct}
 use Rattle.entry_order.specs.World.{World, sent_in}
 use Rattle.log_files.specs.declared.sealed_log.LogRead.{LogRead}
-use Rattle.evidence.specs.Refusal.{Refusal}
 use Rattle.honest_logs.specs.HonestReading.{IsHonestlyRead}
-use Rattle.honest_logs.specs.LeftFiles.{AreAllFilesOf, AreFilesOf, IsOverLimit}
+use Rattle.honest_logs.specs.LeftFiles.{AreAllFilesOf, AreFilesOf}
 use Rattle.honest_logs.specs.OfScript.{IsOfScript}
 use Rattle.auditorium_core.specs.declared.order_word.OrderWord.{OrderWord}
 use Rattle.auditorium_core.specs.declared.order_word.OrderWord.TheVariants.{Same, Before, After, Apart, Unknown}
 use Rattle.auditorium_core.specs.declared.status.Status.TheVariants.{Done}
-use Rattle.auditorium_core.specs.Lines.{Answer, line_answer, no_entry, order_word, refusal_answer}
+use Rattle.auditorium_core.specs.Lines.{Answer, line_answer, no_entry, order_word}
 use Rattle.auditorium_core.specs.EntryWords.{MeansEntry, MeansNone}
 
 -- two different entries, neither of which was held before the other in w
@@ -50,12 +49,10 @@ pub record IsHonestWord (w : World SealedEntry) (files : List (Option (List ℕ)
   pub right : IsWordIn w e f word
   pub exact : AreAllFilesOf w files → IsExactIn w e f word
 
--- What is answered over such files of w: a refusal, because a file is over the limit of a log's or because a word means
--- no survivor; or a word that is right in w. The logs and their graph accuse nobody.
+-- What is answered over such files of w: a refusal, because a word means no survivor; or a word that is right in w. The
+-- logs and their graph accuse nobody.
 pub data IsHonestOrder (machines : List Post) (election : List ℕ) (w : World SealedEntry) (x y : List ℕ)
     (names : List (List ℕ)) (files : List (Option (List ℕ))) : Answer → Type 0 where
-  over_limit : (refusal : Refusal) → IsOverLimit names files refusal →
-      IsHonestOrder machines election w x y names files (refusal_answer refusal)
   no_first : (logs : List LogRead) (graph : EntryGraph SealedEntry) →
       IsHonestlyRead machines election w names files logs graph → MeansNone machines graph.survivors x →
       IsHonestOrder machines election w x y names files (no_entry x)

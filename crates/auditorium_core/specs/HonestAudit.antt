@@ -11,7 +11,7 @@ use Rattle.auditor.specs.Report.{AuditReport}
 use Rattle.auditor.specs.Sources.{RuleSource, standard}
 use Rattle.honest_reports.specs.Kept.{SaysAllKept, SaysNoneBroken, kept_text}
 use Rattle.honest_reports.specs.Places.{AreWholeFilesOf, IsRosterOf, files_read}
-use Rattle.honest_reports.specs.Refusals.{IsHonestRefusal}
+use Rattle.honest_reports.specs.Refusals.{IsRefusalOfRules, IsTooWideFor}
 use Rattle.honest_reports.specs.Reports.{IsHonestReport}
 use Rattle.auditorium_core.specs.declared.status.Status.{Status}
 use Rattle.auditorium_core.specs.declared.status.Status.TheVariants as status
@@ -40,12 +40,13 @@ pub record TellsHonestReport (script : Script) (w : World SealedEntry) (source :
   pub not_broken : source ≡ standard → answer.status ≢ status.Broken
   pub all_kept : source ≡ standard → AreAllFilesOf w files → SaysAllKept w files report
 
--- What is answered over such files: a refusal, because of the file of the rules, because a log's file is over its limit
--- or because a rule is too wide; or a report that accuses nobody.
+-- What is answered over such files: a refusal, because of the file of the rules or because a rule is too wide; or a
+-- report that accuses nobody.
 abbrev pub IsHonestAudit : Script → World SealedEntry → RuleSource → Option (List ℕ) → List (List ℕ) →
     List (Option (List ℕ)) → Answer → Type 0
 IsHonestAudit script w source rules_file names files answer =
-    ((refusal : Refusal) × IsHonestRefusal script w source rules_file names files refusal
+    ((refusal : Refusal)
+    × (IsRefusalOfRules source rules_file refusal ⊎ IsTooWideFor script w source rules_file files refusal)
     × (answer ≡ refusal_answer refusal))
     ⊎ TellsHonestReport script w source names files answer
 

@@ -4,11 +4,15 @@ pub mod Words
 pub mod Lines
 pub mod Gaps
 pub mod Made
+pub mod ScriptFile
+pub mod HonestPlace
 pub mod Play
+pub mod Run
 pub mod Honest
 pub mod Order
 pub mod Audit
 pub mod HonestAudit
+pub mod Demonstrated
 pub mod Answer
 pub mod Outcome
 pub mod Complete

@@ -1,5 +1,5 @@
 -- Answers that write no file.
-use Rattle.std.specs.Prelude.{ℕ, List, [], ◌++◌, codes}
+use Rattle.std.specs.Prelude.{◌≡◌, ◌⊎◌, ℕ, List, [], ◌++◌, codes, Result, Ok, Err}
 use Rattle.evidence.specs.Refusal.{Refusal, absent, refused}
 use Rattle.report_lines.specs.Lines.{line, refused_line}
 use Rattle.auditorium_core.specs.declared.order_word.OrderWord.{OrderWord}
@@ -33,6 +33,12 @@ refused_answer name place cause = line_answer status.Refused (refused_line name 
 abbrev pub refusal_answer : Refusal → Answer
 refusal_answer (absent file) = absent_answer file
 refusal_answer (refused file place cause) = refused_answer file place cause
+
+-- the answer where something is read: its refusal, or what holds of the answer for what is found
+abbrev pub OrRefused : {T : Type 0} → (Result T Refusal → Type 0) → (T → Answer → Type 0) → Answer → Type 0
+OrRefused {T} Gives IsFor answer =
+    ((refusal : Refusal) × Gives (Err refusal) × (answer ≡ refusal_answer refusal))
+    ⊎ ((found : T) × Gives (Ok found) × IsFor found answer)
 
 -- a word that means no survivor is refused
 abbrev pub no_entry : List ℕ → Answer

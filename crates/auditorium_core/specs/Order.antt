@@ -1,5 +1,5 @@
 -- What `order` gives for a roster, two words for entries, and logs.
-use Rattle.std.specs.Prelude.{◌≡◌, ◌≢◌, ◌⊎◌, ℕ, List, length, Option, Result, Ok, Err}
+use Rattle.std.specs.Prelude.{◌≡◌, ◌≢◌, ◌⊎◌, ℕ, List, length, Option}
 use Rattle.entry_order.specs.Precedes.{Precedes}
 use Rattle.entry_order.specs.Settled.{IsWhole}
 use Rattle.entry_order.specs.Completion.{Completion}
@@ -9,14 +9,13 @@ use Rattle.entry_format.specs.Nodes.{node_of_sealed}
 use Rattle.log_files.specs.declared.sealed_log.LogRead.{LogRead}
 use Rattle.entry_graph.specs.EntryGraph.{EntryGraph}
 use Rattle.evidence.specs.declared.roster_file.RosterRead.{RosterRead}
-use Rattle.evidence.specs.Refusal.{Refusal}
 use Rattle.evidence.specs.RosterFile.{GivesRoster}
 use Rattle.evidence.specs.Logs.{GivesLogs}
 use Rattle.evidence.specs.Graphs.{entries_of, GivesGraph}
 use Rattle.auditorium_core.specs.declared.order_word.OrderWord.{OrderWord}
 use Rattle.auditorium_core.specs.declared.order_word.OrderWord.TheVariants.{Same, Before, After, Apart, Unknown}
 use Rattle.auditorium_core.specs.declared.status.Status.TheVariants.{Done}
-use Rattle.auditorium_core.specs.Lines.{Answer, line_answer, no_entry, order_word, refusal_answer}
+use Rattle.auditorium_core.specs.Lines.{Answer, OrRefused, line_answer, no_entry, order_word}
 use Rattle.auditorium_core.specs.EntryWords.{MeansEntry, MeansNone}
 use Rattle.auditorium_core.specs.Honest.{IsOrderOfPlaces}
 
@@ -65,12 +64,6 @@ IsOrderAmong machines S x y answer =
     ⊎ ((e : SealedEntry) × MeansEntry machines S x e
     × ((MeansNone machines S y × (answer ≡ no_entry y))
     ⊎ ((f : SealedEntry) × MeansEntry machines S y f × IsOrderOf machines S e f answer)))
-
--- the answer where something is read: its refusal, or what holds of the answer for what is found
-abbrev pub OrRefused : {T : Type 0} → (Result T Refusal → Type 0) → (T → Answer → Type 0) → Answer → Type 0
-OrRefused {T} Gives IsFor answer =
-    ((refusal : Refusal) × Gives (Err refusal) × (answer ≡ refusal_answer refusal))
-    ⊎ ((found : T) × Gives (Ok found) × IsFor found answer)
 
 -- the answer over given entries
 abbrev pub IsOrderOver : List Post → List ℕ → List ℕ → List SealedEntry → Answer → Type 0

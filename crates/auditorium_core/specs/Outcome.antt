@@ -71,19 +71,19 @@ pub record IsCutShort (answer : Answer) (old new : Outside) : Type 0 where
       → new.store.files ≡ with_files old.store.files answer.files
   pub no_output : ¬ HasRisen old.output_faults new.output_faults → new.output ≡ old.output
 
--- the answer to the words in this call
-abbrev pub GivesAnswer : List (List ℕ) → Outside → Outside → Answer → Type 0
-GivesAnswer words old new answer =
-    IsAnswerOf words old.store.files old.store.answered.absences new.store.answered.absences answer
+-- an answer that is right, in this call
+abbrev pub GivesAnswer : (Option Files → Answer → Type 0) → Outside → Outside → Answer → Type 0
+GivesAnswer IsRight old new answer =
+    IsAnswerOf IsRight old.store.files old.store.answered.absences new.store.answered.absences answer
 
--- What was done. A status that isn't a fault of the outside or want of memory is that of the answer. An answer is
--- written by these calls, all of which but the last, in the second case, do as they are asked.
-abbrev pub HasDone : List (List ℕ) → (Answer → Bool → Type 0) → Outside → Status → Outside → Type 0
-HasDone words is_written_by old ReadFault new =
+-- What was done where such an answer is right. A status that isn't a fault of the outside or want of memory is that of
+-- the answer. An answer is written by these calls, all of which but the last, in the second case, do as they are asked.
+abbrev pub HasDone : (Option Files → Answer → Type 0) → (Answer → Bool → Type 0) → Outside → Status → Outside → Type 0
+HasDone IsRight is_written_by old ReadFault new =
     HasRisen old.store.read_faults new.store.read_faults × IsUnwritten old new
-HasDone words is_written_by old WriteFault new =
-    (answer : Answer) × GivesAnswer words old new answer × is_written_by answer false × IsCutShort answer old new
-HasDone words is_written_by old Memory new = IsUnwritten old new
-HasDone words is_written_by old status new =
-    (answer : Answer) × GivesAnswer words old new answer × (status ≡ answer.status) × is_written_by answer true
+HasDone IsRight is_written_by old WriteFault new =
+    (answer : Answer) × GivesAnswer IsRight old new answer × is_written_by answer false × IsCutShort answer old new
+HasDone IsRight is_written_by old Memory new = IsUnwritten old new
+HasDone IsRight is_written_by old status new =
+    (answer : Answer) × GivesAnswer IsRight old new answer × (status ≡ answer.status) × is_written_by answer true
     × IsWritten answer old new

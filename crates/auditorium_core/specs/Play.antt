@@ -1,5 +1,5 @@
 -- What `play` gives for a script.
-use Rattle.std.specs.Prelude.{◌≡◌, ℕ, ◌<◌, ◌≤◌, List, [], ◌∷◌, ◌++◌, length, map, Option, Some, None, ◌⊎◌, Ok, Err, codes}
+use Rattle.std.specs.Prelude.{◌≡◌, ℕ, List, [], ◌∷◌, ◌++◌, length, map, Option, Some, None, codes}
 use Rattle.std.specs.List.{flat_map}
 use Rattle.std.specs.Fmt.{decimal}
 use Rattle.canonical_sexp.specs.Text.{text_of}
@@ -12,9 +12,6 @@ use Rattle.roster.specs.declared.post.Post.{Post}
 use Rattle.roster.specs.RosterText.{roster_tree}
 use Rattle.log_files.specs.Written.{log_text}
 use Rattle.election_script.specs.declared.script.Script.{Script}
-use Rattle.election_script.specs.declared.faults.ScriptWhy.{ScriptWhy}
-use Rattle.election_script.specs.declared.faults.ScriptFault.TheVariants.{At}
-use Rattle.election_script.specs.Reading.{Reads}
 use Rattle.polling_world.specs.declared.left.Left.{Left}
 use Rattle.polling_world.specs.Keys.{roster_of}
 use Rattle.polling_world.specs.Machines.{MachineState}
@@ -22,15 +19,12 @@ use Rattle.polling_world.specs.Playing.{IsPlayed}
 use Rattle.polling_world.specs.Worlds.{world_of}
 use Rattle.polling_world.specs.Waiting.{IsLeft}
 use Rattle.auditorium_core.specs.declared.status.Status.{Status}
-use Rattle.auditorium_core.specs.declared.status.Status.TheVariants.{Done, Undone, Refused}
+use Rattle.auditorium_core.specs.declared.status.Status.TheVariants.{Done, Undone}
 use Rattle.report_lines.specs.Lines.{line}
-use Rattle.auditorium_core.specs.Lines.{Answer, absent_answer, refused_answer}
-use Rattle.election_script.specs.CauseWords.{script_why_word}
+use Rattle.auditorium_core.specs.HonestPlace.{LeaveHonestFiles}
+use Rattle.auditorium_core.specs.Lines.{Answer, OrRefused}
+use Rattle.auditorium_core.specs.ScriptFile.{GivesScript}
 use Rattle.polling_world.specs.CauseWords.{left_why_word}
-
--- the most bytes of a script's file
-abbrev pub max_script : ℕ
-max_script = 4194304
 
 -- the roster goes into this file, and a machine's log into that one
 abbrev pub roster_file : List ℕ → List Post → List ℕ × List ℕ
@@ -91,21 +85,10 @@ pub record IsPlayOf (prefix : List ℕ) (script : Script) (answer : Answer) : Ty
   pub undone : List ℕ
   pub played : IsPlayed script machines
   pub order : KeepOrder machines
+  pub honest : LeaveHonestFiles script machines (world_of machines)
   pub left : SayUndone machines undone
   pub told : answer ≡ play_answer prefix (roster_of script) machines undone
 
--- the statuses with which a play answers where the file was read
-abbrev pub IsOfPlay : Status → Type 0
-IsOfPlay Done = Unit {0}
-IsOfPlay Undone = Unit {0}
-IsOfPlay Refused = Unit {0}
-IsOfPlay other = ⊥
-
 -- the answer for the script's file, or where there is none
 abbrev pub IsPlayAnswer : List ℕ → List ℕ → Option (List ℕ) → Answer → Type 0
-IsPlayAnswer name prefix None answer = answer ≡ absent_answer name
-IsPlayAnswer name prefix (Some bytes) answer =
-    ((max_script < length bytes) × (answer ≡ refused_answer name 0 (codes "TooLong")))
-    ⊎ ((length bytes ≤ max_script) × ((number : ℕ) × (why : ScriptWhy) × Reads bytes (Err (At number why))
-    × (answer ≡ refused_answer name number (script_why_word why))))
-    ⊎ ((length bytes ≤ max_script) × ((script : Script) × Reads bytes (Ok script) × IsPlayOf prefix script answer))
+IsPlayAnswer name prefix file answer = OrRefused (GivesScript name file) (IsPlayOf prefix) answer

@@ -18,6 +18,10 @@ pub data Command : Type 0 where
   audit : (roster rules : List ℕ) (logs : List (List ℕ)) → Command
   -- the script of a day of so many sessions
   generate : (sessions : ℕ) → Command
+  -- what an audit shows of such a day, of which the log of one machine is left, cut
+  demonstrate : (sessions : ℕ) → Command
+  -- a script played in threads, and what the names of its files begin with
+  run : (script prefix : List ℕ) → Command
 
 -- the rules that a word names: the standard ones, or those in a file
 abbrev pub source_named : List ℕ → RuleSource
@@ -30,6 +34,8 @@ words_of (play script prefix) = codes "play" ∷ script ∷ prefix ∷ []
 words_of (order roster x y logs) = codes "order" ∷ roster ∷ x ∷ y ∷ logs
 words_of (audit roster rules logs) = codes "audit" ∷ roster ∷ rules ∷ logs
 words_of (generate sessions) = codes "make" ∷ decimal sessions ∷ []
+words_of (demonstrate sessions) = codes "demo" ∷ decimal sessions ∷ []
+words_of (run script prefix) = codes "run" ∷ script ∷ prefix ∷ []
 
 -- the files that a command reads, in order
 abbrev pub files_of : Command → List (List ℕ)
@@ -38,6 +44,8 @@ files_of (play script prefix) = script ∷ []
 files_of (order roster x y logs) = roster ∷ logs
 files_of (audit roster rules logs) = audit_files roster (source_named rules) logs
 files_of (generate sessions) = []
+files_of (demonstrate sessions) = []
+files_of (run script prefix) = script ∷ []
 
 -- the form of a word: 1 to 1,024 bytes, each from `!` to `~`, of which the first isn't `-`
 pub record IsWord (word : List ℕ) : Type 0 where
@@ -68,6 +76,7 @@ abbrev pub HasParts : Command → Type 0
 HasParts (order roster x y logs) = AreOrdered x y logs
 HasParts (audit roster rules logs) = AreLogs logs
 HasParts (generate sessions) = AreSessions sessions
+HasParts (demonstrate sessions) = AreSessions sessions
 HasParts other = ⊤
 
 -- the words are this command's, and each has the form of a word
@@ -76,6 +85,15 @@ pub record Means (words : List (List ℕ)) (command : Command) : Type 0 where
   pub spelt : words ≡ words_of command
   pub parts : HasParts command
 
--- the words are good: they are some command's
-abbrev pub AreGood : List (List ℕ) → Type 0
-AreGood words = (command : Command) × Means words command
+-- the program does every command
+abbrev pub IsAny : Command → Type 0
+IsAny command = ⊤
+
+-- without threads it does every command but `run`
+abbrev pub IsStill : Command → Type 0
+IsStill (run script prefix) = ⊥
+IsStill other = ⊤
+
+-- the words are good: they are those of one of these commands
+abbrev pub AreGood : (Command → Type 0) → List (List ℕ) → Type 0
+AreGood IsDone words = (command : Command) × IsDone command × Means words command

@@ -1,2 +1,4 @@
 pub mod Promise
+pub mod Ending
+pub mod Losses
 pub mod EntryNames

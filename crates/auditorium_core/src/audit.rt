@@ -30,7 +30,7 @@ fn rules_from(word: &str) -> RulesFrom<'_>
 }
 
 /// The status of what a report comes to.
-fn status_by(outcome: Outcome) -> Status
+pub(crate) fn status_by(outcome: Outcome) -> Status
     ensures { result ≡ status_by outcome }
 {
     match outcome {

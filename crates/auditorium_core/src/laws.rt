@@ -3,11 +3,13 @@ ghost use Rattle.std.specs.Prelude.{◌≡◌, ℕ, List, Option, Some, ⊤};
 ghost use Rattle.hall_outside.specs.Files.{Files};
 ghost use Rattle.auditorium_core.specs.declared.status.Status.{Status};
 ghost use Rattle.auditorium_core.specs.Lines.{Answer};
+ghost use Rattle.auditorium_core.specs.Words.{run, IsAny, IsStill, Means};
 ghost use Rattle.auditorium_core.specs.Answer.{Answers, HasItsWords};
 ghost use Rattle.auditorium_core.specs.Outcome.{Outside, HasDone};
 ghost use Rattle.auditorium_core.specs.Complete.{IsComplete};
 
 use auditor::files_give_one_report;
+use demonstration::scripts_are_shown_in_one_way;
 use election_script::one_reading_is_right;
 use evidence::{
     entries_give_one_graph, log_files_give_one_answer, roster_files_give_one_answer,
@@ -16,10 +18,12 @@ use evidence::{
 use log_files::bytes_say_one_log;
 use polling_world::{scripts_are_played_in_one_way, what_is_left_is_told_in_one_way};
 
-/// Words and files have at most one answer. It does nothing.
+/// Without threads words and files have at most one answer. What is lost between threads is not
+/// determined by a script, so `run` may have several. It does nothing.
 pub fn one_answer_is_right()
     ensures { (words : List (List ℕ)) (files : Files) (answer other : Answer) →
-        Answers words (Some files) answer → Answers words (Some files) other → answer ≡ other }
+        Answers IsStill words (Some files) answer → Answers IsStill words (Some files) other →
+        answer ≡ other }
 {
     bytes_say_one_log();
     one_reading_is_right();
@@ -30,20 +34,37 @@ pub fn one_answer_is_right()
     entries_give_one_graph();
     survivors_are_sound();
     files_give_one_report();
+    scripts_are_shown_in_one_way();
 }
+
+/// Where the words aren't those of a run, an answer is right without threads exactly where it is
+/// right with them. It does nothing.
+pub fn only_runs_need_threads()
+    ensures any { (words : List (List ℕ)) (told : Option Files) (answer : Answer) →
+        ((script prefix : List ℕ) → ¬ Means words (run script prefix)) →
+        Answers IsStill words told answer → Answers IsAny words told answer }
+    ensures still { (words : List (List ℕ)) (told : Option Files) (answer : Answer) →
+        ((script prefix : List ℕ) → ¬ Means words (run script prefix)) →
+        Answers IsAny words told answer → Answers IsStill words told answer }
+{}
 
 /// Over any files, the status of an answer says of which words it is the answer. It does nothing.
 pub fn statuses_have_their_words()
-    ensures { (words : List (List ℕ)) (told : Option Files) (answer : Answer) →
-        Answers words told answer → HasItsWords words answer }
+    ensures any { (words : List (List ℕ)) (told : Option Files) (answer : Answer) →
+        Answers IsAny words told answer → HasItsWords IsAny words answer }
+    ensures still { (words : List (List ℕ)) (told : Option Files) (answer : Answer) →
+        Answers IsStill words told answer → HasItsWords IsStill words answer }
 {}
 
-/// What the program has done is complete, by whatever calls it was written: where no count of faults
-/// rose, a command over files that are all accepted is carried out, or memory was wanting. It does
-/// nothing.
+/// What the program has done is complete, by whatever calls it was written: where no count of
+/// faults rose, a command over files that are all accepted is carried out, or memory was wanting.
+/// It does nothing.
 pub fn answers_are_complete()
-    ensures { (words : List (List ℕ)) (old : Outside) (how : Status) (new : Outside) →
-        HasDone words (λ _ _. ⊤) old how new → IsComplete words old how new }
+    ensures any { (words : List (List ℕ)) (old : Outside) (how : Status) (new : Outside) →
+        HasDone (Answers IsAny words) (λ _ _. ⊤) old how new → IsComplete IsAny words old how new }
+    ensures still { (words : List (List ℕ)) (old : Outside) (how : Status) (new : Outside) →
+        HasDone (Answers IsStill words) (λ _ _. ⊤) old how new →
+        IsComplete IsStill words old how new }
 {
     bytes_say_one_log();
     one_reading_is_right();
@@ -54,4 +75,5 @@ pub fn answers_are_complete()
     entries_give_one_graph();
     survivors_are_sound();
     files_give_one_report();
+    scripts_are_shown_in_one_way();
 }

@@ -6,6 +6,8 @@
 
 mod answer;
 mod audit;
+mod demonstrating;
+mod ending;
 mod entry_word;
 mod gaps;
 mod honest;
@@ -15,18 +17,24 @@ mod order;
 mod order_word;
 mod play;
 mod program;
+mod run;
+mod script_file;
 mod status;
 mod words;
 mod writing;
 
-pub use laws::{answers_are_complete, one_answer_is_right, statuses_have_their_words};
-pub use program::auditorium_still;
+pub use laws::{
+    answers_are_complete, one_answer_is_right, only_runs_need_threads, statuses_have_their_words,
+};
+pub use program::{auditorium, auditorium_still};
 pub use status::Status;
 
 #[cfg(test)]
 mod audit_tests;
 #[cfg(test)]
 mod damage_tests;
+#[cfg(test)]
+mod demonstrating_tests;
 #[cfg(test)]
 mod fault_tests;
 #[cfg(test)]
@@ -37,5 +45,7 @@ mod make_tests;
 mod order_tests;
 #[cfg(test)]
 mod play_tests;
+#[cfg(test)]
+mod run_tests;
 #[cfg(test)]
 mod tests;

@@ -8,7 +8,7 @@ use std::alloc::Global;
 use std::test::Fail;
 
 /// A supervisor and a booth.
-const TWO: &str =
+pub(super) const TWO: &str =
     "seed 0102\nkey w4 h5\nlog 64\nlink 64\nmachine sv supervisor\nmachine b1 booth\n";
 
 /// A supervisor and two booths.
@@ -16,12 +16,12 @@ const THREE: &str = "seed 0102\nkey w4 h5\nlog 64\nlink 64\n\
     machine sv supervisor\nmachine b1 booth\nmachine b2 booth\n";
 
 /// One session from authorisation to ballot.
-const SESSION: &str = "do sv open\ndo sv authorise b1 1\ndo sv close\ndo b1 activate 1\n\
+pub(super) const SESSION: &str = "do sv open\ndo sv authorise b1 1\ndo sv close\ndo b1 activate 1\n\
     do b1 commit 1 0707070707070707070707070707070707070707070707070707070707070707\n\
     do b1 cast 1 0707070707070707070707070707070707070707070707070707070707070707\n";
 
 /// The steps of that session, each of which changes something.
-const STEPS: &str = "step act sv\nstep act sv\nstep hear b1 sv 0\nstep hear b1 sv 1\n\
+pub(super) const STEPS: &str = "step act sv\nstep act sv\nstep hear b1 sv 0\nstep hear b1 sv 1\n\
     step act b1\nstep act b1\nstep act b1\n\
     step hear sv b1 0\nstep hear sv b1 1\nstep hear sv b1 2\nstep act sv\nstep hear b1 sv 2\n";
 

@@ -2,7 +2,7 @@
 ghost use Rattle.std.specs.Prelude.{◌≡◌, ◌≢◌, ◌↔◌, ℕ, List, map, string_bytes, IsTrue, IfSome, IfNone, All};
 ghost use Rattle.std.specs.Fmt.{decimal};
 ghost use Rattle.auditorium_core.specs.Words.{IsWord, AreOrdered, AreLogs, AreSessions};
-ghost use Rattle.auditorium_core.specs.Words.{Means, gaps, play, order, audit};
+ghost use Rattle.auditorium_core.specs.Words.{Means, gaps, play, order, audit, generate, run};
 ghost use Rattle.auditorium_core.specs.Meaning.{Asks};
 
 use crate::entry_word::is_entry_word;
@@ -20,11 +20,13 @@ pub(crate) enum Request<'a> {
     /// How the entries of the second word and the third stand to each other, by the roster in the
     /// first file and the logs in the others.
     Order(&'a str, &'a str, &'a str, &'a [String]),
-    /// The report by the roster in the first file, the rules that the second word names, and the logs
-    /// in the other files.
+    /// The report by the roster in the first file, the rules that the second word names, and the
+    /// logs in the other files.
     Audit(&'a str, &'a str, &'a [String]),
     /// The script of a day of so many sessions.
     Make(u32),
+    /// What an audit shows of such a day, of which one log is left, cut.
+    Demonstrate(u32),
 }
 
 /// What the words ask for.
@@ -95,7 +97,44 @@ fn make_of(words: &[String]) -> Request<'_>
             Some(sessions) => Request::Make(sessions),
             None => Request::Usage,
         },
+        _ => demonstration_of(words),
+    }
+}
+
+/// What the words ask for, likewise.
+fn demonstration_of(words: &[String]) -> Request<'_>
+    requires form { All IsWord (map string_bytes words.now) }
+    requires others { (log : List ℕ) → ¬ Means (map string_bytes words.now) (gaps log) }
+    requires no_play { (script prefix : List ℕ) →
+        ¬ Means (map string_bytes words.now) (play script prefix) }
+    requires no_order { (roster x y : List ℕ) (logs : List (List ℕ)) →
+        ¬ Means (map string_bytes words.now) (order roster x y logs) }
+    requires no_audit { (roster rules : List ℕ) (logs : List (List ℕ)) →
+        ¬ Means (map string_bytes words.now) (audit roster rules logs) }
+    requires no_make { (sessions : ℕ) → ¬ Means (map string_bytes words.now) (generate sessions) }
+    ensures { Asks (map string_bytes words.now) result }
+{
+    match words {
+        [command, word] if command.as_str() == "demo" => match sessions_of(word.as_str()) {
+            Some(sessions) => Request::Demonstrate(sessions),
+            None => Request::Usage,
+        },
         _ => Request::Usage,
+    }
+}
+
+/// The script and the prefix of a run in threads, if the words ask for one.
+pub(crate) fn run_of(words: &[String]) -> Option<(&str, &str)>
+    ensures some { IfSome result (λ found.
+        Means (map string_bytes words.now) (run found.0.now found.1.now)) }
+    ensures none { IfNone result ((script prefix : List ℕ) →
+        ¬ Means (map string_bytes words.now) (run script prefix)) }
+{
+    match words {
+        [command, script, prefix] if command.as_str() == "run" && have_form(words) => {
+            Some((script.as_str(), prefix.as_str()))
+        }
+        _ => None,
     }
 }
 

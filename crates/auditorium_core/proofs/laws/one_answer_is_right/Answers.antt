@@ -4,6 +4,7 @@ use Rattle.auditorium_core.proofs.laws.one_answer_is_right.Goals as goal
 pub returns : goal.returns
 returns c =
     let laws = c.bytes_say_one_log.ensures in
+    let shows = c.scripts_are_shown_in_one_way.ensures in
     one_answer
     (record { entries = laws.entries; refused = laws.refused; end = laws.end; header = laws.header })
     (record {
@@ -19,3 +20,4 @@ returns c =
       no_cycle = c.survivors_are_sound.ensures.no_cycle;
     })
     c.files_give_one_report.ensures
+    (record { shown = shows.shown; refused = shows.refused; either = shows.either })

@@ -1,5 +1,6 @@
+use Rattle.auditorium_core.specs.Words.{IsAny, IsStill}
 use Rattle.auditorium_core.proofs.Statuses.{status_words}
 use Rattle.auditorium_core.proofs.laws.statuses_have_their_words.Goals as goal
 
 pub returns : goal.returns
-returns c = status_words
+returns c = record { any = status_words IsAny; still = status_words IsStill }

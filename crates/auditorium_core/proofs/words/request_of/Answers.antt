@@ -6,7 +6,7 @@ use Rattle.auditorium_core.proofs.WordLists.{two_words, three_words}
 use Rattle.auditorium_core.proofs.words.request_of.Goals as goal
 
 pub returns-then-not-have_form : goal.returns-then-not-have_form
-returns-then-not-have_form c = λ (command, means). false≢true (c.if-not-have_form.ensures.1 means.form)
+returns-then-not-have_form c = λ (command, still, means). false≢true (c.if-not-have_form.ensures.1 means.form)
 
 pub returns-in-len2 : goal.returns-in-len2
 returns-in-len2 c =

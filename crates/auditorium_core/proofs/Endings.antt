@@ -1,0 +1,130 @@
+-- What the program has done, by the answer that was made and how it was told.
+use Rattle.std.proofs.Common.{◌≡◌, ◌∙◌, ◌⊎◌, ℕ, List, Option, Bool, true, false, inl, inr, refl, sym, ap, subst}
+use Rattle.std.specs.Prelude.{Result, Ok, Err, IfOk}
+use Rattle.hall_outside.specs.Counts.{HasRisen, ComesExactly}
+use Rattle.hall_outside.specs.Files.{Files}
+use Rattle.hall_outside.specs.Reading.{Answered}
+use Rattle.evidence.specs.Reading.{StoreSeen}
+use Rattle.auditorium_core.specs.declared.answer.Fault.{Fault}
+use Rattle.auditorium_core.specs.declared.answer.Fault.TheVariants as fault
+use Rattle.auditorium_core.specs.declared.status.Status.{Status}
+use Rattle.auditorium_core.specs.declared.status.Status.TheVariants as status
+use Rattle.auditorium_core.specs.Lines.{Answer}
+use Rattle.auditorium_core.specs.Words.{Command, run, IsAny, IsStill, Means}
+use Rattle.auditorium_core.specs.Answer.{Answers}
+use Rattle.auditorium_core.specs.Outcome.{Outside, outside, with_files, SetsSome, GivesAnswer, HasDone}
+use Rattle.auditorium_core.specs.inside.Ending.{IsToldAs, EndsWith}
+use Rattle.auditorium_core.specs.inside.Promise.{IsAnswered}
+use Rattle.auditorium_core.proofs.Statuses.{is_done}
+use Rattle.auditorium_core.proofs.StillAnswers.{any_of_still}
+
+-- an answer that is right in one way is so in another
+pub answered_as : (IsRight IsAlso : Option Files → Answer → Type 0) (old new : StoreSeen)
+    (result : Result Answer Fault) →
+    ((told : Option Files) (answer : Answer) → IsRight told answer → IsAlso told answer) →
+    IsAnswered IsRight old result new → IsAnswered IsAlso old result new
+answered_as IsRight IsAlso old new result also given = record {
+  answer = by result given.answer;
+  absent = given.absent;
+  read_fault = given.read_fault;
+  files = given.files;
+  write_faults = given.write_faults;
+}
+  where
+    by : (result : Result Answer Fault) → IfOk result (IsRight old.files) → IfOk result (IsAlso old.files)
+    by (Ok answer) is = also old.files answer is
+    by (Err why) is = tt
+
+module _ (IsDone : Command → Type 0) (words : List (List ℕ)) (is_told_by is_written_by : Answer → Bool → Type 0)
+    (before after : StoreSeen) (output : Option (List ℕ)) (faults : ℕ) (new : Outside)
+    (calls : (answer : Answer) (ok : Bool) → is_told_by answer ok → is_written_by answer ok) where
+  -- the outside as it was, and once the answer was made
+  abbrev old : Outside
+  old = outside before output faults
+
+  abbrev mid : Outside
+  mid = outside after output faults
+
+  -- the answer was made in this call
+  gives : (answer : Answer) → IsAnswered (Answers IsDone words) before (Ok answer) after →
+      new.store.answered ≡ after.answered → GivesAnswer (Answers IsDone words) old new answer
+  gives answer made same =
+      let P : Answered → Type 0 = λ a. ComesExactly before.answered.absences a.absences
+      (answer.status ≡ status.Absent) in
+      record { answers = made.answer; absent = subst P (sym same) made.absent }
+
+  -- making it changed no file, so what is written is told of the files as they were
+  was_told : (answer : Answer) (how : Status) → IsAnswered (Answers IsDone words) before (Ok answer) after →
+      new.store.answered ≡ after.answered → IsToldAs answer is_told_by mid how new →
+      HasDone (Answers IsDone words) is_written_by old how new
+  was_told answer how made same (inl (is, told, written)) =
+      is_done IsDone words is_written_by old new answer how is (gives answer made same) (calls answer true told)
+      (record {
+        files = written.files ∙ ap (λ (f : Option Files). with_files f answer.files) made.files;
+        output = written.output;
+      })
+  was_told answer how made same (inr (is, told, cut)) =
+      subst (λ (s : Status). HasDone (Answers IsDone words) is_written_by old s new) (sym is) (
+        answer,
+        gives answer made same,
+        calls answer false told,
+        record {
+          cause = subst (λ (w : ℕ). HasRisen w new.store.write_faults ⊎ HasRisen faults new.output_faults)
+              made.write_faults cut.cause;
+          files = subst (λ (f : Option Files). SetsSome f answer.files new.store.files) made.files cut.files;
+          output = cut.output;
+          all_files = λ none.
+              cut.all_files (λ risen. none (subst (λ (w : ℕ). HasRisen w new.store.write_faults) made.write_faults risen))
+              ∙ ap (λ (f : Option Files). with_files f answer.files) made.files;
+          no_output = cut.no_output;
+        },
+      )
+
+  -- what was done, whether there is an answer or not
+  pub was_done : (result : Result Answer Fault) (how : Status) →
+      IsAnswered (Answers IsDone words) before result after → EndsWith result is_told_by mid how new →
+      HasDone (Answers IsDone words) is_written_by old how new
+  was_done (Ok answer) how made (told, same) = was_told answer how made same told
+  was_done (Err fault.ReadFault) how made (is, same) =
+      let P : Status → Type 0 = λ s. HasDone (Answers IsDone words) is_written_by old s new in
+      subst P (sym is) (
+        subst (λ (o : Outside). HasRisen before.read_faults o.store.read_faults) (sym same) (made.read_fault.only refl),
+        record {
+          files = ap (λ (o : Outside). o.store.files) same ∙ made.files;
+          output = ap (λ (o : Outside). o.output) same;
+        },
+      )
+  was_done (Err fault.Memory) how made (is, same) =
+      let P : Status → Type 0 = λ s. HasDone (Answers IsDone words) is_written_by old s new in
+      subst P (sym is)
+      (record {
+        files = ap (λ (o : Outside). o.store.files) same ∙ made.files;
+        output = ap (λ (o : Outside). o.output) same;
+      })
+
+-- where the words are no run's, what was done without threads is what is to be done
+pub done_as_any : (words : List (List ℕ)) (is_written_by : Answer → Bool → Type 0) (old new : Outside) (how : Status) →
+    ((script prefix : List ℕ) → ¬ Means words (run script prefix)) →
+    HasDone (Answers IsStill words) is_written_by old how new → HasDone (Answers IsAny words) is_written_by old how new
+done_as_any words is_written_by old new how none = by how
+  where
+    given : (answer : Answer) → GivesAnswer (Answers IsStill words) old new answer →
+        GivesAnswer (Answers IsAny words) old new answer
+    given answer gives = record {
+      answers = any_of_still words none old.store.files answer gives.answers;
+      absent = gives.absent;
+    }
+
+    by : (how : Status) → HasDone (Answers IsStill words) is_written_by old how new →
+        HasDone (Answers IsAny words) is_written_by old how new
+    by status.ReadFault done = done
+    by status.Memory done = done
+    by status.WriteFault (answer, gives, calls, cut) = (answer, given answer gives, calls, cut)
+    by status.Done (answer, gives, is, calls, written) = (answer, given answer gives, is, calls, written)
+    by status.Findings (answer, gives, is, calls, written) = (answer, given answer gives, is, calls, written)
+    by status.Unsettled (answer, gives, is, calls, written) = (answer, given answer gives, is, calls, written)
+    by status.Broken (answer, gives, is, calls, written) = (answer, given answer gives, is, calls, written)
+    by status.Usage (answer, gives, is, calls, written) = (answer, given answer gives, is, calls, written)
+    by status.Refused (answer, gives, is, calls, written) = (answer, given answer gives, is, calls, written)
+    by status.Absent (answer, gives, is, calls, written) = (answer, given answer gives, is, calls, written)
+    by status.Undone (answer, gives, is, calls, written) = (answer, given answer gives, is, calls, written)

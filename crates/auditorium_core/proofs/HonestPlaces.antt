@@ -1,0 +1,94 @@
+-- The logs of machines, as they are written, are the logs of each world with their histories.
+use Rattle.std.proofs.Common.{◌≡◌, ◌∙◌, ℕ, ◌<◌, zero, suc, inl, inr, List, [], ◌∷◌, length, Option, Some, None}
+use Rattle.std.proofs.Common.{refl, ap, sym, subst, arith}
+use Rattle.std.specs.Prelude.{slice_get, All, IsSomeAnd, option_map}
+use Rattle.std.specs.List.{Contains}
+use Rattle.std.proofs.lemmas.List.{length-map}
+use Rattle.std.proofs.lemmas.List.Elements.{All-nil, All-cons}
+use Rattle.std.proofs.lemmas.Option.{slice_get_cases, slice_get-map}
+use Rattle.entry_order.specs.declared.event.Event.{Event}
+use Rattle.entry_order.specs.declared.step.Step.{Step}
+use Rattle.entry_order.specs.World.{World, history}
+use Rattle.entry_order.proofs.Lists.{Contains-map}
+use Rattle.entry_format.specs.SealedEntry.{SealedEntry}
+use Rattle.log_files.specs.Written.{log_text}
+use Rattle.election_script.specs.declared.script.Script.{Script}
+use Rattle.election_script.specs.Lawful.{IsLawful}
+use Rattle.polling_world.specs.Machines.{MachineState}
+use Rattle.polling_world.specs.Playing.{ComesTo, IsPlayed}
+use Rattle.polling_world.specs.Worlds.{machine_of, world_of}
+use Rattle.polling_world.proofs.Placing.{history_there}
+use Rattle.honest_logs.specs.LeftFiles.{AreAllFilesOf, written_logs}
+use Rattle.honest_logs.proofs.ReadLogs.{there_is}
+use Rattle.honest_reports.specs.Places.{AreWholeFilesOf, IsWholeIn}
+use Rattle.auditorium_core.specs.HonestPlace.{LeaveHonestFiles}
+
+-- what holds at each place holds of all
+each_place : {X : Type 0} (P : X → Type 0) (xs : List X) → ((i : ℕ) (x : X) → slice_get xs i ≡ Some x → P x) → All P xs
+each_place P [] each = All-nil P
+each_place P (x ∷ xs) each = All-cons P x xs (each zero x refl) (each_place P xs (λ i y at. each (suc i) y at))
+
+-- the file of a machine's whole log
+abbrev file_of : MachineState → Option (List ℕ)
+file_of m = Some (log_text m.config.number m.events)
+
+module _ (machines : List MachineState) (w : World SealedEntry) (many : length w ≡ length machines)
+    (numbered : (place : ℕ) (m : MachineState) → slice_get machines place ≡ Some m → m.config.number ≡ place)
+    (same : (m : ℕ) → history w m ≡ history (world_of machines) m) where
+  -- the log of the machine at a place is that of w there
+  file_at : (place : ℕ) (m : MachineState) → slice_get machines place ≡ Some m →
+      file_of m ≡ Some (log_text place (history w place))
+  file_at place m at =
+      ap (λ (n : ℕ). Some (log_text n m.events)) (numbered place m at)
+      ∙ ap (λ (h : List (Event SealedEntry)). Some (log_text place h)) (sym (same place ∙ history_there machines place m at))
+
+  -- it is a whole log of w
+  whole_at : (place : ℕ) (found : Option MachineState) → slice_get machines place ≡ found → place < length machines →
+      (file : Option (List ℕ)) → option_map file_of found ≡ Some file → IsSomeAnd file (IsWholeIn w)
+  whole_at place None at within file is = cc
+  whole_at place (Some m) at within file is =
+      let as_file : file_of m ≡ file = cc in
+      subst (λ (f : Option (List ℕ)). IsSomeAnd f (IsWholeIn w)) (sym (file_at place m at) ∙ as_file)
+      (record { machine = place; there = omega (arith, many, within); whole = refl })
+
+  -- each file is one
+  whole_files : AreWholeFilesOf w (written_logs machines)
+  whole_files =
+      each_place (λ (file : Option (List ℕ)). IsSomeAnd file (IsWholeIn w)) (written_logs machines) by
+    where
+      by : (place : ℕ) (file : Option (List ℕ)) → slice_get (written_logs machines) place ≡ Some file →
+          IsSomeAnd file (IsWholeIn w)
+      by place file at =
+          elim (slice_get_cases machines place).1 [
+            | inl (m, within, is, e) ↦
+                whole_at place (slice_get machines place) refl within file (sym (slice_get-map file_of machines place) ∙ at)
+            | inr (past, none) ↦
+                absurd (let no : None ≡ Some file =
+                ap (option_map file_of) (sym none) ∙ sym (slice_get-map file_of machines place) ∙ at in cc)
+          ]
+
+  -- and none is missing
+  all_files : AreAllFilesOf w (written_logs machines)
+  all_files place below =
+      elim (slice_get_cases machines place).1 [
+        | inl (m, within, at, e) ↦
+            subst (λ (file : Option (List ℕ)). Contains (written_logs machines) file) (file_at place m at)
+            (Contains-map file_of machines m (there_is machines place m at))
+        | inr past ↦ absurd (omega (arith, below, past.0, many))
+      ]
+
+  -- so they are those of an honest place, where a script's machines come to w
+  pub leave_honest_files : (script : Script) → IsLawful script → (steps : List Step) → ComesTo script steps w →
+      LeaveHonestFiles script machines w
+  leave_honest_files script lawful steps comes = record {
+    roster = record { steps = steps; lawful = lawful; comes = comes; text = refl };
+    whole = whole_files;
+    all = all_files;
+  }
+
+-- machines that have played leave such files
+pub players_leave_honest_files : (script : Script) (machines : List MachineState) → IsLawful script →
+    IsPlayed script machines → LeaveHonestFiles script machines (world_of machines)
+players_leave_honest_files script machines lawful played =
+    leave_honest_files machines (world_of machines) (length-map machines machine_of) played.are_of.number (λ m. refl)
+    script lawful script.steps played.played

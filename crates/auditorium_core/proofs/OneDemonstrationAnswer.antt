@@ -1,0 +1,61 @@
+-- A number of sessions has at most one answer to `demo`.
+use Rattle.std.proofs.Common.{◌≡◌, ◌∙◌, ℕ, List, inl, inr, ap, sym, subst, arith}
+use Rattle.std.specs.Prelude.{Result, Ok, Err}
+use Rattle.election_script.specs.declared.script.Script.{Script}
+use Rattle.election_script.specs.Generated.{generated}
+use Rattle.polling_world.specs.Machines.{MachineState}
+use Rattle.evidence.specs.Refusal.{Refusal}
+use Rattle.evidence.specs.Same.{Agree}
+use Rattle.auditor.specs.Report.{AuditReport}
+use Rattle.demonstration.specs.declared.shown.Demonstration.{Demonstration}
+use Rattle.demonstration.specs.Shown.{IsAudited, IsDemonstrationOf, IsRefusedSo}
+use Rattle.auditorium_core.specs.Lines.{Answer, OrRefused}
+use Rattle.auditorium_core.specs.Demonstrated.{IsHalfOf, GivesDemonstration, demonstration_answer, IsDemonstrationAnswer}
+use Rattle.auditorium_core.proofs.SameOr.{same_or}
+
+-- a script shows one thing or is refused in one way, and not both
+pub record ShowOne : Type 0 where
+  pub shown : (script : Script) (session : ℕ) (shown other : Demonstration) → IsDemonstrationOf script session shown
+      → IsDemonstrationOf script session other → shown ≡ other
+  pub refused : (script : Script) (session : ℕ) (refusal other : Refusal) → IsRefusedSo script session refusal
+      → IsRefusedSo script session other → refusal ≡ other
+  pub either : (script : Script) (session : ℕ) (machines : List MachineState) (report : AuditReport)
+      (refusal : Refusal) → IsAudited script session machines (Ok report) → ¬ IsRefusedSo script session refusal
+
+-- a number has one half, rounded up
+pub same_half : (sessions half other : ℕ) → IsHalfOf sessions half → IsHalfOf sessions other → half ≡ other
+same_half sessions half other (inl e) (inl f) = omega arith
+same_half sessions half other (inl e) (inr f) = omega arith
+same_half sessions half other (inr e) (inl f) = omega arith
+same_half sessions half other (inr e) (inr f) = omega arith
+
+-- what a demonstration gives is one
+given_agree : ShowOne → (script : Script) (session : ℕ) (p q : Result Demonstration Refusal) →
+    GivesDemonstration script session p → GivesDemonstration script session q → Agree (λ f g. f ≡ g) p q
+given_agree one script session (Ok shown) (Ok other) x y = one.shown script session shown other x y
+given_agree one script session (Ok shown) (Err refusal) x y =
+    one.either script session x.machines x.report refusal x.audited y
+given_agree one script session (Err refusal) (Ok other) x y =
+    one.either script session y.machines y.report refusal y.audited x
+given_agree one script session (Err refusal) (Err other) x y = one.refused script session refusal other x y
+
+-- so its answer is
+module _ (one : ShowOne) (script : Script) (sessions session : ℕ) (a b : Answer) where
+  abbrev IsTold : Demonstration → Answer → Type 0
+  IsTold shown told = told ≡ demonstration_answer sessions shown
+
+  same_shown : OrRefused (GivesDemonstration script session) IsTold a →
+      OrRefused (GivesDemonstration script session) IsTold b → a ≡ b
+  same_shown =
+      same_or (λ (f g : Demonstration). f ≡ g) (GivesDemonstration script session) IsTold a b
+      (given_agree one script session)
+      (λ f g gives same e e'. e ∙ ap (demonstration_answer sessions) same ∙ sym e')
+
+-- and so is that of a number of sessions
+pub same_demonstration : ShowOne → (sessions : ℕ) (a b : Answer) → IsDemonstrationAnswer sessions a →
+    IsDemonstrationAnswer sessions b → a ≡ b
+same_demonstration one sessions a b x y =
+    let half : y.half ≡ x.half = same_half sessions y.half x.half y.is_half x.is_half in
+    let P : ℕ → Type 0 = λ h. OrRefused (GivesDemonstration (generated sessions) h)
+    (λ shown told. told ≡ demonstration_answer sessions shown) b in
+    same_shown one (generated sessions) sessions x.half a b x.right (subst P half y.right)

@@ -1,0 +1,85 @@
+-- What a run of a script in threads comes to is an answer.
+use Rattle.std.proofs.Common.{◌≡◌, ◌∙◌, ℕ, List, length, map, Option, Some, refl, sym, ap, subst, arith}
+use Rattle.std.specs.Prelude.{slice_get, All}
+use Rattle.std.proofs.lemmas.List.{length-map}
+use Rattle.entry_format.specs.Nodes.{node_of_sealed}
+use Rattle.entry_format.specs.SealedEntry.{SealedEntry}
+use Rattle.entry_order.specs.declared.step.Step.{Step}
+use Rattle.entry_order.specs.Merged.{PlacedEvent, IsMergedOf, step_of}
+use Rattle.entry_order.specs.World.{World, history, play, start}
+use Rattle.entry_order.proofs.Machines.{length_play, length_start}
+use Rattle.entry_order.proofs.MergedOrder.{worlds_have_one_merged_order}
+use Rattle.entry_order.proofs.Orders.{one_order}
+use Rattle.roster.specs.declared.post.Post.{Post}
+use Rattle.floor_losses.specs.declared.loss.Loss.{Loss}
+use Rattle.election_script.specs.declared.script.Script.{Script}
+use Rattle.election_script.specs.Lawful.{IsLawful}
+use Rattle.polling_world.specs.Configs.{script_configs}
+use Rattle.polling_world.specs.Keys.{post_of}
+use Rattle.polling_world.specs.Machines.{MachineState}
+use Rattle.polling_world.specs.Playing.{ComesTo}
+use Rattle.polling_world.specs.Worlds.{world_of}
+use Rattle.polling_world.proofs.NextTold.{next_of, tells_next}
+use Rattle.finished_floor.specs.Floors.{IsFloorOf}
+use Rattle.auditorium_core.specs.Lines.{Answer}
+use Rattle.auditorium_core.specs.Play.{SayUndone}
+use Rattle.auditorium_core.specs.inside.Losses.{IsBetween}
+use Rattle.auditorium_core.specs.Run.{IsRunOf, run_answer}
+use Rattle.auditorium_core.proofs.HonestPlaces.{leave_honest_files}
+
+module _ (prefix : List ℕ) (script : Script) (lawful : IsLawful script) (posts : List Post)
+    (machines : List MachineState) (losses : List Loss) (workers : List (List (Option ℕ)))
+    (floor : IsFloorOf script posts machines losses workers) where
+  -- the world's merged order
+  abbrev merged : (xs : List (PlacedEvent SealedEntry)) × IsMergedOf node_of_sealed (world_of machines) xs
+      × ((ys : List (PlacedEvent SealedEntry)) → IsMergedOf node_of_sealed (world_of machines) ys → ys ≡ xs)
+  merged = worlds_have_one_merged_order node_of_sealed (world_of machines)
+
+  -- the steps that make the events in that order
+  abbrev steps : List Step
+  steps = map (λ (x : PlacedEvent SealedEntry). step_of node_of_sealed x.machine x.event) merged.0
+
+  -- the world to which the script's machines come by them
+  abbrev again : World SealedEntry
+  again = play node_of_sealed (next_of (script_configs script)) script.log (start (length script.machines)) steps
+
+  comes : ComesTo script steps again
+  comes = (next_of (script_configs script), tells_next (script_configs script), refl)
+
+  same : (m : ℕ) → history again m ≡ history (world_of machines) m
+  same m = floor.played merged.0 merged.1 again comes m
+
+  many : length again ≡ length machines
+  many =
+      length_play node_of_sealed (next_of (script_configs script)) script.log (start {T = SealedEntry} (length script.machines)) steps
+      ∙ length_start SealedEntry (length script.machines) ∙ sym floor.machines.count
+
+  numbered : (place : ℕ) (m : MachineState) → slice_get machines place ≡ Some m → m.config.number ≡ place
+  numbered place m at =
+      let made = (floor.machines.each place m at).made in
+      ap (λ (u : MachineState). u.config.number) made.2
+
+  -- each loss is between two machines that the roster names
+  pub between : All (IsBetween (length posts)) losses
+  between k d within =
+      let on_way = floor.losses.only k d within in
+      let count = ap length floor.roster ∙ length-map script.machines (post_of script) ∙ sym floor.machines.count in
+      record { from = omega (arith, count, on_way.from); to = omega (arith, count, on_way.to) }
+
+  -- the answer is that of the run
+  pub is_run : (undone : List ℕ) (answer : Answer) → SayUndone machines undone →
+      answer ≡ run_answer prefix posts machines losses undone → IsRunOf prefix script answer
+  is_run undone answer left told = record {
+    machines = machines;
+    losses = losses;
+    workers = workers;
+    steps = steps;
+    w = again;
+    undone = undone;
+    floor = subst (λ (p : List Post). IsFloorOf script p machines losses workers) floor.roster floor;
+    again = record { merged = (merged.0, merged.1, refl); comes = comes; same = same };
+    order = one_order node_of_sealed (world_of machines) floor.orderly;
+    honest = leave_honest_files machines again many numbered same script lawful steps comes;
+    left = left;
+    told = told ∙ ap (λ (p : List Post). run_answer prefix p machines losses undone) floor.roster;
+  }

@@ -1,0 +1,39 @@
+use Rattle.evidence.specs.Reading.{store_seen}
+use Rattle.auditorium_core.proofs.ScriptFiles.{script_was_read, script_not_read}
+use Rattle.auditorium_core.proofs.script_file.read_script.Goals as goal
+
+pub returns-in-Ok-clause-read : goal.returns-in-Ok-clause-read
+returns-in-Ok-clause-read g c =
+    let store = g.S.Store in
+    let old = c.args.store.now in
+    let new = c.read_file.new.store in
+    let before = store_seen (store.files old) (store.answered old) (store.read_faults old) (store.write_faults old) in
+    let after = store_seen (store.files new) (store.answered new) (store.read_faults new) (store.write_faults new) in
+    let given = c.in-Ok.ensures in
+    script_was_read before after c.args.name.now c.in-Ok.bytes.items c.script_of.result given.ok.whole
+    (rw (← c.as_slice.ensures.value) c.script_of.ensures.ok)
+    (rw (← c.as_slice.ensures.value) c.script_of.ensures.err) c.script_of.ensures.only
+    (λ more. let no = given.absent.always more in cc)
+    (record {
+      absences = given.absences;
+      read_faults = given.read_fault.never_falls;
+      files = given.unchanged.0;
+      write_faults = given.unchanged.1;
+    })
+
+pub returns-in-Err-clause-read : goal.returns-in-Err-clause-read
+returns-in-Err-clause-read g c =
+    let store = g.S.Store in
+    let old = c.args.store.now in
+    let new = c.read_file.new.store in
+    let before = store_seen (store.files old) (store.answered old) (store.read_faults old) (store.write_faults old) in
+    let after = store_seen (store.files new) (store.answered new) (store.read_faults new) (store.write_faults new) in
+    let given = c.in-Err.ensures in
+    script_not_read before after c.args.name.now c.in-Err.fault c.file_fault.result c.file_fault.ensures given.err
+    given.absent given.read_fault
+    (record {
+      absences = given.absences;
+      read_faults = given.read_fault.never_falls;
+      files = given.unchanged.0;
+      write_faults = given.unchanged.1;
+    })

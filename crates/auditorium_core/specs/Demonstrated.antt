@@ -1,0 +1,82 @@
+-- What `demo` gives for a number of sessions.
+use Rattle.std.specs.Prelude.{◌≡◌, ◌≢◌, ◌⊎◌, ℕ, ◌+◌, List, [], ◌∷◌, length, Some, None, Result, Ok, Err}
+use Rattle.entry_format.specs.Nodes.{node_of_sealed}
+use Rattle.entry_order.specs.Naming.{Distinct}
+use Rattle.entry_order.specs.World.{history, sent_in}
+use Rattle.election_script.specs.declared.script.Script.{Script}
+use Rattle.election_script.specs.Generated.{generated}
+use Rattle.polling_world.specs.Machines.{MachineState}
+use Rattle.polling_world.specs.Playing.{IsPlayed}
+use Rattle.polling_world.specs.Worlds.{world_of}
+use Rattle.rule_language.specs.Standard.{standard_rules}
+use Rattle.evidence.specs.Refusal.{Refusal}
+use Rattle.auditor.specs.Report.{AuditReport}
+use Rattle.auditor.specs.Sources.{standard}
+use Rattle.honest_reports.specs.Refusals.{IsTooWideFor}
+use Rattle.demonstration.specs.declared.shown.Demonstration.{Demonstration}
+use Rattle.demonstration.specs.Kept.{IsKeptOf}
+use Rattle.demonstration.specs.Lines.{demonstration_text}
+use Rattle.demonstration.specs.Shown.{IsAudited, IsDemonstrationOf, IsRefusedSo}
+use Rattle.auditorium_core.specs.declared.status.Status.TheVariants.{Broken}
+use Rattle.auditorium_core.specs.Audit.{status_by}
+use Rattle.auditorium_core.specs.Lines.{Answer, OrRefused, refusal_answer}
+
+-- the number is half of so many sessions, rounded up
+abbrev pub IsHalfOf : ℕ → ℕ → Type 0
+IsHalfOf sessions half = (half + half ≡ sessions) ⊎ (half + half ≡ sessions + 1)
+
+-- what a demonstration by this script gives: what is counted, or why its audit is refused
+abbrev pub GivesDemonstration : Script → ℕ → Result Demonstration Refusal → Type 0
+GivesDemonstration script session (Ok shown) = IsDemonstrationOf script session shown
+GivesDemonstration script session (Err refusal) = IsRefusedSo script session refusal
+
+-- the seven lines, and the status of the audit
+abbrev pub demonstration_answer : ℕ → Demonstration → Answer
+demonstration_answer sessions shown = record {
+  status = status_by shown.outcome;
+  files = [];
+  output = demonstration_text sessions shown;
+}
+
+-- the answer of what a demonstration of so many sessions gives, in which the log is kept up to the end of one
+abbrev pub IsAnswerOfShown : ℕ → ℕ → Answer → Type 0
+IsAnswerOfShown sessions session =
+    OrRefused (GivesDemonstration (generated sessions) session)
+    (λ shown answer. answer ≡ demonstration_answer sessions shown)
+
+-- The answer is that of a demonstration in which no rule is broken: each standard rule is kept or unsettled, and one is
+-- unsettled only where there is a gap. The status doesn't say that one is broken either.
+pub record TellsNoneBroken (sessions session : ℕ) (answer : Answer) : Type 0 where
+  pub shown : Demonstration
+  pub right : IsDemonstrationOf (generated sessions) session shown
+  pub told : answer ≡ demonstration_answer sessions shown
+  pub none_broken : shown.broken ≡ 0
+  pub each : shown.kept + shown.unsettled ≡ length standard_rules
+  pub unsettled : shown.gaps ≡ 0 → shown.unsettled ≡ 0
+  pub not_broken : answer.status ≢ Broken
+
+-- The answer is a refusal, because a standard rule is too wide over what survives in the log that is kept of these
+-- machines.
+pub record IsRefusedAsTooWide (sessions session : ℕ) (machines : List MachineState) (answer : Answer) : Type 0 where
+  pub bytes : List ℕ
+  pub refusal : Refusal
+  pub kept : IsKeptOf session 0 (history (world_of machines) 0) bytes
+  pub too_wide : IsTooWideFor (generated sessions) (world_of machines) standard None (Some bytes ∷ []) refusal
+  pub told : answer ≡ refusal_answer refusal
+
+-- The answer of a demonstration of so many sessions, in which the log is kept up to the end of the middle one. Where
+-- different entries that the machines sent have different digests, no rule is broken, and only a rule that is too wide
+-- is refused.
+pub record IsDemonstrationAnswer (sessions : ℕ) (answer : Answer) : Type 0 where
+  pub half : ℕ
+  pub is_half : IsHalfOf sessions half
+  pub right : IsAnswerOfShown sessions half answer
+  pub honest : (machines : List MachineState) → IsPlayed (generated sessions) machines →
+      Distinct node_of_sealed (sent_in (world_of machines)) →
+      TellsNoneBroken sessions half answer ⊎ IsRefusedAsTooWide sessions half machines answer
+
+-- the audit of what is kept isn't refused
+abbrev pub ShowsReport : ℕ → Type 0
+ShowsReport sessions =
+    (half : ℕ) × IsHalfOf sessions half × (machines : List MachineState) × (report : AuditReport)
+    × IsAudited (generated sessions) half machines (Ok report)

@@ -1,0 +1,69 @@
+-- What `run` gives for a script.
+use Rattle.std.specs.Prelude.{◌≡◌, ℕ, List, ◌++◌, Option, codes}
+use Rattle.std.specs.List.{flat_map}
+use Rattle.std.specs.Fmt.{decimal}
+use Rattle.entry_format.specs.SealedEntry.{SealedEntry}
+use Rattle.entry_order.specs.declared.step.Step.{Step}
+use Rattle.entry_order.specs.World.{World, history}
+use Rattle.roster.specs.declared.post.Post.{Post}
+use Rattle.election_script.specs.declared.script.Script.{Script}
+use Rattle.polling_world.specs.Keys.{roster_of}
+use Rattle.polling_world.specs.Machines.{MachineState}
+use Rattle.polling_world.specs.Merging.{IsMerged}
+use Rattle.polling_world.specs.Playing.{ComesTo}
+use Rattle.polling_world.specs.Worlds.{world_of}
+use Rattle.floor_losses.specs.CauseWords.{loss_why_word}
+use Rattle.floor_losses.specs.declared.loss.Loss.{Loss}
+use Rattle.finished_floor.specs.Floors.{IsFloorOf}
+use Rattle.report_lines.specs.Lines.{line}
+use Rattle.auditor.specs.ReportText.{name_at}
+use Rattle.auditorium_core.specs.HonestPlace.{LeaveHonestFiles}
+use Rattle.auditorium_core.specs.Lines.{Answer, OrRefused}
+use Rattle.auditorium_core.specs.Play.{KeepOrder, SayUndone, machine_lines, play_files, status_of_undone}
+use Rattle.auditorium_core.specs.ScriptFile.{GivesScript}
+
+-- an entry that didn't arrive: its maker's name and its number there, the receiver's name, and why
+abbrev pub loss_line : List Post → Loss → List ℕ
+loss_line roster loss =
+    line (codes "loss " ++ name_at roster loss.from ++ codes "." ++ decimal loss.number ++ codes " "
+    ++ name_at roster loss.to ++ codes " " ++ loss_why_word loss.why)
+
+abbrev pub loss_lines : List Post → List Loss → List ℕ
+loss_lines roster losses = flat_map (loss_line roster) losses
+
+-- the answer of machines with this roster between which these entries were lost, and of which these lines say what is
+-- left
+abbrev pub run_answer : List ℕ → List Post → List MachineState → List Loss → List ℕ → Answer
+run_answer prefix roster machines losses undone = record {
+  status = status_of_undone undone;
+  files = play_files prefix roster machines;
+  output = machine_lines machines ++ loss_lines roster losses ++ undone;
+}
+
+-- These steps make all events of the machines in their merged order. By them, on one thread, the script's machines come
+-- to w, in which each has the history that it has here.
+pub record ArePlayedAgainBy (script : Script) (machines : List MachineState) (steps : List Step) (w : World SealedEntry)
+    : Type 0 where
+  pub merged : IsMerged machines steps
+  pub comes : ComesTo script steps w
+  pub same : (m : ℕ) → history w m ≡ history (world_of machines) m
+
+-- The answer of a run of the script's machines: they did what a play on one thread does, each entry arrived or is told
+-- as lost, once and with its cause, and nothing that could be done was left.
+pub record IsRunOf (prefix : List ℕ) (script : Script) (answer : Answer) : Type 0 where
+  pub machines : List MachineState
+  pub losses : List Loss
+  pub workers : List (List (Option ℕ))
+  pub steps : List Step
+  pub w : World SealedEntry
+  pub undone : List ℕ
+  pub floor : IsFloorOf script (roster_of script) machines losses workers
+  pub again : ArePlayedAgainBy script machines steps w
+  pub order : KeepOrder machines
+  pub honest : LeaveHonestFiles script machines w
+  pub left : SayUndone machines undone
+  pub told : answer ≡ run_answer prefix (roster_of script) machines losses undone
+
+-- the answer for the script's file, or where there is none
+abbrev pub IsRunAnswer : List ℕ → List ℕ → Option (List ℕ) → Answer → Type 0
+IsRunAnswer name prefix file answer = OrRefused (GivesScript name file) (IsRunOf prefix) answer

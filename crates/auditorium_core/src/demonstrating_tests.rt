@@ -1,0 +1,38 @@
+//! The command `demo`. The numbers were computed by a separate plain program.
+use super::*;
+use crate::audit_tests::answer;
+use hall_outside::{MemorySink, MemoryStore};
+use std::alloc::Global;
+use std::test::Fail;
+
+/// The lines of one session. Its booth's last entry is heard first, so the commitment that it names
+/// is cut away.
+const ONE: &str = "sessions 1\nentries 6\nsurvivors 3\ngaps 1\nkept 18\nbroken 0\nunsettled 4\n";
+
+/// Words with their status and their output.
+const ROWS: &[(&str, Status, &str)] = &[
+    ("demo 1", Status::Unsettled, ONE),
+    ("demo 0", Status::Usage, "usage\n"),
+    ("demo 801", Status::Usage, "usage\n"),
+    ("demo 01", Status::Usage, "usage\n"),
+    ("demo", Status::Usage, "usage\n"),
+    ("demo 1 1", Status::Usage, "usage\n"),
+];
+
+/// The program's status for words that stand in one text, over no file.
+fn status_of(alloc: Global, words: &str, out: &mut MemorySink) -> Result<Status, Fail> {
+    let mut store = MemoryStore::make(alloc, Vec::new(alloc), Vec::new(alloc));
+    answer(alloc, words, &mut store, out)
+}
+
+#[test]
+fn a_demonstration_has_its_status_and_lines(rt: HostRuntime) -> Result<(), Fail> {
+    let alloc = rt.alloc();
+    for (words, status, output) in ROWS {
+        let mut out = MemorySink::make(alloc, 1000, Vec::new(alloc));
+        let answered = status_of(alloc, words, &mut out)?;
+        assert_eq!(rt; answered, *status, "{words}");
+        assert!(rt; out.bytes() == output.as_bytes(), "{words}");
+    }
+    Ok(())
+}

@@ -1,0 +1,34 @@
+// How the program ends with an answer.
+ghost use Rattle.std.specs.Prelude.{◌≡◌};
+ghost use Rattle.evidence.specs.Reading.{store_seen};
+ghost use Rattle.auditorium_core.specs.Outcome.{outside, IsWrittenBy};
+ghost use Rattle.auditorium_core.specs.inside.Ending.{EndsWith};
+
+use crate::answer::{Answer, Fault};
+use crate::status::Status;
+use crate::writing::write_answer;
+use hall_outside::{Failed, Sink, Store};
+
+/// Writes the answer, if there is one, and tells how the program ends.
+pub(crate) fn end_with<S: Store, K: Sink>(
+    answer: Result<Answer, Fault>,
+    store: &mut S,
+    out: &mut K,
+) -> Status
+    ensures { EndsWith answer
+        (λ told ok. IsWrittenBy S.creates S.appends K.writes told store.old out.old ok store.new out.new)
+        (outside (store_seen (S.files store.old) (S.answered store.old) (S.read_faults store.old)
+        (S.write_faults store.old)) (K.written out.old) (K.faults out.old))
+        result
+        (outside (store_seen (S.files store.new) (S.answered store.new) (S.read_faults store.new)
+        (S.write_faults store.new)) (K.written out.new) (K.faults out.new)) }
+{
+    match answer {
+        Ok(answer) => match write_answer(&answer, store, out) {
+            Ok(()) => answer.status(),
+            Err(Failed) => Status::WriteFault,
+        },
+        Err(Fault::ReadFault) => Status::ReadFault,
+        Err(Fault::Memory) => Status::Memory,
+    }
+}
