@@ -2,8 +2,8 @@
 //! the system failed, a line on standard error says at what and why.
 #![tactic(auto)]
 
-use auditorium_core::{Status, auditorium_still};
-use hall_outside::{Failure, FolderStore, OutputSink};
+use auditorium_core::{Status, auditorium};
+use hall_outside::{Failure, FolderStore, OpenGate, OutputSink};
 use std::env;
 use std::io::{self, Eprint, ErrorKind};
 use std::process::ExitCode;
@@ -44,7 +44,14 @@ fn main(rt: HostRuntime) -> ExitCode {
     };
     let mut store = FolderStore::make(&rt);
     let mut out = OutputSink::make(&rt);
-    let status = auditorium_still(rt.alloc(), words.as_slice(), &mut store, &mut out);
+    let status = auditorium(
+        &rt,
+        rt.alloc(),
+        words.as_slice(),
+        &mut store,
+        &mut out,
+        &OpenGate,
+    );
     report(&rt, status, store.failure(), out.failure());
     ExitCode::from(status.exit_status())
 }
