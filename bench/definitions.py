@@ -11,11 +11,11 @@ behind a type is reached too: how contracts tell its values apart (`coded`), and
 another (`from_gives`). Of all that is reached, only this may lie in `specs/inside/`.
 
 In docs/DEFINITIONS.md the first column of a table names definitions of the crate whose name heads the
-section, first all that the contract of `auditorium_still` reaches, then the others, and in a part of their
+section, first all that the contract of `auditorium` reaches, then the others, and in a part of their
 own those of `specs/inside/`. Printed is what the document lacks, lists without need, gives to another file,
 has too late or in another part, and what a clause reaches although it lies in `specs/inside/`; the exit
 status is 1 if there is any such line. With --list each reached definition is printed with its comment,
-those that `auditorium_still` reaches marked by `*`.
+those that `auditorium` reaches marked by `*`.
 """
 import pathlib
 import re
@@ -24,7 +24,7 @@ from collections import defaultdict
 
 ROOT = pathlib.Path(__file__).resolve().parent.parent
 DOCUMENT = ROOT / "docs" / "DEFINITIONS.md"
-TOP = ("auditorium_core", "auditorium_still")
+TOP = ("auditorium_core", "auditorium")
 FIRST = "## What the headline needs"
 BEHIND = "## What is behind types"
 INSIDE = "specs/inside/"
