@@ -17,3 +17,4 @@ pub mod Rests
 pub mod Collected
 pub mod Worked
 pub mod Counted
+mod MadeKeys

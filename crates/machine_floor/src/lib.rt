@@ -5,6 +5,7 @@
 
 mod finishing;
 mod gathering;
+mod keys;
 mod laws;
 mod making;
 mod running;

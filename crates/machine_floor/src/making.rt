@@ -1,14 +1,15 @@
 //! The stations of a script.
-ghost use Rattle.std.specs.Prelude.{◌≡◌, [], All, IfOk};
+ghost use Rattle.std.specs.Prelude.{◌≡◌, [], All, IfOk, map};
 ghost use Rattle.election_script.specs.Lawful.{IsLawful};
 ghost use Rattle.finished_floor.specs.Places.{IsStopOf};
 ghost use Rattle.machine_floor.specs.Fresh.{AreNewStations};
-ghost use Rattle.polling_world.specs.Keys.{roster_of};
+ghost use Rattle.polling_world.specs.Keys.{key_of, roster_of};
 ghost use Rattle.machine_floor.specs.Stations.{IsOfLinks, made_of};
 
 use crate::station::Station;
 use election_script::{Script, StopAt};
 use floor_links::{Links, NewLinks, make_links};
+use lms_sign::LmsSecret;
 use polling_world::{Machine, Memory, keys_of, roster_of};
 use roster::Roster;
 use std::alloc::Global;
@@ -34,13 +35,18 @@ pub fn stations(alloc: Global, script: &Script) -> Result<(Vec<Station>, Links),
         roster: _,
         stations,
         links,
-    } = prepare(alloc, script)?;
+    } = prepare(alloc, script, keys_of(alloc, script)?)?;
     Ok((stations, links))
 }
 
-/// The same with the roster.
-pub(crate) fn prepare(alloc: Global, script: &Script) -> Result<Prepared, Memory>
-    requires { IsLawful script.now }
+/// The same with the roster, of machines with these keys.
+pub(crate) fn prepare(
+    alloc: Global,
+    script: &Script,
+    keys: Vec<LmsSecret>,
+) -> Result<Prepared, Memory>
+    requires lawful { IsLawful script.now }
+    requires keys { keys.items ≡ map (key_of script.now) script.now.machines }
     ensures roster { IfOk result (λ p. p.roster.machines ≡ roster_of script.now) }
     ensures new { IfOk result (λ p. AreNewStations script.now p.links p.stations.items) }
 
@@ -48,7 +54,6 @@ pub(crate) fn prepare(alloc: Global, script: &Script) -> Result<Prepared, Memory
     ensures links { IfOk result (λ p. All (λ s. IsOfLinks p.links (made_of s)) p.stations.items) }
     ensures first { IfOk result (λ p. All (λ s. s.ticks ≡ []) p.stations.items) }
 {
-    let keys = keys_of(alloc, script)?;
     let roster = roster_of(alloc, script, &keys)?;
     let count = script.machines.as_slice().len();
     let NewLinks { links, outs, inns } = make_links(alloc, count, script.link as usize)?;

@@ -5,6 +5,7 @@ ghost use Rattle.election_script.specs.Lawful.{IsLawful};
 ghost use Rattle.finished_floor.specs.Floors.{IsFloorOf};
 
 use crate::gathering::gather;
+use crate::keys::make_keys;
 use crate::making::{Prepared, prepare};
 use crate::work::work_all;
 use election_script::Script;
@@ -32,7 +33,7 @@ pub fn run_floor<R: Threads + Wait + Sync, G: Gate + Sync>(
         roster,
         stations,
         links,
-    } = prepare(alloc, script)?;
+    } = prepare(alloc, script, make_keys(rt, alloc, script)?)?;
     let stations = work_all(rt, alloc, gate, &links, turns_of(script), stations)?;
     let gathered = gather(rt, alloc, roster, links, stations)?;
     finish_floor(alloc, script, gathered)

@@ -22,7 +22,7 @@ loop-key-init c = λ links are.
     (sym c.new-all.ensures.items)
     (first_none script links (lists_of (into_iter_items c.into_iter-outs.result))
     (lists_of (into_iter_items c.into_iter-inns.result)) (into_iter_items c.into_iter-key-iterator.result)
-    (c.into_iter-key-iterator.ensures.into_iter_gives.0 ∙ c.in_ok-keys.ensures))
+    (c.into_iter-key-iterator.ensures.into_iter_gives.0 ∙ c.requires.keys))
 
 -- the links that were made are those of the ends that are left to be given
 given : (casts : List Cast0) (script : Script) (links : List (List LinkView))
@@ -47,7 +47,7 @@ overflow_cast-at c =
     let within = next_within c.args.script.now links _ _ c.loop-key.all.items _ _ _ _ c.in-Some.key c.len-at.result
     first
     c.in-Some.ensures.steps.0 at in
-    let few = c.requires.machines.few.1 in
+    let few = c.requires.lawful.machines.few.1 in
     omega arith
 
 pub make-requires-clause-at : goal.make-requires-clause-at
@@ -81,7 +81,7 @@ unreachable-requires c =
     let at = c.len-at.ensures ∙ c.loop-key.all.ok.0 in
     let first = c.loop-key.invariant links are in
     outs_there c.args.script.now links _ _ c.loop-key.all.items _ _ _ _ c.in-Some.key c.len-at.result first
-    c.in-Some.ensures.steps.0 at c.requires are
+    c.in-Some.ensures.steps.0 at c.requires.lawful are
     (ap lists_of (none_in (into_iter_items c.loop-key.outs) (omega (arith, c.in_default.ensures.cases))))
 
 pub unreachable-requires-in_default-next : goal.unreachable-requires-in_default-next
@@ -93,7 +93,7 @@ unreachable-requires-in_default-next c =
     let at = c.len-at.ensures ∙ c.loop-key.all.ok.0 in
     let first = c.loop-key.invariant links are in
     inns_there c.args.script.now links _ _ c.loop-key.all.items _ _ _ _ c.in-Some.key c.len-at.result first
-    c.in-Some.ensures.steps.0 at c.requires are
+    c.in-Some.ensures.steps.0 at c.requires.lawful are
     (ap lists_of (none_in (into_iter_items c.loop-key.inns) (omega (arith, c.in_default-next.ensures.cases))))
 
 pub new-requires : goal.new-requires
@@ -105,7 +105,7 @@ new-requires c =
     let at = c.len-at.ensures ∙ c.loop-key.all.ok.0 in
     let first = c.loop-key.invariant links are in
     may_begin c.args.script.now links _ _ c.loop-key.all.items _ _ _ _ c.in-Some.key c.len-at.result first
-    c.in-Some.ensures.steps.0 at c.requires are c.in-Some-next.ends_out.items _ c.in-Some-next-2.ends_in.items _
+    c.in-Some.ensures.steps.0 at c.requires.lawful are c.in-Some-next.ends_out.items _ c.in-Some-next-2.ends_in.items _
     (ap lists_of c.in-Some-next.ensures.items) (ap lists_of c.in-Some-next-2.ensures.items) _
     c.in_ok-machine.machine (subst (λ l. IsStopOf l c.len-at.result c.stop_of-stop_at.result) c.as_slice.ensures
     c.stop_of-stop_at.ensures) c.in_ok-machine.ensures
@@ -115,7 +115,7 @@ loop-key-preserved c = λ links are.
     let at = c.len-at.ensures ∙ c.loop-key.all.ok.0 in
     let first = c.loop-key.invariant links are in
     one_more c.args.script.now links _ _ c.loop-key.all.items _ _ _ _ c.in-Some.key c.len-at.result first
-    c.in-Some.ensures.steps.0 at c.requires are c.in-Some-next.ends_out.items _ c.in-Some-next-2.ends_in.items _
+    c.in-Some.ensures.steps.0 at c.requires.lawful are c.in-Some-next.ends_out.items _ c.in-Some-next-2.ends_in.items _
     (ap lists_of c.in-Some-next.ensures.items) (ap lists_of c.in-Some-next-2.ensures.items) _
     c.in_ok-machine.machine (subst (λ l. IsStopOf l c.len-at.result c.stop_of-stop_at.result) c.as_slice.ensures
     c.stop_of-stop_at.ensures) c.in_ok-machine.ensures c.in_ok-new.field-0 c.push.new.self.items c.in_ok-new.ensures
