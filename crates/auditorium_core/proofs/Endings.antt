@@ -74,7 +74,8 @@ module _ (IsDone : Command → Type 0) (words : List (List ℕ)) (is_told_by is_
           files = subst (λ (f : Option Files). SetsSome f answer.files new.store.files) made.files cut.files;
           output = cut.output;
           all_files = λ none.
-              cut.all_files (λ risen. none (subst (λ (w : ℕ). HasRisen w new.store.write_faults) made.write_faults risen))
+              cut.all_files (λ risen. none
+              (subst (λ (w : ℕ). HasRisen w new.store.write_faults) made.write_faults risen))
               ∙ ap (λ (f : Option Files). with_files f answer.files) made.files;
           no_output = cut.no_output;
         },

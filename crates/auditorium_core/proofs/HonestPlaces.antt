@@ -40,7 +40,8 @@ module _ (machines : List MachineState) (w : World SealedEntry) (many : length w
       file_of m ≡ Some (log_text place (history w place))
   file_at place m at =
       ap (λ (n : ℕ). Some (log_text n m.events)) (numbered place m at)
-      ∙ ap (λ (h : List (Event SealedEntry)). Some (log_text place h)) (sym (same place ∙ history_there machines place m at))
+      ∙ ap (λ (h : List (Event SealedEntry)). Some (log_text place h))
+      (sym (same place ∙ history_there machines place m at))
 
   -- it is a whole log of w
   whole_at : (place : ℕ) (found : Option MachineState) → slice_get machines place ≡ found → place < length machines →
@@ -61,7 +62,8 @@ module _ (machines : List MachineState) (w : World SealedEntry) (many : length w
       by place file at =
           elim (slice_get_cases machines place).1 [
             | inl (m, within, is, e) ↦
-                whole_at place (slice_get machines place) refl within file (sym (slice_get-map file_of machines place) ∙ at)
+                whole_at place (slice_get machines place) refl within file
+                (sym (slice_get-map file_of machines place) ∙ at)
             | inr (past, none) ↦
                 absurd (let no : None ≡ Some file =
                 ap (option_map file_of) (sym none) ∙ sym (slice_get-map file_of machines place) ∙ at in cc)

@@ -9,9 +9,18 @@ use std::test::Fail;
 /// is cut away.
 const ONE: &str = "sessions 1\nentries 6\nsurvivors 3\ngaps 1\nkept 18\nbroken 0\nunsettled 4\n";
 
+/// Those of ten sessions, of which the fifth is the last that is kept.
+const TEN: &str = "sessions 10\nentries 41\nsurvivors 19\ngaps 1\nkept 18\nbroken 0\nunsettled 4\n";
+
+/// Those of a hundred: the fiftieth is cancelled, and its activation is cut away.
+const HUNDRED: &str =
+    "sessions 100\nentries 392\nsurvivors 195\ngaps 1\nkept 20\nbroken 0\nunsettled 2\n";
+
 /// Words with their status and their output.
 const ROWS: &[(&str, Status, &str)] = &[
     ("demo 1", Status::Unsettled, ONE),
+    ("demo 10", Status::Unsettled, TEN),
+    ("demo 100", Status::Unsettled, HUNDRED),
     ("demo 0", Status::Usage, "usage\n"),
     ("demo 801", Status::Usage, "usage\n"),
     ("demo 01", Status::Usage, "usage\n"),

@@ -2,6 +2,8 @@
 use super::*;
 use crate::audit_tests::answer;
 use hall_outside::{MemorySink, MemoryStore};
+use hall_text::digest_hex;
+use roster::election;
 use std::alloc::Global;
 use std::test::Fail;
 
@@ -45,26 +47,59 @@ const ONE: &str = "seed 61756469746f7269756d\n\
     step hear b2 sv 2\n\
     step hear b3 sv 2\n";
 
-/// The words, with the length of what they print.
-const LENGTHS: &[(&str, usize)] = &[
-    ("make 1", 738),
-    ("make 2", 1199),
-    ("make 9", 4423),
-    ("make 10", 4683),
-    ("make 11", 5156),
-    ("make 800", 374_792),
+/// The words, with the length of what they print, and its SHA-256.
+const TEXTS: &[(&str, usize, &str)] = &[
+    (
+        "make 1",
+        738,
+        "03cb2e95e383a5781a64fee556bfb8b5198290a95f6d1f26d9f8cfcc80cc3381",
+    ),
+    (
+        "make 2",
+        1199,
+        "e4d43f405413da09a9afab8451f9a9c5f8fc488f1f2c77e66d48939994ce8178",
+    ),
+    (
+        "make 9",
+        4423,
+        "11bddff07eb65cc0419aa88517eac6ba6e88af48e9edf16edf9cd527cb5d544d",
+    ),
+    (
+        "make 10",
+        4683,
+        "bafb5e90cdff690a008a2d02df3454d964a321bcc60f188b6dcd48880800c449",
+    ),
+    (
+        "make 11",
+        5156,
+        "ebbc1cc0ccfc9a3064f1f5297917caf01d390234f1144ce2191727e1c744793c",
+    ),
+    (
+        "make 800",
+        374_792,
+        "5b599d2b3e1e1252e2bac0d3e3105edaf4a70f7faaa2270c371d9e6f28d41503",
+    ),
 ];
+
+/// Whether SHA-256 of the bytes is this, in hexadecimal.
+fn is_digest(bytes: &[u8], digest: &str) -> bool {
+    match digest_hex(digest.as_bytes()) {
+        Some(octets) => election(bytes) == octets,
+        None => false,
+    }
+}
 
 #[test]
 fn a_made_script_has_its_text(rt: HostRuntime) -> Result<(), Fail> {
     let alloc = rt.alloc();
     let mut store = MemoryStore::make(alloc, Vec::new(alloc), Vec::new(alloc));
-    for (words, length) in LENGTHS {
+    for (words, length, digest) in TEXTS {
         let mut out = MemorySink::make(alloc, 1_000_000, Vec::new(alloc));
         let status = answer(alloc, words, &mut store, &mut out)?;
         assert_eq!(rt; status, Status::Done, "{words}");
         assert_eq!(rt; out.bytes().len(), *length, "{words}");
-        if *length == 738 {
+        assert!(rt; is_digest(out.bytes(), digest), "{words}");
+        if *words == "make 1" {
             assert!(rt; out.bytes() == ONE.as_bytes(), "{words}");
         }
     }
