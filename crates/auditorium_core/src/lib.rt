@@ -38,6 +38,8 @@ mod demonstrating_tests;
 #[cfg(test)]
 mod fault_tests;
 #[cfg(test)]
+mod honest_tests;
+#[cfg(test)]
 mod hostile_tests;
 #[cfg(test)]
 mod make_tests;

@@ -109,7 +109,7 @@ fn length_of(store: &MemoryStore, name: &str) -> usize {
 }
 
 /// Scripts with the lengths of the files, the status and the output of their plays.
-const PLAYS: &[(Parts, [usize; 4], Status, &str)] = &[
+pub(super) const PLAYS: &[(Parts, [usize; 4], Status, &str)] = &[
     (
         &[(1, TWO), (1, SESSION), (1, STEPS)],
         [163, 14907, 14907, 0],
