@@ -149,8 +149,8 @@ fn a_failing_put_leaves_the_file_or_a_prefix(rt: HostRuntime) -> Result<(), Fail
     Ok(())
 }
 
-/// Where a read of eight bytes begins in a file of 29, and what it finds: first on from where the last
-/// one ended, up to the end, then back in the middle, and past the end.
+/// Where a read of eight bytes begins in a file of 29, and what it finds: first on from where the
+/// last one ended, up to the end, then back in the middle, and past the end.
 const PARTS: &[(u64, &[u8])] = &[
     (4, &[4, 5, 6, 7, 8, 9, 10, 11]),
     (12, &[12, 13, 14, 15, 16, 17, 18, 19]),
@@ -161,19 +161,29 @@ const PARTS: &[(u64, &[u8])] = &[
     (1_000, &[]),
 ];
 
-/// Whether a file of so many bytes is put, and read back by the system and by the store.
+/// Whether the system's file has these bytes.
+fn has_bytes(rt: &HostRuntime, name: &str, bytes: &[u8]) -> Result<bool, Fail> {
+    Ok(fs::read(rt, name)?.as_slice() == bytes)
+}
+
+/// Whether the store has these bytes as the file.
+fn is_read_back<S: Store>(alloc: Global, store: &mut S, name: &str, bytes: &[u8]) -> bool {
+    match read_file(alloc, store, name, bytes.len()) {
+        Ok(read) => read.as_slice() == bytes,
+        Err(_) => false,
+    }
+}
+
+/// Whether one store puts the bytes as the file and reads them back.
+fn is_put_and_read(rt: &HostRuntime, name: &str, bytes: &[u8]) -> bool {
+    let mut store = FolderStore::make(rt);
+    put_file(&mut store, name, bytes).is_ok() && is_read_back(rt.alloc(), &mut store, name, bytes)
+}
+
+/// Whether a file of so many bytes is put, and read back by the store and by the system.
 fn is_moved(rt: &HostRuntime, name: &str, len: usize) -> Result<bool, Fail> {
     let bytes = distinct_bytes(rt.alloc(), len)?;
-    let mut store = FolderStore::make(rt);
-    if put_file(&mut store, name, bytes.as_slice()).is_err() {
-        return Ok(false);
-    }
-    let of_system = fs::read(rt, name)?;
-    let read = read_file(rt.alloc(), &mut store, name, len);
-    Ok(
-        of_system.as_slice() == bytes.as_slice()
-            && matches!(&read, Ok(read) if read.as_slice() == bytes.as_slice()),
-    )
+    Ok(is_put_and_read(rt, name, bytes.as_slice()) && has_bytes(rt, name, bytes.as_slice())?)
 }
 
 /// Whether a read there finds these bytes.
@@ -183,34 +193,50 @@ fn is_found<R: Files + AllocGlobal>(store: &mut FolderStore<'_, R>, at: u64, wan
     matches!(taken, Ok(Taken::Bytes(count)) if count == want.len()) && into.starts_with(want)
 }
 
+/// Where the first read begins that doesn't find its part.
+fn first_unfound(rt: &HostRuntime) -> Option<u64> {
+    let mut store = FolderStore::make(rt);
+    for &(at, want) in PARTS {
+        if !is_found(&mut store, at, want) {
+            return Some(at);
+        }
+    }
+    None
+}
+
 #[test]
 fn folder_store_moves_the_bytes_of_files(rt: HostRuntime) -> Result<(), Fail> {
     assert!(rt; is_moved(&rt, "outside-test", 70_000)?);
     // A shorter file over a longer one.
     assert!(rt; is_moved(&rt, "outside-test", 29)?);
-    let mut store = FolderStore::make(&rt);
-    for &(at, want) in PARTS {
-        assert!(rt; is_found(&mut store, at, want), "{at}");
-    }
+    assert_eq!(rt; first_unfound(&rt), None);
     fs::remove_file(&rt, "outside-test")?;
     Ok(())
+}
+
+/// Whether the store says that there is no such file.
+fn is_absent(rt: &HostRuntime, name: &str) -> bool {
+    FolderStore::make(rt).read_at(name, 0, &mut [0; 8]) == Ok(Taken::Absent)
+}
+
+/// The line of a failure.
+fn line_of(alloc: Global, failure: Option<&Failure>) -> Result<String, Fail> {
+    match failure {
+        Some(failure) => Ok(format!(in alloc; "{failure}")?),
+        None => Ok(String::new(alloc)),
+    }
 }
 
 /// The line that the store keeps of the last read that failed.
 fn failure_of(rt: &HostRuntime, name: &str) -> Result<String, Fail> {
     let mut store = FolderStore::make(rt);
     let _ = store.read_at(name, 0, &mut [0; 8]);
-    match store.failure() {
-        Some(failure) => Ok(format!(in rt.alloc(); "{failure}")?),
-        None => Ok(String::new(rt.alloc())),
-    }
+    line_of(rt.alloc(), store.failure())
 }
 
 #[test]
 fn folder_store_refuses_by_name(rt: HostRuntime) -> Result<(), Fail> {
-    let mut store = FolderStore::make(&rt);
-    let taken = store.read_at("outside-none", 0, &mut [0; 8]);
-    assert!(rt; matches!(taken, Ok(Taken::Absent)));
+    assert!(rt; is_absent(&rt, "outside-none"));
     let line = failure_of(&rt, ".")?;
     assert!(rt; line.as_str() == "reading . failed: Is a directory (os error 21)");
     Ok(())
@@ -228,9 +254,11 @@ fn is_put(rt: &HostRuntime, name: &str, text: &str) -> bool {
     put_file(&mut FolderStore::make(rt), name, text.as_bytes()).is_ok()
 }
 
-/// Whether the file has this text.
-fn has_text(rt: &HostRuntime, name: &str, text: &str) -> Result<bool, Fail> {
-    Ok(fs::read(rt, name)?.as_slice() == text.as_bytes())
+/// Whether the file has this text, which is then removed.
+fn had_text(rt: &HostRuntime, name: &str, text: &str) -> Result<bool, Fail> {
+    let had = has_bytes(rt, name, text.as_bytes())?;
+    fs::remove_file(rt, name)?;
+    Ok(had)
 }
 
 #[test]
@@ -238,10 +266,8 @@ fn a_link_is_replaced_and_not_followed(rt: HostRuntime) -> Result<(), Fail> {
     assert!(rt; is_put(&rt, "outside-target", "target"));
     symlink(&rt, "outside-target", "outside-link")?;
     assert!(rt; is_put(&rt, "outside-link", "link"));
-    assert!(rt; has_text(&rt, "outside-target", "target")?);
-    assert!(rt; has_text(&rt, "outside-link", "link")?);
-    fs::remove_file(&rt, "outside-link")?;
-    fs::remove_file(&rt, "outside-target")?;
+    assert!(rt; had_text(&rt, "outside-target", "target")?);
+    assert!(rt; had_text(&rt, "outside-link", "link")?);
     Ok(())
 }
 
@@ -251,16 +277,26 @@ fn is_appended<R: Files + AllocGlobal>(store: &mut FolderStore<'_, R>, text: &st
     store.append("outside-both", text.as_bytes()).is_ok()
 }
 
+/// Whether both stores create the file and then each appends to it.
+fn both_append<R: Files + AllocGlobal>(
+    first: &mut FolderStore<'_, R>,
+    second: &mut FolderStore<'_, R>,
+) -> bool {
+    first.create("outside-both").is_ok()
+        && second.create("outside-both").is_ok()
+        && is_appended(first, "first")
+        && is_appended(second, "second")
+}
+
+/// Whether two new stores do so.
+fn is_written_by_two(rt: &HostRuntime) -> bool {
+    both_append(&mut FolderStore::make(rt), &mut FolderStore::make(rt))
+}
+
 #[test]
 fn two_that_write_one_name_never_write_into_one_file(rt: HostRuntime) -> Result<(), Fail> {
-    let mut first = FolderStore::make(&rt);
-    let mut second = FolderStore::make(&rt);
-    assert!(rt; first.create("outside-both").is_ok());
-    assert!(rt; second.create("outside-both").is_ok());
-    assert!(rt; is_appended(&mut first, "first"));
-    assert!(rt; is_appended(&mut second, "second"));
-    assert!(rt; has_text(&rt, "outside-both", "second")?);
-    fs::remove_file(&rt, "outside-both")?;
+    assert!(rt; is_written_by_two(&rt));
+    assert!(rt; had_text(&rt, "outside-both", "second")?);
     Ok(())
 }
 
