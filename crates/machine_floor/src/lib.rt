@@ -8,6 +8,7 @@ mod gathering;
 mod keys;
 mod laws;
 mod making;
+mod news;
 mod running;
 mod station;
 mod work;

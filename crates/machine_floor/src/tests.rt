@@ -45,18 +45,6 @@ fn counts(alloc: Global, floor: &Floor) -> Result<String, AllocError> {
     Ok(text)
 }
 
-/// The last of the stations, which are of these links.
-fn last(links: &Links, all: &mut Vec<Station>) -> Result<Station, Fail>
-    requires { All (λ s. IsOfLinks links.now (made_of s)) all.old.items }
-    ensures of { IfOk result (λ s. IsOfLinks links.now (made_of s)) }
-    ensures rest { IfOk result (λ _. All (λ s. IsOfLinks links.now (made_of s)) all.new.items) }
-{
-    match all.pop() {
-        Some(station) => Ok(station),
-        None => Err(Fail::from("there is a station")),
-    }
-}
-
 /// A turn of the station's hand.
 fn hand<R: Wait>(
     rt: &R,
@@ -70,28 +58,44 @@ fn hand<R: Wait>(
     station.hand_turn(rt, alloc, links)
 }
 
-/// What turns of the first station's hand, and of the second's ear, hand and ear again, answer.
+/// What turns of the first station's hand, and of the second's ear, hand and ear again, answer, and
+/// how many losses there are then.
 fn turns<R: Wait>(
     rt: &R,
     alloc: Global,
     links: &Links,
-    sv: &mut Station,
-    b1: &mut Station,
-) -> [u32; 4]
-    requires sv { IsOfLinks links.now (made_of sv.old) }
-    requires b1 { IsOfLinks links.now (made_of b1.old) }
+    mut sv: Station,
+    mut b1: Station,
+) -> [usize; 5]
+    requires sv { IsOfLinks links.now (made_of sv) }
+    requires b1 { IsOfLinks links.now (made_of b1) }
 {
-    let opened = hand(rt, alloc, links, sv);
+    let opened = hand(rt, alloc, links, &mut sv);
     let heard = b1.ear_turn(rt, links);
-    let acted = hand(rt, alloc, links, b1);
+    let acted = hand(rt, alloc, links, &mut b1);
     let more = b1.ear_turn(rt, links);
-    [count(opened), heard, count(acted), more]
+    let lost = sv.losses().len() + b1.losses().len();
+    [count(opened), heard as usize, count(acted), more as usize, lost]
+}
+
+/// The same of two stations, which are of these links.
+fn turns_of_two<R: Wait>(
+    rt: &R,
+    alloc: Global,
+    links: &Links,
+    mut two: Vec<Station>,
+) -> Option<[usize; 5]>
+    requires { All (λ s. IsOfLinks links.now (made_of s)) two.items }
+{
+    let b1 = two.pop()?;
+    let sv = two.pop()?;
+    Some(turns(rt, alloc, links, sv, b1))
 }
 
 /// How many actions a hand did in a turn, or 2 where memory was refused.
-fn count(did: Result<bool, AllocError>) -> u32 {
+fn count(did: Result<bool, AllocError>) -> usize {
     match did {
-        Ok(did) => u32::from(did),
+        Ok(did) => usize::from(did),
         Err(_) => 2,
     }
 }
@@ -107,14 +111,9 @@ fn first_worker(floor: &Floor, machine: usize) -> Option<u32> {
 #[test]
 fn a_booth_hears_the_opening_and_waits(rt: HostRuntime) -> Result<(), Fail> {
     let script = session(rt.alloc())?;
-    let (mut all, links) = stations(rt.alloc(), &script)?;
-    let mut b1 = last(&links, &mut all)?;
-    let mut sv = last(&links, &mut all)?;
-    assert_eq!(rt;
-        turns(&rt, rt.alloc(), &links, &mut sv, &mut b1),
-        [1, 1, 0, 0]
-    );
-    assert_eq!(rt; sv.losses().len() + b1.losses().len(), 0);
+    let (two, links) = stations(rt.alloc(), &script)?;
+    let answers = turns_of_two(&rt, rt.alloc(), &links, two);
+    assert_eq!(rt; answers, Some([1, 1, 0, 0, 0]));
     Ok(())
 }
 

@@ -4,6 +4,7 @@ ghost use Rattle.std.specs.Prelude.{vec_len};
 ghost use Rattle.machine_floor.specs.Stations.{StationState, IsOfLinks, made_of};
 ghost use Rattle.machine_floor.specs.declared.station.Station.{Station};
 
+use crate::news::News;
 use crate::station::Station;
 use floor_links::Links;
 use hall_outside::Gate;
@@ -21,6 +22,7 @@ fn hand<R: Wait, G: Gate>(
     alloc: Global,
     gate: &G,
     links: &Links,
+    news: &News,
     lock: &LogLock<Station, Station>,
     mut pass: Pass<Station, Station>,
     machine: u32,
@@ -34,21 +36,27 @@ fn hand<R: Wait, G: Gate>(
     ensures brand { result.0.brand ≡ pass.brand }
 {
     for turn in 0..turns {
+        let seen = news.turns();
         gate.pass(machine, false, turn);
         let mut guard = lock.hold(rt, pass);
         let did = guard.value().hand_turn(rt, alloc, links);
         let done = guard.value().machine().left().is_none();
         pass = lock.release(rt, guard);
         if did.is_err() {
+            news.end();
             return (pass, Err(AllocError));
         }
         if done {
+            news.tell();
             break;
         }
         if did == Ok(false) {
-            thread::yield_now();
+            news.wait(rt, seen);
+        } else {
+            news.tell();
         }
     }
+    news.end();
     (pass, Ok(()))
 }
 
@@ -57,6 +65,7 @@ fn ear<R: Wait, G: Gate>(
     rt: &R,
     gate: &G,
     links: &Links,
+    news: &News,
     lock: &LogLock<Station, Station>,
     mut pass: Pass<Station, Station>,
     machine: u32,
@@ -70,14 +79,18 @@ fn ear<R: Wait, G: Gate>(
     ensures brand { result.brand ≡ pass.brand }
 {
     for turn in 0..turns {
+        let seen = news.turns();
         gate.pass(machine, true, turn);
         let mut guard = lock.hold(rt, pass);
         let heard = guard.value().ear_turn(rt, links);
         pass = lock.release(rt, guard);
         if heard == 0 {
-            thread::yield_now();
+            news.wait(rt, seen);
+        } else {
+            news.tell();
         }
     }
+    news.end();
     pass
 }
 
@@ -87,6 +100,7 @@ fn work_station<R: Threads + Wait + Sync, G: Gate + Sync>(
     alloc: Global,
     gate: &G,
     links: &Links,
+    news: &News,
     turns: u32,
     station: Station,
 ) -> Result<Station, Memory>
@@ -104,13 +118,13 @@ fn work_station<R: Threads + Wait + Sync, G: Gate + Sync>(
                 × All (IsOfLinks links.now) first.brand }
             ensures { (result.0.lock ≡ shared.entry.now) × (result.0.number ≡ 0)
                 × (result.0.brand ≡ first.brand) }
-        { hand(rt, alloc, gate, links, shared, first, machine, turns) },
+        { hand(rt, alloc, gate, links, news, shared, first, machine, turns) },
         move ||
             requires { (second.lock ≡ shared.now) × (second.number ≡ 1)
                 × All (IsOfLinks links.now) second.brand }
             ensures { (result.lock ≡ shared.entry.now) × (result.number ≡ 1)
                 × (result.brand ≡ second.brand) }
-        { ear(rt, gate, links, shared, second, machine, turns) },
+        { ear(rt, gate, links, news, shared, second, machine, turns) },
     );
     let station = lock.close(rt, first, second);
     refused?;
@@ -134,13 +148,14 @@ pub fn work_all<R: Threads + Wait + Sync, G: Gate + Sync>(
     ensures made { IfOk result (λ after. (i : ℕ) (d : Station) → i < vec_len stations →
         made_of (slice_index_or after.items i d) ≡ made_of (slice_index_or stations.items i d)) }
 {
+    let news = &News::make(2 * stations.len() as u64);
     let done = thread::map_vec(
         rt,
         stations,
         &|station: Station| -> Result<Station, Memory>
             requires { IsOfLinks links.now (made_of station) × (station.ticks ≡ []) }
             ensures { IfOk result (λ s. made_of s ≡ made_of station) }
-        { work_station(rt, alloc, gate, links, turns, station) },
+        { work_station(rt, alloc, gate, links, news, turns, station) },
     )?;
     let mut after = Vec::new(alloc);
     for station in done {
