@@ -75,7 +75,8 @@ impl News {
         } else {
             self.asleep.fetch_add(1, Ordering::SeqCst);
             let longest = Duration::from_micros(LONGEST);
-            self.turns.park_timeout(rt, (seen & 0xffff_ffff) as u32, longest);
+            self.turns
+                .park_timeout(rt, (seen & 0xffff_ffff) as u32, longest);
             self.asleep.fetch_sub(1, Ordering::SeqCst);
         }
         self.take(rt, seen);

@@ -1,6 +1,6 @@
 //! Runs of a small script in threads, and turns of its stations on one thread. What they come to is
 //! a worked play of the same script.
-ghost use Rattle.std.specs.Prelude.{◌≡◌, All, IfOk};
+ghost use Rattle.std.specs.Prelude.{◌≡◌, All, IfOk, IfSome};
 ghost use Rattle.election_script.specs.Lawful.{IsLawful};
 ghost use Rattle.machine_floor.specs.Stations.{IsOfLinks, made_of};
 
@@ -75,7 +75,22 @@ fn turns<R: Wait>(
     let acted = hand(rt, alloc, links, &mut b1);
     let more = b1.ear_turn(rt, links);
     let lost = sv.losses().len() + b1.losses().len();
-    [count(opened), heard as usize, count(acted), more as usize, lost]
+    [
+        count(opened),
+        heard as usize,
+        count(acted),
+        more as usize,
+        lost,
+    ]
+}
+
+/// The last of the stations, which are of these links.
+fn last(links: &Links, all: &mut Vec<Station>) -> Option<Station>
+    requires { All (λ s. IsOfLinks links.now (made_of s)) all.old.items }
+    ensures of { IfSome result (λ s. IsOfLinks links.now (made_of s)) }
+    ensures rest { All (λ s. IsOfLinks links.now (made_of s)) all.new.items }
+{
+    all.pop()
 }
 
 /// The same of two stations, which are of these links.
@@ -87,8 +102,8 @@ fn turns_of_two<R: Wait>(
 ) -> Option<[usize; 5]>
     requires { All (λ s. IsOfLinks links.now (made_of s)) two.items }
 {
-    let b1 = two.pop()?;
-    let sv = two.pop()?;
+    let b1 = last(links, &mut two)?;
+    let sv = last(links, &mut two)?;
     Some(turns(rt, alloc, links, sv, b1))
 }
 
