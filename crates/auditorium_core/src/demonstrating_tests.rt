@@ -7,7 +7,8 @@ use std::test::Fail;
 
 /// The lines of one session. Its booth's last entry is heard first, so the commitment that it names
 /// is cut away.
-const ONE: &str = "sessions 1\nentries 6\nsurvivors 3\ngaps 1\nkept 18\nbroken 0\nunsettled 4\n";
+pub(super) const ONE: &str =
+    "sessions 1\nentries 6\nsurvivors 3\ngaps 1\nkept 18\nbroken 0\nunsettled 4\n";
 
 /// Those of ten sessions, of which the fifth is the last that is kept.
 const TEN: &str = "sessions 10\nentries 41\nsurvivors 19\ngaps 1\nkept 18\nbroken 0\nunsettled 4\n";

@@ -1,6 +1,7 @@
-//! Files that were made to harm their reader. Each is refused at the first byte that can't stand.
+//! Files that were made to harm their reader. Each is refused at the first byte, or on the first line,
+//! that can't stand.
 use super::*;
-use crate::audit_tests::answer;
+use crate::audit_tests::{answer, play};
 use crate::play_tests::{Parts, joined};
 use hall_outside::{MemorySink, MemoryStore};
 use std::alloc::Global;
@@ -12,154 +13,387 @@ const HEADER: &str = "(3:log1:11:0)";
 const MACHINES: &str = "seed 0102\nkey w4 h5\nlog 64\nlink 64\n\
     machine sv supervisor\nmachine b1 booth\n";
 
-/// Words with the file `x` that they name, the status and the output.
-const HOSTILE: &[(&str, Parts, Status, &str)] = &[
-    // Parentheses: nine begun, a million begun, and with no header.
+/// A booth of a roster, with a key of an unknown type.
+const MACHINE: &str = "(1:a5:booth\
+    56:kkkkkkkkkkkkkkkkkkkkkkkkkkkkkkkkkkkkkkkkkkkkkkkkkkkkkkkk)";
+
+/// A store with a roster's file, and a rule that is always kept.
+fn hall(alloc: Global) -> Result<MemoryStore, Fail> {
+    let mut store = MemoryStore::make(alloc, Vec::new(alloc), Vec::new(alloc));
+    play(alloc, MACHINES, "p", &mut store)?;
+    store.place(alloc, "own", b"(rule A true)")?;
+    Ok(store)
+}
+
+/// The exit status and the output for words that stand in one text, where the file `x` is of these
+/// parts.
+fn told(
+    alloc: Global,
+    words: &str,
+    parts: &[(usize, &str)],
+    store: &mut MemoryStore,
+) -> Result<String, Fail> {
+    let file = joined(alloc, parts)?;
+    store.place(alloc, "x", file.as_bytes())?;
+    let mut out = MemorySink::make(alloc, 1000, Vec::new(alloc));
+    let status = answer(alloc, words, store, &mut out)?;
+    let lines = String::from_utf8_lossy(alloc, out.bytes())?;
+    Ok(format!(in alloc; "{} {lines}", status.exit_status())?)
+}
+
+/// Logs, with how many records are refused, and the lines that say so.
+const LOGS: &[(Parts, usize, &str)] = &[
+    // Parentheses: nine begun, thirty-three, a million, and a million ended.
+    (&[(1, HEADER), (9, "(")], 0, "malformed x 21 TooDeep\n"),
+    (&[(1, HEADER), (33, "(")], 0, "malformed x 21 TooDeep\n"),
     (
-        "gaps x",
-        &[(1, HEADER), (9, "(")],
-        Status::Findings,
-        "malformed x 21 TooDeep\n",
-    ),
-    (
-        "gaps x",
         &[(1, HEADER), (1_000_000, "(")],
-        Status::Findings,
+        0,
         "malformed x 21 TooDeep\n",
     ),
     (
-        "gaps x",
-        &[(1_000_000, "(")],
-        Status::Refused,
-        "refused x 0 Header\n",
+        &[(1, HEADER), (1_000_000, ")")],
+        0,
+        "malformed x 13 NotAToken\n",
     ),
     // Eight may be begun; they may be ended, but not once more.
+    (&[(1, HEADER), (8, "(")], 0, "torn x 13\n"),
     (
-        "gaps x",
-        &[(1, HEADER), (8, "(")],
-        Status::Findings,
-        "torn x 13\n",
-    ),
-    (
-        "gaps x",
         &[(1, HEADER), (8, "("), (8, ")")],
-        Status::Findings,
+        1,
         "refused x 0 WrongShape\n",
     ),
     (
-        "gaps x",
         &[(1, HEADER), (8, "("), (9, ")")],
-        Status::Findings,
+        1,
         "refused x 0 WrongShape\nmalformed x 29 NotAToken\n",
     ),
     (
-        "gaps x",
-        &[(1, HEADER), (1, ")")],
-        Status::Findings,
-        "malformed x 13 NotAToken\n",
-    ),
-    (
-        "gaps x",
         &[(1, HEADER), (3, "()")],
-        Status::Findings,
+        3,
         "refused x 0 WrongShape\nrefused x 1 WrongShape\nrefused x 2 WrongShape\n",
     ),
     // The longest atom and the longest list, and one more.
     (
-        "gaps x",
         &[(1, HEADER), (1, "262144:"), (262_144, "a")],
-        Status::Findings,
+        1,
         "refused x 0 WrongShape\n",
     ),
     (
-        "gaps x",
         &[(1, HEADER), (1, "262145:"), (262_145, "a")],
-        Status::Findings,
+        0,
         "malformed x 18 AtomTooLong\n",
     ),
     (
-        "gaps x",
         &[(1, HEADER), (1, "("), (16_384, "0:"), (1, ")")],
-        Status::Findings,
+        1,
         "refused x 0 WrongShape\n",
     ),
     (
-        "gaps x",
         &[(1, HEADER), (1, "("), (16_385, "0:"), (1, ")")],
-        Status::Findings,
+        0,
+        "malformed x 32782 TooMany\n",
+    ),
+    (
+        &[(1, HEADER), (1, "("), (16_385, "()"), (1, ")")],
+        0,
         "malformed x 32782 TooMany\n",
     ),
     // A length of a thousand digits.
     (
-        "gaps x",
         &[(1, HEADER), (1000, "1"), (1, ":")],
-        Status::Findings,
+        0,
         "malformed x 19 AtomTooLong\n",
     ),
     // Octets that are announced and not there.
+    (&[(1, HEADER), (1, "262144:")], 0, "torn x 13\n"),
+    (&[(1, HEADER), (1, "262144:abc")], 0, "torn x 13\n"),
     (
-        "gaps x",
-        &[(1, HEADER), (1, "262144:")],
-        Status::Findings,
-        "torn x 13\n",
+        &[(1, HEADER), (1, "9999999:abc")],
+        0,
+        "malformed x 18 AtomTooLong\n",
     ),
     (
-        "gaps x",
         &[(1, HEADER), (1, "(4:sent(6:sealed99999:abc))")],
-        Status::Findings,
+        0,
         "torn x 13\n",
     ),
     (
-        "gaps x",
+        &[(1, HEADER), (1, "(4:sent(6:sealed9999999:abc))")],
+        0,
+        "malformed x 34 AtomTooLong\n",
+    ),
+    (
         &[(1, HEADER), (1, "()(4:sent")],
-        Status::Findings,
+        1,
         "refused x 0 WrongShape\ntorn x 15\n",
     ),
-    // Rosters.
+    // Bytes that stand nowhere.
+    (&[(1, HEADER), (1, "\0")], 0, "malformed x 13 NotAToken\n"),
     (
-        "audit x standard x",
-        &[(9, "(")],
-        Status::Refused,
-        "refused x 8 NotCanonical\n",
-    ),
-    (
-        "audit x standard x",
-        &[(1, "(6:roster1:1(99:sv")],
-        Status::Refused,
-        "refused x 18 NotCanonical\n",
-    ),
-    // Scripts.
-    (
-        "play x p",
-        &[(1, MACHINES), (4097, "do sv open\n")],
-        Status::Refused,
-        "refused x 4103 OutOfRange\n",
-    ),
-    (
-        "play x p",
-        &[(100, "(")],
-        Status::Refused,
-        "refused x 1 UnknownWord\n",
-    ),
-    (
-        "play x p",
-        &[(1, "seed "), (1000, "0"), (1, "\n")],
-        Status::Refused,
-        "refused x 1 OutOfRange\n",
+        &[(1, HEADER), (1_000_000, "\n")],
+        0,
+        "malformed x 13 NotAToken\n",
     ),
 ];
 
 #[test]
-fn hostile_files_are_refused_where_they_first_err(rt: HostRuntime) -> Result<(), Fail> {
+fn hostile_logs_are_read_to_their_first_bad_byte(rt: HostRuntime) -> Result<(), Fail> {
     let alloc = rt.alloc();
-    for (words, parts, status, output) in HOSTILE {
-        let mut store = MemoryStore::make(alloc, Vec::new(alloc), Vec::new(alloc));
-        let file = joined(alloc, parts)?;
-        store.place(alloc, "x", file.as_bytes())?;
-        let mut out = MemorySink::make(alloc, 1000, Vec::new(alloc));
-        let answered = answer(alloc, words, &mut store, &mut out)?;
-        assert_eq!(rt; answered, *status, "{output}");
-        assert!(rt; out.bytes() == output.as_bytes(), "{output}");
+    let mut store = hall(alloc)?;
+    for (parts, refused, lines) in LOGS {
+        let gaps = told(alloc, "gaps x", parts, &mut store)?;
+        let want = format!(in alloc; "1 {lines}")?;
+        assert!(rt; gaps.as_str() == want.as_str(), "{gaps}");
+        let report = told(alloc, "audit p.roster own x", parts, &mut store)?;
+        let want = format!(in alloc;
+            "1 log x owner 0 kept 0 refused {refused}\n{lines}entries 0\nkept A\n\
+                verdict findings\n"
+        )?;
+        assert!(rt; report.as_str() == want.as_str(), "{report}");
+    }
+    Ok(())
+}
+
+/// Files that don't begin with a log's header.
+const NO_LOGS: &[Parts] = &[
+    &[],
+    &[(1_000_000, "(")],
+    &[(1_000_000, ")")],
+    &[(1_000_000, "\n")],
+    &[(1, "9999999:abc")],
+    &[(1, "(3:log1:19999999:abc")],
+    &[(1, "(3:log1:1262144:abc")],
+    &[(1, "(3:log1:1"), (16_385, "0:"), (1, ")")],
+    &[(1, "(3:log1:110:4294967296)")],
+];
+
+#[test]
+fn files_without_a_header_are_no_logs(rt: HostRuntime) -> Result<(), Fail> {
+    let alloc = rt.alloc();
+    let mut store = hall(alloc)?;
+    for parts in NO_LOGS {
+        for words in [
+            "gaps x",
+            "audit p.roster own x",
+            "order p.roster sv.0 sv.0 x",
+        ] {
+            let line = told(alloc, words, parts, &mut store)?;
+            assert!(rt; line.as_str() == "5 refused x 0 Header\n", "{line}");
+        }
+    }
+    Ok(())
+}
+
+/// Files of the roster, with the place and the cause of their refusal.
+const ROSTERS: &[(Parts, &str)] = &[
+    (&[], "0 NotCanonical"),
+    (&[(9, "(")], "8 NotCanonical"),
+    (&[(33, "(")], "8 NotCanonical"),
+    (&[(1_000_000, "(")], "8 NotCanonical"),
+    (&[(1_000_000, ")")], "0 NotCanonical"),
+    (&[(1, "\0")], "0 NotCanonical"),
+    // Octets that are announced and not there.
+    (&[(1, "9999999:abc")], "5 NotCanonical"),
+    (&[(1, "262144:abc")], "10 NotCanonical"),
+    (&[(1, "(6:roster1:1(99:sv")], "18 NotCanonical"),
+    (&[(1, "(6:roster1:1(2:sv9999999:")], "22 NotCanonical"),
+    // The longest list, and one more.
+    (
+        &[(1, "(6:roster1:1"), (16_382, "0:"), (1, ")")],
+        "0 WrongShape",
+    ),
+    (
+        &[(1, "(6:roster1:1"), (16_383, "0:"), (1, ")")],
+        "32776 NotCanonical",
+    ),
+    // As many machines as there may be, all with one name, and one more.
+    (
+        &[(1, "(6:roster1:1"), (16, MACHINE), (1, ")")],
+        "0 SameName",
+    ),
+    (
+        &[(1, "(6:roster1:1"), (17, MACHINE), (1, ")")],
+        "0 TooManyMachines",
+    ),
+    (&[(1, "(6:roster1:1)")], "0 NotOneSupervisor"),
+    (&[(1, "(6:roster1:1)(")], "13 NotCanonical"),
+    // The longest file, and one more byte.
+    (&[(4_194_304, "(")], "8 NotCanonical"),
+    (&[(4_194_305, "(")], "0 TooLong"),
+];
+
+#[test]
+fn hostile_rosters_are_refused(rt: HostRuntime) -> Result<(), Fail> {
+    let alloc = rt.alloc();
+    let mut store = hall(alloc)?;
+    for (parts, refusal) in ROSTERS {
+        let want = format!(in alloc; "5 refused x {refusal}\n")?;
+        for words in ["audit x own x", "order x sv.0 sv.0 x"] {
+            let line = told(alloc, words, parts, &mut store)?;
+            assert!(rt; line.as_str() == want.as_str(), "{line}");
+        }
+    }
+    Ok(())
+}
+
+/// Files of rules, with the place and the cause of their refusal.
+const RULES: &[(Parts, &str)] = &[
+    (&[(1_000_000, "(")], "1 Shape"),
+    (&[(1_000_000, ")")], "0 Shape"),
+    (&[(1, "9999999:abc")], "0 Shape"),
+    (&[(1, "(rule A true)\0")], "13 Token"),
+    (&[(1, "(rule "), (1_000_000, "A"), (1, " true)")], "6 Shape"),
+    // The parenthesis of depth 33, and the variable of a fifth quantifier.
+    (
+        &[(1, "(rule A "), (32, "(not "), (1, "true"), (33, ")")],
+        "163 TooDeep",
+    ),
+    (&[(1, "(rule A "), (200_000, "(not ")], "163 TooDeep"),
+    // The formula behind the sixty-fourth.
+    (
+        &[(1, "(rule A (and"), (65, " true"), (1, "))")],
+        "333 Shape",
+    ),
+    (
+        &[(1, "(rule A (or"), (16_385, " true"), (1, "))")],
+        "332 Shape",
+    ),
+    // The longest file, of which the rule is lacking, and one more byte.
+    (&[(4_194_304, " ")], "4194304 Shape"),
+    (&[(4_194_305, " ")], "0 TooLong"),
+];
+
+#[test]
+fn hostile_rules_are_refused(rt: HostRuntime) -> Result<(), Fail> {
+    let alloc = rt.alloc();
+    let mut store = hall(alloc)?;
+    for (parts, refusal) in RULES {
+        let line = told(alloc, "audit p.roster x gone", parts, &mut store)?;
+        let want = format!(in alloc; "5 refused x {refusal}\n")?;
+        assert!(rt; line.as_str() == want.as_str(), "{line}");
+    }
+    Ok(())
+}
+
+/// Scripts, with the line and the cause of their refusal.
+const SCRIPTS: &[(Parts, &str)] = &[
+    (&[(1_000_000, "(")], "1 UnknownWord"),
+    (&[(1_000_000, ")")], "1 UnknownWord"),
+    (&[(1, "9999999:abc")], "1 UnknownWord"),
+    (&[(1, "\0")], "1 NotPlain"),
+    (&[(1, MACHINES), (1, "do sv\0open\n")], "7 NotPlain"),
+    (&[(1, "seed 0102\r\n")], "1 NotPlain"),
+    // Lines of a million bytes and more.
+    (&[(1_000_000, " ")], "1 UnknownWord"),
+    (&[(1, "seed"), (1_000_000, " ")], "1 WrongCount"),
+    (&[(1, "seed "), (1_000_000, "0"), (1, "\n")], "1 OutOfRange"),
+    (&[(1, "seed "), (1_000_001, "0"), (1, "\n")], "1 BadHex"),
+    (
+        &[(1, MACHINES), (1, "do sv "), (1_000_000, "x")],
+        "7 UnknownWord",
+    ),
+    (
+        &[(1, MACHINES), (1, "do sv authorise b1 "), (1_000_000, "9")],
+        "7 BadNumber",
+    ),
+    (&[(1, "#"), (1_000_000, "x")], "2 OutOfOrder"),
+    // One line more than there may be.
+    (&[(1, MACHINES), (4097, "do sv open\n")], "4103 OutOfRange"),
+    (
+        &[
+            (1, MACHINES),
+            (4096, "do sv open\n"),
+            (1, "do b1 activate 1"),
+        ],
+        "4103 OutOfRange",
+    ),
+    (
+        &[(1, MACHINES), (65_537, "lose sv 0 b1\n")],
+        "65543 OutOfRange",
+    ),
+    (
+        &[(1, MACHINES), (131_073, "step act sv\n")],
+        "131079 OutOfRange",
+    ),
+    (
+        &[
+            (1, MACHINES),
+            (
+                1,
+                "machine c booth\nmachine d booth\nmachine e booth\nmachine f booth\n",
+            ),
+            (
+                1,
+                "machine g booth\nmachine h booth\nmachine i booth\nmachine j booth\n",
+            ),
+            (
+                1,
+                "machine k booth\nmachine l booth\nmachine m booth\nmachine n booth\n",
+            ),
+            (1, "machine o booth\nmachine p booth\nmachine q booth\n"),
+        ],
+        "21 OutOfRange",
+    ),
+    // Lines of nothing, up to the longest file, and one more.
+    (&[(1_000_000, "\n")], "1000001 OutOfOrder"),
+    (&[(4_194_304, "\n")], "4194305 OutOfOrder"),
+    (&[(4_194_305, "\n")], "0 TooLong"),
+];
+
+#[test]
+fn hostile_scripts_are_refused(rt: HostRuntime) -> Result<(), Fail> {
+    let alloc = rt.alloc();
+    let mut store = hall(alloc)?;
+    for (parts, refusal) in SCRIPTS {
+        let line = told(alloc, "play x q", parts, &mut store)?;
+        let want = format!(in alloc; "5 refused x {refusal}\n")?;
+        assert!(rt; line.as_str() == want.as_str(), "{line}");
+        assert!(rt; store.file("q.roster").is_none(), "{line}");
+    }
+    Ok(())
+}
+
+/// Words over odd files that aren't refused, with the exit status and the output.
+const ACCEPTED: &[(&str, Parts, &str)] = &[
+    // No newline at the end.
+    (
+        "play x q",
+        &[(1, MACHINES), (1, "do sv open")],
+        "7 machine sv sent 0 held 0\nmachine b1 sent 0 held 0\nundone sv 0 Ready\n",
+    ),
+    // A comment of a million bytes, and as many empty lines.
+    (
+        "play x q",
+        &[
+            (1, "#"),
+            (1_000_000, "\0"),
+            (1, "\n"),
+            (1, MACHINES),
+            (1_000_000, "\n"),
+        ],
+        "0 machine sv sent 0 held 0\nmachine b1 sent 0 held 0\n",
+    ),
+    // Parentheses of depth 32, and sixty-four formulas.
+    (
+        "audit p.roster x gone",
+        &[(1, "(rule A "), (31, "(not "), (1, "true"), (32, ")")],
+        "6 absent gone\n",
+    ),
+    (
+        "audit p.roster x gone",
+        &[(1, "(rule A (and"), (64, " true"), (1, "))")],
+        "6 absent gone\n",
+    ),
+];
+
+#[test]
+fn odd_files_within_the_limits_are_accepted(rt: HostRuntime) -> Result<(), Fail> {
+    let alloc = rt.alloc();
+    let mut store = hall(alloc)?;
+    for (words, parts, want) in ACCEPTED {
+        let lines = told(alloc, words, parts, &mut store)?;
+        assert!(rt; lines.as_str() == *want, "{lines}");
     }
     Ok(())
 }

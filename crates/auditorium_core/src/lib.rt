@@ -42,9 +42,13 @@ mod honest_tests;
 #[cfg(test)]
 mod hostile_tests;
 #[cfg(test)]
+mod limit_tests;
+#[cfg(test)]
 mod make_tests;
 #[cfg(test)]
 mod order_tests;
+#[cfg(test)]
+mod peak_tests;
 #[cfg(test)]
 mod play_tests;
 #[cfg(test)]

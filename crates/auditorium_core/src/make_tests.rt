@@ -8,7 +8,7 @@ use std::alloc::Global;
 use std::test::Fail;
 
 /// The script of a day of one session.
-const ONE: &str = "seed 61756469746f7269756d\n\
+pub(super) const ONE: &str = "seed 61756469746f7269756d\n\
     key w4 h10\n\
     log 6\n\
     link 3\n\

@@ -83,14 +83,13 @@ pub(super) fn joined(alloc: Global, parts: &[(usize, &str)]) -> Result<String, F
     Ok(text)
 }
 
-/// Plays the script over a store of which this write fails.
+/// Plays the script over a store of its own.
 fn play_over(
     alloc: Global,
     script: &str,
-    failing: u64,
     out: &mut MemorySink,
 ) -> Result<(Status, MemoryStore), Fail> {
-    let mut store = MemoryStore::make(alloc, Vec::new(alloc), vec![in alloc; failing]?);
+    let mut store = MemoryStore::make(alloc, Vec::new(alloc), Vec::new(alloc));
     store.place(alloc, "s", script.as_bytes())?;
     let mut words = Vec::new(alloc);
     for word in ["play", "s", "p"] {
@@ -168,7 +167,7 @@ fn a_play_has_its_files_lines_and_status(rt: HostRuntime) -> Result<(), Fail> {
     for (parts, lengths, status, output) in PLAYS {
         let script = joined(alloc, parts)?;
         let mut out = MemorySink::make(alloc, 100, Vec::new(alloc));
-        let (answered, store) = play_over(alloc, script.as_str(), 100, &mut out)?;
+        let (answered, store) = play_over(alloc, script.as_str(), &mut out)?;
         assert_eq!(rt; answered, *status, "{output}");
         assert!(rt; out.bytes() == output.as_bytes(), "{output}");
         let names = ["p.roster", "p.sv.log", "p.b1.log", "p.b2.log"];
@@ -315,48 +314,11 @@ fn what_is_left_has_its_cause(rt: HostRuntime) -> Result<(), Fail> {
     for (parts, status, output) in LEFT {
         let script = joined(alloc, parts)?;
         let mut out = MemorySink::make(alloc, 100, Vec::new(alloc));
-        let (answered, store) = play_over(alloc, script.as_str(), 100, &mut out)?;
+        let (answered, store) = play_over(alloc, script.as_str(), &mut out)?;
         assert_eq!(rt; answered, *status, "{output}");
         assert!(rt; out.bytes() == output.as_bytes(), "{output}");
         let played = length_of(&store, "p.roster") > 0;
         assert!(rt; played == (*status == Status::Undone), "{output}");
-    }
-    Ok(())
-}
-
-/// Writes that fail, counted from 1, with the lengths of the files that are left. Each of three files is
-/// created, and takes its bytes in one piece; the seventh write doesn't come.
-const FAILING: &[(u64, [usize; 3])] = &[
-    (1, [0, 0, 0]),
-    (2, [0, 0, 0]),
-    (3, [163, 0, 0]),
-    (4, [163, 0, 0]),
-    (5, [163, 14907, 0]),
-    (6, [163, 14907, 0]),
-    (7, [163, 14907, 14907]),
-];
-
-#[test]
-fn a_stop_at_a_write_leaves_the_files_before_it(rt: HostRuntime) -> Result<(), Fail> {
-    let alloc = rt.alloc();
-    let script = joined(alloc, &[(1, TWO), (1, SESSION), (1, STEPS)])?;
-    for (failing, lengths) in FAILING {
-        let mut out = MemorySink::make(alloc, 100, Vec::new(alloc));
-        let (answered, store) = play_over(alloc, script.as_str(), *failing, &mut out)?;
-        let is_last = *failing == 7;
-        let status = if is_last {
-            Status::Done
-        } else {
-            Status::WriteFault
-        };
-        assert_eq!(rt; answered, status, "write {failing}");
-        assert!(rt; out.bytes().is_empty() != is_last, "write {failing}");
-        for (name, length) in ["p.roster", "p.sv.log", "p.b1.log"]
-            .iter()
-            .zip(lengths.iter())
-        {
-            assert_eq!(rt; length_of(&store, name), *length, "write {failing}: {name}");
-        }
     }
     Ok(())
 }
