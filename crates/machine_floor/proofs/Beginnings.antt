@@ -31,9 +31,11 @@ use Rattle.machine_floor.proofs.Hands.{some_of}
 
 module _ (script : Script) (m : MachineState) (outs : List (OutView SealedEntry)) (inns : List (InView SealedEntry))
     (is : IsBeginning script m outs inns) (kept : IsMachine m) where
+  -- nothing was sent yet
   none_sent : sent m.events ≡ []
   none_sent = ap sent is.events
 
+  -- where nothing was taken, all holds that is asked of entries that were taken
   nothing_well : (from : ℕ) (taken : List SealedEntry) → taken ≡ [] → IsTakenWell from taken
   nothing_well from taken e =
       subst (IsTakenWell from) (sym e) (record {
@@ -42,6 +44,7 @@ module _ (script : Script) (m : MachineState) (outs : List (OutView SealedEntry)
         dense = λ k d lt. absurd (omega arith);
       })
 
+  -- what is true of every station is true of one that begins
   pub IsStation-begun : IsStation (begun script m outs inns)
   IsStation-begun = record {
     machine = kept;
@@ -68,17 +71,20 @@ outs_new : (row : List LinkView) → map new_out (map out_of row) ≡ map out_of
 outs_new [] = refl
 outs_new (l ∷ row) = ap (λ o. out_of l ∷ o) (outs_new row)
 
+-- and so are those that take
 inns_new : (links : List (List LinkView)) (at : ℕ) (l : LinkView) →
     map new_in (map (λ row. in_of (get_or row at l)) links) ≡ map (λ row. in_of (get_or row at l)) links
 inns_new [] at l = refl
 inns_new (row ∷ links) at l = ap (λ i. in_of (get_or row at l) ∷ i) (inns_new links at l)
 
+-- at the ends made of a row of links nothing was put
 none_put : (row : List LinkView) → All (λ (out : OutView SealedEntry). out.put ≡ []) (map out_of row)
 none_put row k d lt =
     ap (λ (o : OutView SealedEntry). o.put)
     (get_or-map out_of row k (record { queue = d.queue; from = 0; capacity = 0 }) d
     (omega (arith, length-map row out_of)))
 
+-- and at those made of the links to one machine nothing was taken
 none_taken : (links : List (List LinkView)) (at : ℕ) (l : LinkView) →
     All (λ (inn : InView SealedEntry). inn.taken ≡ []) (map (λ row. in_of (get_or row at l)) links)
 none_taken links at l k d lt =
@@ -91,30 +97,39 @@ module _ (script : Script) (lawful : IsLawful script) (links : List (List LinkVi
     (are : AreNewLinks (length script.machines) script.link links outs inns) (at : ℕ) (stop : Option ℕ)
     (m : MachineState)
     (stops : IsStopOf script.stops at stop) (fresh : IsFresh script at stop m) where
+  -- the place is that of one of the script's machines
   pub inside : at < length script.machines
   inside = slice_get_within script.machines at fresh.0 fresh.1
 
+  -- the links from the machine at this place
   row : List LinkView
   row = get_or links at []
 
+  -- one of them, as what a read gives where there is none
   pub l : LinkView
   l = some_of (get_or links at []) at (let s = are.square at inside in let k = inside in omega arith)
 
+  -- the ends that put of the links from it
   abbrev pub the_outs : List (OutView SealedEntry)
   the_outs = map out_of (get_or links at [])
 
+  -- the ends that take of the links to it
   abbrev pub the_inns : List (InView SealedEntry)
   the_inns = map (λ row. in_of (get_or row at l)) links
 
+  -- there is an end that puts for each machine of the script
   outs_count : length the_outs ≡ length script.machines
   outs_count = length-map (get_or links at []) out_of ∙ are.square at inside
 
+  -- and one that takes
   inns_count : length the_inns ≡ length script.machines
   inns_count = length-map links (λ (row : List LinkView). in_of (get_or row at l)) ∙ are.rows
 
+  -- the machine's number is its place
   number : m.config.number ≡ at
   number = ap (λ (x : MachineState). x.config.number) fresh.2
 
+  -- nothing happened to the machine, and these ends lead to and from each machine, with nothing put or taken
   pub beginning : IsBeginning script m the_outs the_inns
   beginning = record {
     log = ap (λ (x : MachineState). x.config.log) fresh.2;
@@ -128,6 +143,7 @@ module _ (script : Script) (lawful : IsLawful script) (links : List (List LinkVi
     taken = none_taken links at l;
   }
 
+  -- the machine's station with these ends
   abbrev pub the_station : StationState
   the_station = begun script m the_outs the_inns
 
@@ -163,9 +179,11 @@ module _ (script : Script) (lawful : IsLawful script) (links : List (List LinkVi
         (subst (P at) (sym (is ∙ ap in_of same)) (refl, refl));
   }
 
+  -- the machine has no events that its brand would leave out
   unmade : m ≡ record m { events = [] }
   unmade = ap (λ (h : List (Event SealedEntry)). record m { events = h }) beginning.events
 
+  -- it is the script's new station at this place
   pub new_station : IsNewStation script links at the_station
   new_station = record {
     stop = stop;

@@ -25,6 +25,7 @@ use Rattle.floor_sweep.proofs.Handed.{stopped_there}
 use Rattle.machine_floor.specs.Stations.{numbered_below, IsOutCause, IsInCause}
 use Rattle.machine_floor.specs.Turns.{cause_of}
 
+-- an end that puts on a link
 abbrev pub End : Type 0
 End = OutView SealedEntry
 

@@ -142,6 +142,7 @@ by_ticks : (place : ℕ) (h : List (Event SealedEntry)) → by_of (ticks_from pl
 by_ticks place [] = refl
 by_ticks place (x ∷ h) = ap (λ l. Some (pass_of x) ∷ l) (by_ticks (place + 1) h)
 
+-- what relates two images of each member relates the lists of the images
 zip_maps : {X A B : Type 0} (R : A → B → Type 0) (f : X → A) (g : X → B) (xs : List X) →
     ((x : X) → Contains xs x → R (f x) (g x)) → AllZip R (map f xs) (map g xs)
 zip_maps R f g [] each = tt
@@ -174,50 +175,65 @@ module _ (script : Script) (links : List (List LinkView)) (ss : List StationStat
   abbrev pub lost : List Loss
   lost = flat_map (λ (s : StationState). s.losses) ss
 
+  -- there is a row of links for each station
   rows : length links ≡ length ss
   rows = new.rows ∙ length-map ss made_of
 
+  -- and a machine
   count : length machines ≡ length ss
   count = length-map ss (λ (s : StationState). s.machine)
 
   -- what is known of the station at a place
   module _ (a : ℕ) (s : StationState) (stands : slice_get ss a ≡ Some s) where
+    -- it keeps what is true of every station
     there : IsStation s
     there = all_at IsStation ss a s all stands
 
+    -- as it was made, it is the script's new station at this place
     made : IsNewStation script links a (made_of s)
     made = new.each a (made_of s) (get-map made_of ss a s stands)
 
+    -- its machine's number is its place
     number_is : s.machine.config.number ≡ a
     number_is = ap (λ (m : MachineState). m.config.number) made.machine.2
 
+    -- its machine's log holds as many events as the script says
     log_is : s.machine.config.log ≡ script.log
     log_is = ap (λ (m : MachineState). m.config.log) made.machine.2
 
+    -- its machine stops where that of the new station does
     stop_is : s.machine.stop ≡ made.stop
     stop_is = ap (λ (m : MachineState). m.stop) made.machine.2
 
+    -- it has an end that puts for each station
     outs_long : length s.outs ≡ length ss
     outs_long = sym (rows_are links s made.ends there) ∙ rows
 
+    -- and one that takes
     inns_long : length s.inns ≡ length ss
     inns_long = there.as_many ∙ outs_long
 
+    -- its machine stands at the same place among the machines
     machine_at : slice_get machines a ≡ Some s.machine
     machine_at = get-map (λ (s : StationState). s.machine) ss a s stands
 
+    -- in the world of the machines, the history at this place is its machine's
     history_at : history (world_of machines) a ≡ s.machine.events
     history_at = ap history_of (get-map machine_of machines a s.machine machine_at)
 
+    -- so what was sent there is what its machine sent
     sent_at : sent (history (world_of machines) a) ≡ sent s.machine.events
     sent_at = ap sent history_at
 
+    -- and so is how many were sent there
     count_at : count_sent machines a ≡ length (sent s.machine.events)
     count_at = ap length sent_at
 
+    -- among all ends that put, its own stand at this place
     outs_at : get_or outs a [] ≡ s.outs
     outs_at = get_or_from_slice_get outs a s.outs [] (get-map (λ (s : StationState). s.outs) ss a s stands)
 
+    -- among all ends that take, its own do too
     inns_at : get_or inns a [] ≡ s.inns
     inns_at = get_or_from_slice_get inns a s.inns [] (get-map (λ (s : StationState). s.inns) ss a s stands)
 
@@ -229,6 +245,7 @@ module _ (script : Script) (links : List (List LinkView)) (ss : List StationStat
       machine = there.machine;
     }
 
+    -- its lines name its entries as all lines of the script do
     named : (number to : ℕ) → is_scripted s.loses a number to ≡ is_scripted script.loses a number to
     named number to =
         ap (λ l. is_scripted l a number to) made.loses ∙ lines_name a script.loses number to
@@ -237,6 +254,7 @@ module _ (script : Script) (links : List (List LinkView)) (ss : List StationStat
     whose : (x : Loss) → Contains s.losses x → IsOfHand s x ⊎ IsOfEar s x
     whose x c = All-contains (λ (loss : Loss). IsOfHand s loss ⊎ IsOfEar s loss) s.losses x there.fits c
 
+    -- what it lost is among all that was lost
     lost_too : (x : Loss) → Contains s.losses x → Contains lost x
     lost_too x c = Contains-flat_map (λ (s : StationState). s.losses) ss s x (member_at ss a s stands) c
 
@@ -279,6 +297,7 @@ module _ (script : Script) (links : List (List LinkView)) (ss : List StationStat
             list_any_of (is_of a k b) lost x.0 (lost_too b t q x.0 x.1) x.2)
       ])
 
+  -- a station has at most 16 ends that put, and there are as many rows of links
   few_rows : (xs : List StationState) → All IsStation xs →
       ((k : ℕ) (s : StationState) → slice_get xs k ≡ Some s → length s.outs ≡ length ss) → length links ≡ length xs →
       length links ≡ length ss → length links ≤ 16
@@ -364,16 +383,25 @@ module _ (script : Script) (links : List (List LinkView)) (ss : List StationStat
 
     -- the entry of a loss of an ear
     record HeardOff (x : Loss) (b : ℕ) (t : StationState) : Type 0 where
+      -- the station that sent it
       pub sender : StationState
+      -- which stands at the place that the loss tells
       pub sends : slice_get ss x.from ≡ Some sender
+      -- the loss was on the way to this hearer
       pub to : x.to ≡ b
+      -- which isn't the sender
       pub apart : x.from ≢ b
+      -- what was taken and not heard
       pub entry : SealedEntry
       pub was_sent : Contains (sent sender.machine.events) entry
+      -- its sender didn't lose it on this way
       pub kept : is_lost sender.losses x.from entry.entry.number b ≡ false
+      -- the loss tells its number
       pub number : entry.entry.number ≡ x.number
+      -- the hearer has this cause not to hear it
       pub cause : IsInCause t.machine entry x.why
 
+    -- each loss of an ear has such an entry
     heard_off : (b : ℕ) (t : StationState) → slice_get ss b ≡ Some t → (x : Loss) → IsOfEar t x → HeardOff x b t
     heard_off b t q x ear =
         let number = number_is b t q in
@@ -395,6 +423,7 @@ module _ (script : Script) (links : List (List LinkView)) (ss : List StationStat
           cause = y.3;
         }
 
+    -- what a machine got of another, and what waits for it, are what the other sent and isn't lost, in order
     balanced : IsBalanced node_of_sealed (length machines) (history (world_of machines)) lost (waits_of waits)
     balanced a b la lb apart =
         let s = element ss a (omega (arith, count)) in
@@ -430,6 +459,7 @@ module _ (script : Script) (links : List (List LinkView)) (ss : List StationStat
           | inr isnt ↦ isnt
         ]
 
+    -- losses of two stations are of different entries, or on different ways
     across : (a b : ℕ) (s t : StationState) → a ≢ b → slice_get ss a ≡ Some s → slice_get ss b ≡ Some t →
         (x y : Loss) → Contains s.losses x → Contains t.losses y → Differ x y
     across a b s t apart p q x y c d =
@@ -446,11 +476,13 @@ module _ (script : Script) (links : List (List LinkView)) (ss : List StationStat
           ]
         ]
 
+    -- so among all that was lost no entry is lost twice on one way
     once : AreOnce lost
     once =
         once_all (λ (s : StationState). s.losses) ss (λ k s p. (there k s p).once)
         (λ k j s t apart p q x y c d. across k j s t apart p q x y c d)
 
+    -- a loss of a hand is of an entry that one machine sent, on its way to another
     on_way_hand : (a : ℕ) (s : StationState) → slice_get ss a ≡ Some s → (x : Loss) → IsOfHand s x → IsOnWay machines x
     on_way_hand a s p x hand =
         let number = number_is a s p in
@@ -464,6 +496,7 @@ module _ (script : Script) (links : List (List LinkView)) (ss : List StationStat
           number = let w = hand.1 in omega arith;
         }
 
+    -- and so is a loss of an ear
     on_way_ear : (b : ℕ) (t : StationState) → slice_get ss b ≡ Some t → (x : Loss) → IsOfEar t x → IsOnWay machines x
     on_way_ear b t q x ear =
         let off = heard_off b t q x ear in
@@ -527,6 +560,7 @@ module _ (script : Script) (links : List (List LinkView)) (ss : List StationStat
         let here = ap length both in
         omega arith
 
+    -- the cause of a loss on a link out is one between the machines of the script
     hand_cause : (a : ℕ) (s : StationState) → slice_get ss a ≡ Some s → (x : Loss) (why : LossWhy) → x.from ≡ a →
         x.to < length ss → x.to ≢ a → IsOutCause s.loses s.link s.outs x why → IsCauseOf script machines lost x why
     hand_cause a s p x Scripted from lb apart cause =
@@ -545,6 +579,7 @@ module _ (script : Script) (links : List (List LinkView)) (ss : List StationStat
     hand_cause a s p x LogFull from lb apart cause = absurd cause
     hand_cause a s p x SameDigest from lb apart cause = absurd cause
 
+    -- and so is the cause for which an entry wasn't heard
     ear_cause : (b : ℕ) (t : StationState) → slice_get ss b ≡ Some t → (x : Loss) (why : LossWhy) →
         (off : HeardOff x b t) → IsInCause t.machine off.entry why → IsCauseOf script machines lost x why
     ear_cause b t q x Scripted off cause = absurd cause
@@ -565,6 +600,7 @@ module _ (script : Script) (links : List (List LinkView)) (ss : List StationStat
       ),
     )
 
+    -- so each loss is of an entry that one machine sent, on its way to another
     only : (x : Loss) → Contains lost x → IsOnWay machines x
     only x c =
         let l = loser x c in
@@ -573,6 +609,7 @@ module _ (script : Script) (links : List (List LinkView)) (ss : List StationStat
           | inr ear ↦ on_way_ear l.0 l.1 l.2 x ear
         ]
 
+    -- and has its cause between the machines of the script
     caused : (x : Loss) → Contains lost x → IsCauseOf script machines lost x x.why
     caused x c =
         let l = loser x c in
@@ -583,6 +620,7 @@ module _ (script : Script) (links : List (List LinkView)) (ss : List StationStat
           | inr ear ↦ (let off = heard_off l.0 l.1 l.2 x ear in ear_cause l.0 l.1 l.2 x x.why off off.cause)
         ]
 
+    -- each entry that was sent and that a line of the script names is lost so
     scripted : AreLostAsScripted script machines lost
     scripted from number to lf lt apart low named_there =
         let s = element ss from (omega (arith, count)) in

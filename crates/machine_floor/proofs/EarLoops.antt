@@ -14,11 +14,16 @@ use Rattle.machine_floor.specs.Turns.{cause_of, IsFate, EarDid, IsLook, HasLooke
 
 -- since the turn began, the station is as it was made and has more ticks of pass 1
 pub record HasHeard (first now : StationState) : Type 0 where
+  -- no look changed what it was made of
   pub made : made_of now ≡ made_of first
+  -- the ticks since then
   pub more : List Tick
+  -- they stand behind those of before
   pub ticks : now.ticks ≡ first.ticks ++ more
+  -- and are all the ear's
   pub passes : All (λ (t : Tick). t.pass ≡ 1) more
 
+-- as the turn begins there is no tick more
 pub heard_none : (first : StationState) → HasHeard first first
 heard_none first = record {
   made = refl;
@@ -27,6 +32,7 @@ heard_none first = record {
   passes = λ k d lt. absurd (omega arith);
 }
 
+-- an entry that is heard adds one tick of pass 1, and one that is lost adds none
 fate_ticks : (first old new : StationState) (x : SealedEntry) (from : ℕ) (cause : Option LossWhy) →
     made_of new ≡ made_of old → IsFate x from cause old new → HasHeard first old → HasHeard first new
 fate_ticks first old new x from None made fate h =
@@ -40,6 +46,7 @@ fate_ticks first old new x from None made fate h =
 fate_ticks first old new x from (Some why) made fate h =
     record { made = made ∙ h.made; more = h.more; ticks = fate.1 ∙ h.ticks; passes = h.passes }
 
+-- a look at one link more keeps this, whether it took an entry or found none
 pub heard_more : (first old new : StationState) (from : ℕ) (took : Bool) → HasHeard first old →
     EarDid from took old new → HasHeard first new
 heard_more first old new from true h did =
@@ -61,6 +68,7 @@ pub one_or_none : (took : Bool) → bool_byte took ≡ cond took 1 0
 one_or_none true = refl
 one_or_none false = refl
 
+-- so it counts at most one
 pub at_most_one : (took : Bool) → bool_byte took ≤ 1
 at_most_one true = omega arith
 at_most_one false = omega arith

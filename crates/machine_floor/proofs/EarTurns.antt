@@ -55,9 +55,11 @@ module _ (old : StationState) (from : ℕ) (end : Inn) (x : SealedEntry) (is : I
   lost_done (heard.Already back) new why e some = e
   lost_done (heard.Full back) new why e some = e
 
+  -- the ends that take, with this one after it took the entry
   inns_are : List Inn
   inns_are = set old.inns from end
 
+  -- at most 4096 entries are sent, and taken from each of 16 machines: so there is room for one loss more
   pub room_for_loss : length old.losses < 131072
   room_for_loss =
       let each : All (λ (i : Inn). length i.taken ≤ 4096) (set old.inns from end) =
@@ -69,11 +71,13 @@ module _ (old : StationState) (from : ℕ) (end : Inn) (x : SealedEntry) (is : I
       let o = is.few in let m = is.as_many in
       omega (arith, length-set old.inns from end)
 
+  -- the ends that take are still those of the same links
   made_inns : map new_in (set old.inns from end) ≡ map new_in old.inns
   made_inns = inns_same old.inns from end (λ d. (queue d, of ∙ sym (same_from d)))
 
   module _ (answer : MachineHeard) (new : MachineState) (answers : IsHeard old.machine x answer) (after : new
       ≡ machine_after answer x old.machine) (kept : IsMachine new) where
+    -- where the entry is heard the log had room for it, and so there is room for its tick
     pub room_for_heard : cause_of answer ≡ None → length old.ticks < old.machine.config.log
     room_for_heard none = let h = heard_done answer new answers after none in let t = ticks_as_many old is in
         let r = h.1 in omega arith
@@ -81,6 +85,7 @@ module _ (old : StationState) (from : ℕ) (end : Inn) (x : SealedEntry) (is : I
     -- heard
     module _ (none : cause_of answer ≡ None) (ticks : List Tick) (ticked : ticks ≡ old.ticks
         ++ record { pass = 1; what = length old.ticks } ∷ []) where
+      -- the station with the machine that heard the entry, and with the ticks
       abbrev pub heard_one : StationState
       heard_one = record {
         machine = new;
@@ -92,9 +97,11 @@ module _ (old : StationState) (from : ℕ) (end : Inn) (x : SealedEntry) (is : I
         ticks = ticks;
       }
 
+      -- the new tick tells the event's place, for there were as many ticks as events
       ticks_are : ticks ≡ old.ticks ++ record { pass = 1; what = length old.machine.events } ∷ []
       ticks_are = ticked ∙ ap (λ n. old.ticks ++ record { pass = 1; what = n } ∷ []) (ticks_as_many old is)
 
+      -- it keeps what is true of every station
       pub station_heard : IsStation heard_one
       station_heard =
           let done = heard_done answer new answers after none in
@@ -113,6 +120,7 @@ module _ (old : StationState) (from : ℕ) (end : Inn) (x : SealedEntry) (is : I
           }) in
           subst (λ m. P m ticks) (sym is_new) (subst (λ t. P (with_event (Got x) old.machine) t) (sym ticks_are) base)
 
+      -- to get there, the ear took the entry and the machine heard it
       pub ear_heard : EarTook from old heard_one
       ear_heard =
           let is_new = (heard_done answer new answers after none).0 in
@@ -133,6 +141,7 @@ module _ (old : StationState) (from : ℕ) (end : Inn) (x : SealedEntry) (is : I
     -- lost
     module _ (why : LossWhy) (some : cause_of answer ≡ Some why) (losses : List Loss) (added : losses ≡ old.losses
         ++ record { from = from; number = x.entry.number; to = old.machine.config.number; why = why } ∷ []) where
+      -- the station with the machine that didn't hear the entry, and with the losses
       abbrev pub lost_one : StationState
       lost_one = record {
         machine = new;
@@ -144,6 +153,7 @@ module _ (old : StationState) (from : ℕ) (end : Inn) (x : SealedEntry) (is : I
         ticks = old.ticks;
       }
 
+      -- it keeps what is true of every station
       pub station_lost : IsStation lost_one
       station_lost =
           let is_new = lost_done answer new why after some in
@@ -161,6 +171,7 @@ module _ (old : StationState) (from : ℕ) (end : Inn) (x : SealedEntry) (is : I
           }) in
           subst (λ m. P m losses) (sym is_new) (subst (λ l. P old.machine l) (sym added) base)
 
+      -- to get there, the ear took the entry and lost it by its cause
       pub ear_lost : EarTook from old lost_one
       ear_lost =
           let is_new = lost_done answer new why after some in
@@ -181,14 +192,21 @@ module _ (old : StationState) (from : ℕ) (end : Inn) (x : SealedEntry) (is : I
 -- what is known where an entry was taken
 pub record Looked (old : StationState) (from : ℕ) (end : Inn) (x : SealedEntry) : Type 0 where
   pub is : IsStation old
+  -- the link is from one of the machines
   pub within : from < length old.inns
+  -- which isn't this station's
   pub other : from ≢ old.machine.config.number
+  -- the end took the entry, and is now as given
   pub took : (d : Inn) → Took (get_or old.inns from d) x end
   pub small : x.entry.number < 4096
+  -- the end carries the entries of that machine
   pub of : end.from ≡ from
+  -- as it did before
   pub same_from : (d : Inn) → (get_or old.inns from d).from ≡ from
+  -- it is still of the same queue
   pub queue : (d : Inn) → end.queue ≡ (get_or old.inns from d).queue
 
+-- all this is known once an end of a link from another machine took an entry of a small number
 pub look : (now old : StationState) (from : ℕ) (link : LinkView) (before end : Inn) (x : SealedEntry) → old ≡ now →
     IsStation old → from < length now.inns → from ≢ now.machine.config.number →
     ((d : Inn) → IsInOf link (get_or now.inns from d)) → link.from ≡ from → before ≡ get_or old.inns from before →
@@ -210,6 +228,7 @@ look now old from link before end x same is within other ends sender read took k
 -- the link was found empty
 module _ (old : StationState) (from : ℕ) (end : Inn) (is : IsStation old) (within : from < length old.inns)
     (empty : (d : Inn) → FoundLinkEmpty (get_or old.inns from d) end) where
+  -- what was taken on each link is as before
   same_taken : (k : ℕ) (d : Inn) → (get_or (set old.inns from end) k d).taken ≡ (get_or old.inns k d).taken
   same_taken k d =
       elim (cases_eq k from) [
@@ -219,6 +238,7 @@ module _ (old : StationState) (from : ℕ) (end : Inn) (is : IsStation old) (wit
         | inr n ↦ ap (λ (i : Inn). i.taken) (get_or-set_other old.inns from k end d n)
       ]
 
+  -- the station with the end that found its link empty
   abbrev pub bare_one : StationState
   bare_one = record {
     machine = old.machine;
@@ -230,6 +250,7 @@ module _ (old : StationState) (from : ℕ) (end : Inn) (is : IsStation old) (wit
     ticks = old.ticks;
   }
 
+  -- it keeps what is true of every station
   pub station_bare : IsStation bare_one
   station_bare = record {
     machine = is.machine;
@@ -266,6 +287,7 @@ module _ (old : StationState) (from : ℕ) (end : Inn) (is : IsStation old) (wit
         let e = ap length (empty end).taken in let f = is.few_losses in omega arith);
   }
 
+  -- to get there, the ear found the link empty and changed nothing else
   pub ear_bare : (queue : (d : Inn) → end.queue ≡ (get_or old.inns from d).queue) (sender : (d : Inn) →
       end.from ≡ (get_or old.inns from d).from) → EarFoundNone from old bare_one
   ear_bare queue sender = record {
@@ -295,6 +317,7 @@ loss_is losses after f n t why from number to a b d e =
     ∙ ap (λ k. losses ++ record { from = from; number = k; to = t; why = why } ∷ []) b
     ∙ ap (λ k. losses ++ record { from = from; number = number; to = k; why = why } ∷ []) d
 
+-- an entry that was taken has the link's sender as maker
 pub maker_of : (old : StationState) (from : ℕ) (end : Inn) (x : SealedEntry) → Looked old from end x →
     x.entry.maker ≡ from
 maker_of old from end x l = (l.took end).from ∙ l.same_from end

@@ -32,20 +32,25 @@ use Rattle.machine_floor.specs.Stations.{ticks_from}
 use Rattle.machine_floor.proofs.Causes.{in_stays}
 use Rattle.machine_floor.proofs.Ticks.{ticks_push}
 
+-- an end that takes from a link
 abbrev pub Inn : Type 0
 Inn = InView SealedEntry
 
+-- the end took the entry, which is its sender's and has a greater number than those before
 abbrev pub Took : Inn → SealedEntry → Inn → Type 0
 Took old x new = TookItem (λ (y : SealedEntry). y.entry.maker) (λ (y : SealedEntry). y.entry.number) old x new
 
+-- what was put behind a list is read at the list's length
 read_last : (xs : List SealedEntry) (x d : SealedEntry) → get_or (xs ++ x ∷ []) (length xs) d ≡ x
 read_last [] x d = refl
 read_last (y ∷ xs) x d = read_last xs x d
 
+-- and so it is at any number that is this length
 last_read : (xs : List SealedEntry) (x : SealedEntry) (j : ℕ) (d : SealedEntry) → j ≡ length xs →
     get_or (xs ++ x ∷ []) j d ≡ x
 last_read xs x j d s = ap (λ n. get_or (xs ++ x ∷ []) n d) s ∙ read_last xs x d
 
+-- where the j-th has a number of at least j, one more that has a greater number than all keeps to this
 above : (n : ℕ) (xs : List SealedEntry) (x : SealedEntry) → n ≡ length xs →
     ((j : ℕ) (d : SealedEntry) → j < length xs → j ≤ (get_or xs j d).entry.number) →
     All (λ (y : SealedEntry). y.entry.number < x.entry.number) xs → (j : ℕ) → j ≡ n → j ≤ x.entry.number
@@ -56,6 +61,7 @@ above (suc n) xs x e dense before j s =
     let b = before n x lt in
     omega arith
 
+-- entries whose numbers are below 4096, and no lower than their places, are at most 4096
 few : (n : ℕ) (taken : List SealedEntry) → n ≡ length taken → (from : ℕ) → IsTakenWell from taken → n ≤ 4096
 few zero taken e from well = omega arith
 few (suc n) [] e from well = omega arith
@@ -92,9 +98,11 @@ module _ (old : StationState) (from : ℕ) (end : Inn) (x : SealedEntry) (is : I
     (within : from < length old.inns) (other : from ≢ old.machine.config.number)
     (took : (d : Inn) → Took (get_or old.inns from d) x end) (small : x.entry.number < 4096) (of : end.from ≡ from)
     (same_from : (d : Inn) → (get_or old.inns from d).from ≡ from) where
+  -- the ends that take, with this one after it took the entry
   abbrev pub inns_after : List Inn
   inns_after = set old.inns from end
 
+  -- all entries taken on a link are still its sender's, and small and dense in number
   pub taken_after : (k : ℕ) (d : Inn) → k < length inns_after → IsTakenWell k (get_or inns_after k d).taken
   taken_after k d lt =
       let inside : k < length old.inns = omega (arith, length-set old.inns from end) in
@@ -147,6 +155,7 @@ module _ (old : StationState) (from : ℕ) (end : Inn) (x : SealedEntry) (is : I
         ]
       ]
 
+  -- the entry's maker is the link's sender
   pub maker_is : x.entry.maker ≡ from
   maker_is = (took end).from ∙ same_from end
 
@@ -158,6 +167,7 @@ module _ (old : StationState) (from : ℕ) (end : Inn) (x : SealedEntry) (is : I
     ticks = old.ticks ++ record { pass = 1; what = length old.machine.events } ∷ [];
   }
 
+  -- where the machine goes on and its log had room, what is true of every station is true after it heard
   pub IsStation-heard : IsMachine (with_event (Got x) old.machine) → IsGoing old.machine →
       length old.machine.events < old.machine.config.log → IsStation after_heard
   IsStation-heard kept goes room =
@@ -218,12 +228,15 @@ module _ (old : StationState) (from : ℕ) (end : Inn) (x : SealedEntry) (is : I
 
   -- the entry was lost
   module _ (why : LossWhy) where
+    -- the loss of the entry on its way to this machine
     abbrev the_loss : Loss
     the_loss = record { from = from; number = x.entry.number; to = old.machine.config.number; why = why }
 
+    -- the station with this loss, and with the end that took the entry
     abbrev pub after_lost : StationState
     after_lost = record old { inns = inns_after; losses = old.losses ++ the_loss ∷ [] }
 
+    -- where the machine has the cause, what is true of every station is true with the loss
     pub IsStation-lost : IsInCause old.machine x why → IsStation after_lost
     IsStation-lost cause =
         let own : ℕ = old.machine.config.number in

@@ -22,10 +22,15 @@ use Rattle.machine_floor.proofs.Beginnings.{beginning, new_station, the_outs, th
 
 pub record AreFirst (script : Script) (links : List (List LinkView)) (outs : List Outs) (inns : List Inns)
     (stations : List StationState) (keys : List Secret) (outs_left : List Outs) (inns_left : List Inns) : Type 0 where
+  -- there are no more of them than machines
   pub within : length stations ≤ length script.machines
+  -- the keys that are left are those of the other machines
   pub rest : map (key_of script) (drop (length stations) script.machines) ≡ keys
+  -- the ends that put are left for these
   pub puts : drop (length stations) outs ≡ outs_left
+  -- and so are the ends that take
   pub takes : drop (length stations) inns ≡ inns_left
+  -- each is the script's new station at its place
   pub each : (at : ℕ) (s : StationState) → slice_get stations at ≡ Some s → IsNewStation script links at s
 
 module _ (script : Script) (links : List (List LinkView)) (outs : List Outs) (inns : List Inns)
@@ -38,6 +43,7 @@ module _ (script : Script) (links : List (List LinkView)) (outs : List Outs) (in
       let r = rest_step (key_of script) script.machines (length stations) key more (first.rest ∙ next) in
       (r.0, ap (slice_get script.machines) here ∙ r.1, r.2)
 
+  -- so there is such a machine
   pub next_within : at < length script.machines
   next_within = slice_get_within script.machines at next_key.0 next_key.1
 
@@ -48,6 +54,7 @@ module _ (script : Script) (links : List (List LinkView)) (outs : List Outs) (in
         let past = drop_none outs (length stations) (first.puts ∙ none) in
         let w = next_within in let c = are.puts_count in omega arith
 
+    -- ends that take are left for it too
     pub inns_there : inns_left ≡ [] → ⊥
     inns_there none =
         let past = drop_none inns (length stations) (first.takes ∙ none) in
@@ -57,11 +64,13 @@ module _ (script : Script) (links : List (List LinkView)) (outs : List Outs) (in
         (out_next : outs_left ≡ out ∷ outs_more) (inn_next : inns_left ≡ inn ∷ inns_more)
         (stop : Option ℕ) (m : MachineState) (stops : IsStopOf script.stops at stop) (fresh : IsFresh script at stop m)
       where
+        -- the next ends that put are those of the links from its machine
         out_is : out ≡ the_outs script lawful links outs inns are at stop m stops fresh
         out_is = sym ((drop_step outs (length stations) out outs_more (first.puts ∙ out_next)).0 [])
             ∙ ap (λ n. get_or outs n []) (sym here)
             ∙ are.puts at [] (inside script lawful links outs inns are at stop m stops fresh)
 
+        -- the next ends that take are those of the links to its machine
         inn_is : inn ≡ the_inns script lawful links outs inns are at stop m stops fresh
         inn_is = sym ((drop_step inns (length stations) inn inns_more (first.takes ∙ inn_next)).0 [])
             ∙ ap (λ n. get_or inns n []) (sym here)
@@ -75,6 +84,7 @@ module _ (script : Script) (links : List (List LinkView)) (outs : List Outs) (in
             (subst (λ i. IsBeginning script m (the_outs script lawful links outs inns are at stop m stops fresh) i)
             (sym inn_is) (beginning script lawful links outs inns are at stop m stops fresh))
 
+        -- the station that begins with these ends is the script's new one at its place
         begins : IsNewStation script links at (begun script m out inn)
         begins =
             subst (λ o. IsNewStation script links at (begun script m o inn)) (sym out_is)
@@ -131,6 +141,7 @@ all_new script links outs inns stations [] outs_left inns_left first none rows =
   each = first.each;
 }
 
+-- within a list, what is read at a place stands there
 there_at : {X : Type 0} (xs : List X) (k : ℕ) (d : X) → k < length xs → slice_get xs k ≡ Some (get_or xs k d)
 there_at [] k d lt = absurd (omega arith)
 there_at (x ∷ xs) zero d lt = refl

@@ -18,6 +18,7 @@ use Rattle.floor_links.proofs.Ends.{none_of}
 use Rattle.machine_floor.specs.Stations.{StationState, IsStation}
 use Rattle.floor_losses.proofs.Numbers.{rising_sent}
 
+-- each entry has a lower number than those behind it
 abbrev Rising : List SealedEntry → Type 0
 Rising es = AllPairs (λ (x y : SealedEntry). x.entry.number < y.entry.number) es
 

@@ -43,6 +43,7 @@ module _ (old : StationState) (e : SealedEntry) (outs : List (OutView SealedEntr
     (kept : IsMachine (with_event (Sent e) old.machine))
     (goes : IsGoing old.machine) (room : length old.machine.events < old.machine.config.log)
   where
+    -- the station with the entry sent, with what was put on the links out and what was lost there
     abbrev pub after_hand : StationState
     after_hand = record {
       machine = with_event (Sent e) old.machine;
@@ -54,6 +55,7 @@ module _ (old : StationState) (e : SealedEntry) (outs : List (OutView SealedEntr
       ticks = old.ticks ++ record { pass = 0; what = length old.machine.events } ∷ [];
     }
 
+    -- one of the ends that put, as what a read gives where there is none
     some : End
     some = some_of old.outs old.machine.config.number is.place
 
@@ -86,6 +88,7 @@ module _ (old : StationState) (e : SealedEntry) (outs : List (OutView SealedEntr
         (get_or old.outs one.to d) (get_or outs one.to d) lost sends.rising one (Contains-get_or lost j loss below)
         l.0 l.1 refl (sends.done one.to d l.2 l.3)
 
+    -- what is true of every station is true after the sending
     pub IsStation-hand : IsStation after_hand
     IsStation-hand =
         let own : ℕ = old.machine.config.number in

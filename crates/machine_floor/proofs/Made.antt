@@ -8,6 +8,7 @@ use Rattle.floor_losses.specs.declared.loss.Loss.{Loss}
 use Rattle.log_lock.specs.declared.story.Tick.{Tick}
 use Rattle.machine_floor.specs.Stations.{StationState, new_out, new_in, made_of}
 
+-- two ends that put, of one queue and one sender, were the same before anything was put
 new_out_same : (a b : OutView SealedEntry) → a.queue ≡ b.queue → a.from ≡ b.from → new_out a ≡ new_out b
 new_out_same a b q f =
     ap (λ k. record { queue = k; from = a.from; put = []; seen_taken = 0; fulls = 0 }) q
@@ -26,6 +27,7 @@ outs_same (x ∷ outs) (y ∷ new) len same =
     let rest = outs_same outs new (omega arith) (λ k d lt. same (suc k) d (omega arith)) in
     ap (λ e. e ∷ map new_out new) (new_out_same y x first.0 first.1) ∙ ap (λ l. new_out x ∷ l) rest
 
+-- two ends that take, of one queue and one sender, were the same before anything was taken
 new_in_same : (a b : InView SealedEntry) → a.queue ≡ b.queue → a.from ≡ b.from → new_in a ≡ new_in b
 new_in_same a b q f =
     ap (λ k. record { queue = k; from = a.from; taken = []; seen_put = 0; bares = 0 }) q

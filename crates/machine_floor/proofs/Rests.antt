@@ -17,6 +17,7 @@ use Rattle.machine_floor.specs.inside.Gathering.{waiting, out_at, in_at, AreMade
 use Rattle.machine_floor.specs.inside.Gathering.{IsRest, ArePopped, IsRowOfEnds, IsRowFinished}
 use Rattle.machine_floor.proofs.Drops.{drop_step, drop_none}
 
+-- it waits on a way between two different machines, each of a number below `count`
 abbrev OnWay : ℕ → Waiting → Type 0
 OnWay count w = (w.entry.entry.maker < count) × (w.to < count) × (w.entry.entry.maker ≢ w.to)
 
@@ -124,15 +125,24 @@ popped_at vs at v w x lt is last =
 -- the links to the machines below `to` are finished, and the others are left
 pub record IsRowing (from to : ℕ) (row0 : List LinkView) (outs0 : Outs) (inns0 : List Inns) (before : List Waiting)
     (row : List LinkView) (outs : Outs) (inns : List Inns) (waits : List Waiting) : Type 0 where
+  -- the links to the machines from `to` on are left
   pub row_left : drop to row0 ≡ row
+  -- and their ends that put
   pub outs_left : drop to outs0 ≡ outs
+  -- there are still as many lists of ends that take
   pub count : length inns ≡ length inns0
+  -- the last end of each machine below `to` was taken out of its list
   pub popped : (b : ℕ) → b < to → (inn : InView SealedEntry) × (get_or inns0 b [] ≡ get_or inns b [] ++ inn ∷ [])
+  -- the lists of the others are as they were
   pub left : (b : ℕ) → to ≤ b → get_or inns b [] ≡ get_or inns0 b []
+  -- what a machine below `to` didn't take is added to what waits for it
   pub rest : (b : ℕ) (d : OutView SealedEntry) (e : InView SealedEntry) → b < to → from ≢ b →
       IsAdded from b (get_or outs0 b d).put (in_at inns0 from b e).taken before waits
+  -- for the others nothing more waits from this sender
   pub same : (b : ℕ) → to ≤ b → waits_of waits from b ≡ waits_of before from b
+  -- what waits from other senders is as it was
   pub others : (a b : ℕ) → a ≢ from → waits_of waits a b ≡ waits_of before a b
+  -- all that waits stays on its way between two of the machines
   pub on_way : AreOnWay (length inns0) before → AreOnWay (length inns0) waits
 
 -- before the first
@@ -160,6 +170,7 @@ module _ (from to : ℕ) (row0 : List LinkView) (outs0 : Outs) (inns0 : List Inn
       let past = drop_none row0 to (is.row_left ∙ none_in row none) in
       let n = ends.links_row in absurd (omega arith)
 
+  -- an end that puts is left for the link
   pub out_there : length outs ≡ 0 → ⊥
   out_there none =
       let past = drop_none outs0 to (is.outs_left ∙ none_in outs none) in
@@ -172,12 +183,15 @@ module _ (from to : ℕ) (row0 : List LinkView) (outs0 : Outs) (inns0 : List Inn
   module _ (link : LinkView) (more : List LinkView) (out : OutView SealedEntry) (outs_more : Outs)
       (inn : InView SealedEntry) (inns_now : List Inns) (link_next : row ≡ link ∷ more)
       (out_next : outs ≡ out ∷ outs_more) (pops : ArePopped to inn inns inns_now) where
+    -- the next link of the row leads to machine `to`
     link_is : (l : LinkView) → get_or row0 to l ≡ link
     link_is = (drop_step row0 to link more (is.row_left ∙ link_next)).0
 
+    -- the next end that puts is that of the link
     out_is : (d : OutView SealedEntry) → get_or outs0 to d ≡ out
     out_is = (drop_step outs0 to out outs_more (is.outs_left ∙ out_next)).0
 
+    -- the ends of machine `to` that take were those that are left, and the one that was popped behind them
     front : get_or inns0 to [] ≡ get_or inns_now to [] ++ inn ∷ []
     front = sym (is.left to (omega arith)) ∙ pops.here
 
@@ -189,14 +203,17 @@ module _ (from to : ℕ) (row0 : List LinkView) (outs0 : Outs) (inns0 : List Inn
         ap (λ (i : Inns). get_or i from e) front
         ∙ last_of (get_or inns_now to []) inn e from (omega arith)
 
+    -- the end that puts is the link's
     pub out_fits : IsOutOf link out
     out_fits = subst (λ l. IsOutOf l out) (link_is link)
         (subst (IsOutOf (get_or row0 to link)) (out_is out) (ends.puts to link out inside))
 
+    -- and so is the one that takes
     pub inn_fits : IsInOf link inn
     inn_fits = subst (λ l. IsInOf l inn) (link_is link)
         (subst (IsInOf (get_or row0 to link)) (inn_is inn) (ends.takes to link inn inside))
 
+    -- what was put on a link to another machine is the sender's
     pub made_there : from ≢ to → AreMadeBy from out.put
     made_there differs =
         subst (λ (o : OutView SealedEntry). AreMadeBy from o.put) (out_is out) (ends.makers to out inside differs)
@@ -266,17 +283,27 @@ rowing_all from to row0 outs0 inns0 before row outs inns waits is ends end = rec
 -- the links of the last senders are finished, and those of the others are left
 pub record IsFinishing (links0 : List (List LinkView)) (outs0 : List Outs) (inns0 : List Inns)
     (rows : List (List LinkView)) (outs : List Outs) (inns : List Inns) (waits : List Waiting) : Type 0 where
+  -- no more rows are left than there were
   pub within : length rows ≤ length links0
+  -- the rows that are left are the first of them
   pub rows_left : (a : ℕ) → a < length rows → get_or rows a [] ≡ get_or links0 a []
+  -- as many lists of ends that put are left
   pub as_many : length outs ≡ length rows
+  -- which are the first of them too
   pub outs_left : (a : ℕ) → a < length rows → get_or outs a [] ≡ get_or outs0 a []
+  -- each machine has a list of ends that take
   pub count : length inns ≡ length links0
+  -- with an end for each sender whose row is left
   pub inns_row : (b : ℕ) → b < length links0 → length (get_or inns b []) ≡ length rows
+  -- the ends that take from those senders are as they were
   pub inns_left : (a b : ℕ) (e : InView SealedEntry) → a < length rows → b < length links0 →
       in_at inns a b e ≡ in_at inns0 a b e
+  -- all that waits is on its way between two of the machines
   pub on_way : AreOnWay (length links0) waits
+  -- from a sender whose row is finished, what was put is what was taken and what waits
   pub rest : (a b : ℕ) (d : OutView SealedEntry) (e : InView SealedEntry) → length rows ≤ a → a < length links0 →
       b < length links0 → a ≢ b → (out_at outs0 a b d).put ≡ (in_at inns0 a b e).taken ++ waits_of waits a b
+  -- from the other senders nothing waits yet
   pub none : (a b : ℕ) → a < length rows → waits_of waits a b ≡ []
 
 -- before the first
@@ -299,6 +326,7 @@ module _ (links0 : List (List LinkView)) (outs0 : List Outs) (inns0 : List Inns)
     (outs : List Outs) (inns : List Inns) (waits : List Waiting) (ends : AreEndsOf links0 outs0 inns0)
     (is : IsFinishing links0 outs0 inns0 rows outs inns waits) (more : List (List LinkView)) (row : List LinkView)
     (row_last : rows ≡ more ++ row ∷ []) where
+  -- there is one row more than those before the last
   one_less : length rows ≡ length more + 1
   one_less = ap length row_last ∙ length-append more (row ∷ [])
 
@@ -307,21 +335,26 @@ module _ (links0 : List (List LinkView)) (outs0 : List Outs) (inns0 : List Inns)
   ends_there none = let n = is.as_many in let l = one_less in absurd (omega arith)
 
   module _ (outs_more : List Outs) (puts : Outs) (outs_last : outs ≡ outs_more ++ puts ∷ []) where
+    -- there is one list of ends that put more than those before the last
     outs_less : length outs ≡ length outs_more + 1
     outs_less = ap length outs_last ∙ length-append outs_more (puts ∷ [])
 
+    -- so before the last there are as many of these lists as rows
     as_many : length outs_more ≡ length more
     as_many = let a = is.as_many in let b = one_less in let c = outs_less in omega arith
 
+    -- the last row stands at the place of a sender
     place : length more < length links0
     place = let w = is.within in let l = one_less in omega arith
 
+    -- it has that sender's links
     row_is : get_or links0 (length more) [] ≡ row
     row_is =
         sym (is.rows_left (length more) (let l = one_less in omega arith))
         ∙ ap (λ (r : List (List LinkView)). get_or r (length more) []) row_last
         ∙ last_of more row [] (length more) refl
 
+    -- and the last list of ends that put is that sender's
     puts_are : get_or outs0 (length more) [] ≡ puts
     puts_are =
         sym (is.outs_left (length more) (let l = one_less in omega arith))

@@ -14,6 +14,7 @@ ticks_push place (y ∷ h) x =
     (ticks_push (place + 1) h x
     ∙ ap (λ n. ticks_from (place + 1) h ++ record { pass = pass_of x; what = n } ∷ []) (omega arith))
 
+-- there are as many ticks as events
 pub length_ticks : (place : ℕ) (h : List (Event SealedEntry)) → length (ticks_from place h) ≡ length h
 length_ticks place [] = refl
 length_ticks place (y ∷ h) = ap suc (length_ticks (place + 1) h)

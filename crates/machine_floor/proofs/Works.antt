@@ -15,10 +15,14 @@ use Rattle.machine_floor.specs.Turns.{HandDid}
 
 -- the story grew by ticks of this pass
 pub record HasGrown (pass : ℕ) (old new : List Tick) : Type 0 where
+  -- the ticks that came since
   pub more : List Tick
+  -- they stand behind those of before
   pub ticks : new ≡ old ++ more
+  -- and are all of this pass
   pub passes : All (λ (t : Tick). t.pass ≡ pass) more
 
+-- what didn't change grew by no tick
 pub grown_none : (pass : ℕ) (old new : List Tick) → new ≡ old → HasGrown pass old new
 grown_none pass old new is = record {
   more = [];
@@ -45,12 +49,15 @@ hand_grown (Err e) old new did none err = grown_none 0 old.ticks new.ticks (ap (
 
 module _ (pass number : ℕ) (held old new now : List Tick) (grown : HasGrown pass old new) (was : old ≡ held) (is : now
     ≡ new) (same : number ≡ pass) where
+  -- the story now is the one that was held and the ticks since
   split : now ≡ held ++ grown.more
   split = is ∙ grown.ticks ∙ ap (λ l. l ++ grown.more) was
 
+  -- so it begins with the one that was held
   pub grows : IsPrefix held now
   grows = (grown.more, sym split)
 
+  -- and all ticks since are of the worker's pass
   pub own_ticks : All (λ (t : Tick). t.pass ≡ number) (ticks_since held now)
   own_ticks =
       subst (All (λ (t : Tick). t.pass ≡ number)) (sym (front_rest now held grown.more split))
