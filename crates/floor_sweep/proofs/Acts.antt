@@ -61,9 +61,11 @@ waits_none at e c d differs =
     ap (λ b. cond b (e ∷ []) []) (and_left (c == at) (nat_le 0 d) (ne_eqb c at differs))
 
 module _ (ms : List MachineState) (at : ℕ) (m : MachineState) (e : SealedEntry) (stood : slice_get ms at ≡ Some m) where
+  -- the machines once this one sent the entry
   abbrev after : List MachineState
   after = slice_set ms at (with_event (Sent e) m)
 
+  -- it sent one entry more
   count_here : count_sent after at ≡ count_sent ms at + 1
   count_here =
       let a = ap (λ h. length (sent h)) (history_set ms at m (with_event (Sent e) m) stood) in
@@ -71,6 +73,7 @@ module _ (ms : List MachineState) (at : ℕ) (m : MachineState) (e : SealedEntry
       let k = sent_one_more m.events e in
       omega arith
 
+  -- and each other as many as before
   count_there : (c : ℕ) → c ≢ at → count_sent after c ≡ count_sent ms c
   count_there c differs = ap (λ h. length (sent h)) (history_others ms at c (with_event (Sent e) m) differs)
 
@@ -78,9 +81,11 @@ module _ (loses : List Lose) (old : List MachineState) (before : List Loss) (ms 
     (losses : List Loss) (is : IsSwept loses old before no_waits ms losses) (at : ℕ) (m : MachineState)
     (stood : slice_get ms at ≡ Some m) (receivers number : ℕ) (copies : List SealedEntry) (new : MachineState)
     (done : IsDone m receivers number copies new) where
+  -- the entry that the machine sent
   abbrev e : SealedEntry
   e = done.entry
 
+  -- it may follow in the machine's history
   abbrev follows : MayFollow node_of_sealed m.config.number m.events (Sent e)
   follows = may_follow m.config m.events e done.may
 
@@ -150,18 +155,22 @@ module _ (ms : List MachineState) (at : ℕ) (m : MachineState) (stood : slice_g
   pub maker_at : done.entry.entry.maker ≡ at
   maker_at = (may_follow m.config m.events done.entry done.may).1.maker ∙ numbers at m stood
 
+  -- and so is the maker of each copy
   pub copies_makers : All (λ (x : SealedEntry). x.entry.maker ≡ at) copies
   copies_makers =
       subst (All (λ (x : SealedEntry). x.entry.maker ≡ at)) (sym done.copied)
       (All-replicate (λ (x : SealedEntry). x.entry.maker ≡ at) receivers done.entry maker_at)
 
+  -- there is a copy for each receiver
   pub copies_many : length copies ≡ receivers
   copies_many = ap length done.copied ∙ length-replicate receivers done.entry
 
+  -- each machine still has its place as its number
   pub sent_numbered : AreNumbered (slice_set ms at new)
   sent_numbered =
       numbered_set ms at m new stood (ap (λ (u : MachineState). u.config) done.changed) numbers
 
+  -- and fewer actions are left
   pub sent_left : actions_left (slice_set ms at new) < actions_left ms
   sent_left =
       let same = ap (λ (u : MachineState). actions_left (slice_set ms at u)) done.changed in

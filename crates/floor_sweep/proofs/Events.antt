@@ -68,6 +68,7 @@ makers_event ms at m x stood new had place n e is c =
 
 module _ (ms : List MachineState) (at : ℕ) (m : MachineState) (x : Event SealedEntry)
     (stood : slice_get ms at ≡ Some m) (going : IsGoing m) (room : length m.events < m.config.log) where
+  -- the machines once this one has the event
   abbrev after : List MachineState
   after = slice_set ms at (with_event x m)
 
@@ -114,6 +115,7 @@ module _ (ms : List MachineState) (at : ℕ) (m : MachineState) (x : Event Seale
       (sym (ap sent more.1 ∙ sent-append (history (world_of ms) k) more.0))
       (Contains-append_left (sent (history (world_of ms) k)) (sent more.0) e c)
 
+  -- so no machine has sent fewer entries
   pub count_event : (k : ℕ) → count_sent ms k ≤ count_sent after k
   count_event k =
       let more = history_more ms at m x stood k in
@@ -121,6 +123,7 @@ module _ (ms : List MachineState) (at : ℕ) (m : MachineState) (x : Event Seale
       let l = length-append (sent (history (world_of ms) k)) (sent more.0) in
       omega arith
 
+  -- and what was lost is still of entries that were sent
   pub of_sent_event : (losses : List Loss) → AreOfSent ms losses → AreOfSent after losses
   of_sent_event losses of =
       All-weaker (λ (l : Loss). l.number < count_sent ms l.from) (λ (l : Loss). l.number < count_sent after l.from)
@@ -130,6 +133,7 @@ module _ (ms : List MachineState) (at : ℕ) (m : MachineState) (x : Event Seale
   there : (k : ℕ) (n : MachineState) → slice_get ms k ≡ Some n → k ≢ at → slice_get after k ≡ Some n
   there k n is differs = get_others ms at k (with_event x m) differs ∙ is
 
+  -- where one machine bore the digest of an entry with this number, so does one that bears all that the first did
   same_event : (from number : ℕ) (n u : MachineState) →
       ((d : List ℕ) → IsBorneIn node_of_sealed (held n.events) d → IsBorneIn node_of_sealed (held u.events) d) →
       HoldsSame ms from number n → HoldsSame after from number u

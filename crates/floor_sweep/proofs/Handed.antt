@@ -54,6 +54,7 @@ neither : (a b : Bool) → (a || b) ≡ false → (a ≡ false) × (b ≡ false)
 neither true b none = cc
 neither false b none = (refl, none)
 
+-- where an entry isn't lost on a way, none of the losses is of it there
 none_of : (losses : List Loss) (from number to i : ℕ) (d : Loss) → is_lost losses from number to ≡ false →
     i < length losses → is_of from number to (get_or losses i d) ≡ false
 none_of [] from number to i d none lt = absurd (omega arith)
@@ -70,15 +71,18 @@ once_push losses l once none =
     once_append losses (l ∷ []) once (λ i j d lt within. absurd (omega arith))
     (λ i j d lt within. across i j d lt (omega arith))
   where
+    -- none of the losses before is of the new one's entry on its way
     across : (i j : ℕ) (d : Loss) → i < length losses → j ≡ 0 → Differ (get_or losses i d) (get_or (l ∷ []) j d)
     across i j d lt is =
         subst (λ n. Differ (get_or losses i d) (get_or (l ∷ []) n d)) (sym is)
         (differ_sym l (get_or losses i d) (none_of losses l.from l.number l.to i d none lt))
 
+-- a machine that reached its stop and isn't past it is there
 stop_at : (stop : Option ℕ) (n : ℕ) → is_reached stop n ≡ true → IsWithinStop stop n → stop ≡ Some n
 stop_at None n reached within = absurd (true≢false (sym reached))
 stop_at (Some k) n reached within = ap (λ i. Some i) (let l = leb-true k n reached in omega arith)
 
+-- what has stopped without a mark has reached its stop
 unmarked : (marked reached : Bool) → marked ≡ false → (marked || reached) ≡ true → reached ≡ true
 unmarked marked reached is has = sym (ap (λ b. b || reached) is) ∙ has
 
@@ -98,6 +102,7 @@ module _ (ms : List MachineState) (placed : ArePlaced ms) where
       let P : ℕ → List (Event SealedEntry) → Type 0 = λ n h. IsLegal node_of_sealed n h in
       subst (P k) (sym (history_there ms k m.0 m.1)) (subst (λ n. P n m.0.events) at.number at.machine.legal)
 
+  -- and its number is its place
   pub numbered : AreNumbered ms
   numbered place m is = (placed place m is).number
 
@@ -118,6 +123,7 @@ module _ (loses : List Lose) (old : List MachineState) (before : List Loss) (wai
     (to : ℕ) (e : SealedEntry) (lf : e.entry.maker < length ms) (lt : to < length ms) (apart : e.entry.maker ≢ to)
     (waiting : waits e.entry.maker to ≡ e ∷ later e.entry.maker to)
     (others : (c d : ℕ) → ((c ≡ e.entry.maker) × (d ≡ to) → ⊥) → later c d ≡ waits c d) where
+  -- the entry's maker
   abbrev from : ℕ
   from = e.entry.maker
 
@@ -194,6 +200,7 @@ module _ (loses : List Lose) (old : List MachineState) (before : List Loss) (wai
             ];
       }
 
+  -- the loss of the entry on its way, by a cause
   abbrev loss_by : LossWhy → Loss
   loss_by why = record { from = from; number = e.entry.number; to = to; why = why }
 
@@ -240,6 +247,7 @@ module _ (loses : List Lose) (old : List MachineState) (before : List Loss) (wai
             ];
       }
     where
+      -- where a line of the script names the entry, the loss that it asks for is the new one
       this_loss : (c number d : ℕ) → c ≡ from → number ≡ e.entry.number → d ≡ to → why ≡ Scripted →
           Contains (loss_by why ∷ []) (record { from = c; number = number; to = d; why = Scripted })
       this_loss c number d s t u v =
@@ -256,12 +264,15 @@ module _ (loses : List Lose) (old : List MachineState) (before : List Loss) (wai
   swept_handed new more hands =
       by hands.cause hands.fate hands.losses
     where
+      -- the machine that is handed the entry
       m : MachineState
       m = hands.machine
 
+      -- where it is as it was, so are all
       placed : (n : MachineState) → n ≡ m → new ≡ slice_set ms to n → new ≡ ms
       placed n same changed = changed ∙ ap (slice_set ms to) same ∙ set_same ms to m hands.stood
 
+      -- where it is as it was, and there is a cause, the entry is lost by this cause
       stays : (why : LossWhy) → hands.then_machine ≡ m → IsCause loses ms (loss_by why) why →
           (is_scripted loses from e.entry.number to ≡ true → why ≡ Scripted) →
           more ≡ losses ++ loss_by why ∷ [] → IsSwept loses old before later new more
@@ -270,10 +281,12 @@ module _ (loses : List Lose) (old : List MachineState) (before : List Loss) (wai
           (sym (placed hands.then_machine same hands.changed))
           (subst (λ (x : List Loss). IsSwept loses old before later ms x) (sym l) (lost_now why cause named_so))
 
+      -- where no line of the script names the entry, its loss may have any cause
       not_named : (why : LossWhy) → is_scripted loses from e.entry.number to ≡ false →
           is_scripted loses from e.entry.number to ≡ true → why ≡ Scripted
       not_named why isnt named = absurd (true≢false (sym named ∙ isnt))
 
+      -- what a sweep keeps is kept by each fate of the entry
       by : (cause : Option LossWhy) →
           IsFate (is_scripted loses from e.entry.number to) m e cause hands.then_machine →
           more ≡ losses ++ lost_by e to cause → IsSwept loses old before later new more
@@ -302,6 +315,7 @@ handed_config scripted m n e (Some ToStopped) fate = ap (λ (u : MachineState). 
 handed_config scripted m n e (Some LogFull) fate = ap (λ (u : MachineState). u.config) fate.2
 handed_config scripted m n e (Some SameDigest) fate = ap (λ (u : MachineState). u.config) fate.2
 
+-- numbers are still places where the machine put in a place has the configuration of the one before
 pub numbered_set : (ms : List MachineState) (at : ℕ) (m n : MachineState) → slice_get ms at ≡ Some m →
     n.config ≡ m.config → AreNumbered ms → AreNumbered (slice_set ms at n)
 numbered_set ms at m n stood same numbers place u is =
@@ -313,12 +327,14 @@ numbered_set ms at m n stood same numbers place u is =
 
 module _ (loses : List Lose) (to : ℕ) (e : SealedEntry) (ms new : List MachineState) (losses more : List Loss)
     (hands : IsHanded loses to e ms losses new more) where
+  -- each machine still has its place as its number
   pub handed_numbered : AreNumbered ms → AreNumbered new
   handed_numbered numbers =
       subst AreNumbered (sym hands.changed)
       (numbered_set ms to hands.machine hands.then_machine hands.stood
       (handed_config _ hands.machine hands.then_machine e hands.cause hands.fate) numbers)
 
+  -- and there are as many of them
   pub handed_count : length new ≡ length ms
   handed_count = ap length hands.changed ∙ length_set ms to hands.then_machine
 

@@ -20,6 +20,7 @@ use Rattle.floor_sweep.specs.inside.Steps.{actions_left}
 abbrev left_of : MachineState → ℕ
 left_of m = length m.config.actions - length (sent m.events)
 
+-- what is left of all changes as what is left of the one machine that was replaced
 left_set : (ms : List MachineState) (at : ℕ) (m n : MachineState) → slice_get ms at ≡ Some m →
     actions_left (slice_set ms at n) + left_of m ≡ actions_left ms + left_of n
 left_set [] at m n stood = cc
@@ -35,6 +36,7 @@ left_done ms at m e stood may =
     let some = slice_get_within m.config.actions (length (sent m.events)) may.deed may.action in
     omega arith
 
+-- where a machine hears an entry, or loses it, as many of its actions are left
 fate_left : (scripted : Bool) (m n : MachineState) (e : SealedEntry) (cause : Option LossWhy) →
     IsFate scripted m e cause n → left_of n ≡ left_of m
 fate_left scripted m n e None fate =

@@ -26,6 +26,7 @@ fresh_at script at stop m fresh machine = record {
   unmarked = ap (λ (u : MachineState). u.marked) fresh.2;
 }
 
+-- it has no events
 pub fresh_events : (script : Script) (at : ℕ) (stop : Option ℕ) (m : MachineState) → IsFresh script at stop m →
     m.events ≡ []
 fresh_events script at stop m fresh = ap (λ (u : MachineState). u.events) fresh.2
@@ -40,9 +41,11 @@ each_push P (x ∷ ms) m each last zero u is = each zero u is
 each_push P (x ∷ ms) m each last (suc k) u is =
     each_push (λ i. P (suc i)) ms m (λ i v h. each (suc i) v h) last k u is
 
+-- none of the machines has events
 abbrev AreEmpty : List MachineState → Type 0
 AreEmpty ms = (k : ℕ) (u : MachineState) → slice_get ms k ≡ Some u → u.events ≡ []
 
+-- so all histories of their world are empty
 none_in : (ms : List MachineState) → AreEmpty ms → (k : ℕ) → history (world_of ms) k ≡ []
 none_in [] empty k = refl
 none_in (m ∷ ms) empty zero = empty zero m refl
@@ -60,6 +63,7 @@ new_balanced ms empty a b la lb apart =
 -- and no list that is empty asks for anything
 module _ (ms : List MachineState) (losses : List Loss) (ws : List Waiting) (no_losses : losses ≡ [])
     (none : ws ≡ []) where
+  -- what was got and what waits is what was sent and isn't lost: nothing
   pub start_balanced : AreEmpty ms →
       IsBalanced node_of_sealed (length ms) (history (world_of ms)) losses (waits_of ws)
   start_balanced empty =
@@ -68,12 +72,15 @@ module _ (ms : List MachineState) (losses : List Loss) (ws : List Waiting) (no_l
       (subst (λ (v : List Waiting). IsBalanced node_of_sealed (length ms) (history (world_of ms)) [] (waits_of v))
       (sym none) (new_balanced ms empty))
 
+  -- no entry is lost twice on one way
   pub start_once : AreOnce losses
   start_once = subst AreOnce (sym no_losses) (λ i j d lt within. absurd (omega arith))
 
+  -- each loss is of an entry that was sent, for there is none
   pub start_of_sent : AreOfSent ms losses
   start_of_sent = subst (AreOfSent ms) (sym no_losses) (λ k d lt. absurd (omega arith))
 
+  -- and all that waits is on its way, for nothing waits
   pub start_on_way : AreOnWay (length ms) ws
   start_on_way = subst (AreOnWay (length ms)) (sym none) (λ k d lt. absurd (omega arith))
 

@@ -19,6 +19,7 @@ le_false : (a b : ℕ) → b < a → nat_le a b ≡ false
 le_false a b lt =
     elim (cases_Bool (nat_le a b)) [ inl is ↦ (let h = leb-true a b is in absurd (omega arith)) | inr isnt ↦ isnt ]
 
+-- but for the number itself, what is at least a number is at least the next
 le_next : (a b : ℕ) → b ≢ a → nat_le (a + 1) b ≡ nat_le a b
 le_next a b differs =
     elim (cases_lt b a) [
@@ -55,14 +56,23 @@ module _ (maker : ℕ) (e : SealedEntry) (to : ℕ) where
 pub record Handing (loses : List Lose) (from count : ℕ) (copies0 : List SealedEntry) (ms0 : List MachineState)
     (losses0 : List Loss) (to : ℕ) (copies : List SealedEntry) (ms : List MachineState) (losses : List Loss)
     : Type 0 where
+  -- there are `count` machines
   pub as_many : length ms ≡ count
+  -- which are at most 16
   pub few : count ≤ 16
+  -- the maker is one of them
   pub inside : from < count
+  -- each has its place as its number
   pub numbers : AreNumbered ms
+  -- no action was done since the first was handed its copy
   pub left : actions_left ms ≡ actions_left ms0
+  -- the copies that are left are the maker's
   pub makers : All (λ (x : SealedEntry). x.entry.maker ≡ from) copies
+  -- until the maker is passed, a copy is left for each machine from `to` on but the maker
   pub ahead : to ≤ from → length copies + to + 1 ≡ count
+  -- and then for each machine from `to` on
   pub behind : from < to → length copies + to ≡ count
+  -- what a sweep keeps is kept, with the entry waiting for the machines from `to` on alone
   pub swept : (e : SealedEntry) → e.entry.maker ≡ from → All (λ (x : SealedEntry). x ≡ e) copies0 →
       All (λ (x : SealedEntry). x ≡ e) copies × ((old : List MachineState) (before : List Loss) →
       IsSwept loses old before (waits_from from e 0) ms0 losses0 →
@@ -70,6 +80,7 @@ pub record Handing (loses : List Lose) (from count : ℕ) (copies0 : List Sealed
 
 module _ (loses : List Lose) (from count : ℕ) (copies0 : List SealedEntry) (ms0 : List MachineState)
     (losses0 : List Loss) where
+  -- before the first machine is reached
   pub handing_none : length ms0 ≡ count → count ≤ 16 → from < count → AreNumbered ms0 →
       All (λ (x : SealedEntry). x.entry.maker ≡ from) copies0 → length copies0 + 1 ≡ length ms0 →
       Handing loses from count copies0 ms0 losses0 0 copies0 ms0 losses0
@@ -117,6 +128,7 @@ module _ (loses : List Lose) (from count : ℕ) (copies0 : List SealedEntry) (ms
         ]
 
     module _ (rest : List SealedEntry) (copy : SealedEntry) (split : copies ≡ rest ++ copy ∷ []) where
+      -- the next copy is the maker's
       pub copy_maker : copy.entry.maker ≡ from
       copy_maker = (All-pop (λ (x : SealedEntry). x.entry.maker ≡ from) copies rest (Some copy) split is.makers).1
 
@@ -147,6 +159,7 @@ module _ (loses : List Lose) (from count : ℕ) (copies0 : List SealedEntry) (ms
                 );
           }
         where
+          -- what a sweep keeps is kept as machine `to` is handed its copy, which then waits for those behind it
           swept_copy : (new : List MachineState) (more : List Loss) → IsHanded loses to copy ms losses new more →
               to ≢ from → (old : List MachineState) (before : List Loss) (e : SealedEntry) →
               IsSwept loses old before (waits_from from e to) ms losses → copy ≡ e →

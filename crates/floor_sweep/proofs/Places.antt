@@ -19,6 +19,7 @@ use Rattle.polling_world.specs.Worlds.{world_of}
 use Rattle.polling_world.proofs.Histories.{AreMade-push}
 use Rattle.polling_world.proofs.Placing.{history_there, set_get}
 
+-- an event of a machine's history
 abbrev pub Step : Type 0
 Step = Event SealedEntry
 
@@ -27,6 +28,7 @@ one_more : (stop : Option ℕ) (count : ℕ) → is_reached stop count ≡ false
 one_more None count going = tt
 one_more (Some stop) count going = omega (arith, leb-false stop count going)
 
+-- where not one of two holds, the second doesn't
 or_false : (a b : Bool) → IsTrue (not (a || b)) → b ≡ false
 or_false true b going = cc
 or_false false true going = cc
@@ -65,15 +67,18 @@ history_others (m ∷ ms) zero (suc k) n differs = refl
 history_others (m ∷ ms) (suc at) zero n differs = refl
 history_others (m ∷ ms) (suc at) (suc k) n differs = history_others ms at k n (λ s. differs (ap suc s))
 
+-- putting a machine in a place leaves as many
 pub length_set : (ms : List MachineState) (at : ℕ) (n : MachineState) → length (slice_set ms at n) ≡ length ms
 length_set [] at n = refl
 length_set (m ∷ ms) zero n = refl
 length_set (m ∷ ms) (suc at) n = ap suc (length_set ms at n)
 
+-- their world has as many histories
 pub length_world : (ms : List MachineState) → length (world_of ms) ≡ length ms
 length_world [] = refl
 length_world (m ∷ ms) = ap suc (length_world ms)
 
+-- the other places have the machines that they had
 pub get_others : (ms : List MachineState) (at k : ℕ) (n : MachineState) → k ≢ at →
     slice_get (slice_set ms at n) k ≡ slice_get ms k
 get_others [] at k n differs = refl
@@ -82,17 +87,20 @@ get_others (m ∷ ms) zero (suc k) n differs = refl
 get_others (m ∷ ms) (suc at) zero n differs = refl
 get_others (m ∷ ms) (suc at) (suc k) n differs = get_others ms at k n (λ s. differs (ap suc s))
 
+-- a machine's place is below how many there are
 pub within_get : (ms : List MachineState) (at : ℕ) (m : MachineState) → slice_get ms at ≡ Some m → at < length ms
 within_get [] at m is = cc
 within_get (n ∷ ms) zero m is = omega arith
 within_get (n ∷ ms) (suc at) m is = let h = within_get ms at m is in omega arith
 
+-- and at each such place stands one
 pub get_within : (ms : List MachineState) (at : ℕ) → at < length ms → (m : MachineState) × (slice_get ms at ≡ Some m)
 get_within [] at lt = absurd (omega arith)
 get_within (m ∷ ms) zero lt = (m, refl)
 get_within (m ∷ ms) (suc at) lt = get_within ms at (omega arith)
 
 module _ (ms : List MachineState) (at : ℕ) (m : MachineState) (x : Step) (stood : slice_get ms at ≡ Some m) where
+  -- the machines once this one has the event
   abbrev after : List MachineState
   after = slice_set ms at (with_event x m)
 

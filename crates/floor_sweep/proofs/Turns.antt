@@ -29,12 +29,18 @@ use Rattle.floor_sweep.proofs.Handed.{stopped_there}
 -- the machines below `at` acted, or none of them could
 pub record Rounding (loses : List Lose) (count : ℕ) (ms0 : List MachineState) (losses0 : List Loss) (at : ℕ)
     (some : Bool) (ms : List MachineState) (losses : List Loss) : Type 0 where
+  -- there are `count` machines
   pub as_many : length ms ≡ count
+  -- which are at most 16
   pub few : count ≤ 16
+  -- each has its place as its number
   pub numbers : AreNumbered ms
+  -- what a sweep keeps is kept since the round began
   pub swept : (old : List MachineState) (before : List Loss) → IsSwept loses old before no_waits ms0 losses0 →
       IsSwept loses old before no_waits ms losses
+  -- where one acted, fewer actions are left
   pub acted : some ≡ true → actions_left ms < actions_left ms0
+  -- where none did, each below `at` was to act and didn't, and all machines are as they were
   pub none : some ≡ false → AreStillBelow at ms × (ms ≡ ms0)
 
 -- both or neither
@@ -43,6 +49,7 @@ either_false true b neither = cc
 either_false false b neither = (refl, neither)
 
 module _ (loses : List Lose) (count : ℕ) (ms0 : List MachineState) (losses0 : List Loss) where
+  -- as the round begins none has acted
   pub rounding_none : length ms0 ≡ count → count ≤ 16 → AreNumbered ms0 →
       Rounding loses count ms0 losses0 0 false ms0 losses0
   rounding_none as_many few numbers = record {
@@ -128,6 +135,7 @@ still_whole place m receivers acted.Spent at is isnt = inr (inr (inr (inr (inr (
 still_whole place m receivers acted.SameDigest at is isnt =
     inr (inr (inr (inr (inr (inr (is.0.deed, is.0.action, is.0.held))))))
 
+-- so where each machine was to act and none did, the run of each is whole
 pub all_whole : (ms : List MachineState) → ArePlaced ms → AreStillBelow (length ms) ms →
     (place : ℕ) (m : MachineState) → place < length ms → slice_get ms place ≡ Some m → IsWholeRun m
 all_whole ms placed still place m lt is =

@@ -13,6 +13,7 @@ use Rattle.floor_sweep.specs.inside.Fates.{IsHanded}
 use Rattle.floor_sweep.specs.inside.Steps.{IsSwept, no_waits}
 use Rattle.floor_sweep.proofs.Handed.{swept_handed, swept_waits}
 
+-- it waits on the way from one machine to another
 abbrev is_on : Waiting → ℕ → ℕ → Bool
 is_on w from to = (w.entry.entry.maker == from) && (w.to == to)
 
