@@ -50,6 +50,7 @@ module _ (script : Script) (ms ns : List MachineState) (of : AreMachinesOf scrip
       (subst (λ (xs : List Loss). Contains xs l) losses
       (Contains-permutation told after l (IsPermutation-sym after told moved) c))
 
+  -- what was lost before the sweep is told
   told_before : (l : Loss) → Contains before l → Contains told l
   told_before l c =
       Contains-permutation after told l moved
@@ -65,9 +66,11 @@ module _ (script : Script) (ms ns : List MachineState) (of : AreMachinesOf scrip
       let c = is.number in
       record { from = omega arith; to = omega arith; other = is.other; number = omega arith }
 
+  -- so is each loss of the sweep
   on_way_new : (l : Loss) → IsLicensed script.loses ns l → IsOnWay ns l
   on_way_new l is = record { from = is.from; to = is.to; other = is.other; number = is.number }
 
+  -- and so is each that is told
   pub all_on_way : All (IsOnWay ns) told
   all_on_way =
       all_by (IsOnWay ns) told
@@ -77,6 +80,7 @@ module _ (script : Script) (ms ns : List MachineState) (of : AreMachinesOf scrip
       ])
 
   module _ (from number to : ℕ) (sent_then : number < count_sent ms from) where
+    -- the loss kept the entry off the link
     abbrev is_off : Loss → Bool
     is_off loss = is_of from number to loss && is_before_link loss.why
 
@@ -99,6 +103,7 @@ module _ (script : Script) (ms ns : List MachineState) (of : AreMachinesOf scrip
     scripted_before l is of_this LogFull cause off = cc
     scripted_before l is of_this SameDigest cause off = cc
 
+    -- so after the sweep an entry that was sent before is kept off the link exactly where it was
     kept_off_same : is_kept_off told from number to ≡ is_kept_off before from number to
     kept_off_same =
         elim (cases_Bool (is_kept_off before from number to)) [
@@ -183,6 +188,7 @@ module _ (script : Script) (ms ns : List MachineState) (of : AreMachinesOf scrip
       (cause.0, cause.1, cause.2 ∙ log_is script l.to cause.0 (now_of.each l.to cause.0 cause.1))
   cause_new l SameDigest cause = cause
 
+  -- so each loss that is told has its cause
   pub all_caused : All (λ loss. IsCauseOf script ns told loss loss.why) told
   all_caused =
       all_by (λ loss. IsCauseOf script ns told loss loss.why) told

@@ -58,6 +58,7 @@ module _ {X : Type 0} where
             let same = ap (λ b. length (cond b (x ∷ filter p xs) (filter p xs))) none in omega arith)
       ]
     where
+      -- what one test lets through adds one member at most
       at_most_one : (b : Bool) (x : X) (xs : List X) → length (cond b (x ∷ xs) xs) ≤ 1 + length xs
       at_most_one true x xs = omega arith
       at_most_one false x xs = omega arith
@@ -81,5 +82,6 @@ module _ {T : Type 0} (node : T → Node) where
     different_from owner h (p ++ x ∷ []) q (is ∙ sym (append_assoc p (x ∷ []) q)) legal,
   )
 
+  -- so the entries of a legal history are all different
   pub held_different : (owner : ℕ) (h : List (Event T)) → IsLegal node owner h → AreDifferent (held h)
   held_different owner h legal = different_from owner h [] h refl legal

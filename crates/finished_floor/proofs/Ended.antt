@@ -35,6 +35,7 @@ module _ (script : Script) (lawful : IsLawful script) (ms : List MachineState) (
       let same = ap (λ (b : Machine SealedEntry). length b.history) m.2 in
       omega arith)
 
+  -- a stamp is at most how many entries were sent, and so none is spent
   not_spent : (k : ℕ) (m : MachineState) → slice_get ms k ≡ Some m → IsStampSpent m → ⊥
   not_spent k m is spent =
       let low = law (world_of ms) orderly spent.0 (held_sent ms orderly k m is spent.0 spent.1) in
@@ -58,6 +59,7 @@ module _ (script : Script) (lawful : IsLawful script) (ms : List MachineState) (
         | inr (inr (inr (inr (inr (inr before))))) ↦ inr (inr (inr (inr (inr before))))
       ]
 
+  -- so where the run of each machine is whole, each is at its end
   pub all_at_end : ((place : ℕ) (m : MachineState) → slice_get ms place ≡ Some m → IsWholeRun m) → All IsAtEnd ms
   all_at_end whole k d lt =
       let m : MachineState = slice_index_or ms k d in

@@ -90,12 +90,16 @@ begun_few events row begun =
 module _ {B : Type 0} (f : B → List (Option ℕ)) (ms : List MachineState) where
   -- the lists of the machines below `at` are filled up
   pub record Filling (at : ℕ) (by : List B) : Type 0 where
+    -- there is a list for each machine
     pub many : length by ≡ length ms
+    -- those below `at` tell of each event who did it, or that no worker did
     pub done : (k : ℕ) (m : MachineState) (row : B) → slice_get ms k ≡ Some m → slice_get by k ≡ Some row → k < at →
         IsBy m.events (f row)
+    -- the others tell who did the first events
     pub rest : (k : ℕ) (m : MachineState) (row : B) → slice_get ms k ≡ Some m → slice_get by k ≡ Some row → at ≤ k →
         IsBegunBy m.events (f row)
 
+  -- before the first list is filled up
   pub filling_none : (by : List B) → AllZip (λ m row. IsBegunBy m.events row) ms (map f by) → Filling 0 by
   filling_none by all = record {
     many = zip_many (λ (m : MachineState) row. IsBegunBy m.events row) f ms by all;
@@ -125,11 +129,13 @@ module _ {B : Type 0} (f : B → List (Option ℕ)) (ms : List MachineState) whe
         filling.rest k u z here (others k z (λ s. absurd (omega arith)) has) (omega arith);
   }
     where
+      -- putting a list in a place leaves as many
       set_many : (xs : List B) (i : ℕ) (y : B) → length (slice_set xs i y) ≡ length xs
       set_many [] i y = refl
       set_many (x ∷ xs) zero y = refl
       set_many (x ∷ xs) (suc i) y = ap suc (set_many xs i y)
 
+      -- the list at another place is as it was
       others : (k : ℕ) (z : B) → k ≢ at → slice_get (slice_set by at new) k ≡ Some z → slice_get by k ≡ Some z
       others k z differs has =
           elim (set_cases by at k row new z there has) [ inl s ↦ absurd (differs s.0) | inr s ↦ s ]

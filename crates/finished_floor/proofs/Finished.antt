@@ -59,12 +59,15 @@ module _ (script : Script) (lawful : IsLawful script) (roster : List Post) (ms n
     (whole : (place : ℕ) (m : MachineState) → slice_get ns place ≡ Some m → IsWholeRun m)
     (moved : IsPermutation after told) (sorted : AllPairs IsToldBefore told)
     (filled : AllZip (λ (m : MachineState) row. IsBy m.events row) ns by) where
+  -- after the sweep the machines are still the script's
   now_of : AreMachinesOf script ns
   now_of = machines_still ms ns grown script left.machines placed
 
+  -- no two losses that are told are of one entry on one way
   once : AreOnce told
   once = told_once told sorted
 
+  -- each history is legal, and what was heard was sent
   orderly : IsOrderly node_of_sealed (world_of ns)
   orderly = are_orderly ns placed after (λ a b. []) (makers left.makers) balanced
 

@@ -35,9 +35,11 @@ module _ (script : Script) (place : ℕ) (m : MachineState) (of : IsMachineOf sc
       (cast : Cast0) × (slice_get script.machines place ≡ Some cast) × (m.config ≡ config_of script place cast)
   config_is = (of.made.0, of.made.1, ap (λ (u : MachineState). u.config) of.made.2)
 
+  -- its log holds as many events as the script says
   pub log_is : m.config.log ≡ script.log
   log_is = ap (λ (c : Config). c.log) config_is.2
 
+  -- its number is its place
   pub number_is : m.config.number ≡ place
   number_is = ap (λ (c : Config). c.number) config_is.2
 
@@ -133,6 +135,7 @@ module _ (ms ns : List MachineState) (grown : HaveGrown ms ns) where
       let more = history_more k in
       (sent more.0, ap sent more.1 ∙ sent-append (history (world_of ms) k) more.0)
 
+  -- so what was sent is still among it
   pub sent_still : (k : ℕ) (e : SealedEntry) → Contains (sent (history (world_of ms) k)) e →
       Contains (sent (history (world_of ns) k)) e
   sent_still k e c =
@@ -140,6 +143,7 @@ module _ (ms ns : List MachineState) (grown : HaveGrown ms ns) where
       subst (λ (l : List SealedEntry). Contains l e) (sym more.1)
       (Contains-append_left (sent (history (world_of ms) k)) more.0 e c)
 
+  -- and no fewer entries were sent
   pub count_more : (k : ℕ) → count_sent ms k ≤ count_sent ns k
   count_more k =
       let more = sent_more k in

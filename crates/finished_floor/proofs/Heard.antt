@@ -63,6 +63,7 @@ module _ (ms : List MachineState) (placed : ArePlaced ms) (told : List Loss) (on
 
   module _ (l : Loss) (c : Contains told l) (m : MachineState) (is : slice_get ms l.to ≡ Some m) (e : SealedEntry)
       (was_sent : Contains (sent (history (world_of ms) l.from)) e) (numbered : e.entry.number ≡ l.number) where
+    -- the lost entry was sent by one machine, and was on its way to another
     way : IsOnWay ms l
     way = All-contains (IsOnWay ms) told l only c
 
@@ -96,10 +97,12 @@ module _ (ms : List MachineState) (placed : ArePlaced ms) (told : List Loss) (on
           | inr not ↦ not.0 got_it
         ]
 
+    -- so it doesn't hold it
     pub not_held : Contains (held m.events) e → ⊥
     not_held there =
         let at = Contains-map_cases entry_of m.events e there in by at.0 at.1 at.2
       where
+        -- no event of the receiver is of this entry
         by : (x : Event SealedEntry) → Contains m.events x → entry_of x ≡ e → ⊥
         by (Sent f) at same = not_its_own (subst (λ (g : SealedEntry). Contains m.events (Sent g)) same at)
         by (Got f) at same = not_got (subst (λ (g : SealedEntry). Contains m.events (Got g)) same at)

@@ -38,12 +38,17 @@ new_of script at stop m stops fresh machine = record {
 -- the machines so far are the script's, without events, and as many lists are empty
 pub record AreNew {B : Type 0} (f : B → List (Option ℕ)) (script : Script) (at : ℕ) (ms : List MachineState)
     (by : List B) : Type 0 where
+  -- there are `at` of them
   pub count : length ms ≡ at
+  -- each is the script's at its place, and has no events
   pub each : (k : ℕ) (m : MachineState) → slice_get ms k ≡ Some m → IsMachineOf script k m × (m.events ≡ [])
+  -- there are as many lists
   pub many : length by ≡ at
+  -- each of which is empty
   pub none : (k : ℕ) (row : B) → slice_get by k ≡ Some row → f row ≡ []
 
 module _ {B : Type 0} (f : B → List (Option ℕ)) (script : Script) where
+  -- before the first machine
   pub new_none : AreNew f script 0 [] []
   new_none = record { count = refl; each = λ k m is. cc; many = refl; none = λ k row is. cc }
 
@@ -64,6 +69,7 @@ module _ {B : Type 0} (f : B → List (Option ℕ)) (script : Script) where
         none = last by is.none;
       }
     where
+      -- with one list more that is empty, all are
       last : (by : List B) → ((k : ℕ) (r : B) → slice_get by k ≡ Some r → f r ≡ []) →
           (k : ℕ) (r : B) → slice_get (by ++ row ∷ []) k ≡ Some r → f r ≡ []
       last [] each zero r there = let same : row ≡ r = cc in subst (λ (v : B). f v ≡ []) same none
@@ -93,6 +99,7 @@ module _ {B : Type 0} (f : B → List (Option ℕ)) (script : Script) where
         (λ k m row there at_row. is.none k row at_row ∙ ap passes_of (sym (is.each k m there).1));
   }
     where
+      -- none of the machines has sent an entry
       none_sent : (k : ℕ) → count_sent ms k ≡ 0
       none_sent k =
           elim ((slice_get_cases ms k).1) [

@@ -42,16 +42,19 @@ sends_one config h e f a b =
     let same : a.deed ≡ b.deed = same_Some a.deed b.deed (sym a.action ∙ b.action) in
     a.made ∙ ap (next_entry config h) same ∙ sym b.made
 
+-- so what tells the next entry tells the one that the machine may send
 told_by : (config : Config) (h : List (Event SealedEntry)) (e : SealedEntry) (told : Option SealedEntry) →
     MaySend config h e → IsNextOf config h told → told ≡ Some e
 told_by config h e None may is = absurd (is e may)
 told_by config h e (Some f) may is = ap (λ (x : SealedEntry). Some x) (sends_one config h f e is may)
 
+-- and it does so for the machine at a place
 at_place : (config : Config) (h : List (Event SealedEntry)) (e : SealedEntry) (there : Option Config)
     (told : Option SealedEntry) → there ≡ Some config → MaySend config h e → IsNextAt there h told → told ≡ Some e
 at_place config h e there told is may next =
     told_by config h e told may (subst (λ (o : Option Config). IsNextAt o h told) is next)
 
+-- an empty history has no event
 no_event : (before : List (Event SealedEntry)) (x : Event SealedEntry) (later : List (Event SealedEntry)) →
     [] ≡ before ++ x ∷ later → ⊥
 no_event [] x later e = cc
@@ -75,6 +78,7 @@ event_at ms k x c =
 abbrev made : MachineState → MachineState
 made m = record { config = m.config; stop = None; marked = false; events = [] }
 
+-- as they were made, machines have the same configurations
 configs_made : (ms : List MachineState) → configs_of (map made ms) ≡ configs_of ms
 configs_made [] = refl
 configs_made (m ∷ ms) = ap (λ (cs : List Config). m.config ∷ cs) (configs_made ms)
@@ -108,6 +112,7 @@ module _ (ms : List MachineState) (placed : ArePlaced ms) where
       at_place m.0.config before e (slice_get (configs_of ms) k) (next k before)
       (get-map (λ (x : MachineState). x.config) ms k m.0 m.1) may (tells k before)
 
+  -- the history at each place is legal, be there a machine or none
   all_legal : (k : ℕ) → IsLegal node_of_sealed k (history (world_of ms) k)
   all_legal k =
       elim ((slice_get_cases ms k).1) [
@@ -130,6 +135,7 @@ module _ (ms : List MachineState) (placed : ArePlaced ms) where
       (sym world) (λ i. refl) balanced)
 
   module _ (script : Script) (of : AreMachinesOf script ms) where
+    -- no history has more events than the script's log size
     all_within : (k : ℕ) → length (history (world_of ms) k) ≤ script.log
     all_within k =
         elim ((slice_get_cases ms k).1) [

@@ -54,6 +54,7 @@ number_below m machine i lt =
       | inr none ↦ (let n = none.0 in absurd (omega arith))
     ]
 
+-- so a machine sent no more entries than it has actions
 sent_at_most : (m : MachineState) → IsMachine m → length (sent m.events) ≤ length m.config.actions
 sent_at_most m machine =
     elim (cases_lt (length m.config.actions) (length (sent m.events))) [
@@ -90,9 +91,11 @@ held_sent ms orderly k m is e c =
     let at = Contains-map_cases entry_of m.events e c in
     subst (λ (f : SealedEntry). Contains (sent_in (world_of ms)) f) at.2 (by at.0 at.1)
   where
+    -- the machine's events are those of its history in the world
     there : (x : Event SealedEntry) → Contains m.events x → Contains (history (world_of ms) k) x
     there x at = subst (λ (h : List (Event SealedEntry)). Contains h x) (sym (history_there ms k m is)) at
 
+    -- what it sent is among all that was sent, and so is what it got
     by : (x : Event SealedEntry) → Contains m.events x → Contains (sent_in (world_of ms)) (entry_of x)
     by (Sent f) at = sent_in_from (world_of ms) k f (there (Sent f) at)
     by (Got f) at = orderly.heard k f (there (Got f) at)
@@ -103,6 +106,7 @@ module _ (script : Script) (ms : List MachineState) (of : AreMachinesOf script m
     (causes : All (λ loss. IsCauseOf script ms told loss loss.why) told)
     (others : All (λ loss. loss.why ≡ SameDigest → (m : MachineState) × (slice_get ms loss.to ≡ Some m)
     × HoldsAnother ms loss.from loss.number m) told) where
+  -- each of the machines has its place
   placed : ArePlaced ms
   placed = are_placed script ms of
 
@@ -174,10 +178,12 @@ module _ (script : Script) (ms : List MachineState) (of : AreMachinesOf script m
   none_told links logs no_loses no_stops distinct l c =
       by l.why refl (All-contains (λ (loss : Loss). IsCauseOf script ms told loss loss.why) told l causes c)
     where
+      -- where the script has no stop line, no machine has a stop
       no_stop : (place : ℕ) (stop : Option ℕ) (k : ℕ) → IsStopOf [] place stop → stop ≡ Some k → ⊥
       no_stop place None k is stops = cc
       no_stop place (Some n) k is stops = Contains-none _ is
 
+      -- where there is room for all, the loss can have none of the causes
       by : (why : LossWhy) → l.why ≡ why → IsCauseOf script ms told l why → ⊥
       by Scripted is cause =
           true≢false (sym cause ∙ ap (λ (loses : List Lose). is_scripted loses l.from l.number l.to) no_loses)
@@ -200,6 +206,7 @@ module _ (script : Script) (ms : List MachineState) (of : AreMachinesOf script m
   loses_nothing links logs no_loses no_stops distinct =
       none_in told (none_told links logs no_loses no_stops distinct)
     where
+      -- a list without members is empty
       none_in : (xs : List Loss) → ((l : Loss) → Contains xs l → ⊥) → xs ≡ []
       none_in [] none = refl
       none_in (x ∷ xs) none = absurd (none x (Contains-head x xs))

@@ -24,14 +24,17 @@ use Rattle.finished_floor.specs.Losses.{IsToldBefore}
 abbrev pub Key : Type 0
 Key = ℕ × ℕ × ℕ
 
+-- by sender, then by receiver, then by number
 abbrev pub compare : Key → Key → Ordering
 compare p q = ordering_then (ordering_then (nat_cmp p.0 q.0) (nat_cmp p.1 q.1)) (nat_cmp p.2 q.2)
 
+-- this is a total order
 compare_total : IsTotalOrder compare
 compare_total =
     then_total (then_total (on_total (λ (p : Key). p.0) nat_cmp_total) (on_total (λ (p : Key). p.1) nat_cmp_total))
     (on_total (λ (p : Key). p.2) nat_cmp_total)
 
+-- what a loss is sorted by
 abbrev pub key_of : Loss → Key
 key_of loss = (loss.from, loss.to, loss.number)
 
@@ -46,6 +49,7 @@ level : (m n : ℕ) → m ≡ n → nat_cmp m n ≡ Equal
 level m n same = cond-false (nat_lt m n) Less (cond (m == n) Equal Greater) (le-ltb m n (omega arith))
     ∙ cond-true (m == n) Equal Greater (eq-eqb m n same)
 
+-- a lower number compares as less
 less : (m n : ℕ) → m < n → nat_cmp m n ≡ Less
 less m n lower = cond-true (nat_lt m n) Less (cond (m == n) Equal Greater) (lt-ltb m n lower)
 
@@ -89,6 +93,7 @@ told_from_sorted xs once sorted i j d lt within =
 pub told_once : (xs : List Loss) → AllPairs IsToldBefore xs → AreOnce xs
 told_once xs told i j d lt within = by (get_or xs i d) (get_or xs j d) (told i j d lt within)
   where
+    -- a loss that is told before another is of another entry, or on another way
     by : (a b : Loss) → IsToldBefore a b → Differ a b
     by a b before =
         elim (cases_Bool (is_of a.from a.number a.to b)) [
@@ -104,6 +109,7 @@ told_once xs told i j d lt within = by (get_or xs i d) (get_or xs j d) (told i j
 abbrev same_way : Loss → Loss → Bool
 same_way a b = is_of a.from a.number a.to b
 
+-- the answer is the same in whichever order the two are given
 flips : (a b : Loss) → same_way a b ≡ same_way b a
 flips a b =
     elim (cases_Bool (same_way a b)) [
@@ -112,6 +118,7 @@ flips a b =
       | inr isnt ↦ isnt ∙ sym (differ_sym a b isnt)
     ]
 
+-- where no entry is lost twice on one way, no two losses pass this test
 distinct_of : (xs : List Loss) → AreOnce xs → IsDistinct same_way xs
 unfolding IsDistinct
 distinct_of [] once = tt
@@ -120,6 +127,7 @@ distinct_of (x ∷ xs) once = (
   distinct_of xs (λ i j d lt within. once (suc i) (suc j) d (omega arith) (omega arith)),
 )
 
+-- and the other way round
 once_of : (xs : List Loss) → IsDistinct same_way xs → AreOnce xs
 unfolding IsDistinct
 once_of [] distinct = λ i j d lt within. absurd (omega arith)
