@@ -43,7 +43,7 @@ pub fn roster_of(alloc: Global, script: &Script, keys: &[LmsSecret]) -> Result<R
         machines.push(post_of(alloc, cast, &keys[at])?)?;
     }
     Ok(Roster {
-        machines: Posts::new(machines),
+        machines: Posts::from_vec(machines),
     })
 }
 

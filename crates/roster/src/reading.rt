@@ -183,5 +183,5 @@ pub(crate) fn posts_of(alloc: Global, raws: &[Raw<'_>]) -> Result<Posts, Memory>
     for raw in raws {
         posts.push(named(alloc, raw)?)?;
     }
-    Ok(Posts::new(posts))
+    Ok(Posts::from_vec(posts))
 }

@@ -9,9 +9,9 @@ use crate::post::Post;
 use crate::reading::{count_machines, fault_of, posts_of, raws_of};
 use crate::writing::tree_of;
 use canonical_sexp::{whole_text, write};
+use item_list::Items;
 use sha2::{Digest, Sha256};
 use std::alloc::{AllocError, Global};
-use std::marker::Model;
 
 /// Want of memory.
 pub type Memory = AllocError;
@@ -19,36 +19,8 @@ pub type Memory = AllocError;
 /// The most machines of a roster.
 const MAX_MACHINES: usize = 16;
 
-/// The machines of a roster, in their order. Contracts see them as a list.
-#[derive(Debug, Drop)]
-pub struct Posts {
-    items: Vec<Post>,
-}
-
-impl Model for Posts {
-    ghost use Rattle.std.specs.Prelude.{List};
-    ghost use Rattle.roster.specs.declared.post.Post.{Post};
-
-    ghost Value = { List Post };
-
-    ghost view = { λ posts. posts.items.items };
-}
-
-impl Posts {
-    /// These machines.
-    pub fn new(items: Vec<Post>) -> Posts
-        ensures { result ≡ items.items }
-    {
-        Posts { items }
-    }
-
-    /// Lends the machines.
-    pub fn as_slice(&self) -> &[Post]
-        ensures { result.now ≡ self.now }
-    {
-        self.items.as_slice()
-    }
-}
+/// The machines of a roster, in their order.
+pub type Posts = Items<Post>;
 
 /// A roster. A machine is named by its place in it, from 0.
 #[derive(Debug, Drop)]
@@ -104,7 +76,7 @@ impl Roster {
             machines.push(post.copy(alloc)?)?;
         }
         Ok(Roster {
-            machines: Posts::new(machines),
+            machines: Posts::from_vec(machines),
         })
     }
 }
