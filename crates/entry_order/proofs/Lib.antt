@@ -6,6 +6,7 @@ pub mod Frontiers
 pub mod Held
 pub mod Histories
 pub mod Orders
+pub mod FewStamps
 pub mod Plays
 pub mod MadePlays
 pub mod Strays

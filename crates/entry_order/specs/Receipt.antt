@@ -1,5 +1,5 @@
 -- Order is receipt: the path order of what was sent is what the machines held.
-use Rattle.std.specs.Prelude.{◌↔◌, ℕ, ◌<◌, List, Option}
+use Rattle.std.specs.Prelude.{◌↔◌, ℕ, ◌<◌, ◌≤◌, List, length, Option}
 use Rattle.std.specs.List.{Contains}
 use Rattle.entry_order.specs.declared.event.Event.{Event}
 use Rattle.entry_order.specs.declared.event.Event.TheVariants.{Got}
@@ -47,3 +47,8 @@ abbrev pub StampsRise : {T : Type 0} → (T → Node) → Type 0
 StampsRise {T} node =
     (w : World T) → IsOrderly node w →
     (f e : T) → HeldBefore w f e → (node f).stamp < (node e).stamp
+
+-- in an orderly world a stamp is at most how many entries were sent
+abbrev pub StampsAreFew : {T : Type 0} → (T → Node) → Type 0
+StampsAreFew {T} node = (w : World T) → IsOrderly node w → (e : T) → Contains (sent_in w) e →
+    (node e).stamp ≤ length (sent_in w)

@@ -13,6 +13,7 @@ ghost use Rattle.entry_order.specs.Receipt.{
   NamesWereHeld,
   OrderIsReceipt,
   OrderIsReceiptInOrderlyWorlds,
+  StampsAreFew,
   StampsRise,
 };
 ghost use Rattle.entry_order.specs.Settled.{
@@ -48,6 +49,11 @@ pub fn names_were_held<T: Knot>()
 /// In an orderly world stamps rise from what was held before to what was sent after it.
 pub fn stamps_rise<T: Knot>()
     ensures { StampsRise T.node }
+{}
+
+/// In an orderly world a stamp is at most how many entries were sent.
+pub fn stamps_are_few<T: Knot>()
+    ensures { StampsAreFew T.node }
 {}
 
 /// What is said of the order of two survivors holds in every completion: by paths among them, and

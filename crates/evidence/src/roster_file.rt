@@ -2,13 +2,7 @@
 ghost use Rattle.std.specs.Prelude.{◌≡◌, ◌≢◌, ◌≤◌, Err, IfOk, IfErr, IfSome, Ok, Some, length};
 ghost use Rattle.evidence.specs.Reading.{IsReadFrom, store_seen};
 ghost use Rattle.evidence.specs.Refusal.{IsAbsent, refusal_of};
-ghost use Rattle.evidence.specs.RosterFile.{
-  GivesRoster,
-  GivesRosterIn,
-  max_roster,
-  roster_fault_place,
-  roster_fault_word,
-};
+ghost use Rattle.evidence.specs.RosterFile.{GivesRoster, GivesRosterIn, max_roster};
 
 use crate::fault::{AuditFault, file_fault};
 use hall_outside::{Store, read_file};
@@ -64,31 +58,6 @@ fn roster_of(alloc: Global, name: &str, bytes: &[u8]) -> Result<RosterRead, Audi
             election: election(bytes),
         }),
         Err(RosterFault::Memory) => Err(AuditFault::Memory),
-        Err(fault) => Err(AuditFault::refused(alloc, name, place_of(fault), word_of(fault))),
-    }
-}
-
-/// The place of a fault, counted from 0.
-fn place_of(fault: RosterFault) -> u64
-    ensures { result ≡ roster_fault_place fault }
-{
-    match fault {
-        RosterFault::NotCanonical(at) => at as u64,
-        _ => 0,
-    }
-}
-
-/// The word of a fault in lines.
-fn word_of(fault: RosterFault) -> &'static str
-    ensures { result.now ≡ roster_fault_word fault }
-{
-    match fault {
-        RosterFault::NotCanonical(_) => "NotCanonical",
-        RosterFault::WrongShape => "WrongShape",
-        RosterFault::TooManyMachines => "TooManyMachines",
-        RosterFault::BadName => "BadName",
-        RosterFault::SameName => "SameName",
-        RosterFault::NotOneSupervisor => "NotOneSupervisor",
-        RosterFault::Memory => "Memory",
+        Err(fault) => Err(AuditFault::refused(alloc, name, fault.place(), fault.word())),
     }
 }

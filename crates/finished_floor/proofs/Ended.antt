@@ -5,11 +5,10 @@ use Rattle.std.proofs.lemmas.Option.{slice_get-get_or}
 use Rattle.std.specs.Prelude.{slice_index_or}
 use Rattle.entry_format.specs.Nodes.{node_of_sealed}
 use Rattle.entry_format.specs.SealedEntry.{SealedEntry}
-use Rattle.entry_order.specs.Receipt.{IsOrderly}
+use Rattle.entry_order.specs.Receipt.{IsOrderly, StampsAreFew}
 use Rattle.entry_order.specs.World.{Machine, sent_in}
 use Rattle.election_script.specs.declared.script.Script.{Script}
 use Rattle.election_script.specs.Lawful.{IsLawful}
-use Rattle.floor_losses.specs.Laws.{StampsAreFew}
 use Rattle.floor_sweep.specs.Wholes.{IsWholeRun}
 use Rattle.floor_sweep.proofs.Places.{length_world}
 use Rattle.polling_world.specs.Machines.{MachineState}

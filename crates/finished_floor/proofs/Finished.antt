@@ -12,7 +12,7 @@ use Rattle.floor_losses.specs.declared.loss.Loss.{Loss}
 use Rattle.floor_losses.specs.Balance.{IsBalanced}
 use Rattle.floor_losses.specs.Losses.{AreOnce}
 use Rattle.floor_losses.proofs.Once.{each_is_heard_or_lost}
-use Rattle.floor_losses.proofs.Stamps.{stamps_are_few}
+use Rattle.entry_order.proofs.FewStamps.{stamps_are_few}
 use Rattle.floor_sweep.specs.declared.sweeping.Waiting.{Waiting}
 use Rattle.floor_sweep.specs.Places.{AreMadeByThese, ArePlaced, HaveGrown}
 use Rattle.floor_sweep.specs.Swept.{AreScripted, IsLicensed}

@@ -1,10 +1,9 @@
 -- The laws of losses.
-use Rattle.std.specs.Prelude.{◌≡◌, ◌≢◌, ℕ, ◌+◌, ◌<◌, ◌≤◌, ◌⊎◌, cond, List, [], ◌∷◌, length}
+use Rattle.std.specs.Prelude.{◌≡◌, ◌≢◌, ℕ, ◌+◌, ◌<◌, ◌⊎◌, cond, List, [], ◌∷◌, length}
 use Rattle.std.specs.List.{Contains}
 use Rattle.entry_order.specs.Node.{Node}
 use Rattle.entry_order.specs.History.{sent}
-use Rattle.entry_order.specs.World.{World, history, sent_in}
-use Rattle.entry_order.specs.Receipt.{IsOrderly}
+use Rattle.entry_order.specs.World.{World, history}
 use Rattle.floor_losses.specs.declared.loss.Loss.{Loss}
 use Rattle.floor_losses.specs.Losses.{is_of, AreOnce, got_from}
 use Rattle.floor_losses.specs.Balance.{IsBalanced}
@@ -23,8 +22,3 @@ module _ {T : Type 0} (node : T → Node) where
       (a b : ℕ) (e : T) → a < length w → b < length w → a ≢ b → Contains (sent (history w a)) e →
       (Contains (got_from node a (history w b)) e × (times_lost losses a (node e).number b ≡ 0))
       ⊎ ((Contains (got_from node a (history w b)) e → ⊥) × (times_lost losses a (node e).number b ≡ 1))
-
-  -- in an orderly world a stamp is at most how many entries were sent
-  abbrev pub StampsAreFew : Type 0
-  StampsAreFew = (w : World T) → IsOrderly node w → (e : T) → Contains (sent_in w) e →
-      (node e).stamp ≤ length (sent_in w)

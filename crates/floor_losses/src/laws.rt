@@ -1,5 +1,5 @@
-//! The laws of losses. Each is the contract of a function with an empty body.
-ghost use Rattle.floor_losses.specs.Laws.{EachIsHeardOrLost, StampsAreFew};
+//! The law of losses, the contract of a function with an empty body.
+ghost use Rattle.floor_losses.specs.Laws.{EachIsHeardOrLost};
 
 use entry_order::Knot;
 
@@ -7,9 +7,4 @@ use entry_order::Knot;
 /// once.
 pub fn each_is_heard_or_lost<T: Knot>()
     ensures { EachIsHeardOrLost T.node }
-{}
-
-/// In an orderly world a stamp is at most how many entries were sent.
-pub fn stamps_are_few<T: Knot>()
-    ensures { StampsAreFew T.node }
 {}

@@ -26,7 +26,8 @@ use Rattle.polling_world.specs.Worlds.{world_of}
 use Rattle.polling_world.proofs.Placing.{set_cases, set_get, one_there}
 use Rattle.floor_sweep.specs.Places.{IsAt, ArePlaced, AreMadeByThese, AreOfSent, HasGrown, HaveGrown, count_sent}
 use Rattle.floor_sweep.specs.Swept.{HoldsSame, IsCause, IsLicensed}
-use Rattle.floor_sweep.proofs.Places.{IsMachine-event, get_others, history_more, length_set}
+use Rattle.polling_world.proofs.Keeping.{IsMachine-event}
+use Rattle.floor_sweep.proofs.Places.{get_others, history_more, length_set}
 
 -- what was held is still held
 pub held_more : (h : List (Event SealedEntry)) (x : Event SealedEntry) (g : SealedEntry) → Contains (held h) g →

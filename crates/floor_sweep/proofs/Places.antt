@@ -23,36 +23,6 @@ use Rattle.polling_world.proofs.Placing.{history_there, set_get}
 abbrev pub Step : Type 0
 Step = Event SealedEntry
 
--- a number that isn't reached allows one event more
-one_more : (stop : Option ℕ) (count : ℕ) → is_reached stop count ≡ false → IsWithinStop stop (count + 1)
-one_more None count going = tt
-one_more (Some stop) count going = omega (arith, leb-false stop count going)
-
--- where not one of two holds, the second doesn't
-or_false : (a b : Bool) → IsTrue (not (a || b)) → b ≡ false
-or_false true b going = cc
-or_false false true going = cc
-or_false false false going = refl
-
--- a machine with one event more, which may follow and, if it is sent, may be sent
-pub IsMachine-event : (m : MachineState) (x : Step) → IsMachine m → IsGoing m →
-    length m.events < m.config.log → MayFollow node_of_sealed m.config.number m.events x →
-    ((e : SealedEntry) → x ≡ Sent e → MaySend m.config m.events e) → IsMachine (with_event x m)
-IsMachine-event m x machine going room may send =
-    let longer : length (m.events ++ x ∷ []) ≡ length m.events + 1 = length-append m.events (x ∷ []) in
-    record {
-      version = machine.version;
-      roster = machine.roster;
-      place = machine.place;
-      public = machine.public;
-      actions = machine.actions;
-      legal = IsLegal-push node_of_sealed m.config.number m.events x machine.legal may;
-      within = omega (arith, longer, room);
-      sent = AreMade-push m.config m.events x machine.sent send;
-      stop = subst (λ n. IsWithinStop m.stop n) (sym longer)
-          (one_more m.stop (length m.events) (or_false m.marked (is_reached m.stop (length m.events)) going));
-    }
-
 -- the history of the machine that was put in a place
 pub history_set : (ms : List MachineState) (at : ℕ) (m n : MachineState) → slice_get ms at ≡ Some m →
     history (world_of (slice_set ms at n)) at ≡ n.events

@@ -50,11 +50,11 @@ or_false false false going = refl
 not_reached : (m : MachineState) → IsGoing m → is_reached m.stop (length m.events) ≡ false
 not_reached m going = or_false m.marked (is_reached m.stop (length m.events)) going
 
--- one event more, which may follow and, if it is sent, may be sent
-IsMachine-push : (m : MachineState) (x : Event SealedEntry) → IsMachine m → IsGoing m →
+-- a machine with one event more, which may follow and, if it is sent, may be sent
+pub IsMachine-event : (m : MachineState) (x : Event SealedEntry) → IsMachine m → IsGoing m →
     length m.events < m.config.log → MayFollow node_of_sealed m.config.number m.events x →
     ((e : SealedEntry) → x ≡ Sent e → MaySend m.config m.events e) → IsMachine (with_event x m)
-IsMachine-push m x machine going room may send =
+IsMachine-event m x machine going room may send =
     let longer : length (m.events ++ x ∷ []) ≡ length m.events + 1 = length-append m.events (x ∷ []) in
     record {
       version = machine.version;
@@ -78,7 +78,7 @@ module _ (m : MachineState) (election : List ℕ) (next capacity : ℕ) (before 
   IsKept-sent e may noted spare =
       let longer : length (m.events ++ Sent e ∷ []) ≡ length m.events + 1 = length-append m.events (Sent e ∷ []) in
       record {
-        machine = IsMachine-push m (Sent e) kept.machine going room (may_follow m.config m.events e may)
+        machine = IsMachine-event m (Sent e) kept.machine going room (may_follow m.config m.events e may)
             (λ f is. subst (λ (g : SealedEntry). MaySend m.config m.events g) (cc is) may);
         of_roster = kept.of_roster;
         signs_next = omega (arith, kept.signs_next, sent_one_more m.events e);
@@ -95,7 +95,7 @@ module _ (m : MachineState) (election : List ℕ) (next capacity : ℕ) (before 
       m.config.log ≤ length (m.events ++ Got e ∷ []) + spare_of after →
       IsKept (with_event (Got e) m) election next capacity after
   IsKept-got e may noted spare = record {
-    machine = IsMachine-push m (Got e) kept.machine going room may (λ f is. cc);
+    machine = IsMachine-event m (Got e) kept.machine going room may (λ f is. cc);
     of_roster = kept.of_roster;
     signs_next = kept.signs_next ∙ sym (sent_as_many m.events e);
     indexed = kept.indexed;

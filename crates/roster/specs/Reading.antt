@@ -1,5 +1,5 @@
 -- What reading a roster answers.
-use Rattle.std.specs.Prelude.{ℕ, List, Result, Ok, Err}
+use Rattle.std.specs.Prelude.{ℕ, List, Result, Ok, Err, codes}
 use Rattle.canonical_sexp.specs.Reading.{IsCanonical, StopsAt}
 use Rattle.roster.specs.declared.post.Post.{Post}
 use Rattle.roster.specs.declared.rosters.Roster.{Roster}
@@ -34,3 +34,18 @@ IsFault text fault = (machines : List Post) × IsRosterText text machines × IsM
 abbrev pub Reads : List ℕ → Result Roster RosterFault → Type 0
 Reads text (Ok roster) = IsRosterText text roster.machines × AreRoster roster.machines
 Reads text (Err fault) = IsFault text fault
+
+-- the word of a fault, as the variant is spelt
+abbrev pub fault_word : RosterFault → List ℕ
+fault_word (NotCanonical at) = codes "NotCanonical"
+fault_word WrongShape = codes "WrongShape"
+fault_word TooManyMachines = codes "TooManyMachines"
+fault_word BadName = codes "BadName"
+fault_word SameName = codes "SameName"
+fault_word NotOneSupervisor = codes "NotOneSupervisor"
+fault_word Memory = codes "Memory"
+
+-- the place of a fault: that of the byte where the text stops being canonical, and else 0
+abbrev pub fault_place : RosterFault → ℕ
+fault_place (NotCanonical at) = at
+fault_place other = 0

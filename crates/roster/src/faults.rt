@@ -1,4 +1,7 @@
 //! Why a text isn't a roster's.
+ghost use Rattle.std.specs.Prelude.{◌≡◌};
+ghost use Rattle.roster.specs.Reading.{fault_place, fault_word};
+
 use std::alloc::AllocError;
 use thiserror::Error;
 
@@ -21,6 +24,33 @@ pub enum RosterFault {
     NotOneSupervisor,
     #[error("out of memory")]
     Memory,
+}
+
+impl RosterFault {
+    /// The fault's word in lines.
+    pub fn word(self) -> &'static str
+        ensures { result.now ≡ fault_word self }
+    {
+        match self {
+            RosterFault::NotCanonical(_) => "NotCanonical",
+            RosterFault::WrongShape => "WrongShape",
+            RosterFault::TooManyMachines => "TooManyMachines",
+            RosterFault::BadName => "BadName",
+            RosterFault::SameName => "SameName",
+            RosterFault::NotOneSupervisor => "NotOneSupervisor",
+            RosterFault::Memory => "Memory",
+        }
+    }
+
+    /// The fault's place in lines, counted from 0.
+    pub fn place(self) -> u64
+        ensures { result ≡ fault_place self }
+    {
+        match self {
+            RosterFault::NotCanonical(at) => at as u64,
+            _ => 0,
+        }
+    }
 }
 
 impl From<AllocError> for RosterFault {
