@@ -1,7 +1,7 @@
 -- The steps of an audit, joined.
-use Rattle.std.proofs.Common.{◌≡◌, ◌≢◌, ◌∙◌, ℕ, List, [], ◌∷◌, ◌++◌, map, string_bytes, Option, Some, None, inl, inr, refl, sym, ap, subst}
-use Rattle.std.specs.Prelude.{Result, Ok, Err, IfOk, IfErr, IfSome, codes, length, ◌<◌}
-use Rattle.hall_outside.specs.Files.{Files, OnFile, OnSomeFile}
+use Rattle.std.proofs.Common.{◌≡◌, ℕ, List, [], ◌∷◌, ◌++◌, map, Option, Some, None, inl, inr, refl, sym, ap, subst}
+use Rattle.std.specs.Prelude.{Result, Ok, Err, IfOk, IfErr, IfSome, codes}
+use Rattle.hall_outside.specs.Files.{Files, OnSomeFile}
 use Rattle.hall_outside.specs.ReadFile.{IsRefused as FileIsRefused}
 use Rattle.hall_outside.specs.declared.reading.FileFault.TheVariants as file
 use Rattle.roster.specs.declared.post.Post.{Post}
@@ -13,19 +13,18 @@ use Rattle.rule_language.specs.Trees.{RuleTree}
 use Rattle.rule_language.specs.Standard.{standard_rules}
 use Rattle.evidence.specs.declared.fault.AuditFault.{AuditFault}
 use Rattle.evidence.specs.declared.roster_file.RosterRead.{RosterRead}
-use Rattle.evidence.specs.Refusal.{Refusal, absent, refused, too_long, refusal_of, IsAbsent, IsFaultOf}
+use Rattle.evidence.specs.Refusal.{Refusal, refused, too_long, refusal_of, IsFaultOf}
 use Rattle.evidence.specs.Reading.{StoreSeen, IsReadFrom}
 use Rattle.evidence.specs.NamedFiles.{AreFiles}
 use Rattle.evidence.specs.RosterFile.{GivesRosterIn}
-use Rattle.evidence.specs.Graphs.{entries_of, graph_refusal, GivesGraph}
 use Rattle.evidence.proofs.Readings.{of_refusal}
 use Rattle.auditor.specs.declared.judging.Unjudged.{Unjudged}
 use Rattle.auditor.specs.declared.judging.Unjudged.TheVariants.{TooWide}
 use Rattle.auditor.specs.inside.Unjudged.{IsUnjudged}
 use Rattle.auditor.specs.Rows.{row_of}
-use Rattle.auditor.specs.Report.{AuditReport, ReportParts, report_of}
+use Rattle.auditor.specs.Report.{ReportParts, report_of}
 use Rattle.auditor.specs.Sources.{RuleSource, standard, in_file, source_word, rule_files, max_rules, GivesRules}
-use Rattle.auditor.specs.Audits.{WithGraph, WithLogs, WithRules, WithRoster, OnFiles, GivesReportIn}
+use Rattle.auditor.specs.Audits.{WithGraph, WithRules, WithRoster, OnFiles, GivesReportIn}
 use Rattle.auditor.proofs.Steps.{on_refusal, read_then, read_ends}
 
 -- an answer's promise, by another one

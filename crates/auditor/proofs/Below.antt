@@ -1,5 +1,5 @@
 -- The places at which rules are broken are survivors'.
-use Rattle.std.proofs.Common.{◌≡◌, ◌∙◌, ℕ, zero, suc, ◌+◌, ◌<◌, ◌≤◌, Bool, true, false, cond, List, [], ◌∷◌, length, map, ap, sym, subst, refl, arith, Option, Some, None}
+use Rattle.std.proofs.Common.{◌≡◌, ℕ, zero, suc, ◌+◌, ◌<◌, Bool, true, false, cond, List, [], ◌∷◌, length, sym, subst, refl, arith, Option, Some, None}
 use Rattle.std.specs.Prelude.{All, find, Ok, slice_get, ◌&&◌}
 use Rattle.std.specs.List.{range_with_len}
 use Rattle.std.specs.List.{AllByRecursion as ByRecursion}
@@ -9,7 +9,6 @@ use Rattle.entry_order.specs.declared.three.Three.{Three}
 use Rattle.entry_order.specs.Ancestors.{before, is_whole}
 use Rattle.precedence.specs.Graph.{Graph}
 use Rattle.rule_language.specs.declared.row.Row.{Row}
-use Rattle.rule_language.specs.declared.kind.Kind.{Kind}
 use Rattle.rule_language.specs.declared.form.Form.{Form}
 use Rattle.rule_language.specs.declared.form.Form.TheVariants as form
 use Rattle.rule_language.specs.Trees.{Trees, no_trees, tree_then, RuleTree}

@@ -1,6 +1,6 @@
 -- What is told of a file that is read whole.
-use Rattle.std.proofs.Common.{◌≡◌, ◌≢◌, ℕ, ◌<◌, ◌≤◌, List, length, Option, Some, None, refl, sym, ap, subst}
-use Rattle.std.specs.Prelude.{Result, Ok, Err, IfOk, IfErr, IfSome, IsErrOf, IsErrAnd}
+use Rattle.std.proofs.Common.{◌≡◌, ◌≢◌, ℕ, ◌<◌, List, Option, Some, None, refl}
+use Rattle.std.specs.Prelude.{Result, Ok, Err, IfOk, IfErr, IfSome, IsErrOf}
 use Rattle.hall_outside.specs.Counts.{HasCause, ComesExactly}
 use Rattle.hall_outside.specs.Files.{Files, OnFile, OnSomeFile}
 use Rattle.hall_outside.specs.ReadFile.{IsRefused as FileIsRefused}

@@ -1,5 +1,5 @@
 -- Files give at most one report.
-use Rattle.std.proofs.Common.{◌≡◌, ◌∙◌, ℕ, ◌+◌, ◌<◌, ◌≤◌, Bool, List, [], ◌∷◌, ◌++◌, map, length, inl, inr, refl, sym, ap, subst, arith, Option, Some, None}
+use Rattle.std.proofs.Common.{◌≡◌, ◌∙◌, ℕ, ◌+◌, Bool, List, [], ◌∷◌, ◌++◌, map, length, inl, inr, refl, sym, ap, subst, arith, Option, Some, None}
 use Rattle.std.specs.Prelude.{not, ◌||◌, is_some, codes, Result, Ok, Err}
 use Rattle.std.specs.Fmt.{decimal}
 use Rattle.std.specs.List.{AllZip, flat_map, list_any, zip}
@@ -37,7 +37,7 @@ use Rattle.auditor.specs.Report.{AuditReport, report_on}
 use Rattle.auditor.specs.ReportText.{log_lines, break_line, graph_lines, fork_lines, stray_lines, entries_line}
 use Rattle.auditor.specs.ReportText.{rule_line, entry_words}
 use Rattle.auditor.specs.Same.{SameReport}
-use Rattle.auditor.specs.Sources.{RuleSource, standard, in_file, rule_files, GivesRules}
+use Rattle.auditor.specs.Sources.{RuleSource, standard, in_file, GivesRules}
 use Rattle.auditor.specs.Audits.{AndThen, GivesVerdicts, WithGraph, WithLogs, WithRules, WithRoster, GivesReport}
 use Rattle.auditor.proofs.OneVerdict.{SameVerdict, verdicts_agree}
 

@@ -1,6 +1,6 @@
 -- Rules have one verdict by graphs that tell the same.
-use Rattle.std.proofs.Common.{◌≡◌, ◌∙◌, ℕ, zero, suc, ◌+◌, ◌<◌, ◌≤◌, Bool, true, false, cond, List, [], ◌∷◌, length, inl, inr, refl, sym, ap, subst, arith, Option, Some}
-use Rattle.std.specs.Prelude.{◌==◌, ◌||◌, ◌⊎◌, Result, Ok, Err, slice_get, codes}
+use Rattle.std.proofs.Common.{◌≡◌, ◌∙◌, ℕ, zero, suc, ◌<◌, ◌≤◌, Bool, true, false, cond, List, [], ◌∷◌, length, inl, inr, refl, sym, ap, subst, arith}
+use Rattle.std.specs.Prelude.{◌==◌, ◌||◌, ◌⊎◌, Result, Ok, Err, codes}
 use Rattle.std.specs.List.{AllZip, Contains, list_any}
 use Rattle.std.proofs.lemmas.Bool.{false≢true, cases_lt, cases_order}
 use Rattle.entry_format.specs.SealedEntry.{SealedEntry}
@@ -11,7 +11,7 @@ use Rattle.entry_order.proofs.Lists.{Contains-head, Contains-later}
 use Rattle.entry_graph.specs.EntryGraph.{EntryGraph, parents_of, ragged_of}
 use Rattle.rule_language.specs.declared.row.Row.{Row}
 use Rattle.rule_language.specs.Trees.{Trees, RuleTree}
-use Rattle.rule_engine.specs.Verdicts.{IsVerdict, IsAnswer, is_too_wide}
+use Rattle.rule_engine.specs.Verdicts.{IsVerdict}
 use Rattle.rule_engine.specs.declared.verdict.Verdict.{Verdict}
 use Rattle.rule_engine.specs.declared.verdict.Verdict.TheVariants.{Kept, Broken, Unsettled}
 use Rattle.rule_engine.proofs.Graphs.{same_answer}

@@ -1,10 +1,10 @@
 -- Steps that read one after another.
-use Rattle.std.proofs.Common.{◌≡◌, ◌≢◌, ◌∙◌, ℕ, ◌<◌, ◌≤◌, List, [], ◌∷◌, ◌++◌, Option, Some, None, inl, inr, refl, sym, ap, subst, arith}
-use Rattle.std.specs.Prelude.{Result, Ok, Err, IfOk, IfErr, IfSome, IsErrOf, IsErrAnd, ◌⊎◌, ◌+◌, ◌^◌}
-use Rattle.hall_outside.specs.Counts.{HasRisen, HasCause, ComesExactly}
-use Rattle.hall_outside.specs.Files.{Files, OnFile}
+use Rattle.std.proofs.Common.{◌≡◌, ◌≢◌, ◌∙◌, ℕ, ◌<◌, ◌≤◌, Option, Some, None, inl, inr, sym, ap, subst, arith}
+use Rattle.std.specs.Prelude.{Result, Ok, Err, IfOk, IfErr, IfSome, IsErrOf, IsErrAnd}
+use Rattle.hall_outside.specs.Counts.{HasRisen}
+use Rattle.hall_outside.specs.Files.{Files}
 use Rattle.evidence.specs.declared.fault.AuditFault.{AuditFault}
-use Rattle.evidence.specs.declared.fault.AuditFault.TheVariants.{Absent, Refused, ReadFault, Memory}
+use Rattle.evidence.specs.declared.fault.AuditFault.TheVariants.{ReadFault, Memory}
 use Rattle.evidence.specs.Refusal.{Refusal, refusal_of, IsAbsent}
 use Rattle.evidence.specs.Reading.{StoreSeen, IsReadFrom}
 

@@ -11,7 +11,7 @@ use Rattle.entry_format.specs.SealedEntry.{SealedEntry}
 use Rattle.entry_order.specs.World.{history, sent_in}
 use Rattle.entry_order.specs.declared.event.Event.{Event}
 use Rattle.log_files.specs.LogText.{HasHeader, header_tree}
-use Rattle.log_files.specs.Written.{log_text, record_text}
+use Rattle.log_files.specs.Written.{record_text}
 use Rattle.polling_world.specs.Keys.{roster_of}
 use Rattle.polling_world.specs.Machines.{MachineState}
 use Rattle.polling_world.specs.Playing.{IsPlayed}

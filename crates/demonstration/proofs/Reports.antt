@@ -1,5 +1,5 @@
 -- What an audit gives of a roster and one log.
-use Rattle.std.proofs.Common.{◌≡◌, ℕ, ◌≤◌, inl, inr, List, [], ◌∷◌, length, refl, Some}
+use Rattle.std.proofs.Common.{ℕ, ◌≤◌, inl, inr, List, [], ◌∷◌, length, refl, Some}
 use Rattle.std.specs.Prelude.{Result, Ok, Err, codes}
 use Rattle.sha2.specs.Sha256.{sha256}
 use Rattle.canonical_sexp.specs.Text.{text_of}

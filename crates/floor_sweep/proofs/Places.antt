@@ -1,22 +1,16 @@
 -- Machines in their places, one of which has one event more.
-use Rattle.std.proofs.Common.{◌≡◌, ◌≢◌, ◌∙◌, ℕ, zero, suc, ◌+◌, ◌<◌, inl, inr, Bool, true, false, List, [], ◌∷◌, ◌++◌}
-use Rattle.std.proofs.Common.{length, Some, None, Option, refl, sym, ap, subst, arith, length-append}
-use Rattle.std.specs.Prelude.{slice_get, slice_set, IsTrue, not, ◌||◌}
-use Rattle.std.proofs.lemmas.Bool.{leb-false, cases_eq}
+use Rattle.std.proofs.Common.{◌≡◌, ◌≢◌, ◌∙◌, ℕ, zero, suc, ◌+◌, ◌<◌, inl, inr, List, [], ◌∷◌, ◌++◌}
+use Rattle.std.proofs.Common.{length, Some, refl, sym, ap, arith}
+use Rattle.std.specs.Prelude.{slice_get, slice_set}
+use Rattle.std.proofs.lemmas.Bool.{cases_eq}
 use Rattle.std.proofs.lemmas.List.{append-nil}
 use Rattle.entry_format.specs.Nodes.{node_of_sealed}
 use Rattle.entry_format.specs.SealedEntry.{SealedEntry}
 use Rattle.entry_order.specs.declared.event.Event.{Event}
-use Rattle.entry_order.specs.declared.event.Event.TheVariants.{Sent}
-use Rattle.entry_order.specs.History.{MayFollow}
 use Rattle.entry_order.specs.World.{history, with_machine, append}
-use Rattle.entry_order.proofs.Histories.{IsLegal-push}
 use Rattle.floor_losses.proofs.Sweeps.{history_here, history_other}
-use Rattle.polling_world.specs.Machines.{MachineState, IsMachine, IsWithinStop, is_reached, with_event}
-use Rattle.polling_world.specs.Sending.{MaySend}
-use Rattle.polling_world.specs.Waiting.{IsGoing}
+use Rattle.polling_world.specs.Machines.{MachineState, with_event}
 use Rattle.polling_world.specs.Worlds.{world_of}
-use Rattle.polling_world.proofs.Histories.{AreMade-push}
 use Rattle.polling_world.proofs.Placing.{history_there, set_get}
 
 -- an event of a machine's history

@@ -1,9 +1,9 @@
 -- Records one right after another.
-use Rattle.std.proofs.Common.{◌≡◌, ◌∙◌, ℕ, ◌+◌, ◌-◌, ◌<◌, ◌≤◌, Bool, List, [], ◌∷◌, ◌++◌, length, take, drop, Result, Ok}
+use Rattle.std.proofs.Common.{◌≡◌, ◌∙◌, ℕ, ◌+◌, ◌<◌, Bool, List, [], ◌∷◌, ◌++◌, length, take, drop, Result, Ok}
 use Rattle.std.proofs.Common.{Err, refl, ap, sym, subst, arith, append_assoc, append-nil, length-append, inl, inr}
 use Rattle.std.proofs.Common.{zero, suc}
 use Rattle.std.specs.List.{flat_map}
-use Rattle.std.proofs.lemmas.List.{take-append-drop, length-drop, length-take-le, drop-drop, take_rest, nil_from_length}
+use Rattle.std.proofs.lemmas.List.{take-append-drop, length-drop, length-take-le, drop-drop}
 use Rattle.std.proofs.lemmas.List.Elements.{All-push, All-nil}
 use Rattle.canonical_sexp.specs.declared.sexp.Sexp.{Sexp}
 use Rattle.canonical_sexp.specs.declared.sexp.Sexp.TheVariants.{Atom, List as Branch}
@@ -12,9 +12,7 @@ use Rattle.canonical_sexp.specs.declared.read.Read.TheVariants as read
 use Rattle.canonical_sexp.specs.Reading.{Answers}
 use Rattle.canonical_sexp.specs.Text.{text_of, Fits}
 use Rattle.entry_format.specs.declared.plain.EntryFault.{EntryFault}
-use Rattle.canonical_sexp.specs.declared.read.Why.{Why}
 use Rattle.log_files.specs.declared.plain_log.End.{End}
-use Rattle.log_files.specs.declared.plain_log.End.TheVariants.{Clean, Torn, Malformed}
 use Rattle.log_files.specs.LogText.{header_tree, IsEnd, Gives, EachGives, kept_of, refused_of, AreLog}
 use Rattle.log_files.specs.inside.Parts.{Adds, IsHeaderOf}
 use Rattle.log_files.specs.inside.Taking.{AreReadTo}

@@ -12,7 +12,6 @@ use Rattle.roster.specs.declared.post.Role.TheVariants.{Supervisor, Booth}
 use Rattle.first_cause.specs.Causes.{IsFirstOf}
 use Rattle.entry_format.specs.Deeds.{IsDeedOf}
 use Rattle.booth_core.specs.Table as booth
-use Rattle.booth_core.specs.Table.{causes_of}
 use Rattle.booth_core.specs.declared.state.BoothNot.{BoothNot}
 use Rattle.supervisor_core.specs.Notes as supervisor_notes
 use Rattle.supervisor_core.specs.State as supervisor_state

@@ -1,4 +1,4 @@
-use Rattle.std.proofs.Common.{List, map, refl}
+use Rattle.std.proofs.Common.{map, refl}
 use Rattle.rule_language.specs.Forms.{rule_tree}
 use Rattle.evidence.specs.Reading.{store_seen}
 use Rattle.auditor.specs.Sources.{max_rules, GivesRules}

@@ -1,4 +1,4 @@
-use Rattle.std.proofs.Common.{◌∙◌, List, map, string_bytes, ap}
+use Rattle.std.proofs.Common.{◌∙◌, map, string_bytes, ap}
 use Rattle.rule_language.specs.Forms.{rule_tree}
 use Rattle.auditor.specs.Judged.{nodes_of}
 use Rattle.auditor.specs.Sources.{source_of}

@@ -1,4 +1,4 @@
-use Rattle.std.proofs.Common.{◌≡◌, List, ℕ, inl, inr, map, refl, sym, subst, string_bytes}
+use Rattle.std.proofs.Common.{List, ℕ, inl, inr, map, refl, subst, string_bytes}
 use Rattle.std.specs.Prelude.{Result, Ok, Err}
 use Rattle.log_files.specs.declared.sealed_log.LogRead.{LogRead}
 use Rattle.rule_language.specs.Forms.{rule_tree}

@@ -1,4 +1,4 @@
-use Rattle.std.proofs.Common.{◌∙◌, List, map, inl, inr, refl, sym, string_bytes}
+use Rattle.std.proofs.Common.{◌∙◌, map, inl, inr, refl, sym, string_bytes}
 use Rattle.std.proofs.lemmas.List.{length-map}
 use Rattle.std.specs.Prelude.{Ok, Err}
 use Rattle.rule_language.specs.Forms.{rule_tree}

@@ -1,4 +1,4 @@
-use Rattle.std.proofs.Common.{◌≡◌, ◌≤◌, ◌<◌, map, take, length}
+use Rattle.std.proofs.Common.{◌≡◌, ◌≤◌, map, take}
 use Rattle.std.specs.Prelude.{vec_capacity}
 use Rattle.auditor.specs.Rows.{row_of}
 use Rattle.auditor.proofs.row.rows.Given as goal

@@ -1,4 +1,4 @@
-use Rattle.std.proofs.Common.{◌≡◌, ◌∙◌, ◌≤◌, List, ℕ, length, ap, sym, subst}
+use Rattle.std.proofs.Common.{◌∙◌, ◌≤◌, List, ℕ, length, ap, sym, subst}
 use Rattle.std.specs.Prelude.{Ok, Err}
 use Rattle.canonical_sexp.specs.Text.{text_of}
 use Rattle.roster.specs.declared.post.Post.{Post}

@@ -1,4 +1,4 @@
-use Rattle.std.proofs.Common.{◌≡◌, ◌∙◌, ◌<◌, List, ℕ, length, slice_index_or, ap, sym, arith, rules}
+use Rattle.std.proofs.Common.{◌≡◌, ◌∙◌, ◌<◌, List, length, slice_index_or, ap, sym, arith, rules}
 use Rattle.roster.specs.declared.post.Post.{Post}
 use Rattle.entry_format.specs.Unsealing.{key_at}
 use Rattle.entry_format.proofs.Keys.{key_is}

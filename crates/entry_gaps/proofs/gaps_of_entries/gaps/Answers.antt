@@ -1,4 +1,4 @@
-use Rattle.std.proofs.Common.{◌≡◌, ◌∙◌, sym, List, ℕ, subst}
+use Rattle.std.proofs.Common.{List, ℕ, subst}
 use Rattle.entry_gaps.specs.Without.{IsWithout}
 use Rattle.entry_gaps.proofs.Members.{gaps_from}
 use Rattle.entry_gaps.proofs.gaps_of_entries.gaps.Goals as goal
