@@ -1,9 +1,9 @@
 //! Judging rules one after another.
-ghost use Rattle.std.specs.Prelude.{◌≡◌, length, map, IfOk, IfErr, MatchResult};
+ghost use Rattle.std.specs.Prelude.{◌≡◌, length, map, IfOk, IfErr};
 ghost use Rattle.precedence.specs.Graph.{Graph};
 ghost use Rattle.precedence.specs.Known.{IsKnownOf, known_count};
 ghost use Rattle.rule_language.specs.Forms.{rule_tree};
-ghost use Rattle.auditor.specs.Judged.{AreJudged, IsFirstTooWide};
+ghost use Rattle.auditor.specs.Judged.{AreJudged};
 ghost use Rattle.auditor.specs.inside.Unjudged.{IsUnjudged};
 
 use precedence::Rows;

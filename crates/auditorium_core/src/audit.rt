@@ -1,5 +1,5 @@
 // The command `audit`: the report on a polling place from whatever logs survive.
-ghost use Rattle.std.specs.Prelude.{◌≡◌, ◌≢◌, map, IfOk, IfErr, string_bytes};
+ghost use Rattle.std.specs.Prelude.{◌≡◌, ◌≢◌, map, IfOk, string_bytes};
 ghost use Rattle.evidence.specs.Reading.{store_seen};
 ghost use Rattle.auditor.specs.Report.{report_of};
 ghost use Rattle.auditor.specs.Sources.{source_of};

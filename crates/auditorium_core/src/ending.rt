@@ -1,5 +1,4 @@
 // How the program ends with an answer.
-ghost use Rattle.std.specs.Prelude.{◌≡◌};
 ghost use Rattle.evidence.specs.Reading.{store_seen};
 ghost use Rattle.auditorium_core.specs.Outcome.{outside, IsWrittenBy};
 ghost use Rattle.auditorium_core.specs.inside.Ending.{EndsWith};

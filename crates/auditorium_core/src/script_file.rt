@@ -1,5 +1,5 @@
 // A script's file.
-ghost use Rattle.std.specs.Prelude.{◌≡◌, ◌≢◌, ◌≤◌, Err, IfErr, IfOk, IfSome, Ok, Some, length};
+ghost use Rattle.std.specs.Prelude.{◌≢◌, ◌≤◌, Err, IfErr, IfOk, IfSome, Ok, Some, length};
 ghost use Rattle.election_script.specs.Lawful.{IsLawful};
 ghost use Rattle.evidence.specs.Reading.{IsReadFrom, store_seen};
 ghost use Rattle.evidence.specs.Refusal.{IsAbsent, refusal_of};

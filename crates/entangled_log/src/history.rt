@@ -1,6 +1,6 @@
 //! What is read from the events of a log, by places that it keeps.
 
-ghost use Rattle.std.specs.Prelude.{◌≡◌, ◌+◌, ◌<◌, length, map, option_map, IfNone, IfOk, IfSome};
+ghost use Rattle.std.specs.Prelude.{◌≡◌, ◌<◌, length, map, option_map, IfNone, IfOk, IfSome};
 ghost use Rattle.std.specs.Prelude.{Some, None, slice_get, vec_len, vec_capacity};
 ghost use Rattle.std.specs.List.{All};
 ghost use Rattle.entry_order.specs.Frontier.{frontier};

@@ -1,6 +1,5 @@
 //! The graph of the entries that are given.
 ghost use Rattle.std.specs.Prelude.{◌≡◌, ◌<◌, Some, length, slice_get};
-ghost use Rattle.std.specs.List.{All};
 ghost use Rattle.entry_graph.specs.Answers.{IsGraphAnswer};
 ghost use Rattle.entry_graph.specs.EntryGraph.{IsEntryGraph};
 

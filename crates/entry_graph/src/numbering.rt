@@ -1,5 +1,4 @@
 //! The numbers of survivors.
-ghost use Rattle.std.specs.Prelude.{◌≡◌};
 ghost use Rattle.std.specs.List.{AllPairs};
 ghost use Rattle.std.specs.List.Sorted.{IsPermutation};
 ghost use Rattle.entry_graph.specs.EntryGraph.{IsLower};

@@ -15,7 +15,6 @@ pub trait SignedText: Knot {
 }
 
 impl SignedText for Sealed {
-    ghost use Rattle.entry_format.specs.SealedEntry.{SealedEntry};
 
     ghost text = { λ sealed. sealed.text };
 

@@ -1,5 +1,5 @@
 //! Strays, which are set aside.
-ghost use Rattle.std.specs.Prelude.{◌≡◌, ℕ, IfOk, List, Option};
+ghost use Rattle.std.specs.Prelude.{◌≡◌, IfOk, List, Option};
 ghost use Rattle.std.specs.List.{list_any};
 ghost use Rattle.entry_order.specs.Survivors.{is_stray, survivors};
 ghost use Rattle.entry_graph.specs.inside.Tables.{AreStamps, is_from, number_at};

@@ -1,5 +1,5 @@
 //! A roster's file.
-ghost use Rattle.std.specs.Prelude.{◌≡◌, ◌≢◌, ◌≤◌, Err, IfOk, IfErr, IfSome, Ok, Some, length};
+ghost use Rattle.std.specs.Prelude.{◌≢◌, ◌≤◌, Err, IfOk, IfErr, IfSome, Ok, Some, length};
 ghost use Rattle.evidence.specs.Reading.{IsReadFrom, store_seen};
 ghost use Rattle.evidence.specs.Refusal.{IsAbsent, refusal_of};
 ghost use Rattle.evidence.specs.RosterFile.{GivesRoster, GivesRosterIn, max_roster};

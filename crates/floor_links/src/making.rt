@@ -1,6 +1,6 @@
 //! The links of a place, made row by row.
-ghost use Rattle.std.specs.Prelude.{◌≡◌, ◌<◌, ◌≤◌, ◌++◌, [], ◌∷◌, length, map, IfOk, slice_set, vec_len};
-ghost use Rattle.std.specs.Prelude.{slice_index_or, vec_items};
+ghost use Rattle.std.specs.Prelude.{◌≡◌, ◌<◌, ◌≤◌, ◌++◌, [], ◌∷◌, map, IfOk, slice_set, vec_len};
+ghost use Rattle.std.specs.Prelude.{slice_index_or};
 ghost use Rattle.floor_links.specs.Fresh.{AreNewLinks};
 ghost use Rattle.floor_links.specs.inside.Growing.{IsRowBelow};
 

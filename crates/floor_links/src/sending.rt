@@ -1,11 +1,11 @@
 //! What becomes of an entry that a machine sent.
-ghost use Rattle.std.specs.Prelude.{◌≡◌, ◌≢◌, ◌≤◌, ◌<◌, ◌+◌, ◌++◌, [], ℕ, List, All};
-ghost use Rattle.std.specs.Prelude.{length, slice_index_or, vec_capacity, vec_len};
+ghost use Rattle.std.specs.Prelude.{◌≡◌, ◌≢◌, ◌≤◌, ◌<◌, ◌+◌, ◌++◌, ℕ, List, All};
+ghost use Rattle.std.specs.Prelude.{slice_index_or, vec_capacity, vec_len};
 ghost use Rattle.entry_format.specs.SealedEntry.{SealedEntry};
-ghost use Rattle.broadcast_queues.specs.Ends.{IsOutOf, OutView, LinkView};
+ghost use Rattle.broadcast_queues.specs.Ends.{IsOutOf, OutView};
 ghost use Rattle.floor_losses.specs.declared.loss.Loss.{Loss};
 ghost use Rattle.floor_links.specs.Sendings.{AreCopies, IsSentBelow, IsSentTo};
-ghost use Rattle.floor_links.specs.Rows.{HaveCapacity, IsRowOf, link_at};
+ghost use Rattle.floor_links.specs.Rows.{HaveCapacity, IsRowOf};
 
 use crate::links::Links;
 use crate::parcel::Broadcast;

@@ -1,5 +1,5 @@
 // Files of the system, as they are opened, read, replaced and written.
-ghost use Rattle.std.specs.Prelude.{◌≡◌, ◌≤◌, ◌<◌, [], length, IfOk, None};
+ghost use Rattle.std.specs.Prelude.{◌≤◌, ◌<◌, [], length, IfOk, None};
 ghost use Rattle.hall_outside.specs.declared.stores.Taken.TheVariants.{Bytes};
 ghost use Rattle.hall_outside.specs.Reading.{IsTaken};
 ghost use Rattle.hall_outside.specs.Writing.{IsCountOf};

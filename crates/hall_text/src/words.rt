@@ -2,7 +2,6 @@
 ghost use Rattle.std.specs.Prelude.{◌≡◌, ◌<◌, ◌^◌};
 ghost use Rattle.std.specs.Fmt.{decimal};
 ghost use Rattle.canonical_sexp.specs.Forms.{Finds};
-ghost use Rattle.hex.specs.Hex.{encode_lower, IsBytes};
 ghost use Rattle.hall_text.specs.Words.{IsDigestText};
 
 use canonical_sexp::number_of;

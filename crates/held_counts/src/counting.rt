@@ -10,7 +10,7 @@ ghost use Rattle.held_counts.specs.Counts.{
   taken_in,
 };
 ghost use Rattle.held_counts.specs.Places.{IsSentAt};
-ghost use Rattle.entry_order.specs.History.{held, sent, greatest_stamp};
+ghost use Rattle.entry_order.specs.History.{held, greatest_stamp};
 ghost use Rattle.entry_order.specs.World.{history};
 ghost use Rattle.entry_order.specs.HeldBefore.{HeldBefore};
 ghost use Rattle.entry_order.specs.Receipt.{IsOrderly};

@@ -1,5 +1,5 @@
 //! Reading a log as its bytes come, a piece at a time.
-ghost use Rattle.std.specs.Prelude.{◌≡◌, ◌≤◌, ◌+◌, ◌++◌, ℕ, List, length, drop, IfOk, IfErr, IsErrOf};
+ghost use Rattle.std.specs.Prelude.{◌≡◌, ◌≤◌, ◌+◌, length, drop, IfOk, IfErr, IsErrOf};
 ghost use Rattle.hall_outside.specs.Counts.{HasCause, ComesExactly};
 ghost use Rattle.hall_outside.specs.Files.{OnSomeFile};
 ghost use Rattle.hall_outside.specs.ReadFile.{ReadsOn};

@@ -1,6 +1,6 @@
 //! A run of a script in threads.
-ghost use Rattle.std.specs.Prelude.{◌≡◌, ◌≤◌, ◌*◌, ◌+◌, IfOk, length, map};
-ghost use Rattle.std.specs.List.{flat_map, sum_by};
+ghost use Rattle.std.specs.Prelude.{◌≡◌, ◌*◌, ◌+◌, IfOk, length, map};
+ghost use Rattle.std.specs.List.{flat_map};
 ghost use Rattle.election_script.specs.Lawful.{IsLawful};
 ghost use Rattle.finished_floor.specs.Floors.{IsFloorOf};
 

@@ -1,7 +1,7 @@
 //! Two threads for each station.
-ghost use Rattle.std.specs.Prelude.{◌≡◌, ◌≢◌, ◌<◌, ℕ, [], ◌∷◌, All, length, IfOk, slice_index_or};
+ghost use Rattle.std.specs.Prelude.{◌≡◌, ◌<◌, ℕ, [], All, IfOk, slice_index_or};
 ghost use Rattle.std.specs.Prelude.{vec_len};
-ghost use Rattle.machine_floor.specs.Stations.{StationState, IsOfLinks, made_of};
+ghost use Rattle.machine_floor.specs.Stations.{IsOfLinks, made_of};
 ghost use Rattle.machine_floor.specs.declared.station.Station.{Station};
 
 use crate::news::News;

@@ -5,7 +5,7 @@
 //! nodes.
 #![tactic(auto)]
 
-ghost use Rattle.std.specs.Prelude.{◌≡◌, ◌≤◌, ◌<◌, IfOk, [], if◌then◌else◌, length, nat_lt};
+ghost use Rattle.std.specs.Prelude.{◌≡◌, ◌<◌, IfOk, [], if◌then◌else◌, length, nat_lt};
 ghost use Rattle.std.specs.List.{All, list_all};
 ghost use Rattle.precedence.specs.Known.{known_count};
 

@@ -1,8 +1,6 @@
 //! The rules of a machine's role.
 ghost use Rattle.std.specs.Prelude.{◌≡◌, ◌+◌, ◌≤◌, [], ◌∷◌, ◌++◌, List, ℕ, IfOk};
 ghost use Rattle.entry_format.specs.declared.entry.Entry.{Entry};
-ghost use Rattle.entry_format.specs.SealedEntry.{SealedEntry};
-ghost use Rattle.entry_order.specs.declared.event.Event.{Event};
 ghost use Rattle.roster.specs.declared.post.Role.{Role};
 ghost use Rattle.booth_core.specs.State.{StandsFor};
 ghost use Rattle.booth_core.specs.Table.{Refuses};

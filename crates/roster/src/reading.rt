@@ -1,5 +1,5 @@
 //! Reading the parts of a roster where its text stands.
-ghost use Rattle.std.specs.Prelude.{◌≡◌, ◌≢◌, ◌≤◌, ◌↔◌, ℕ, List, map, length, All, Any, AllPairs};
+ghost use Rattle.std.specs.Prelude.{◌≡◌, ◌≢◌, ◌≤◌, ◌↔◌, List, map, length, All, Any, AllPairs};
 ghost use Rattle.std.specs.Prelude.{count_by, IsTrue, IfOk, IfSome, IfNone, MatchOption};
 ghost use Rattle.canonical_sexp.specs.Forms.{Finds};
 ghost use Rattle.canonical_sexp.specs.Sexp.{members_of};

@@ -1,5 +1,5 @@
 //! What is answered of a rule.
-ghost use Rattle.std.specs.Prelude.{◌≡◌, ◌++◌, ◌<◌, [], ℕ, length, OnOk, IfSome};
+ghost use Rattle.std.specs.Prelude.{◌≡◌, ◌++◌, ◌<◌, length, OnOk, IfSome};
 ghost use Rattle.precedence.specs.Graph.{Graph};
 ghost use Rattle.precedence.specs.Known.{IsKnownOf, known_before, known_count, known_whole};
 ghost use Rattle.rule_engine.specs.Meaning.{bind};

@@ -1,12 +1,10 @@
 //! Reading the formulas in which no other stands, behind their first words.
-ghost use Rattle.std.specs.Prelude.{◌≡◌, ◌<◌, ◌+◌, ℕ, List, [], ◌∷◌, length, IfOk};
-ghost use Rattle.rule_language.specs.declared.form.Head.{Head as HeadOf};
+ghost use Rattle.std.specs.Prelude.{◌<◌, ℕ, [], ◌∷◌, IfOk};
 ghost use Rattle.rule_language.specs.declared.form.Head.TheVariants as head;
 ghost use Rattle.rule_language.specs.Kinds.{head_word};
-ghost use Rattle.rule_language.specs.Spelling.{left, right, variable};
-ghost use Rattle.rule_language.specs.Lawful.{is_bound};
-ghost use Rattle.rule_language.specs.Wants.{Want, a_variable, first_term, close, behind_head};
-ghost use Rattle.rule_language.specs.inside.Reader.{IsNext, FailsAt, IfFault, IsRead, Takes, IsPair, AreTerms, bindings};
+ghost use Rattle.rule_language.specs.Spelling.{left};
+ghost use Rattle.rule_language.specs.Wants.{a_variable, first_term, close, behind_head};
+ghost use Rattle.rule_language.specs.inside.Reader.{IsNext, FailsAt, IfFault, IsRead, IsPair, AreTerms, bindings};
 
 use crate::faults::RuleFault;
 use crate::formula::Formula;

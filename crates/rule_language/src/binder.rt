@@ -1,10 +1,9 @@
 //! What a quantifier binds.
-ghost use Rattle.std.specs.Prelude.{◌≡◌, ◌≢◌, ℕ, List, [], ◌∷◌, IfOk};
+ghost use Rattle.std.specs.Prelude.{◌≡◌, ℕ, ◌∷◌, IfOk};
 ghost use Rattle.rule_language.specs.declared.kind.Kind.{Kind as KindOf};
 ghost use Rattle.rule_language.specs.Forms.{tree_of};
 ghost use Rattle.rule_language.specs.Trees.{tree_then, no_trees};
-ghost use Rattle.rule_language.specs.Spelling.{piece};
-ghost use Rattle.rule_language.specs.Wants.{Want, new_variable, before_or_body};
+ghost use Rattle.rule_language.specs.Wants.{new_variable, before_or_body};
 ghost use Rattle.rule_language.specs.inside.Reader.{IsNext, FailsAt, IfFault, bindings};
 ghost use Rattle.rule_language.specs.inside.Quantifiers.{quantifier_form, IsBinder, IsRange};
 

@@ -1,10 +1,9 @@
 //! Reading formulas. They nest at most 32 parentheses deep, and so does the recursion.
-ghost use Rattle.std.specs.Prelude.{◌≡◌, ◌<◌, ◌+◌, ◌≤◌, ℕ, List, [], ◌∷◌, length, if◌then◌else◌, IfOk, Ok, Some};
+ghost use Rattle.std.specs.Prelude.{◌≡◌, ◌<◌, ◌+◌, [], ◌∷◌, if◌then◌else◌, IfOk, Ok, Some};
 ghost use Rattle.rule_language.specs.declared.form.Head.TheVariants as heads;
 ghost use Rattle.rule_language.specs.Kinds.{head_word};
-ghost use Rattle.rule_language.specs.Forms.{tree_of, trees_of};
-ghost use Rattle.rule_language.specs.Spelling.{left, right};
-ghost use Rattle.rule_language.specs.Wants.{Want, formula, head, more, close, nested, behind_head};
+ghost use Rattle.rule_language.specs.Spelling.{left};
+ghost use Rattle.rule_language.specs.Wants.{formula, head, more, close, nested, behind_head};
 ghost use Rattle.rule_language.specs.inside.Reader.{IsNext, FailsAt, IfFault, IsRead, IsBody, IsSeveral, bindings};
 ghost use Rattle.rule_language.specs.inside.Quantifiers.{quantifier_head};
 

@@ -1,15 +1,13 @@
 //! Reading formulas: a function for each thing that may stand at a place. Each looks at the token
 //! that is there, and once.
-ghost use Rattle.std.specs.Prelude.{◌≡◌, ◌≢◌, ◌≤◌, ◌<◌, ◌+◌, true, ℕ, List, [], ◌∷◌, length, codes, IfOk, Ok};
+ghost use Rattle.std.specs.Prelude.{◌≡◌, ◌≢◌, ◌<◌, true, ℕ, List, [], ◌∷◌, IfOk, Ok};
 ghost use Rattle.roster.specs.RosterText.{role_word};
 ghost use Rattle.rule_language.specs.declared.kind.Kind.{Kind};
 ghost use Rattle.rule_language.specs.declared.faults.RuleWhy.{RuleWhy};
 ghost use Rattle.rule_language.specs.Kinds.{kind_word, head_word, is_same_sort};
-ghost use Rattle.rule_language.specs.Trees.{count_of};
-ghost use Rattle.rule_language.specs.Forms.{tree_of, trees_of};
-ghost use Rattle.rule_language.specs.Lawful.{is_bound, are_formulas};
-ghost use Rattle.rule_language.specs.Spelling.{Token as TokenBytes, left, right, variable, term_word, piece, tokens_then};
-ghost use Rattle.rule_language.specs.Wants.{Want, formula, head, new_variable, kind_of, before_or_body, more, a_variable, a_role, a_kind, first_term, second_term, close, only, nested, kind_for, new_in, letter_in, may_begin};
+ghost use Rattle.rule_language.specs.Lawful.{is_bound};
+ghost use Rattle.rule_language.specs.Spelling.{variable, term_word, piece};
+ghost use Rattle.rule_language.specs.Wants.{Want, formula, head, new_variable, a_variable, a_role, first_term, second_term, only, nested, kind_for, new_in, letter_in, may_begin};
 ghost use Rattle.rule_language.specs.inside.Reader.{IsNext, Takes, FailsAt, IfFault, IsRefused, IsTyped, Asks, bindings};
 
 use crate::faults::{RuleFault, RuleWhy};

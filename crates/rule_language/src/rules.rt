@@ -1,10 +1,9 @@
 //! Reading rules.
-ghost use Rattle.std.specs.Prelude.{◌≡◌, ◌≢◌, ◌≤◌, nat_lt, true, List, [], ◌∷◌, length, map, string_bytes, IfOk, Ok, Err};
-ghost use Rattle.rule_language.specs.Trees.{RuleTree};
+ghost use Rattle.std.specs.Prelude.{◌≡◌, ◌≢◌, nat_lt, true, [], ◌∷◌, length, string_bytes, IfOk, Ok, Err};
 ghost use Rattle.rule_language.specs.Forms.{rule_tree};
 ghost use Rattle.rule_language.specs.Lawful.{is_name, is_rule};
-ghost use Rattle.rule_language.specs.Spelling.{rule_tokens, piece, left};
-ghost use Rattle.rule_language.specs.Wants.{Want, more_rules, rule_name, name_in, opening};
+ghost use Rattle.rule_language.specs.Spelling.{rule_tokens, left};
+ghost use Rattle.rule_language.specs.Wants.{more_rules, rule_name, name_in, opening};
 ghost use Rattle.rule_language.specs.Reading.{Reads, answered};
 ghost use Rattle.rule_language.specs.inside.Reader.{IsNext, Takes, FailsAt, IfFault, rule_names};
 

@@ -1,10 +1,9 @@
 //! Writing the text of rules.
-ghost use Rattle.std.specs.Prelude.{◌≡◌, ◌∷◌, ◌++◌, [], List, map, codes, IfOk, OnOk};
-ghost use Rattle.roster.specs.RosterText.{role_word};
+ghost use Rattle.std.specs.Prelude.{◌≡◌, ◌∷◌, ◌++◌, [], map, codes, IfOk, OnOk};
 ghost use Rattle.rule_language.specs.Kinds.{kind_word};
 ghost use Rattle.rule_language.specs.Trees.{Trees, no_trees, tree_then};
 ghost use Rattle.rule_language.specs.Forms.{tree_of, trees_of, rule_tree};
-ghost use Rattle.rule_language.specs.Spelling.{Token as TokenBytes, variable, term_word, form_words};
+ghost use Rattle.rule_language.specs.Spelling.{variable, term_word, form_words};
 ghost use Rattle.rule_language.specs.Written.{spaced, joined, row_text, rule_text, rules_text};
 ghost use Rattle.rule_language.specs.declared.form.Form.{Form as FormOf};
 

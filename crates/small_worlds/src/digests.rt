@@ -1,6 +1,6 @@
 //! Ascending digests, and the frontier and the gaps of some entries.
 
-ghost use Rattle.std.specs.Prelude.{◌≡◌, ◌≤◌, ◌++◌, not, length, map, OnOk, IfOk, IfSome};
+ghost use Rattle.std.specs.Prelude.{◌≡◌, ◌≤◌, not, length, map, OnOk, IfOk, IfSome};
 ghost use Rattle.std.specs.List.{filter, flat_map};
 ghost use Rattle.entry_order.specs.Ascending.{ascending, insert_digest};
 ghost use Rattle.entry_order.specs.Frontier.{frontier};

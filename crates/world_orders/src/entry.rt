@@ -1,6 +1,6 @@
 //! The entries of a small world.
 
-ghost use Rattle.std.specs.Prelude.{◌≡◌, ◌<◌, IfOk};
+ghost use Rattle.std.specs.Prelude.{◌≡◌, ◌<◌};
 ghost use Rattle.world_orders.specs.Numbered.{digest_of, may_send};
 
 use entry_order::{Event, Knot};

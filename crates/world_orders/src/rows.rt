@@ -2,7 +2,6 @@
 
 ghost use Rattle.std.specs.Prelude.{◌≡◌, ◌<◌, [], if◌then◌else◌, nat_lt};
 ghost use Rattle.std.specs.List.{All, list_all};
-ghost use Rattle.precedence.specs.Known.{known_count};
 
 use crate::entry::Entry;
 use entry_order::{Knot, names_digest};
