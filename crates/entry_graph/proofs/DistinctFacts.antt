@@ -22,6 +22,7 @@ pub filter_keeps : {X : Type 0} (p : X → Bool) (xs : List X) (x : X) → p x �
 filter_keeps p xs x passes =
     filter-append p xs (x ∷ []) ∙ ap (λ ys. filter p xs ++ ys) (cond-true (p x) (x ∷ []) [] passes)
 
+-- an element that fails the test adds nothing behind a filter
 pub filter_drops : {X : Type 0} (p : X → Bool) (xs : List X) (x : X) → p x ≡ false
     → filter p (xs ++ x ∷ []) ≡ filter p xs
 filter_drops p xs x fails =
@@ -33,12 +34,14 @@ module _ {T : Type 0} (node : T → Node) where
   abbrev apart : T → T → Bool
   apart e f = not (bytes_eq (node f).digest (node e).digest)
 
+  -- the test passes on two entries with different digests
   apart_of : (e f : T) → (node f).digest ≢ (node e).digest → apart e f ≡ true
   apart_of e f ne =
       not_from_false (bytes_eq (node f).digest (node e).digest)
       (false_from_ne_true (bytes_eq (node f).digest (node e).digest)
       (λ t. ne ((bytes_eq-Decides (node f).digest (node e).digest).0 t)))
 
+  -- and fails on two entries with one digest
   not_apart : (e f : T) → (node f).digest ≡ (node e).digest → apart e f ≡ false
   not_apart e f same =
       not_from_true (bytes_eq (node f).digest (node e).digest)

@@ -24,19 +24,24 @@ use Rattle.entry_graph.specs.EntryGraph.{pair_cmp, IsFork, AreForks}
 use Rattle.entry_graph.specs.inside.Distinct.{HasNoDigestTwice}
 use Rattle.entry_graph.proofs.Places.{equal_from, one_place, taken_more}
 
+-- makers and then numbers are a total order of pairs
 pair_total : IsTotalOrder pair_cmp
 pair_total = then_total (on_total (λ (p : ℕ × ℕ). p.0) nat_cmp_total) (on_total (λ (p : ℕ × ℕ). p.1) nat_cmp_total)
 
+-- and only equal pairs compare as equal in it
 pair_exact : (p q : ℕ × ℕ) → pair_cmp p q ≡ Equal → p ≡ q
 pair_exact = exact_pairs nat_cmp nat_cmp exact_unsigned exact_unsigned
 
+-- a pair at which another is found is that other
 same_pair : (p q : ℕ × ℕ) → is_at (pair_cmp p) q ≡ true → p ≡ q
 same_pair p q t = pair_exact p q (equal_from (pair_cmp p q) t)
 
+-- and a pair is found at its equal
 passes_pair : (p q : ℕ × ℕ) → p ≡ q → is_at (pair_cmp p) q ≡ true
 passes_pair p q same =
     subst (λ r. is_at (pair_cmp p) r ≡ true) same ((eq_by_cmp_equiv pair_total).refl p)
 
+-- which of two tests comes first makes no difference to whether either passes
 or_swapped : (a b : Bool) → (a || b) ≡ (b || a)
 or_swapped true true = refl
 or_swapped true false = refl
@@ -146,6 +151,7 @@ module _ {T : Type 0} (node : T → Node) where
       (fork_more (take i es) e m n f g
       (λ c. new_at node es i e single within (subst (λ x. Contains (take i es) x) is c)) before note)
 
+  -- whether a pair was seen among the first entries and one more: it was before, or the last has it
   pub seen_step : (es : List T) (i : ℕ) (e : T) (q : ℕ × ℕ) (f g : Bool) → i < length es → e ≡ get_or es i e
       → f ≡ has_pair (take i es) q → g ≡ (is_at (pair_cmp (pair_of e)) q || f) → g ≡ has_pair (take (i + 1) es) q
   seen_step es i e q f g within is before note =

@@ -95,6 +95,7 @@ found_step table names i name parents ragged p within is at before =
     (sym (taken_more names i name within is))
     (linked_found table (take i names) name parents ragged p at before)
 
+-- and where the next name isn't found, the links of the first names become ragged
 pub lacking_step : (table : List (List ℕ × ℕ)) (names : List (List ℕ)) (i : ℕ) (name : List ℕ) (parents : List ℕ)
     (ragged : Bool) → i < length names → name ≡ get_or names i name → number_at table name ≡ None
     → IsLinked table (take i names) (record { parents = parents; ragged = ragged })
@@ -137,16 +138,19 @@ none_from : (o : Option ℕ) → is_none o ≡ true → o ≡ None
 none_from None t = refl
 none_from (Some n) t = absurd (true≢false (sym t))
 
+-- what isn't none is a number
 found_from : (o : Option ℕ) → (o ≡ None → ⊥) → (n : ℕ) × (o ≡ Some n)
 found_from None some = absurd (some refl)
 found_from (Some n) some = (n, refl)
 
+-- the test for none passes on none
 none_of : (o : Option ℕ) → o ≡ None → is_none o ≡ true
 none_of o is = ap is_none is
 
 module _ {T : Type 0} (node : T → Node) (S : List T) (table : List (List ℕ × ℕ)) (links : List Links)
     (single : HasNoDigestTwice node S) (numbered : AllPairs (IsLower node) S) (falling : NamesLower node S)
     (places : ArePlaces node S table) (linked : AreLinked node table S links) where
+  -- the links are those of what the entry names
   abbrev Linked : T → Links → Type 0
   Linked e l = IsLinked table (node e).names l
 
@@ -163,6 +167,7 @@ module _ {T : Type 0} (node : T → Node) (S : List T) (table : List (List ℕ �
   parents_at : (i : ℕ) (l : Links) → slice_get links i ≡ Some l → parents_of links i ≡ l.parents
   parents_at i l is = ap parents_in is
 
+  -- and the place is ragged where its links are
   ragged_at : (i : ℕ) (l : Links) → slice_get links i ≡ Some l → ragged_of links i ≡ l.ragged
   ragged_at i l is = ap ragged_in is
 
@@ -180,6 +185,7 @@ module _ {T : Type 0} (node : T → Node) (S : List T) (table : List (List ℕ �
       → (e : T) × (f : T) × (slice_get S i ≡ Some e) × (slice_get S p ≡ Some f) × Names node e f
   arrow_cases i p c = by (slice_get S i) refl
     where
+      -- by whether a survivor stands at the place: where none does, there are no links and so no parents
       by : (o : Option T) → slice_get S i ≡ o
           → (e : T) × (f : T) × (slice_get S i ≡ Some e) × (slice_get S p ≡ Some f) × Names node e f
       by (Some e) is = let r = arrow_at i p e is c in (e, r.0, is, r.1, r.2)

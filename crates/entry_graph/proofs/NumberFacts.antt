@@ -25,9 +25,11 @@ use Rattle.entry_graph.proofs.Places.{one_place}
 abbrev pub Key : Type 0
 Key = ℕ × List ℕ
 
+-- the lower stamp first, and of one stamp the lower digest
 abbrev pub compare : Key → Key → Ordering
 compare p q = ordering_then (nat_cmp p.0 q.0) (slice_cmp nat_cmp p.1 q.1)
 
+-- so any two keys are ordered
 compare_total : IsTotalOrder compare
 compare_total = then_total (on_total (λ (p : Key). p.0) nat_cmp_total) (on_total (λ (p : Key). p.1) nat_list_cmp_total)
 
@@ -36,6 +38,7 @@ level : (m n : ℕ) → m ≡ n → nat_cmp m n ≡ Equal
 level m n same = cond-false (nat_lt m n) Less (cond (m == n) Equal Greater) (le-ltb m n (omega arith))
     ∙ cond-true (m == n) Equal Greater (eq-eqb m n same)
 
+-- a lower number compares as less
 less : (m n : ℕ) → m < n → nat_cmp m n ≡ Less
 less m n lower = cond-true (nat_lt m n) Less (cond (m == n) Equal Greater) (lt-ltb m n lower)
 
@@ -43,6 +46,7 @@ less m n lower = cond-true (nat_lt m n) Less (cond (m == n) Equal Greater) (lt-l
 below : (x y : List ℕ) → is_lt (slice_cmp nat_cmp y x) ≡ false → x ≢ y → slice_cmp nat_cmp x y ≡ Less
 below x y not_lt differ = by (slice_cmp nat_cmp y x) refl not_lt
   where
+    -- by how the second compares with the first: it isn't less, and equal would make them the same
     by : (o : Ordering) → slice_cmp nat_cmp y x ≡ o → is_lt o ≡ false → slice_cmp nat_cmp x y ≡ Less
     by Less e h = absurd (true≢false h)
     by Equal e h = absurd (differ (sym (exact_bytes y x e)))

@@ -60,12 +60,14 @@ module _ {X : Type 0} where
   push_here [] y = refl
   push_here (x ∷ xs) y = push_here xs y
 
+  -- the elements before it keep their places
   pub push_before : (xs : List X) (y : X) (i : ℕ) (x : X) → slice_get xs i ≡ Some x
       → slice_get (xs ++ y ∷ []) i ≡ Some x
   push_before [] y i x is = absurd (none-some x is)
   push_before (z ∷ xs) y zero x is = is
   push_before (z ∷ xs) y (suc i) x is = push_before xs y i x is
 
+  -- at each place stands what stood there before, or the new element
   pub push_cases : (xs : List X) (y : X) (i : ℕ) (x : X) → slice_get (xs ++ y ∷ []) i ≡ Some x
       → (slice_get xs i ≡ Some x) ⊎ (y ≡ x)
   push_cases [] y zero x is = inr (same_Some y x is)
@@ -75,6 +77,7 @@ module _ {X : Type 0} where
 
 -- two lists side by side: one pair more, as many of each, and what stands beside an element
 module _ {X Y : Type 0} (R : X → Y → Type 0) where
+  -- a related pair more at the end keeps all pairs related
   pub zip_push : (xs : List X) (ys : List Y) (x : X) (y : Y) → AllZip R xs ys → R x y
       → AllZip R (xs ++ x ∷ []) (ys ++ y ∷ [])
   zip_push [] [] x y all here = (here, tt)
@@ -82,12 +85,14 @@ module _ {X Y : Type 0} (R : X → Y → Type 0) where
   zip_push (z ∷ xs) [] x y all here = absurd all
   zip_push (z ∷ xs) (w ∷ ys) x y all here = (all.0, zip_push xs ys x y all.1 here)
 
+  -- lists that are related pair by pair are of one length
   pub zip_length : (xs : List X) (ys : List Y) → AllZip R xs ys → length ys ≡ length xs
   zip_length [] [] all = refl
   zip_length [] (y ∷ ys) all = absurd all
   zip_length (x ∷ xs) [] all = absurd all
   zip_length (x ∷ xs) (y ∷ ys) all = ap (λ n. suc n) (zip_length xs ys all.1)
 
+  -- beside each element, at its place, stands one that it is related to
   pub zip_at : (xs : List X) (ys : List Y) (i : ℕ) (x : X) → AllZip R xs ys → slice_get xs i ≡ Some x
       → (y : Y) × (slice_get ys i ≡ Some y) × R x y
   zip_at [] ys i x all is = absurd (none-some x is)
@@ -158,6 +163,7 @@ module _ {T : Type 0} (node : T → Node) where
   pub single_none : HasNoDigestTwice node []
   single_none = IsDistinct-from_apart bytes_eq [] (λ i j d l within. absurd (omega arith))
 
+  -- an entry more, whose digest none of them bears, leaves each digest single
   pub single_push : (es : List T) (e : T) → HasNoDigestTwice node es → (IsBorneIn node es (node e).digest → ⊥)
       → HasNoDigestTwice node (es ++ e ∷ [])
   single_push es e single new =

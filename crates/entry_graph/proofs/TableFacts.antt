@@ -54,6 +54,7 @@ module _ {T : Type 0} (node : T → Node) where
     lacks = λ d n e (f, c, is, stamp). absurd (Contains-none f c);
   }
 
+  -- and it says the places of no entry
   pub no_places : (table : List (List ℕ × ℕ)) → ((d : List ℕ) → number_at table d ≡ None) → ArePlaces node [] table
   no_places table none = record {
     found = λ d n e. absurd (none-some n (sym (none d) ∙ e));
@@ -96,6 +97,7 @@ module _ {T : Type 0} (node : T → Node) where
       subst (λ xs. AreStamps node xs after) (sym (taken_more es i e within is))
       (stamps_more (take i es) e before after table set)
 
+  -- and of the places: what is set for one more is its own place, the number of those before it
   pub places_step : (es : List T) (i : ℕ) (e : T) (before after : List (List ℕ × ℕ)) → i < length es
       → e ≡ get_or es i e → ArePlaces node (take i es) before → IsSet before after (node e).digest i
       → ArePlaces node (take (i + 1) es) after
