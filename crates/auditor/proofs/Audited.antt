@@ -116,6 +116,7 @@ rules_join value source name read names old mid new rules result is first rest =
     old mid new rules result first (subst Q is rest)
     (λ answer (this, at, gives) (files, are, with). (this ∷ files, (at, are), inl (value rules, gives, with))))
 
+-- and where that file gives no rules, its fault is the answer
 pub rules_end : {T : Type 0} (value : T → List RuleTree) (source : RuleSource) (name : List ℕ) (read : RosterRead)
     (names : List (List ℕ)) (old new : StoreSeen) (fault : AuditFault) → source ≡ in_file name →
     IsReadFrom value (λ told answer. OnSomeFile told name (λ file. GivesRules name file answer)) old (Err fault) new →
@@ -146,6 +147,7 @@ roster_joins roster source names old mid new read result first rest =
     (GivesReportIn roster source names) old mid new read result first rest
     (λ answer (this, at, gives) (files, are, with). (this ∷ files, (at, are), inl (read, gives, with)))
 
+-- where the roster's file gives none, its fault is the answer
 pub roster_ends : (roster : List ℕ) (source : RuleSource) (names : List (List ℕ)) (old new : StoreSeen)
     (fault : AuditFault) → IsReadFrom (λ (r : RosterRead). r) (GivesRosterIn roster) old (Err fault) new →
     IsReadFrom report_of (GivesReportIn roster source names) old (Err fault) new

@@ -28,6 +28,7 @@ found_step : (b : Bool) (i n found : ℕ) (later : Option ℕ) → (later ≡ So
 found_step true i n found later rest e = let same : i ≡ found = cc in omega (arith, same)
 found_step false i n found later rest e = let less = rest e in omega (arith, less)
 
+-- the first that passes of n numbers from i on is below i + n
 found_below : (p : ℕ → Bool) (i n found : ℕ) → find p (range_with_len i n) ≡ Some found → found < i + n
 found_below p i zero found e = cc
 found_below p i (suc n) found e =
@@ -38,6 +39,7 @@ module _ (rows : List Row) (order : ℕ → ℕ → Three) (wholes : ℕ → Boo
   abbrev Below : List ℕ → Type 0
   Below = ByRecursion (λ place. place < length rows)
 
+  -- where the place found first is a row's, and so are those found deeper under it, all of them are
   first_then : (first : Option ℕ) (deeper : ℕ → List ℕ) → ((i : ℕ) → first ≡ Some i → i < length rows) →
       ((i : ℕ) → Below (deeper i)) → Below (and_then rows order wholes first deeper)
   first_then None deeper within inner = tt
@@ -51,11 +53,13 @@ module _ (rows : List Row) (order : ℕ → ℕ → Three) (wholes : ℕ → Boo
       first_then (first_false rows order wholes kind (λ i. value (bind v i env)) 0 (length rows))
       (λ i. deeper (bind v i env))
       (λ i e.
-      let less = found_below (λ j. has_kind kind (slice_get rows j) && is_false (value (bind v j env))) 0 (length rows) i e in
+      let less = found_below (λ j. has_kind kind (slice_get rows j) && is_false (value (bind v j env)))
+          0 (length rows) i e in
       omega (arith, less))
       (λ i. inner (bind v i env))
   form_below other env value deeper inner = tt
 
+  -- and so is each place at which a formula is broken
   broken_below : (trees : Trees) (env : ℕ → Option ℕ) → Below (broken rows order wholes trees env)
   broken_below no_trees env = tt
   broken_below (tree_then form parts rest) env =
@@ -84,6 +88,7 @@ each_below rows graph (r ∷ rules) (v ∷ verdicts) judged = (
   each_below rows graph rules verdicts judged.1,
 )
 
+-- with as many rows as survivors, the places are below the number of survivors
 pub verdicts_below : (count : ℕ) (rows : List Row) (graph : Graph) (rules : List RuleTree) (verdicts : List Verdict) →
     length rows ≡ count → AreJudged rows graph rules verdicts → All (IsBelow count) verdicts
 verdicts_below count rows graph rules verdicts same judged =

@@ -34,6 +34,7 @@ forks_have_makers machines survivors forks told makers are same =
     let P : List (ℕ × ℕ) → Type 0 = λ fs. All (λ (fork : ℕ × ℕ). fork.0 < length machines) fs in
     subst P (sym same) (λ k d within. of_fork (get_or forks k d) (Contains-get_or forks k d within))
   where
+    -- a fork's maker is the maker of a survivor
     of_fork : (fork : ℕ × ℕ) → Rattle.std.specs.List.Contains forks fork → fork.0 < length machines
     of_fork fork member =
         let (e, f, has, also, differ, maker, number, other, twice) = (are.members fork.0 fork.1).0 member in
@@ -46,7 +47,8 @@ pub rows_more : (machines : List Post) (survivors : List SealedEntry) (i : ℕ) 
     rows ≡ map (row_of machines) (take i survivors) → row ≡ row_of machines entry → new ≡ rows ++ row ∷ [] →
     new ≡ map (row_of machines) (take (i + 1) survivors)
 rows_more machines survivors i entry row rows new within at so_far is added =
-    added ∙ ap (λ (r : Row). rows ++ r ∷ []) (is ∙ ap (row_of machines) (sym (get_or_from_slice_get survivors i entry entry at)))
+    added ∙ ap (λ (r : Row). rows ++ r ∷ [])
+        (is ∙ ap (row_of machines) (sym (get_or_from_slice_get survivors i entry entry at)))
     ∙ ap (λ (rs : List Row). rs ++ row_of machines (get_or survivors i entry) ∷ []) so_far
     ∙ sym (ap (map (row_of machines)) (take_more survivors i entry within)
     ∙ map-append (row_of machines) (take i survivors) (get_or survivors i entry ∷ []))
@@ -56,9 +58,11 @@ distinct_is_given : (given : List SealedEntry) (entry : SealedEntry) → Contain
     Contains given entry
 distinct_is_given [] entry member = member
 distinct_is_given (e ∷ es) entry member =
-    let rest = λ (h : Contains (filter (λ (f : SealedEntry). not (bytes_eq f.digest e.digest)) (distinct node_of_sealed es)) entry).
+    let rest = λ (h : Contains (filter (λ (f : SealedEntry). not (bytes_eq f.digest e.digest))
+        (distinct node_of_sealed es)) entry).
     Contains-later e es entry (distinct_is_given es entry
-    (Contains-filter_cases (λ (f : SealedEntry). not (bytes_eq f.digest e.digest)) (distinct node_of_sealed es) entry h).0) in
+    (Contains-filter_cases (λ (f : SealedEntry). not (bytes_eq f.digest e.digest))
+        (distinct node_of_sealed es) entry h).0) in
     elim (Contains-cons_cases e
     (filter (λ (f : SealedEntry). not (bytes_eq f.digest e.digest)) (distinct node_of_sealed es)) entry member)
     [ inl s ↦ Contains-at e es entry s | inr h ↦ rest h ]
@@ -69,7 +73,8 @@ pub survivors_have_makers : (machines : List Post) (given : List SealedEntry) (g
 survivors_have_makers machines given graph makers gives = λ k d within.
     let e : SealedEntry = get_or graph.survivors k d in
     let kept = (gives.2.members e).0 (Contains-get_or graph.survivors k d within) in
-    let first = Contains-filter_cases (λ (f : SealedEntry). not (is_stray node_of_sealed (distinct node_of_sealed given) f))
+    let first = Contains-filter_cases (λ (f : SealedEntry).
+        not (is_stray node_of_sealed (distinct node_of_sealed given) f))
     (distinct node_of_sealed given) e kept in
     All-contains (λ (sealed : SealedEntry). sealed.entry.maker < length machines) given e makers
     (distinct_is_given given e first.0)
@@ -78,6 +83,7 @@ survivors_have_makers machines given graph makers gives = λ k d within.
 abbrev Each : List Post → List SealedEntry → Type 0
 Each machines = ByRecursion (λ (sealed : SealedEntry). sealed.entry.maker < length machines)
 
+-- and they stay so when two such lists are joined
 each_append : (machines : List Post) (xs ys : List SealedEntry) → Each machines xs → Each machines ys →
     Each machines (xs ++ ys)
 each_append machines [] ys p q = q
@@ -95,10 +101,12 @@ kept_each machines election place (t ∷ trees) (Err fault ∷ readings) gives =
 kept_each machines election place (t ∷ trees) (Ok kept ∷ readings) gives =
     (valid gives.0, kept_each machines election (place + 1) trees readings gives.1)
   where
+    -- the maker in a record that was read is in the roster
     valid : Gives (IsReadSealed machines election) place t (Ok kept) → kept.entry.entry.maker < length machines
     valid (inl (members, sent, e, read)) = read.2.maker
     valid (inr (none, e)) = cc
 
+-- so are those that the log of a file keeps
 log_each : (machines : List Post) (election : List ℕ) (log : LogRead) (file : Option (List ℕ)) →
     IsSealedLogOf machines election log file → Each machines (entries_in log.kept.items)
 log_each machines election log None is = absurd is
@@ -107,6 +115,7 @@ log_each machines election log (Some bytes) is =
     let P : List Kept → Type 0 = λ kept. Each machines (entries_in kept) in
     subst P (sym says.keeps) (kept_each machines election 0 says.trees says.readings says.gives)
 
+-- and those that all logs of named files keep, one log after another
 logs_each : (machines : List Post) (election : List ℕ) (names : List (List ℕ)) (files : List (Option (List ℕ)))
     (logs : List LogRead) → GivesLogs machines election names files (Ok logs) → Each machines (entries_of logs)
 logs_each machines election [] [] [] gives = tt

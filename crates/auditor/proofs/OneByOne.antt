@@ -18,7 +18,8 @@ use Rattle.auditor.specs.Judged.{AreJudged, IsFirstTooWide}
 trees_more : (rules : List Rule) (i : ℕ) (rule : Rule) → i < length rules → rule ≡ get_or rules i rule →
     map rule_tree (take i rules) ++ rule_tree rule ∷ [] ≡ map rule_tree (take (i + 1) rules)
 trees_more rules i rule within is =
-    sym (ap (map rule_tree) (take_more rules i rule within) ∙ map-append rule_tree (take i rules) (get_or rules i rule ∷ [])
+    sym (ap (map rule_tree) (take_more rules i rule within)
+        ∙ map-append rule_tree (take i rules) (get_or rules i rule ∷ [])
     ∙ ap (λ (r : Rule). map rule_tree (take i rules) ++ rule_tree r ∷ []) (sym is))
 
 -- one verdict more
@@ -67,6 +68,7 @@ first_too_wide rows graph rules i rule verdicts within is so_far wide = record {
       (early rules i k tree below stands);
 }
   where
+    -- the tree of the rule at a place stands at the same place among the trees
     at : (list : List Rule) (n : ℕ) (one : Rule) → n < length list → one ≡ get_or list n one →
         slice_get (map rule_tree list) n ≡ Some (rule_tree one)
     at [] n one below same = absurd (omega arith)

@@ -48,7 +48,9 @@ lines_by name owner kept faults end broke =
     ++ codes " refused " ++ decimal (length faults))
     ++ refused_lines name faults ++ end_line name end ++ break_line name broke
 
-same_log_lines : (name : List ℕ) (log other : LogRead) → SameLog log other → log_lines (name, log) ≡ log_lines (name, other)
+-- logs that tell the same have the same lines
+same_log_lines : (name : List ℕ) (log other : LogRead) → SameLog log other →
+    log_lines (name, log) ≡ log_lines (name, other)
 same_log_lines name log other same =
     ap (λ (n : ℕ). lines_by name n (length log.kept.items) log.refused.items log.end log.broke) same.owner
     ∙ ap (λ (k : List KeptRecord). lines_by name other.owner (length k) log.refused.items log.end log.broke) same.kept
@@ -58,12 +60,14 @@ same_log_lines name log other same =
     ∙ ap (λ (b : Option ℕ). lines_by name other.owner (length other.kept.items) other.refused.items other.end b)
     same.broke
 
+-- and both have a finding, or neither has
 same_finding : (log other : LogRead) → SameLog log other → log_has_finding log ≡ log_has_finding other
 same_finding log other same =
     ap (λ (r : List (ℕ × EntryFault)). has_some r || (not (is_clean log.end) || is_some log.broke)) same.refused
     ∙ ap (λ (e : End). has_some other.refused.items || (not (is_clean e) || is_some log.broke)) same.end
     ∙ ap (λ (b : Option ℕ). has_some other.refused.items || (not (is_clean other.end) || is_some b)) same.broke
 
+-- so have all logs, beside their names
 same_logs_lines : (names : List (List ℕ)) (logs others : List LogRead) → SameLogs logs others →
     flat_map log_lines (zip names logs) ≡ flat_map log_lines (zip names others)
 same_logs_lines [] logs others same = refl
@@ -74,6 +78,7 @@ same_logs_lines (name ∷ names) (a ∷ logs) (b ∷ others) same =
     ap (λ t. t ++ flat_map log_lines (zip names logs)) (same_log_lines name a b same.0)
     ∙ ap (λ t. log_lines (name, b) ++ t) (same_logs_lines names logs others same.1)
 
+-- and in both lists some log has a finding, or in neither
 same_findings : (logs others : List LogRead) → SameLogs logs others →
     list_any log_has_finding logs ≡ list_any log_has_finding others
 same_findings [] [] same = refl
@@ -97,6 +102,7 @@ same_rule_line machines survivors rule (Broken p) Unsettled same = absurd same
 same_rule_line machines survivors rule Unsettled Kept same = absurd same
 same_rule_line machines survivors rule Unsettled (Broken q) same = absurd same
 
+-- so are the lines of all rules
 same_rule_lines : (machines : List Post) (survivors : List SealedEntry) (rules : List RuleTree)
     (vs ws : List Verdict) → AllZip SameVerdict vs ws →
     flat_map (rule_line machines survivors) (zip rules vs) ≡ flat_map (rule_line machines survivors) (zip rules ws)
@@ -105,9 +111,11 @@ same_rule_lines machines survivors (r ∷ rules) [] [] same = refl
 same_rule_lines machines survivors (r ∷ rules) [] (w ∷ ws) same = absurd same
 same_rule_lines machines survivors (r ∷ rules) (v ∷ vs) [] same = absurd same
 same_rule_lines machines survivors (r ∷ rules) (v ∷ vs) (w ∷ ws) same =
-    ap (λ t. t ++ flat_map (rule_line machines survivors) (zip rules vs)) (same_rule_line machines survivors r v w same.0)
+    ap (λ t. t ++ flat_map (rule_line machines survivors) (zip rules vs))
+        (same_rule_line machines survivors r v w same.0)
     ∙ ap (λ t. rule_line machines survivors (r, w) ++ t) (same_rule_lines machines survivors rules vs ws same.1)
 
+-- of verdicts that are the same both are broken or neither is
 same_is_broken : (v w : Verdict) → SameVerdict v w → is_broken v ≡ is_broken w
 same_is_broken Kept Kept same = refl
 same_is_broken (Broken p) (Broken q) same = refl
@@ -119,6 +127,7 @@ same_is_broken (Broken p) Unsettled same = absurd same
 same_is_broken Unsettled Kept same = refl
 same_is_broken Unsettled (Broken q) same = absurd same
 
+-- and both are unsettled or neither is
 same_is_unsettled : (v w : Verdict) → SameVerdict v w → is_unsettled v ≡ is_unsettled w
 same_is_unsettled Kept Kept same = refl
 same_is_unsettled (Broken p) (Broken q) same = refl
@@ -130,6 +139,7 @@ same_is_unsettled (Broken p) Unsettled same = absurd same
 same_is_unsettled Unsettled Kept same = absurd same
 same_is_unsettled Unsettled (Broken q) same = absurd same
 
+-- a test that can't tell such verdicts apart passes on some of each list or on none of both
 same_any : (p : Verdict → Bool) → ((v w : Verdict) → SameVerdict v w → p v ≡ p w) → (vs ws : List Verdict) →
     AllZip SameVerdict vs ws → list_any p vs ≡ list_any p ws
 same_any p each [] [] same = refl
@@ -143,6 +153,7 @@ abbrev graph_by : List Post → List SealedEntry → List (List ℕ) → List (�
 graph_by machines survivors strays forks gaps =
     entries_line (length survivors) ++ stray_lines strays ++ fork_lines machines forks ++ gap_lines gaps
 
+-- graphs that tell the same have the same lines
 same_graph_lines : (machines : List Post) (graph other : EntryGraph SealedEntry) → SameGraph graph other →
     graph_lines machines graph ≡ graph_lines machines other
 same_graph_lines machines graph other same =
@@ -151,6 +162,7 @@ same_graph_lines machines graph other same =
     ∙ ap (λ (f : List (ℕ × ℕ)). graph_by machines other.survivors other.strays f graph.gaps) same.forks
     ∙ ap (λ (d : List (List ℕ)). graph_by machines other.survivors other.strays other.forks d) same.gaps
 
+-- and both have a finding, or neither has
 same_graph_finding : (graph other : EntryGraph SealedEntry) → SameGraph graph other →
     graph_has_finding graph ≡ graph_has_finding other
 same_graph_finding graph other same =
@@ -176,21 +188,27 @@ same_report machines names logs others graph other rules vs ws log graph_same ve
   outcome = outcome;
 }
   where
+    -- the lines of logs, beside the given names
     log_part : List LogRead → List ℕ
     log_part ls = flat_map log_lines (zip names ls)
 
+    -- the lines of the rules, each with its verdict
     rules_of : List SealedEntry → List Verdict → List ℕ
     rules_of survivors verdicts = flat_map (rule_line machines survivors) (zip rules verdicts)
 
+    -- the line of what the report comes to
     last : Outcome → List ℕ
     last o = line (codes "verdict " ++ outcome_word o)
 
+    -- what the first report comes to
     left : Outcome
     left = outcome_of (report_on machines names logs graph rules vs)
 
+    -- both reports have the same lines of logs
     log_text : flat_map log_lines (zip names logs) ≡ flat_map log_lines (zip names others)
     log_text = same_logs_lines names logs others log
 
+    -- and both come to the same: what is broken, what is unsettled and whether there are findings agree
     outcome : outcome_of (report_on machines names logs graph rules vs)
         ≡ outcome_of (report_on machines names others other rules ws)
     outcome =
@@ -199,7 +217,8 @@ same_report machines names logs others graph other rules vs ws log graph_same ve
         ∙ ap (λ (b : Bool). outcome_by (list_any is_broken ws) b
         (list_any log_has_finding logs || graph_has_finding graph))
         (same_any is_unsettled same_is_unsettled vs ws verdict)
-        ∙ ap (λ (b : Bool). outcome_by (list_any is_broken ws) (list_any is_unsettled ws) (b || graph_has_finding graph))
+        ∙ ap (λ (b : Bool).
+            outcome_by (list_any is_broken ws) (list_any is_unsettled ws) (b || graph_has_finding graph))
         (same_findings logs others log)
         ∙ ap (λ (b : Bool). outcome_by (list_any is_broken ws) (list_any is_unsettled ws)
         (list_any log_has_finding others || b)) (same_graph_finding graph other graph_same)
@@ -218,26 +237,33 @@ steps_agree First Other Next Later SameFirst SameNext first next p q (inl (x, is
 steps_agree First Other Next Later SameFirst SameNext first next p q (inr (r, is, e)) (inl (y, also, m)) =
     absurd (first (Err r) (Ok y) is also)
 steps_agree First Other Next Later SameFirst SameNext first next p q (inr (r, is, e)) (inr (s, also, f)) =
-    subst (λ o. Agree SameNext o q) (sym e) (subst (λ o. Agree SameNext (Err r) o) (sym f) (first (Err r) (Err s) is also))
+    subst (λ o. Agree SameNext o q) (sym e)
+        (subst (λ o. Agree SameNext (Err r) o) (sym f) (first (Err r) (Err s) is also))
 
 -- equal answers agree
 agree_same : {A : Type 0} (a b : Result A Refusal) → a ≡ b → Agree (λ x y. x ≡ y) a b
 agree_same {A} a b e = subst (λ o. Agree (λ x y. x ≡ y) a o) e (itself a)
   where
+    -- an answer agrees with itself
     itself : (r : Result A Refusal) → Agree (λ x y. x ≡ y) r r
     itself (Ok x) = refl
     itself (Err r) = refl
 
 -- what files give is one
 pub record Ones : Type 0 where
+  -- a roster's file gives one answer
   pub rosters : (name : List ℕ) (file : Option (List ℕ)) (answer other : Result RosterRead Refusal) →
       GivesRoster name file answer → GivesRoster name file other → answer ≡ other
+  -- a text of rules is read in one way
   pub readings : (text : List ℕ) (answer other : Result (List RuleTree) RuleFault) → Reads text answer →
       Reads text other → answer ≡ other
+  -- the files of logs give logs that tell the same, or one refusal
   pub logs : (machines : List Post) (election : List ℕ) (names : List (List ℕ)) (files : List (Option (List ℕ)))
       (answer other : Result (List LogRead) Refusal) → GivesLogs machines election names files answer →
       GivesLogs machines election names files other → Agree SameLogs answer other
+  -- and such logs keep the same entries
   pub entries : (logs others : List LogRead) → SameLogs logs others → entries_of logs ≡ entries_of others
+  -- given entries have graphs that tell the same, or one refusal
   pub graphs : (given : List SealedEntry) (answer other : Result (EntryGraph SealedEntry) Refusal) →
       GivesGraph given answer → GivesGraph given other → Agree SameGraph answer other
 
@@ -256,7 +282,8 @@ one_rules ones name (Some bytes) (Err r) (Ok others) (inr (fits, (at, why, first
 one_rules ones name (Some bytes) (Err r) (Err s) (inl x) (inl y) = x.1 ∙ sym y.1
 one_rules ones name (Some bytes) (Err r) (Err s) (inl x) (inr y) = absurd (omega (arith, x.0, y.0))
 one_rules ones name (Some bytes) (Err r) (Err s) (inr x) (inl y) = absurd (omega (arith, x.0, y.0))
-one_rules ones name (Some bytes) (Err r) (Err s) (inr (fits, (at, why, first, e))) (inr (fits', (at', why', first', e'))) =
+one_rules ones name (Some bytes) (Err r) (Err s) (inr (fits, (at, why, first, e)))
+    (inr (fits', (at', why', first', e'))) =
     let same : Err (At at why) ≡ Err (At at' why') =
     ones.readings bytes (Err (At at why)) (Err (At at' why')) first first' in
     let place : at ≡ at' = cc in
@@ -264,6 +291,7 @@ one_rules ones name (Some bytes) (Err r) (Err s) (inr (fits, (at, why, first, e)
     e ∙ ap (λ (n : ℕ). refused name n (why_word why)) place
     ∙ ap (λ (w : RuleWhy). refused name at' (why_word w)) cause ∙ sym e'
 
+-- by logs and graphs that tell the same, the rules give reports that are the same, or one refusal
 graphs_agree : (machines : List Post) (source : RuleSource) (rules : List RuleTree) (names : List (List ℕ))
     (logs others : List LogRead) (graph other : EntryGraph SealedEntry) → Descends (parents_of graph.links) →
     Descends (parents_of other.links) → SameLogs logs others → SameGraph graph other →
@@ -285,6 +313,7 @@ graphs_agree machines source rules names logs others graph other down down' log 
     (same_report machines names logs others graph other rules vs ws log same verdict)))
     p q x y
 
+-- so they do by logs that tell the same, with the graph of what these keep
 logs_agree : Ones → (machines : List Post) (source : RuleSource) (rules : List RuleTree) (names : List (List ℕ))
     (logs others : List LogRead) → SameLogs logs others → (p q : Result AuditReport Refusal) →
     WithLogs machines source rules names logs p → WithLogs machines source rules names others q → Agree SameReport p q
@@ -297,6 +326,7 @@ logs_agree ones machines source rules names logs others same p q x y =
     is.2.kept.linked.arrows.descends also.2.kept.linked.arrows.descends same agree left right)
     p q x y
 
+-- with the roster and the rules read, the files of logs give one report or one refusal
 rules_agree : Ones → (read : RosterRead) (source : RuleSource) (rules : List RuleTree) (names : List (List ℕ))
     (files : List (Option (List ℕ))) (p q : Result AuditReport Refusal) → WithRules read source rules names files p →
     WithRules read source rules names files q → Agree SameReport p q
@@ -308,6 +338,7 @@ rules_agree ones read source rules names files p q x y =
     (λ logs more is also same left right. logs_agree ones machines source rules names logs more same left right)
     p q x y
 
+-- with the roster alone read, so do they, behind a file of rules if there is one
 roster_agrees : Ones → (read : RosterRead) (source : RuleSource) (names : List (List ℕ))
     (files : List (Option (List ℕ))) (p q : Result AuditReport Refusal) → WithRoster read source names files p →
     WithRoster read source names files q → Agree SameReport p q
@@ -323,6 +354,7 @@ roster_agrees ones read (in_file name) names (file ∷ files) p q x y =
     (subst (λ (rs : List RuleTree). WithRules read (in_file name) rs names files right) (sym same) r))
     p q x y
 
+-- and so do all files, with the roster's in front
 pub one_report : Ones → (roster : List ℕ) (source : RuleSource) (names : List (List ℕ))
     (files : List (Option (List ℕ))) (p q : Result AuditReport Refusal) → GivesReport roster source names files p →
     GivesReport roster source names files q → Agree SameReport p q

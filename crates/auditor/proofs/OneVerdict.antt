@@ -22,11 +22,13 @@ use Rattle.auditor.specs.Sources.{RuleSource, source_word}
 use Rattle.auditor.specs.Audits.{GivesVerdicts}
 use Rattle.auditor.proofs.OneByOne.{judged_is_narrow}
 
+-- where each member fails a test, none of the list passes it
 none_of : (p : ℕ → Bool) (xs : List ℕ) → ((x : ℕ) → Contains xs x → p x ≡ false) → list_any p xs ≡ false
 none_of p [] none = refl
 none_of p (x ∷ xs) none = neither (p x) (list_any p xs) (none x (Contains-head x xs))
     (none_of p xs (λ y member. none y (Contains-later x xs y member)))
   where
+    -- of two tests that fail neither passes
     neither : (a b : Bool) → a ≡ false → b ≡ false → (a || b) ≡ false
     neither true b e f = absurd (false≢true (sym e))
     neither false b e f = f
@@ -38,6 +40,7 @@ not_reached parents down (suc n) y x low =
     none_of (λ z. (z == y) || reaches parents n y z) (parents x)
     (λ z member. neither z (down x z member) (not_reached parents down n y z (omega (arith, low, down x z member))))
   where
+    -- a parent is below x, so it isn't y, and y isn't reached from it
     neither : (z : ℕ) → z < x → reaches parents n y z ≡ false → ((z == y) || reaches parents n y z) ≡ false
     neither z below e = grind (arith, e, below, low)
 
@@ -54,6 +57,7 @@ orders_agree : (graph other : EntryGraph SealedEntry) → Descends (parents_of g
     ≡ before (parents_of other.links) (ragged_of other.links) y x
 orders_agree graph other down down' same y x within = by_place (cases_lt y (length graph.survivors))
   where
+    -- by whether y is a survivor's place: past the survivors only whether x is whole counts
     by_place : (y < length graph.survivors) ⊎ (length graph.survivors ≤ y) →
         before (parents_of graph.links) (ragged_of graph.links) y x
         ≡ before (parents_of other.links) (ragged_of other.links) y x
@@ -88,6 +92,7 @@ one_place : (rows : List Row) (rules : List RuleTree) (p q : ℕ) → IsFirstToo
     IsFirstTooWide rows rules q → p ≡ q
 one_place rows rules p q a b = by_order (cases_order p q)
   where
+    -- by which comes first: in front of the first too wide one no rule is too wide
     by_order : (p ≡ q) ⊎ ((p < q) ⊎ (q < p)) → p ≡ q
     by_order (inl e) = e
     by_order (inr (inl less)) = absurd (false≢true (sym (b.first p a.rule less a.stands) ∙ a.too_wide))
@@ -96,6 +101,7 @@ one_place rows rules p q a b = by_order (cases_order p q)
 module _ (rows : List Row) (graph other : EntryGraph SealedEntry) (down : Descends (parents_of graph.links))
     (down' : Descends (parents_of other.links)) (same : SameGraph graph other)
     (count : length rows ≡ length graph.survivors) where
+  -- each rule has the same verdict by both graphs
   each_agrees : (rules : List RuleTree) (vs ws : List Verdict) → AreJudged rows (nodes_of graph) rules vs →
       AreJudged rows (nodes_of other) rules ws → AllZip SameVerdict vs ws
   each_agrees [] [] [] a b = tt

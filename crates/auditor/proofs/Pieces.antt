@@ -32,6 +32,7 @@ pair_more {A} {B} {C} v f xs ys i x y start now new same within is also so_far w
     piece_more f (zip (map v xs) ys) i (v x, y) (v x, y) start now new
     (omega (arith, length-pairs v xs ys same)) at so_far written
   where
+    -- what `v` makes of the item at a place, beside its partner, is the pair at that place
     at : (v x, y) ≡ get_or (zip (map v xs) ys) i (v x, y)
     at = ap (λ (a : B). (a, y)) (ap v is ∙ sym (get_or-map v xs i x (v x) within))
         ∙ ap (λ (b : C). (get_or (map v xs) i (v x), b)) also

@@ -32,7 +32,8 @@ pub read_then : {A X B Y : Type 0} (value : A → X) (First : Option Files → R
     (Next Whole : Option Files → Result Y Refusal → Type 0) (old mid new : StoreSeen) (found : A)
     (result : Result B AuditFault) → IsReadFrom value First old (Ok found) mid →
     IsReadFrom other Next mid result new →
-    ((answer : Result Y Refusal) → First old.files (Ok (value found)) → Next old.files answer → Whole old.files answer) →
+    ((answer : Result Y Refusal) → First old.files (Ok (value found)) → Next old.files answer →
+        Whole old.files answer) →
     IsReadFrom other Whole old result new
 read_then {A} {X} {B} {Y} value First other Next Whole old mid new found result first rest join = record {
   ok = of_ok result rest.ok;
@@ -52,17 +53,21 @@ read_then {A} {X} {B} {Y} value First other Next Whole old mid new found result 
   write_faults = rest.write_faults ∙ first.write_faults;
 }
   where
+    -- the first step found something, so it saw no absence
     same : mid.answered.absences ≡ old.answered.absences
     same = no_absence value First old mid found first
 
+    -- what the rest gives of the files, which the first step left as they were, the whole gives
     right : (answer : Result Y Refusal) → Next mid.files answer → Whole old.files answer
     right answer is = join answer first.ok (subst (λ told. Next told answer) first.files is)
 
+    -- so it is of what the rest found
     of_ok : (r : Result B AuditFault) → IfOk r (λ b. Next mid.files (Ok (other b))) →
         IfOk r (λ b. Whole old.files (Ok (other b)))
     of_ok (Ok b) is = right (Ok (other b)) is
     of_ok (Err fault) is = tt
 
+    -- and of a refusal that it told
     of_err : (r : Result B AuditFault) →
         IfErr r (λ fault. IfSome (refusal_of fault) (λ refusal. Next mid.files (Err refusal))) →
         IfErr r (λ fault. IfSome (refusal_of fault) (λ refusal. Whole old.files (Err refusal)))
@@ -82,7 +87,8 @@ read_ends {A} {X} {B} {Y} value First other Whole old new fault first join = rec
   err = on_refusal (λ refusal. First old.files (Err refusal)) (λ refusal. Whole old.files (Err refusal))
       (refusal_of fault) join first.err;
   absent = λ not_memory.
-      let comes = first.absent (λ e. not_memory (let same : fault ≡ Memory = of_fault A Memory e in ap (λ f. Err f) same)) in
+      let comes = first.absent (λ e.
+          not_memory (let same : fault ≡ Memory = of_fault A Memory e in ap (λ f. Err f) same)) in
       record { only = comes.only; always = comes.always };
   absences = first.absences;
   read_fault = record {
@@ -93,12 +99,14 @@ read_ends {A} {X} {B} {Y} value First other Whole old new fault first join = rec
   write_faults = first.write_faults;
 }
   where
+    -- the fault that an answer ends with is the one that it is told as
     of_fault : (T : Type 0) (what : AuditFault) → IsErrOf {T = T} (Err fault) what → fault ≡ what
     of_fault T what e = cc
 
 -- a step that found something, and then what reads nothing
 pub read_last : {A X B Y : Type 0} (value : A → X) (First : Option Files → Result X Refusal → Type 0) (other : B → Y)
-    (Whole : Option Files → Result Y Refusal → Type 0) (old new : StoreSeen) (found : A) (result : Result B AuditFault) →
+    (Whole : Option Files → Result Y Refusal → Type 0) (old new : StoreSeen) (found : A)
+    (result : Result B AuditFault) →
     IsReadFrom value First old (Ok found) new → IfOk result (λ b. Whole old.files (Ok (other b))) →
     IfErr result (λ fault. IfSome (refusal_of fault) (λ refusal. Whole old.files (Err refusal))) →
     IfErr result (λ fault. (fault ≢ ReadFault) × (¬ IsAbsent fault)) → IsReadFrom other Whole old result new
@@ -115,11 +123,13 @@ read_last {A} {X} {B} {Y} value First other Whole old new found result first ok 
   write_faults = first.write_faults;
 }
   where
+    -- an answer that is never refused for an absence tells of none
     not_absent : (r : Result B AuditFault) → IfErr r (λ fault. (fault ≢ ReadFault) × (¬ IsAbsent fault)) →
         IsErrAnd r IsAbsent → ⊥
     not_absent (Ok b) h is = absurd is
     not_absent (Err fault) h is = h.1 is
 
+    -- nor does it tell of a failed read
     no_read : (r : Result B AuditFault) → IfErr r (λ fault. (fault ≢ ReadFault) × (¬ IsAbsent fault)) →
         IsErrOf r ReadFault → ⊥
     no_read (Ok b) h e = cc

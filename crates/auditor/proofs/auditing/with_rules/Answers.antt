@@ -41,7 +41,8 @@ returns-in-Ok g c =
     (λ told answer. OnFiles names (λ fs. WithRules read source trees names fs answer) told) before after c.in-Ok.logs
     c.with_logs.result c.in-Ok.ensures
     (ok_by c.with_logs.result
-    (λ (report : ReportParts). WithLogs read.roster.machines source trees names c.in-Ok.logs.items (Ok (report_of report)))
+    (λ (report : ReportParts).
+        WithLogs read.roster.machines source trees names c.in-Ok.logs.items (Ok (report_of report)))
     (λ (report : ReportParts). OnFiles names (λ fs. WithRules read source trees names fs (Ok (report_of report)))
     before.files)
     (λ report is. (files, are, inl (c.in-Ok.logs.items, gives, is))) c.with_logs.ensures.ok)
