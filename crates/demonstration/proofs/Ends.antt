@@ -20,6 +20,7 @@ in_front events more k e within at =
     ∙ ap Some (sym (get_or_append_left events (more ∷ []) e k within)
     ∙ get_or_from_slice_get (events ++ more ∷ []) k e e at)
 
+-- what stands at a place stands there with one event more too
 still_there : (events : List (Event SealedEntry)) (more : Event SealedEntry) (k : ℕ) (e : Event SealedEntry) →
     slice_get events k ≡ Some e → slice_get (events ++ more ∷ []) k ≡ Some e
 still_there events more k e at =
@@ -27,6 +28,7 @@ still_there events more k e at =
     slice_get-get_or (events ++ more ∷ []) k e (omega (arith, within, length-append events (more ∷ [])))
     ∙ ap Some (get_or_append_left events (more ∷ []) e k within ∙ get_or_from_slice_get events k e e at)
 
+-- and the event that is added stands behind all others
 at_seam : (events : List (Event SealedEntry)) (more : Event SealedEntry) →
     slice_get (events ++ more ∷ []) (length events) ≡ Some more
 at_seam events more =
@@ -64,6 +66,7 @@ module _ (session : ℕ) (events : List (Event SealedEntry)) (more : Event Seale
     last = later_no;
   }
     where
+      -- a place in the longer history is one in the shorter or the last
       either : (later : ℕ) (other : Event SealedEntry) → slice_get (events ++ more ∷ []) later ≡ Some other →
           (later < length events) ⊎ (later ≡ length events)
       either later other at =
@@ -73,17 +76,20 @@ module _ (session : ℕ) (events : List (Event SealedEntry)) (more : Event Seale
             | inr more_than ↦ inr (omega (arith, within, more_than, length-append events (more ∷ [])))
           ]
 
+      -- at the last place stands the event that is added
       here : (later : ℕ) (other : Event SealedEntry) → later ≡ length events →
           slice_get (events ++ more ∷ []) later ≡ Some other → more ≡ other
       here later other same at =
           let found : Some more ≡ Some other =
           sym (at_seam events more) ∙ ap (slice_get (events ++ more ∷ [])) (sym same) ∙ at in cc
 
+      -- so none behind the place ends the session: neither those that stood there nor the one that is added
       later_no : (later : ℕ) (other : Event SealedEntry) → place < later →
           slice_get (events ++ more ∷ []) later ≡ Some other → ends_session session other ≡ false
       later_no later other behind at = elim (either later other at) [
         | inl inside ↦ is.last later other behind (in_front events more later other inside at)
-        | inr same ↦ subst (λ (e : Event SealedEntry). ends_session session e ≡ false) (here later other same at) differs
+        | inr same ↦
+            subst (λ (e : Event SealedEntry). ends_session session e ≡ false) (here later other same at) differs
       ]
 
 -- the last of these that ends the session stands there, or none does
@@ -99,6 +105,7 @@ stays session events more (Some place) is differs =
 
 module _ (session : ℕ) (events : List (Event SealedEntry)) (place : ℕ) (more : Event SealedEntry) (last : Option ℕ)
     (within : place < length events) (at : slice_get events place ≡ Some more) where
+  -- the events up to a place, with that place's, are those in front of it and that one
   one_more : take (place + 1) events ≡ take place events ++ more ∷ []
   one_more =
       take_more events place more within
@@ -111,6 +118,7 @@ module _ (session : ℕ) (events : List (Event SealedEntry)) (place : ℕ) (more
       subst (λ (es : List (Event SealedEntry)). IsLastOf session es last) (sym one_more)
       (stays session (take place events) more last is differs)
 
+  -- and where that place's event ends the session, it is the last that does
   pub new_last : ends_session session more ≡ true → IsLastOf session (take (place + 1) events) (Some place)
   new_last is_end =
       subst (λ (es : List (Event SealedEntry)). IsLastEnd session es place) (sym one_more)

@@ -46,6 +46,7 @@ module _ (session : ℕ) (events : List (Event SealedEntry)) where
   one_place : (p q : ℕ) → IsLastEnd session events p → IsLastEnd session events q → p ≡ q
   one_place p q a b = by (cases_order p q)
     where
+      -- by their order: behind the last event that ends the session none ends it
       by : (p ≡ q) ⊎ ((p < q) ⊎ (q < p)) → p ≡ q
       by (inl e) = e
       by (inr (inl less)) = absurd (false≢true (sym (a.last q b.event less b.stands) ∙ b.ends))
@@ -83,6 +84,7 @@ same_count : (p : Verdict → Bool) → ((v w : Verdict) → SameVerdict v w →
     AllZip SameVerdict vs ws → count_by p vs ≡ count_by p ws
 same_count p each vs ws same = along 0 vs ws same
   where
+    -- from any count on, both lists add as much
     along : (n : ℕ) (vs ws : List Verdict) → AllZip SameVerdict vs ws →
         fold (λ a v. a + cond (p v) 1 0) n vs ≡ fold (λ a v. a + cond (p v) 1 0) n ws
     along n [] [] same = refl
@@ -94,16 +96,22 @@ same_count p each vs ws same = along 0 vs ws same
 
 -- what files give is one, and machines are played in one way
 pub record Ones : Type 0 where
+  -- a script is played in one way
   pub played : (script : Script) (machines others : List MachineState) → IsPlayed script machines
       → IsPlayed script others → machines ≡ others
+  -- a roster's file gives one answer
   pub rosters : (name : List ℕ) (file : Option (List ℕ)) (answer other : Result RosterRead Refusal)
       → GivesRoster name file answer → GivesRoster name file other → answer ≡ other
+  -- the files of logs give logs that say the same, or one refusal
   pub logs : (machines : List Post) (election : List ℕ) (names : List (List ℕ)) (files : List (Option (List ℕ)))
       (answer other : Result (List LogRead) Refusal) → GivesLogs machines election names files answer
       → GivesLogs machines election names files other → Agree SameLogs answer other
+  -- and such logs keep the same entries
   pub entries : (logs others : List LogRead) → SameLogs logs others → entries_of logs ≡ entries_of others
+  -- given entries have graphs that tell the same, or one refusal
   pub graphs : (given : List SealedEntry) (answer other : Result (EntryGraph SealedEntry) Refusal)
       → GivesGraph given answer → GivesGraph given other → Agree SameGraph answer other
+  -- an audit of one log under one roster gives reports that are the same, or one refusal
   pub reports : (posts : List Post) (bytes : List ℕ) (answer other : Result AuditReport Refusal)
       → GivesAudit posts bytes answer → GivesAudit posts bytes other → Agree SameReport answer other
 
@@ -115,14 +123,23 @@ report_by read logs graph verdicts =
 module _ (posts : List Post) (bytes : List ℕ) where
   -- the steps by which a report is given
   record IsGiven (report : AuditReport) : Type 0 where
+    -- the roster's machines and the election, as the roster's text gives them
     pub read : RosterRead
+    -- the kept log as it is read, the only one
     pub logs : List LogRead
+    -- the graph of the entries that it keeps
     pub graph : EntryGraph SealedEntry
+    -- a verdict for each of the standard rules
     pub verdicts : List Verdict
+    -- the text of the roster of these machines is what is read first
     pub of_roster : GivesRoster (codes "roster") (Some (text_of (roster_tree posts))) (Ok read)
+    -- the bytes are read as the log, under that roster
     pub of_logs : GivesLogs read.roster.machines read.election (log_name ∷ []) (Some bytes ∷ []) (Ok logs)
+    -- no refusal comes of the entries that it keeps
     pub of_entries : GivesGraph (entries_of logs) (Ok graph)
+    -- the rules are judged by the survivors' rows and their graph
     pub judged : AreJudged (map (row_of read.roster.machines) graph.survivors) (nodes_of graph) standard_rules verdicts
+    -- and the report is made of these
     pub told : report ≡ report_by read logs graph verdicts
 
   -- every report is given by such
@@ -168,12 +185,14 @@ counts_alike ones posts bytes report other x y =
           x.verdicts y.verdicts verdicts;
     }))
   where
+    -- the roster is read in one way
     read : y.read ≡ x.read
     read =
         let e : Ok x.read ≡ Ok y.read = ones.rosters (codes "roster") (Some (text_of (roster_tree posts))) (Ok x.read)
         (Ok y.read) x.of_roster y.of_roster in
         cc
 
+    -- so both logs say the same
     logs : SameLogs x.logs y.logs
     logs =
         let P : RosterRead → Type 0 = λ r.
@@ -181,11 +200,13 @@ counts_alike ones posts bytes report other x y =
         ones.logs x.read.roster.machines x.read.election (log_name ∷ []) (Some bytes ∷ []) (Ok x.logs) (Ok y.logs)
         x.of_logs (subst P read y.of_logs)
 
+    -- and both graphs tell the same
     graph : SameGraph x.graph y.graph
     graph =
         ones.graphs (entries_of x.logs) (Ok x.graph) (Ok y.graph) x.of_entries
         (subst (λ given. GivesGraph given (Ok y.graph)) (sym (ones.entries x.logs y.logs logs)) y.of_entries)
 
+    -- the other's verdicts are right by the first one's rows too, since the survivors are the same
     judged : AreJudged (map (row_of x.read.roster.machines) x.graph.survivors) (nodes_of y.graph) standard_rules
         y.verdicts
     judged =
@@ -194,6 +215,7 @@ counts_alike ones posts bytes report other x y =
         (subst (λ r. AreJudged (map (row_of r.roster.machines) y.graph.survivors) (nodes_of y.graph) standard_rules
         y.verdicts) read y.judged)
 
+    -- so both have the same verdicts
     verdicts : AllZip SameVerdict x.verdicts y.verdicts
     verdicts =
         verdicts_agree (map (row_of x.read.roster.machines) x.graph.survivors) x.graph y.graph

@@ -32,6 +32,7 @@ module _ (script : Script) (lawful : IsLawful script) (machines : List MachineSt
     pub few : length machines ≤ 16
     few = omega (arith, played.are_of.count, lawful.machines.few.1)
 
+    -- so there is a first one, whose log is kept
     pub some_machine : 0 < length machines
     some_machine = omega (arith, played.are_of.count, lawful.machines.few.0)
 

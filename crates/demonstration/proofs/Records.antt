@@ -51,14 +51,17 @@ module _ (owner : ℕ) (events : List (Event SealedEntry)) (k : ℕ) where
 -- the same of the events behind a place, as a slice has them, and of the log's text
 module _ (owner : ℕ) (slice events : List (Event SealedEntry)) (k : ℕ) (text : List ℕ) (same : slice ≡ events)
     (is : text ≡ log_text owner events) where
+  -- what the slice has from the place on is all events from there on
   behind : take (length slice - k) (drop k slice) ≡ drop k events
   behind =
       take_all (length slice - k) (drop k slice) (omega (arith, length-drop k slice))
       ∙ ap (drop k) same
 
+  -- their records are no longer than the text
   pub behind_within : size (take (length slice - k) (drop k slice)) ≤ length text
   behind_within = omega (arith, ap size behind, ap length is, rest_within owner events k)
 
+  -- cut one byte behind where these records begin, the text is the log's, cut one byte behind its first k records
   pub cut_is : (end : ℕ) → end + size (take (length slice - k) (drop k slice)) ≡ length text →
       take (end + 1) text ≡ take (end_of owner events k + 1) (log_text owner events)
   cut_is end sums =

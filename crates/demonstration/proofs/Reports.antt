@@ -21,9 +21,11 @@ use Rattle.demonstration.specs.Shown.{GivesAudit, log_name}
 
 module _ (posts : List Post) (have : HaveText posts) (short : length (text_of (roster_tree posts)) ≤ max_roster)
     (bytes : List ℕ) where
+  -- what stands in the roster's file
   abbrev text : List ℕ
   text = text_of (roster_tree posts)
 
+  -- and what it is read as: the machines, and the text's digest for the election
   abbrev read : RosterRead
   read = record { roster = record { machines = posts }; election = sha256 text }
 
@@ -45,5 +47,6 @@ module _ (posts : List Post) (have : HaveText posts) (short : length (text_of (r
   of_log log answer is gives = inl (read, given, inl (log ∷ [], (is, tt), gives))
 
   -- a log that is refused refuses the audit
-  pub of_refusal : (refusal : Refusal) → IsLogRefusal log_name (Some bytes) refusal → GivesAudit posts bytes (Err refusal)
+  pub of_refusal : (refusal : Refusal) → IsLogRefusal log_name (Some bytes) refusal →
+      GivesAudit posts bytes (Err refusal)
   of_refusal refusal is = inl (read, given, inr (refusal, inl is, refl))

@@ -28,7 +28,8 @@ returns-in-Ok-clause-ok c =
     let bytes = c.args.bytes.now in
     let log = c.in-Ok.log in
     ok_by c.audit_log.result
-    (λ (report : ReportParts). WithLogs posts standard standard_rules (log_name ∷ []) (log ∷ []) (Ok (report_of report)))
+    (λ (report : ReportParts).
+        WithLogs posts standard standard_rules (log_name ∷ []) (log ∷ []) (Ok (report_of report)))
     (λ (report : ReportParts). GivesAudit posts bytes (Ok (report_of report)))
     (λ report is. of_log posts c.requires.roster c.requires.short bytes log (Ok (report_of report))
     c.in-Ok.ensures.ok is) c.audit_log.ensures.ok
