@@ -79,7 +79,8 @@ module _ (machines : List Post) (graph : EntryGraph SealedEntry) (is : IsEntryGr
 
 -- a report is told with what its verdicts and its gaps say
 pub report_is_told : (report : AuditReport) (answer : Answer) →
-    RulesAreSettled node_of_sealed (row_of report.machines) → UnknownOnlyByGaps node_of_sealed (row_of report.machines) →
+    RulesAreSettled node_of_sealed (row_of report.machines) →
+    UnknownOnlyByGaps node_of_sealed (row_of report.machines) →
     GapsAreUnique node_of_sealed → IsReport report → answer ≡ report_answer report → IsAuditOf report answer
 report_is_told report answer settled unknown unique is told =
     let kept = is.graphed.2.kept in

@@ -50,6 +50,7 @@ set_next old mid files i file within is set =
     ap (λ (m : Option Files). with_files m (drop (i + 1) files)) set
     ∙ ap (with_files old) (rest_from files i file within is)
 
+-- and where the rest is set up to some place behind it, so are the files from its place on
 pub some_next : (old mid new : Option Files) (files : List (List ℕ × List ℕ)) (i : ℕ) (file : List ℕ × List ℕ) →
     i < length files → file ≡ get_or files i file → mid ≡ with_file old file.0 file.1 →
     SetsSome mid (drop (i + 1) files) new → SetsSome old (drop i files) new

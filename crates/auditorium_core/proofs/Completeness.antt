@@ -50,10 +50,12 @@ of_lines : (lines : List ℕ) → IsCarriedOut (status_of lines)
 of_lines [] = tt
 of_lines (byte ∷ bytes) = tt
 
+-- so is each status of lines on what is left
 of_undone : (lines : List ℕ) → IsCarriedOut (status_of_undone lines)
 of_undone [] = tt
 of_undone (byte ∷ bytes) = tt
 
+-- and that of each outcome of a report
 of_outcome : (came : Outcome) → IsCarriedOut (status_by came)
 of_outcome outcome.Kept = tt
 of_outcome outcome.Findings = tt
@@ -66,6 +68,7 @@ gaps_complete : SayOne → (name : List ℕ) (file : Option (List ℕ)) (answer 
 gaps_complete one name None answer read is right = absurd is
 gaps_complete one name (Some bytes) answer read is right = by (cases name bytes answer right)
   where
+    -- by what the answer is: bytes that say a log aren't over the limit, and have a header
     by : Cases name bytes answer → IsCarriedOut answer.status
     by (inl (long, e)) = absurd (omega (arith, is.0))
     by (inr (inl (short, none, e))) = absurd (none (one.header bytes read is.1))
@@ -107,9 +110,11 @@ module _ (one : OrderOne) (x y : List ℕ) (answer : Answer) where
       let right : IsOrderUnder given.read x y logs files answer = subst P read_is is in
       over_logs right.right
     where
+      -- the machines of the roster that is accepted
       machines : List Post
       machines = given.read.roster.machines
 
+      -- over the entries of the logs, which have a graph
       over : IsOrderOver machines x y (entries_of given.found) answer → IsCarriedOut answer.status
       over (inl (refusal, gives, e)) =
           absurd (one.graph (entries_of given.found) (Err refusal) (Ok given.graph) gives given.of_entries)
@@ -119,6 +124,7 @@ module _ (one : OrderOne) (x y : List ℕ) (answer : Answer) where
           among_complete machines given.graph.survivors given.e given.f given.first given.second
           (subst P same.survivors is)
 
+      -- over the logs, of which none is refused
       over_logs : IsOrderOverLogs given.read x y logs files answer → IsCarriedOut answer.status
       over_logs (inl (refusal, gives, e)) =
           absurd (one.logs machines given.read.election logs files (Err refusal) (Ok given.found) gives given.of_logs)
@@ -141,9 +147,11 @@ demonstration_complete : ShowOne → (sessions : ℕ) (answer : Answer) → Show
     IsDemonstrationAnswer sessions answer → IsCarriedOut answer.status
 demonstration_complete one sessions answer (half, is_half, machines, report, audited) given = by given.right
   where
+    -- sessions have one half, so the log that is shown is the one that gives a report
     same : given.half ≡ half
     same = same_half sessions given.half half given.is_half is_half
 
+    -- a refusal would contradict the report, and what is shown has the status of a report
     by : OrRefused (GivesDemonstration (generated sessions) given.half)
         (λ shown told. told ≡ demonstration_answer sessions shown) answer → IsCarriedOut answer.status
     by (inl (refusal, refused, e)) =
@@ -200,6 +208,7 @@ complete one way orders reports shows IsDone words old how new = by how
         (answer : Answer) × GivesAnswer (Answers IsDone words) old new answer × (how ≡ answer.status) × ⊤
         × IsWritten answer old new
 
+    -- what was done with an answer is complete, whatever its status is
     answered : (how : Status) → IsAnswered how → IsComplete IsDone words old how new
     answered how (answer, gives, told, calls, written) command done means fault =
         let (files, are, right) = of_command command answer done means gives.answers in
@@ -217,6 +226,7 @@ complete one way orders reports shows IsDone words old how new = by how
           },
         )
 
+    -- by the status: where no count rose, no read and no write failed, so there is an answer or no memory
     by : (how : Status) → HasDone (Answers IsDone words) (λ _ _. ⊤) old how new →
         IsComplete IsDone words old how new
     by status.ReadFault (risen, unwritten) command done means fault = absurd (fault.reads risen)

@@ -50,12 +50,15 @@ use Rattle.auditorium_core.proofs.ShortFiles.{none_over_limit}
 
 -- what is known of plays, and of audits by the standard rules of what is left of honest places
 pub record AreKnown : Type 0 where
+  -- a script is played in one way
   pub one_play : (script : Script) (machines others : List MachineState) → IsPlayed script machines →
       IsPlayed script others → machines ≡ others
+  -- where digests differ, no report by the standard rules on what is left of such a place says that one is broken
   pub unbroken : (script : Script) (w : World SealedEntry) (roster : Option (List ℕ)) → IsRosterOf script w roster →
       Distinct node_of_sealed (sent_in w) → (files : List (Option (List ℕ))) → AreFilesOf w files →
       (name : List ℕ) (names : List (List ℕ)) (report : AuditReport) →
       GivesReport name standard names (roster ∷ files) (Ok report) → SaysNoneBroken report
+  -- and such an audit is refused only for a log over its limit or for a too wide rule
   pub refuses : (script : Script) (w : World SealedEntry) (roster : Option (List ℕ)) → IsRosterOf script w roster →
       Distinct node_of_sealed (sent_in w) → (files : List (Option (List ℕ))) → AreFilesOf w files →
       (name : List ℕ) (names : List (List ℕ)) (refusal : Refusal) →
@@ -77,6 +80,7 @@ one_counted verdict.Kept = refl
 one_counted (verdict.Broken places) = refl
 one_counted verdict.Unsettled = refl
 
+-- so those that are kept, broken and unsettled are all verdicts
 all_counted : (verdicts : List Verdict) →
     count_by is_kept verdicts + count_by is_broken verdicts + count_by is_unsettled verdicts ≡ length verdicts
 all_counted [] = refl
@@ -90,6 +94,7 @@ all_counted (v ∷ verdicts) =
       sum_by-cons (λ (u : Verdict). cond (is_unsettled u) 1 0) v verdicts,
     )
 
+-- any other verdict isn't counted as unsettled
 not_unsettled : (v : Verdict) → v ≢ verdict.Unsettled → is_unsettled v ≡ false
 not_unsettled verdict.Unsettled other = absurd (other refl)
 not_unsettled verdict.Kept other = refl
@@ -97,12 +102,15 @@ not_unsettled (verdict.Broken places) other = refl
 
 -- where no rule is broken, so is what is shown
 module _ (report : AuditReport) (says : SaysNoneBroken report) where
+  -- no verdict is counted as broken
   none_broken : count_by is_broken report.verdicts ≡ 0
   none_broken = none_counted is_broken report.verdicts says.verdicts
 
+  -- so each of the standard rules is counted as kept or as unsettled
   kept_or_unsettled : count_by is_kept report.verdicts + count_by is_unsettled report.verdicts ≡ length standard_rules
   kept_or_unsettled = omega (arith, all_counted report.verdicts, none_broken, says.one_each)
 
+  -- and where there is no gap, none is unsettled
   unsettled_by_gap : length report.graph.gaps ≡ 0 → count_by is_unsettled report.verdicts ≡ 0
   unsettled_by_gap none =
       none_counted is_unsettled report.verdicts (λ v inside. not_unsettled v (λ is.
@@ -115,6 +123,7 @@ module _ (known : AreKnown) (script : Script) (lawful : IsLawful script) (sessio
   abbrev roster : Option (List ℕ)
   roster = Some (text_of (roster_tree (roster_of script)))
 
+  -- it is the roster of the place to which the script's machines come
   of_script : IsRosterOf script (world_of machines) roster
   of_script = record { steps = script.steps; lawful = lawful; comes = played.played; text = refl }
 
@@ -130,6 +139,7 @@ module _ (known : AreKnown) (script : Script) (lawful : IsLawful script) (sessio
       let P : Option (List ℕ) → Type 0 = λ file. IsSomeAnd file (IsLeftIn (world_of machines)) in
       All-cons P (Some bytes) [] left (All-nil P)
 
+  -- so a report on what is kept says of no rule that it is broken
   unbroken_here : (report : AuditReport) → IsAudited script session machines (Ok report) → SaysNoneBroken report
   unbroken_here report audited =
       known.unbroken script (world_of machines) roster of_script apart (Some audited.bytes ∷ [])
@@ -173,6 +183,7 @@ module _ (known : AreKnown) (sessions : ℕ) (lawful : IsLawful (generated sessi
         told = told;
       }
 
+  -- and what is counted of a report says that no rule is broken
   is_unbroken : (shown : Demonstration) → IsDemonstrationOf (generated sessions) half shown →
       answer ≡ demonstration_answer sessions shown → TellsNoneBroken sessions half answer
   is_unbroken shown is told =
@@ -191,6 +202,7 @@ module _ (known : AreKnown) (sessions : ℕ) (lawful : IsLawful (generated sessi
             ∙ only_broken shown.outcome (sym (ap (λ (a : Answer). a.status) told) ∙ e));
       }
 
+  -- so it is with each answer, be it of what is shown or a refusal
   honest_here : IsAnswerOfShown sessions half answer →
       TellsNoneBroken sessions half answer ⊎ IsRefusedAsTooWide sessions half machines answer
   honest_here (inl (refusal, is, told)) = inr (is_too_wide refusal is told)
@@ -214,6 +226,7 @@ AreHonest =
 
 module _ (honest : AreHonest) (sessions half : ℕ) (script : Script) (same : script ≡ generated sessions)
     (lawful : IsLawful script) (is_half : IsHalfOf sessions half) where
+  -- each answer of what the generated script shows is one of `demo`
   of_shown : (answer : Answer) → IsAnswerOfShown sessions half answer → IsDemonstrationAnswer sessions answer
   of_shown answer is = honest sessions half answer (subst IsLawful same lawful) is_half is
 

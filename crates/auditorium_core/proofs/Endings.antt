@@ -31,6 +31,7 @@ answered_as IsRight IsAlso old new result also given = record {
   write_faults = given.write_faults;
 }
   where
+    -- where there is an answer, it is right in the other way
     by : (result : Result Answer Fault) → IfOk result (IsRight old.files) → IfOk result (IsAlso old.files)
     by (Ok answer) is = also old.files answer is
     by (Err why) is = tt
@@ -42,6 +43,7 @@ module _ (IsDone : Command → Type 0) (words : List (List ℕ)) (is_told_by is_
   abbrev old : Outside
   old = outside before output faults
 
+  -- nothing was written until then
   abbrev mid : Outside
   mid = outside after output faults
 
@@ -109,6 +111,7 @@ pub done_as_any : (words : List (List ℕ)) (is_written_by : Answer → Bool →
     HasDone (Answers IsStill words) is_written_by old how new → HasDone (Answers IsAny words) is_written_by old how new
 done_as_any words is_written_by old new how none = by how
   where
+    -- an answer that is given without threads is given with them
     given : (answer : Answer) → GivesAnswer (Answers IsStill words) old new answer →
         GivesAnswer (Answers IsAny words) old new answer
     given answer gives = record {
@@ -116,6 +119,7 @@ done_as_any words is_written_by old new how none = by how
       absent = gives.absent;
     }
 
+    -- by the status, which says what is to be shown
     by : (how : Status) → HasDone (Answers IsStill words) is_written_by old how new →
         HasDone (Answers IsAny words) is_written_by old how new
     by status.ReadFault done = done

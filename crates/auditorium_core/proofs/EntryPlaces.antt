@@ -21,9 +21,11 @@ use Rattle.auditorium_core.specs.inside.EntryNames.{IsPlaceOf, IsLowerAt}
 abbrev pub IsUnder : SealedEntry → SealedEntry → Type 0
 IsUnder e f = slice_cmp nat_cmp e.digest f.digest ≡ Less
 
+-- no entry has a lower digest than itself
 not_under_itself : (e : SealedEntry) → IsUnder e e → ⊥
 not_under_itself e under =
-    let no : Less ≡ Greater = sym under ∙ nat_list_cmp_total.antisymm e.digest e.digest ∙ ap ordering_reverse under in cc
+    let no : Less ≡ Greater = sym under ∙ nat_list_cmp_total.antisymm e.digest e.digest
+        ∙ ap ordering_reverse under in cc
 
 -- one place has one entry
 pub one_entry : {T : Type 0} (S : List T) (i : ℕ) (e f : T) → slice_get S i ≡ Some e → slice_get S i ≡ Some f → e ≡ f
@@ -38,11 +40,13 @@ module _ (P : SealedEntry → Type 0) (S : List SealedEntry) where
   abbrev pub NoneBefore : ℕ → Type 0
   NoneBefore at = (i : ℕ) → i < at → (f : SealedEntry) → slice_get S i ≡ Some f → ¬ P f
 
+  -- nor before the next place, where it doesn't hold of the entry at this one
   pub none_more : (at : ℕ) (e : SealedEntry) → slice_get S at ≡ Some e → ¬ P e → NoneBefore at → NoneBefore (at + 1)
   none_more at e is not_this before =
       below_more (λ i. (f : SealedEntry) → slice_get S i ≡ Some f → ¬ P f) at before
       (λ f same holds. not_this (subst P (sym (one_entry S at e f is same)) holds))
 
+  -- where all places are looked at, it holds of no entry of S
   pub none_at_all : (at : ℕ) → length S ≤ at → NoneBefore at → IsPlaceOf P S None
   none_at_all at past before f (k, within, is) =
       before k (omega arith) f (slice_get-get_or S k f within ∙ ap Some is)
@@ -158,6 +162,7 @@ lower_at S at other e f d c answer at_e at_f same_d same_c told =
           ∙ ap is_lt under,
     )
   where
+    -- what passes the test for less is less
     less : (o : Ordering) → is_lt o ≡ true → o ≡ Less
     less Less e = refl
     less Equal e = cc

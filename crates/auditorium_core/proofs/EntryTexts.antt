@@ -24,7 +24,8 @@ one_split (x ∷ a) b [] d none other e = absurd (none 0 0 (omega arith) (let sa
 one_split (x ∷ a) b (y ∷ c) d none other e =
     let heads : x ≡ y = cc in
     let rest : a ++ 46 ∷ b ≡ c ++ 46 ∷ d = cc in
-    let same = one_split a b c d (λ i z within. none (suc i) z (omega arith)) (λ i z within. other (suc i) z (omega arith))
+    let same = one_split a b c d (λ i z within. none (suc i) z (omega arith))
+        (λ i z within. other (suc i) z (omega arith))
     rest in
     (ap (λ h. h ∷ a) heads ∙ ap (λ t. y ∷ t) same.0, same.1)
 
@@ -33,6 +34,7 @@ no_dot : (byte : ℕ) → IsNameByte byte → byte ≢ 46
 no_dot byte (inl letter) e = omega arith
 no_dot byte (inr digit) e = omega arith
 
+-- so a name has none
 name_has_no_dot : (name : List ℕ) → IsName name → All (λ byte. byte ≢ 46) name
 name_has_no_dot name is = λ i d within. no_dot _ (is.bytes i d within)
 
@@ -40,12 +42,14 @@ name_has_no_dot name is = λ i d within. no_dot _ (is.bytes i d within)
 pub dot_splits : (word : List ℕ) (dot : ℕ) (name rest : List ℕ) → IsFirstDot word (Some dot) → IsName name →
     word ≡ (name ++ 46 ∷ []) ++ rest → (take dot word ≡ name) × (drop (dot + 1) word ≡ rest)
 dot_splits word dot name rest first is spelt =
-    one_split (take dot word) (drop (dot + 1) word) name rest first.1 (name_has_no_dot name is) (sym first.0 ∙ spelt ∙ append_assoc name (46 ∷ []) rest)
+    one_split (take dot word) (drop (dot + 1) word) name rest first.1 (name_has_no_dot name is)
+        (sym first.0 ∙ spelt ∙ append_assoc name (46 ∷ []) rest)
 
 -- whether a byte is no dot
 abbrev is_no_dot : ℕ → Bool
 is_no_dot byte = not (byte == 46)
 
+-- none of the sixteen digits is one
 hex_digit : (digit : ℕ) → digit < 16 → is_no_dot (slice_index lower_digits digit) ≡ true
 hex_digit digit small = agree_below_at (λ d. is_no_dot (slice_index lower_digits d)) (λ _. true) 16 digit refl small
 
@@ -64,7 +68,9 @@ dot_is_one : (a b : List ℕ) → list_all is_no_dot (a ++ 46 ∷ b) ≡ true �
 dot_is_one [] b e = true≢false (sym e)
 dot_is_one (x ∷ a) b e = dot_is_one a b (and_parts (is_no_dot x) (list_all is_no_dot (a ++ 46 ∷ b)) e).1
 
-digest_is_no_number : (word digest machine rest : List ℕ) → IsDigestText word digest → word ≡ (machine ++ 46 ∷ []) ++ rest →
+-- so a digest's text isn't a machine, a dot and more
+digest_is_no_number : (word digest machine rest : List ℕ) → IsDigestText word digest →
+    word ≡ (machine ++ 46 ∷ []) ++ rest →
     ⊥
 digest_is_no_number word digest machine rest text spelt =
     dot_is_one machine rest

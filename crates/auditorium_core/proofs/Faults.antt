@@ -22,6 +22,7 @@ pub refused_or : {T E : Type 0} (Gives : Result T Refusal → Type 0) (IsFor : T
     IfSome (refusal_of fault) (λ refusal. Gives (Err refusal)) → IfOk result (OrRefused Gives IsFor)
 refused_or Gives IsFor fault (Ok answer) told gives = by (refusal_of fault) told gives
   where
+    -- by the refusal of the fault: a fault without one has no answer
     by : (refusal : Option Refusal) → IsSomeAnd refusal (λ r. answer ≡ refusal_answer r) →
         IfSome refusal (λ r. Gives (Err r)) → OrRefused Gives IsFor answer
     by None told gives = absurd told
@@ -38,6 +39,7 @@ absent_status (audit.Refused file place cause) answer told is =
 absent_status audit.ReadFault answer told is = absurd told
 absent_status audit.Memory answer told is = absurd told
 
+-- and where the fault is an absence, the status is Absent
 status_absent : (fault : AuditFault) (answer : Answer) → IsAnswerOfFault fault answer → IsAbsent fault →
     answer.status ≡ status.Absent
 status_absent (audit.Absent file) answer told is = ap (λ (a : Answer). a.status) told
@@ -45,12 +47,14 @@ status_absent (audit.Refused file place cause) answer told is = absurd is
 status_absent audit.ReadFault answer told is = absurd told
 status_absent audit.Memory answer told is = absurd told
 
+-- want of memory has no such answer
 not_memory : (fault : AuditFault) (answer : Answer) → IsAnswerOfFault fault answer → fault ≢ audit.Memory
 not_memory fault answer told e = subst (λ f. IsAnswerOfFault f answer) e told
 
 -- a refused reading is answered
 pub refused_answered : {T U : Type 0} (value : T → U) (IsFound : Option Files → Result U Refusal → Type 0)
-    (IsRight : Option Files → Answer → Type 0) (old new : StoreSeen) (fault : AuditFault) (result : Result Answer Fault) →
+    (IsRight : Option Files → Answer → Type 0) (old new : StoreSeen) (fault : AuditFault)
+    (result : Result Answer Fault) →
     IsReadFrom value IsFound old (Err fault) new → IfOk result (IsAnswerOfFault fault) →
     IfErr result (λ why. why ≡ ReadFault → fault ≡ audit.ReadFault) →
     ((refusal : Refusal) → IsFound old.files (Err refusal) → IsRight old.files (refusal_answer refusal)) →
@@ -68,6 +72,7 @@ refused_answered value IsFound IsRight old new fault (Ok answer) given told why 
   write_faults = given.write_faults;
 }
   where
+    -- the refusal that is answered is the one that was found, and so right
     by : (refusal : Option Refusal) → IsSomeAnd refusal (λ r. answer ≡ refusal_answer r) →
         IfSome refusal (λ r. IsFound old.files (Err r)) → IsRight old.files answer
     by None told gives = absurd told

@@ -28,24 +28,29 @@ use Rattle.auditorium_core.proofs.ShortFiles.{none_over_limit}
 
 -- what is known of the audits of what is left of honest places
 pub record AreKnown : Type 0 where
+  -- where digests differ, a report on what is left of such a place accuses nobody, whatever the rules are
   pub honest : (script : Script) (w : World SealedEntry) (roster : Option (List ℕ)) → IsRosterOf script w roster →
       Distinct node_of_sealed (sent_in w) → (files : List (Option (List ℕ))) → AreFilesOf w files →
       (name : List ℕ) (source : RuleSource) (rules : Option (List ℕ)) (names : List (List ℕ)) (report : AuditReport) →
       GivesReport name source names (files_read roster source rules files) (Ok report) →
       IsHonestReport script w names files report
+  -- by the standard rules it says of none that it is broken
   pub unbroken : (script : Script) (w : World SealedEntry) (roster : Option (List ℕ)) → IsRosterOf script w roster →
       Distinct node_of_sealed (sent_in w) → (files : List (Option (List ℕ))) → AreFilesOf w files →
       (name : List ℕ) (names : List (List ℕ)) (report : AuditReport) →
       GivesReport name standard names (roster ∷ files) (Ok report) → SaysNoneBroken report
+  -- over files among which is the whole log of each machine, it says of each that it is kept
   pub kept : (script : Script) (w : World SealedEntry) (roster : Option (List ℕ)) → IsRosterOf script w roster →
       (files : List (Option (List ℕ))) → AreFilesOf w files → AreAllFilesOf w files → (name : List ℕ)
       (names : List (List ℕ)) (report : AuditReport) → GivesReport name standard names (roster ∷ files) (Ok report) →
       SaysAllKept w files report
+  -- where digests differ, a refusal is for the file of the rules, for a log over its limit or for a too wide rule
   pub refuses : (script : Script) (w : World SealedEntry) (roster : Option (List ℕ)) → IsRosterOf script w roster →
       Distinct node_of_sealed (sent_in w) → (files : List (Option (List ℕ))) → AreFilesOf w files →
       (name : List ℕ) (source : RuleSource) (rules : Option (List ℕ)) (names : List (List ℕ)) (refusal : Refusal) →
       GivesReport name source names (files_read roster source rules files) (Err refusal) →
       IsHonestRefusal script w source rules names files refusal
+  -- a report over the whole logs of all machines shows that digests differ
   pub distinct : (script : Script) (w : World SealedEntry) (roster : Option (List ℕ)) → IsRosterOf script w roster →
       (files : List (Option (List ℕ))) → AreAllFilesOf w files → (name : List ℕ) (source : RuleSource)
       (rules : Option (List ℕ)) (names : List (List ℕ)) (report : AuditReport) →
@@ -86,6 +91,7 @@ module _ (known : AreKnown) (script : Script) (w : World SealedEntry) (roster : 
       absurd (none_over_limit script is.lawful is.steps w is.comes names files left refusal over)
   refused_so refusal (inr (inr too_wide)) = inr too_wide
 
+  -- so an answer that is a refusal is right of the place
   of_refusal : (refusal : Refusal) → Gives (Err refusal) → answer ≡ refusal_answer refusal →
       IsAuditOfPlace script w source rules names files answer
   of_refusal refusal gives told =
@@ -109,19 +115,24 @@ module _ (known : AreKnown) (script : Script) (w : World SealedEntry) (roster : 
     gives_plainly plain =
         subst (λ (s : RuleSource). GivesReport name s names (files_read roster s rules files) (Ok report)) plain gives
 
+    -- where digests differ, no line of the report accuses anybody
     accuses_nobody : Distinct node_of_sealed (sent_in w) → IsHonestReport script w names files report
     accuses_nobody apart = known.honest script w roster is apart files left name source rules names report gives
 
+    -- and by the standard rules it says of none that it is broken
     none_is_broken : Distinct node_of_sealed (sent_in w) → source ≡ standard → SaysNoneBroken report
     none_is_broken apart plain =
         known.unbroken script w roster is apart files left name names report (gives_plainly plain)
 
+    -- over the whole logs of all machines it says of each standard rule that it is kept
     all_are_kept : source ≡ standard → AreAllFilesOf w files → SaysAllKept w files report
     all_are_kept plain all = known.kept script w roster is files left all name names report (gives_plainly plain)
 
+    -- and that there is a report over these shows that digests differ
     digests_differ : AreAllFilesOf w files → Distinct node_of_sealed (sent_in w)
     digests_differ all = known.distinct script w roster is files all name source rules names report gives
 
+    -- so an answer that is the report's is right of the place
     of_report : IsAuditOfPlace script w source rules names files answer
     of_report = record {
       honest = λ apart.
@@ -147,6 +158,7 @@ module _ (known : AreKnown) (script : Script) (w : World SealedEntry) (roster : 
 
 module _ (known : AreKnown) (roster rules : List ℕ) (names : List (List ℕ)) (files : List (Option (List ℕ)))
     (answer : Answer) where
+  -- what is answered over the files of a place is right of it, be it a refusal or a report
   of_place : (script : Script) (w : World SealedEntry) (roster_file : Option (List ℕ)) →
       IsRosterOf script w roster_file → (log_files : List (Option (List ℕ))) → AreFilesOf w log_files →
       (rules_file : Option (List ℕ)) → files ≡ files_read roster_file (source_named rules) rules_file log_files →

@@ -33,27 +33,35 @@ use Rattle.auditorium_core.proofs.ShortFiles.{none_over_limit}
 
 -- what is known of the worlds of scripts, of the orders in them, and of what their files give
 pub record AreKnown : Type 0 where
+  -- the worlds to which a script's machines come are honest
   pub honest : (machines : List Post) (election : List ℕ) (w : World SealedEntry) → IsOfScript machines election w →
       IsHonestWorld machines w
+  -- where digests differ, logs that are left of such a world, and their graph, accuse nobody
   pub read : (machines : List Post) (election : List ℕ) (w : World SealedEntry) → IsOfScript machines election w →
       Distinct node_of_sealed (sent_in w) → (names : List (List ℕ)) (files : List (Option (List ℕ))) →
       AreFilesOf w files → (logs : List LogRead) → GivesLogs machines election names files (Ok logs) →
       (graph : EntryGraph SealedEntry) → GivesGraph (entries_of logs) (Ok graph) →
       IsHonestlyRead machines election w names files logs graph
+  -- such logs are refused only where a file is over its limit
   pub over : (machines : List Post) (election : List ℕ) (w : World SealedEntry) → IsOfScript machines election w →
       (names : List (List ℕ)) (files : List (Option (List ℕ))) → AreFilesOf w files → (refusal : Refusal) →
       GivesLogs machines election names files (Err refusal) → IsOverLimit names files refusal
+  -- where digests differ, their entries aren't refused
   pub not_refused : (machines : List Post) (election : List ℕ) (w : World SealedEntry) →
       IsOfScript machines election w → Distinct node_of_sealed (sent_in w) → (names : List (List ℕ))
       (files : List (Option (List ℕ))) → AreFilesOf w files → (logs : List LogRead) →
       GivesLogs machines election names files (Ok logs) → (refusal : Refusal) →
       ¬ GivesGraph (entries_of logs) (Err refusal)
+  -- a graph of the entries of all whole logs shows that digests differ
   pub distinct : (machines : List Post) (election : List ℕ) (w : World SealedEntry) → IsOfScript machines election w →
       (names : List (List ℕ)) (files : List (Option (List ℕ))) → AreAllFilesOf w files → (logs : List LogRead) →
       GivesLogs machines election names files (Ok logs) → (graph : EntryGraph SealedEntry) →
       GivesGraph (entries_of logs) (Ok graph) → Distinct node_of_sealed (sent_in w)
+  -- where logs have all of a world, all that was sent in it is given
   pub all_given : (w : World SealedEntry) (logs : List LogRead) → HaveAll w logs → IsAllGiven w (entries_of logs)
+  -- in orderly worlds one entry precedes another exactly where it was held before it
   pub receipt : OrderIsReceiptInOrderlyWorlds node_of_sealed
+  -- and one that was held before another has a lower stamp
   pub rise : StampsRise node_of_sealed
 
 -- no refusal has the status of a word
@@ -75,6 +83,7 @@ module _ (known : AreKnown) (machines : List Post) (election : List ℕ) (w : Wo
         subst (λ (n : ℕ). Completion node_of_sealed n graph.survivors (sent_in w))
         (known.honest machines election w is).one_each read.honest.agrees.completed
 
+    -- of two entries one alone was held before the other, since stamps rise
     no_cycle : (g h : SealedEntry) → HeldBefore w g h → HeldBefore w h g → ⊥
     no_cycle g h first then =
         let orderly = (known.honest machines election w is).orderly in
@@ -102,9 +111,11 @@ module _ (known : AreKnown) (machines : List Post) (election : List ℕ) (w : Wo
               (word_known w e f graph.survivors (no_gap whole) order.word order.right) right;
         }
 
+    -- the answer is an honest one over these files
     abbrev IsHonest : Answer → Type 0
     IsHonest = IsHonestOrder machines election w x y names files
 
+    -- so it is where it goes on these survivors: a word means none of them, or the word of order is honest
     honest_among : (answer : Answer) → IsOrderAmong machines graph.survivors x y answer → IsHonest answer
     honest_among answer (inl (none, told)) = subst IsHonest (sym told) (no_first logs graph read none)
     honest_among answer (inr (e, means_e, inl (none, told))) =
@@ -116,6 +127,7 @@ module _ (known : AreKnown) (machines : List Post) (election : List ℕ) (w : Wo
         subst IsHonest (sym order.told) (both logs graph read e f means_e means_f order.word word)
 
   module _ (left : AreFilesOf w files) (answer : Answer) where
+    -- and where it goes on the logs' entries, which aren't refused
     honest_over : Distinct node_of_sealed (sent_in w) → (logs : List LogRead) →
         GivesLogs machines election names files (Ok logs) → IsOrderOver machines x y (entries_of logs) answer →
         IsHonestOrder machines election w x y names files answer
@@ -136,9 +148,11 @@ module _ (known : AreKnown) (machines : List Post) (election : List ℕ) (w : Wo
 
 module _ (known : AreKnown) (read : RosterRead) (x y : List ℕ) (names : List (List ℕ))
     (files : List (Option (List ℕ))) (answer : Answer) where
+  -- the machines of the roster that was read
   abbrev machines : List Post
   machines = read.roster.machines
 
+  -- an answer over logs that are left of a place is right of it, since none of them is over its limit
   of_place : (w : World SealedEntry) → IsOfScript machines read.election w → AreFilesOf w files →
       IsOrderOverLogs read x y names files answer →
       IsOrderOfPlace machines read.election w x y names files answer

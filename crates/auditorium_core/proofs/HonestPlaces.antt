@@ -57,6 +57,7 @@ module _ (machines : List MachineState) (w : World SealedEntry) (many : length w
   whole_files =
       each_place (λ (file : Option (List ℕ)). IsSomeAnd file (IsWholeIn w)) (written_logs machines) by
     where
+      -- the file at a place is that of the machine there
       by : (place : ℕ) (file : Option (List ℕ)) → slice_get (written_logs machines) place ≡ Some file →
           IsSomeAnd file (IsWholeIn w)
       by place file at =

@@ -52,6 +52,7 @@ module _ (w : World SealedEntry) (e f : SealedEntry) where
   abbrev pub HasNoCycle : Type 0
   HasNoCycle = (g h : SealedEntry) → HeldBefore w g h → HeldBefore w h g → ⊥
 
+  -- so where both are one entry, neither was held before the other
   none_of_itself : HasNoCycle → e ≡ f → (HeldBefore w e f → ⊥) × (HeldBefore w f e → ⊥)
   none_of_itself acyclic is =
       let no = λ (held : HeldBefore w e e). acyclic e e held held in (

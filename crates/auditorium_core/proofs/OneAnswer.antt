@@ -38,11 +38,15 @@ use Rattle.auditorium_core.proofs.SameOr.{same_or}
 
 -- bytes say at most one log, and only where they have a header
 pub record SayOne : Type 0 where
+  -- the bytes say which entries are kept
   pub entries : (bytes : List ℕ) (log other : PlainLog) → Says bytes log → Says bytes other
       → log.kept.items ≡ other.kept.items
+  -- and which records are refused, with the cause of each
   pub refused : (bytes : List ℕ) (log other : PlainLog) → Says bytes log → Says bytes other
       → log.refused.items ≡ other.refused.items
+  -- and how the log ends
   pub end : (bytes : List ℕ) (log other : PlainLog) → Says bytes log → Says bytes other → log.end ≡ other.end
+  -- bytes that say a log have a header
   pub header : (bytes : List ℕ) (log : PlainLog) → Says bytes log → HasHeader bytes
 
 -- one log has one text of lines

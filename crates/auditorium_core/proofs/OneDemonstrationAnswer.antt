@@ -15,10 +15,13 @@ use Rattle.auditorium_core.proofs.SameOr.{same_or}
 
 -- a script shows one thing or is refused in one way, and not both
 pub record ShowOne : Type 0 where
+  -- what any two demonstrations of a script count is the same
   pub shown : (script : Script) (session : ℕ) (shown other : Demonstration) → IsDemonstrationOf script session shown
       → IsDemonstrationOf script session other → shown ≡ other
+  -- and any two refusals are one
   pub refused : (script : Script) (session : ℕ) (refusal other : Refusal) → IsRefusedSo script session refusal
       → IsRefusedSo script session other → refusal ≡ other
+  -- where the audit gives a report, it isn't refused
   pub either : (script : Script) (session : ℕ) (machines : List MachineState) (report : AuditReport)
       (refusal : Refusal) → IsAudited script session machines (Ok report) → ¬ IsRefusedSo script session refusal
 
@@ -41,9 +44,11 @@ given_agree one script session (Err refusal) (Err other) x y = one.refused scrip
 
 -- so its answer is
 module _ (one : ShowOne) (script : Script) (sessions session : ℕ) (a b : Answer) where
+  -- the answer is that of what is shown
   abbrev IsTold : Demonstration → Answer → Type 0
   IsTold shown told = told ≡ demonstration_answer sessions shown
 
+  -- two answers of what the script shows, or of why it is refused, are one
   same_shown : OrRefused (GivesDemonstration script session) IsTold a →
       OrRefused (GivesDemonstration script session) IsTold b → a ≡ b
   same_shown =

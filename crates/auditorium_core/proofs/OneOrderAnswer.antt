@@ -33,15 +33,20 @@ use Rattle.auditorium_core.proofs.SameOr.{same_or, agree_equal}
 
 -- files give one roster and one list of logs, entries give one graph, and its survivors are sound
 pub record OrderOne : Type 0 where
+  -- a roster's file gives one answer
   pub roster : (name : List ℕ) (file : Option (List ℕ)) (answer other : Result RosterRead Refusal)
       → GivesRoster name file answer → GivesRoster name file other → answer ≡ other
+  -- the files of logs give logs that say the same, or one refusal
   pub logs : (machines : List Post) (election : List ℕ) (names : List (List ℕ)) (files : List (Option (List ℕ)))
       (answer other : Result (List LogRead) Refusal) → GivesLogs machines election names files answer
       → GivesLogs machines election names files other → Agree SameLogs answer other
+  -- given entries have graphs that tell the same, or one refusal
   pub graph : (given : List SealedEntry) (answer other : Result (EntryGraph SealedEntry) Refusal)
       → GivesGraph given answer → GivesGraph given other → Agree SameGraph answer other
+  -- no two survivors have one digest
   pub digests : (given : List SealedEntry) (graph : EntryGraph SealedEntry) → GivesGraph given (Ok graph)
       → Distinct node_of_sealed graph.survivors
+  -- and none precedes itself
   pub no_cycle : (given : List SealedEntry) (graph : EntryGraph SealedEntry) (e : SealedEntry)
       → GivesGraph given (Ok graph) → ¬ Precedes node_of_sealed graph.survivors e e
 
@@ -56,6 +61,7 @@ path_on S f (b ∷ bs) g cs e path has rest = (path.0, path.1, path_on S b bs g 
 same_digest : (d c : List ℕ) → slice_cmp nat_cmp d c ≢ Less → slice_cmp nat_cmp c d ≢ Less → d ≡ c
 same_digest d c not_lower not_higher = by (slice_cmp nat_cmp d c) refl
   where
+    -- by how the one compares with the other
     by : (o : Ordering) → slice_cmp nat_cmp d c ≡ o → d ≡ c
     by Less e = absurd (not_lower e)
     by Equal e = exact_bytes d c e
@@ -63,7 +69,8 @@ same_digest d c not_lower not_higher = by (slice_cmp nat_cmp d c) refl
 
 module _ (machines : List Post) (S : List SealedEntry) (digests : Distinct node_of_sealed S) where
   -- a name is of one entry
-  same_named : (name : EntryName) (e f : SealedEntry) → IsNamedBy machines S name e → IsNamedBy machines S name f → e ≡ f
+  same_named : (name : EntryName) (e f : SealedEntry) → IsNamedBy machines S name e →
+      IsNamedBy machines S name f → e ≡ f
   same_named (by_digest d) e f x y = digests e f x.0 y.0 (x.1 ∙ sym y.1)
   same_named (by_number m n) e f x y =
       digests e f x.0 y.0 (same_digest e.digest f.digest (y.2 e x.0 x.1) (x.2 f y.0 y.1))
@@ -80,9 +87,11 @@ module _ (S : List SealedEntry) (no_cycle : (e : SealedEntry) → ¬ Precedes no
   not_both e f (has_e, has_f, bs, path) (also_f, also_e, cs, rest) =
       no_cycle e (has_e, has_e, bs ++ f ∷ cs, path_on S e bs f cs e path has_f rest)
 
+  -- where both are one entry, it isn't before itself
   not_itself : (e f : SealedEntry) → e ≡ f → IsBefore S e f → ⊥
   not_itself e f same before = no_cycle e (subst (λ g. IsBefore S e g) (sym same) before)
 
+  -- in whichever order they are named
   not_itself_after : (e f : SealedEntry) → e ≡ f → IsBefore S f e → ⊥
   not_itself_after e f same before = no_cycle e (subst (λ g. IsBefore S g e) (sym same) before)
 
@@ -114,6 +123,7 @@ module _ (S : List SealedEntry) (no_cycle : (e : SealedEntry) → ¬ Precedes no
   same_word e f says.Unknown says.Apart x y = absurd (x.1 y.1)
   same_word e f says.Unknown says.Unknown x y = refl
 
+  -- so of two words for entries one answer is right
   same_among : (machines : List Post) (u v : List ℕ) (a b : Answer) → Distinct node_of_sealed S →
       IsOrderAmong machines S u v a → IsOrderAmong machines S u v b → a ≡ b
   same_among machines u v a b digests (inl (none, e)) (inl (none', e')) = e ∙ sym e'
@@ -142,6 +152,7 @@ same_over one machines u v given a b =
     (one.digests given f gives) x
     (subst (λ S. IsOrderAmong machines S u v b) (sym same.survivors) y))
 
+-- and so there is over the files of logs, under the roster that was read
 same_under : OrderOne → (read : RosterRead) (u v : List ℕ) (logs : List (List ℕ)) (files : List (Option (List ℕ)))
     (a b : Answer) → IsOrderUnder read u v logs files a → IsOrderUnder read u v logs files b → a ≡ b
 same_under one read u v logs files a b first second =

@@ -20,10 +20,13 @@ use Rattle.auditorium_core.proofs.SameOr.{same_or, agree_equal}
 
 -- a text is read in one way, a script is played in one way, and what is left is told in one way
 pub record PlayOne : Type 0 where
+  -- a text is one script, or has one first fault
   pub reading : (text : List ℕ) (answer other : Result Script ScriptFault) → Reads text answer → Reads text other
       → answer ≡ other
+  -- what the script's machines come to is one
   pub played : (script : Script) (machines others : List MachineState) → IsPlayed script machines
       → IsPlayed script others → machines ≡ others
+  -- for each machine nothing is left, or one action with one cause
   pub left : (machine : MachineState) (left other : Option Left) → IsLeft machine left → IsLeft machine other
       → left ≡ other
 

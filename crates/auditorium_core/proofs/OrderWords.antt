@@ -26,10 +26,12 @@ pub graph_says : GraphsAreExact node_of_sealed → (S : List SealedEntry) (paren
 graph_says exact S parents ragged graph y x e f at_y at_x =
     by (reaches parents x y x) (is_whole parents ragged x x) refl refl
   where
+    -- the graph tells exactly whether e is before f, and whether f is whole
     known : ((reaches parents x y x ≡ true) ↔ IsBefore S e f)
         × ((is_whole parents ragged x x ≡ true) ↔ IsWhole node_of_sealed S f)
     known = exact S parents ragged graph y x e f at_y at_x
 
+    -- by what it tells: whether f is whole counts only where e isn't before it
     by : (r w : Bool) → reaches parents x y x ≡ r → is_whole parents ragged x x ≡ w →
         SaysBefore S e f (if r then True else if w then False else Unknown)
     by true w p q = known.0.0 p

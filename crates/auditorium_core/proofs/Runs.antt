@@ -43,17 +43,22 @@ module _ (prefix : List ℕ) (script : Script) (lawful : IsLawful script) (posts
   abbrev again : World SealedEntry
   again = play node_of_sealed (next_of (script_configs script)) script.log (start (length script.machines)) steps
 
+  -- the script's machines come to it by these steps
   comes : ComesTo script steps again
   comes = (next_of (script_configs script), tells_next (script_configs script), refl)
 
+  -- each machine has in it the history that it has after the run
   same : (m : ℕ) → history again m ≡ history (world_of machines) m
   same m = floor.played merged.0 merged.1 again comes m
 
+  -- it has as many machines as the run
   many : length again ≡ length machines
   many =
-      length_play node_of_sealed (next_of (script_configs script)) script.log (start {T = SealedEntry} (length script.machines)) steps
+      length_play node_of_sealed (next_of (script_configs script)) script.log
+          (start {T = SealedEntry} (length script.machines)) steps
       ∙ length_start SealedEntry (length script.machines) ∙ sym floor.machines.count
 
+  -- each machine's number is its place
   numbered : (place : ℕ) (m : MachineState) → slice_get machines place ≡ Some m → m.config.number ≡ place
   numbered place m at =
       let made = (floor.machines.each place m at).made in

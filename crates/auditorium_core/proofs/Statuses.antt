@@ -99,9 +99,11 @@ command_words IsDone words command answer done means is = record {
   undone = λ e. played_words words command means (at status.Undone e);
 }
   where
+    -- a status that the answer has is one with which the command answers
     at : (how : Status) → answer.status ≡ how → IsStatusOf command how
     at how e = subst (IsStatusOf command) e is
 
+    -- and each of these is a status of answers
     some : (how : Status) → IsStatusOf command how → IsOfAnswers how
     some status.Usage h = absurd h
     some status.ReadFault h = absurd h
@@ -121,9 +123,11 @@ usage_words IsDone words answer bad e = record {
   undone = λ same. absurd (other status.Undone same (λ f. cc));
 }
   where
+    -- the answer's status is Usage
     is : answer.status ≡ status.Usage
     is = ap (λ (a : Answer). a.status) e
 
+    -- so it is no other
     other : (how : Status) → answer.status ≡ how → (status.Usage ≡ how → ⊥) → ⊥
     other how same differ = differ (sym is ∙ same)
 
@@ -247,6 +251,7 @@ pub is_done : (IsDone : Command → Type 0) (words : List (List ℕ)) (is_writte
 is_done IsDone words is_written_by old new answer how same gives calls written =
     by_status how same (status_words IsDone words old.store.files answer gives.answers).some
   where
+    -- by the status: failed calls and want of memory have none that is an answer's
     by_status : (how : Status) → how ≡ answer.status → IsOfAnswers answer.status →
         HasDone (Answers IsDone words) is_written_by old how new
     by_status status.ReadFault e some = absurd (subst IsOfAnswers (sym e) some)

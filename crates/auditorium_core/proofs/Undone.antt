@@ -6,6 +6,7 @@ use Rattle.polling_world.specs.Machines.{MachineState}
 use Rattle.polling_world.specs.Waiting.{IsLeft}
 use Rattle.auditorium_core.specs.Play.{undone_line, SayUndone}
 
+-- one machine more adds a line at the end, if an action is left for it
 undone_push : (machines : List MachineState) (m : MachineState) (left : Option Left) (lines : List ℕ)
     → SayUndone machines lines → IsLeft m left
     → SayUndone (machines ++ m ∷ []) (lines ++ undone_line m.config.name left)

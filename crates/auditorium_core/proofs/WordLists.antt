@@ -48,7 +48,8 @@ pub three_words : (words : List (String Global)) (a b c : String Global) → 3 �
 three_words [] a b c low high x y z = absurd (omega arith)
 three_words (v ∷ []) a b c low high x y z = absurd (omega arith)
 three_words (v ∷ w ∷ []) a b c low high x y z = absurd (omega arith)
-three_words (v ∷ w ∷ u ∷ []) a b c low high x y z = ap (λ s. string_bytes s ∷ string_bytes w ∷ string_bytes u ∷ []) (sym x)
+three_words (v ∷ w ∷ u ∷ []) a b c low high x y z =
+    ap (λ s. string_bytes s ∷ string_bytes w ∷ string_bytes u ∷ []) (sym x)
     ∙ ap (λ s. string_bytes a ∷ string_bytes s ∷ string_bytes u ∷ []) (sym y)
     ∙ ap (λ s. string_bytes a ∷ string_bytes b ∷ string_bytes s ∷ []) (sym z)
 three_words (v ∷ w ∷ u ∷ t ∷ more) a b c low high x y z = absurd (omega arith)
@@ -56,7 +57,8 @@ three_words (v ∷ w ∷ u ∷ t ∷ more) a b c low high x y z = absurd (omega 
 -- four words and more
 pub four_words : (words : List (String Global)) (a b c d : String Global) → 4 ≤ length words
     → a ≡ get_or words 0 a → b ≡ get_or words 1 b → c ≡ get_or words 2 c → d ≡ get_or words 3 d
-    → map string_bytes words ≡ string_bytes a ∷ string_bytes b ∷ string_bytes c ∷ string_bytes d ∷ map string_bytes (drop 4 words)
+    → map string_bytes words
+        ≡ string_bytes a ∷ string_bytes b ∷ string_bytes c ∷ string_bytes d ∷ map string_bytes (drop 4 words)
 four_words [] a b c d low x y z u = absurd (omega arith)
 four_words (v ∷ []) a b c d low x y z u = absurd (omega arith)
 four_words (v ∷ w ∷ []) a b c d low x y z u = absurd (omega arith)

@@ -17,7 +17,8 @@ returns-in_ok-lines_of-in-Ok g c = record {
 pub returns-in_ok-absent-in-Err-Absent : goal.returns-in_ok-absent-in-Err-Absent
 returns-in_ok-absent-in-Err-Absent g c = record {
   answer = gaps_refusal (g.S.Store.files c.args.store.now) c.args.log.now Absent c.in-Err-Absent.field-0
-      c.in_ok-absent-in-Err-Absent.field-0 c.in-Err-Absent.field-0-is c.in_ok-absent-in-Err-Absent.ensures c.in-Err-Absent.ensures.err;
+      c.in_ok-absent-in-Err-Absent.field-0 c.in-Err-Absent.field-0-is c.in_ok-absent-in-Err-Absent.ensures
+      c.in-Err-Absent.ensures.err;
   absent = search rules;
   read_fault = search rules;
   files = search rules;
@@ -27,7 +28,8 @@ returns-in_ok-absent-in-Err-Absent g c = record {
 pub returns-in_ok-refused-in-Err-TooLong : goal.returns-in_ok-refused-in-Err-TooLong
 returns-in_ok-refused-in-Err-TooLong g c = record {
   answer = gaps_refusal (g.S.Store.files c.args.store.now) c.args.log.now TooLong c.in-Err-TooLong.field-0
-      c.in_ok-refused-in-Err-TooLong.field-0 c.in-Err-TooLong.field-0-is c.in_ok-refused-in-Err-TooLong.ensures c.in-Err-TooLong.ensures.err;
+      c.in_ok-refused-in-Err-TooLong.field-0 c.in-Err-TooLong.field-0-is c.in_ok-refused-in-Err-TooLong.ensures
+      c.in-Err-TooLong.ensures.err;
   absent = search rules;
   read_fault = search rules;
   files = search rules;
@@ -37,7 +39,8 @@ returns-in_ok-refused-in-Err-TooLong g c = record {
 pub returns-in_ok-refused-in-Err-Header : goal.returns-in_ok-refused-in-Err-Header
 returns-in_ok-refused-in-Err-Header g c = record {
   answer = gaps_refusal (g.S.Store.files c.args.store.now) c.args.log.now Header c.in-Err-Header.field-0
-      c.in_ok-refused-in-Err-Header.field-0 c.in-Err-Header.field-0-is c.in_ok-refused-in-Err-Header.ensures c.in-Err-Header.ensures.err;
+      c.in_ok-refused-in-Err-Header.field-0 c.in-Err-Header.field-0-is c.in_ok-refused-in-Err-Header.ensures
+      c.in-Err-Header.ensures.err;
   absent = search rules;
   read_fault = search rules;
   files = search rules;

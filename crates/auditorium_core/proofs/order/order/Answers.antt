@@ -20,7 +20,8 @@ returns-in-Err g c =
     let x = c.args.x.now in
     let y = c.args.y.now in
     let logs = map string_bytes c.args.logs.now in
-    refused_answered (λ (read : RosterRead). read) (GivesRosterIn roster) (IsAnswerTo (order roster x y logs)) (seen old)
+    refused_answered (λ (read : RosterRead). read) (GivesRosterIn roster)
+        (IsAnswerTo (order roster x y logs)) (seen old)
     (seen c.read_roster.new.store) c.in-Err.fault c.of_fault.result c.in-Err.ensures c.of_fault.ensures.ok
     c.of_fault.ensures.err (roster_refused roster x y logs (store.files old))
 
@@ -43,7 +44,8 @@ returns-in-Ok-read_logs g c =
     (seen new) read _ c.in-Ok.ensures c.in-Ok-read_logs.ensures in
     found_answered (λ logs. logs.items) given (IsAnswerTo (order roster x y names)) (seen old) (seen new) found
     c.order_over.result both
-    (all_read roster x y names (store.files old) c.orders_are_honest.ensures read c.in-Ok.ensures.ok found.items both.ok c.order_over.result
+    (all_read roster x y names (store.files old) c.orders_are_honest.ensures read c.in-Ok.ensures.ok found.items both.ok
+        c.order_over.result
     c.order_over.ensures.told)
     c.order_over.ensures.status c.order_over.ensures.fault
 

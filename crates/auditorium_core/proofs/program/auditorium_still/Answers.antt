@@ -24,5 +24,6 @@ returns g c =
     × IsWrittenBy store.creates store.appends sink.writes answer mid out ok new out_now in
     was_done IsStill (map string_bytes c.args.words.now) is_told_by is_written_by (seen old) (seen read)
     (sink.written out) (sink.faults out) (outside (seen new) (sink.written out_now) (sink.faults out_now))
-    (λ answer ok told. (read, c.answer_of-answer.ensures.files, told)) c.answer_of-answer.result c.end_with.result c.answer_of-answer.ensures
+    (λ answer ok told. (read, c.answer_of-answer.ensures.files, told)) c.answer_of-answer.result
+        c.end_with.result c.answer_of-answer.ensures
     c.end_with.ensures
