@@ -24,7 +24,8 @@ behind logs (Ok more) = Ok (logs ++ more)
 behind logs (Err refusal) = Err refusal
 
 -- there are files of any names
-pub some_files : (told : Option Files) (names : List (List ℕ)) → (files : List (Option (List ℕ))) × AreFiles told names files
+pub some_files : (told : Option Files) (names : List (List ℕ)) →
+    (files : List (Option (List ℕ))) × AreFiles told names files
 some_files told [] = ([], tt)
 some_files None (name ∷ names) = let rest = some_files None names in (None ∷ rest.0, (tt, rest.1))
 some_files (Some at) (name ∷ names) = let rest = some_files (Some at) names in (at name ∷ rest.0, (refl, rest.1))
@@ -36,6 +37,7 @@ module _ (machines : List Post) (election : List ℕ) (told : Option Files) (nam
       (answer : Result (List LogRead) Refusal) → GivesLogsIn machines election rest told answer →
       GivesLogsIn machines election names told (behind logs answer)
 
+  -- so it does before the first log, with all names left
   pub goes_on_start : GoesOn names []
   goes_on_start (Ok more) given = given
   goes_on_start (Err refusal) given = given

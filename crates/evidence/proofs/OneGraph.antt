@@ -33,6 +33,7 @@ module _ {T : Type 0} (Below : T → T → Type 0) where
   Rises [] = Unit {0}
   Rises (x ∷ xs) = ((y : T) → Contains xs y → Below x y) × Rises xs
 
+  -- a list rises where of any two members the one in front is below the other
   rises_from_pairs : (xs : List T) → AllPairs Below xs → Rises xs
   rises_from_pairs [] all = tt
   rises_from_pairs (x ∷ xs) all = (
@@ -74,11 +75,13 @@ module _ {T : Type 0} (Below : T → T → Type 0) where
 one_way : {K : Type 0} (cmp : K → K → Ordering) → IsTotalOrder cmp → (x y : K) → cmp x y ≡ Less → cmp y x ≡ Less → ⊥
 one_way cmp total x y a b = let e : Less ≡ Greater = sym a ∙ total.antisymm x y ∙ ap ordering_reverse b in cc
 
+-- what holds of all holds of each member
 all_contained : {T : Type 0} (P : T → Type 0) (xs : List T) → AllByRecursion P xs → (y : T) → Contains xs y → P y
 all_contained P [] all y c = absurd (Contains-none y c)
 all_contained P (x ∷ xs) all y c =
     elim (Contains-cons_cases x xs y c) [ inl e ↦ subst P e all.0 | inr u ↦ all_contained P xs all.1 y u ]
 
+-- a strictly sorted list rises in its order
 rises_from_sorted : {K : Type 0} (cmp : K → K → Ordering) (ks : List K) → IsStrictlySortedBy cmp ks →
     Rises (λ x y. cmp x y ≡ Less) ks
 unfolding IsStrictlySortedBy
@@ -86,6 +89,7 @@ rises_from_sorted cmp [] sorted = tt
 rises_from_sorted cmp (k ∷ ks) sorted =
     (all_contained (λ y. cmp k y ≡ Less) ks sorted.0, rises_from_sorted cmp ks sorted.1)
 
+-- makers and then numbers are a total order of pairs
 pair_total : IsTotalOrder pair_cmp
 pair_total = then_total (on_total (λ (p : ℕ × ℕ). p.0) nat_cmp_total) (on_total (λ (p : ℕ × ℕ). p.1) nat_cmp_total)
 
@@ -97,6 +101,7 @@ not_both_lower node x y (inr (e, a)) (inl b) = omega arith
 not_both_lower node x y (inr (e, a)) (inr (f, b)) =
     one_way (slice_cmp nat_cmp) nat_list_cmp_total (node x).digest (node y).digest a b
 
+-- two tests that pass in the same cases are one
 same_bool : (a b : Bool) → (a ≡ true → b ≡ true) → (b ≡ true → a ≡ true) → a ≡ b
 same_bool true b to from = sym (to refl)
 same_bool false true to from = from refl
@@ -111,6 +116,7 @@ at_place (x ∷ xs) (suc i) within = at_place xs i (omega arith)
 -- two graphs of one list say the same of its order
 module _ {T : Type 0} (node : T → Node) (exact : GraphsAreExact node) (S : List T) (parents others : ℕ → List ℕ)
     (ragged torn : ℕ → Bool) (one : IsGraphOf node S parents ragged) (two : IsGraphOf node S others torn) where
+  -- by both graphs a survivor's place is reached from another's, or by neither
   same_reach : (y x : ℕ) → y < length S → x < length S → reaches parents x y x ≡ reaches others x y x
   same_reach y x low high =
       let f = at_place S y low in
@@ -119,6 +125,7 @@ module _ {T : Type 0} (node : T → Node) (exact : GraphsAreExact node) (S : Lis
       let b = exact S others torn two y x f.0 e.0 f.1 e.1 in
       same_bool (reaches parents x y x) (reaches others x y x) (λ t. b.0.1 (a.0.0 t)) (λ t. a.0.1 (b.0.0 t))
 
+  -- by both the survivor at a place is whole, or by neither
   same_whole : (x : ℕ) → x < length S → is_whole parents ragged x x ≡ is_whole others torn x x
   same_whole x high =
       let e = at_place S x high in
@@ -126,6 +133,7 @@ module _ {T : Type 0} (node : T → Node) (exact : GraphsAreExact node) (S : Lis
       let b = exact S others torn two x x e.0 e.0 e.1 e.1 in
       same_bool (is_whole parents ragged x x) (is_whole others torn x x) (λ t. b.1.1 (a.1.0 t)) (λ t. a.1.1 (b.1.0 t))
 
+  -- so both say the same of the order of any two
   same_before : (y x : ℕ) → y < length S → x < length S → before parents ragged y x ≡ before others torn y x
   same_before y x low high =
       ap (λ b. if b then True else if is_whole parents ragged x x then False else Unknown) (same_reach y x low high)
@@ -176,15 +184,18 @@ module _ {T : Type 0} where
   meet_more w a b x y (inl e) = inl e
   meet_more w a b x y (inr (inl (c, under))) = inr (inl (Contains-later w b x c, λ z d. more z d))
     where
+      -- what is in front of x, with the new element, stays in front of y
       more : (z : T) → Contains (w ∷ a) z → Contains (w ∷ b) z
       more z d =
           elim (Contains-cons_cases w a z d) [ inl e ↦ Contains-at w b z e | inr u ↦ Contains-later w b z (under z u) ]
   meet_more w a b x y (inr (inr (c, under))) = inr (inr (Contains-later w a y c, λ z d. more z d))
     where
+      -- and likewise where y comes first
       more : (z : T) → Contains (w ∷ b) z → Contains (w ∷ a) z
       more z d =
           elim (Contains-cons_cases w b z d) [ inl e ↦ Contains-at w a z e | inr u ↦ Contains-later w a z (under z u) ]
 
+  -- two ways to divide one list about a member have such places
   meet : (a b : List T) (x y : T) (c d : List T) → a ++ x ∷ c ≡ b ++ y ∷ d → Meet a x b y
   meet [] [] x y c d e = inl cc
   meet [] (w ∷ b) x y c d e =
@@ -213,13 +224,15 @@ module _ {T : Type 0} (node : T → Node) (text : T → List ℕ) where
   same_collision given e f g h (a, c, stands, none, in_a, same, differ) (b, d, stands', none', in_b, same', differ') =
       by (meet a b f h c d (sym stands ∙ stands'))
     where
+      -- by which of the two second members comes first: no collision ends in front of the first one
       by : Meet a f b h → (node e).digest ≡ (node g).digest
       by (inl one) = same ∙ ap (λ z. (node z).digest) one ∙ sym same'
       by (inr (inl (has, under))) = absurd (differ (none' e f (under e in_a) has same))
       by (inr (inr (has, under))) = absurd (differ' (none g h (under g in_b) has same'))
 
 -- entries with a graph have no fault
-no_fault : (given : List SealedEntry) (g : EntryGraph SealedEntry) (fault : GraphFault SealedEntry) (refusal : Refusal) →
+no_fault : (given : List SealedEntry) (g : EntryGraph SealedEntry) (fault : GraphFault SealedEntry)
+    (refusal : Refusal) →
     IsSealedGraph given (Ok g) → IsSealedGraph given (Err fault) → graph_refusal fault ≡ Some refusal → ⊥
 no_fault given g (Collision e f) refusal is bad told =
     no_both node_of_sealed (λ (s : SealedEntry). s.text) given e f is.0 bad
@@ -244,6 +257,7 @@ same_fault given TooMany TooMany a b x y p q = cc
 same_fault given Memory two a b x y p q = let e : None ≡ Some a = p in cc
 same_fault given one Memory a b x y p q = let e : None ≡ Some b = q in cc
 
+-- given entries have graphs that tell the same, or one refusal
 pub one_graph : GraphsAreExact node_of_sealed → (given : List SealedEntry)
     (a b : Result (EntryGraph SealedEntry) Refusal) → GivesGraph given a → GivesGraph given b → Agree SameGraph a b
 one_graph exact given (Ok g) (Ok h) x y = same_graph exact (distinct node_of_sealed given) g h x.2 y.2

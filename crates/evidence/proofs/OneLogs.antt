@@ -36,6 +36,7 @@ Cases name bytes refusal =
     ((max_bytes < length bytes) × (refusal ≡ too_long name))
     ⊎ ((length bytes ≤ max_bytes) × (HasHeader bytes → ⊥) × (refusal ≡ header_refusal name))
 
+-- a refusal of a file that is there is one of these
 cases : (name bytes : List ℕ) (refusal : Refusal) → IsLogRefusal name (Some bytes) refusal → Cases name bytes refusal
 cases name bytes refusal (log.Absent, is, e) = cc
 cases name bytes refusal (log.TooLong, is, e) = inl (is, cc)
@@ -51,6 +52,7 @@ no_file name refusal (log.Header, is, e) = absurd is
 no_file name refusal (log.ReadFault, is, e) = cc
 no_file name refusal (log.Memory, is, e) = cc
 
+-- and the two don't go together, so the bytes have one refusal
 same_case : (name bytes : List ℕ) (a b : Refusal) → Cases name bytes a → Cases name bytes b → a ≡ b
 same_case name bytes a b (inl (long, e)) (inl (long', f)) = e ∙ sym f
 same_case name bytes a b (inl (long, e)) (inr (short, none, f)) = absurd (omega arith)
@@ -65,8 +67,10 @@ same_refusal name (Some bytes) a b x y = same_case name bytes a b (cases name by
 
 -- under machines, of an election, bytes say one log, which has a header
 pub record SayOneSealed (machines : List Post) (election : List ℕ) : Type 0 where
+  -- two logs that the bytes say tell the same
   pub same : (bytes : List ℕ) (log other : LogRead) → SaysSealed machines election bytes log
       → SaysSealed machines election bytes other → SameLog log other
+  -- and only bytes with a header say one
   pub header : (bytes : List ℕ) (log : LogRead) → SaysSealed machines election bytes log → HasHeader bytes
 
 module _ (machines : List Post) (election : List ℕ) (one : SayOneSealed machines election) where
@@ -82,10 +86,12 @@ module _ (machines : List Post) (election : List ℕ) (one : SayOneSealed machin
   not_refused name None a refusal x why = x
   not_refused name (Some bytes) a refusal x why = by (cases name bytes refusal why)
     where
+      -- by the cause: bytes that say a log are within the limit, and have a header
       by : Cases name bytes refusal → ⊥
       by (inl (long, e)) = let fits = x.0 in omega arith
       by (inr (short, none, e)) = none (one.header bytes a x.1)
 
+  -- named files give logs that say the same, or one refusal
   pub one_reading : (names : List (List ℕ)) (files : List (Option (List ℕ)))
       (a b : Result (List LogRead) Refusal) → GivesLogs machines election names files a →
       GivesLogs machines election names files b → Agree SameLogs a b

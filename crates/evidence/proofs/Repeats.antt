@@ -157,6 +157,7 @@ pub refused_alike : {A : Type 0} (copies given : List SealedEntry) →
 refused_alike copies given stand (Ok value) told = tt
 refused_alike copies given stand (Err fault) told = told_alike (refusal_of fault) told
   where
+    -- by the refusal of the fault, where it has one
     told_alike : (refusal : Option Refusal) → IfSome refusal (λ r. GivesGraph copies (Err r)) →
         IfSome refusal (λ r. GivesGraph given (Err r))
     told_alike None told = tt

@@ -18,7 +18,8 @@ use Rattle.evidence.specs.Graphs.{GivesGraph}
 module _ {T : Type 0} (node : T → Node) where
   -- an entry that is kept behind another has another digest
   kept_behind : (e : T) (es : List T) (f : T) →
-      Contains (filter (λ g. not (bytes_eq (node g).digest (node e).digest)) es) f → (node e).digest ≡ (node f).digest → ⊥
+      Contains (filter (λ g. not (bytes_eq (node g).digest (node e).digest)) es) f →
+      (node e).digest ≡ (node f).digest → ⊥
   kept_behind e es f has same =
       let kept = Contains-filter_cases (λ g. not (bytes_eq (node g).digest (node e).digest)) es f has in
       let equal : bytes_eq (node f).digest (node e).digest ≡ true =
@@ -51,7 +52,8 @@ module _ {T : Type 0} (node : T → Node) where
   path_under S G under f (g ∷ gs) e path = (under g path.0, path.1, path_under S G under g gs e path.2)
 
 -- the survivors of the graph are distinct
-pub survivors_distinct : SurvivorsAreNoStrays node_of_sealed → (given : List SealedEntry) (graph : EntryGraph SealedEntry) →
+pub survivors_distinct : SurvivorsAreNoStrays node_of_sealed →
+    (given : List SealedEntry) (graph : EntryGraph SealedEntry) →
     GivesGraph given (Ok graph) → Distinct node_of_sealed graph.survivors
 survivors_distinct exactly given graph (none, few, is) e f has_e has_f same =
     let given_has : (g : SealedEntry) → Contains graph.survivors g → Contains (distinct node_of_sealed given) g =
@@ -59,7 +61,8 @@ survivors_distinct exactly given graph (none, few, is) e f has_e has_f same =
     distinct_is_distinct node_of_sealed given e f (given_has e has_e) (given_has f has_f) same
 
 -- and none is its own ancestor
-pub survivors_no_cycle : SurvivorsHaveNoCycle node_of_sealed → (given : List SealedEntry) (graph : EntryGraph SealedEntry)
+pub survivors_no_cycle : SurvivorsHaveNoCycle node_of_sealed →
+    (given : List SealedEntry) (graph : EntryGraph SealedEntry)
     (e : SealedEntry) → GivesGraph given (Ok graph) → Precedes node_of_sealed graph.survivors e e → ⊥
 survivors_no_cycle cycles given graph e (none, few, is) (has, also, between, path) =
     let sound = survivors node_of_sealed (distinct node_of_sealed given) in

@@ -62,7 +62,8 @@ loop-name-preserved g c =
     let name = c.as_str.result.now in
     let rest = map string_bytes (drop (c.loop-name.name-index + 1) c.args.names.now) in
     let logs = c.loop-name.logs.items in
-    let said = subst (λ files. OnSomeFile files name (IsSealedLogOf machines election c.in-Ok.log)) so_far.files given.ok in
+    let said = subst (λ files. OnSomeFile files name (IsSealedLogOf machines election c.in-Ok.log))
+        so_far.files given.ok in
     let Q : List (List ℕ) → Type 0 = λ ns. GoesOn machines election (store.files old) names ns logs in
     let on : Q (name ∷ rest) =
     subst Q (names_from c.args.names.now c.loop-name.name-index c.name-item.result name c.loop-name-test.true
@@ -76,7 +77,8 @@ loop-name-preserved g c =
           (All-append IsKnown logs (c.in-Ok.log ∷ []) so_far.valid
           (All-cons IsKnown c.in-Ok.log [] given.valid (All-nil IsKnown)));
       files = given.unchanged.0 ∙ so_far.files;
-      absences = unrisen (store.answered c.loop-name.store).absences (store.answered c.read_log_after.new.store).absences
+      absences = unrisen (store.answered c.loop-name.store).absences
+          (store.answered c.read_log_after.new.store).absences
           given.absences (λ more. let no = given.absent.always more in cc) ∙ so_far.absences;
       read_faults = omega (arith, so_far.read_faults, given.read_fault.never_falls);
       write_faults = given.unchanged.1 ∙ so_far.write_faults;
