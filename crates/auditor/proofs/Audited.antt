@@ -25,7 +25,7 @@ use Rattle.auditor.specs.Rows.{row_of}
 use Rattle.auditor.specs.Report.{ReportParts, report_of}
 use Rattle.auditor.specs.Sources.{RuleSource, standard, in_file, source_word, rule_files, max_rules, GivesRules}
 use Rattle.auditor.specs.Audits.{WithGraph, WithRules, WithRoster, OnFiles, GivesReportIn}
-use Rattle.auditor.proofs.Steps.{on_refusal, read_then, read_ends}
+use Rattle.evidence.proofs.Steps.{on_refusal, read_then, read_ends}
 
 -- an answer's promise, by another one
 pub ok_by : {T E : Type 0} (result : Result T E) (P Q : T → Type 0) → ((found : T) → P found → Q found) →

@@ -54,7 +54,7 @@ module _ (rows : List Row) (order : ℕ → ℕ → Three) (wholes : ℕ → Boo
       (λ i. deeper (bind v i env))
       (λ i e.
       let less = found_below (λ j. has_kind kind (slice_get rows j) && is_false (value (bind v j env)))
-          0 (length rows) i e in
+      0 (length rows) i e in
       omega (arith, less))
       (λ i. inner (bind v i env))
   form_below other env value deeper inner = tt

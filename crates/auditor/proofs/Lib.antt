@@ -2,8 +2,6 @@ pub mod Pieces
 pub mod OneByOne
 pub mod Makers
 pub mod Below
-pub mod Steps
-pub mod FilesRead
 pub mod Audited
 pub mod OneVerdict
 pub mod OneReport

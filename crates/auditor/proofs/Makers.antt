@@ -48,7 +48,7 @@ pub rows_more : (machines : List Post) (survivors : List SealedEntry) (i : ℕ) 
     new ≡ map (row_of machines) (take (i + 1) survivors)
 rows_more machines survivors i entry row rows new within at so_far is added =
     added ∙ ap (λ (r : Row). rows ++ r ∷ [])
-        (is ∙ ap (row_of machines) (sym (get_or_from_slice_get survivors i entry entry at)))
+    (is ∙ ap (row_of machines) (sym (get_or_from_slice_get survivors i entry entry at)))
     ∙ ap (λ (rs : List Row). rs ++ row_of machines (get_or survivors i entry) ∷ []) so_far
     ∙ sym (ap (map (row_of machines)) (take_more survivors i entry within)
     ∙ map-append (row_of machines) (take i survivors) (get_or survivors i entry ∷ []))
@@ -59,10 +59,10 @@ distinct_is_given : (given : List SealedEntry) (entry : SealedEntry) → Contain
 distinct_is_given [] entry member = member
 distinct_is_given (e ∷ es) entry member =
     let rest = λ (h : Contains (filter (λ (f : SealedEntry). not (bytes_eq f.digest e.digest))
-        (distinct node_of_sealed es)) entry).
+    (distinct node_of_sealed es)) entry).
     Contains-later e es entry (distinct_is_given es entry
     (Contains-filter_cases (λ (f : SealedEntry). not (bytes_eq f.digest e.digest))
-        (distinct node_of_sealed es) entry h).0) in
+    (distinct node_of_sealed es) entry h).0) in
     elim (Contains-cons_cases e
     (filter (λ (f : SealedEntry). not (bytes_eq f.digest e.digest)) (distinct node_of_sealed es)) entry member)
     [ inl s ↦ Contains-at e es entry s | inr h ↦ rest h ]
@@ -74,7 +74,7 @@ survivors_have_makers machines given graph makers gives = λ k d within.
     let e : SealedEntry = get_or graph.survivors k d in
     let kept = (gives.2.members e).0 (Contains-get_or graph.survivors k d within) in
     let first = Contains-filter_cases (λ (f : SealedEntry).
-        not (is_stray node_of_sealed (distinct node_of_sealed given) f))
+    not (is_stray node_of_sealed (distinct node_of_sealed given) f))
     (distinct node_of_sealed given) e kept in
     All-contains (λ (sealed : SealedEntry). sealed.entry.maker < length machines) given e makers
     (distinct_is_given given e first.0)

@@ -19,7 +19,7 @@ trees_more : (rules : List Rule) (i : ℕ) (rule : Rule) → i < length rules �
     map rule_tree (take i rules) ++ rule_tree rule ∷ [] ≡ map rule_tree (take (i + 1) rules)
 trees_more rules i rule within is =
     sym (ap (map rule_tree) (take_more rules i rule within)
-        ∙ map-append rule_tree (take i rules) (get_or rules i rule ∷ [])
+    ∙ map-append rule_tree (take i rules) (get_or rules i rule ∷ [])
     ∙ ap (λ (r : Rule). map rule_tree (take i rules) ++ rule_tree r ∷ []) (sym is))
 
 -- one verdict more

@@ -112,7 +112,7 @@ same_rule_lines machines survivors (r ∷ rules) [] (w ∷ ws) same = absurd sam
 same_rule_lines machines survivors (r ∷ rules) (v ∷ vs) [] same = absurd same
 same_rule_lines machines survivors (r ∷ rules) (v ∷ vs) (w ∷ ws) same =
     ap (λ t. t ++ flat_map (rule_line machines survivors) (zip rules vs))
-        (same_rule_line machines survivors r v w same.0)
+    (same_rule_line machines survivors r v w same.0)
     ∙ ap (λ t. rule_line machines survivors (r, w) ++ t) (same_rule_lines machines survivors rules vs ws same.1)
 
 -- of verdicts that are the same both are broken or neither is
@@ -218,7 +218,7 @@ same_report machines names logs others graph other rules vs ws log graph_same ve
         (list_any log_has_finding logs || graph_has_finding graph))
         (same_any is_unsettled same_is_unsettled vs ws verdict)
         ∙ ap (λ (b : Bool).
-            outcome_by (list_any is_broken ws) (list_any is_unsettled ws) (b || graph_has_finding graph))
+        outcome_by (list_any is_broken ws) (list_any is_unsettled ws) (b || graph_has_finding graph))
         (same_findings logs others log)
         ∙ ap (λ (b : Bool). outcome_by (list_any is_broken ws) (list_any is_unsettled ws)
         (list_any log_has_finding others || b)) (same_graph_finding graph other graph_same)
@@ -238,7 +238,7 @@ steps_agree First Other Next Later SameFirst SameNext first next p q (inr (r, is
     absurd (first (Err r) (Ok y) is also)
 steps_agree First Other Next Later SameFirst SameNext first next p q (inr (r, is, e)) (inr (s, also, f)) =
     subst (λ o. Agree SameNext o q) (sym e)
-        (subst (λ o. Agree SameNext (Err r) o) (sym f) (first (Err r) (Err s) is also))
+    (subst (λ o. Agree SameNext (Err r) o) (sym f) (first (Err r) (Err s) is also))
 
 -- equal answers agree
 agree_same : {A : Type 0} (a b : Result A Refusal) → a ≡ b → Agree (λ x y. x ≡ y) a b

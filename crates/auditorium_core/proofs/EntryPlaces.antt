@@ -25,7 +25,7 @@ IsUnder e f = slice_cmp nat_cmp e.digest f.digest ≡ Less
 not_under_itself : (e : SealedEntry) → IsUnder e e → ⊥
 not_under_itself e under =
     let no : Less ≡ Greater = sym under ∙ nat_list_cmp_total.antisymm e.digest e.digest
-        ∙ ap ordering_reverse under in cc
+    ∙ ap ordering_reverse under in cc
 
 -- one place has one entry
 pub one_entry : {T : Type 0} (S : List T) (i : ℕ) (e f : T) → slice_get S i ≡ Some e → slice_get S i ≡ Some f → e ≡ f

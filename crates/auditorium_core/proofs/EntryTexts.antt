@@ -25,7 +25,7 @@ one_split (x ∷ a) b (y ∷ c) d none other e =
     let heads : x ≡ y = cc in
     let rest : a ++ 46 ∷ b ≡ c ++ 46 ∷ d = cc in
     let same = one_split a b c d (λ i z within. none (suc i) z (omega arith))
-        (λ i z within. other (suc i) z (omega arith))
+    (λ i z within. other (suc i) z (omega arith))
     rest in
     (ap (λ h. h ∷ a) heads ∙ ap (λ t. y ∷ t) same.0, same.1)
 
@@ -43,7 +43,7 @@ pub dot_splits : (word : List ℕ) (dot : ℕ) (name rest : List ℕ) → IsFirs
     word ≡ (name ++ 46 ∷ []) ++ rest → (take dot word ≡ name) × (drop (dot + 1) word ≡ rest)
 dot_splits word dot name rest first is spelt =
     one_split (take dot word) (drop (dot + 1) word) name rest first.1 (name_has_no_dot name is)
-        (sym first.0 ∙ spelt ∙ append_assoc name (46 ∷ []) rest)
+    (sym first.0 ∙ spelt ∙ append_assoc name (46 ∷ []) rest)
 
 -- whether a byte is no dot
 abbrev is_no_dot : ℕ → Bool

@@ -23,7 +23,7 @@ told_with : (prefix : List ℕ) (posts : List Post) (machines : List MachineStat
 told_with prefix posts machines files made lines text undone answer all are same told =
     told
     ∙ ap (λ (fs : List (List ℕ × List ℕ)).
-        record { status = status_of_undone text; files = fs; output = made ++ text }) all
+    record { status = status_of_undone text; files = fs; output = made ++ text }) all
     ∙ ap (λ (t : List ℕ). answer_with prefix posts machines t text) are
     ∙ ap (answer_with prefix posts machines lines) same
 

@@ -55,7 +55,7 @@ module _ (prefix : List ℕ) (script : Script) (lawful : IsLawful script) (posts
   many : length again ≡ length machines
   many =
       length_play node_of_sealed (next_of (script_configs script)) script.log
-          (start {T = SealedEntry} (length script.machines)) steps
+      (start {T = SealedEntry} (length script.machines)) steps
       ∙ length_start SealedEntry (length script.machines) ∙ sym floor.machines.count
 
   -- each machine's number is its place

@@ -38,7 +38,7 @@ gaps_refusal told log fault given answer same is said =
     let P : LogFault → Type 0 = λ f. OnSomeFile told log (IsRefused f) in
     gaps_to told log answer
     (on_some told log (IsRefused fault) (λ file. IsGapsAnswer log file answer)
-        (λ file refused. inr (fault, refused, is))
+    (λ file refused. inr (fault, refused, is))
     (subst P same said))
 
 -- the answers of `play` and of `run`, where the script is refused and where it is read

@@ -58,7 +58,7 @@ three_words (v ∷ w ∷ u ∷ t ∷ more) a b c low high x y z = absurd (omega 
 pub four_words : (words : List (String Global)) (a b c d : String Global) → 4 ≤ length words
     → a ≡ get_or words 0 a → b ≡ get_or words 1 b → c ≡ get_or words 2 c → d ≡ get_or words 3 d
     → map string_bytes words
-        ≡ string_bytes a ∷ string_bytes b ∷ string_bytes c ∷ string_bytes d ∷ map string_bytes (drop 4 words)
+    ≡ string_bytes a ∷ string_bytes b ∷ string_bytes c ∷ string_bytes d ∷ map string_bytes (drop 4 words)
 four_words [] a b c d low x y z u = absurd (omega arith)
 four_words (v ∷ []) a b c d low x y z u = absurd (omega arith)
 four_words (v ∷ w ∷ []) a b c d low x y z u = absurd (omega arith)

@@ -15,7 +15,6 @@ pub trait SignedText: Knot {
 }
 
 impl SignedText for Sealed {
-
     ghost text = { λ sealed. sealed.text };
 
     fn signed_text(&self) -> &[u8] {

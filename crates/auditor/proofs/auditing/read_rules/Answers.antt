@@ -2,7 +2,7 @@ use Rattle.std.proofs.Common.{map, refl}
 use Rattle.rule_language.specs.Forms.{rule_tree}
 use Rattle.evidence.specs.Reading.{store_seen}
 use Rattle.auditor.specs.Sources.{max_rules, GivesRules}
-use Rattle.auditor.proofs.FilesRead.{was_read, not_read}
+use Rattle.evidence.proofs.FilesRead.{was_read, not_read}
 use Rattle.auditor.proofs.Audited.{long_rules}
 use Rattle.auditor.proofs.auditing.read_rules.Goals as goal
 

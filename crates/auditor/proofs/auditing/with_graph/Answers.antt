@@ -12,4 +12,4 @@ returns-in-Err-TooWide-clause-err c =
     c.as_slice-2.result.now c.in-Err-TooWide.field-0 c.in-Err-TooWide.place c.word.result.now c.refused.result
     (c.as_slice-2.ensures.value ∙ c.in_ok-seen.ensures) (ap (map rule_tree) c.as_slice.ensures.value)
     (c.in-Err-TooWide.ensures.err (nodes_of c.args.graph) c.in_ok-order.ensures)
-        c.in-Err-TooWide.field-0-is c.word.ensures c.refused.ensures
+    c.in-Err-TooWide.field-0-is c.word.ensures c.refused.ensures

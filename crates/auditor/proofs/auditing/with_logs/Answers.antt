@@ -8,7 +8,7 @@ use Rattle.auditor.specs.Report.{AuditReport, ReportParts, report_of}
 use Rattle.auditor.specs.Sources.{source_of}
 use Rattle.auditor.specs.Audits.{WithGraph, WithLogs}
 use Rattle.auditor.proofs.Makers.{survivors_have_makers}
-use Rattle.auditor.proofs.Steps.{on_refusal}
+use Rattle.evidence.proofs.Steps.{on_refusal}
 use Rattle.auditor.proofs.Audited.{ok_by, err_by}
 use Rattle.auditor.proofs.auditing.with_logs.Goals as goal
 

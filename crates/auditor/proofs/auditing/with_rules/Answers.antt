@@ -8,7 +8,7 @@ use Rattle.auditor.specs.Report.{ReportParts, report_of}
 use Rattle.auditor.specs.Sources.{source_of}
 use Rattle.auditor.specs.Audits.{WithLogs, WithRules, OnFiles}
 use Rattle.auditor.proofs.Makers.{a_log_each, logs_have_makers}
-use Rattle.auditor.proofs.Steps.{read_last, read_ends}
+use Rattle.evidence.proofs.Steps.{read_last, read_ends}
 use Rattle.auditor.proofs.Audited.{ok_by, err_by}
 use Rattle.auditor.proofs.auditing.with_rules.Goals as goal
 
@@ -42,7 +42,7 @@ returns-in-Ok g c =
     c.with_logs.result c.in-Ok.ensures
     (ok_by c.with_logs.result
     (λ (report : ReportParts).
-        WithLogs read.roster.machines source trees names c.in-Ok.logs.items (Ok (report_of report)))
+    WithLogs read.roster.machines source trees names c.in-Ok.logs.items (Ok (report_of report)))
     (λ (report : ReportParts). OnFiles names (λ fs. WithRules read source trees names fs (Ok (report_of report)))
     before.files)
     (λ report is. (files, are, inl (c.in-Ok.logs.items, gives, is))) c.with_logs.ensures.ok)

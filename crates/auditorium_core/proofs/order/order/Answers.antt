@@ -3,7 +3,7 @@ use Rattle.evidence.specs.declared.roster_file.RosterRead.{RosterRead}
 use Rattle.evidence.specs.RosterFile.{GivesRosterIn}
 use Rattle.evidence.specs.Logs.{GivesLogsIn}
 use Rattle.evidence.specs.Reading.{StoreSeen, store_seen}
-use Rattle.evidence.proofs.Readings.{read_then}
+use Rattle.evidence.proofs.Steps.{read_then}
 use Rattle.auditorium_core.specs.Words.{order}
 use Rattle.auditorium_core.specs.Answer.{IsAnswerTo}
 use Rattle.auditorium_core.proofs.Faults.{refused_answered, found_answered}
@@ -21,7 +21,7 @@ returns-in-Err g c =
     let y = c.args.y.now in
     let logs = map string_bytes c.args.logs.now in
     refused_answered (λ (read : RosterRead). read) (GivesRosterIn roster)
-        (IsAnswerTo (order roster x y logs)) (seen old)
+    (IsAnswerTo (order roster x y logs)) (seen old)
     (seen c.read_roster.new.store) c.in-Err.fault c.of_fault.result c.in-Err.ensures c.of_fault.ensures.ok
     c.of_fault.ensures.err (roster_refused roster x y logs (store.files old))
 
@@ -40,12 +40,12 @@ returns-in-Ok-read_logs g c =
     let read = c.in-Ok.read in
     let given = GivesLogsIn read.roster.machines read.election names in
     let found = c.in-Ok-read_logs.logs in
-    let both = read_then (λ (r : RosterRead). r) (GivesRosterIn roster) (λ logs. logs.items) given (seen old) (seen mid)
-    (seen new) read _ c.in-Ok.ensures c.in-Ok-read_logs.ensures in
+    let both = read_then (λ (r : RosterRead). r) (GivesRosterIn roster) (λ logs. logs.items) given given (seen old)
+    (seen mid) (seen new) read _ c.in-Ok.ensures c.in-Ok-read_logs.ensures (λ answer first next. next) in
     found_answered (λ logs. logs.items) given (IsAnswerTo (order roster x y names)) (seen old) (seen new) found
     c.order_over.result both
     (all_read roster x y names (store.files old) c.orders_are_honest.ensures read c.in-Ok.ensures.ok found.items both.ok
-        c.order_over.result
+    c.order_over.result
     c.order_over.ensures.told)
     c.order_over.ensures.status c.order_over.ensures.fault
 
@@ -63,8 +63,8 @@ returns g c =
     let names = map string_bytes c.args.logs.now in
     let read = c.in-Ok.read in
     let given = GivesLogsIn read.roster.machines read.election names in
-    let both = read_then (λ (r : RosterRead). r) (GivesRosterIn roster) (λ logs. logs.items) given (seen old) (seen mid)
-    (seen new) read _ c.in-Ok.ensures c.in-Err-read_logs.ensures in
+    let both = read_then (λ (r : RosterRead). r) (GivesRosterIn roster) (λ logs. logs.items) given given (seen old)
+    (seen mid) (seen new) read _ c.in-Ok.ensures c.in-Err-read_logs.ensures (λ answer first next. next) in
     refused_answered (λ logs. logs.items) given (IsAnswerTo (order roster x y names)) (seen old) (seen new)
     c.in-Err-read_logs.fault c.of_fault-in-Err-read_logs.result both c.of_fault-in-Err-read_logs.ensures.ok
     c.of_fault-in-Err-read_logs.ensures.err

@@ -29,4 +29,4 @@ pub returns : goal.returns
 returns c =
     number_found c.args.roster.now.machines c.args.machine.now c.args.number c.args.graph.now.survivors c.loop-at.at
     c.loop-at.least (let past = c.loop-at-test.false in let count = c.count-at-end.ensures in omega arith)
-        c.loop-at.invariant
+    c.loop-at.invariant

@@ -33,5 +33,5 @@ returns-in_ok-played-in-Ok g c =
     let given = c.in-Ok.ensures.read in
     found_answered itself (GivesScriptIn name) (IsAnswerTo (play name prefix)) (seen old) (seen c.read_script.new.store)
     script (Ok answer) given
-        (play_told name prefix (store.files old) script answer given.ok c.in_ok-played-in-Ok.ensures)
+    (play_told name prefix (store.files old) script answer given.ok c.in_ok-played-in-Ok.ensures)
     (play_is_there prefix script answer c.in_ok-played-in-Ok.ensures) tt

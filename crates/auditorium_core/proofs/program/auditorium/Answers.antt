@@ -30,7 +30,7 @@ returns-in-Some g c =
     was_done IsAny words is_told_by is_written_by (seen old) (seen read) (sink.written out) (sink.faults out)
     (outside (seen new) (sink.written out_now) (sink.faults out_now))
     (λ answer ok told. (read, c.run-answer.ensures.files, told)) c.run-answer.result
-        c.end_with.result made c.end_with.ensures
+    c.end_with.result made c.end_with.ensures
 
 pub returns-in-None : goal.returns-in-None
 returns-in-None g c =

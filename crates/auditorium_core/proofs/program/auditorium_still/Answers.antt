@@ -25,5 +25,5 @@ returns g c =
     was_done IsStill (map string_bytes c.args.words.now) is_told_by is_written_by (seen old) (seen read)
     (sink.written out) (sink.faults out) (outside (seen new) (sink.written out_now) (sink.faults out_now))
     (λ answer ok told. (read, c.answer_of-answer.ensures.files, told)) c.answer_of-answer.result
-        c.end_with.result c.answer_of-answer.ensures
+    c.end_with.result c.answer_of-answer.ensures
     c.end_with.ensures

@@ -33,5 +33,5 @@ returns-in_ok-has_run-in-Ok g c =
     let given = c.in-Ok.ensures.read in
     found_answered itself (GivesScriptIn name) (IsAnswerTo (run name prefix)) (seen old) (seen c.read_script.new.store)
     script (Ok answer) given
-        (run_told name prefix (store.files old) script answer given.ok c.in_ok-has_run-in-Ok.ensures)
+    (run_told name prefix (store.files old) script answer given.ok c.in_ok-has_run-in-Ok.ensures)
     (run_is_there prefix script answer c.in_ok-has_run-in-Ok.ensures) tt

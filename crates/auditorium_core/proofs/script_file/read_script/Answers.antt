@@ -1,5 +1,8 @@
+use Rattle.std.proofs.Common.{refl}
 use Rattle.evidence.specs.Reading.{store_seen}
-use Rattle.auditorium_core.proofs.ScriptFiles.{script_was_read, script_not_read}
+use Rattle.evidence.proofs.FilesRead.{was_read, not_read}
+use Rattle.auditorium_core.specs.ScriptFile.{max_script, GivesScript}
+use Rattle.auditorium_core.proofs.ScriptFiles.{itself, long_script}
 use Rattle.auditorium_core.proofs.script_file.read_script.Goals as goal
 
 pub returns-in-Ok-clause-read : goal.returns-in-Ok-clause-read
@@ -10,7 +13,8 @@ returns-in-Ok-clause-read g c =
     let before = store_seen (store.files old) (store.answered old) (store.read_faults old) (store.write_faults old) in
     let after = store_seen (store.files new) (store.answered new) (store.read_faults new) (store.write_faults new) in
     let given = c.in-Ok.ensures in
-    script_was_read before after c.args.name.now c.in-Ok.bytes.items c.script_of.result given.ok.whole
+    was_read itself (GivesScript c.args.name.now) c.args.name.now before after c.in-Ok.bytes.items c.script_of.result
+    given.ok.whole
     (rw (← c.as_slice.ensures.value) c.script_of.ensures.ok)
     (rw (← c.as_slice.ensures.value) c.script_of.ensures.err) c.script_of.ensures.only
     (λ more. let no = given.absent.always more in cc)
@@ -29,8 +33,8 @@ returns-in-Err-clause-read g c =
     let before = store_seen (store.files old) (store.answered old) (store.read_faults old) (store.write_faults old) in
     let after = store_seen (store.files new) (store.answered new) (store.read_faults new) (store.write_faults new) in
     let given = c.in-Err.ensures in
-    script_not_read before after c.args.name.now c.in-Err.fault c.file_fault.result c.file_fault.ensures given.err
-    given.absent given.read_fault
+    not_read itself (GivesScript c.args.name.now) c.args.name.now before after max_script c.in-Err.fault
+    c.file_fault.result refl (long_script c.args.name.now) c.file_fault.ensures given.err given.absent given.read_fault
     (record {
       absences = given.absences;
       read_faults = given.read_fault.never_falls;

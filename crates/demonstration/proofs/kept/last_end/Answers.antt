@@ -15,7 +15,7 @@ loop-place-preserved c =
     elim c.if-ends_session.branch [
       | then-ends_session w ↦ subst (IsLastOf session (take (place + 1) events)) (sym w.last-is)
           (new_last session events place more c.loop-place.last within at
-              (sym c.ends_session.ensures ∙ w.if-ends_session.true))
+          (sym c.ends_session.ensures ∙ w.if-ends_session.true))
       | else-ends_session w ↦ subst (IsLastOf session (take (place + 1) events)) (sym w.last-is)
           (kept_last session events place more c.loop-place.last within at c.loop-place.invariant
           (sym c.ends_session.ensures ∙ w.if-ends_session.false))

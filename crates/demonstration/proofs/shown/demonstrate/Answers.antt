@@ -13,7 +13,7 @@ use Rattle.polling_world.proofs.Rosters.{roster_has_text}
 use Rattle.evidence.specs.Refusal.{refusal_of}
 use Rattle.evidence.specs.RosterFile.{max_roster}
 use Rattle.auditor.specs.Report.{report_of}
-use Rattle.auditor.proofs.Steps.{on_refusal}
+use Rattle.evidence.proofs.Steps.{on_refusal}
 use Rattle.demonstration.specs.Kept.{IsKeptOf}
 use Rattle.demonstration.specs.Shown.{GivesAudit, IsRefusedSo}
 use Rattle.demonstration.proofs.Plays.{demonstrated, kept_has_header, refused_so, roster_short}

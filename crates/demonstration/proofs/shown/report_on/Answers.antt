@@ -11,7 +11,7 @@ use Rattle.auditor.specs.Report.{ReportParts, report_of}
 use Rattle.auditor.specs.Sources.{standard}
 use Rattle.auditor.proofs.Audited.{ok_by, err_by}
 use Rattle.auditor.proofs.Makers.{logs_have_makers}
-use Rattle.auditor.proofs.Steps.{on_refusal}
+use Rattle.evidence.proofs.Steps.{on_refusal}
 use Rattle.demonstration.specs.Shown.{GivesAudit, log_name}
 use Rattle.demonstration.proofs.Reports.{of_log, of_refusal}
 use Rattle.demonstration.proofs.shown.report_on.Goals as goal
@@ -29,7 +29,7 @@ returns-in-Ok-clause-ok c =
     let log = c.in-Ok.log in
     ok_by c.audit_log.result
     (λ (report : ReportParts).
-        WithLogs posts standard standard_rules (log_name ∷ []) (log ∷ []) (Ok (report_of report)))
+    WithLogs posts standard standard_rules (log_name ∷ []) (log ∷ []) (Ok (report_of report)))
     (λ (report : ReportParts). GivesAudit posts bytes (Ok (report_of report)))
     (λ report is. of_log posts c.requires.roster c.requires.short bytes log (Ok (report_of report))
     c.in-Ok.ensures.ok is) c.audit_log.ensures.ok

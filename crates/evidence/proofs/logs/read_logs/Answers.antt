@@ -9,7 +9,7 @@ use Rattle.evidence.specs.Logs.{GivesLogsIn}
 use Rattle.evidence.specs.Reading.{StoreSeen, store_seen}
 use Rattle.evidence.proofs.LogLists.{GoesOn, goes_on_more, goes_on_all, goes_on_refused, names_from}
 use Rattle.evidence.proofs.LogLists.{log_not_read, unrisen}
-use Rattle.evidence.proofs.Readings.{risen_since}
+use Rattle.evidence.proofs.Steps.{rose_later}
 use Rattle.evidence.proofs.logs.read_logs.Goals as goal
 
 pub returns-in-Err : goal.returns-in-Err
@@ -41,7 +41,7 @@ returns-in-Err g c =
     (λ refusal why. goes_on_refused machines election (store.files old) names name rest c.loop-name.logs.items refusal
     why on)
     (rw (← so_far.absences) given.absent)
-    (λ failed. risen_since (store.read_faults old) (store.read_faults mid) (store.read_faults new) so_far.read_faults
+    (λ failed. rose_later (store.read_faults old) (store.read_faults mid) (store.read_faults new) so_far.read_faults
     (given.read_fault.only failed))
     (record {
       absences = rw (← so_far.absences) given.absences;
@@ -63,7 +63,7 @@ loop-name-preserved g c =
     let rest = map string_bytes (drop (c.loop-name.name-index + 1) c.args.names.now) in
     let logs = c.loop-name.logs.items in
     let said = subst (λ files. OnSomeFile files name (IsSealedLogOf machines election c.in-Ok.log))
-        so_far.files given.ok in
+    so_far.files given.ok in
     let Q : List (List ℕ) → Type 0 = λ ns. GoesOn machines election (store.files old) names ns logs in
     let on : Q (name ∷ rest) =
     subst Q (names_from c.args.names.now c.loop-name.name-index c.name-item.result name c.loop-name-test.true

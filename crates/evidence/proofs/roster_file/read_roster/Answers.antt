@@ -1,6 +1,19 @@
+use Rattle.std.proofs.Common.{ℕ, List, Option, Some, None, inl, refl}
+use Rattle.std.specs.Prelude.{Err}
+use Rattle.hall_outside.specs.ReadFile.{IsRefused as FileIsRefused}
+use Rattle.hall_outside.specs.declared.reading.FileFault.TheVariants as file
+use Rattle.evidence.specs.declared.roster_file.RosterRead.{RosterRead}
 use Rattle.evidence.specs.Reading.{store_seen}
-use Rattle.evidence.proofs.Readings.{roster_was_read, roster_not_read}
+use Rattle.evidence.specs.Refusal.{too_long}
+use Rattle.evidence.specs.RosterFile.{max_roster, GivesRoster}
+use Rattle.evidence.proofs.FilesRead.{was_read, not_read}
 use Rattle.evidence.proofs.roster_file.read_roster.Goals as goal
+
+-- a roster's file that is too long gives that refusal
+long_roster : (name : List ℕ) (this : Option (List ℕ)) → FileIsRefused max_roster file.TooLong this →
+    GivesRoster name this (Err (too_long name))
+long_roster name None is = absurd is
+long_roster name (Some bytes) is = inl (is, refl)
 
 pub returns-in-Ok : goal.returns-in-Ok
 returns-in-Ok g c =
@@ -10,7 +23,8 @@ returns-in-Ok g c =
     let before = store_seen (store.files old) (store.answered old) (store.read_faults old) (store.write_faults old) in
     let after = store_seen (store.files new) (store.answered new) (store.read_faults new) (store.write_faults new) in
     let given = c.in-Ok.ensures in
-    roster_was_read before after c.args.name.now c.in-Ok.bytes.items c.roster_of.result given.ok.whole
+    was_read (λ (r : RosterRead). r) (GivesRoster c.args.name.now) c.args.name.now before after c.in-Ok.bytes.items
+    c.roster_of.result given.ok.whole
     (rw (← c.as_slice.ensures.value) c.roster_of.ensures.ok)
     (rw (← c.as_slice.ensures.value) c.roster_of.ensures.err) c.roster_of.ensures.only
     (λ more. let no = given.absent.always more in cc)
@@ -29,8 +43,8 @@ returns-in-Err g c =
     let before = store_seen (store.files old) (store.answered old) (store.read_faults old) (store.write_faults old) in
     let after = store_seen (store.files new) (store.answered new) (store.read_faults new) (store.write_faults new) in
     let given = c.in-Err.ensures in
-    roster_not_read before after c.args.name.now c.in-Err.fault c.file_fault.result c.file_fault.ensures given.err
-    given.absent given.read_fault
+    not_read (λ (r : RosterRead). r) (GivesRoster c.args.name.now) c.args.name.now before after max_roster c.in-Err.fault
+    c.file_fault.result refl (long_roster c.args.name.now) c.file_fault.ensures given.err given.absent given.read_fault
     (record {
       absences = given.absences;
       read_faults = given.read_fault.never_falls;

@@ -12,7 +12,7 @@ use Rattle.evidence.specs.declared.fault.AuditFault.TheVariants.{ReadFault}
 use Rattle.evidence.specs.Refusal.{Refusal, absent, too_long, refusal_of, IsAbsent, IsFileFault}
 use Rattle.evidence.specs.Reading.{StoreSeen, IsReadFrom}
 use Rattle.evidence.proofs.Readings.{IsLeft, refused_reading, failed_reading, memory_reading}
-use Rattle.auditor.proofs.Steps.{on_refusal}
+use Rattle.evidence.proofs.Steps.{on_refusal}
 
 module _ {T U : Type 0} (value : T → U) (Gives : Option (List ℕ) → Result U Refusal → Type 0) (name : List ℕ)
     (old new : StoreSeen) where
