@@ -1,4 +1,3 @@
-pub mod Records
 pub mod Cuts
 pub mod ReadLogs
 pub mod OneReading

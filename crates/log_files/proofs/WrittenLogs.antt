@@ -1,116 +1,28 @@
 -- What the text of a written log says.
-use Rattle.std.proofs.Common.{◌≡◌, ◌∙◌, ℕ, ◌+◌, ◌^◌, ◌<◌, ◌≤◌, Bool, true, false, inl, List, [], ◌∷◌, ◌++◌, length}
-use Rattle.std.proofs.Common.{map, Result, Ok, refl, ap, sym, subst, arith, append_assoc, append-nil}
-use Rattle.std.specs.Prelude.{All, codes, get_or, take, ◌==◌, if◌then◌else◌}
+use Rattle.std.proofs.Common.{◌≡◌, ◌∙◌, ℕ, ◌+◌, ◌^◌, ◌<◌, ◌≤◌, true, false, inl, List, [], ◌∷◌, ◌++◌, length}
+use Rattle.std.proofs.Common.{map, Result, Ok, refl, ap, sym, subst, append_assoc, append-nil}
+use Rattle.std.specs.Prelude.{All, get_or, take}
 use Rattle.std.specs.List.{flat_map}
-use Rattle.std.proofs.lemmas.Fmt.{decimal_digit}
 use Rattle.std.proofs.lemmas.List.{take_more, take_all, map-append}
 use Rattle.std.proofs.lemmas.Grind.{flat_map-append}
 use Rattle.std.proofs.lemmas.List.Elements.{All-nil, All-cons, All-head, All-tail, All-append}
-use Rattle.canonical_sexp.specs.declared.sexp.Sexp.{Sexp}
-use Rattle.canonical_sexp.specs.declared.sexp.Sexp.TheVariants.{Atom, List as Branch}
-use Rattle.canonical_sexp.specs.Forest.{Forest, no_trees}
-use Rattle.canonical_sexp.specs.Sexp.{forest_of}
-use Rattle.canonical_sexp.specs.Forms.{list_of, number_atom}
-use Rattle.canonical_sexp.specs.Text.{text_of, atom_text, AreWithin, Fits}
+use Rattle.canonical_sexp.specs.Text.{text_of, Fits}
 use Rattle.entry_order.specs.declared.event.Event.{Event}
 use Rattle.entry_order.specs.declared.event.Event.TheVariants.{Sent, Got}
 use Rattle.entry_order.specs.History.{entry_of, held}
-use Rattle.entry_format.specs.declared.deed.Deed.{Deed}
-use Rattle.entry_format.specs.declared.deed.Deed.TheVariants.{Opened, Authorise, Override, Closed, Activate, Commit}
-use Rattle.entry_format.specs.declared.deed.Deed.TheVariants.{Cast, Cancel, Challenge}
-use Rattle.entry_format.specs.declared.deed.How.{How}
-use Rattle.entry_format.specs.declared.entry.Entry.{Entry}
 use Rattle.entry_format.specs.declared.plain.Plain.{Plain}
 use Rattle.entry_format.specs.declared.plain.EntryFault.{EntryFault}
-use Rattle.entry_format.specs.EntryText.{body_tree, deed_tree, how_word, signed_tree}
+use Rattle.entry_format.specs.EntryText.{signed_tree}
 use Rattle.entry_format.specs.Reading.{Reads}
 use Rattle.entry_format.specs.SealedEntry.{SealedEntry}
 use Rattle.entry_format.specs.Sealing.{IsSealed}
 use Rattle.log_files.specs.declared.plain_log.End.TheVariants.{Clean}
 use Rattle.log_files.specs.declared.plain_log.PlainLog.{PlainLog}
-use Rattle.log_files.specs.LogText.{header_tree, record_tree, Gives, EachGives, kept_of, refused_of, AreLog}
+use Rattle.log_files.specs.LogText.{header_tree, Gives, EachGives, kept_of, refused_of, AreLog}
 use Rattle.log_files.specs.LogText.{IsReadPlain, Says}
 use Rattle.log_files.specs.Written.{record_text, log_text, plain_of, HasAll}
 use Rattle.log_files.proofs.OneLog.{one_said, one_plain}
-
--- the text of an entry stands between the word's and the parenthesis
-text-record : (word : List ℕ) (members : Forest) → text_of (list_of (Atom word ∷ Branch members ∷ []))
-    ≡ (40 ∷ atom_text word) ++ (text_of (Branch members) ++ 41 ∷ [])
-text-record word members = ap (λ bs. 40 ∷ bs) (append_assoc (atom_text word) (text_of (Branch members)) (41 ∷ []))
-
--- the tree of an event's record
-abbrev tree_of : Event SealedEntry → Sexp
-tree_of (Sent e) = record_tree true (signed_tree e.entry e.signature)
-tree_of (Got e) = record_tree false (signed_tree e.entry e.signature)
-
--- digests lie in no list, and those of a deed's fields neither, so they are within any depth
-names_at : (names : List (List ℕ)) (d c : ℕ) → AreWithin d (forest_of (map Atom names)) →
-    AreWithin c (forest_of (map Atom names))
-names_at [] d c h = tt
-names_at (name ∷ names) d c h = (h.0, names_at names d c h.1)
-
--- so are the fields of an override
-override_at : (is_first : Bool) (session : ℕ) (how : How) (d c : ℕ) → 0 < c →
-    AreWithin d (forest_of (list_of (Atom (codes "override") ∷ number_atom session
-    ∷ (if is_first then [] else Atom (how_word how) ∷ [])) ∷ [])) →
-    AreWithin c (forest_of (list_of (Atom (codes "override") ∷ number_atom session
-    ∷ (if is_first then [] else Atom (how_word how) ∷ [])) ∷ []))
-override_at true session how d c some h = (some, h.1, h.2, tt)
-override_at false session how d c some h = (some, h.1, h.2, tt)
-
--- the fields of any deed lie within any depth but none
-deed_at : (version : ℕ) (deed : Deed) (d c : ℕ) → 0 < c → AreWithin d (forest_of (deed_tree version deed ∷ [])) →
-    AreWithin c (forest_of (deed_tree version deed ∷ []))
-deed_at version Opened d c some h = (some, h.1, h.2, tt)
-deed_at version (Authorise booth session) d c some h = (some, h.1, h.2, tt)
-deed_at version (Override session how) d c some h = override_at (version == 1) session how d c some h
-deed_at version Closed d c some h = (some, h.1, h.2, tt)
-deed_at version (Activate session) d c some h = (some, h.1, h.2, tt)
-deed_at version (Commit session ballot) d c some h = (some, h.1, h.2, tt)
-deed_at version (Cast session ballot) d c some h = (some, h.1, h.2, tt)
-deed_at version (Cancel session) d c some h = (some, h.1, h.2, tt)
-deed_at version (Challenge session ballot) d c some h = (some, h.1, h.2, tt)
-
--- the members of a list
-abbrev members_in : Sexp → Forest
-members_in (Atom octets) = no_trees
-members_in (Branch members) = members
-
--- an entry's fields that lie within depth 6 lie within 5
-body_at : (entry : Entry) → AreWithin 6 (members_in (body_tree entry)) → AreWithin 5 (members_in (body_tree entry))
-body_at entry (word, (version, (election, (maker, (number, (stamp, (deep, few, names, deed))))))) =
-    let more : AreWithin 5 (forest_of (list_of (map Atom entry.names) ∷ deed_tree entry.version entry.deed ∷ [])) =
-    (omega arith, few, names_at entry.names 5 4 names, deed_at entry.version entry.deed 6 5 (omega arith) deed) in
-    (word, (version, (election, (maker, (number, (stamp, more))))))
-
--- a record of a signed entry that is within the limits is within them too
-record_fits : (word : List ℕ) (entry : Entry) (signature : List ℕ) → length word ≤ 262144 →
-    Fits (signed_tree entry signature) → Fits (list_of (Atom word ∷ signed_tree entry signature ∷ []))
-record_fits word entry signature short (deep, few, (tag, (inside, count, body, end))) =
-    (omega arith, omega arith, (short, (omega arith, few, (tag, (omega arith, count, body_at entry body, end)), tt)))
-
--- a record of a sealed entry is within the limits
-records_fit : (x : Event SealedEntry) → IsSealed (entry_of x) → Fits (tree_of x)
-records_fit (Sent e) is = record_fits (codes "sent") e.entry e.signature (omega arith) is.spelt.within
-records_fit (Got e) is = record_fits (codes "got") e.entry e.signature (omega arith) is.spelt.within
-
--- the text of a record of a word of n letters
-record_spelt : (word front : List ℕ) (e : SealedEntry) → IsSealed e → 40 ∷ atom_text word ≡ front →
-    text_of (list_of (Atom word ∷ signed_tree e.entry e.signature ∷ [])) ≡ front ++ e.text ++ codes ")"
-record_spelt word front e is begins =
-    text-record word (members_in (signed_tree e.entry e.signature))
-    ∙ ap (λ (bs : List ℕ). bs ++ (text_of (signed_tree e.entry e.signature) ++ 41 ∷ [])) begins
-    ∙ ap (λ (bs : List ℕ). front ++ (bs ++ 41 ∷ [])) (sym is.spelt.spelt) ∙ sym (append_assoc front e.text (41 ∷ []))
-
--- the text of its tree is the record as logs have it
-records_spelt : (x : Event SealedEntry) → IsSealed (entry_of x) → text_of (tree_of x) ≡ record_text x
-records_spelt (Sent e) is =
-    record_spelt (codes "sent") (codes "(4:sent") e is
-    (ap (λ (ds : List ℕ). 40 ∷ (ds ++ 58 ∷ codes "sent")) (decimal_digit 4 (omega arith)))
-records_spelt (Got e) is =
-    record_spelt (codes "got") (codes "(3:got") e is
-    (ap (λ (ds : List ℕ). 40 ∷ (ds ++ 58 ∷ codes "got")) (decimal_digit 3 (omega arith)))
+use Rattle.log_files.proofs.Records.{tree_of, members_in, records_fit, records_spelt}
 
 -- what the entry of a record is read as
 reads_plain : (e : SealedEntry) → IsSealed e → Reads (text_of (signed_tree e.entry e.signature)) (Ok (plain_of e))
