@@ -229,12 +229,3 @@ pub first_test : {Cause : Type 0} (tests : List (Bool × Cause))
 first_test [] = (Ok tt, refl)
 first_test ((true, cause) ∷ tests) = (Err cause, inl (refl, refl))
 first_test ((false, cause) ∷ tests) = let rest = first_test tests in (rest.0, inr (λ yes. cc, rest.1))
-
--- and no other is
-pub one_first : {Cause : Type 0} (row : List (Type 0 × Cause)) (answer other : Result (Unit {0}) Cause)
-    → IsFirstOf row answer → IsFirstOf row other → answer ≡ other
-one_first [] answer other first second = cc
-one_first (cause ∷ row) answer other (inl here) (inl there) = cc (here.1, there.1)
-one_first (cause ∷ row) answer other (inl here) (inr later) = absurd (later.0 here.0)
-one_first (cause ∷ row) answer other (inr later) (inl there) = absurd (later.0 there.0)
-one_first (cause ∷ row) answer other (inr later) (inr after) = one_first row answer other later.1 after.1

@@ -23,7 +23,7 @@ use Rattle.entry_format.specs.EntryText.{body_tree, signed_tree}
 use Rattle.entry_format.proofs.Taken.{version_small}
 
 -- the members of a list
-abbrev members_in : Sexp → Forest
+abbrev pub members_in : Sexp → Forest
 members_in (Atom octets) = no_trees
 members_in (Branch members) = members
 

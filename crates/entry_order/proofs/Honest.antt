@@ -48,7 +48,7 @@ nth_sent (Got g ∷ p) (Got h ∷ q) e f l m s n =
     let tail : p ++ Sent e ∷ l ≡ q ++ Sent f ∷ m = cc in nth_sent p q e f l m tail n
 
 -- a list without a member is empty
-none_inside : {X : Type 0} (xs : List X) → ((x : X) → Contains xs x → ⊥) → xs ≡ []
+pub none_inside : {X : Type 0} (xs : List X) → ((x : X) → Contains xs x → ⊥) → xs ≡ []
 none_inside [] none = refl
 none_inside (x ∷ xs) none = absurd (none x (Contains-head x xs))
 

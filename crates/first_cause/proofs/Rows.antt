@@ -64,3 +64,12 @@ iff_trans first second = (λ a. second.0 (first.0 a), λ c. first.1 (second.1 c)
 pub is_not : {A : Type 0} (test : Bool) → IsTrue test ↔ A → IsTrue (not test) ↔ (A → ⊥)
 is_not true same = (λ untrue. cc, λ none. absurd (none (same.0 refl)))
 is_not false same = (λ always. λ holds. let untrue : false ≡ true = same.1 holds in cc, λ none. refl)
+
+-- of a row one answer alone is right
+pub one_first : {Cause : Type 0} (row : List (Type 0 × Cause)) (answer other : Result (Unit {0}) Cause) →
+    IsFirstOf row answer → IsFirstOf row other → answer ≡ other
+one_first [] answer other first second = cc
+one_first (cause ∷ row) answer other (inl here) (inl there) = cc (here.1, there.1)
+one_first (cause ∷ row) answer other (inl here) (inr later) = absurd (later.0 here.0)
+one_first (cause ∷ row) answer other (inr later) (inl there) = absurd (later.0 there.0)
+one_first (cause ∷ row) answer other (inr later) (inr after) = one_first row answer other later.1 after.1

@@ -1,7 +1,7 @@
 -- What is given by what is left of an honest world's logs.
-use Rattle.std.proofs.Common.{◌≡◌, ◌≢◌, ◌∙◌, ℕ, zero, suc, ◌<◌, inl, inr, Bool, true, false, List, [], ◌∷◌}
+use Rattle.std.proofs.Common.{◌≡◌, ◌≢◌, ◌∙◌, ℕ, zero, suc, ◌<◌, inl, inr, List, [], ◌∷◌}
 use Rattle.std.proofs.Common.{length, map, take, Ok, Err, refl, ap, sym, subst, ◌≤◌, arith}
-use Rattle.std.specs.Prelude.{◌↔◌, if◌then◌else◌}
+use Rattle.std.specs.Prelude.{◌↔◌}
 use Rattle.std.specs.List.{Contains}
 use Rattle.std.proofs.lemmas.List.Elements.{All-contains, Contains-append_left, Contains-append_right}
 use Rattle.entry_order.specs.declared.event.Event.{Event}
@@ -43,16 +43,8 @@ use Rattle.honest_logs.specs.Agreement.{HaveAll, IsAllGiven, IsAllTold, IsHonest
 use Rattle.honest_logs.specs.HonestWorld.{IsHonestWorld}
 use Rattle.honest_logs.proofs.Few.{few_distinct}
 use Rattle.honest_logs.specs.WhatIsLeft.{IsPrefixRead, IsReadIn, AreReadIn}
-
--- the entry of a record's event is the record's
-entry_is : (sent : Bool) (e : SealedEntry) → entry_of (if sent then Sent e else Got e) ≡ e
-entry_is true e = refl
-entry_is false e = refl
-
--- a list without a member is empty
-none_inside : {X : Type 0} (xs : List X) → ((x : X) → Contains xs x → ⊥) → xs ≡ []
-none_inside [] none = refl
-none_inside (x ∷ xs) none = absurd (none x (Contains-head x xs))
+use Rattle.entry_order.proofs.Honest.{none_inside}
+use Rattle.log_files.proofs.KeptRecords.{entry_is}
 
 -- what is never unknown is told exactly
 told_exactly : (told : Three) (P : Type 0) → (told ≡ True → P) → (told ≡ False → ¬ P) → told ≢ Unknown →

@@ -1,9 +1,6 @@
 -- The entries that a script's machines make are valid under its roster.
-use Rattle.std.proofs.Common.{◌≡◌, ℕ, ◌^◌, ◌<◌, ◌≤◌, List, ◌++◌, length, refl, arith}
-use Rattle.std.specs.Prelude.{codes}
-use Rattle.std.proofs.lemmas.List.{length-take-le}
+use Rattle.std.proofs.Common.{◌≡◌, ℕ, ◌^◌, ◌<◌, ◌≤◌, List, length, refl, arith}
 use Rattle.std.proofs.lemmas.Option.{slice_get_within}
-use Rattle.sha2.specs.Sha256.{sha256}
 use Rattle.sha2.proofs.Facts256.{length-sha256}
 use Rattle.canonical_sexp.specs.Text.{text_of}
 use Rattle.entry_order.specs.Ascending.{IsAscending}
@@ -23,7 +20,6 @@ use Rattle.entry_format.proofs.Limits.{signed_fits}
 use Rattle.election_script.specs.declared.script.Cast0.{Cast0}
 use Rattle.election_script.specs.Lawful.{IsDeedAmong}
 use Rattle.polling_world.specs.Configs.{Config}
-use Rattle.polling_world.specs.Keys.{machine_id}
 use Rattle.polling_world.specs.Making.{election_of, entry_with, made}
 
 -- a script's deed can be written
@@ -43,13 +39,6 @@ deed_lawful machines (Challenge session ballot) few is = (omega (arith, is.0.1),
 pub length-election : (posts : List Post) → length (election_of posts) ≡ 32
 unfolding election_of
 length-election posts = length-sha256 _
-
--- a machine's identifier has 16 bytes
-pub length-id : (seed name : List ℕ) → length (machine_id seed name) ≡ 16
-unfolding machine_id
-length-id seed name =
-    let hash = sha256 (codes "auditorium id" ++ seed ++ name) in
-    length-take-le 16 hash (omega (arith, length-sha256 (codes "auditorium id" ++ seed ++ name)))
 
 module _ (config : Config) (k stamp : ℕ) (names : List (List ℕ)) (deed : Deed) where
   -- the digest of an entry that was made has 32 bytes

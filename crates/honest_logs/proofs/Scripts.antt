@@ -38,7 +38,8 @@ use Rattle.polling_world.proofs.Histories.{frontier_rises, few_in_frontier}
 use Rattle.polling_world.proofs.MadeEntries.{may_follow}
 use Rattle.polling_world.proofs.Rosters.{key_in_roster}
 use Rattle.honest_logs.specs.HonestWorld.{IsHonestWorld}
-use Rattle.honest_logs.proofs.MadeValid.{deed_lawful, length-digest, length-election, length-id, made_valid}
+use Rattle.polling_world.proofs.Rosters.{length-id}
+use Rattle.honest_logs.proofs.MadeValid.{deed_lawful, length-digest, length-election, made_valid}
 use Rattle.honest_logs.proofs.Stamps.{stamp_at_most}
 
 -- what a list's test says of all it says of what stands at a place

@@ -33,7 +33,7 @@ path_is kind h id seed nodes q tree below =
     beside.1))
 
 -- a node of the tree has 32 bytes
-length-node : (kind : OtsKind) (h : ℕ) (id seed : List ℕ) (n r : ℕ) → length (node kind h id seed n r) ≡ 32
+pub length-node : (kind : OtsKind) (h : ℕ) (id seed : List ℕ) (n r : ℕ) → length (node kind h id seed n r) ≡ 32
 unfolding node leaf interior
 length-node kind h id seed zero r = length-sha256 _
 length-node kind h id seed (suc n) r = length-sha256 _

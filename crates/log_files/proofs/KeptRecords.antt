@@ -28,7 +28,7 @@ use Rattle.log_files.specs.inside.Kept.{AreSeen}
 use Rattle.log_files.proofs.OneBreak.{AreLegal-push, not_legal}
 
 -- the entry of a record's event is the record's
-entry_is : (sent : Bool) (e : SealedEntry) → entry_of (if sent then Sent e else Got e) ≡ e
+pub entry_is : (sent : Bool) (e : SealedEntry) → entry_of (if sent then Sent e else Got e) ≡ e
 entry_is true e = refl
 entry_is false e = refl
 

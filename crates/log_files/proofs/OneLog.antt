@@ -5,7 +5,7 @@ use Rattle.std.specs.Prelude.{All}
 use Rattle.std.specs.List.{flat_map}
 use Rattle.std.proofs.lemmas.List.Elements.{All-head, All-tail}
 use Rattle.canonical_sexp.specs.declared.sexp.Sexp.{Sexp}
-use Rattle.canonical_sexp.specs.declared.sexp.Sexp.TheVariants.{Atom, List as Branch}
+use Rattle.canonical_sexp.specs.declared.sexp.Sexp.TheVariants.{List as Branch}
 use Rattle.canonical_sexp.specs.declared.read.Read.TheVariants as read
 use Rattle.canonical_sexp.specs.Forest.{Forest}
 use Rattle.std.specs.Fmt.{decimal}
@@ -24,6 +24,7 @@ use Rattle.log_files.specs.declared.plain_log.PlainLog.{PlainLog}
 use Rattle.log_files.specs.LogText.{header_tree, record_tree, AreRecords, IsEnd, Gives, EachGives}
 use Rattle.log_files.specs.LogText.{kept_of, refused_of, AreLog, IsReadPlain, Says}
 use Rattle.log_files.proofs.Headers.{header_fits}
+use Rattle.log_files.proofs.Splits.{some_text}
 
 -- no whole text stands in front
 abbrev pub HasNone : List ℕ → Type 0
@@ -35,11 +36,6 @@ whole_there : (bytes : List ℕ) (tree : Sexp) (more : List ℕ) → Fits tree �
 whole_there bytes tree more fits e =
     let P : List ℕ → Type 0 = λ bs. Answers bs (read.Whole tree (length (text_of tree))) in
     subst P (sym e) (text_is_read tree more fits)
-
--- the text of a tree isn't empty
-some_text : (tree : Sexp) → 0 < length (text_of tree)
-some_text (Atom octets) = omega (arith, length-append (decimal (length octets)) (58 ∷ octets))
-some_text (Branch members) = omega arith
 
 -- where records end no whole text stands in front
 pub end_has_none : (offset : ℕ) (bytes : List ℕ) (end : End) → IsEnd offset bytes end → HasNone bytes

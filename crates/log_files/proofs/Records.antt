@@ -5,7 +5,7 @@ use Rattle.std.specs.Prelude.{codes, ◌==◌, if◌then◌else◌}
 use Rattle.std.proofs.lemmas.Fmt.{decimal_digit}
 use Rattle.canonical_sexp.specs.declared.sexp.Sexp.{Sexp}
 use Rattle.canonical_sexp.specs.declared.sexp.Sexp.TheVariants.{Atom, List as Branch}
-use Rattle.canonical_sexp.specs.Forest.{Forest, no_trees}
+use Rattle.canonical_sexp.specs.Forest.{Forest}
 use Rattle.canonical_sexp.specs.Sexp.{forest_of}
 use Rattle.canonical_sexp.specs.Forms.{list_of, number_atom}
 use Rattle.canonical_sexp.specs.Text.{text_of, atom_text, AreWithin, Fits}
@@ -22,6 +22,7 @@ use Rattle.entry_format.specs.SealedEntry.{SealedEntry}
 use Rattle.entry_format.specs.Sealing.{IsSealed}
 use Rattle.log_files.specs.LogText.{record_tree}
 use Rattle.log_files.specs.Written.{record_text}
+use Rattle.entry_format.proofs.Limits.{members_in}
 
 -- the text of an entry stands between the word's and the parenthesis
 text-record : (word : List ℕ) (members : Forest) → text_of (list_of (Atom word ∷ Branch members ∷ []))
@@ -60,11 +61,6 @@ deed_at version (Commit session ballot) d c some h = (some, h.1, h.2, tt)
 deed_at version (Cast session ballot) d c some h = (some, h.1, h.2, tt)
 deed_at version (Cancel session) d c some h = (some, h.1, h.2, tt)
 deed_at version (Challenge session ballot) d c some h = (some, h.1, h.2, tt)
-
--- the members of a list
-abbrev pub members_in : Sexp → Forest
-members_in (Atom octets) = no_trees
-members_in (Branch members) = members
 
 -- an entry's fields lie within one depth less than they may
 body_at : (entry : Entry) → AreWithin 6 (members_in (body_tree entry)) → AreWithin 5 (members_in (body_tree entry))

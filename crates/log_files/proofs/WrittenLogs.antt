@@ -22,7 +22,8 @@ use Rattle.log_files.specs.LogText.{header_tree, Gives, EachGives, kept_of, refu
 use Rattle.log_files.specs.LogText.{IsReadPlain, Says}
 use Rattle.log_files.specs.Written.{record_text, log_text, plain_of, HasAll}
 use Rattle.log_files.proofs.OneLog.{one_said, one_plain}
-use Rattle.log_files.proofs.Records.{tree_of, members_in, records_fit, records_spelt}
+use Rattle.entry_format.proofs.Limits.{members_in}
+use Rattle.log_files.proofs.Records.{tree_of, records_fit, records_spelt}
 
 -- what the entry of a record is read as
 reads_plain : (e : SealedEntry) → IsSealed e → Reads (text_of (signed_tree e.entry e.signature)) (Ok (plain_of e))

@@ -16,7 +16,7 @@ use Rattle.entry_order.proofs.Plays.{IsNew-from_test}
 use Rattle.entangled_log.proofs.Whole.{whole_or_not}
 use Rattle.roster.specs.declared.post.Role.{Role}
 use Rattle.roster.specs.declared.post.Role.TheVariants.{Supervisor, Booth}
-use Rattle.deed_history.proofs.Deciding.{one_first}
+use Rattle.first_cause.proofs.Rows.{one_first}
 use Rattle.supervisor_core.specs.declared.state.SupervisorNot.{SupervisorNot}
 use Rattle.supervisor_core.specs.Table as supervisor
 use Rattle.supervisor_core.proofs.Answered as supervisor_answer

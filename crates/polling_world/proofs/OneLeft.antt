@@ -6,7 +6,7 @@ use Rattle.entry_format.specs.SealedEntry.{SealedEntry}
 use Rattle.entry_order.specs.declared.event.Event.{Event}
 use Rattle.roster.specs.declared.post.Role.{Role}
 use Rattle.roster.specs.declared.post.Role.TheVariants.{Supervisor, Booth}
-use Rattle.deed_history.proofs.Deciding.{one_first}
+use Rattle.first_cause.proofs.Rows.{one_first}
 use Rattle.supervisor_core.specs.Table as supervisor
 use Rattle.booth_core.specs.Table as booth
 use Rattle.polling_world.specs.declared.left.Left.{Left}

@@ -1,5 +1,5 @@
 -- The roster of a script makes a roster that has a text, and each machine's key is at its place.
-use Rattle.std.proofs.Common.{◌≡◌, ℕ, zero, suc, ◌+◌, ◌<◌, List, [], ◌∷◌, ◌++◌, length, map, get_or}
+use Rattle.std.proofs.Common.{◌≡◌, ℕ, ◌+◌, ◌<◌, List, [], ◌∷◌, ◌++◌, length, map, get_or}
 use Rattle.std.proofs.Common.{refl, sym, ap, ◌∙◌, arith, length-append}
 use Rattle.std.specs.Prelude.{codes, slice_get, Some, count_by, if◌then◌else◌}
 use Rattle.std.specs.List.{fold}
@@ -8,13 +8,12 @@ use Rattle.std.proofs.lemmas.List.Elements.{All-map}
 use Rattle.std.proofs.lemmas.Option.{slice_get_within, get_or_from_slice_get}
 use Rattle.sha2.specs.Sha256.{sha256}
 use Rattle.sha2.proofs.Facts256.{length-sha256}
-use Rattle.lms_ots.specs.declared.kind.OtsKind.{OtsKind}
 use Rattle.lms_ots.specs.Parameters.{parameters}
 use Rattle.lms_ots.specs.Ots.{u32str}
 use Rattle.lms_ots.proofs.Candidates.{length-u32str}
 use Rattle.lms_sign.specs.Height.{lms_typecode}
 use Rattle.lms_sign.specs.Secret.{Secret, public_of}
-use Rattle.lms_sign.specs.Tree.{lms_public, node, leaf, interior}
+use Rattle.lms_sign.specs.Tree.{lms_public, node}
 use Rattle.roster.specs.declared.post.Post.{Post}
 use Rattle.roster.specs.Machines.{AreDistinct, HaveText, IsName, is_supervisor}
 use Rattle.roster.specs.RosterText.{HasKey, roster_tree}
@@ -26,12 +25,7 @@ use Rattle.election_script.specs.declared.script.Script.{Script}
 use Rattle.election_script.specs.Lawful.{IsLawful}
 use Rattle.polling_world.specs.Keys.{machine_id, key_of, post_of, roster_of}
 use Rattle.polling_world.specs.Making.{election_of}
-
--- a node of the key's tree has 32 octets
-length-node : (kind : OtsKind) (h : ℕ) (id seed : List ℕ) (n r : ℕ) → length (node kind h id seed n r) ≡ 32
-unfolding node leaf interior
-length-node kind h id seed zero r = length-sha256 _
-length-node kind h id seed (suc n) r = length-sha256 _
+use Rattle.lms_sign.proofs.Signatures.{length-node}
 
 -- a public key has 56 octets
 length-public : (s : Secret) → length s.id ≡ 16 → length (public_of s) ≡ 56
@@ -52,7 +46,7 @@ length-public s sixteen =
     )
 
 -- a machine's identifier has 16 octets
-length-id : (seed name : List ℕ) → length (machine_id seed name) ≡ 16
+pub length-id : (seed name : List ℕ) → length (machine_id seed name) ≡ 16
 unfolding machine_id
 length-id seed name =
     let hash = sha256 (codes "auditorium id" ++ seed ++ name) in

@@ -11,7 +11,6 @@ use Rattle.rule_language.specs.declared.kind.Kind.{Kind}
 use Rattle.rule_language.specs.declared.kind.Kind.TheVariants as kind
 use Rattle.rule_language.specs.declared.kind.Field.{Field}
 use Rattle.rule_language.specs.declared.kind.Field.TheVariants as field
-use Rattle.rule_language.specs.declared.kind.Sort.{Sort}
 use Rattle.rule_language.specs.declared.term.Term.{Term}
 use Rattle.rule_language.specs.declared.term.Term.TheVariants.{Of, Number}
 use Rattle.rule_language.specs.declared.form.Form.{Form}
@@ -26,6 +25,7 @@ use Rattle.rule_language.specs.Wants.{number_in}
 use Rattle.rule_language.proofs.Found.{both_true}
 use Rattle.rule_language.proofs.Passing.{field_named_word, no_number}
 use Rattle.rule_language.proofs.Numbers.{number-found}
+use Rattle.rule_language.proofs.WrittenTexts.{sorts_some}
 
 -- the first byte of a word
 abbrev pub first_of : Token → ℕ
@@ -140,12 +140,6 @@ term_back scope (Of v f) some = letter (is_letter v) refl
     letter : (b : Bool) → is_letter v ≡ b → term_of (v ∷ 46 ∷ field_word f) ≡ Of v f
     letter true l = rw (no_number v (46 ∷ field_word f) l) (rw (field_named_word f) refl)
     letter false l = let shut : false ≡ true = rw l at some in absurd (cc)
-
--- terms of one sort have a sort each
-sorts_some : (a b : Option Sort) → are_of_one_sort a b ≡ true → (is_some a ≡ true) × (is_some b ≡ true)
-sorts_some None b e = absurd (cc)
-sorts_some (Some s) None e = absurd (cc)
-sorts_some (Some s) (Some o) e = (refl, refl)
 
 -- two terms of one sort are decoded from their words
 terms_back : (scope : Scope) (t u : Term) (make : Term → Term → Form) (after : List Token)

@@ -131,7 +131,7 @@ term_spelt scope (Of v f) o is some = letter (is_letter v) refl is
         let shut : false ≡ true = rw l at none in absurd (cc)
 
 -- terms of one sort have a sort each
-sorts_some : (a b : Option Sort) → are_of_one_sort a b ≡ true → (is_some a ≡ true) × (is_some b ≡ true)
+pub sorts_some : (a b : Option Sort) → are_of_one_sort a b ≡ true → (is_some a ≡ true) × (is_some b ≡ true)
 sorts_some None b e = absurd (cc)
 sorts_some (Some s) None e = absurd (cc)
 sorts_some (Some s) (Some o) e = (refl, refl)
