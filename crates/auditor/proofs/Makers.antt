@@ -1,5 +1,6 @@
 -- The makers of entries are machines.
-use Rattle.std.proofs.Common.{◌≡◌, ◌∙◌, ℕ, suc, ◌+◌, ◌<◌, List, [], ◌∷◌, ◌++◌, length, take, get_or, map, ap, sym, subst, refl, not, inl, inr, Option, Some, None}
+use Rattle.std.proofs.Common.{◌≡◌, ◌∙◌, ℕ, suc, ◌+◌, ◌<◌, List, [], ◌∷◌, ◌++◌, length, take, get_or, map, ap, sym}
+use Rattle.std.proofs.Common.{subst, refl, not, inl, inr, Option, Some, None}
 use Rattle.std.specs.Prelude.{All, slice_get, Result, Ok, Err}
 use Rattle.std.specs.List.{Contains, filter}
 use Rattle.std.specs.List.{AllByRecursion as ByRecursion}

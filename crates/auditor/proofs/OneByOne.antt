@@ -1,5 +1,6 @@
 -- Rules judged one after another.
-use Rattle.std.proofs.Common.{◌≡◌, ◌∙◌, ℕ, zero, suc, ◌+◌, ◌<◌, List, [], ◌∷◌, ◌++◌, length, take, get_or, map, true, false, ap, sym, subst, arith, Some}
+use Rattle.std.proofs.Common.{◌≡◌, ◌∙◌, ℕ, zero, suc, ◌+◌, ◌<◌, List, [], ◌∷◌, ◌++◌, length, take, get_or, map, true}
+use Rattle.std.proofs.Common.{false, ap, sym, subst, arith, Some}
 use Rattle.std.specs.Prelude.{slice_get, Ok, Err}
 use Rattle.std.proofs.lemmas.Slice.Zip.{all_zipped_more}
 use Rattle.std.proofs.lemmas.List.{take_more, map-append}

@@ -1,5 +1,6 @@
 -- Files give at most one report.
-use Rattle.std.proofs.Common.{◌≡◌, ◌∙◌, ℕ, ◌+◌, Bool, List, [], ◌∷◌, ◌++◌, map, length, inl, inr, refl, sym, ap, subst, arith, Option, Some, None}
+use Rattle.std.proofs.Common.{◌≡◌, ◌∙◌, ℕ, ◌+◌, Bool, List, [], ◌∷◌, ◌++◌, map, length, inl, inr, refl, sym, ap, subst}
+use Rattle.std.proofs.Common.{arith, Option, Some, None}
 use Rattle.std.specs.Prelude.{not, ◌||◌, is_some, codes, Result, Ok, Err}
 use Rattle.std.specs.Fmt.{decimal}
 use Rattle.std.specs.List.{AllZip, flat_map, list_any, zip}
@@ -31,7 +32,8 @@ use Rattle.evidence.specs.Same.{Agree, SameLog, SameLogs, SameGraph}
 use Rattle.auditor.specs.declared.outcome.Outcome.{Outcome}
 use Rattle.auditor.specs.Rows.{row_of}
 use Rattle.auditor.specs.Judged.{nodes_of}
-use Rattle.auditor.specs.Outcomes.{has_some, is_clean, log_has_finding, is_broken, is_unsettled, outcome_by, outcome_of, outcome_word}
+use Rattle.auditor.specs.Outcomes.{has_some, is_clean, log_has_finding, is_broken, is_unsettled, outcome_by, outcome_of}
+use Rattle.auditor.specs.Outcomes.{outcome_word}
 use Rattle.auditor.specs.Outcomes.{graph_has_finding}
 use Rattle.auditor.specs.Report.{AuditReport, report_on}
 use Rattle.auditor.specs.ReportText.{log_lines, break_line, graph_lines, fork_lines, stray_lines, entries_line}

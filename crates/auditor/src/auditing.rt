@@ -1,5 +1,19 @@
 //! Audits: from the names of files to the report on what they say.
-ghost use Rattle.std.specs.Prelude.{◌≡◌, ◌≢◌, ◌≤◌, ◌++◌, Err, IfErr, IfOk, IfSome, Ok, Some, length, map, string_bytes};
+ghost use Rattle.std.specs.Prelude.{
+  ◌≡◌,
+  ◌≢◌,
+  ◌≤◌,
+  ◌++◌,
+  Err,
+  IfErr,
+  IfOk,
+  IfSome,
+  Ok,
+  Some,
+  length,
+  map,
+  string_bytes,
+};
 ghost use Rattle.hall_outside.specs.Files.{OnSomeFile};
 ghost use Rattle.rule_language.specs.Forms.{rule_tree};
 ghost use Rattle.rule_language.specs.Kinds.{why_word};
@@ -11,7 +25,14 @@ ghost use Rattle.auditor.specs.Report.{report_of};
 ghost use Rattle.rule_language.specs.Standard.{standard_rules};
 ghost use Rattle.auditor.specs.Sources.{source_of, source_word, max_rules, GivesRules, rule_files};
 ghost use Rattle.auditor.specs.Sources.{standard as standard_source};
-ghost use Rattle.auditor.specs.Audits.{OnFiles, WithGraph, WithLogs, WithRules, WithRoster, GivesReportIn};
+ghost use Rattle.auditor.specs.Audits.{
+  OnFiles,
+  WithGraph,
+  WithLogs,
+  WithRules,
+  WithRoster,
+  GivesReportIn,
+};
 
 use crate::judging::{Unjudged, judge_all};
 use crate::report::Report;

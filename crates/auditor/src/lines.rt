@@ -4,8 +4,21 @@ ghost use Rattle.std.specs.List.{flat_map, zip};
 ghost use Rattle.rule_engine.specs.declared.verdict.Verdict.{Verdict as VerdictOf};
 ghost use Rattle.rule_language.specs.Forms.{rule_tree};
 ghost use Rattle.auditor.specs.Rows.{HaveMakers};
-ghost use Rattle.auditor.specs.ReportText.{name_at, log_line, break_line, log_lines, stray_lines, fork_lines};
-ghost use Rattle.auditor.specs.ReportText.{graph_lines, entry_word, entry_words, verdict_line, rule_line};
+ghost use Rattle.auditor.specs.ReportText.{
+  name_at,
+  log_line,
+  break_line,
+  log_lines,
+  stray_lines,
+  fork_lines,
+};
+ghost use Rattle.auditor.specs.ReportText.{
+  graph_lines,
+  entry_word,
+  entry_words,
+  verdict_line,
+  rule_line,
+};
 ghost use Rattle.auditor.specs.inside.Places.{AreBelow, IsBelow};
 
 use entry_format::Sealed;

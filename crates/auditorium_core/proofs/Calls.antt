@@ -1,5 +1,6 @@
 -- The calls by which files are put.
-use Rattle.std.proofs.Common.{◌≡◌, ◌∙◌, ℕ, ◌+◌, ◌<◌, List, ◌∷◌, get_or, drop, length, sym, subst, ap, Bool, true, false, Option, inr}
+use Rattle.std.proofs.Common.{◌≡◌, ◌∙◌, ℕ, ◌+◌, ◌<◌, List, ◌∷◌, get_or, drop, length, sym, subst, ap, Bool, true, false}
+use Rattle.std.proofs.Common.{Option, inr}
 use Rattle.std.specs.Prelude.{Result}
 use Rattle.std.proofs.lemmas.List.{drop_more}
 use Rattle.hall_outside.specs.Writing.{Puts}

@@ -19,19 +19,22 @@ use Rattle.auditor.specs.Audits.{GivesReport}
 use Rattle.auditorium_core.specs.declared.status.Status.{Status}
 use Rattle.auditorium_core.specs.declared.status.Status.TheVariants as status
 use Rattle.demonstration.specs.Shown.{IsRefusedSo}
-use Rattle.auditorium_core.specs.Words.{Command, gaps, play, order, audit, generate, demonstrate, run, source_named, Means}
+use Rattle.auditorium_core.specs.Words.{Command, gaps, play, order, audit, generate, demonstrate, run, source_named}
+use Rattle.auditorium_core.specs.Words.{Means}
 use Rattle.auditorium_core.specs.Lines.{Answer, OrRefused}
 use Rattle.auditorium_core.specs.EntryWords.{MeansEntry}
 use Rattle.auditorium_core.specs.Gaps.{status_of, IsGapsAnswer}
 use Rattle.auditorium_core.specs.ScriptFile.{GivesScript}
 use Rattle.auditorium_core.specs.Play.{status_of_undone, IsPlayOf}
 use Rattle.auditorium_core.specs.Run.{IsRunOf}
-use Rattle.auditorium_core.specs.Demonstrated.{GivesDemonstration, demonstration_answer, IsDemonstrationAnswer, ShowsReport}
+use Rattle.auditorium_core.specs.Demonstrated.{GivesDemonstration, demonstration_answer, IsDemonstrationAnswer}
+use Rattle.auditorium_core.specs.Demonstrated.{ShowsReport}
 use Rattle.auditorium_core.specs.Order.{IsOrderAmong, IsOrderOver, IsOrderOverLogs, IsOrderUnder, IsOrderAnswer}
 use Rattle.auditorium_core.specs.Audit.{status_by, IsAuditOver}
 use Rattle.auditorium_core.specs.Answer.{IsAnswer, IsAnswerTo, Answers}
 use Rattle.auditorium_core.specs.Outcome.{Outside, GivesAnswer, IsWritten, HasDone}
-use Rattle.auditorium_core.specs.Complete.{IsCarriedOut, IsScriptFile, GiveEntries, AreAccepted, HasNoFailure, IsComplete}
+use Rattle.auditorium_core.specs.Complete.{IsCarriedOut, IsScriptFile, GiveEntries, AreAccepted, HasNoFailure}
+use Rattle.auditorium_core.specs.Complete.{IsComplete}
 use Rattle.auditorium_core.proofs.OnePlayAnswer.{PlayOne, one_script}
 use Rattle.auditorium_core.proofs.OneOrderAnswer.{OrderOne}
 use Rattle.auditorium_core.proofs.OneDemonstrationAnswer.{ShowOne, same_half}

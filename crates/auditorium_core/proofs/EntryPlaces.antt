@@ -1,5 +1,6 @@
 -- Looking for an entry among survivors.
-use Rattle.std.proofs.Common.{◌≡◌, ◌≢◌, ◌∙◌, ℕ, ◌+◌, ◌<◌, ◌≤◌, List, Option, Some, None, Bool, true, length, get_or, refl, sym, ap, subst, arith}
+use Rattle.std.proofs.Common.{◌≡◌, ◌≢◌, ◌∙◌, ℕ, ◌+◌, ◌<◌, ◌≤◌, List, Option, Some, None, Bool, true, length, get_or}
+use Rattle.std.proofs.Common.{refl, sym, ap, subst, arith}
 use Rattle.std.specs.Prelude.{slice_get, IsTrue, ◌↔◌, nat_lt}
 use Rattle.std.specs.Str.{bytes_eq}
 use Rattle.std.specs.List.{Contains}
@@ -51,7 +52,8 @@ module _ (P : SealedEntry → Type 0) (S : List SealedEntry) where
   none_at_all at past before f (k, within, is) =
       before k (omega arith) f (slice_get-get_or S k f within ∙ ap Some is)
 
-  -- of the entries before this place of which P holds, the one at the other place has the least digest, or there is none
+  -- of the entries before this place of which P holds, the one at the other place has the least digest, or there is
+  -- none
   abbrev pub LeastBefore : ℕ → Option ℕ → Type 0
   LeastBefore at None = NoneBefore at
   LeastBefore at (Some place) =

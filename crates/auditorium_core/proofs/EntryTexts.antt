@@ -1,5 +1,6 @@
 -- Words with a dot.
-use Rattle.std.proofs.Common.{◌≡◌, ◌≢◌, ℕ, ◌<◌, ◌+◌, List, [], ◌∷◌, ◌++◌, Some, None, take, drop, suc, inl, inr, refl, sym, ap, subst, ◌∙◌, ◌/◌, ◌%◌, arith, append_assoc}
+use Rattle.std.proofs.Common.{◌≡◌, ◌≢◌, ℕ, ◌<◌, ◌+◌, List, [], ◌∷◌, ◌++◌, Some, None, take, drop, suc, inl, inr, refl}
+use Rattle.std.proofs.Common.{sym, ap, subst, ◌∙◌, ◌/◌, ◌%◌, arith, append_assoc}
 use Rattle.std.specs.Prelude.{All, Bool, true, not, ◌==◌, slice_index, Option}
 use Rattle.std.specs.List.{list_all, Contains}
 use Rattle.std.specs.Fmt.{decimal}

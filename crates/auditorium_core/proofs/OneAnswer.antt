@@ -1,5 +1,6 @@
 -- Words and files have at most one answer.
-use Rattle.std.proofs.Common.{◌≡◌, ◌∙◌, ℕ, ◌<◌, ◌≤◌, ◌⊎◌, inl, inr, List, ◌++◌, [], ◌∷◌, Option, Some, None, length, get_or, ap, sym, subst, arith}
+use Rattle.std.proofs.Common.{◌≡◌, ◌∙◌, ℕ, ◌<◌, ◌≤◌, ◌⊎◌, inl, inr, List, ◌++◌, [], ◌∷◌, Option, Some, None, length}
+use Rattle.std.proofs.Common.{get_or, ap, sym, subst, arith}
 use Rattle.std.specs.Prelude.{codes, Result}
 use Rattle.std.specs.Fmt.{decimal}
 use Rattle.std.proofs.lemmas.Fmt.{decimal_injective}
@@ -25,7 +26,8 @@ use Rattle.auditor.specs.Same.{SameReport}
 use Rattle.auditor.specs.Sources.{RuleSource}
 use Rattle.auditor.specs.Audits.{GivesReport}
 use Rattle.auditorium_core.specs.Audit.{status_by, report_answer, IsAuditOf, IsAuditOver}
-use Rattle.auditorium_core.specs.Words.{Command, gaps, play, order, audit, generate, demonstrate, run, source_named, words_of}
+use Rattle.auditorium_core.specs.Words.{Command, gaps, play, order, audit, generate, demonstrate, run, source_named}
+use Rattle.auditorium_core.specs.Words.{words_of}
 use Rattle.auditorium_core.specs.Words.{files_of, AreSessions, IsStill, Means}
 use Rattle.auditorium_core.specs.Lines.{Answer, absent_answer, refused_answer}
 use Rattle.auditorium_core.specs.Gaps.{log_lines, findings_answer, IsRefusal, IsGapsAnswer}

@@ -10,7 +10,8 @@ use Rattle.auditor.specs.Report.{AuditReport}
 use Rattle.demonstration.specs.declared.shown.Demonstration.{Demonstration}
 use Rattle.demonstration.specs.Shown.{IsAudited, IsDemonstrationOf, IsRefusedSo}
 use Rattle.auditorium_core.specs.Lines.{Answer, OrRefused}
-use Rattle.auditorium_core.specs.Demonstrated.{IsHalfOf, GivesDemonstration, demonstration_answer, IsDemonstrationAnswer}
+use Rattle.auditorium_core.specs.Demonstrated.{IsHalfOf, GivesDemonstration, demonstration_answer}
+use Rattle.auditorium_core.specs.Demonstrated.{IsDemonstrationAnswer}
 use Rattle.auditorium_core.proofs.SameOr.{same_or}
 
 -- a script shows one thing or is refused in one way, and not both

@@ -24,7 +24,8 @@ use Rattle.election_script.specs.Generated.{generated}
 use Rattle.auditorium_core.specs.declared.status.Status.{Status}
 use Rattle.auditorium_core.specs.declared.status.Status.TheVariants as status
 use Rattle.auditorium_core.specs.Audit.{status_by, report_answer, IsAuditOf}
-use Rattle.auditorium_core.specs.Words.{Command, gaps, play, order, audit, generate, demonstrate, run, source_named, Means, AreGood}
+use Rattle.auditorium_core.specs.Words.{Command, gaps, play, order, audit, generate, demonstrate, run, source_named}
+use Rattle.auditorium_core.specs.Words.{Means, AreGood}
 use Rattle.auditorium_core.specs.Lines.{Answer, OrRefused, usage_answer, absent_answer, refused_answer, refusal_answer}
 use Rattle.auditorium_core.specs.Lines.{line_answer, no_entry, order_word}
 use Rattle.auditorium_core.specs.Gaps.{log_lines, findings_answer, status_of, IsRefusal, IsGapsAnswer}

@@ -5,7 +5,8 @@ use Rattle.hall_outside.specs.Files.{Files}
 use Rattle.evidence.specs.NamedFiles.{AreFiles}
 use Rattle.auditorium_core.specs.declared.status.Status.{Status}
 use Rattle.auditorium_core.specs.declared.status.Status.TheVariants as status
-use Rattle.auditorium_core.specs.Words.{Command, gaps, play, order, audit, generate, demonstrate, run, files_of, Means, AreGood}
+use Rattle.auditorium_core.specs.Words.{Command, gaps, play, order, audit, generate, demonstrate, run, files_of, Means}
+use Rattle.auditorium_core.specs.Words.{AreGood}
 use Rattle.auditorium_core.specs.Lines.{Answer, usage_answer}
 use Rattle.auditorium_core.specs.Gaps.{IsGapsAnswer}
 use Rattle.auditorium_core.specs.Made.{made_answer}

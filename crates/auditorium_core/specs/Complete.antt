@@ -18,7 +18,8 @@ use Rattle.auditor.specs.Audits.{GivesReport}
 use Rattle.auditorium_core.specs.declared.status.Status.{Status}
 use Rattle.auditorium_core.specs.declared.status.Status.TheVariants as status
 use Rattle.auditorium_core.specs.EntryWords.{MeansEntry}
-use Rattle.auditorium_core.specs.Words.{Command, gaps, play, order, audit, generate, demonstrate, run, source_named, files_of, Means}
+use Rattle.auditorium_core.specs.Words.{Command, gaps, play, order, audit, generate, demonstrate, run, source_named}
+use Rattle.auditorium_core.specs.Words.{files_of, Means}
 use Rattle.auditorium_core.specs.Lines.{Answer}
 use Rattle.auditorium_core.specs.ScriptFile.{max_script}
 use Rattle.auditorium_core.specs.Answer.{IsAnswer}
@@ -82,8 +83,8 @@ pub record IsAnsweredOver (command : Command) (files : List (Option (List ℕ)))
   pub carried_out : AreAccepted command files → IsCarriedOut how
   pub written : IsWritten answer old new
 
--- Where the words are one of these commands' and no count of faults rose in the call, the command was answered over
--- its files, which are those of the store or, where none are told, some; or memory was wanting, and nothing was written.
+-- Where the words are one of these commands' and no count of faults rose in the call, the command was answered over its
+-- files, which are those of the store or, where none are told, some; or memory was wanting, and nothing was written.
 abbrev pub IsComplete : (Command → Type 0) → List (List ℕ) → Outside → Status → Outside → Type 0
 IsComplete IsDone words old how new =
     (command : Command) → IsDone command → Means words command → HasNoFailure old new →

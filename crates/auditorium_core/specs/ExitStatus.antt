@@ -1,7 +1,8 @@
 -- The exit statuses of the process.
 use Rattle.std.specs.Prelude.{ℕ}
 use Rattle.auditorium_core.specs.declared.status.Status.{Status}
-use Rattle.auditorium_core.specs.declared.status.Status.TheVariants.{Done, Findings, Unsettled, Broken, Usage, Refused, Absent, Undone, ReadFault, WriteFault, Memory}
+use Rattle.auditorium_core.specs.declared.status.Status.TheVariants.{Done, Findings, Unsettled, Broken, Usage, Refused}
+use Rattle.auditorium_core.specs.declared.status.Status.TheVariants.{Absent, Undone, ReadFault, WriteFault, Memory}
 
 -- the exit status of each
 abbrev pub exit_status_of : Status → ℕ

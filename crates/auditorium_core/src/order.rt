@@ -1,5 +1,19 @@
 // The command `order`: how two entries stand to each other, whatever was lost.
-ghost use Rattle.std.specs.Prelude.{◌≡◌, ◌≢◌, ◌<◌, ◌↔◌, map, length, IfOk, IfErr, IfSome, IsTrue, Some, slice_get, string_bytes};
+ghost use Rattle.std.specs.Prelude.{
+  ◌≡◌,
+  ◌≢◌,
+  ◌<◌,
+  ◌↔◌,
+  map,
+  length,
+  IfOk,
+  IfErr,
+  IfSome,
+  IsTrue,
+  Some,
+  slice_get,
+  string_bytes,
+};
 ghost use Rattle.roster.specs.declared.post.Post.{Post};
 ghost use Rattle.entry_format.specs.Nodes.{node_of_sealed};
 ghost use Rattle.entry_graph.specs.EntryGraph.{IsEntryGraph};

@@ -6,7 +6,14 @@ ghost use Rattle.auditorium_core.specs.Answer.{IsAnswerTo};
 ghost use Rattle.evidence.specs.Reading.{store_seen};
 ghost use Rattle.auditorium_core.specs.Words.{play};
 ghost use Rattle.auditorium_core.specs.inside.Promise.{IsAnswered};
-ghost use Rattle.auditorium_core.specs.Play.{roster_file, log_file, machine_line, machine_lines, undone_line, SayUndone};
+ghost use Rattle.auditorium_core.specs.Play.{
+  roster_file,
+  log_file,
+  machine_line,
+  machine_lines,
+  undone_line,
+  SayUndone,
+};
 ghost use Rattle.auditorium_core.specs.Play.{IsPlayOf, play_files};
 
 use crate::answer::{Answer, Fault, OutputFile};

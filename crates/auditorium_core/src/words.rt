@@ -1,5 +1,17 @@
 // The words of the command line.
-ghost use Rattle.std.specs.Prelude.{◌≡◌, ◌≢◌, ◌↔◌, ℕ, List, map, string_bytes, IsTrue, IfSome, IfNone, All};
+ghost use Rattle.std.specs.Prelude.{
+  ◌≡◌,
+  ◌≢◌,
+  ◌↔◌,
+  ℕ,
+  List,
+  map,
+  string_bytes,
+  IsTrue,
+  IfSome,
+  IfNone,
+  All,
+};
 ghost use Rattle.std.specs.Fmt.{decimal};
 ghost use Rattle.auditorium_core.specs.Words.{IsWord, AreOrdered, AreLogs, AreSessions};
 ghost use Rattle.auditorium_core.specs.Words.{Means, gaps, play, order, audit, generate, run};

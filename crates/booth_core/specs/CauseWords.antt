@@ -2,7 +2,8 @@
 use Rattle.std.specs.Prelude.{ℕ, List, codes}
 use Rattle.booth_core.specs.declared.state.BoothNot.{BoothNot}
 use Rattle.booth_core.specs.declared.state.BoothNot.TheVariants.{NotAuthorised, Overridden, Closed, NotActive}
-use Rattle.booth_core.specs.declared.state.BoothNot.TheVariants.{AlreadyActive, NotCommitted, AlreadyCommitted, Ended, LogNotWhole}
+use Rattle.booth_core.specs.declared.state.BoothNot.TheVariants.{AlreadyActive, NotCommitted, AlreadyCommitted, Ended}
+use Rattle.booth_core.specs.declared.state.BoothNot.TheVariants.{LogNotWhole}
 use Rattle.booth_core.specs.declared.state.BoothNot.TheVariants.{CastForced}
 
 -- the word of a cause against a booth's deed

@@ -1,5 +1,6 @@
 -- A script and a session show one thing, or are refused in one way.
-use Rattle.std.proofs.Common.{◌≡◌, ◌∙◌, ◌⊎◌, ℕ, ◌+◌, ◌<◌, Bool, cond, List, [], ◌∷◌, map, length, refl, sym, ap, subst, Option, Some, inl, inr}
+use Rattle.std.proofs.Common.{◌≡◌, ◌∙◌, ◌⊎◌, ℕ, ◌+◌, ◌<◌, Bool, cond, List, [], ◌∷◌, map, length, refl, sym, ap, subst}
+use Rattle.std.proofs.Common.{Option, Some, inl, inr}
 use Rattle.std.specs.Prelude.{codes, count_by, take, Result, Ok, Err}
 use Rattle.std.specs.List.{AllZip, fold}
 use Rattle.std.proofs.lemmas.Bool.{false≢true, cases_order}
@@ -39,7 +40,8 @@ use Rattle.auditor.specs.Sources.{standard}
 use Rattle.auditor.proofs.OneVerdict.{SameVerdict, verdicts_agree}
 use Rattle.demonstration.specs.declared.shown.Demonstration.{Demonstration}
 use Rattle.demonstration.specs.Kept.{ends_session, IsLastEnd, HasNoEnd, IsKeptOf}
-use Rattle.demonstration.specs.Shown.{is_kept, log_name, GivesAudit, IsAudited, IsCounted, IsDemonstrationOf, IsRefusedSo}
+use Rattle.demonstration.specs.Shown.{is_kept, log_name, GivesAudit, IsAudited, IsCounted, IsDemonstrationOf}
+use Rattle.demonstration.specs.Shown.{IsRefusedSo}
 
 module _ (session : ℕ) (events : List (Event SealedEntry)) where
   -- the last event that ends the session stands at one place

@@ -1,5 +1,17 @@
 //! What a demonstration shows.
-ghost use Rattle.std.specs.Prelude.{◌≡◌, ◌≢◌, ◌<◌, ◌≤◌, ◌∷◌, [], IfErr, IfOk, IfSome, count_by, length};
+ghost use Rattle.std.specs.Prelude.{
+  ◌≡◌,
+  ◌≢◌,
+  ◌<◌,
+  ◌≤◌,
+  ◌∷◌,
+  [],
+  IfErr,
+  IfOk,
+  IfSome,
+  count_by,
+  length,
+};
 ghost use Rattle.std.specs.Prelude.{Err, Ok, Some, slice_get};
 ghost use Rattle.canonical_sexp.specs.Text.{text_of};
 ghost use Rattle.entry_order.specs.World.{history, sent_in};

@@ -1,5 +1,6 @@
 -- The script of a day is within its limits.
-use Rattle.std.proofs.Common.{◌≡◌, ◌≢◌, inl, inr, ℕ, zero, suc, ◌+◌, ◌-◌, ◌*◌, ◌%◌, ◌<◌, ◌≤◌, ◌==◌, Bool, true, false, cond}
+use Rattle.std.proofs.Common.{◌≡◌, ◌≢◌, inl, inr, ℕ, zero, suc, ◌+◌, ◌-◌, ◌*◌, ◌%◌, ◌<◌, ◌≤◌, ◌==◌, Bool, true, false}
+use Rattle.std.proofs.Common.{cond}
 use Rattle.std.proofs.Common.{List, [], ◌∷◌, ◌++◌, length, map, reverse, replicate, get_or}
 use Rattle.std.proofs.Common.{refl, sym, ◌∙◌, ap, arith, subst, add-zero}
 use Rattle.std.proofs.lemmas.List.{length-append, length-map, reverse-append}

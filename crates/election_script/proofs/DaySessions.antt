@@ -1,6 +1,7 @@
 -- One session more of a day.
 use Rattle.std.proofs.Common.{◌≡◌, ℕ, ◌+◌, ◌-◌, ◌<◌, ◌≤◌, ◌==◌, Bool, true, false, cond, List, [], ◌∷◌, ◌++◌}
-use Rattle.std.proofs.Common.{length, filter, map, reverse, replicate, get_or, take, drop, suc, refl, sym, ◌∙◌, ap, arith}
+use Rattle.std.proofs.Common.{length, filter, map, reverse, replicate, get_or, take, drop, suc, refl, sym, ◌∙◌, ap}
+use Rattle.std.proofs.Common.{arith}
 use Rattle.std.proofs.lemmas.List.{append_assoc, append-nil, map-append, reverse-append, replicate-append-replicate}
 use Rattle.std.proofs.lemmas.List.{length-append, take-append-drop, drop_more}
 use Rattle.std.proofs.lemmas.List.Folds.{concat-append}

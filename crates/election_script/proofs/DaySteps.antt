@@ -9,7 +9,8 @@ use Rattle.std.specs.List.{flat_map}
 use Rattle.entry_order.specs.declared.step.Step.{Step}
 use Rattle.entry_order.specs.declared.step.Step.TheVariants.{Act, Hear}
 use Rattle.election_script.specs.Lawful.{IsStep}
-use Rattle.election_script.specs.Generated.{sessions, supervisor, booths, booth_of, deeds_of, first_of, numbers_of, hears}
+use Rattle.election_script.specs.Generated.{sessions, supervisor, booths, booth_of, deeds_of, first_of, numbers_of}
+use Rattle.election_script.specs.Generated.{hears}
 use Rattle.election_script.specs.Generated.{supervisor_steps, others, session_steps, day_steps, machines_of}
 use Rattle.election_script.proofs.DayCounts.{deeds_few, first_few}
 use Rattle.election_script.proofs.DayLawful.{all_range, all_sessions, all_pieces, all_back, pieces_few}
@@ -98,7 +99,8 @@ session_few i =
     let long : length (w ++ x ++ y ++ z) ≡ length w + length x + length y + length z =
     length-append (w ++ x ++ y) z
     ∙ ap (λ k. k + length z) (length-append (w ++ x) y ∙ ap (λ k. k + length y) (length-append w x)) in
-    let count : length (numbers_of i) ≡ length (deeds_of i) = length-range_with_len (first_of i) (length (deeds_of i)) in
+    let count : length (numbers_of i) ≡ length (deeds_of i) = length-range_with_len (first_of i)
+    (length (deeds_of i)) in
     let x_long : length x ≡ length (deeds_of i) = length-replicate (length (deeds_of i)) (Act (booth_of i)) in
     let y_long : length y ≡ length (deeds_of i) =
     length-map (reverse (numbers_of i)) (λ number. Hear supervisor (booth_of i) number)

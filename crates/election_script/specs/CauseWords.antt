@@ -1,8 +1,10 @@
 -- The words of causes in lines of output.
 use Rattle.std.specs.Prelude.{ℕ, List, codes}
 use Rattle.election_script.specs.declared.faults.ScriptWhy.{ScriptWhy}
-use Rattle.election_script.specs.declared.faults.ScriptWhy.TheVariants.{NotPlain, UnknownWord, OutOfOrder, WrongCount, BadNumber, BadHex}
-use Rattle.election_script.specs.declared.faults.ScriptWhy.TheVariants.{BadName, SameName, UnknownName, WrongRole, OutOfRange, NotOneSupervisor}
+use Rattle.election_script.specs.declared.faults.ScriptWhy.TheVariants.{NotPlain, UnknownWord, OutOfOrder, WrongCount}
+use Rattle.election_script.specs.declared.faults.ScriptWhy.TheVariants.{BadNumber, BadHex}
+use Rattle.election_script.specs.declared.faults.ScriptWhy.TheVariants.{BadName, SameName, UnknownName, WrongRole}
+use Rattle.election_script.specs.declared.faults.ScriptWhy.TheVariants.{OutOfRange, NotOneSupervisor}
 
 -- the word of a cause against a script's line
 abbrev pub script_why_word : ScriptWhy → List ℕ

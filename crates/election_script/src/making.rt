@@ -1,11 +1,40 @@
 //! The script of a day of sessions, for demonstrations and measurements.
-ghost use Rattle.std.specs.Prelude.{◌≡◌, ◌≤◌, ◌+◌, ◌-◌, ◌++◌, length, replicate, reverse, IfOk, OnOk};
+ghost use Rattle.std.specs.Prelude.{
+  ◌≡◌,
+  ◌≤◌,
+  ◌+◌,
+  ◌-◌,
+  ◌++◌,
+  length,
+  replicate,
+  reverse,
+  IfOk,
+  OnOk,
+};
 ghost use Rattle.std.specs.List.{flat_map, range_with_len};
 ghost use Rattle.entry_order.specs.declared.step.Step.TheVariants.{Act};
 ghost use Rattle.election_script.specs.Lawful.{IsLawful};
 ghost use Rattle.roster.specs.declared.post.Role.TheVariants.{Booth};
-ghost use Rattle.election_script.specs.Generated.{supervisor, booth_of, ballot_of, deeds_of, supervisor_actions, actions_of, first_of, hears, supervisor_steps};
-ghost use Rattle.election_script.specs.Generated.{others, session_steps, sessions, day_steps, machines_of, count_actions, generated};
+ghost use Rattle.election_script.specs.Generated.{
+  supervisor,
+  booth_of,
+  ballot_of,
+  deeds_of,
+  supervisor_actions,
+  actions_of,
+  first_of,
+  hears,
+  supervisor_steps,
+};
+ghost use Rattle.election_script.specs.Generated.{
+  others,
+  session_steps,
+  sessions,
+  day_steps,
+  machines_of,
+  count_actions,
+  generated,
+};
 
 use crate::script::{Cast0, Script};
 use crate::writing::Memory;

@@ -1,5 +1,6 @@
 -- Members of a row that are taken one after another.
-use Rattle.std.proofs.Common.{◌≡◌, ◌∙◌, inl, inr, refl, ap, sym, subst, arith, List, [], ◌∷◌, ◌++◌, ℕ, map, All, Option, Some, None}
+use Rattle.std.proofs.Common.{◌≡◌, ◌∙◌, inl, inr, refl, ap, sym, subst, arith, List, [], ◌∷◌, ◌++◌, ℕ, map, All, Option}
+use Rattle.std.proofs.Common.{Some, None}
 use Rattle.std.specs.Fmt.{decimal}
 use Rattle.std.specs.Prelude.{length, codes, ◌<◌, ◌^◌, ◌==◌, ◌≢◌, Bool, true, false, if◌then◌else◌}
 use Rattle.std.proofs.lemmas.List.Elements.{All-head, All-tail}

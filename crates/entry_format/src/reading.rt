@@ -10,7 +10,14 @@ ghost use Rattle.canonical_sexp.specs.declared.sexp.Sexp.TheVariants.{Atom};
 ghost use Rattle.entry_order.specs.Ascending.{IsAscending};
 ghost use Rattle.entry_format.specs.EntryText.{IsVersion, IsDigest, IsEntry, body_tree};
 ghost use Rattle.entry_format.specs.declared.entry.Entry.{Entry};
-ghost use Rattle.entry_format.specs.inside.Parts.{Takes, AreNames, IsHead, head_then, IsBody, IsSigned};
+ghost use Rattle.entry_format.specs.inside.Parts.{
+  Takes,
+  AreNames,
+  IsHead,
+  head_then,
+  IsBody,
+  IsSigned,
+};
 ghost use Rattle.entry_format.specs.declared.reading.Head.{Head};
 ghost use Rattle.std.specs.Cmp.Lexicographic.{slice_cmp};
 ghost use Rattle.std.specs.Ordering.{nat_cmp};

@@ -1,5 +1,6 @@
 -- Entries give at most one answer: one graph, up to the order of a survivor's parents, or one refusal.
-use Rattle.std.proofs.Common.{◌≡◌, ◌∙◌, ◌⊎◌, ℕ, ◌<◌, zero, suc, Bool, true, false, List, [], ◌∷◌, ◌++◌, Some, None, length, inl, inr, refl, sym, ap, subst, arith}
+use Rattle.std.proofs.Common.{◌≡◌, ◌∙◌, ◌⊎◌, ℕ, ◌<◌, zero, suc, Bool, true, false, List, [], ◌∷◌, ◌++◌, Some, None}
+use Rattle.std.proofs.Common.{length, inl, inr, refl, sym, ap, subst, arith}
 use Rattle.std.specs.Prelude.{Result, Ok, Err, slice_get, codes, if◌then◌else◌}
 use Rattle.std.specs.List.{Contains, AllPairs, AllByRecursion}
 use Rattle.std.specs.List.Sorted.{IsStrictlySortedBy}

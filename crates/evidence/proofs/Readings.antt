@@ -28,14 +28,16 @@ refusal_is_no_read_fault refusal fault (inl e) is =
 refusal_is_no_read_fault refusal fault (inr e) is = let no : Memory ≡ ReadFault = sym e ∙ is in cc
 
 -- the fault of a refusal says that the file isn't there exactly where the refusal does
-absence_of : (refusal : Refusal) (fault : AuditFault) → refusal_of fault ≡ Some refusal → IsAbsent fault → IsAbsence refusal
+absence_of : (refusal : Refusal) (fault : AuditFault) → refusal_of fault ≡ Some refusal → IsAbsent fault →
+    IsAbsence refusal
 absence_of (absent file) fault e is = tt
 absence_of (refused file place cause) (Absent name) e is = cc
 absence_of (refused file place cause) (Refused name at why) e is = absurd is
 absence_of (refused file place cause) ReadFault e is = absurd is
 absence_of (refused file place cause) Memory e is = absurd is
 
-absent_from : (refusal : Refusal) (fault : AuditFault) → refusal_of fault ≡ Some refusal → IsAbsence refusal → IsAbsent fault
+absent_from : (refusal : Refusal) (fault : AuditFault) → refusal_of fault ≡ Some refusal → IsAbsence refusal →
+    IsAbsent fault
 absent_from refusal (Absent name) e is = tt
 absent_from (absent file) (Refused name at why) e is = cc
 absent_from (absent file) ReadFault e is = cc
@@ -94,7 +96,8 @@ module _ {T U : Type 0} (value : T → U) (IsRight : Option Files → Result U R
   }
 
   -- memory is wanting
-  pub memory_reading : (fault : AuditFault) → fault ≡ Memory → IsLeft old new → IsReadFrom value IsRight old (Err fault) new
+  pub memory_reading : (fault : AuditFault) → fault ≡ Memory → IsLeft old new →
+      IsReadFrom value IsRight old (Err fault) new
   memory_reading fault is left = record {
     ok = tt;
     err = subst (λ f. IfSome (refusal_of f) (λ r. IsRight old.files (Err r))) (sym is) tt;

@@ -1,5 +1,6 @@
 -- Reading a file piece by piece, where files are told.
-use Rattle.std.proofs.Common.{◌≡◌, ◌∙◌, ℕ, ◌+◌, ◌<◌, ◌≤◌, List, [], ◌++◌, length, take, drop, Option, Some, None, refl, ap, sym, subst, arith, length-append}
+use Rattle.std.proofs.Common.{◌≡◌, ◌∙◌, ℕ, ◌+◌, ◌<◌, ◌≤◌, List, [], ◌++◌, length, take, drop, Option, Some, None, refl}
+use Rattle.std.proofs.Common.{ap, sym, subst, arith, length-append}
 use Rattle.std.specs.Prelude.{IsSomeAnd}
 use Rattle.std.proofs.lemmas.List.{length-take, take_all, take_at}
 use Rattle.std.proofs.Math.Seq.{take-add}

@@ -1,5 +1,6 @@
 -- What a store in memory is seen as, and which of its calls fail.
-use Rattle.std.specs.Prelude.{◌≡◌, ℕ, ◌-◌, ◌↔◌, Bool, false, if◌then◌else◌, List, [], ◌∷◌, length, min, Option, Some, None, IsSomeAnd, Contains, Result, IsErr, IfOk, is_ok}
+use Rattle.std.specs.Prelude.{◌≡◌, ℕ, ◌-◌, ◌↔◌, Bool, false, if◌then◌else◌, List, [], ◌∷◌, length, min, Option, Some}
+use Rattle.std.specs.Prelude.{None, IsSomeAnd, Contains, Result, IsErr, IfOk, is_ok}
 use Rattle.std.specs.Str.{bytes_eq}
 use Rattle.hall_outside.specs.declared.stores.Failed.{Failed}
 use Rattle.hall_outside.specs.declared.stores.Taken.{Taken}
@@ -12,8 +13,8 @@ abbrev pub content_of : List (List ℕ × List ℕ) → List ℕ → Option (Lis
 content_of [] name = None
 content_of (file ∷ files) name = if bytes_eq file.0 name then Some file.1 else content_of files name
 
--- the files, the numbers of the calls that are to fail, the most bytes that a read gives where that is bounded, how many
--- calls there were, and how many failed
+-- the files, the numbers of the calls that are to fail, the most bytes that a read gives where that is bounded, how
+-- many calls there were, and how many failed
 pub record StoreState : Type 0 where
   pub files : List (List ℕ × List ℕ)
   pub failing_reads : List ℕ

@@ -1,5 +1,6 @@
 -- What `read_file` answers.
-use Rattle.std.specs.Prelude.{◌≡◌, ℕ, ◌+◌, ◌<◌, ◌≤◌, ◌⊎◌, List, length, Option, Some, None, IsSomeAnd, Result, Ok, Err, ⊤}
+use Rattle.std.specs.Prelude.{◌≡◌, ℕ, ◌+◌, ◌<◌, ◌≤◌, ◌⊎◌, List, length, Option, Some, None, IsSomeAnd, Result, Ok, Err}
+use Rattle.std.specs.Prelude.{⊤}
 use Rattle.hall_outside.specs.declared.stores.Failed.{Failed}
 use Rattle.hall_outside.specs.declared.stores.Taken.{Taken}
 use Rattle.hall_outside.specs.declared.stores.Taken.TheVariants as taken

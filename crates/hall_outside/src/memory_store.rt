@@ -1,5 +1,19 @@
 // A store in memory.
-ghost use Rattle.std.specs.Prelude.{◌≡◌, ◌<◌, ◌≤◌, [], length, IfSome, IfNone, OnOk, OnErr, IsSome, Some, None, option_copied};
+ghost use Rattle.std.specs.Prelude.{
+  ◌≡◌,
+  ◌<◌,
+  ◌≤◌,
+  [],
+  length,
+  IfSome,
+  IfNone,
+  OnOk,
+  OnErr,
+  IsSome,
+  Some,
+  None,
+  option_copied,
+};
 ghost use Rattle.hall_outside.specs.Files.{file_set};
 ghost use Rattle.hall_outside.specs.Reading.{IsTaken};
 ghost use Rattle.hall_outside.specs.Writing.{file_appended};

@@ -1,5 +1,19 @@
 // Sinks of bytes.
-ghost use Rattle.std.specs.Prelude.{◌≡◌, ◌<◌, ℕ, List, length, take, Option, Result, is_ok, IfOk, OnOk, OnErr, IsErr};
+ghost use Rattle.std.specs.Prelude.{
+  ◌≡◌,
+  ◌<◌,
+  ℕ,
+  List,
+  length,
+  take,
+  Option,
+  Result,
+  is_ok,
+  IfOk,
+  OnOk,
+  OnErr,
+  IsErr,
+};
 ghost use Rattle.hall_outside.specs.Counts.{HasCause};
 ghost use Rattle.hall_outside.specs.Writing.{IsCountOf, appended, AppendsPrefix, OffersAll};
 

@@ -1,5 +1,22 @@
 // Files by their names, and putting a whole file.
-ghost use Rattle.std.specs.Prelude.{◌≡◌, ◌<◌, ℕ, List, [], length, take, Option, Bool, Result, is_ok, IfOk, OnOk, OnErr, IsErr, IsSome};
+ghost use Rattle.std.specs.Prelude.{
+  ◌≡◌,
+  ◌<◌,
+  ℕ,
+  List,
+  [],
+  length,
+  take,
+  Option,
+  Bool,
+  Result,
+  is_ok,
+  IfOk,
+  OnOk,
+  OnErr,
+  IsErr,
+  IsSome,
+};
 ghost use Rattle.hall_outside.specs.Counts.{HasCause};
 ghost use Rattle.hall_outside.specs.Files.{Files, OnFile, with_file, SetsPrefix};
 ghost use Rattle.hall_outside.specs.Reading.{Answered, IsTaken, counted};

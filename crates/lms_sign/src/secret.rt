@@ -1,5 +1,18 @@
 //! Secret keys.
-ghost use Rattle.std.specs.Prelude.{◌≡◌, ◌==◌, ◌↔◌, ◌+◌, ◌^◌, ◌<◌, ◌≤◌, IfOk, OnOk, OnErr, IsErrOf, length};
+ghost use Rattle.std.specs.Prelude.{
+  ◌≡◌,
+  ◌==◌,
+  ◌↔◌,
+  ◌+◌,
+  ◌^◌,
+  ◌<◌,
+  ◌≤◌,
+  IfOk,
+  OnOk,
+  OnErr,
+  IsErrOf,
+  length,
+};
 ghost use Rattle.lms_sign.specs.Height.{IsHeight};
 ghost use Rattle.lms_sign.specs.Secret.{public_of, signed_by};
 ghost use Rattle.lms_sign.specs.Signs.{Signs, index_in, lms_signature_len};

@@ -1,5 +1,6 @@
 -- What is seen of kept records is so of their events.
-use Rattle.std.proofs.Common.{◌≡◌, ◌≢◌, ◌∙◌, ℕ, ◌+◌, ◌<◌, ◌≤◌, Bool, true, false, max, List, [], ◌∷◌, ◌++◌, map, length, take}
+use Rattle.std.proofs.Common.{◌≡◌, ◌≢◌, ◌∙◌, ℕ, ◌+◌, ◌<◌, ◌≤◌, Bool, true, false, max, List, [], ◌∷◌, ◌++◌, map, length}
+use Rattle.std.proofs.Common.{take}
 use Rattle.std.proofs.Common.{refl, ap, sym, subst, arith, append_assoc, drop, Some, zero, suc}
 use Rattle.std.specs.Prelude.{◌||◌, ◌↔◌, not, IsTrue, get_or, if◌then◌else◌}
 use Rattle.std.specs.List.{All, Contains, filter}

@@ -1,5 +1,6 @@
 -- What has been read of a log: a text more, and bytes more.
-use Rattle.std.proofs.Common.{◌≡◌, ◌≢◌, ◌∙◌, ℕ, ◌+◌, ◌^◌, ◌<◌, ◌≤◌, Bool, true, false, nat_lt, List, [], ◌++◌, length, take, drop, Result}
+use Rattle.std.proofs.Common.{◌≡◌, ◌≢◌, ◌∙◌, ℕ, ◌+◌, ◌^◌, ◌<◌, ◌≤◌, Bool, true, false, nat_lt, List, [], ◌++◌, length}
+use Rattle.std.proofs.Common.{take, drop, Result}
 use Rattle.std.proofs.Common.{refl, ap, sym, subst, arith, append_assoc, length-append, append-nil, inl, inr, Option}
 use Rattle.std.specs.Prelude.{slice_index}
 use Rattle.std.specs.List.{flat_map}

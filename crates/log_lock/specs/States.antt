@@ -1,5 +1,5 @@
--- What each pass of a lock knows, the rule that ties the passes to the value, and the five kinds of step that change what a pass knows.
--- The queue of one place holds the value, or it is empty and exactly one pass has the turn.
+-- What each pass of a lock knows, the rule that ties the passes to the value, and the five kinds of step that change
+-- what a pass knows. The queue of one place holds the value, or it is empty and exactly one pass has the turn.
 use Rattle.std.specs.Prelude.{◌≡◌, ℕ, ◌-◌, ◌<◌, true, false, List, [], ◌∷◌, ◌++◌, length, All, ◌⊎◌}
 use mathlib.Core.Option.{some}
 use mathlib.Core.List.{IsPrefix}
@@ -10,21 +10,48 @@ use Rattle.log_lock.specs.Ticks.{ticks_of, ticks_since}
 
 -- what is left of a pass that was brought together with the other
 abbrev pub spent : {B : Type 0} → PassState B
-spent = record { alive = false; number = 0; both = false; turn = false; brand = []; bound = []; seen = []; mine = []; other_brand = []; other_seen = []; other_mine = [] }
+spent = record {
+  alive = false;
+  number = 0;
+  both = false;
+  turn = false;
+  brand = [];
+  bound = [];
+  seen = [];
+  mine = [];
+  other_brand = [];
+  other_seen = [];
+  other_mine = [];
+}
 
 -- the one pass of a lock whose value is yet to come: it stands for both numbers and has the turn
 abbrev pub whole : {B : Type 0} → PassState B
-whole = record { alive = true; number = 0; both = true; turn = true; brand = []; bound = []; seen = []; mine = []; other_brand = []; other_seen = []; other_mine = [] }
+whole = record {
+  alive = true;
+  number = 0;
+  both = true;
+  turn = true;
+  brand = [];
+  bound = [];
+  seen = [];
+  mine = [];
+  other_brand = [];
+  other_seen = [];
+  other_mine = [];
+}
 
--- what the rule says of one pass, which sits at `seat`: it knows a prefix of the story and its own ticks; with the turn it knows the whole story, and the queue is empty; where it stands for both numbers it knows the other's too
-pub record FitsState {V B : Type 0} (seats : ℕ → ℕ) (holder : ℕ) (brand : List B) (story : List Tick) (items : List V) (seat : ℕ) (v : PassState B) : Type 0 where
+-- what the rule says of one pass, which sits at `seat`: it knows a prefix of the story and its own ticks; with the turn
+-- it knows the whole story, and the queue is empty; where it stands for both numbers it knows the other's too
+pub record FitsState {V B : Type 0} (seats : ℕ → ℕ) (holder : ℕ) (brand : List B) (story : List Tick) (items : List V)
+    (seat : ℕ) (v : PassState B) : Type 0 where
   pub number : v.number < 2
   pub sits : seat ≡ seats v.number
   pub brand_is : v.brand ≡ brand
   pub seen : IsPrefix v.seen story
   pub mine : ticks_of v.number story ≡ v.mine
   pub turn : v.turn ≡ true → (seat ≡ holder) × (v.bound ≡ story) × (items ≡ [])
-  pub both : v.both ≡ true → (seat ≡ seats (1 - v.number)) × (v.other_brand ≡ brand) × IsPrefix v.other_seen story × (ticks_of (1 - v.number) story ≡ v.other_mine)
+  pub both : v.both ≡ true → (seat ≡ seats (1 - v.number)) × (v.other_brand ≡ brand) × IsPrefix v.other_seen story
+      × (ticks_of (1 - v.number) story ≡ v.other_mine)
 
 -- the step "second pass made": what the first keeps, and what the second gets
 abbrev pub first_pass : {B : Type 0} → PassState B → PassState B
@@ -49,17 +76,21 @@ module _ {V B : Type 0} (brand_of : V → List B) (story_of : V → List Tick) w
     pub brand : List B
     pub story : List Tick
     pub passes : All (λ (t : Tick). t.pass < 2) story
-    pub value : IsIn brand story items ⊎ ((items ≡ []) × ((v : PassState B) × (get_elem? views holder ≡ some v) × (v.turn ≡ true) × (v.alive ≡ true)))
-    pub each : (seat : ℕ) (v : PassState B) → get_elem? views seat ≡ some v → v.alive ≡ true → FitsState seats holder brand story items seat v
+    pub value : IsIn brand story items ⊎ ((items ≡ []) × ((v : PassState B) × (get_elem? views holder ≡ some v) ×
+        (v.turn ≡ true) × (v.alive ≡ true)))
+    pub each : (seat : ℕ) (v : PassState B) → get_elem? views seat ≡ some v → v.alive ≡ true →
+        FitsState seats holder brand story items seat v
 
-  -- the step "turn taken": the pass got the value, and is bound to its story. (Where the queue was empty, the step "no value", no view changes)
+  -- the step "turn taken": the pass got the value, and is bound to its story. (Where the queue was empty, the step "no
+  -- value", no view changes)
   pub record HasTurn (v : PassState B) (x : V) (w : PassState B) : Type 0 where
     pub after : w ≡ record v { turn = true; bound = story_of x }
     pub brand_is : brand_of x ≡ v.brand
     pub seen : IsPrefix v.seen (story_of x)
     pub mine : ticks_of v.number (story_of x) ≡ v.mine
     pub passes : All (λ (t : Tick). t.pass < 2) (story_of x)
-    pub both : v.both ≡ true → (brand_of x ≡ v.other_brand) × IsPrefix v.other_seen (story_of x) × (ticks_of (1 - v.number) (story_of x) ≡ v.other_mine)
+    pub both : v.both ≡ true → (brand_of x ≡ v.other_brand) × IsPrefix v.other_seen (story_of x)
+        × (ticks_of (1 - v.number) (story_of x) ≡ v.other_mine)
 
   -- the step "turn given up": the value goes back, and the pass has seen its story as it is now
   abbrev pub GivesUp : PassState B → V → PassState B → Type 0

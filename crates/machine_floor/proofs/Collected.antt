@@ -326,7 +326,8 @@ module _ (script : Script) (links : List (List LinkView)) (ss : List StationStat
         let s = element ss a (omega (arith, rows)) in
         let long = outs_long a s.0 s.1 in
         let h = ends_out links s.0 (made a s.0 s.1).ends (there a s.0 s.1) b l d (omega (arith, rows)) in
-        subst (λ (o : List (OutView SealedEntry)). IsOutOf (link_at links a b l) (get_or o b d)) (sym (outs_at a s.0 s.1))
+        subst (λ (o : List (OutView SealedEntry)). IsOutOf (link_at links a b l) (get_or o b d))
+        (sym (outs_at a s.0 s.1))
         (subst (λ n. IsOutOf (link_at links n b l) (get_or s.0.outs b d)) (number_is a s.0 s.1) h);
     takes = λ a b l e la lb.
         let t = element ss b (omega (arith, rows)) in
@@ -646,7 +647,8 @@ module _ (script : Script) (links : List (List LinkView)) (ss : List StationStat
       };
       makers = λ place m e stands c.
           let s = get-map_from (λ (s : StationState). s.machine) ss place m stands in
-          let low = (there place s.0 s.1).makers e (subst (λ (u : MachineState). Contains u.events (Got e)) (sym s.2) c) in
+          let low = (there place s.0 s.1).makers e (subst (λ (u : MachineState). Contains u.events (Got e))
+          (sym s.2) c) in
           let l = outs_long place s.0 s.1 in omega (arith, count);
       on_way = subst (λ n. AreOnWay n waits) (sym count) rests.on_way;
       balanced = balanced;

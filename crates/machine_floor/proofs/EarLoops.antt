@@ -1,6 +1,7 @@
 -- One look at a link after another.
 use mir.Val.{bool_byte}
-use Rattle.std.proofs.Common.{suc, cond, ◌+◌, ◌≤◌, ◌≡◌, ℕ, Bool, true, false, List, [], ◌∷◌, ◌++◌, length, sym, ap, ◌∙◌, subst}
+use Rattle.std.proofs.Common.{suc, cond, ◌+◌, ◌≤◌, ◌≡◌, ℕ, Bool, true, false, List, [], ◌∷◌, ◌++◌, length, sym, ap, ◌∙◌}
+use Rattle.std.proofs.Common.{subst}
 use Rattle.std.proofs.Common.{refl}
 use Rattle.std.proofs.Common.{arith, Option, Some, None, append_assoc}
 use Rattle.std.specs.Prelude.{All}

@@ -43,7 +43,8 @@ parts_push done machines machines_now outs outs_now inns inns_now losses losses_
     m_is o_is i_is l_is t_is b_is machines_is outs_is inns_is losses_is by_is =
     record {
       all = All-push IsStation done s parts.all is;
-      machines_are = machines_is ∙ ap (λ x. machines ++ x ∷ []) m_is ∙ ap (λ xs. xs ++ s.machine ∷ []) parts.machines_are
+      machines_are = machines_is ∙ ap (λ x. machines ++ x ∷ []) m_is
+          ∙ ap (λ xs. xs ++ s.machine ∷ []) parts.machines_are
           ∙ sym (map-append (λ (s : StationState). s.machine) done (s ∷ []));
       outs_are = outs_is ∙ ap (λ x. outs ++ x ∷ []) o_is ∙ ap (λ xs. xs ++ s.outs ∷ []) parts.outs_are
           ∙ sym (map-append (λ (s : StationState). s.outs) done (s ∷ []));
@@ -77,7 +78,8 @@ module _ (script : Script) (links : List (List LinkView)) (ss : List StationStat
       (subst (λ o. AreRests (length links) o (map (λ (s : StationState). s.inns) ss) waits) parts.outs_are
       (subst (λ i. AreRests (length links) outs i waits) parts.inns_are rests)) in
       subst (λ m. AreGathered script posts m waits losses by) (sym parts.machines_are)
-      (subst (λ l. AreGathered script posts (map (λ (s : StationState). s.machine) ss) waits l by) (sym parts.losses_are)
+      (subst (λ l. AreGathered script posts (map (λ (s : StationState). s.machine) ss) waits l by)
+      (sym parts.losses_are)
       (subst (λ b. AreGathered script posts (map (λ (s : StationState). s.machine) ss) waits
       (flat_map (λ (s : StationState). s.losses) ss) b) (sym parts.by_are)
       (collected script links ss parts.all new waits here posts is)))

@@ -88,7 +88,8 @@ rest_added from to put taken rest before after differs by in_order is =
           ap (λ (l : List Waiting). waits_of l a b) is ∙ waits_both before (map (waiting to) rest) a b
           ∙ ap (λ (l : List SealedEntry). waits_of before a b ++ l) (waits_elsewhere from to rest a b mine other)
           ∙ append-nil (waits_of before a b);
-      on_way = λ count lf lt on. subst (AreOnWay count) (sym is) (added_on_way count from to rest before mine lf lt differs on);
+      on_way = λ count lf lt on. subst (AreOnWay count) (sym is)
+          (added_on_way count from to rest before mine lf lt differs on);
     }
 
 -- from a machine to itself nothing waits

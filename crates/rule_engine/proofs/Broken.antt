@@ -1,5 +1,6 @@
 -- The first rows at which a rule is broken.
-use Rattle.std.proofs.Common.{◌≡◌, ◌∙◌, ap, sym, refl, ℕ, zero, suc, ◌+◌, ◌-◌, ◌<◌, Bool, true, false, cond, Option, Some}
+use Rattle.std.proofs.Common.{◌≡◌, ◌∙◌, ap, sym, refl, ℕ, zero, suc, ◌+◌, ◌-◌, ◌<◌, Bool, true, false, cond, Option}
+use Rattle.std.proofs.Common.{Some}
 use Rattle.std.proofs.Common.{List, length, Box, Global, rules, arith}
 use Rattle.std.specs.Prelude.{find, OnOk, Result, Ok, Err, slice_get, ◌&&◌}
 use Rattle.std.proofs.Common.{get_or}

@@ -1,5 +1,6 @@
 -- The values that the code comes to, step by step.
-use Rattle.std.proofs.Common.{◌≡◌, ◌∙◌, ap, sym, refl, ℕ, zero, suc, ◌+◌, ◌-◌, ◌<◌, ◌≤◌, Bool, true, false, cond, Option, Some, None, ◌++◌, ◌&&◌}
+use Rattle.std.proofs.Common.{◌≡◌, ◌∙◌, ap, sym, refl, ℕ, zero, suc, ◌+◌, ◌-◌, ◌<◌, ◌≤◌, Bool, true, false, cond}
+use Rattle.std.proofs.Common.{Option, Some, None, ◌++◌, ◌&&◌}
 use Rattle.std.proofs.Common.{List, [], ◌∷◌, map, drop, get_or, length, Vec, Global, Box, rules, arith}
 use Rattle.std.specs.Prelude.{slice_get}
 use Rattle.std.specs.List.{filter, range_with_len}
@@ -8,7 +9,8 @@ use Rattle.entry_order.specs.declared.three.Three.{Three}
 use Rattle.entry_order.specs.declared.three.Three.TheVariants.{False, Unknown, True}
 use Rattle.rule_language.specs.declared.row.Row.{Row}
 use Rattle.rule_language.specs.declared.kind.Kind.{Kind}
-use Rattle.rule_language.specs.declared.formula.Formula.{Formula, And, Or, Implies, ForEvery, ForSome, EveryBefore, SomeBefore, Before, Next, Is, OfKind, Equal, Less, the_lemmas}
+use Rattle.rule_language.specs.declared.formula.Formula.{Formula, And, Or, Implies, ForEvery, ForSome, EveryBefore}
+use Rattle.rule_language.specs.declared.formula.Formula.{SomeBefore, Before, Next, Is, OfKind, Equal, Less, the_lemmas}
 use Rattle.rule_language.specs.declared.term.Term.{Term}
 use Rattle.roster.specs.declared.post.Role.{Role}
 use mathlib.Core.Path.{fun_ext}
@@ -19,10 +21,12 @@ use Rattle.rule_engine.specs.Kleene.{both, either, opposite, least, greatest, as
 use Rattle.rule_engine.specs.Tests.{has_kind, is_next, has_role, are_equal, is_less}
 use Rattle.rule_engine.specs.Tests.{value_of as term_value}
 use Rattle.rule_engine.specs.Meaning.{bind}
-use Rattle.rule_engine.specs.Values.{values, first_value, second_value, places, ancestors, rest_of, values_before, row_at, order_of}
+use Rattle.rule_engine.specs.Values.{values, first_value, second_value, places, ancestors, rest_of, values_before}
+use Rattle.rule_engine.specs.Values.{row_at, order_of}
 use Rattle.rule_language.proofs.Views.{view-And, view-Or, view-Implies}
 use Rattle.rule_engine.proofs.Rows.{values-trees_of, values-in_front}
-use Rattle.rule_engine.specs.inside.Judging.{signed, value_of, over, over_from, over_rows, over_before, is_in, unless_ragged}
+use Rattle.rule_engine.specs.inside.Judging.{signed, value_of, over, over_from, over_rows, over_before, is_in}
+use Rattle.rule_engine.specs.inside.Judging.{unless_ragged}
 
 -- the least of a value and true is the value
 pub both_true : (x : Three) → both x True ≡ x

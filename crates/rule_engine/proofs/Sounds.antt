@@ -32,7 +32,8 @@ use Rattle.rule_engine.specs.Meaning.{IsOfKind, AreSame, ComesBefore, AreOrdered
 use Rattle.rule_engine.specs.Values.{first_value, second_value, places, ancestors, rest_of, values_before, row_at}
 use Rattle.rule_engine.specs.Values.{same_place, order_of, value, values}
 use Rattle.rule_engine.specs.Sound.{HasNoDouble, RulesAreSettled}
-use Rattle.rule_engine.proofs.Kleenes.{both_true, both_false, either_true, either_false, opposite_true, opposite_false, least_true}
+use Rattle.rule_engine.proofs.Kleenes.{both_true, both_false, either_true, either_false, opposite_true, opposite_false}
+use Rattle.rule_engine.proofs.Kleenes.{least_true}
 use Rattle.rule_engine.proofs.Kleenes.{least_false, greatest_true, greatest_false, as_three_true, as_three_false}
 
 -- a known value is right of the sentence

@@ -1,11 +1,13 @@
 -- How wide rules are, step by step.
-use Rattle.std.proofs.Common.{◌≡◌, ◌∙◌, ap, sym, ℕ, ◌+◌, ◌<◌, ◌≤◌, Bool, true, false, ◌||◌, List, ◌∷◌, length, drop, get_or}
+use Rattle.std.proofs.Common.{◌≡◌, ◌∙◌, ap, sym, ℕ, ◌+◌, ◌<◌, ◌≤◌, Bool, true, false, ◌||◌, List, ◌∷◌, length, drop}
+use Rattle.std.proofs.Common.{get_or}
 use Rattle.std.proofs.Common.{Box, Global, rules}
 use Rattle.std.proofs.Math.Bool.{or-false}
 use Rattle.std.proofs.lemmas.List.{drop_more, drop_all}
 use Rattle.rule_language.specs.declared.row.Row.{Row}
 use Rattle.rule_language.specs.declared.kind.Kind.{Kind}
-use Rattle.rule_language.specs.declared.formula.Formula.{Formula, ForEvery, ForSome, EveryBefore, SomeBefore, Implies, the_lemmas}
+use Rattle.rule_language.specs.declared.formula.Formula.{Formula, ForEvery, ForSome, EveryBefore, SomeBefore, Implies}
+use Rattle.rule_language.specs.declared.formula.Formula.{the_lemmas}
 use Rattle.rule_language.specs.declared.form.Form.TheVariants as form
 use Rattle.rule_language.specs.Trees.{Trees, no_trees, tree_then}
 use Rattle.rule_language.specs.Forms.{in_front, tree_of, trees_of}

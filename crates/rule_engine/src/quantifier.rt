@@ -1,5 +1,14 @@
 //! A quantifier, and the rows that it goes over.
-ghost use Rattle.std.specs.Prelude.{◌≡◌, ◌<◌, ◌&&◌, length, slice_get, slice_index_or, IfSome, None};
+ghost use Rattle.std.specs.Prelude.{
+  ◌≡◌,
+  ◌<◌,
+  ◌&&◌,
+  length,
+  slice_get,
+  slice_index_or,
+  IfSome,
+  None,
+};
 ghost use Rattle.precedence.specs.Known.{known_before, known_count, known_whole};
 ghost use Rattle.rule_engine.specs.Tests.{has_kind};
 ghost use Rattle.rule_engine.specs.inside.Judging.{is_in};

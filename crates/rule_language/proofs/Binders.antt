@@ -1,5 +1,6 @@
 -- What a quantifier binds, as it is read.
-use Rattle.std.proofs.Common.{◌≡◌, ◌≢◌, ◌∙◌, ℕ, ◌<◌, Bool, true, false, List, [], ◌∷◌, length, Option, Some, None, Ok, Err, refl, ap, sym, subst}
+use Rattle.std.proofs.Common.{◌≡◌, ◌≢◌, ◌∙◌, ℕ, ◌<◌, Bool, true, false, List, [], ◌∷◌, length, Option, Some, None, Ok}
+use Rattle.std.proofs.Common.{Err, refl, ap, sym, subst}
 use Rattle.std.specs.Prelude.{codes, nat_le, is_some, if◌then◌else◌}
 use Rattle.std.specs.Str.{bytes_eq}
 use Rattle.std.proofs.lemmas.Bool.{lt-ltb, leb-false}
@@ -12,7 +13,8 @@ use Rattle.rule_language.specs.Kinds.{kind_word}
 use Rattle.rule_language.specs.Scopes.{Scope, kind_in, is_letter}
 use Rattle.rule_language.specs.Lawful.{can_bind}
 use Rattle.rule_language.specs.Spelling.{Token, variable, piece}
-use Rattle.rule_language.specs.Wants.{Want, formula, close, new_variable, kind_of, before_or_body, a_variable, meets_formula, new_in, letter_in, nested, then_want, Met}
+use Rattle.rule_language.specs.Wants.{Want, formula, close, new_variable, kind_of, before_or_body, a_variable}
+use Rattle.rule_language.specs.Wants.{meets_formula, new_in, letter_in, nested, then_want, Met}
 use Rattle.rule_language.specs.inside.Reader.{IsNext, Takes, FailsAt}
 use Rattle.rule_language.specs.inside.Quantifiers.{IsRange, IsBinder, range_words, quantifier_head}
 use Rattle.rule_language.proofs.Refusals.{Passed, spell_more, transfer, fails_behind}

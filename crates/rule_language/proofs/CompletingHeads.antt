@@ -1,5 +1,6 @@
 -- What follows the first word of a formula fills it.
-use Rattle.std.proofs.Common.{◌≡◌, ◌∙◌, ℕ, ◌+◌, ◌<◌, ◌≤◌, Bool, true, false, ◌&&◌, List, ◌∷◌, ◌++◌, Option, Some, None, Ok, refl, ap, sym, arith}
+use Rattle.std.proofs.Common.{◌≡◌, ◌∙◌, ℕ, ◌+◌, ◌<◌, ◌≤◌, Bool, true, false, ◌&&◌, List, ◌∷◌, ◌++◌, Option, Some, None}
+use Rattle.std.proofs.Common.{Ok, refl, ap, sym, arith}
 use Rattle.std.specs.Prelude.{codes, nat_lt, nat_le}
 use Rattle.std.proofs.lemmas.Bool.{lt-ltb}
 use Rattle.rule_language.specs.declared.kind.Kind.{Kind}
@@ -14,7 +15,8 @@ use Rattle.rule_language.specs.Scopes.{Scope}
 use Rattle.rule_language.specs.Trees.{Trees, no_trees, count_of}
 use Rattle.rule_language.specs.Lawful.{is_bound, sort_of, are_of_one_sort, has_order, is_closed, are_formulas}
 use Rattle.rule_language.specs.Spelling.{Token, right, variable, term_word, tokens_then}
-use Rattle.rule_language.specs.Wants.{Want, formula, new_variable, more, a_variable, first_term, close, behind_head, nested, may_begin}
+use Rattle.rule_language.specs.Wants.{Want, formula, new_variable, more, a_variable, first_term, close, behind_head}
+use Rattle.rule_language.specs.Wants.{nested, may_begin}
 use Rattle.rule_language.specs.inside.Quantifiers.{form_of, quantifier_head, range_words}
 use Rattle.rule_language.proofs.Binders.{may_bind}
 use Rattle.rule_language.proofs.Fills.{FillsHead, IsRange, Completes}

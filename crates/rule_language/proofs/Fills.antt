@@ -11,9 +11,12 @@ use Rattle.rule_language.specs.declared.form.Form.TheVariants as form
 use Rattle.rule_language.specs.Kinds.{kind_word, is_same_sort}
 use Rattle.rule_language.specs.Scopes.{Scope}
 use Rattle.rule_language.specs.Trees.{Trees, count_of, RuleTree}
-use Rattle.rule_language.specs.Lawful.{is_bound, sort_of, is_closed, has_arity, scope_in, are_formulas, is_name, is_among, follow}
+use Rattle.rule_language.specs.Lawful.{is_bound, sort_of, is_closed, has_arity, scope_in, are_formulas, is_name}
+use Rattle.rule_language.specs.Lawful.{is_among, follow}
 use Rattle.rule_language.specs.Spelling.{Token, right, variable, term_word, form_words, tokens_then, rules_tokens}
-use Rattle.rule_language.specs.Wants.{Want, more_rules, rule_word, rule_name, formula, head, new_variable, kind_of, before_or_body, more, a_variable, a_role, a_kind, first_term, second_term, close, may_begin, new_in, letter_in}
+use Rattle.rule_language.specs.Wants.{Want, more_rules, rule_word, rule_name, formula, head, new_variable, kind_of}
+use Rattle.rule_language.specs.Wants.{before_or_body, more, a_variable, a_role, a_kind, first_term, second_term, close}
+use Rattle.rule_language.specs.Wants.{may_begin, new_in, letter_in}
 use Rattle.rule_language.specs.inside.Quantifiers.{range_words}
 
 -- a formula

@@ -1,5 +1,6 @@
 -- What a word is that was found.
-use Rattle.std.proofs.Common.{◌≡◌, ◌≢◌, ◌∙◌, ℕ, ◌^◌, ◌<◌, Bool, true, false, ◌&&◌, List, [], ◌∷◌, length, Option, Some, None, Result, Ok, Err, refl, ap, sym, subst, arith}
+use Rattle.std.proofs.Common.{◌≡◌, ◌≢◌, ◌∙◌, ℕ, ◌^◌, ◌<◌, Bool, true, false, ◌&&◌, List, [], ◌∷◌, length, Option, Some}
+use Rattle.std.proofs.Common.{None, Result, Ok, Err, refl, ap, sym, subst, arith}
 use Rattle.std.specs.Prelude.{if◌then◌else◌, nat_lt, nat_le, ◌==◌, ◌||◌, is_some}
 use Rattle.std.specs.Str.{bytes_eq}
 use Rattle.std.specs.Fmt.{decimal}
@@ -19,11 +20,14 @@ use Rattle.rule_language.specs.declared.form.Head.{Head}
 use Rattle.rule_language.specs.declared.form.Head.TheVariants as head
 use Rattle.rule_language.specs.declared.faults.RuleWhy.{RuleWhy}
 use Rattle.rule_language.specs.declared.faults.RuleWhy.TheVariants.{Shape, UnknownKind, SameName, Unbound, WrongField}
-use Rattle.rule_language.specs.Kinds.{named, kind_word, kinds, kind_named, field_word, fields, field_named, role_named, head_word, heads, head_named, has_field, sort_of_field, is_quantifier}
+use Rattle.rule_language.specs.Kinds.{named, kind_word, kinds, kind_named, field_word, fields, field_named, role_named}
+use Rattle.rule_language.specs.Kinds.{head_word, heads, head_named, has_field, sort_of_field, is_quantifier}
 use Rattle.rule_language.specs.Scopes.{Scope, kind_in, is_letter}
 use Rattle.rule_language.specs.Lawful.{is_bound, sort_of}
 use Rattle.rule_language.specs.Spelling.{Token, left, right, variable, term_word}
-use Rattle.rule_language.specs.Wants.{Typed, letter_in, new_in, bound_in, kind_for, or_cause, value_from, number_in, of_field, of_variable, dotted_in, number_or, term_in, whose_sort, nested, head_for, only}
+use Rattle.rule_language.specs.Wants.{Typed, letter_in, new_in, bound_in, kind_for, or_cause, value_from, number_in}
+use Rattle.rule_language.specs.Wants.{of_field, of_variable, dotted_in, number_or, term_in, whose_sort, nested}
+use Rattle.rule_language.specs.Wants.{head_for, only}
 use Rattle.rule_language.specs.inside.Reader.{IsTyped}
 
 -- what a test decided

@@ -1,5 +1,6 @@
 -- Names of rules.
-use Rattle.std.proofs.Common.{◌≡◌, ◌≢◌, ℕ, ◌<◌, ◌≤◌, zero, suc, Bool, true, false, ◌&&◌, List, [], ◌∷◌, length, map, Ok, Err, Result, refl, ap, arith}
+use Rattle.std.proofs.Common.{◌≡◌, ◌≢◌, ℕ, ◌<◌, ◌≤◌, zero, suc, Bool, true, false, ◌&&◌, List, [], ◌∷◌, length, map, Ok}
+use Rattle.std.proofs.Common.{Err, Result, refl, ap, arith}
 use Rattle.std.specs.Prelude.{◌||◌, nat_le, nat_lt, string_bytes, if◌then◌else◌}
 use Rattle.std.specs.Str.{IsUtf8, IsAscii}
 use Rattle.std.proofs.lemmas.Str.{IsUtf8-from_ascii}

@@ -1,5 +1,6 @@
 -- A text without a fault is one of rules.
-use Rattle.std.proofs.Common.{◌≡◌, ◌∙◌, ℕ, true, false, List, [], ◌∷◌, ◌++◌, length, Result, Ok, Err, refl, ap, sym, subst, arith, append_assoc, append-nil}
+use Rattle.std.proofs.Common.{◌≡◌, ◌∙◌, ℕ, true, false, List, [], ◌∷◌, ◌++◌, length, Result, Ok, Err, refl, ap, sym}
+use Rattle.std.proofs.Common.{subst, arith, append_assoc, append-nil}
 use Rattle.std.specs.Prelude.{codes, nat_lt, if◌then◌else◌}
 use Rattle.std.specs.Str.{bytes_eq}
 use Rattle.std.proofs.lemmas.Bool.{lt-ltb}
@@ -9,11 +10,16 @@ use Rattle.rule_language.specs.Kinds.{head_word, is_same_sort, role_named}
 use Rattle.rule_language.specs.Scopes.{Scope}
 use Rattle.rule_language.specs.Trees.{RuleTree}
 use Rattle.rule_language.specs.Lawful.{is_name, is_among}
-use Rattle.rule_language.specs.Spelling.{Token, left, right, tokens_then, rule_tokens, rules_tokens, StandBefore, IsTextOf}
-use Rattle.rule_language.specs.Wants.{Want, Met, Typed, more_rules, rule_word, rule_name, formula, head, new_variable, kind_of, before_or_body, more, a_variable, a_role, a_kind, first_term, second_term, close}
-use Rattle.rule_language.specs.Wants.{meets, behind, behind_head, head_for, new_in, bound_in, letter_in, kind_for, or_cause, whose_sort, may_begin, term_in, only, opening, name_in, is_end, begin}
+use Rattle.rule_language.specs.Spelling.{Token, left, right, tokens_then, rule_tokens, rules_tokens, StandBefore}
+use Rattle.rule_language.specs.Spelling.{IsTextOf}
+use Rattle.rule_language.specs.Wants.{Want, Met, Typed, more_rules, rule_word, rule_name, formula, head, new_variable}
+use Rattle.rule_language.specs.Wants.{kind_of, before_or_body, more, a_variable, a_role, a_kind, first_term}
+use Rattle.rule_language.specs.Wants.{second_term, close}
+use Rattle.rule_language.specs.Wants.{meets, behind, behind_head, head_for, new_in, bound_in, letter_in, kind_for}
+use Rattle.rule_language.specs.Wants.{or_cause, whose_sort, may_begin, term_in, only, opening, name_in, is_end, begin}
 use Rattle.rule_language.specs.Reading.{HasNoFault}
-use Rattle.rule_language.proofs.Found.{if_first, if_second, bytes_same, head_found, new_found, kind_found, variable_found, role_found, term_found}
+use Rattle.rule_language.proofs.Found.{if_first, if_second, bytes_same, head_found, new_found, kind_found}
+use Rattle.rule_language.proofs.Found.{variable_found, role_found, term_found}
 use Rattle.rule_language.proofs.RuleRead.{opening_found}
 use Rattle.rule_language.proofs.Refusals.{first_met, ok_wants}
 use Rattle.rule_language.proofs.Passing.{tokens_append}

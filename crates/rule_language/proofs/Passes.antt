@@ -1,5 +1,6 @@
 -- The tokens of formulas meet what is wanted, form by form.
-use Rattle.std.proofs.Common.{◌≡◌, ◌⊎◌, inl, inr, ◌∙◌, ℕ, ◌+◌, ◌-◌, ◌≤◌, true, false, ◌&&◌, List, [], ◌∷◌, ◌++◌, Ok, refl, ap, sym, arith}
+use Rattle.std.proofs.Common.{◌≡◌, ◌⊎◌, inl, inr, ◌∙◌, ℕ, ◌+◌, ◌-◌, ◌≤◌, true, false, ◌&&◌, List, [], ◌∷◌, ◌++◌, Ok}
+use Rattle.std.proofs.Common.{refl, ap, sym, arith}
 use Rattle.std.specs.Prelude.{nat_lt, ◌==◌, codes}
 use Rattle.std.proofs.lemmas.Bool.{eqb-true, ne_eqb}
 use Rattle.rule_language.specs.declared.form.Head.TheVariants as begins
@@ -9,12 +10,16 @@ use Rattle.rule_language.specs.Kinds.{kind_word}
 use Rattle.roster.specs.RosterText.{role_word}
 use Rattle.rule_language.specs.Scopes.{Scope}
 use Rattle.rule_language.specs.Trees.{Trees, no_trees, tree_then, count_of}
-use Rattle.rule_language.specs.Lawful.{is_bound, can_bind, sort_of, are_of_one_sort, has_order, is_closed, has_arity, is_shallow, scope_in, are_formulas}
+use Rattle.rule_language.specs.Lawful.{is_bound, can_bind, sort_of, are_of_one_sort, has_order, is_closed, has_arity}
+use Rattle.rule_language.specs.Lawful.{is_shallow, scope_in, are_formulas}
 use Rattle.rule_language.specs.Spelling.{Token, left, right, variable, term_word, form_words, spelt, tokens_then}
 use Rattle.rule_language.specs.Wants.{Want, formula, more, a_variable, a_role, a_kind, first_term, close}
 use Rattle.rule_language.specs.Wants.{behind}
 use Rattle.rule_language.proofs.Found.{both_true}
-use Rattle.rule_language.proofs.Passing.{RowPasses, MembersPass, step, begin_passes, quantifier_begins, quantified, one_passes, two_pass, body_row, pair_passes, terms_pass, order_begins, several_pass, variable_passes, role_passes, kind_passes, tokens_append, wants_for, more_wanted, spelt_cases}
+use Rattle.rule_language.proofs.Passing.{RowPasses, MembersPass, step, begin_passes, quantifier_begins, quantified}
+use Rattle.rule_language.proofs.Passing.{one_passes, two_pass, body_row, pair_passes, terms_pass, order_begins}
+use Rattle.rule_language.proofs.Passing.{several_pass, variable_passes, role_passes, kind_passes, tokens_append}
+use Rattle.rule_language.proofs.Passing.{wants_for, more_wanted, spelt_cases}
 
 -- what is known of a form that may stand: it isn't too deep, closed, and has its parts
 abbrev MayStand : Scope → ℕ → Form → Trees → Type 0

@@ -1,5 +1,7 @@
 -- The tokens of formulas and rules meet what is wanted.
-use Rattle.std.proofs.Common.{◌≡◌, ◌⊎◌, inl, inr, ◌∙◌, ℕ, ◌+◌, ◌-◌, ◌^◌, ◌<◌, ◌≤◌, Bool, true, false, ◌&&◌, List, [], ◌∷◌, ◌++◌, length, Option, Some, None, Result, Ok, Err, refl, ap, sym, subst, arith, append_assoc}
+use Rattle.std.proofs.Common.{◌≡◌, ◌⊎◌, inl, inr, ◌∙◌, ℕ, ◌+◌, ◌-◌, ◌^◌, ◌<◌, ◌≤◌, Bool, true, false, ◌&&◌, List, []}
+use Rattle.std.proofs.Common.{◌∷◌, ◌++◌, length, Option, Some, None, Result, Ok, Err, refl, ap, sym, subst, arith}
+use Rattle.std.proofs.Common.{append_assoc}
 use Rattle.std.specs.Prelude.{if◌then◌else◌, nat_lt, nat_le, not, ◌==◌, is_some}
 use Rattle.std.specs.Fmt.{decimal}
 use Rattle.std.proofs.lemmas.Bool.{ltb-true, le-ltb, leb-true}
@@ -20,13 +22,17 @@ use Rattle.rule_language.specs.declared.form.Form.{Form}
 use Rattle.rule_language.specs.declared.form.Form.TheVariants as form
 use Rattle.rule_language.specs.declared.faults.RuleWhy.{RuleWhy}
 use Rattle.rule_language.specs.declared.faults.RuleWhy.TheVariants.{Shape, WrongField, TooDeep}
-use Rattle.rule_language.specs.Kinds.{kind_word, field_word, field_named, role_named, head_word, head_named, has_field, sort_of_field, is_quantifier, is_ordered, is_same_sort}
+use Rattle.rule_language.specs.Kinds.{kind_word, field_word, field_named, role_named, head_word, head_named, has_field}
+use Rattle.rule_language.specs.Kinds.{sort_of_field, is_quantifier, is_ordered, is_same_sort}
 use Rattle.rule_language.specs.Scopes.{Scope, kind_in, is_letter}
 use Rattle.rule_language.specs.Trees.{Trees, no_trees, tree_then, count_of}
-use Rattle.rule_language.specs.Lawful.{is_bound, can_bind, sort_of, field_sort, are_of_one_sort, has_order, is_shallow, are_formulas}
+use Rattle.rule_language.specs.Lawful.{is_bound, can_bind, sort_of, field_sort, are_of_one_sort, has_order, is_shallow}
+use Rattle.rule_language.specs.Lawful.{are_formulas}
 use Rattle.rule_language.specs.Spelling.{Token, left, right, variable, term_word, form_words, spelt, tokens_then}
-use Rattle.rule_language.specs.Wants.{Want, Met, Typed, formula, head, new_variable, kind_of, before_or_body, more, a_variable, a_role, a_kind, first_term, second_term, close}
-use Rattle.rule_language.specs.Wants.{or_cause, then_want, kind_for, number_in, of_variable, term_in, whose_sort, may_begin, nested, behind_head, meets_formula, meets, behind}
+use Rattle.rule_language.specs.Wants.{Want, Met, Typed, formula, head, new_variable, kind_of, before_or_body, more}
+use Rattle.rule_language.specs.Wants.{a_variable, a_role, a_kind, first_term, second_term, close}
+use Rattle.rule_language.specs.Wants.{or_cause, then_want, kind_for, number_in, of_variable, term_in, whose_sort}
+use Rattle.rule_language.specs.Wants.{may_begin, nested, behind_head, meets_formula, meets, behind}
 use Rattle.rule_language.proofs.Numbers.{number-found}
 use Rattle.canonical_sexp.proofs.Decimal.{AreDigits, decimal_digits}
 use Rattle.rule_language.proofs.Found.{both_true, number_spelt}

@@ -1,5 +1,6 @@
 -- A rule that is read, token by token.
-use Rattle.std.proofs.Common.{◌≡◌, ◌≢◌, ◌∙◌, ℕ, ◌<◌, Bool, true, false, List, [], ◌∷◌, ◌++◌, length, map, Ok, Err, Result, refl, ap, sym, arith, Vec, Global}
+use Rattle.std.proofs.Common.{◌≡◌, ◌≢◌, ◌∙◌, ℕ, ◌<◌, Bool, true, false, List, [], ◌∷◌, ◌++◌, length, map, Ok, Err}
+use Rattle.std.proofs.Common.{Result, refl, ap, sym, arith, Vec, Global}
 use Rattle.std.specs.Prelude.{if◌then◌else◌, nat_lt, codes, string_bytes, IsErrAnd}
 use Rattle.std.specs.Str.{bytes_eq}
 use Rattle.hall_text.specs.declared.spans.Span.{Span}
@@ -11,10 +12,12 @@ use Rattle.rule_language.specs.Trees.{count_of}
 use Rattle.rule_language.specs.Forms.{tree_of, rule_tree}
 use Rattle.rule_language.specs.Lawful.{are_formulas, is_name, is_among, is_rule, follow}
 use Rattle.rule_language.specs.Spelling.{Token, left, right, tokens_then, rule_tokens, rules_tokens, StandBefore}
-use Rattle.rule_language.specs.Wants.{Want, more_rules, rule_word, rule_name, formula, close, behind, begin, opening, only, name_in, then_want}
+use Rattle.rule_language.specs.Wants.{Want, more_rules, rule_word, rule_name, formula, close, behind, begin, opening}
+use Rattle.rule_language.specs.Wants.{only, name_in, then_want}
 use Rattle.rule_language.specs.Reading.{IsFirstFault, Reads, answered}
 use Rattle.rule_language.specs.inside.Reader.{Takes, Asks, Fails, FailsAt, IfFault, IsRead, rule_names}
-use Rattle.rule_language.proofs.Refusals.{Passed, one_passed, passed_more, spell_more, behind_more, err_same, at_same, why_same}
+use Rattle.rule_language.proofs.Refusals.{Passed, one_passed, passed_more, spell_more, behind_more, err_same, at_same}
+use Rattle.rule_language.proofs.Refusals.{why_same}
 use Rattle.rule_language.proofs.Found.{if_first, bytes_same}
 use Rattle.rule_language.proofs.Bodies.{formula_passed}
 use Rattle.rule_language.proofs.Passing.{tokens_append}

@@ -1,11 +1,13 @@
 -- The tokens of rules meet what is wanted.
-use Rattle.std.proofs.Common.{◌≡◌, ◌∙◌, ℕ, ◌<◌, true, false, ◌&&◌, List, [], ◌∷◌, ◌++◌, length, map, Ok, refl, ap, sym, arith, append_assoc, append-nil}
+use Rattle.std.proofs.Common.{◌≡◌, ◌∙◌, ℕ, ◌<◌, true, false, ◌&&◌, List, [], ◌∷◌, ◌++◌, length, map, Ok, refl, ap, sym}
+use Rattle.std.proofs.Common.{arith, append_assoc, append-nil}
 use Rattle.std.specs.Prelude.{nat_lt, not, ◌==◌, codes}
 use Rattle.std.proofs.lemmas.Bool.{eqb-true, ltb-true}
 use Rattle.rule_language.specs.Trees.{count_of, RuleTree}
 use Rattle.rule_language.specs.Lawful.{are_formulas, is_name, is_among, is_rule, follow}
 use Rattle.rule_language.specs.Spelling.{Token, left, right, tokens_then, rule_tokens, rules_tokens, IsTextOf}
-use Rattle.rule_language.specs.Wants.{Want, more_rules, rule_word, rule_name, formula, close, behind, is_end, opening, name_in, then_want}
+use Rattle.rule_language.specs.Wants.{Want, more_rules, rule_word, rule_name, formula, close, behind, is_end, opening}
+use Rattle.rule_language.specs.Wants.{name_in, then_want}
 use Rattle.rule_language.specs.Reading.{HasNoFault}
 use Rattle.rule_language.proofs.Found.{both_true}
 use Rattle.rule_language.proofs.Passing.{step, one_passes, not_true, tokens_append}

@@ -1,5 +1,6 @@
 -- Formulas of an `and` or an `or` that were read, and of a quantifier.
-use Rattle.std.proofs.Common.{◌≡◌, ◌≢◌, ℕ, ◌+◌, ◌-◌, ◌<◌, ◌≤◌, zero, suc, Bool, true, false, List, [], ◌∷◌, ◌++◌, Option, Some, None, Ok, refl, subst, arith}
+use Rattle.std.proofs.Common.{◌≡◌, ◌≢◌, ℕ, ◌+◌, ◌-◌, ◌<◌, ◌≤◌, zero, suc, Bool, true, false, List, [], ◌∷◌, ◌++◌}
+use Rattle.std.proofs.Common.{Option, Some, None, Ok, refl, subst, arith}
 use Rattle.std.specs.Prelude.{codes, nat_le}
 use Rattle.std.proofs.lemmas.Bool.{lt-ltb}
 use Rattle.hall_text.specs.declared.spans.Span.{Span}
@@ -117,7 +118,8 @@ quantified_read text a e z scope depth true v k (Some u) p whole tree binder few
 quantified_read text a e z scope depth false v k (Some u) p whole tree binder few shallow body =
     form_read text a z scope depth whole (form.SomeBefore v k u) (tree_of p) (quantifier_head false)
     (variable v ∷ kind_word k ∷ codes "before" ∷ variable u ∷ []) tree refl (λ x y. refl)
-    (lt-ltb depth 32 shallow) (rw (may_bind scope v false binder.fresh few) binder.range) (rw body.one refl) body.lawful (
+    (lt-ltb depth 32 shallow) (rw (may_bind scope v false binder.fresh few) binder.range)
+    (rw body.one refl) body.lawful (
       spell_more text a.start e.start z.start (variable v ∷ kind_word k ∷ codes "before" ∷ variable u ∷ [])
           (tokens_then (tree_of p) (right ∷ [])) binder.taken.0 body.taken.0,
       body.taken.1,

@@ -10,10 +10,12 @@ use Rattle.rule_language.specs.Kinds.{kind_word, is_same_sort}
 use Rattle.rule_language.specs.Scopes.{Scope}
 use Rattle.rule_language.specs.Lawful.{is_bound, sort_of}
 use Rattle.rule_language.specs.Spelling.{right, variable, term_word}
-use Rattle.rule_language.specs.Wants.{Want, close, a_variable, a_role, a_kind, first_term, second_term, new_variable, kind_of, before_or_body, may_begin, only, kind_for, new_in, letter_in, then_want}
+use Rattle.rule_language.specs.Wants.{Want, close, a_variable, a_role, a_kind, first_term, second_term, new_variable}
+use Rattle.rule_language.specs.Wants.{kind_of, before_or_body, may_begin, only, kind_for, new_in, letter_in, then_want}
 use Rattle.rule_language.specs.inside.Reader.{Takes, Asks}
 use Rattle.rule_language.proofs.Refusals.{Passed, one_passed}
-use Rattle.rule_language.proofs.Passing.{variable_passes, role_passes, kind_passes, kind_of_passes, first_passes, second_passes}
+use Rattle.rule_language.proofs.Passing.{variable_passes, role_passes, kind_passes, kind_of_passes, first_passes}
+use Rattle.rule_language.proofs.Passing.{second_passes}
 
 module _ (text : List ℕ) (old new : Span) (further : List Want → List Want) where
   -- a bound variable was passed

@@ -3,7 +3,9 @@ use Rattle.std.proofs.Common.{◌≡◌, ◌∙◌, ap, refl, ℕ, rules, Vec, G
 use Rattle.roster.specs.declared.post.Role.{Role}
 use Rattle.rule_language.specs.declared.kind.Kind.{Kind}
 use Rattle.rule_language.specs.declared.term.Term.{Term}
-use Rattle.rule_language.specs.declared.formula.Formula.{Formula, True, And, Or, Not, Implies, ForEvery, ForSome, EveryBefore, SomeBefore, Same, Before, Next, Is, OfKind, Equal, Less, the_lemmas, fold_out-Formula, out-Formula, map-Formula}
+use Rattle.rule_language.specs.declared.formula.Formula.{Formula, True, And, Or, Not, Implies, ForEvery, ForSome}
+use Rattle.rule_language.specs.declared.formula.Formula.{EveryBefore, SomeBefore, Same, Before, Next, Is, OfKind, Equal}
+use Rattle.rule_language.specs.declared.formula.Formula.{Less, the_lemmas, fold_out-Formula, out-Formula, map-Formula}
 use Rattle.rule_language.specs.declared.formula.Formula.TheOpen.{Formula-F}
 use Rattle.rule_language.specs.declared.form.Form.{Form}
 use Rattle.rule_language.specs.declared.form.Form.TheVariants as form

@@ -1,5 +1,6 @@
 -- What is written of rules is a text of them.
-use Rattle.std.proofs.Common.{◌≡◌, ◌≢◌, ◌⊎◌, inl, inr, ◌∙◌, ℕ, ◌+◌, ◌^◌, ◌<◌, ◌≤◌, Bool, true, false, ◌&&◌, List, [], ◌∷◌, ◌++◌, length, Option, Some, None, refl, ap, sym, subst, arith, append-nil}
+use Rattle.std.proofs.Common.{◌≡◌, ◌≢◌, ◌⊎◌, inl, inr, ◌∙◌, ℕ, ◌+◌, ◌^◌, ◌<◌, ◌≤◌, Bool, true, false, ◌&&◌, List, []}
+use Rattle.std.proofs.Common.{◌∷◌, ◌++◌, length, Option, Some, None, refl, ap, sym, subst, arith, append-nil}
 use Rattle.std.specs.Prelude.{nat_le, nat_lt, not, ◌||◌, codes, is_some}
 use Rattle.std.specs.Fmt.{decimal}
 use Rattle.std.proofs.lemmas.Fmt.{decimal_nonempty}
@@ -21,8 +22,11 @@ use Rattle.rule_language.specs.declared.form.Form.TheVariants as form
 use Rattle.rule_language.specs.Kinds.{kind_word, field_word}
 use Rattle.rule_language.specs.Scopes.{Scope, kind_in, is_letter}
 use Rattle.rule_language.specs.Trees.{Trees, no_trees, tree_then, RuleTree}
-use Rattle.rule_language.specs.Lawful.{is_bound, can_bind, sort_of, are_of_one_sort, has_order, is_closed, is_shallow, scope_in, are_formulas, is_alphanumeric, are_alphanumeric, is_name, is_rule, follow, are_rules}
-use Rattle.rule_language.specs.Spelling.{Token, left, right, variable, term_word, form_words, spelt, tokens_then, rule_tokens, rules_tokens, IsTextOf}
+use Rattle.rule_language.specs.Lawful.{is_bound, can_bind, sort_of, are_of_one_sort, has_order, is_closed, is_shallow}
+use Rattle.rule_language.specs.Lawful.{scope_in, are_formulas, is_alphanumeric, are_alphanumeric, is_name, is_rule}
+use Rattle.rule_language.specs.Lawful.{follow, are_rules}
+use Rattle.rule_language.specs.Spelling.{Token, left, right, variable, term_word, form_words, spelt, tokens_then}
+use Rattle.rule_language.specs.Spelling.{rule_tokens, rules_tokens, IsTextOf}
 use Rattle.rule_language.specs.Written.{spaced, joined, form_text, row_text, rule_text, rules_text}
 use Rattle.rule_language.proofs.Found.{both_true}
 use Rattle.rule_language.proofs.Passing.{spelt_cases, tokens_append}
@@ -31,7 +35,9 @@ use Rattle.rule_language.proofs.RulesPass.{rule_good}
 use Rattle.rule_language.proofs.Names.{either_true}
 use Rattle.rule_language.proofs.Stands.{none_yet}
 use Rattle.rule_language.proofs.WrittenForms.{enclosed_text}
-use Rattle.rule_language.proofs.Spells.{Spells, opens, opens_more, spells_more, spells_none, opens_separator, opens_parenthesis, spells_word, breaks_first, breaks_none, BreaksBehind, is_word_byte, are_word_bytes}
+use Rattle.rule_language.proofs.Spells.{Spells, opens, opens_more, spells_more, spells_none, opens_separator}
+use Rattle.rule_language.proofs.Spells.{opens_parenthesis, spells_word, breaks_first, breaks_none, BreaksBehind}
+use Rattle.rule_language.proofs.Spells.{is_word_byte, are_word_bytes}
 
 -- a word that is spelt
 abbrev IsSpelt : Token → Type 0

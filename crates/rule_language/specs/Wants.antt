@@ -100,7 +100,8 @@ of_variable v (Some kind) name = of_field v kind (field_named name)
 abbrev pub dotted_in : Scope → Token → Result Typed RuleWhy
 dotted_in scope [] = Err Shape
 dotted_in scope (v ∷ []) = Err Shape
-dotted_in scope (v ∷ dot ∷ name) = if is_letter v && (dot == 46) then of_variable v (kind_in scope v) name else Err Shape
+dotted_in scope (v ∷ dot ∷ name) =
+    if is_letter v && (dot == 46) then of_variable v (kind_in scope v) name else Err Shape
 
 -- a term
 abbrev pub number_or : Option ℕ → Result Typed RuleWhy → Result Typed RuleWhy

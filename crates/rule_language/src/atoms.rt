@@ -4,7 +4,15 @@ ghost use Rattle.rule_language.specs.declared.form.Head.TheVariants as head;
 ghost use Rattle.rule_language.specs.Kinds.{head_word};
 ghost use Rattle.rule_language.specs.Spelling.{left};
 ghost use Rattle.rule_language.specs.Wants.{a_variable, first_term, close, behind_head};
-ghost use Rattle.rule_language.specs.inside.Reader.{IsNext, FailsAt, IfFault, IsRead, IsPair, AreTerms, bindings};
+ghost use Rattle.rule_language.specs.inside.Reader.{
+  IsNext,
+  FailsAt,
+  IfFault,
+  IsRead,
+  IsPair,
+  AreTerms,
+  bindings,
+};
 
 use crate::faults::RuleFault;
 use crate::formula::Formula;

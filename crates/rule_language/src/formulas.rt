@@ -4,7 +4,15 @@ ghost use Rattle.rule_language.specs.declared.form.Head.TheVariants as heads;
 ghost use Rattle.rule_language.specs.Kinds.{head_word};
 ghost use Rattle.rule_language.specs.Spelling.{left};
 ghost use Rattle.rule_language.specs.Wants.{formula, head, more, close, nested, behind_head};
-ghost use Rattle.rule_language.specs.inside.Reader.{IsNext, FailsAt, IfFault, IsRead, IsBody, IsSeveral, bindings};
+ghost use Rattle.rule_language.specs.inside.Reader.{
+  IsNext,
+  FailsAt,
+  IfFault,
+  IsRead,
+  IsBody,
+  IsSeveral,
+  bindings,
+};
 ghost use Rattle.rule_language.specs.inside.Quantifiers.{quantifier_head};
 
 use crate::atoms::{

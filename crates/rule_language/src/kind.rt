@@ -1,6 +1,15 @@
 //! Kinds of entries, and their fields.
 ghost use Rattle.std.specs.Prelude.{◌≡◌};
-ghost use Rattle.rule_language.specs.Kinds.{kind_word, kind_named, field_word, field_named, has_field, sort_of_field, is_ordered, is_same_sort};
+ghost use Rattle.rule_language.specs.Kinds.{
+  kind_word,
+  kind_named,
+  field_word,
+  field_named,
+  has_field,
+  sort_of_field,
+  is_ordered,
+  is_same_sort,
+};
 
 /// A kind of entries, by what their makers did.
 #[derive(Clone, Copy, Debug, PartialEq, Eq)]

@@ -7,8 +7,32 @@ ghost use Rattle.rule_language.specs.declared.faults.RuleWhy.{RuleWhy};
 ghost use Rattle.rule_language.specs.Kinds.{kind_word, head_word, is_same_sort};
 ghost use Rattle.rule_language.specs.Lawful.{is_bound};
 ghost use Rattle.rule_language.specs.Spelling.{variable, term_word, piece};
-ghost use Rattle.rule_language.specs.Wants.{Want, formula, head, new_variable, a_variable, a_role, first_term, second_term, only, nested, kind_for, new_in, letter_in, may_begin};
-ghost use Rattle.rule_language.specs.inside.Reader.{IsNext, Takes, FailsAt, IfFault, IsRefused, IsTyped, Asks, bindings};
+ghost use Rattle.rule_language.specs.Wants.{
+  Want,
+  formula,
+  head,
+  new_variable,
+  a_variable,
+  a_role,
+  first_term,
+  second_term,
+  only,
+  nested,
+  kind_for,
+  new_in,
+  letter_in,
+  may_begin,
+};
+ghost use Rattle.rule_language.specs.inside.Reader.{
+  IsNext,
+  Takes,
+  FailsAt,
+  IfFault,
+  IsRefused,
+  IsTyped,
+  Asks,
+  bindings,
+};
 
 use crate::faults::{RuleFault, RuleWhy};
 use crate::form::Head;

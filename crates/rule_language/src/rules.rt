@@ -1,5 +1,17 @@
 //! Reading rules.
-ghost use Rattle.std.specs.Prelude.{◌≡◌, ◌≢◌, nat_lt, true, [], ◌∷◌, length, string_bytes, IfOk, Ok, Err};
+ghost use Rattle.std.specs.Prelude.{
+  ◌≡◌,
+  ◌≢◌,
+  nat_lt,
+  true,
+  [],
+  ◌∷◌,
+  length,
+  string_bytes,
+  IfOk,
+  Ok,
+  Err,
+};
 ghost use Rattle.rule_language.specs.Forms.{rule_tree};
 ghost use Rattle.rule_language.specs.Lawful.{is_name, is_rule};
 ghost use Rattle.rule_language.specs.Spelling.{rule_tokens, left};

@@ -1,7 +1,12 @@
 //! The tokens of a text, one after another.
 ghost use Rattle.std.specs.Prelude.{◌≡◌, ◌≢◌, ◌≤◌, ◌<◌, ◌↔◌, List, length, IsTrue, [], ◌∷◌};
 ghost use Rattle.hall_text.specs.Places.{IsBetween};
-ghost use Rattle.rule_language.specs.Spelling.{Token as TokenBytes, IsSeparator, piece, StandBefore};
+ghost use Rattle.rule_language.specs.Spelling.{
+  Token as TokenBytes,
+  IsSeparator,
+  piece,
+  StandBefore,
+};
 ghost use Rattle.rule_language.specs.inside.Reader.{IsNext, Takes, told};
 
 use crate::faults::{RuleFault, RuleWhy};

@@ -3,7 +3,22 @@ ghost use Rattle.std.specs.Prelude.{◌≡◌};
 ghost use Rattle.rule_language.specs.Kinds.{role_named, is_same_sort};
 ghost use Rattle.rule_language.specs.Lawful.{is_name, is_among};
 ghost use Rattle.rule_language.specs.Scopes.{is_letter};
-ghost use Rattle.rule_language.specs.Wants.{or_cause, letter_in, new_in, bound_in, kind_for, number_in, of_field, of_variable, dotted_in, term_in, whose_sort, may_begin, name_in, head_for};
+ghost use Rattle.rule_language.specs.Wants.{
+  or_cause,
+  letter_in,
+  new_in,
+  bound_in,
+  kind_for,
+  number_in,
+  of_field,
+  of_variable,
+  dotted_in,
+  term_in,
+  whose_sort,
+  may_begin,
+  name_in,
+  head_for,
+};
 ghost use Rattle.rule_language.specs.inside.Reader.{bindings, rule_names, checked};
 
 use crate::faults::RuleWhy;

@@ -14,7 +14,8 @@ use Rattle.deed_history.specs.Held.{HasEnded}
 use Rattle.deed_history.proofs.Deciding.{holds_own, own_decides, is_opened, opened_decides, is_closed}
 use Rattle.deed_history.proofs.Deciding.{closed_decides, authorises, authorises_decides, has_ended, ended_decides}
 use Rattle.deed_history.proofs.Deciding.{first_test, holds_decides}
-use Rattle.deed_history.proofs.Deciding.{overrides_by, overrides_by_decides, is_word, word_decides, commits, commits_decides}
+use Rattle.deed_history.proofs.Deciding.{overrides_by, overrides_by_decides, is_word, word_decides, commits}
+use Rattle.deed_history.proofs.Deciding.{commits_decides}
 use Rattle.first_cause.proofs.Rows.{AreTestsOf, first_by_tests}
 use Rattle.supervisor_core.specs.declared.state.SupervisorNot.{SupervisorNot}
 use Rattle.supervisor_core.specs.declared.state.SupervisorNot.TheVariants as cause

@@ -1,8 +1,10 @@
 -- The words of causes in lines of output.
 use Rattle.std.specs.Prelude.{ℕ, List, codes}
 use Rattle.supervisor_core.specs.declared.state.SupervisorNot.{SupervisorNot}
-use Rattle.supervisor_core.specs.declared.state.SupervisorNot.TheVariants.{NotOpened, AlreadyOpened, Closed, SessionUsed}
-use Rattle.supervisor_core.specs.declared.state.SupervisorNot.TheVariants.{BoothBusy, NoSession, SessionEnded, SessionsLeft}
+use Rattle.supervisor_core.specs.declared.state.SupervisorNot.TheVariants.{NotOpened, AlreadyOpened, Closed}
+use Rattle.supervisor_core.specs.declared.state.SupervisorNot.TheVariants.{SessionUsed}
+use Rattle.supervisor_core.specs.declared.state.SupervisorNot.TheVariants.{BoothBusy, NoSession, SessionEnded}
+use Rattle.supervisor_core.specs.declared.state.SupervisorNot.TheVariants.{SessionsLeft}
 use Rattle.supervisor_core.specs.declared.state.SupervisorNot.TheVariants.{OtherOverride, NothingCommitted}
 
 -- the word of a cause against a deed of the supervisor

@@ -5,7 +5,10 @@ ghost use Rattle.entry_format.specs.declared.deed.Deed.{Deed};
 ghost use Rattle.entry_format.specs.declared.entry.Entry.{Entry};
 ghost use Rattle.entry_format.specs.EntryText.{IsDeedIn};
 ghost use Rattle.supervisor_core.specs.declared.state.SupervisorNot.{SupervisorNot};
-ghost use Rattle.supervisor_core.specs.declared.state.SupervisorNot.TheVariants.{OtherOverride, NothingCommitted};
+ghost use Rattle.supervisor_core.specs.declared.state.SupervisorNot.TheVariants.{
+  OtherOverride,
+  NothingCommitted,
+};
 ghost use Rattle.supervisor_core.specs.Table.{Refuses};
 ghost use Rattle.supervisor_core.specs.VersionOne.{RefusesInVersion1};
 

@@ -1,5 +1,18 @@
 //! The supervisor's state and its rules.
-ghost use Rattle.std.specs.Prelude.{◌≡◌, ◌↔◌, ◌+◌, ◌≤◌, List, [], ◌∷◌, ◌++◌, ℕ, IfOk, IsTrue, Contains};
+ghost use Rattle.std.specs.Prelude.{
+  ◌≡◌,
+  ◌↔◌,
+  ◌+◌,
+  ◌≤◌,
+  List,
+  [],
+  ◌∷◌,
+  ◌++◌,
+  ℕ,
+  IfOk,
+  IsTrue,
+  Contains,
+};
 ghost use Rattle.entry_format.specs.declared.entry.Entry.{Entry};
 ghost use Rattle.entry_format.specs.declared.deed.How.TheVariants.{Cast};
 ghost use Rattle.entry_format.specs.Deeds.{IsDeedOf};

@@ -1,5 +1,6 @@
 -- What the parts of the reader answer.
-use Rattle.std.specs.Prelude.{◌≡◌, ℕ, ◌<◌, ◌≤◌, ◌==◌, nat_le, nat_lt, ◌&&◌, Bool, true, false, Some, if◌then◌else◌, List, [], ◌∷◌, ◌++◌, length, map, string_bytes, Result, Ok, Err, slice_index}
+use Rattle.std.specs.Prelude.{◌≡◌, ℕ, ◌<◌, ◌≤◌, ◌==◌, nat_le, nat_lt, ◌&&◌, Bool, true, false, Some, if◌then◌else◌}
+use Rattle.std.specs.Prelude.{List, [], ◌∷◌, ◌++◌, length, map, string_bytes, Result, Ok, Err, slice_index}
 use Rattle.hall_text.specs.declared.spans.Span.{Span}
 use Rattle.hall_text.specs.Spans.{IsToken}
 use Rattle.rule_language.specs.declared.scope.Scope.{Scope as CodeScope, Empty, With'}
@@ -74,7 +75,8 @@ pub record Asks {A : Type 0} (found : Token → Result A RuleWhy) (wants : List 
   pub going : (rest : List Want) → is_end (wants rest) ≡ false
 
 -- the fault of a token that is looked at alone
-pub record IsRefused {A : Type 0} (text : List ℕ) (token : Span) (found : Result A RuleWhy) (at : ℕ) (why : RuleWhy) : Type 0 where
+pub record IsRefused {A : Type 0} (text : List ℕ) (token : Span) (found : Result A RuleWhy) (at : ℕ) (why : RuleWhy)
+    : Type 0 where
   pub reason : RuleWhy
   pub against : found ≡ Err reason
   pub place : at ≡ token.start
@@ -85,7 +87,8 @@ abbrev pub IsTyped : Scope → (Sort → Bool) → Typed → Type 0
 IsTyped scope test typed = (sort_of scope typed.0 ≡ Some typed.1) × (test typed.1 ≡ true)
 
 -- a formula was read behind the tokens in front
-pub record IsRead (text : List ℕ) (old new : Span) (scope : Scope) (depth : ℕ) (front : List Token) (body : Formula) : Type 0 where
+pub record IsRead (text : List ℕ) (old new : Span) (scope : Scope) (depth : ℕ) (front : List Token) (body : Formula)
+    : Type 0 where
   pub tokens : List Token
   pub taken : Takes text old new tokens
   pub spelt : tokens_then (tree_of body) [] ≡ front ++ tokens
@@ -110,7 +113,8 @@ pub record IsPair (text : List ℕ) (old new : Span) (scope : Scope) (pair : ℕ
   pub bound : (is_bound scope pair.0 && is_bound scope pair.1) ≡ true
 
 -- two terms of one sort and the parenthesis were read
-pub record AreTerms (text : List ℕ) (old new : Span) (scope : Scope) (ordered : Bool) (pair : Term × Term) : Type 0 where
+pub record AreTerms (text : List ℕ) (old new : Span) (scope : Scope) (ordered : Bool) (pair : Term × Term)
+    : Type 0 where
   pub taken : Takes text old new (term_word pair.0 ∷ term_word pair.1 ∷ right ∷ [])
   pub same : are_of_one_sort (sort_of scope pair.0) (sort_of scope pair.1) ≡ true
   pub order : ordered ≡ true → has_order (sort_of scope pair.0) ≡ true

@@ -1,4 +1,5 @@
-use Rattle.std.proofs.Common.{◌≡◌, ◌≢◌, ◌∙◌, ◌+◌, ◌<◌, ◌-◌, inl, inr, ℕ, List, [], true, false, get_or, length, ap, sym, subst, take, arith}
+use Rattle.std.proofs.Common.{◌≡◌, ◌≢◌, ◌∙◌, ◌+◌, ◌<◌, ◌-◌, inl, inr, ℕ, List, [], true, false, get_or, length, ap, sym}
+use Rattle.std.proofs.Common.{subst, take, arith}
 use Rattle.std.proofs.lemmas.Bool.{false≢true}
 use Rattle.std.proofs.lemmas.Bool.Decides.{Decides-ltb}
 use Rattle.std.proofs.lemmas.List.{get_or_default}
@@ -6,7 +7,10 @@ use Rattle.std.proofs.lemmas.Slice.Eq.{bytes_eq-Decides}
 use Rattle.entry_gaps.specs.Without.{IsWithout}
 use Rattle.entry_gaps.proofs.Sorted.{not_found, is_found, skips, takes_up}
 use Rattle.entry_gaps.proofs.gaps_of_entries.without.Goals as goal
-use Rattle.entry_gaps.proofs.gaps_of_entries.without.Goals.{then-i-gt0, else-i-gt0, then-not-is_again+then-is_err+in_ok-push, else-not-is_again, else-not-is_again-via-then-not-is_again+else-is_err, else-not-is_again-via-else-not-is_again}
+use Rattle.entry_gaps.proofs.gaps_of_entries.without.Goals.{then-i-gt0, else-i-gt0}
+use Rattle.entry_gaps.proofs.gaps_of_entries.without.Goals.{then-not-is_again+then-is_err+in_ok-push, else-not-is_again}
+use Rattle.entry_gaps.proofs.gaps_of_entries.without.Goals.{else-not-is_again-via-then-not-is_again+else-is_err}
+use Rattle.entry_gaps.proofs.gaps_of_entries.without.Goals.{else-not-is_again-via-else-not-is_again}
 
 pub loop-i-preserved : goal.loop-i-preserved
 loop-i-preserved c =

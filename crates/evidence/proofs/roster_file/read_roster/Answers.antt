@@ -43,7 +43,8 @@ returns-in-Err g c =
     let before = store_seen (store.files old) (store.answered old) (store.read_faults old) (store.write_faults old) in
     let after = store_seen (store.files new) (store.answered new) (store.read_faults new) (store.write_faults new) in
     let given = c.in-Err.ensures in
-    not_read (λ (r : RosterRead). r) (GivesRoster c.args.name.now) c.args.name.now before after max_roster c.in-Err.fault
+    not_read (λ (r : RosterRead). r) (GivesRoster c.args.name.now) c.args.name.now before after max_roster
+    c.in-Err.fault
     c.file_fault.result refl (long_roster c.args.name.now) c.file_fault.ensures given.err given.absent given.read_fault
     (record {
       absences = given.absences;

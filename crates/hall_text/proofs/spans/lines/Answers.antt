@@ -1,7 +1,8 @@
 use Rattle.std.proofs.Common.{◌≡◌, ℕ, length, List, [], ◌∷◌, ◌++◌, arith, subst}
 use Rattle.hall_text.specs.declared.spans.Span.{Span}
 use Rattle.hall_text.proofs.LineLemmas.{IsOpen, line_more, open_more, open_behind, all_lines, all_lines_and_last}
-use Rattle.hall_text.proofs.spans.lines.Goals.{then-text-at-eq10+in_ok-push, else-text-at-eq10, then-start-text+in_ok-push-2, else-start-text}
+use Rattle.hall_text.proofs.spans.lines.Goals.{then-text-at-eq10+in_ok-push, else-text-at-eq10}
+use Rattle.hall_text.proofs.spans.lines.Goals.{then-start-text+in_ok-push-2, else-start-text}
 use Rattle.hall_text.proofs.spans.lines.Goals as goal
 
 -- a newline ends the line that goes on; any other byte belongs to it

@@ -12,7 +12,8 @@ ear_turn-heard-requires g c =
 pub release-pass-requires-clause-ticks : goal.release-pass-requires-clause-ticks
 release-pass-requires-clause-ticks g c =
     let d = c.ear_turn-heard.ensures.ticks in
-    own_ticks 1 c.hold-guard.result.number c.hold-guard.result.held c.value.result.now.ticks c.ear_turn-heard.new.self.ticks
+    own_ticks 1 c.hold-guard.result.number c.hold-guard.result.held c.value.result.now.ticks
+    c.ear_turn-heard.new.self.ticks
     c.ear_turn-heard.new.self.ticks
     (record { more = d.0; ticks = d.1; passes = d.2 })
     (ap (λ (s : StationState). s.ticks) c.value.ensures.value ∙ c.hold-guard.ensures.held)

@@ -1,4 +1,5 @@
-use Rattle.std.proofs.Common.{◌∙◌, ◌<◌, ap, sym, subst, true, false, ℕ, Option, Some, None, IfSome, length, rules, arith}
+use Rattle.std.proofs.Common.{◌∙◌, ◌<◌, ap, sym, subst, true, false, ℕ, Option, Some, None, IfSome, length, rules}
+use Rattle.std.proofs.Common.{arith}
 use Rattle.rule_language.specs.declared.row.Row.{Row}
 use Rattle.rule_language.specs.declared.formula.Formula.{Formula}
 use Rattle.rule_engine.specs.Tests.{value_of as term_value}
@@ -8,8 +9,10 @@ use Rattle.rule_engine.specs.Values.{row_at}
 use Rattle.rule_engine.specs.inside.Judging.{value_of, over, over_rows, over_before}
 use Rattle.rule_engine.specs.inside.Scopes.{env_of}
 use Rattle.rule_engine.specs.declared.quantifier.Quantifier.{Quantifier}
-use Rattle.rule_engine.proofs.Judges.{value-And, value-Or, value-Implies, value-ForEvery, value-ForSome, value-EveryBefore}
-use Rattle.rule_engine.proofs.Judges.{value-SomeBefore, value-Before, value-Next, value-Is, value-OfKind, value-Equal, value-Less}
+use Rattle.rule_engine.proofs.Judges.{value-And, value-Or, value-Implies, value-ForEvery, value-ForSome}
+use Rattle.rule_engine.proofs.Judges.{value-EveryBefore}
+use Rattle.rule_engine.proofs.Judges.{value-SomeBefore, value-Before, value-Next, value-Is, value-OfKind, value-Equal}
+use Rattle.rule_engine.proofs.Judges.{value-Less}
 use Rattle.rule_engine.proofs.Indexed.{step_with, stop_with, bucket_starts, bucket_goes_on}
 use Rattle.rule_engine.proofs.judging.+judging.Goals as goal
 use Rattle.precedence.specs.Known.{known_before, known_whole}

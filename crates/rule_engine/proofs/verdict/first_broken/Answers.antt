@@ -9,7 +9,8 @@ use Rattle.rule_engine.specs.Kleene.{is_false}
 use Rattle.rule_engine.proofs.Broken.{find_here, each_true, first_more, neither, not_first, at_row}
 use Rattle.rule_engine.proofs.verdict.first_broken.Goals as goal
 use Rattle.precedence.specs.Known.{known_before, known_whole}
-use Rattle.rule_engine.proofs.verdict.first_broken.Goals.{else-has_kind-via-then-has_kind+else-is_false, else-has_kind-via-else-has_kind}
+use Rattle.rule_engine.proofs.verdict.first_broken.Goals.{else-has_kind-via-then-has_kind+else-is_false}
+use Rattle.rule_engine.proofs.verdict.first_broken.Goals.{else-has_kind-via-else-has_kind}
 
 pub loop-i-preserved : goal.loop-i-preserved
 loop-i-preserved c =

@@ -11,7 +11,8 @@ use Rattle.rule_language.specs.Wants.{formula, head, close, more, new_variable, 
 use Rattle.rule_language.specs.inside.Reader.{bindings, Takes, IsRead}
 use Rattle.rule_language.proofs.Refusals.{exit_behind, exit_first, exit_by, if_fault, fails_behind}
 use Rattle.rule_language.proofs.Steps.{close_asks}
-use Rattle.rule_language.proofs.Bodies.{other_word, no_formula, too_deep, formula_fails, formula_passed, body_read, read_more, open_passed, head_passed}
+use Rattle.rule_language.proofs.Bodies.{other_word, no_formula, too_deep, formula_fails, formula_passed, body_read}
+use Rattle.rule_language.proofs.Bodies.{read_more, open_passed, head_passed}
 use Rattle.rule_language.specs.declared.formula.Formula.{And, Or, Not}
 use Rattle.rule_language.specs.declared.form.Form.TheVariants as form
 use Rattle.rule_language.proofs.Views.{view-And, view-Or, view-Not}

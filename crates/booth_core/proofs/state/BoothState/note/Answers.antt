@@ -3,7 +3,8 @@ use Rattle.entry_format.specs.declared.deed.Deed.TheVariants.{Authorise, Overrid
 use Rattle.entry_format.specs.declared.deed.Deed.TheVariants.{Challenge}
 use Rattle.deed_history.proofs.Ending.{cast_ends, cancel_ends, challenge_ends}
 use Rattle.booth_core.specs.State.{StandsFor}
-use Rattle.booth_core.proofs.Noted.{noted_other, noted_authorised, noted_to_cancel, noted_to_cast, noted_closed, noted_activated}
+use Rattle.booth_core.proofs.Noted.{noted_other, noted_authorised, noted_to_cancel, noted_to_cast, noted_closed}
+use Rattle.booth_core.proofs.Noted.{noted_activated}
 use Rattle.booth_core.proofs.Noted.{noted_committed, noted_ended, other_of_another, other_opened, other_booth}
 use Rattle.booth_core.proofs.state.BoothState.note.Goals as goal
 

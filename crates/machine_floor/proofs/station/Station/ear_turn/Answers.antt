@@ -162,6 +162,8 @@ returns g c =
     record {
       made = is.heard.made;
       ticks = (is.heard.more, is.heard.ticks, is.heard.passes);
-      looked = subst (λ n. HasLooked n (length c.args.self.now.inns) c.args.self.now c.loop-from.self c.loop-from.heard) own
-          (subst (λ k. HasLooked c.owner-own.result k c.args.self.now c.loop-from.self c.loop-from.heard) count is.looked);
+      looked = subst (λ n. HasLooked n (length c.args.self.now.inns) c.args.self.now c.loop-from.self
+          c.loop-from.heard) own
+          (subst (λ k. HasLooked c.owner-own.result k c.args.self.now c.loop-from.self c.loop-from.heard) count
+          is.looked);
     }
