@@ -16,7 +16,6 @@ ghost use Rattle.std.specs.Prelude.{
 };
 ghost use Rattle.hall_outside.specs.Files.{OnSomeFile};
 ghost use Rattle.rule_language.specs.Forms.{rule_tree};
-ghost use Rattle.rule_language.specs.Kinds.{why_word};
 ghost use Rattle.evidence.specs.Graphs.{GivesGraph, entries_of};
 ghost use Rattle.evidence.specs.Reading.{IsReadFrom, store_seen};
 ghost use Rattle.evidence.specs.Refusal.{IsAbsent, refusal_of};
@@ -43,7 +42,7 @@ use hall_outside::{Store, read_file};
 use log_files::LogRead;
 use precedence::Rows;
 use roster::Roster;
-use rule_language::{Rule, RuleFault, RuleWhy, read, standard};
+use rule_language::{Rule, RuleFault, read, standard};
 use std::alloc::{AllocError, Global};
 
 /// Where the rules of an audit come from.
@@ -67,21 +66,6 @@ impl RulesFrom<'_> {
     }
 }
 
-/// The cause's word in refusals.
-fn word_of(why: RuleWhy) -> &'static str
-    ensures { result.now ≡ why_word why }
-{
-    match why {
-        RuleWhy::Token => "Token",
-        RuleWhy::Shape => "Shape",
-        RuleWhy::UnknownKind => "UnknownKind",
-        RuleWhy::SameName => "SameName",
-        RuleWhy::Unbound => "Unbound",
-        RuleWhy::WrongField => "WrongField",
-        RuleWhy::TooDeep => "TooDeep",
-    }
-}
-
 /// The most bytes of a file of rules.
 const MAX_RULES: usize = 4_194_304;
 
@@ -97,7 +81,7 @@ fn rules_of(alloc: Global, name: &str, bytes: &[u8]) -> Result<Vec<Rule>, AuditF
     match read(alloc, bytes) {
         Ok(rules) => Ok(rules),
         Err(RuleFault::At { at, why }) => {
-            Err(AuditFault::refused(alloc, name, at as u64, word_of(why)))
+            Err(AuditFault::refused(alloc, name, at as u64, why.word()))
         }
         Err(RuleFault::Memory) => Err(AuditFault::Memory),
     }

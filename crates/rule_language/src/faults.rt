@@ -26,17 +26,17 @@ pub enum RuleWhy {
 
 impl RuleWhy {
     /// The cause's word in reports: as the variant is spelt.
-    pub fn word(self) -> &'static [u8]
+    pub fn word(self) -> &'static str
         ensures { result.now ≡ why_word self }
     {
         match self {
-            RuleWhy::Token => b"Token",
-            RuleWhy::Shape => b"Shape",
-            RuleWhy::UnknownKind => b"UnknownKind",
-            RuleWhy::SameName => b"SameName",
-            RuleWhy::Unbound => b"Unbound",
-            RuleWhy::WrongField => b"WrongField",
-            RuleWhy::TooDeep => b"TooDeep",
+            RuleWhy::Token => "Token",
+            RuleWhy::Shape => "Shape",
+            RuleWhy::UnknownKind => "UnknownKind",
+            RuleWhy::SameName => "SameName",
+            RuleWhy::Unbound => "Unbound",
+            RuleWhy::WrongField => "WrongField",
+            RuleWhy::TooDeep => "TooDeep",
         }
     }
 }

@@ -121,7 +121,7 @@ const ROWS: &str = "\
 fn answer_of(alloc: Global, text: &[u8]) -> Result<(usize, &'static [u8]), Fail> {
     match read(alloc, text) {
         Ok(_) => Ok((text.len(), b"ok")),
-        Err(RuleFault::At { at, why }) => Ok((at, why.word())),
+        Err(RuleFault::At { at, why }) => Ok((at, why.word().as_bytes())),
         Err(fault) => Err(fault.into()),
     }
 }
