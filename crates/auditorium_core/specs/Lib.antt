@@ -16,5 +16,4 @@ pub mod Demonstrated
 pub mod Answer
 pub mod Outcome
 pub mod Complete
-pub mod Meaning
 pub mod inside

@@ -15,7 +15,7 @@ ghost use Rattle.std.specs.Prelude.{
 ghost use Rattle.std.specs.Fmt.{decimal};
 ghost use Rattle.auditorium_core.specs.Words.{IsWord, AreOrdered, AreLogs, AreSessions};
 ghost use Rattle.auditorium_core.specs.Words.{Means, gaps, play, order, audit, generate, run};
-ghost use Rattle.auditorium_core.specs.Meaning.{Asks};
+ghost use Rattle.auditorium_core.specs.inside.Meaning.{Asks};
 
 use crate::entry_word::is_entry_word;
 use hall_text::decimal;

@@ -7,7 +7,7 @@ use Rattle.entry_order.specs.Node.{Node}
 use Rattle.entry_order.specs.Naming.{IsNamedIn, IsBorneIn}
 use Rattle.entry_order.specs.Survivors.{gaps, GapsAreUnique}
 use Rattle.entry_order.proofs.Lists.{Contains-map, Contains-map_cases, Contains-flat_map, Contains-flat_map_cases}
-use Rattle.entry_gaps.specs.Without.{IsWithout}
+use Rattle.entry_gaps.specs.inside.Without.{IsWithout}
 
 module _ {T : Type 0} (node : T → Node) (E : List T) where
   -- what is among sorted names is named, and the other way round

@@ -19,7 +19,7 @@ use Rattle.std.proofs.lemmas.List.{take_more, length-take, get_or-take, get_or_d
 use Rattle.std.proofs.lemmas.List.Elements.{Contains-push, Contains-append_left}
 use Rattle.entry_order.proofs.Lists.{Contains-none, Contains-head, Contains-later, Contains-at, Contains-cons_cases}
 use Rattle.entry_order.specs.Ascending.{IsAscending}
-use Rattle.entry_gaps.specs.Without.{IsWithout}
+use Rattle.entry_gaps.specs.inside.Without.{IsWithout}
 
 -- the order of digests
 abbrev pub compare : List ℕ → List ℕ → Ordering

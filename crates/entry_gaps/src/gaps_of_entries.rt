@@ -4,7 +4,7 @@ ghost use Rattle.std.specs.List.{flat_map};
 ghost use Rattle.std.specs.Ordering.{nat_cmp};
 ghost use Rattle.std.specs.Cmp.Lexicographic.{slice_cmp};
 ghost use Rattle.entry_order.specs.Survivors.{gaps as gaps_of};
-ghost use Rattle.entry_gaps.specs.Without.{IsWithout};
+ghost use Rattle.entry_gaps.specs.inside.Without.{IsWithout};
 
 use entry_order::{Knot, gaps_are_unique};
 use std::alloc::{AllocError, Global};

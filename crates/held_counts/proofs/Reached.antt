@@ -23,7 +23,7 @@ use Rattle.entry_order.proofs.Histories.{nth_split}
 use Rattle.entry_order.proofs.Stamps.{stamp_below}
 use Rattle.entry_order.proofs.Forms.{to_chain}
 use Rattle.entry_order.proofs.Machines.{nth_of_sent, in_world}
-use Rattle.held_counts.specs.Counts.{raised, taken_in, spread_one, spread, spread_times, is_held_before}
+use Rattle.held_counts.specs.inside.Counts.{raised, taken_in, spread_one, spread, spread_times, is_held_before}
 
 -- ---- one count raised
 

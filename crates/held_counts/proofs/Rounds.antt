@@ -3,7 +3,7 @@ use Rattle.std.proofs.Common.{◌≡◌, ◌∙◌, ℕ, zero, suc, ◌≤◌, L
 use Rattle.std.proofs.lemmas.Bool.{cases_eq}
 use Rattle.entry_order.specs.Node.{Node}
 use Rattle.entry_order.specs.World.{World}
-use Rattle.held_counts.specs.Counts.{spread, spread_times}
+use Rattle.held_counts.specs.inside.Counts.{spread, spread_times}
 
 -- they raise nothing either
 pub spread_times_fixed : {T : Type 0} (node : T → Node) (w : World T) (counts : List ℕ) (n m : ℕ) →

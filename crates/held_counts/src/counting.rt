@@ -1,7 +1,7 @@
 //! Whether an entry was held before another was sent.
 
 ghost use Rattle.std.specs.Prelude.{◌≡◌, ◌<◌, ◌^◌, ◌↔◌, IfOk, IsTrue, length, map, replicate};
-ghost use Rattle.held_counts.specs.Counts.{
+ghost use Rattle.held_counts.specs.inside.Counts.{
   is_held_before,
   raised,
   spread,

@@ -7,7 +7,7 @@ use Rattle.std.specs.Prelude.{slice_set}
 use Rattle.lms_ots.specs.declared.kind.OtsKind.{OtsKind}
 use Rattle.lms_ots.specs.Ots.{public_key}
 use Rattle.lms_sign.specs.Tree.{interior, leaf, node}
-use Rattle.lms_sign.specs.Nodes.{HoldsFrom}
+use Rattle.lms_sign.specs.inside.Nodes.{HoldsFrom}
 use Rattle.lms_sign.proofs.TreeNumbers.{is_interior, is_leaf, pow_next}
 
 -- the leaves below leaf q

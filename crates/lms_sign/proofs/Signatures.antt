@@ -13,7 +13,7 @@ use Rattle.lms_ots.proofs.Candidates.{candidate-signed, length-signature_of, len
 use Rattle.lms_ots.proofs.Pieces.{length-pieces, piece_at, same_pieces}
 use Rattle.lms_sign.specs.Height.{IsHeight, lms_typecode}
 use Rattle.lms_sign.specs.Tree.{interior, leaf, lms_public, lms_signed, node, sibling}
-use Rattle.lms_sign.specs.Nodes.{HoldsTree}
+use Rattle.lms_sign.specs.inside.Nodes.{HoldsTree}
 use Rattle.lms_sign.specs.Signs.{Signs, ascent, index_in, one_time_in, path_in, root_from}
 use Rattle.lms_sign.proofs.Ascents.{ascent_is}
 use Rattle.lms_sign.proofs.Heights.{leaves_of}

@@ -5,7 +5,7 @@ ghost use Rattle.std.specs.List.{flat_map, range_with_len};
 ghost use Rattle.lms_sign.specs.Height.{IsHeight};
 ghost use Rattle.lms_sign.specs.Tree.{interior, leaf, sibling};
 ghost use Rattle.lms_sign.specs.Signs.{parent};
-ghost use Rattle.lms_sign.specs.Nodes.{HoldsFrom, HoldsTree};
+ghost use Rattle.lms_sign.specs.inside.Nodes.{HoldsFrom, HoldsTree};
 
 use lms_ots::{OtsKind, hasher, ots_public, write_at};
 use sha2::Digest;

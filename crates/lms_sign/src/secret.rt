@@ -61,7 +61,7 @@ pub struct LmsSecret {
 impl Model for LmsSecret {
     ghost use Rattle.std.specs.Prelude.{◌≡◌, ◌^◌, ◌≤◌, length};
     ghost use Rattle.lms_sign.specs.Height.{IsHeight};
-    ghost use Rattle.lms_sign.specs.Nodes.{HoldsTree};
+    ghost use Rattle.lms_sign.specs.inside.Nodes.{HoldsTree};
     ghost use Rattle.lms_sign.specs.Secret.{Secret};
 
     ghost Value = { Secret };

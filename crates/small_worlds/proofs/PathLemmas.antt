@@ -13,7 +13,7 @@ use Rattle.entry_order.specs.Survivors.{is_stray, survivors}
 use Rattle.entry_order.proofs.Lists.{Contains-filter, Contains-filter_cases, list_any_some}
 use Rattle.entry_order.proofs.Naming.{names_digest_of, names_digest_from}
 use Rattle.entry_order.proofs.Strays.{rises_along}
-use Rattle.small_worlds.specs.Paths.{names_entry, is_next, leads, is_before}
+use Rattle.small_worlds.specs.inside.Paths.{names_entry, is_next, leads, is_before}
 
 -- one step of the search, its bound written as the code does
 pub leads_step : {T : Type 0} (node : T → Node) (given : List T) (n : ℕ) (f e : T) → 0 < n →

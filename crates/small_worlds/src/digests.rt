@@ -6,7 +6,7 @@ ghost use Rattle.entry_order.specs.Ascending.{ascending, insert_digest};
 ghost use Rattle.entry_order.specs.Frontier.{frontier};
 ghost use Rattle.entry_order.specs.Naming.{is_named, has_digest};
 ghost use Rattle.entry_order.specs.Survivors.{gaps, is_stray, names_later, survivors};
-ghost use Rattle.small_worlds.specs.Digests.{put_at};
+ghost use Rattle.small_worlds.specs.inside.Digests.{put_at};
 
 use crate::machine::Sender;
 use entry_order::{Knot, has_digest, is_named, names_digest};

@@ -3,7 +3,7 @@
 ghost use Rattle.std.specs.Prelude.{◌≡◌, ◌<◌, ◌↔◌, IsTrue, Some, length, slice_get};
 ghost use Rattle.entry_order.specs.Precedes.{Precedes};
 ghost use Rattle.entry_order.specs.Survivors.{survivors};
-ghost use Rattle.small_worlds.specs.Paths.{is_before, is_next, leads, names_entry};
+ghost use Rattle.small_worlds.specs.inside.Paths.{is_before, is_next, leads, names_entry};
 
 use crate::digests::is_stray;
 use entry_order::{Knot, names_digest};

@@ -1,5 +1,5 @@
 use Rattle.std.proofs.Common.{List, ℕ, subst}
-use Rattle.entry_gaps.specs.Without.{IsWithout}
+use Rattle.entry_gaps.specs.inside.Without.{IsWithout}
 use Rattle.entry_gaps.proofs.Members.{gaps_from}
 use Rattle.entry_gaps.proofs.gaps_of_entries.gaps.Goals as goal
 

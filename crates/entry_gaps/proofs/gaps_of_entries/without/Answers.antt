@@ -4,7 +4,7 @@ use Rattle.std.proofs.lemmas.Bool.{false≢true}
 use Rattle.std.proofs.lemmas.Bool.Decides.{Decides-ltb}
 use Rattle.std.proofs.lemmas.List.{get_or_default}
 use Rattle.std.proofs.lemmas.Slice.Eq.{bytes_eq-Decides}
-use Rattle.entry_gaps.specs.Without.{IsWithout}
+use Rattle.entry_gaps.specs.inside.Without.{IsWithout}
 use Rattle.entry_gaps.proofs.Sorted.{not_found, is_found, skips, takes_up}
 use Rattle.entry_gaps.proofs.gaps_of_entries.without.Goals as goal
 use Rattle.entry_gaps.proofs.gaps_of_entries.without.Goals.{then-i-gt0, else-i-gt0}

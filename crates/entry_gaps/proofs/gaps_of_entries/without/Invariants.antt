@@ -1,5 +1,5 @@
 use Rattle.std.proofs.Common.{take}
-use Rattle.entry_gaps.specs.Without.{IsWithout}
+use Rattle.entry_gaps.specs.inside.Without.{IsWithout}
 use Rattle.entry_gaps.proofs.gaps_of_entries.without.Given as goal
 
 -- the same of the digests so far

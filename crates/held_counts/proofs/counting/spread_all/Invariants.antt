@@ -1,5 +1,5 @@
 use Rattle.std.proofs.Common.{◌≡◌, drop, length, map, IsTrue}
-use Rattle.held_counts.specs.Counts.{spread}
+use Rattle.held_counts.specs.inside.Counts.{spread}
 use Rattle.held_counts.proofs.counting.spread_all.Given as goal
 
 abbrev pub invariant-loop-place : goal.invariant-loop-place

@@ -1,5 +1,5 @@
 use Rattle.std.proofs.Common.{◌≡◌, ◌∙◌, sym, ap, map, arith, true≢false}
-use Rattle.held_counts.specs.Counts.{spread}
+use Rattle.held_counts.specs.inside.Counts.{spread}
 use Rattle.held_counts.proofs.Rounds.{spread_times_fixed}
 use Rattle.held_counts.proofs.counting.spread_rounds.Goals as goal
 

@@ -1,5 +1,5 @@
 use Rattle.std.proofs.Common.{◌≡◌, length, map}
-use Rattle.held_counts.specs.Counts.{spread_times}
+use Rattle.held_counts.specs.inside.Counts.{spread_times}
 use Rattle.held_counts.proofs.counting.spread_rounds.Given as goal
 
 abbrev pub invariant-loop-round : goal.invariant-loop-round

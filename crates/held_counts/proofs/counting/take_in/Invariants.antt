@@ -1,5 +1,5 @@
 use Rattle.std.proofs.Common.{◌≡◌, drop, IsTrue}
-use Rattle.held_counts.specs.Counts.{taken_in}
+use Rattle.held_counts.specs.inside.Counts.{taken_in}
 use Rattle.held_counts.proofs.counting.take_in.Given as goal
 
 abbrev pub invariant-loop-event : goal.invariant-loop-event

@@ -1,7 +1,7 @@
 use Rattle.std.proofs.Common.{◌≡◌, ◌-◌, drop}
 use Rattle.std.specs.Prelude.{◌&&◌}
 use Rattle.std.specs.List.{list_any}
-use Rattle.small_worlds.specs.Paths.{is_next, leads}
+use Rattle.small_worlds.specs.inside.Paths.{is_next, leads}
 use Rattle.small_worlds.proofs.paths.+leads.Given as goal
 
 abbrev pub decreases-leads : goal.decreases-leads
