@@ -36,7 +36,7 @@ use Rattle.log_files.proofs.OneLog.{one_said}
 use Rattle.honest_logs.specs.WhatIsLeft.{IsLeftOf, IsPrefixRead, IsWholeRead, StandWhole, IsCutAt, end_of}
 use Rattle.honest_logs.proofs.Cuts.{IsCut, cut_of, take_behind}
 use Rattle.entry_format.proofs.Limits.{members_in}
-use Rattle.log_files.proofs.Records.{tree_of, records_fit, records_spelt}
+use Rattle.log_files.proofs.RecordTexts.{tree_of, records_fit, records_spelt}
 
 -- ---- lists of events
 

@@ -3,7 +3,7 @@ pub mod Headers
 pub mod OneLog
 pub mod SealedLogs
 pub mod OneBreak
-pub mod Records
+pub mod RecordTexts
 pub mod WrittenLogs
 pub mod KeptRecords
 pub mod SomeLog
