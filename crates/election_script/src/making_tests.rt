@@ -62,35 +62,62 @@ const MOST_SESSIONS: &str = "2 log 3122
 15611 step hear b1 b2 773
 15617 step hear b3 sv 801";
 
-/// Whether the text has so many bytes, and each row's line at the number before it.
-fn has_lines(alloc: Global, text: &[u8], bytes: usize, rows: &str) -> Result<bool, Fail> {
-    let lines: Vec<&str> = std::str::from_utf8(text)?.lines().collect(alloc)?;
+/// How many sessions a day has, how many bytes its text, and some of its lines.
+const DAYS: &[(u32, usize, &str)] = &[(10, 4683, TEN_SESSIONS), (800, 374_792, MOST_SESSIONS)];
+
+/// The text of a day of so many sessions.
+fn text_of_day(alloc: Global, sessions: u32) -> Result<Vec<u8>, Fail> {
+    if sessions < 1 || sessions > 800 {
+        return Err(Fail::from("a day has 1 to 800 sessions"));
+    }
+    let script = make(alloc, sessions)?;
+    Ok(write(alloc, &script)?)
+}
+
+/// Whether the row's line is the one with the number before it.
+fn has_line(lines: &[&str], row: &str) -> bool {
+    let Some((number, want)) = row.split_once(' ') else {
+        return false;
+    };
+    match number.parse::<usize>() {
+        Ok(number) => lines.get(number) == Some(&want),
+        Err(_) => false,
+    }
+}
+
+/// Whether each of the rows' lines is the one with the number before it.
+fn has_each(lines: &[&str], rows: &str) -> bool {
     for row in rows.lines() {
-        let Some((number, want)) = row.split_once(' ') else {
-            return Ok(false);
-        };
-        let number: usize = number.parse()?;
-        if lines.get(number) != Some(&want) {
-            return Ok(false);
+        if !has_line(lines, row) {
+            return false;
         }
     }
-    Ok(text.len() == bytes)
+    true
+}
+
+/// Whether the text has so many bytes, and each of the rows' lines at its number.
+fn has_lines(alloc: Global, text: &[u8], bytes: usize, rows: &str) -> Result<bool, Fail> {
+    let lines: Vec<&str> = std::str::from_utf8(text)?.lines().collect(alloc)?;
+    Ok(text.len() == bytes && has_each(lines.as_slice(), rows))
+}
+
+/// Whether the text of a day of so many sessions has so many bytes and these lines.
+fn is_day(alloc: Global, sessions: u32, bytes: usize, rows: &str) -> Result<bool, Fail> {
+    let text = text_of_day(alloc, sessions)?;
+    has_lines(alloc, text.as_slice(), bytes, rows)
 }
 
 #[test]
 fn a_day_of_one_session_has_this_text(rt: HostRuntime) -> Result<(), Fail> {
-    let alloc = rt.alloc();
-    let text = write(alloc, &make(alloc, 1)?)?;
-    assert_eq!(rt; text.as_slice(), ONE_SESSION.as_bytes());
+    let text = text_of_day(rt.alloc(), 1)?;
+    assert!(rt; text.as_slice() == ONE_SESSION.as_bytes());
     Ok(())
 }
 
 #[test]
 fn longer_days_have_these_lines(rt: HostRuntime) -> Result<(), Fail> {
-    let alloc = rt.alloc();
-    let ten = write(alloc, &make(alloc, 10)?)?;
-    assert!(rt; has_lines(alloc, ten.as_slice(), 4683, TEN_SESSIONS)?);
-    let most = write(alloc, &make(alloc, 800)?)?;
-    assert!(rt; has_lines(alloc, most.as_slice(), 374792, MOST_SESSIONS)?);
+    for &(sessions, bytes, rows) in DAYS {
+        assert!(rt; is_day(rt.alloc(), sessions, bytes, rows)?, "{sessions}");
+    }
     Ok(())
 }
