@@ -1,11 +1,13 @@
 //! Machines and plays of small scripts. What they come to was computed by another program.
-ghost use Rattle.std.specs.Prelude.{IfOk};
+ghost use Rattle.std.specs.Prelude.{◌≡◌, ◌<◌, length, IfOk};
 ghost use Rattle.election_script.specs.Lawful.{IsLawful};
+ghost use Rattle.polling_world.specs.Keys.{roster_of};
 
 use super::*;
 use election_script::{Script, read};
 use entangled_log::Event;
 use entry_format::Sealed;
+use roster::Roster;
 use std::alloc::{AllocError, Global};
 use std::test::Fail;
 
@@ -28,16 +30,37 @@ const SESSION: &str = "machine sv supervisor\nmachine b1 booth\n\
     do b1 commit 1 0707070707070707070707070707070707070707070707070707070707070707\n\
     do b1 cast 1 0707070707070707070707070707070707070707070707070707070707070707\n";
 
+/// The roster of the script.
+fn roster_in(alloc: Global, script: &Script) -> Result<Roster, AllocError>
+    requires { IsLawful script.now }
+    ensures { IfOk result (λ roster. roster.machines ≡ roster_of script.now) }
+{
+    let keys = keys_of(alloc, script)?;
+    roster_of(alloc, script, &keys)
+}
+
+/// The script's machine at the place.
+fn machine_in(
+    alloc: Global,
+    script: &Script,
+    at: u32,
+    stop_at: Option<u32>,
+) -> Result<Machine, Memory>
+    requires lawful { IsLawful script.now }
+    requires at { at < length script.now.machines }
+{
+    let roster = roster_in(alloc, script)?;
+    let key = key_of(alloc, script, at)?;
+    Machine::make(alloc, script, &roster, at, key, stop_at)
+}
+
 /// The session's machine at the place, with a log of so many events.
 fn machine_of(alloc: Global, log: u32, at: u32, stop_at: Option<u32>) -> Result<Machine, Fail> {
     let script = script_of(alloc, 1, log, SESSION)?;
     if at as usize >= script.machines.as_slice().len() {
         return Err(Fail::from("the script has the machine"));
     }
-    let keys = keys_of(alloc, &script)?;
-    let roster = roster_of(alloc, &script, &keys)?;
-    let key = key_of(alloc, &script, at)?;
-    Ok(Machine::make(alloc, &script, &roster, at, key, stop_at)?)
+    Ok(machine_in(alloc, &script, at, stop_at)?)
 }
 
 /// The word of what became of an action.
@@ -63,15 +86,21 @@ fn left_word(machine: &Machine) -> &'static str {
     }
 }
 
-/// How many actions the machine does before it is refused one, and the cause, which is also the one
-/// that it told before.
+/// What becomes of the next action, which is also what was told of it before.
+fn act_word(alloc: Global, machine: &mut Machine) -> Result<&'static str, AllocError> {
+    let told = left_word(machine);
+    let acted = machine.act(alloc, 1)?;
+    if word_of(&acted) == told {
+        Ok(told)
+    } else {
+        Ok("another cause was told")
+    }
+}
+
+/// How many actions the machine does before it is refused one, and the cause.
 fn acts(alloc: Global, machine: &mut Machine) -> Result<(u32, &'static str), AllocError> {
     for done in 0..6 {
-        let told = left_word(machine);
-        let word = word_of(&machine.act(alloc, 1)?);
-        if word != told {
-            return Ok((done, "another cause was told"));
-        }
+        let word = act_word(alloc, machine)?;
         if word != "Ready" {
             return Ok((done, word));
         }
@@ -88,34 +117,56 @@ const ACTS: &[(u32, u32, Option<u32>, u32, &str)] = &[
     (64, 0, Some(1), 1, "Stopped"),
 ];
 
+/// Whether the machine does so many actions by itself, and this is the cause against the next.
+fn does(
+    alloc: Global,
+    log: u32,
+    at: u32,
+    stop_at: Option<u32>,
+    want: (u32, &str),
+) -> Result<bool, Fail> {
+    let mut machine = machine_of(alloc, log, at, stop_at)?;
+    Ok(acts(alloc, &mut machine)? == want)
+}
+
 #[test]
 fn a_machine_acts_until_a_cause_stands_against_it(rt: HostRuntime) -> Result<(), Fail> {
     for &(log, at, stop_at, done, why) in ACTS {
-        let mut machine = machine_of(rt.alloc(), log, at, stop_at)?;
-        assert_eq!(rt;
-            acts(rt.alloc(), &mut machine)?,
-            (done, why),
+        assert!(rt;
+            does(rt.alloc(), log, at, stop_at, (done, why))?,
             "{log} {at} {stop_at:?}"
         );
     }
     Ok(())
 }
 
-/// Each machine's name, how many entries it sent, the lengths of the texts that it holds, and why its
-/// next action isn't done.
-fn outcome(alloc: Global, world: &World) -> Result<String, AllocError> {
+/// Appends the lengths of the texts of the events.
+fn push_lengths(text: &mut String, events: &[Event<Sealed>]) -> Result<(), Fail> {
+    for event in events {
+        write!(text, " {}", text_of(event).len())?;
+    }
+    Ok(())
+}
+
+/// Appends a machine's name, how many entries it sent, the lengths of the texts that it holds, and
+/// why its next action isn't done.
+fn push_machine(text: &mut String, machine: &Machine) -> Result<(), Fail> {
+    write!(
+        text,
+        "{} sent {}, holds",
+        machine.name(),
+        machine.sent_count()
+    )?;
+    push_lengths(text, machine.log().events())?;
+    writeln!(text, ", {}", left_word(machine))?;
+    Ok(())
+}
+
+/// That of each machine.
+fn outcome(alloc: Global, machines: &[Machine]) -> Result<String, Fail> {
     let mut text = String::new(alloc);
-    for machine in &world.machines {
-        let sent = machine.sent_count();
-        text.push_str(machine.name())?;
-        text.push_str(&format!(in alloc; " sent {sent}, holds")?)?;
-        for event in machine.log().events() {
-            let length = text_of(event).len();
-            text.push_str(&format!(in alloc; " {length}")?)?;
-        }
-        text.push_str(", ")?;
-        text.push_str(left_word(machine))?;
-        text.push_str("\n")?;
+    for machine in machines {
+        push_machine(&mut text, machine)?;
     }
     Ok(text)
 }
@@ -210,12 +261,22 @@ const PLAYS: &[(u32, &str, &str)] = &[
     ),
 ];
 
+/// The world after the steps of the script of these lines in this version, with logs of 64 events.
+pub(crate) fn played(alloc: Global, version: u32, lines: &str) -> Result<World, Fail> {
+    let script = script_of(alloc, version, 64, lines)?;
+    Ok(play(alloc, &script)?)
+}
+
+/// Whether those lines come to this.
+fn comes_to(alloc: Global, version: u32, lines: &str, want: &str) -> Result<bool, Fail> {
+    let world = played(alloc, version, lines)?;
+    Ok(outcome(alloc, &world.machines)?.as_str() == want)
+}
+
 #[test]
 fn scripts_of_both_versions_are_played(rt: HostRuntime) -> Result<(), Fail> {
     for &(version, lines, want) in PLAYS {
-        let script = script_of(rt.alloc(), version, 64, lines)?;
-        let world = play(rt.alloc(), &script)?;
-        assert_eq!(rt; outcome(rt.alloc(), &world)?.as_str(), want, "{lines}");
+        assert!(rt; comes_to(rt.alloc(), version, lines, want)?, "{lines}");
     }
     Ok(())
 }
