@@ -5,7 +5,7 @@ use super::*;
 use precedence::{Arrows, Rows};
 use roster::Role;
 use rule_language::{Kind, Row, Rule, read, standard};
-use std::alloc::Global;
+use std::alloc::{AllocError, Global};
 use std::marker::Model;
 use std::test::Fail;
 
@@ -103,42 +103,64 @@ fn row_of(words: &str) -> Row {
     }
 }
 
-/// Entries in a chain, each of which names the one before it.
-fn chain_of(alloc: Global, entries: &str, ragged: usize) -> Result<Place, Fail> {
-    let mut place = Place {
+/// A place of no entries, at which this node would be ragged.
+fn empty_of(alloc: Global, ragged: usize) -> Place {
+    Place {
         nodes: Vec::new(alloc),
         ragged,
         rows: Vec::new(alloc),
-    };
+    }
+}
+
+/// A node that names the one before it, where there is one.
+fn behind(alloc: Global, count: u32) -> Result<Listed, AllocError> {
+    let mut parents = Vec::new(alloc);
+    if count > 0 {
+        parents.push(count - 1)?;
+    }
+    Ok(Listed { parents })
+}
+
+/// Adds an entry to a place.
+fn add(place: &mut Place, node: Listed, words: &str) -> Result<(), AllocError> {
+    place.nodes.push(node)?;
+    place.rows.push(row_of(words))?;
+    Ok(())
+}
+
+/// Entries in a chain, each of which names the one before it.
+fn chain_of(alloc: Global, entries: &str, ragged: usize) -> Result<Place, AllocError> {
+    let mut place = empty_of(alloc, ragged);
     let mut count = 0u32;
     for words in entries.split(", ") {
-        let mut parents = Vec::new(alloc);
-        if count > 0 {
-            parents.push(count - 1)?;
-        }
-        place.nodes.push(Listed { parents })?;
-        place.rows.push(row_of(words))?;
+        add(&mut place, behind(alloc, count)?, words)?;
         count = count.saturating_add(1);
     }
     Ok(place)
 }
 
 /// So many entries that name nothing.
-fn crowd_of(alloc: Global, count: u32) -> Result<Place, Fail> {
-    let mut place = Place {
-        nodes: Vec::new(alloc),
-        ragged: usize::MAX,
-        rows: Vec::new(alloc),
-    };
+fn crowd_of(alloc: Global, count: u32) -> Result<Place, AllocError> {
+    let mut place = empty_of(alloc, usize::MAX);
     for _ in 0..count {
-        let parents = Vec::new(alloc);
-        place.nodes.push(Listed { parents })?;
-        place.rows.push(row_of("opened 0 0 0"))?;
+        add(&mut place, behind(alloc, 0)?, "opened 0 0 0")?;
     }
     Ok(place)
 }
 
-/// The answer on a rule: K, U, W where it is too wide, or B and the places for which it is broken.
+/// The verdict in words: K, U, W where the rule is too wide, or B and the places for which it is
+/// broken.
+fn word_of(alloc: Global, verdict: Result<Verdict, JudgeFault>) -> Result<String, Fail> {
+    Ok(match verdict {
+        Ok(Verdict::Kept) => String::from_str(alloc, "K")?,
+        Ok(Verdict::Unsettled) => String::from_str(alloc, "U")?,
+        Ok(Verdict::Broken(places)) => format!(in alloc; "B{:?}", places.as_slice())?,
+        Err(JudgeFault::TooWide) => String::from_str(alloc, "W")?,
+        Err(JudgeFault::Memory) => String::from_str(alloc, "memory")?,
+    })
+}
+
+/// The answer on a rule, or nothing where there are too many entries.
 fn answer_of(alloc: Global, rule: &Rule, place: &Place) -> Result<String, Fail> {
     if place.count() > 16384 {
         return Ok(String::new(alloc));
@@ -147,37 +169,51 @@ fn answer_of(alloc: Global, rule: &Rule, place: &Place) -> Result<String, Fail> 
     if place.rows.len() != order.count() {
         return Ok(String::new(alloc));
     }
-    Ok(match judge(alloc, rule, &place.rows, &order) {
-        Ok(Verdict::Kept) => format!(in alloc; "K")?,
-        Ok(Verdict::Unsettled) => format!(in alloc; "U")?,
-        Ok(Verdict::Broken(places)) => format!(in alloc; "B{:?}", places.as_slice())?,
-        Err(JudgeFault::TooWide) => format!(in alloc; "W")?,
-        Err(JudgeFault::Memory) => format!(in alloc; "memory")?,
-    })
+    word_of(alloc, judge(alloc, rule, &place.rows, &order))
 }
 
-/// The text of a rule that says this. T is true, F is false, and U is unknown of the chain below, whose
-/// one activating machine names what is missing.
-fn text_of(alloc: Global, formula: &str) -> Result<Vec<u8>, Fail> {
-    let mut text = Vec::new(alloc);
-    text.extend_from_slice(b"(rule R ")?;
-    for byte in formula.bytes() {
-        match byte {
-            b'T' => text.extend_from_slice(b"true")?,
-            b'F' => text.extend_from_slice(b"(not true)")?,
-            b'U' => text.extend_from_slice(b"(every u activate (some w cast before u true))")?,
-            byte => text.push(byte)?,
-        }
+/// What a letter of a rule stands for. T is true, F is false, and U is unknown of the chain below,
+/// whose one activating machine names what is missing.
+fn meaning(letter: char) -> Option<&'static str> {
+    match letter {
+        'T' => Some("true"),
+        'F' => Some("(not true)"),
+        'U' => Some("(every u activate (some w cast before u true))"),
+        _ => None,
     }
-    text.push(b')')?;
+}
+
+/// Appends a letter of a rule, or what it stands for.
+fn push_meaning(text: &mut String, letter: char) -> Result<(), AllocError> {
+    match meaning(letter) {
+        Some(part) => text.push_str(part),
+        None => text.push(letter),
+    }
+}
+
+/// The text of a rule that says this.
+fn text_of(alloc: Global, formula: &str) -> Result<String, AllocError> {
+    let mut text = String::from_str(alloc, "(rule R ")?;
+    for letter in formula.chars() {
+        push_meaning(&mut text, letter)?;
+    }
+    text.push(')')?;
     Ok(text)
 }
 
-/// The answer on the one rule that says this.
-fn answer_on(alloc: Global, formula: &str, place: &Place) -> Result<String, Fail> {
+/// The one rule that says this.
+fn rules_of(alloc: Global, formula: &str) -> Result<Vec<Rule>, Fail> {
     let text = text_of(alloc, formula)?;
-    let rules = read(alloc, text.as_slice())?;
-    answer_of(alloc, rules.as_slice().first().ok_or("rule")?, place)
+    Ok(read(alloc, text.as_bytes())?)
+}
+
+/// Whether the answer on the one rule that says this is this.
+fn is_answer(alloc: Global, formula: &str, place: &Place, want: &str) -> Result<bool, Fail> {
+    let rules = rules_of(alloc, formula)?;
+    let [rule] = rules.as_slice() else {
+        return Ok(false);
+    };
+    Ok(answer_of(alloc, rule, place)?.as_str() == want)
 }
 
 /// Four entries in a chain, of which the third names what is missing.
@@ -256,14 +292,19 @@ B[]: (some x entry (every y entry (before x y)))
 K: (every x cast (every y cast (= x.ballot y.ballot)))
 B[]: (and (every x entry F) T)";
 
+/// Whether the answer on a row's rule is the row's first part.
+fn is_row_answered(alloc: Global, row: &str, place: &Place) -> Result<bool, Fail> {
+    match row.split_once(": ") {
+        Some((want, formula)) => is_answer(alloc, formula, place, want),
+        None => Ok(false),
+    }
+}
+
 #[test]
 fn small_rules_have_their_answers(rt: HostRuntime) -> Result<(), Fail> {
-    let alloc = rt.alloc();
-    let place = chain_of(alloc, CHAIN, 2)?;
+    let place = chain_of(rt.alloc(), CHAIN, 2)?;
     for row in ANSWERS.lines() {
-        let (want, formula) = row.split_once(": ").ok_or("row")?;
-        let answer = answer_on(alloc, formula, &place)?;
-        assert!(rt; answer.as_str() == want, "{row}");
+        assert!(rt; is_row_answered(rt.alloc(), row, &place)?, "{row}");
     }
     Ok(())
 }
@@ -289,20 +330,44 @@ const PLACES: &[(&str, usize, &str)] = &[
     ),
 ];
 
+/// Appends the rule's name and the answer on it, unless it is kept.
+fn push_answer(alloc: Global, found: &mut String, rule: &Rule, place: &Place) -> Result<(), Fail> {
+    let answer = answer_of(alloc, rule, place)?;
+    if answer.as_str() != "K" {
+        write!(found, " {} {}", rule.name, answer)?;
+    }
+    Ok(())
+}
+
+/// The names of the rules that aren't kept, with the answers on them.
+fn answers_of(alloc: Global, rules: &[Rule], place: &Place) -> Result<String, Fail> {
+    let mut found = String::new(alloc);
+    for rule in rules {
+        push_answer(alloc, &mut found, rule, place)?;
+    }
+    Ok(found)
+}
+
+/// Whether these are those of the rules that aren't kept in that chain.
+fn are_answers(
+    alloc: Global,
+    rules: &[Rule],
+    entries: &str,
+    ragged: usize,
+    want: &str,
+) -> Result<bool, Fail> {
+    let place = chain_of(alloc, entries, ragged)?;
+    Ok(answers_of(alloc, rules, &place)?.as_str() == want)
+}
+
 #[test]
 fn the_standard_rules_have_their_answers(rt: HostRuntime) -> Result<(), Fail> {
-    let alloc = rt.alloc();
-    let rules = standard(alloc)?;
+    let rules = standard(rt.alloc())?;
     for &(entries, ragged, want) in PLACES {
-        let place = chain_of(alloc, entries, ragged)?;
-        let mut found = String::new(alloc);
-        for rule in rules.as_slice() {
-            let answer = answer_of(alloc, rule, &place)?;
-            if answer.as_str() != "K" {
-                write!(found, " {} {}", rule.name, answer)?;
-            }
-        }
-        assert!(rt; found.as_str() == want, "{found}");
+        assert!(rt;
+            are_answers(rt.alloc(), rules.as_slice(), entries, ragged, want)?,
+            "{entries}"
+        );
     }
     Ok(())
 }
@@ -310,14 +375,19 @@ fn the_standard_rules_have_their_answers(rt: HostRuntime) -> Result<(), Fail> {
 /// 128 to the fourth is exactly the limit.
 const WIDTHS: &[(u32, &str)] = &[(128, "B[0, 0, 0, 0]"), (129, "W")];
 
+/// A rule of four entries.
+const WIDE: &str = "(every a entry (every b entry (every c entry (every d entry F))))";
+
+/// Whether the answer on it is this of so many entries.
+fn is_wide(alloc: Global, count: u32, want: &str) -> Result<bool, Fail> {
+    let place = crowd_of(alloc, count)?;
+    is_answer(alloc, WIDE, &place, want)
+}
+
 #[test]
 fn a_rule_may_be_as_wide_as_the_limit(rt: HostRuntime) -> Result<(), Fail> {
-    let alloc = rt.alloc();
-    let rule = "(every a entry (every b entry (every c entry (every d entry F))))";
     for &(count, want) in WIDTHS {
-        let place = crowd_of(alloc, count)?;
-        let answer = answer_on(alloc, rule, &place)?;
-        assert!(rt; answer.as_str() == want, "{count}");
+        assert!(rt; is_wide(rt.alloc(), count, want)?, "{count}");
     }
     Ok(())
 }
