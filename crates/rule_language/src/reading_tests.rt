@@ -1,8 +1,7 @@
 //! What is read of texts of rules. The expected answers are those of an independent program for the
 //! same texts.
 use crate::{RuleFault, STANDARD, read, standard, write};
-use hall_text::{decimal, lines};
-use std::alloc::Global;
+use std::alloc::{AllocError, Global};
 use std::test::Fail;
 
 /// The place of the first fault, its cause, and the text, in which `~` stands for a newline. Where
@@ -117,101 +116,120 @@ const ROWS: &str = "\
 25 Unbound (rule a (every x cast (< y.maker
 ";
 
-/// The place and the word of the answer.
-fn answer_of(alloc: Global, text: &[u8]) -> Result<(usize, &'static [u8]), Fail> {
+/// Whether the answer to a text is this place and this word.
+fn is_answered(alloc: Global, text: &[u8], place: usize, cause: &str) -> Result<bool, Fail> {
     match read(alloc, text) {
-        Ok(_) => Ok((text.len(), b"ok")),
-        Err(RuleFault::At { at, why }) => Ok((at, why.word().as_bytes())),
+        Ok(_) => Ok(place == text.len() && cause == "ok"),
+        Err(RuleFault::At { at, why }) => Ok(place == at && cause == why.word()),
         Err(fault) => Err(fault.into()),
     }
 }
 
+/// The byte that one of a row stands for: `~` is a newline.
+fn written(byte: u8) -> u8 {
+    if byte == b'~' { b'\n' } else { byte }
+}
+
 /// The row with its newlines.
-fn text_of(alloc: Global, row: &[u8]) -> Result<Vec<u8>, Fail> {
+fn text_of(alloc: Global, row: &str) -> Result<Vec<u8>, AllocError> {
     let mut text = Vec::new(alloc);
-    for byte in row {
-        text.push(if *byte == b'~' { b'\n' } else { *byte })?;
+    for byte in row.bytes() {
+        text.push(written(byte))?;
     }
     Ok(text)
 }
 
-/// The first word of a row, and what stands behind it and the space.
-fn split(row: &[u8]) -> (&[u8], &[u8]) {
-    for (at, byte) in row.iter().enumerate() {
-        if *byte == b' ' {
-            return (&row[..at], &row[at + 1..]);
-        }
-    }
-    (row, b"")
+/// Whether the answer to a row's text is the row's place and cause.
+fn is_row_answered(alloc: Global, row: &str) -> Result<bool, Fail> {
+    let Some((place, rest)) = row.split_once(' ') else {
+        return Ok(false);
+    };
+    let Some((cause, text)) = rest.split_once(' ') else {
+        return Ok(false);
+    };
+    let text = text_of(alloc, text)?;
+    is_answered(alloc, text.as_slice(), place.parse()?, cause)
 }
 
 #[test]
 fn the_first_fault_is_told_with_its_place_and_cause(rt: HostRuntime) -> Result<(), Fail> {
-    let alloc = rt.alloc();
-    let rows = ROWS.as_bytes();
-    for line in lines(alloc, rows)?.as_slice() {
-        let row = rows.get(line.start..line.end).ok_or("line")?;
-        let (place, rest) = split(row);
-        let (cause, text) = split(rest);
-        let text = text_of(alloc, text)?;
-        let (at, word) = answer_of(alloc, text.as_slice())?;
-        assert_eq!(rt;
-            decimal(place).ok_or("place")? as usize,
-            at,
-            "place of {row:?}"
-        );
-        assert_eq!(rt; word, cause, "cause of {row:?}");
+    for row in ROWS.lines() {
+        assert!(rt; is_row_answered(rt.alloc(), row)?, "{row:?}");
     }
     Ok(())
 }
 
-/// What a text begins with, a part and how often it stands there, what stands in the middle, what is
-/// repeated as often behind it, and the end; and the answer.
-const LONG: &[(&str, &str, u32, &str, &str, &str, usize, &str)] = &[
-    ("(rule D ", "(not ", 31, "true", ")", ")", 199, "ok"),
-    ("(rule D ", "(not ", 32, "true", ")", ")", 163, "TooDeep"),
-    ("(rule D ", "(not ", 40, "", "", "", 163, "TooDeep"),
-    ("(rule D ", "(not ", 31, "true (", "", "", 168, "Shape"),
-    ("(rule M (and", " true", 64, "", "", "))", 334, "ok"),
-    ("(rule M (and", " true", 65, "", "", "))", 333, "Shape"),
-    ("", "(", 1048576, "", "", "", 1, "Shape"),
-    ("", "(", 33, "", "", "", 1, "Shape"),
-    ("(rule ", "a", 1048576, "", "", "", 6, "Shape"),
-    ("(rule a ", "a", 1048576, "", "", "", 8, "Shape"),
-    ("\t", " ", 1048576, "", "", "", 1048577, "Shape"),
+/// The parts of a text, each with how often it stands there; and the answer.
+const LONG: &[(&[(&str, u32)], usize, &str)] = &[
     (
-        "(rule a (every x cast (= x.number ",
-        "9",
-        1048576,
-        "",
-        "",
-        "",
+        &[("(rule D ", 1), ("(not ", 31), ("true", 1), (")", 32)],
+        199,
+        "ok",
+    ),
+    (
+        &[("(rule D ", 1), ("(not ", 32), ("true", 1), (")", 33)],
+        163,
+        "TooDeep",
+    ),
+    (&[("(rule D ", 1), ("(not ", 40)], 163, "TooDeep"),
+    (
+        &[("(rule D ", 1), ("(not ", 31), ("true (", 1)],
+        168,
+        "Shape",
+    ),
+    (&[("(rule M (and", 1), (" true", 64), ("))", 1)], 334, "ok"),
+    (
+        &[("(rule M (and", 1), (" true", 65), ("))", 1)],
+        333,
+        "Shape",
+    ),
+    (&[("(", 1_048_576)], 1, "Shape"),
+    (&[("(", 33)], 1, "Shape"),
+    (&[("(rule ", 1), ("a", 1_048_576)], 6, "Shape"),
+    (&[("(rule a ", 1), ("a", 1_048_576)], 8, "Shape"),
+    (&[("\t", 1), (" ", 1_048_576)], 1_048_577, "Shape"),
+    (
+        &[("(rule a (every x cast (= x.number ", 1), ("9", 1_048_576)],
         34,
         "Shape",
     ),
 ];
 
 /// Appends the part so many times.
-fn repeat(text: &mut Vec<u8>, part: &str, count: u32) -> Result<(), Fail> {
+fn repeat(text: &mut Vec<u8>, part: &str, count: u32) -> Result<(), AllocError> {
     for _ in 0..count {
         text.extend_from_slice(part.as_bytes())?;
     }
     Ok(())
 }
 
+/// The text of these parts, each of which stands so often.
+fn joined(alloc: Global, parts: &[(&str, u32)]) -> Result<Vec<u8>, AllocError> {
+    let mut text = Vec::new(alloc);
+    for &(part, count) in parts {
+        repeat(&mut text, part, count)?;
+    }
+    Ok(text)
+}
+
+/// Whether this is the answer to that text.
+fn is_long_answered(
+    alloc: Global,
+    parts: &[(&str, u32)],
+    place: usize,
+    cause: &str,
+) -> Result<bool, Fail> {
+    let text = joined(alloc, parts)?;
+    is_answered(alloc, text.as_slice(), place, cause)
+}
+
 #[test]
 fn long_texts_are_read_up_to_the_limits(rt: HostRuntime) -> Result<(), Fail> {
-    let alloc = rt.alloc();
-    for &(front, part, count, middle, closing, end, place, cause) in LONG {
-        let mut text = Vec::new(alloc);
-        repeat(&mut text, front, 1)?;
-        repeat(&mut text, part, count)?;
-        repeat(&mut text, middle, 1)?;
-        repeat(&mut text, closing, count)?;
-        repeat(&mut text, end, 1)?;
-        let (at, word) = answer_of(alloc, text.as_slice())?;
-        assert_eq!(rt; at, place, "place of {count} times {part}");
-        assert_eq!(rt; word, cause.as_bytes(), "cause of {count} times {part}");
+    for &(parts, place, cause) in LONG {
+        assert!(rt;
+            is_long_answered(rt.alloc(), parts, place, cause)?,
+            "{parts:?}"
+        );
     }
     Ok(())
 }
@@ -219,28 +237,41 @@ fn long_texts_are_read_up_to_the_limits(rt: HostRuntime) -> Result<(), Fail> {
 /// How many rules there are, and the answer.
 const MANY: &[(u32, usize, &str)] = &[(256, 3986, "ok"), (257, 3986, "Shape")];
 
+/// The text of so many rules.
+fn rules_text(alloc: Global, count: u32) -> Result<String, Fail> {
+    let mut text = String::new(alloc);
+    for place in 0..count {
+        writeln!(text, "(rule {place} true)")?;
+    }
+    Ok(text)
+}
+
+/// Whether this is the answer to the text of so many rules.
+fn is_number_answered(alloc: Global, count: u32, place: usize, cause: &str) -> Result<bool, Fail> {
+    let text = rules_text(alloc, count)?;
+    is_answered(alloc, text.as_bytes(), place, cause)
+}
+
 #[test]
 fn at_most_256_rules_are_read(rt: HostRuntime) -> Result<(), Fail> {
-    let alloc = rt.alloc();
     for &(count, place, cause) in MANY {
-        let mut text = Vec::new(alloc);
-        for i in 0..count {
-            let rule = format!(in alloc; "(rule {i} true)\n")?;
-            text.extend_from_slice(rule.as_bytes())?;
-        }
-        let (at, word) = answer_of(alloc, text.as_slice())?;
-        assert_eq!(rt; at, place, "place of {count} rules");
-        assert_eq!(rt; word, cause.as_bytes(), "cause of {count} rules");
+        assert!(rt;
+            is_number_answered(rt.alloc(), count, place, cause)?,
+            "{count} rules"
+        );
     }
     Ok(())
 }
 
+/// Whether there are 22 standard rules, which are written as their text.
+fn are_standard(alloc: Global) -> Result<bool, Fail> {
+    let rules = standard(alloc)?;
+    let text = write(alloc, rules.as_slice())?;
+    Ok(rules.len() == 22 && text.as_slice() == STANDARD.as_bytes())
+}
+
 #[test]
 fn the_standard_rules_are_written_as_their_text(rt: HostRuntime) -> Result<(), Fail> {
-    let alloc = rt.alloc();
-    let rules = standard(alloc)?;
-    assert_eq!(rt; rules.len(), 22);
-    let text = write(alloc, rules.as_slice())?;
-    assert_eq!(rt; text.as_slice(), STANDARD.as_bytes());
+    assert!(rt; are_standard(rt.alloc())?);
     Ok(())
 }
