@@ -48,6 +48,25 @@ const FILES: &[(&str, &str)] = &[
     ("free", "(rule A1 (every x opened (same x y)))\n"),
 ];
 
+/// The words that stand in one text.
+pub(super) fn words_of(alloc: Global, text: &str) -> Result<Vec<String>, Fail> {
+    let mut words = Vec::new(alloc);
+    for word in text.split(' ') {
+        words.push(String::from_str(alloc, word)?)?;
+    }
+    Ok(words)
+}
+
+/// A store without files, no call of which fails.
+pub(super) fn empty(alloc: Global) -> MemoryStore {
+    MemoryStore::make(alloc, Vec::new(alloc), Vec::new(alloc))
+}
+
+/// A sink that takes 1000 bytes at a write, none of which fails.
+pub(super) fn wide(alloc: Global) -> MemorySink {
+    MemorySink::make(alloc, 1000, Vec::new(alloc))
+}
+
 /// The program's status for words that stand in one text.
 pub(super) fn answer(
     alloc: Global,
@@ -55,11 +74,45 @@ pub(super) fn answer(
     store: &mut MemoryStore,
     out: &mut MemorySink,
 ) -> Result<Status, Fail> {
-    let mut list = Vec::new(alloc);
-    for word in words.split(' ') {
-        list.push(String::from_str(alloc, word)?)?;
+    let words = words_of(alloc, words)?;
+    Ok(auditorium_still(alloc, words.as_slice(), store, out))
+}
+
+/// Whether the words have this status and this output.
+pub(super) fn is_answered(
+    alloc: Global,
+    words: &str,
+    store: &mut MemoryStore,
+    (status, output): (Status, &str),
+) -> Result<bool, Fail> {
+    let mut out = wide(alloc);
+    let answered = answer(alloc, words, store, &mut out)?;
+    Ok(answered == status && out.bytes() == output.as_bytes())
+}
+
+/// The exit status and the output for the words.
+pub(super) fn told(alloc: Global, words: &str, store: &mut MemoryStore) -> Result<String, Fail> {
+    let mut out = wide(alloc);
+    let status = answer(alloc, words, store, &mut out)?.exit_status();
+    let lines = String::from_utf8_lossy(alloc, out.bytes())?;
+    Ok(format!(in alloc; "{status} {lines}")?)
+}
+
+/// The bytes of the parts, one behind the other.
+pub(super) fn all_of(alloc: Global, parts: &[&[u8]]) -> Result<Vec<u8>, Fail> {
+    let mut bytes = Vec::new(alloc);
+    for part in parts {
+        bytes.extend_from_slice(part)?;
     }
-    Ok(auditorium_still(alloc, list.as_slice(), store, out))
+    Ok(bytes)
+}
+
+/// The octets of these digits.
+pub(super) fn octets_of(alloc: Global, digits: &str) -> Result<Vec<u8>, Fail> {
+    match hex::decode(alloc, digits) {
+        Ok(octets) => Ok(octets),
+        Err(_) => Err(Fail::from("the digits are hexadecimal")),
+    }
 }
 
 /// Plays the script into files whose names begin so.
@@ -71,40 +124,61 @@ pub(super) fn play(
 ) -> Result<(), Fail> {
     store.place(alloc, "script", script.as_bytes())?;
     let words = format!(in alloc; "play script {prefix}")?;
-    let mut out = MemorySink::make(alloc, 1000, Vec::new(alloc));
-    answer(alloc, words.as_str(), store, &mut out)?;
+    answer(alloc, words.as_str(), store, &mut wide(alloc))?;
     Ok(())
 }
 
-/// Puts the first bytes of a log into a file, with the lowest bit of one of them changed.
-fn cut(
+/// The first bytes of a file, or fewer if it is shorter.
+pub(super) fn front_of(
+    alloc: Global,
+    store: &MemoryStore,
+    name: &str,
+    length: usize,
+) -> Result<Vec<u8>, Fail> {
+    let bytes = store.file(name).unwrap_or(b"");
+    Ok(Vec::from_slice(alloc, &bytes[..bytes.len().min(length)])?)
+}
+
+/// The bytes with the lowest bit of one of them changed.
+pub(super) fn flipped(alloc: Global, bytes: &[u8], place: usize) -> Result<Vec<u8>, Fail> {
+    let mut flipped = Vec::from_slice(alloc, bytes)?;
+    if let Some(byte) = flipped.get_mut(place) {
+        *byte ^= 1;
+    }
+    Ok(flipped)
+}
+
+/// Puts the first bytes of a log into a file.
+fn place_cut(
     alloc: Global,
     length: usize,
-    flipped: usize,
     name: &str,
     store: &mut MemoryStore,
 ) -> Result<(), Fail> {
-    let mut bytes = Vec::new(alloc);
-    if let Some(log) = store.file("p.sv.log") {
-        bytes.extend_from_slice(&log[..length.min(log.len())])?;
-    }
-    if let Some(byte) = bytes.get_mut(flipped) {
-        *byte ^= 1;
-    }
+    let bytes = front_of(alloc, store, "p.sv.log", length)?;
+    Ok(store.place(alloc, name, &bytes)?)
+}
+
+/// Puts a log into a file, with one bit changed.
+fn place_flipped(alloc: Global, name: &str, store: &mut MemoryStore) -> Result<(), Fail> {
+    let bytes = flipped(alloc, store.file("p.sv.log").unwrap_or(b""), 12_430)?;
     Ok(store.place(alloc, name, &bytes)?)
 }
 
 /// The text of the supervisor's second entry of `election`, unsigned: it names the first by this
 /// digest, and has its stamp.
 fn stray_body(alloc: Global, election: &[u8], digest: &str) -> Result<Vec<u8>, Fail> {
-    let mut body = Vec::from_slice(alloc, b"(5:entry1:132:")?;
-    body.extend_from_slice(election)?;
-    body.extend_from_slice(b"1:01:11:1(32:")?;
-    if let Some(digest) = hex::decode(alloc, digest).ok() {
-        body.extend_from_slice(digest.as_slice())?;
-    }
-    body.extend_from_slice(b")(9:authorise1:11:1))")?;
-    Ok(body)
+    let digest = octets_of(alloc, digest)?;
+    all_of(
+        alloc,
+        &[
+            b"(5:entry1:132:",
+            election,
+            b"1:01:11:1(32:",
+            &digest,
+            b")(9:authorise1:11:1))",
+        ],
+    )
 }
 
 /// The signature of the supervisor of `TWO` with its key's second index.
@@ -112,45 +186,58 @@ fn signed(alloc: Global, body: &[u8]) -> Result<Vec<u8>, Fail> {
     if let Ok(script) = election_script::read(alloc, TWO.as_bytes()) {
         if !script.machines.as_slice().is_empty() {
             let mut secret = polling_world::key_of(alloc, &script, 0)?;
-            if secret.sign(alloc, body).is_ok() {
-                if let Ok(signature) = secret.sign(alloc, body) {
-                    return Ok(signature);
-                }
-            }
+            secret.sign(alloc, body)?;
+            return Ok(secret.sign(alloc, body)?);
         }
     }
     Err(Fail::from("the entry is signed"))
 }
 
-/// Puts into a file the supervisor's log up to its first entry, and then a stray.
-fn place_stray(alloc: Global, name: &str, store: &mut MemoryStore) -> Result<(), Fail> {
-    let log = store.file("p.sv.log").unwrap_or(b"");
-    let mut bytes = Vec::from_slice(alloc, &log[..log.len().min(2452)])?;
-    let election = &log[log.len().min(43)..log.len().min(75)];
+/// The record of the stray.
+fn stray_record(alloc: Global, election: &[u8]) -> Result<Vec<u8>, Fail> {
     let body = stray_body(alloc, election, FIRST)?;
     let signature = signed(alloc, &body)?;
-    bytes.extend_from_slice(b"(4:sent(6:sealed")?;
-    bytes.extend_from_slice(&body)?;
-    bytes.extend_from_slice(b"2348:")?;
-    bytes.extend_from_slice(&signature)?;
-    bytes.extend_from_slice(b"))")?;
+    all_of(
+        alloc,
+        &[b"(4:sent(6:sealed", &body, b"2348:", &signature, b"))"],
+    )
+}
+
+/// The supervisor's log up to its first entry, and then a stray.
+fn stray_log(alloc: Global, log: &[u8]) -> Result<Vec<u8>, Fail> {
+    let election = &log[log.len().min(43)..log.len().min(75)];
+    let record = stray_record(alloc, election)?;
+    all_of(alloc, &[&log[..log.len().min(2452)], &record])
+}
+
+/// Puts that log into a file.
+fn place_stray(alloc: Global, name: &str, store: &mut MemoryStore) -> Result<(), Fail> {
+    let bytes = stray_log(alloc, store.file("p.sv.log").unwrap_or(b""))?;
     Ok(store.place(alloc, name, &bytes)?)
 }
 
-/// A store with the files of all plays, and with cut and changed logs.
-fn hall(alloc: Global) -> Result<MemoryStore, Fail> {
-    let mut store = MemoryStore::make(alloc, Vec::new(alloc), Vec::new(alloc));
-    play(alloc, TWO, "p", &mut store)?;
-    play(alloc, FORK, "f", &mut store)?;
-    play(alloc, OTHER, "o", &mut store)?;
-    play(alloc, THREE, "q", &mut store)?;
-    cut(alloc, 14906, 20000, "torn.log", &mut store)?;
-    cut(alloc, 12433, 20000, "ends.log", &mut store)?;
-    cut(alloc, 20000, 12430, "bit.log", &mut store)?;
-    place_stray(alloc, "stray.log", &mut store)?;
+/// Puts cut and changed logs into files, and those of `FILES`.
+fn place_changed(alloc: Global, store: &mut MemoryStore) -> Result<(), Fail> {
+    place_cut(alloc, 14906, "torn.log", store)?;
+    place_cut(alloc, 12433, "ends.log", store)?;
+    place_flipped(alloc, "bit.log", store)?;
+    place_stray(alloc, "stray.log", store)?;
     for (name, bytes) in FILES {
         store.place(alloc, name, bytes.as_bytes())?;
     }
+    Ok(())
+}
+
+/// The plays, each with the prefix of its files.
+const PLAYED: &[(&str, &str)] = &[(TWO, "p"), (FORK, "f"), (OTHER, "o"), (THREE, "q")];
+
+/// A store with the files of all plays, and with cut and changed logs.
+fn hall(alloc: Global) -> Result<MemoryStore, Fail> {
+    let mut store = empty(alloc);
+    for (script, prefix) in PLAYED {
+        play(alloc, script, prefix, &mut store)?;
+    }
+    place_changed(alloc, &mut store)?;
     Ok(store)
 }
 
@@ -268,16 +355,28 @@ fn without_kept(alloc: Global, bytes: &[u8]) -> Result<String, Fail> {
     Ok(lines)
 }
 
+/// Whether the words have this status, and these lines without those of kept rules.
+fn is_reported(
+    alloc: Global,
+    words: &str,
+    store: &mut MemoryStore,
+    (status, lines): (Status, &str),
+) -> Result<bool, Fail> {
+    let mut out = wide(alloc);
+    let answered = answer(alloc, words, store, &mut out)?;
+    let found = without_kept(alloc, out.bytes())?;
+    Ok(answered == status && found.as_str() == lines)
+}
+
 #[test]
 fn each_audit_has_its_lines_and_status(rt: HostRuntime) -> Result<(), Fail> {
     let alloc = rt.alloc();
     let mut store = hall(alloc)?;
-    for (words, status, lines) in AUDITS {
-        let mut out = MemorySink::make(alloc, 1000, Vec::new(alloc));
-        let answered = answer(alloc, words, &mut store, &mut out)?;
-        assert_eq!(rt; answered, *status, "{words}");
-        let found = without_kept(alloc, out.bytes())?;
-        assert!(rt; found.as_str() == *lines, "{words}");
+    for &(words, status, lines) in AUDITS {
+        assert!(rt;
+            is_reported(alloc, words, &mut store, (status, lines))?,
+            "{words}"
+        );
     }
     Ok(())
 }
@@ -326,19 +425,40 @@ const RULES: &[(Parts, &str)] = &[
     (&[(1, "(rule A "), (32, "(")], "9 Shape"),
 ];
 
+/// Puts the parts into a file.
+pub(super) fn place_parts(
+    alloc: Global,
+    name: &str,
+    parts: &[(usize, &str)],
+    store: &mut MemoryStore,
+) -> Result<(), Fail> {
+    let text = joined(alloc, parts)?;
+    Ok(store.place(alloc, name, text.as_bytes())?)
+}
+
+/// Whether the rules of these parts are refused so.
+fn are_refused(
+    alloc: Global,
+    parts: Parts,
+    refusal: &str,
+    store: &mut MemoryStore,
+) -> Result<bool, Fail> {
+    place_parts(alloc, "own", parts, store)?;
+    let line = format!(in alloc; "refused own {refusal}\n")?;
+    let want = (Status::Refused, line.as_str());
+    is_answered(alloc, "audit o.roster own gone", store, want)
+}
+
 #[test]
 fn rules_are_refused_at_their_first_fault(rt: HostRuntime) -> Result<(), Fail> {
     let alloc = rt.alloc();
-    let mut store = MemoryStore::make(alloc, Vec::new(alloc), Vec::new(alloc));
+    let mut store = empty(alloc);
     play(alloc, OTHER, "o", &mut store)?;
-    for (parts, refusal) in RULES {
-        let rules = joined(alloc, parts)?;
-        store.place(alloc, "own", rules.as_bytes())?;
-        let mut out = MemorySink::make(alloc, 1000, Vec::new(alloc));
-        let status = answer(alloc, "audit o.roster own gone", &mut store, &mut out)?;
-        let line = format!(in alloc; "refused own {refusal}\n")?;
-        assert_eq!(rt; status, Status::Refused, "{refusal}");
-        assert!(rt; out.bytes() == line.as_bytes(), "{refusal}");
+    for &(parts, refusal) in RULES {
+        assert!(rt;
+            are_refused(alloc, parts, refusal, &mut store)?,
+            "{refusal}"
+        );
     }
     Ok(())
 }
@@ -356,30 +476,50 @@ const OVERRIDES: &[(usize, usize)] = &[(1, 30), (2, 30), (3, 30), (4, 30), (5, 3
 const WIDE: &str = "(rule A1 (every x opened true))\
     (rule W (every a entry (every b entry (every c entry (every d entry true)))))";
 
+/// The script of a play in which the session is overridden so often.
+fn overrides(alloc: Global, session: usize, count: usize) -> Result<String, Fail> {
+    let authorise = format!(in alloc; "do sv authorise b1 {session}\n")?;
+    let again = format!(in alloc; "do sv override {session}\n")?;
+    joined(
+        alloc,
+        &[
+            (1, MANY),
+            (1, authorise.as_str()),
+            (count, again.as_str()),
+            (count, "step act sv\n"),
+            (2, "step act sv\n"),
+        ],
+    )
+}
+
+/// Puts the files of that play into the store.
+fn play_overrides(
+    alloc: Global,
+    session: usize,
+    count: usize,
+    store: &mut MemoryStore,
+) -> Result<(), Fail> {
+    let script = overrides(alloc, session, count)?;
+    let prefix = format!(in alloc; "w{session}")?;
+    play(alloc, script.as_str(), prefix.as_str(), store)
+}
+
+/// A store with the files of the five plays, and a rule that is too wide for them.
+fn wide_hall(alloc: Global) -> Result<MemoryStore, Fail> {
+    let mut store = empty(alloc);
+    for &(session, count) in OVERRIDES {
+        play_overrides(alloc, session, count, &mut store)?;
+    }
+    store.place(alloc, "wide", WIDE.as_bytes())?;
+    Ok(store)
+}
+
 #[test]
 fn a_rule_over_too_many_entries_is_too_wide(rt: HostRuntime) -> Result<(), Fail> {
     let alloc = rt.alloc();
-    let mut store = MemoryStore::make(alloc, Vec::new(alloc), Vec::new(alloc));
-    for (session, count) in OVERRIDES {
-        let authorise = format!(in alloc; "do sv authorise b1 {session}\n")?;
-        let again = format!(in alloc; "do sv override {session}\n")?;
-        let script = joined(
-            alloc,
-            &[
-                (1, MANY),
-                (1, authorise.as_str()),
-                (*count, again.as_str()),
-                (*count + 2, "step act sv\n"),
-            ],
-        )?;
-        let prefix = format!(in alloc; "w{session}")?;
-        play(alloc, script.as_str(), prefix.as_str(), &mut store)?;
-    }
-    store.place(alloc, "wide", WIDE.as_bytes())?;
+    let mut store = wide_hall(alloc)?;
     let words = "audit w1.roster wide w1.sv.log w2.sv.log w3.sv.log w4.sv.log w5.sv.log";
-    let mut out = MemorySink::make(alloc, 1000, Vec::new(alloc));
-    let status = answer(alloc, words, &mut store, &mut out)?;
-    assert_eq!(rt; status, Status::Refused);
-    assert!(rt; out.bytes() == "refused wide 1 TooWide\n".as_bytes());
+    let want = (Status::Refused, "refused wide 1 TooWide\n");
+    assert!(rt; is_answered(alloc, words, &mut store, want)?);
     Ok(())
 }

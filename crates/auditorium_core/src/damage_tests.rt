@@ -1,7 +1,7 @@
 //! The supervisor's log of the worked play, cut at many places and changed at many.
 use super::*;
-use crate::audit_tests::{TWO, answer, play};
-use hall_outside::{MemorySink, MemoryStore};
+use crate::audit_tests::{TWO, answer, empty, flipped, is_answered, play, wide};
+use hall_outside::MemoryStore;
 use std::alloc::Global;
 use std::test::Fail;
 
@@ -9,7 +9,7 @@ use std::test::Fail;
 const ENDS: [usize; 7] = [13, 2452, 4935, 7413, 9924, 12433, 14907];
 
 /// Cuts at each of these places, and one byte before and behind it.
-const CUTS: [usize; 20] = [
+const CUTS: &[usize] = &[
     12, 13, 14, 2451, 2452, 2453, 4934, 4935, 4936, 7412, 7413, 7414, 9923, 9924, 9925, 12432,
     12433, 12434, 14906, 14907,
 ];
@@ -19,7 +19,7 @@ const ENTRIES: [&str; 6] = ["sv.0", "sv.1", "b1.0", "b1.1", "b1.2", "sv.2"];
 
 /// A store with the files of the worked play, and the supervisor's log.
 fn played(alloc: Global) -> Result<(MemoryStore, Vec<u8>), Fail> {
-    let mut store = MemoryStore::make(alloc, Vec::new(alloc), Vec::new(alloc));
+    let mut store = empty(alloc);
     play(alloc, TWO, "p", &mut store)?;
     let log = Vec::from_slice(alloc, store.file("p.sv.log").unwrap_or(b""))?;
     Ok((store, log))
@@ -61,7 +61,7 @@ fn is_cut_told(
     length: usize,
 ) -> Result<bool, Fail> {
     store.place(alloc, "p.sv.log", &log[..length.min(log.len())])?;
-    let mut out = MemorySink::make(alloc, 1000, Vec::new(alloc));
+    let mut out = wide(alloc);
     let status = answer(alloc, "audit p.roster standard p.sv.log", store, &mut out)?;
     let lines = lines_of_cut(alloc, length)?;
     Ok((status == Status::Refused) == (length < 13) && out.bytes().starts_with(lines.as_bytes()))
@@ -72,16 +72,26 @@ fn a_cut_log_is_whole_up_to_its_last_record(rt: HostRuntime) -> Result<(), Fail>
     let alloc = rt.alloc();
     let (mut store, log) = played(alloc)?;
     assert_eq!(rt; log.len(), 14907);
-    for length in CUTS {
-        let told = is_cut_told(alloc, &mut store, &log, length)?;
-        assert!(rt; told, "{length}");
+    for &length in CUTS {
+        assert!(rt; is_cut_told(alloc, &mut store, &log, length)?, "{length}");
     }
     for at in 0..59usize {
         let length = 256 * at;
-        let told = is_cut_told(alloc, &mut store, &log, length)?;
-        assert!(rt; told, "{length}");
+        assert!(rt; is_cut_told(alloc, &mut store, &log, length)?, "{length}");
     }
     Ok(())
+}
+
+/// Whether the log in the file has no survivor with this maker and number.
+fn has_no(alloc: Global, store: &mut MemoryStore, entry: &str) -> Result<bool, Fail> {
+    let words = format!(in alloc; "order p.roster {entry} {entry} p.sv.log")?;
+    let line = format!(in alloc; "refused {entry} 0 NoEntry\n")?;
+    is_answered(
+        alloc,
+        words.as_str(),
+        store,
+        (Status::Refused, line.as_str()),
+    )
 }
 
 /// Whether no survivor has the maker and the number of the entry whose record has the byte at this
@@ -92,21 +102,13 @@ fn is_missed(
     log: &[u8],
     place: usize,
 ) -> Result<bool, Fail> {
-    let mut changed = Vec::from_slice(alloc, log)?;
-    if let Some(byte) = changed.get_mut(place) {
-        *byte ^= 1;
-    }
+    let changed = flipped(alloc, log, place)?;
     store.place(alloc, "p.sv.log", &changed)?;
     let record = ends_up_to(place);
     if record == 0 || record > 6 {
         return Ok(false);
     }
-    let entry = ENTRIES[record - 1];
-    let words = format!(in alloc; "order p.roster {entry} {entry} p.sv.log")?;
-    let mut out = MemorySink::make(alloc, 1000, Vec::new(alloc));
-    answer(alloc, words.as_str(), store, &mut out)?;
-    let line = format!(in alloc; "refused {entry} 0 NoEntry\n")?;
-    Ok(out.bytes() == line.as_bytes())
+    has_no(alloc, store, ENTRIES[record - 1])
 }
 
 #[test]
@@ -116,8 +118,7 @@ fn an_altered_record_has_no_entry(rt: HostRuntime) -> Result<(), Fail> {
     // The places are below 14,907, the length of the log.
     for at in 0..154usize {
         let place = 13 + 97 * at;
-        let missed = is_missed(alloc, &mut store, &log, place)?;
-        assert!(rt; missed, "{place}");
+        assert!(rt; is_missed(alloc, &mut store, &log, place)?, "{place}");
     }
     Ok(())
 }

@@ -1,8 +1,6 @@
 //! The command `demo`. The numbers were computed by a separate plain program.
 use super::*;
-use crate::audit_tests::answer;
-use hall_outside::{MemorySink, MemoryStore};
-use std::alloc::Global;
+use crate::audit_tests::{empty, is_answered};
 use std::test::Fail;
 
 /// The lines of one session. Its booth's last entry is heard first, so the commitment that it names
@@ -29,20 +27,12 @@ const ROWS: &[(&str, Status, &str)] = &[
     ("demo 1 1", Status::Usage, "usage\n"),
 ];
 
-/// The program's status for words that stand in one text, over no file.
-fn status_of(alloc: Global, words: &str, out: &mut MemorySink) -> Result<Status, Fail> {
-    let mut store = MemoryStore::make(alloc, Vec::new(alloc), Vec::new(alloc));
-    answer(alloc, words, &mut store, out)
-}
-
 #[test]
 fn a_demonstration_has_its_status_and_lines(rt: HostRuntime) -> Result<(), Fail> {
     let alloc = rt.alloc();
-    for (words, status, output) in ROWS {
-        let mut out = MemorySink::make(alloc, 1000, Vec::new(alloc));
-        let answered = status_of(alloc, words, &mut out)?;
-        assert_eq!(rt; answered, *status, "{words}");
-        assert!(rt; out.bytes() == output.as_bytes(), "{words}");
+    for &(words, status, output) in ROWS {
+        let told = is_answered(alloc, words, &mut empty(alloc), (status, output))?;
+        assert!(rt; told, "{words}");
     }
     Ok(())
 }

@@ -1,6 +1,8 @@
 //! Calls of the store and of the sink that fail, or that give and take little, under each command.
+ghost use Rattle.std.specs.Prelude.{◌<◌};
+
 use super::*;
-use crate::audit_tests::{TWO, play};
+use crate::audit_tests::{TWO, empty, front_of, play, wide, words_of};
 use crate::demonstrating_tests::ONE;
 use crate::make_tests::ONE as DAY;
 use hall_outside::{MemorySink, MemoryStore, OpenGate};
@@ -18,10 +20,13 @@ const REPORT: &str =
     kept V1\nkept V2\nkept P1\nkept P2\nkept P3\nkept P4\nkept M1\nkept K1\nkept K2\nkept C6\n\
     kept C7\nkept V3\nkept V4\nverdict kept\n";
 
+/// Words, how many reads they make, their status and their output.
+type Command = (&'static str, u32, Status, &'static str);
+
 /// Words over the worked files, with how many reads they make, their status and their output. Of each
 /// file one read gives the bytes and one finds the end. The run comes to the files of the play in
 /// whatever order its threads take their turns.
-const COMMANDS: &[(&str, u32, Status, &str)] = &[
+const COMMANDS: &[Command] = &[
     ("play script q", 2, Status::Done, PLAYED),
     ("run script q", 2, Status::Done, PLAYED),
     (
@@ -54,22 +59,27 @@ const WRITTEN: [&str; 3] = ["q.roster", "q.sv.log", "q.b1.log"];
 
 /// The files of the worked play, its script, and the supervisor's log without its last byte.
 fn played(alloc: Global) -> Result<MemoryStore, Fail> {
-    let mut store = MemoryStore::make(alloc, Vec::new(alloc), Vec::new(alloc));
+    let mut store = empty(alloc);
     play(alloc, TWO, "p", &mut store)?;
-    let log = store.file("p.sv.log").unwrap_or(b"");
-    let torn = Vec::from_slice(alloc, &log[..log.len().min(14_906)])?;
+    let torn = front_of(alloc, &store, "p.sv.log", 14_906)?;
     store.place(alloc, "torn.log", &torn)?;
     Ok(store)
 }
 
+/// Puts the files that the commands read into a store.
+fn place_files(alloc: Global, files: &MemoryStore, store: &mut MemoryStore) -> Result<(), Fail> {
+    for name in READ {
+        store.place(alloc, name, files.file(name).unwrap_or(b""))?;
+    }
+    Ok(())
+}
+
 /// A store with the same files, whose read, and whose create or append, with these numbers fail.
-fn copied(alloc: Global, other: &MemoryStore, read: u64, write: u64) -> Result<MemoryStore, Fail> {
+fn copied(alloc: Global, files: &MemoryStore, read: u64, write: u64) -> Result<MemoryStore, Fail> {
     let reads = vec![in alloc; read]?;
     let writes = vec![in alloc; write]?;
     let mut store = MemoryStore::make(alloc, reads, writes);
-    for name in READ {
-        store.place(alloc, name, other.file(name).unwrap_or(b""))?;
-    }
+    place_files(alloc, files, &mut store)?;
     Ok(store)
 }
 
@@ -81,11 +91,8 @@ fn ends<R: Threads + Wait + Sync>(
     store: &mut MemoryStore,
     out: &mut MemorySink,
 ) -> Result<Status, Fail> {
-    let mut list = Vec::new(alloc);
-    for word in words.split(' ') {
-        list.push(String::from_str(alloc, word)?)?;
-    }
-    Ok(auditorium(rt, alloc, list.as_slice(), store, out, &OpenGate))
+    let words = words_of(alloc, words)?;
+    Ok(auditorium(rt, alloc, words.as_slice(), store, out, &OpenGate))
 }
 
 /// The lengths of the files that `play` and `run` write, with a hyphen for one that isn't there.
@@ -103,53 +110,114 @@ fn lengths_of(alloc: Global, store: &MemoryStore) -> Result<String, Fail> {
     Ok(text)
 }
 
+/// Whether the words are those of a command that writes files.
+fn writes_files(words: &str) -> bool {
+    words.ends_with(" script q")
+}
+
 /// The lengths that the words leave.
 fn lengths_after(words: &str) -> &'static str {
-    if words.ends_with(" script q") {
+    if writes_files(words) {
         " 163 14907 14907"
     } else {
         " - - -"
     }
 }
 
+/// A status, an output, and the lengths of the files that are left.
+type Ending<'a> = (Status, &'a [u8], &'a str);
+
+/// What the command comes to where no call fails.
+fn whole(command: &Command) -> Ending<'static> {
+    let (words, _, status, output) = *command;
+    (status, output.as_bytes(), lengths_after(words))
+}
+
+/// Whether the words come to this.
+fn leaves<R: Threads + Wait + Sync>(
+    rt: &R,
+    alloc: Global,
+    words: &str,
+    store: &mut MemoryStore,
+    out: &mut MemorySink,
+    want: Ending<'_>,
+) -> Result<bool, Fail> {
+    let (status, output, lengths) = want;
+    let ended = ends(rt, alloc, words, store, out)?;
+    let left = lengths_of(alloc, store)?;
+    Ok(ended == status && out.bytes() == output && left.as_str() == lengths)
+}
+
+/// Whether the command, over a copy of the files, tells that its read behind so many others fails,
+/// or is whole where it makes no such read.
+fn tells_of_read<R: Threads + Wait + Sync>(
+    rt: &R,
+    alloc: Global,
+    files: &MemoryStore,
+    command: &Command,
+    before: u32,
+) -> Result<bool, Fail> {
+    let (words, reads, _, _) = *command;
+    let want: Ending<'_> = if before < reads {
+        (Status::ReadFault, b"", " - - -")
+    } else {
+        whole(command)
+    };
+    let mut store = copied(alloc, files, u64::from(before) + 1, 0)?;
+    leaves(rt, alloc, words, &mut store, &mut wide(alloc), want)
+}
+
 #[test]
 fn each_read_may_fail(rt: HostRuntime) -> Result<(), Fail> {
     let alloc = rt.alloc();
     let files = played(alloc)?;
-    for (words, reads, status, output) in COMMANDS {
-        for before in 0..=*reads {
-            let mut store = copied(alloc, &files, u64::from(before) + 1, 0)?;
-            let mut out = MemorySink::make(alloc, 1000, Vec::new(alloc));
-            let ended = ends(&rt, alloc, words, &mut store, &mut out)?;
-            let (status, output, lengths) = if before < *reads {
-                (Status::ReadFault, "", " - - -")
-            } else {
-                (*status, *output, lengths_after(words))
-            };
-            assert_eq!(rt; ended, status, "{words}: {before}");
-            assert!(rt; out.bytes() == output.as_bytes(), "{words}: {before}");
-            let left = lengths_of(alloc, &store)?;
-            assert!(rt; left.as_str() == lengths, "{words}: {before}");
+    for command in COMMANDS {
+        let (words, reads, _, _) = *command;
+        for before in 0..=reads {
+            assert!(rt;
+                tells_of_read(&rt, alloc, &files, command, before)?,
+                "{words}: {before}"
+            );
         }
     }
     Ok(())
+}
+
+/// Whether the command is whole over a copy of the files whose reads give at most so many bytes.
+fn reads_slowly<R: Threads + Wait + Sync>(
+    rt: &R,
+    alloc: Global,
+    files: &MemoryStore,
+    command: &Command,
+    most: usize,
+) -> Result<bool, Fail>
+    requires { 0 < most }
+{
+    let (words, _, _, _) = *command;
+    let mut store = copied(alloc, files, 0, 0)?;
+    store.greatest_read(most);
+    leaves(
+        rt,
+        alloc,
+        words,
+        &mut store,
+        &mut wide(alloc),
+        whole(command),
+    )
 }
 
 #[test]
 fn short_reads_change_no_answer(rt: HostRuntime) -> Result<(), Fail> {
     let alloc = rt.alloc();
     let files = played(alloc)?;
-    for (words, reads, status, output) in COMMANDS {
+    for command in COMMANDS {
+        let (words, reads, _, _) = *command;
         for most in [7, 1] {
-            if *reads > 0 {
-                let mut store = copied(alloc, &files, 0, 0)?;
-                store.greatest_read(most);
-                let mut out = MemorySink::make(alloc, 1000, Vec::new(alloc));
-                let ended = ends(&rt, alloc, words, &mut store, &mut out)?;
-                assert_eq!(rt; ended, *status, "{words}: {most}");
-                assert!(rt; out.bytes() == output.as_bytes(), "{words}: {most}");
-                let left = lengths_of(alloc, &store)?;
-                assert!(rt; left.as_str() == lengths_after(words), "{words}: {most}");
+            if reads > 0 {
+                assert!(rt;
+                    reads_slowly(&rt, alloc, &files, command, most)?,
+                    "{words}: {most}"
+                );
             }
         }
     }
@@ -168,6 +236,24 @@ const STOPS: &[(u64, &str)] = &[
     (7, " 163 14907 14907"),
 ];
 
+/// Whether the words, over a copy of the files, leave these lengths where this create or append
+/// fails.
+fn stops_at<R: Threads + Wait + Sync>(
+    rt: &R,
+    alloc: Global,
+    files: &MemoryStore,
+    words: &str,
+    (failing, lengths): (u64, &str),
+) -> Result<bool, Fail> {
+    let want: Ending<'_> = if failing < 7 {
+        (Status::WriteFault, b"", lengths)
+    } else {
+        (Status::Done, PLAYED.as_bytes(), lengths)
+    };
+    let mut store = copied(alloc, files, 0, failing)?;
+    leaves(rt, alloc, words, &mut store, &mut wide(alloc), want)
+}
+
 #[test]
 fn a_stop_at_each_create_and_append_leaves_the_files_before_it(
     rt: HostRuntime,
@@ -175,45 +261,62 @@ fn a_stop_at_each_create_and_append_leaves_the_files_before_it(
     let alloc = rt.alloc();
     let files = played(alloc)?;
     for words in ["play script q", "run script q"] {
-        for (failing, lengths) in STOPS {
-            let mut store = copied(alloc, &files, 0, *failing)?;
-            let mut out = MemorySink::make(alloc, 1000, Vec::new(alloc));
-            let ended = ends(&rt, alloc, words, &mut store, &mut out)?;
-            let (status, output) = if *failing < 7 {
-                (Status::WriteFault, "")
-            } else {
-                (Status::Done, PLAYED)
-            };
-            assert_eq!(rt; ended, status, "{words}: {failing}");
-            assert!(rt; out.bytes() == output.as_bytes(), "{words}: {failing}");
-            let left = lengths_of(alloc, &store)?;
-            assert!(rt; left.as_str() == *lengths, "{words}: {failing}");
+        for &(failing, lengths) in STOPS {
+            let stop = (failing, lengths);
+            assert!(rt;
+                stops_at(&rt, alloc, &files, words, stop)?,
+                "{words}: {failing}"
+            );
         }
     }
     Ok(())
+}
+
+/// What the command comes to where the write of the output behind this many bytes fails, or where
+/// it has no more bytes.
+fn stopped_behind(command: &Command, sent: usize) -> Ending<'static> {
+    let (words, _, _, output) = *command;
+    if sent < output.len() {
+        (
+            Status::WriteFault,
+            &output.as_bytes()[..sent],
+            lengths_after(words),
+        )
+    } else {
+        whole(command)
+    }
+}
+
+/// Whether the command, over a copy of the files, tells that this write of its output fails, before
+/// which so many bytes are sent, or is whole where it has no more bytes.
+fn tells_of_write<R: Threads + Wait + Sync>(
+    rt: &R,
+    alloc: Global,
+    files: &MemoryStore,
+    command: &Command,
+    (failing, sent): (u64, usize),
+) -> Result<bool, Fail> {
+    let (words, _, _, _) = *command;
+    let mut store = copied(alloc, files, 0, 0)?;
+    let mut out = MemorySink::make(alloc, 10, vec![in alloc; failing]?);
+    let want = stopped_behind(command, sent);
+    leaves(rt, alloc, words, &mut store, &mut out, want)
 }
 
 #[test]
 fn each_write_of_an_output_may_fail(rt: HostRuntime) -> Result<(), Fail> {
     let alloc = rt.alloc();
     let files = played(alloc)?;
-    for (words, _, status, output) in COMMANDS {
+    for command in COMMANDS {
+        let (words, _, _, output) = *command;
         // Each write takes 10 bytes of the output, which has at most 738.
         for failing in 1..76usize {
             let sent = 10 * (failing - 1);
-            let mut store = copied(alloc, &files, 0, 0)?;
-            let mut out = MemorySink::make(alloc, 10, vec![in alloc; failing as u64]?);
-            let ended = ends(&rt, alloc, words, &mut store, &mut out)?;
-            let status = if sent < output.len() {
-                Status::WriteFault
-            } else {
-                *status
-            };
-            let told = &output.as_bytes()[..sent.min(output.len())];
-            assert_eq!(rt; ended, status, "{words}: {failing}");
-            assert!(rt; out.bytes() == told, "{words}: {failing}");
-            let left = lengths_of(alloc, &store)?;
-            assert!(rt; left.as_str() == lengths_after(words), "{words}: {failing}");
+            let write = (failing as u64, sent);
+            assert!(rt;
+                tells_of_write(&rt, alloc, &files, command, write)?,
+                "{words}: {failing}"
+            );
             if sent >= output.len() {
                 break;
             }
@@ -222,17 +325,33 @@ fn each_write_of_an_output_may_fail(rt: HostRuntime) -> Result<(), Fail> {
     Ok(())
 }
 
+/// Whether the command is whole over a copy of the files whose first create fails.
+fn creates_nothing<R: Threads + Wait + Sync>(
+    rt: &R,
+    alloc: Global,
+    files: &MemoryStore,
+    command: &Command,
+) -> Result<bool, Fail> {
+    let (words, _, _, _) = *command;
+    let mut store = copied(alloc, files, 0, 1)?;
+    leaves(
+        rt,
+        alloc,
+        words,
+        &mut store,
+        &mut wide(alloc),
+        whole(command),
+    )
+}
+
 #[test]
 fn only_play_and_run_create_files(rt: HostRuntime) -> Result<(), Fail> {
     let alloc = rt.alloc();
     let files = played(alloc)?;
-    for (words, _, status, output) in COMMANDS {
-        if !words.ends_with(" script q") {
-            let mut store = copied(alloc, &files, 0, 1)?;
-            let mut out = MemorySink::make(alloc, 1000, Vec::new(alloc));
-            let ended = ends(&rt, alloc, words, &mut store, &mut out)?;
-            assert_eq!(rt; ended, *status, "{words}");
-            assert!(rt; out.bytes() == output.as_bytes(), "{words}");
+    for command in COMMANDS {
+        let (words, _, _, _) = *command;
+        if !writes_files(words) {
+            assert!(rt; creates_nothing(&rt, alloc, &files, command)?, "{words}");
         }
     }
     Ok(())

@@ -1,9 +1,9 @@
 //! Files that were made to harm their reader. Each is refused at the first byte, or on the first line,
 //! that can't stand.
 use super::*;
-use crate::audit_tests::{answer, play};
-use crate::play_tests::{Parts, joined};
-use hall_outside::{MemorySink, MemoryStore};
+use crate::audit_tests::{empty, place_parts, play, told};
+use crate::play_tests::Parts;
+use hall_outside::MemoryStore;
 use std::alloc::Global;
 use std::test::Fail;
 
@@ -19,26 +19,34 @@ const MACHINE: &str = "(1:a5:booth\
 
 /// A store with a roster's file, and a rule that is always kept.
 fn hall(alloc: Global) -> Result<MemoryStore, Fail> {
-    let mut store = MemoryStore::make(alloc, Vec::new(alloc), Vec::new(alloc));
+    let mut store = empty(alloc);
     play(alloc, MACHINES, "p", &mut store)?;
     store.place(alloc, "own", b"(rule A true)")?;
     Ok(store)
 }
 
-/// The exit status and the output for words that stand in one text, where the file `x` is of these
-/// parts.
-fn told(
+/// Whether the words have this exit status and output, where the file `x` is of these parts.
+fn is_told(
     alloc: Global,
     words: &str,
-    parts: &[(usize, &str)],
+    parts: Parts,
     store: &mut MemoryStore,
-) -> Result<String, Fail> {
-    let file = joined(alloc, parts)?;
-    store.place(alloc, "x", file.as_bytes())?;
-    let mut out = MemorySink::make(alloc, 1000, Vec::new(alloc));
-    let status = answer(alloc, words, store, &mut out)?;
-    let lines = String::from_utf8_lossy(alloc, out.bytes())?;
-    Ok(format!(in alloc; "{} {lines}", status.exit_status())?)
+    want: &str,
+) -> Result<bool, Fail> {
+    place_parts(alloc, "x", parts, store)?;
+    Ok(told(alloc, words, store)?.as_str() == want)
+}
+
+/// Whether the file `x` of these parts is refused so.
+fn is_refused(
+    alloc: Global,
+    words: &str,
+    parts: Parts,
+    store: &mut MemoryStore,
+    refusal: &str,
+) -> Result<bool, Fail> {
+    let want = format!(in alloc; "5 refused x {refusal}\n")?;
+    is_told(alloc, words, parts, store, want.as_str())
 }
 
 /// Logs, with how many records are refused, and the lines that say so.
@@ -137,20 +145,38 @@ const LOGS: &[(Parts, usize, &str)] = &[
     ),
 ];
 
+/// Whether `gaps` tells these lines of the log of these parts.
+fn has_gaps(
+    alloc: Global,
+    parts: Parts,
+    store: &mut MemoryStore,
+    lines: &str,
+) -> Result<bool, Fail> {
+    let want = format!(in alloc; "1 {lines}")?;
+    is_told(alloc, "gaps x", parts, store, want.as_str())
+}
+
+/// Whether `audit` reports so many refused records and these lines of the log of these parts.
+fn has_report(
+    alloc: Global,
+    parts: Parts,
+    store: &mut MemoryStore,
+    (refused, lines): (usize, &str),
+) -> Result<bool, Fail> {
+    let want = format!(in alloc;
+        "1 log x owner 0 kept 0 refused {refused}\n{lines}entries 0\nkept A\nverdict findings\n"
+    )?;
+    is_told(alloc, "audit p.roster own x", parts, store, want.as_str())
+}
+
 #[test]
 fn hostile_logs_are_read_to_their_first_bad_byte(rt: HostRuntime) -> Result<(), Fail> {
     let alloc = rt.alloc();
     let mut store = hall(alloc)?;
-    for (parts, refused, lines) in LOGS {
-        let gaps = told(alloc, "gaps x", parts, &mut store)?;
-        let want = format!(in alloc; "1 {lines}")?;
-        assert!(rt; gaps.as_str() == want.as_str(), "{gaps}");
-        let report = told(alloc, "audit p.roster own x", parts, &mut store)?;
-        let want = format!(in alloc;
-            "1 log x owner 0 kept 0 refused {refused}\n{lines}entries 0\nkept A\n\
-                verdict findings\n"
-        )?;
-        assert!(rt; report.as_str() == want.as_str(), "{report}");
+    for &(parts, refused, lines) in LOGS {
+        let told = has_gaps(alloc, parts, &mut store, lines)?
+            && has_report(alloc, parts, &mut store, (refused, lines))?;
+        assert!(rt; told, "{refused} {lines}");
     }
     Ok(())
 }
@@ -168,18 +194,21 @@ const NO_LOGS: &[Parts] = &[
     &[(1, "(3:log1:110:4294967296)")],
 ];
 
+/// Words that read the file `x` as a log.
+const LOG_WORDS: &[&str] = &[
+    "gaps x",
+    "audit p.roster own x",
+    "order p.roster sv.0 sv.0 x",
+];
+
 #[test]
 fn files_without_a_header_are_no_logs(rt: HostRuntime) -> Result<(), Fail> {
     let alloc = rt.alloc();
     let mut store = hall(alloc)?;
-    for parts in NO_LOGS {
-        for words in [
-            "gaps x",
-            "audit p.roster own x",
-            "order p.roster sv.0 sv.0 x",
-        ] {
-            let line = told(alloc, words, parts, &mut store)?;
-            assert!(rt; line.as_str() == "5 refused x 0 Header\n", "{line}");
+    for (at, parts) in NO_LOGS.iter().enumerate() {
+        for words in LOG_WORDS {
+            let refused = is_refused(alloc, words, parts, &mut store, "0 Header")?;
+            assert!(rt; refused, "{words}: {at}");
         }
     }
     Ok(())
@@ -223,15 +252,17 @@ const ROSTERS: &[(Parts, &str)] = &[
     (&[(4_194_305, "(")], "0 TooLong"),
 ];
 
+/// Words that read the file `x` as a roster.
+const ROSTER_WORDS: &[&str] = &["audit x own x", "order x sv.0 sv.0 x"];
+
 #[test]
 fn hostile_rosters_are_refused(rt: HostRuntime) -> Result<(), Fail> {
     let alloc = rt.alloc();
     let mut store = hall(alloc)?;
-    for (parts, refusal) in ROSTERS {
-        let want = format!(in alloc; "5 refused x {refusal}\n")?;
-        for words in ["audit x own x", "order x sv.0 sv.0 x"] {
-            let line = told(alloc, words, parts, &mut store)?;
-            assert!(rt; line.as_str() == want.as_str(), "{line}");
+    for &(parts, refusal) in ROSTERS {
+        for words in ROSTER_WORDS {
+            let refused = is_refused(alloc, words, parts, &mut store, refusal)?;
+            assert!(rt; refused, "{words}: {refusal}");
         }
     }
     Ok(())
@@ -268,10 +299,9 @@ const RULES: &[(Parts, &str)] = &[
 fn hostile_rules_are_refused(rt: HostRuntime) -> Result<(), Fail> {
     let alloc = rt.alloc();
     let mut store = hall(alloc)?;
-    for (parts, refusal) in RULES {
-        let line = told(alloc, "audit p.roster x gone", parts, &mut store)?;
-        let want = format!(in alloc; "5 refused x {refusal}\n")?;
-        assert!(rt; line.as_str() == want.as_str(), "{line}");
+    for &(parts, refusal) in RULES {
+        let refused = is_refused(alloc, "audit p.roster x gone", parts, &mut store, refusal)?;
+        assert!(rt; refused, "{refusal}");
     }
     Ok(())
 }
@@ -341,15 +371,26 @@ const SCRIPTS: &[(Parts, &str)] = &[
     (&[(4_194_305, "\n")], "0 TooLong"),
 ];
 
+/// Whether the script of these parts is refused so, and no file is written.
+fn is_unplayed(
+    alloc: Global,
+    parts: Parts,
+    store: &mut MemoryStore,
+    refusal: &str,
+) -> Result<bool, Fail> {
+    let refused = is_refused(alloc, "play x q", parts, store, refusal)?;
+    Ok(refused && store.file("q.roster").is_none())
+}
+
 #[test]
 fn hostile_scripts_are_refused(rt: HostRuntime) -> Result<(), Fail> {
     let alloc = rt.alloc();
     let mut store = hall(alloc)?;
-    for (parts, refusal) in SCRIPTS {
-        let line = told(alloc, "play x q", parts, &mut store)?;
-        let want = format!(in alloc; "5 refused x {refusal}\n")?;
-        assert!(rt; line.as_str() == want.as_str(), "{line}");
-        assert!(rt; store.file("q.roster").is_none(), "{line}");
+    for &(parts, refusal) in SCRIPTS {
+        assert!(rt;
+            is_unplayed(alloc, parts, &mut store, refusal)?,
+            "{refusal}"
+        );
     }
     Ok(())
 }
@@ -391,9 +432,11 @@ const ACCEPTED: &[(&str, Parts, &str)] = &[
 fn odd_files_within_the_limits_are_accepted(rt: HostRuntime) -> Result<(), Fail> {
     let alloc = rt.alloc();
     let mut store = hall(alloc)?;
-    for (words, parts, want) in ACCEPTED {
-        let lines = told(alloc, words, parts, &mut store)?;
-        assert!(rt; lines.as_str() == *want, "{lines}");
+    for &(words, parts, want) in ACCEPTED {
+        assert!(rt;
+            is_told(alloc, words, parts, &mut store, want)?,
+            "{words}: {want}"
+        );
     }
     Ok(())
 }

@@ -1,8 +1,8 @@
 //! As many distinct entries as an audit has room for, 16,384, and one more. All are of one maker and
 //! have the number 0: its key signs each of them with its first index.
 use super::*;
-use crate::audit_tests::{answer, play};
-use hall_outside::{MemorySink, MemoryStore};
+use crate::audit_tests::{all_of, empty, is_answered, play};
+use hall_outside::MemoryStore;
 use std::alloc::Global;
 use std::test::Fail;
 
@@ -22,47 +22,58 @@ const LOGS: &[(&str, u32, u32)] = &[
 /// The text of an entry of the supervisor, unsigned: it is the first of its entries, names nothing,
 /// and is of a session with a number of five digits.
 fn body_of(alloc: Global, election: &[u8; 32], session: u32) -> Result<Vec<u8>, Fail> {
-    let mut body = Vec::from_slice(alloc, b"(5:entry1:132:")?;
-    body.extend_from_slice(election)?;
     let fields = format!(in alloc; "1:01:01:1()(8:activate5:{session}))")?;
-    body.extend_from_slice(fields.as_bytes())?;
-    Ok(body)
+    all_of(alloc, &[b"(5:entry1:132:", election, fields.as_bytes()])
 }
 
-/// Adds the record of the signed entry.
-fn add_record(log: &mut Vec<u8>, body: &[u8], signature: &[u8]) -> Result<(), Fail> {
-    log.extend_from_slice(b"(3:got(6:sealed")?;
-    log.extend_from_slice(body)?;
-    log.extend_from_slice(b"4460:")?;
-    log.extend_from_slice(signature)?;
-    log.extend_from_slice(b"))")?;
-    Ok(())
+/// The record of the signed entry.
+fn record_of(alloc: Global, body: &[u8], signature: &[u8]) -> Result<Vec<u8>, Fail> {
+    all_of(
+        alloc,
+        &[b"(3:got(6:sealed", body, b"4460:", signature, b"))"],
+    )
 }
 
-/// A log of the booth that has the entries of these sessions.
-fn log_of(alloc: Global, election: &[u8; 32], first: u32, last: u32) -> Result<Vec<u8>, Fail> {
-    let mut log = Vec::from_slice(alloc, b"(3:log1:11:1)")?;
+/// The records of the entries of these sessions.
+fn records_of(
+    alloc: Global,
+    election: &[u8; 32],
+    (first, last): (u32, u32),
+) -> Result<Vec<u8>, Fail> {
+    let mut records = Vec::new(alloc);
     if let Ok(script) = election_script::read(alloc, SCRIPT.as_bytes()) {
         if !script.machines.as_slice().is_empty() {
             let secret = polling_world::key_of(alloc, &script, 0)?;
             for session in first..=last {
                 let body = body_of(alloc, election, session)?;
                 let signature = secret.signature(alloc, &body)?;
-                add_record(&mut log, &body, &signature)?;
+                records.extend_from_slice(&record_of(alloc, &body, &signature)?)?;
             }
         }
     }
-    Ok(log)
+    Ok(records)
+}
+
+/// Puts a log of the booth that has the entries of these sessions into a file.
+fn place_log(
+    alloc: Global,
+    name: &str,
+    election: &[u8; 32],
+    sessions: (u32, u32),
+    store: &mut MemoryStore,
+) -> Result<(), Fail> {
+    let records = records_of(alloc, election, sessions)?;
+    let log = all_of(alloc, &[b"(3:log1:11:1)", &records])?;
+    Ok(store.place(alloc, name, &log)?)
 }
 
 /// A store with the roster's file, the logs and a rule that takes no time.
 fn hall(alloc: Global) -> Result<MemoryStore, Fail> {
-    let mut store = MemoryStore::make(alloc, Vec::new(alloc), Vec::new(alloc));
+    let mut store = empty(alloc);
     play(alloc, SCRIPT, "p", &mut store)?;
     let election = roster::election(store.file("p.roster").unwrap_or(b""));
-    for (name, first, last) in LOGS {
-        let log = log_of(alloc, &election, *first, *last)?;
-        store.place(alloc, name, &log)?;
+    for &(name, first, last) in LOGS {
+        place_log(alloc, name, &election, (first, last), &mut store)?;
     }
     store.place(alloc, "own", b"(rule A true)")?;
     Ok(store)
@@ -93,11 +104,11 @@ const ROWS: &[(&str, Status, &str)] = &[
 fn one_entry_over_the_limit_is_too_many(rt: HostRuntime) -> Result<(), Fail> {
     let alloc = rt.alloc();
     let mut store = hall(alloc)?;
-    for (words, status, output) in ROWS {
-        let mut out = MemorySink::make(alloc, 1000, Vec::new(alloc));
-        let answered = answer(alloc, words, &mut store, &mut out)?;
-        assert_eq!(rt; answered, *status, "{words}");
-        assert!(rt; out.bytes() == output.as_bytes(), "{words}");
+    for &(words, status, output) in ROWS {
+        assert!(rt;
+            is_answered(alloc, words, &mut store, (status, output))?,
+            "{words}"
+        );
     }
     Ok(())
 }

@@ -1,7 +1,7 @@
 //! The command `make`. The texts and lengths were computed by a separate plain program.
 use super::*;
-use crate::audit_tests::answer;
-use hall_outside::{MemorySink, MemoryStore};
+use crate::audit_tests::{answer, empty, is_answered};
+use hall_outside::MemorySink;
 use hall_text::digest_hex;
 use roster::election;
 use std::alloc::Global;
@@ -89,33 +89,43 @@ fn is_digest(bytes: &[u8], digest: &str) -> bool {
     }
 }
 
+/// What the words print, where they are `Done`.
+fn printed(alloc: Global, words: &str) -> Result<Option<MemorySink>, Fail> {
+    let mut out = MemorySink::make(alloc, 1_000_000, Vec::new(alloc));
+    let status = answer(alloc, words, &mut empty(alloc), &mut out)?;
+    Ok(if status == Status::Done {
+        Some(out)
+    } else {
+        None
+    })
+}
+
+/// Whether the words print so many bytes with this digest.
+fn prints(alloc: Global, words: &str, length: usize, digest: &str) -> Result<bool, Fail> {
+    match printed(alloc, words)? {
+        Some(out) => Ok(out.bytes().len() == length && is_digest(out.bytes(), digest)),
+        None => Ok(false),
+    }
+}
+
 #[test]
 fn a_made_script_has_its_text(rt: HostRuntime) -> Result<(), Fail> {
     let alloc = rt.alloc();
-    let mut store = MemoryStore::make(alloc, Vec::new(alloc), Vec::new(alloc));
-    for (words, length, digest) in TEXTS {
-        let mut out = MemorySink::make(alloc, 1_000_000, Vec::new(alloc));
-        let status = answer(alloc, words, &mut store, &mut out)?;
-        assert_eq!(rt; status, Status::Done, "{words}");
-        assert_eq!(rt; out.bytes().len(), *length, "{words}");
-        assert!(rt; is_digest(out.bytes(), digest), "{words}");
-        if *words == "make 1" {
-            assert!(rt; out.bytes() == ONE.as_bytes(), "{words}");
-        }
+    for &(words, length, digest) in TEXTS {
+        assert!(rt; prints(alloc, words, length, digest)?, "{words}");
     }
+    let want = (Status::Done, ONE);
+    assert!(rt; is_answered(alloc, "make 1", &mut empty(alloc), want)?);
     Ok(())
 }
 
 #[test]
 fn a_made_script_is_played_to_its_end(rt: HostRuntime) -> Result<(), Fail> {
     let alloc = rt.alloc();
-    let mut store = MemoryStore::make(alloc, Vec::new(alloc), Vec::new(alloc));
+    let mut store = empty(alloc);
     store.place(alloc, "one", ONE.as_bytes())?;
-    let mut out = MemorySink::make(alloc, 1000, Vec::new(alloc));
-    let status = answer(alloc, "play one p", &mut store, &mut out)?;
-    assert_eq!(rt; status, Status::Done);
     let lines = "machine sv sent 3 held 6\nmachine b1 sent 3 held 6\n\
         machine b2 sent 0 held 6\nmachine b3 sent 0 held 6\n";
-    assert!(rt; out.bytes() == lines.as_bytes());
+    assert!(rt; is_answered(alloc, "play one p", &mut store, (Status::Done, lines))?);
     Ok(())
 }

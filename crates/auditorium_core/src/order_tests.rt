@@ -1,7 +1,8 @@
 //! The command `order`. The words and lines are those of the worked script of two sessions, and of
 //! two other scripts of the same machines.
 use super::*;
-use hall_outside::{MemorySink, MemoryStore};
+use crate::audit_tests::{empty, front_of, play, told};
+use hall_outside::MemoryStore;
 use std::alloc::Global;
 use std::test::Fail;
 
@@ -28,45 +29,37 @@ const OTHERS: &str = "seed 0102\nkey w4 h5\nlog 64\nlink 64\n\
     do sv open\ndo sv authorise b2 9\nstep act sv\nstep act sv\n";
 
 /// Plays a script in two parts into files whose names begin with the prefix.
-fn play_into(
+fn play_parts(
     alloc: Global,
     store: &mut MemoryStore,
     script: &str,
     steps: &str,
     prefix: &str,
-) -> Result<Status, Fail> {
+) -> Result<(), Fail> {
     let text = format!(in alloc; "{script}{steps}")?;
-    store.place(alloc, "s", text.as_bytes())?;
-    let mut words = Vec::new(alloc);
-    for word in ["play", "s", prefix] {
-        words.push(String::from_str(alloc, word)?)?;
-    }
-    let mut out = MemorySink::make(alloc, 1000, Vec::new(alloc));
-    Ok(auditorium_still(alloc, words.as_slice(), store, &mut out))
+    play(alloc, text.as_str(), prefix, store)
 }
 
-/// The status and the output of the program for words that stand in one text.
-fn told(alloc: Global, store: &mut MemoryStore, words: &str) -> Result<String, Fail> {
-    let mut list = Vec::new(alloc);
-    for word in words.split(' ') {
-        list.push(String::from_str(alloc, word)?)?;
-    }
-    let mut out = MemorySink::make(alloc, 1000, Vec::new(alloc));
-    let status = auditorium_still(alloc, list.as_slice(), store, &mut out);
-    let line = String::from_utf8_lossy(alloc, out.bytes())?;
-    Ok(format!(in alloc; "{} {line}", status.exit_status())?)
+/// Puts a log of `p` that is cut in a record into a file.
+fn place_cut(alloc: Global, store: &mut MemoryStore) -> Result<(), Fail> {
+    let cut = front_of(alloc, store, "p.b2.log", 10_000)?;
+    Ok(store.place(alloc, "cut", &cut)?)
 }
 
-/// A store with three plays: as heard in `p`, unheard in `q`, the others in `r`; and a log of `p`
-/// that is cut in a record.
+/// The plays: as heard in `p`, unheard in `q`, the others in `r`.
+const PLAYED: &[(&str, &str, &str)] = &[
+    (SESSIONS, HEARD, "p"),
+    (SESSIONS, UNHEARD, "q"),
+    (OTHERS, "", "r"),
+];
+
+/// A store with the files of the three plays, and the log that is cut.
 fn plays(alloc: Global) -> Result<MemoryStore, Fail> {
-    let mut store = MemoryStore::make(alloc, Vec::new(alloc), Vec::new(alloc));
-    play_into(alloc, &mut store, SESSIONS, HEARD, "p")?;
-    play_into(alloc, &mut store, SESSIONS, UNHEARD, "q")?;
-    play_into(alloc, &mut store, OTHERS, "", "r")?;
-    let whole = store.file("p.b2.log").unwrap_or(b"");
-    let cut = Vec::from_slice(alloc, &whole[..whole.len().min(10_000)])?;
-    store.place(alloc, "cut", cut.as_slice())?;
+    let mut store = empty(alloc);
+    for (script, steps, prefix) in PLAYED {
+        play_parts(alloc, &mut store, script, steps, prefix)?;
+    }
+    place_cut(alloc, &mut store)?;
     Ok(store)
 }
 
@@ -151,16 +144,20 @@ p.roster sv.0 sv.1 p.sv.log p.sv.log p.sv.log p.sv.log p.sv.log p.sv.log p.sv.lo
 p.sv.log p.sv.log \
 p.sv.log p.sv.log p.sv.log p.sv.log p.sv.log p.sv.log p.sv.log = 4 usage";
 
+/// Whether `order` with these words tells this.
+fn is_told(alloc: Global, words: &str, want: &str, store: &mut MemoryStore) -> Result<bool, Fail> {
+    let words = format!(in alloc; "order {words}")?;
+    let line = told(alloc, words.as_str(), store)?;
+    Ok(line.as_str().strip_suffix('\n') == Some(want))
+}
+
 #[test]
 fn two_entries_have_their_word(rt: HostRuntime) -> Result<(), Fail> {
     let alloc = rt.alloc();
     let mut store = plays(alloc)?;
     for row in ROWS.lines() {
         if let Some((words, want)) = row.split_once(" = ") {
-            let words = format!(in alloc; "order {words}")?;
-            let line = told(alloc, &mut store, words.as_str())?;
-            let want = format!(in alloc; "{want}\n")?;
-            assert!(rt; line.as_str() == want.as_str(), "{words}: {line}");
+            assert!(rt; is_told(alloc, words, want, &mut store)?, "{row}");
         }
     }
     Ok(())

@@ -2,8 +2,8 @@
 //! it of the process. Each test has a process of its own, so that none has memory at hand that another
 //! gave back. `rt try` runs them with an allocator that takes more.
 use super::*;
-use crate::audit_tests::{answer, play};
-use crate::play_tests::{Parts, TWO, joined};
+use crate::audit_tests::{answer, empty, place_parts, play, wide};
+use crate::play_tests::{Parts, TWO};
 use hall_outside::{MemorySink, MemoryStore};
 use hall_text::decimal;
 use std::alloc::Global;
@@ -33,27 +33,38 @@ fn set_back(rt: &HostRuntime) -> bool {
 
 /// A store with a roster's file, and a file `x` of these parts.
 fn hall(alloc: Global, parts: Parts) -> Result<MemoryStore, Fail> {
-    let mut store = MemoryStore::make(alloc, Vec::new(alloc), Vec::new(alloc));
+    let mut store = empty(alloc);
     play(alloc, TWO, "p", &mut store)?;
-    let file = joined(alloc, parts)?;
-    store.place(alloc, "x", file.as_bytes())?;
+    place_parts(alloc, "x", parts, &mut store)?;
     Ok(store)
+}
+
+/// Calls the program over an empty file: its code is read from its file at its first call.
+fn called_before(alloc: Global, words: &str) -> Result<Status, Fail> {
+    answer(alloc, words, &mut hall(alloc, &[])?, &mut wide(alloc))
+}
+
+/// By how many kilobytes the peak grows in the call.
+fn grown_by(
+    rt: &HostRuntime,
+    words: &str,
+    store: &mut MemoryStore,
+    out: &mut MemorySink,
+) -> Result<u32, Fail> {
+    set_back(rt);
+    let before = peak(rt)?;
+    answer(rt.alloc(), words, store, out)?;
+    Ok(peak(rt)?.saturating_sub(before))
 }
 
 /// Whether the words are answered so, and by how many kilobytes the peak grows in that call.
 fn grown(rt: &HostRuntime, words: &str, parts: Parts, want: &str) -> Result<(bool, u32), Fail> {
     let alloc = rt.alloc();
-    let mut out = MemorySink::make(alloc, 1000, Vec::new(alloc));
-    // The code is read from its file at its first call.
-    let mut small = hall(alloc, &[])?;
-    answer(alloc, words, &mut small, &mut out)?;
+    called_before(alloc, words)?;
     let mut store = hall(alloc, parts)?;
-    let mut out = MemorySink::make(alloc, 1000, Vec::new(alloc));
-    set_back(rt);
-    let before = peak(rt)?;
-    answer(alloc, words, &mut store, &mut out)?;
-    let after = peak(rt)?;
-    Ok((out.bytes() == want.as_bytes(), after.saturating_sub(before)))
+    let mut out = wide(alloc);
+    let more = grown_by(rt, words, &mut store, &mut out)?;
+    Ok((out.bytes() == want.as_bytes(), more))
 }
 
 #[test]

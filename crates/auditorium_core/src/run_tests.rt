@@ -1,6 +1,6 @@
 //! The command `run`. The lines are those to which every interleaving of the scripts comes.
 use super::*;
-use crate::audit_tests::{answer, play};
+use crate::audit_tests::{answer, empty, play, wide, words_of};
 use crate::play_tests::{Parts, SESSION, STEPS, TWO, joined};
 use hall_outside::{Gate, MeetGate, MemorySink, MemoryStore, OpenGate};
 use std::alloc::Global;
@@ -64,55 +64,100 @@ fn run<R: Threads + Wait + Sync, G: Gate + Sync>(
     out: &mut MemorySink,
 ) -> Result<Status, Fail> {
     store.place(alloc, "s", script.as_bytes())?;
-    let mut words = Vec::new(alloc);
-    for word in ["run", "s", "p"] {
-        words.push(String::from_str(alloc, word)?)?;
-    }
+    let words = words_of(alloc, "run s p")?;
     Ok(auditorium(rt, alloc, words.as_slice(), store, out, gate))
+}
+
+/// Whether the run of the script of these parts has this status and output.
+fn runs_to<R: Threads + Wait + Sync, G: Gate + Sync>(
+    rt: &R,
+    alloc: Global,
+    gate: &G,
+    parts: Parts,
+    (status, output): (Status, &str),
+) -> Result<bool, Fail> {
+    let script = joined(alloc, parts)?;
+    let mut out = wide(alloc);
+    let ended = run(
+        rt,
+        alloc,
+        gate,
+        script.as_str(),
+        &mut empty(alloc),
+        &mut out,
+    )?;
+    Ok(ended == status && out.bytes() == output.as_bytes())
 }
 
 #[test]
 fn a_run_has_its_status_and_lines(rt: HostRuntime) -> Result<(), Fail> {
     let alloc = rt.alloc();
-    for (parts, status, output) in RUNS {
-        let script = joined(alloc, parts)?;
-        let mut store = MemoryStore::make(alloc, Vec::new(alloc), Vec::new(alloc));
-        let mut out = MemorySink::make(alloc, 1000, Vec::new(alloc));
-        let ends = run(&rt, alloc, &OpenGate, script.as_str(), &mut store, &mut out)?;
-        assert_eq!(rt; ends, *status, "{output}");
-        assert!(rt; out.bytes() == output.as_bytes(), "{output}");
+    for &(parts, status, output) in RUNS {
+        let want = (status, output);
+        assert!(rt; runs_to(&rt, alloc, &OpenGate, parts, want)?, "{output}");
     }
     Ok(())
 }
+
+/// A store with the files of a run of the script, and of a play of it.
+fn run_and_played<R: Threads + Wait + Sync>(rt: &R, alloc: Global) -> Result<MemoryStore, Fail> {
+    let script = joined(alloc, &[(1, TWO), (1, SESSION), (1, STEPS)])?;
+    let mut store = empty(alloc);
+    let mut out = wide(alloc);
+    run(rt, alloc, &OpenGate, script.as_str(), &mut store, &mut out)?;
+    play(alloc, script.as_str(), "q", &mut store)?;
+    Ok(store)
+}
+
+/// Whether the audit of the run's files is `Done`.
+fn is_audited(alloc: Global, store: &mut MemoryStore) -> Result<bool, Fail> {
+    let words = "audit p.roster standard p.sv.log p.b1.log";
+    Ok(answer(alloc, words, store, &mut wide(alloc))? == Status::Done)
+}
+
+/// The files of the run and of the play.
+const PAIRS: &[(&str, &str)] = &[
+    ("p.roster", "q.roster"),
+    ("p.sv.log", "q.sv.log"),
+    ("p.b1.log", "q.b1.log"),
+];
 
 /// In this session each machine can act only once it has heard the other, so there is one play.
 #[test]
 fn a_run_writes_the_files_of_its_play(rt: HostRuntime) -> Result<(), Fail> {
     let alloc = rt.alloc();
-    let script = joined(alloc, &[(1, TWO), (1, SESSION), (1, STEPS)])?;
-    let mut store = MemoryStore::make(alloc, Vec::new(alloc), Vec::new(alloc));
-    let mut out = MemorySink::make(alloc, 1000, Vec::new(alloc));
-    run(&rt, alloc, &OpenGate, script.as_str(), &mut store, &mut out)?;
-    play(alloc, script.as_str(), "q", &mut store)?;
-    assert!(rt; store.file("p.roster") == store.file("q.roster"));
-    assert!(rt; store.file("p.sv.log") == store.file("q.sv.log"));
-    assert!(rt; store.file("p.b1.log") == store.file("q.b1.log"));
-    let words = "audit p.roster standard p.sv.log p.b1.log";
-    assert_eq!(rt; answer(alloc, words, &mut store, &mut out)?, Status::Done);
+    let mut store = run_and_played(&rt, alloc)?;
+    for (run, played) in PAIRS {
+        assert!(rt; store.file(run) == store.file(played), "{run}");
+    }
+    assert!(rt; is_audited(alloc, &mut store)?);
     Ok(())
+}
+
+/// Whether the run of the session is `Done` under this gate.
+fn is_run_done<R: Threads + Wait + Sync, G: Gate + Sync>(
+    rt: &R,
+    alloc: Global,
+    gate: &G,
+) -> Result<bool, Fail> {
+    let script = joined(alloc, &[(1, TWO), (1, SESSION)])?;
+    let ended = run(
+        rt,
+        alloc,
+        gate,
+        script.as_str(),
+        &mut empty(alloc),
+        &mut wide(alloc),
+    )?;
+    Ok(ended == Status::Done)
 }
 
 /// The first turns of both machines' workers meet in the gate, which those of one thread can't.
 #[test]
 fn two_threads_of_a_run_meet(rt: HostRuntime) -> Result<(), Fail> {
-    let alloc = rt.alloc();
-    let script = joined(alloc, &[(1, TWO), (1, SESSION)])?;
-    let mut store = MemoryStore::make(alloc, Vec::new(alloc), Vec::new(alloc));
-    let mut out = MemorySink::make(alloc, 1000, Vec::new(alloc));
     let gate = MeetGate::make(50_000_000);
-    let status = run(&rt, alloc, &gate, script.as_str(), &mut store, &mut out)?;
-    assert_eq!(rt; status, Status::Done);
-    assert!(rt; gate.met());
+    let done = is_run_done(&rt, rt.alloc(), &gate)?;
+    assert!(rt; done && gate.met());
     Ok(())
 }
 
@@ -121,15 +166,25 @@ fn is_licensed(line: &str) -> bool {
     !line.starts_with("loss ") || line.ends_with(" LinkFull") && !line.contains(".0 ")
 }
 
+/// What a run over the narrow links tells.
+fn narrow_lines<R: Threads + Wait + Sync>(rt: &R, alloc: Global) -> Result<String, Fail> {
+    let script = joined(alloc, &[(1, NARROW), (1, SESSION)])?;
+    let mut out = wide(alloc);
+    run(
+        rt,
+        alloc,
+        &OpenGate,
+        script.as_str(),
+        &mut empty(alloc),
+        &mut out,
+    )?;
+    Ok(String::from_utf8_lossy(alloc, out.bytes())?)
+}
+
 #[test]
 fn what_narrow_links_lose_has_its_cause(rt: HostRuntime) -> Result<(), Fail> {
-    let alloc = rt.alloc();
-    let script = joined(alloc, &[(1, NARROW), (1, SESSION)])?;
     for _ in 0..50 {
-        let mut store = MemoryStore::make(alloc, Vec::new(alloc), Vec::new(alloc));
-        let mut out = MemorySink::make(alloc, 1000, Vec::new(alloc));
-        run(&rt, alloc, &OpenGate, script.as_str(), &mut store, &mut out)?;
-        let text = String::from_utf8_lossy(alloc, out.bytes())?;
+        let text = narrow_lines(&rt, rt.alloc())?;
         for line in text.lines() {
             assert!(rt; is_licensed(line), "{line}");
         }
