@@ -1,5 +1,6 @@
 //! What a machine does.
 ghost use Rattle.std.specs.Prelude.{◌≡◌};
+ghost use Rattle.canonical_sexp.specs.Forms.{Finds};
 ghost use Rattle.entry_format.specs.EntryText.{deed_word, how_word};
 
 /// What a supervisor who overrides a session has its booth do.
@@ -19,6 +20,19 @@ impl How {
         match self {
             How::Cancel => b"cancel",
             How::Cast => b"cast",
+        }
+    }
+
+    /// What the word says.
+    pub fn of_word(word: &[u8]) -> Option<How>
+        ensures { Finds (λ how. word.now ≡ how_word how) result }
+    {
+        if word == How::Cancel.word() {
+            Some(How::Cancel)
+        } else if word == How::Cast.word() {
+            Some(How::Cast)
+        } else {
+            None
         }
     }
 }

@@ -7,7 +7,7 @@ ghost use Rattle.canonical_sexp.specs.Forms.{Finds, list_of, number_atom};
 ghost use Rattle.canonical_sexp.specs.Sexp.{in_front};
 ghost use Rattle.canonical_sexp.specs.declared.sexp.Sexp.TheVariants.{Atom, List as Branch};
 ghost use Rattle.entry_format.specs.declared.deed.Deed.{Deed};
-ghost use Rattle.entry_format.specs.EntryText.{IsVersion, IsDigest, deed_word, how_word, deed_tree};
+ghost use Rattle.entry_format.specs.EntryText.{IsVersion, IsDigest, deed_word, deed_tree};
 ghost use Rattle.entry_format.specs.inside.Parts.{IsVersionDeed};
 
 use crate::deed::{Deed, How};
@@ -65,19 +65,6 @@ fn ballot_deed(version: u32, word: &[u8], session: u32, ballot: [u8; 32]) -> Opt
     named(word, commit).or(named(word, cast))
 }
 
-/// What the word says that the booth is to do.
-fn how_of(word: &[u8]) -> Option<How>
-    ensures { Finds (λ how. word.now ≡ how_word how) result }
-{
-    if word == How::Cancel.word() {
-        Some(How::Cancel)
-    } else if word == How::Cast.word() {
-        Some(How::Cast)
-    } else {
-        None
-    }
-}
-
 /// The override of a word, a session and what the booth is to do.
 fn override_deed(version: u32, word: &[u8], session: u32, further: &[u8]) -> Option<Deed>
     requires version { IsVersion version }
@@ -86,7 +73,7 @@ fn override_deed(version: u32, word: &[u8], session: u32, further: &[u8]) -> Opt
     ensures { Finds (λ deed. IsVersionDeed version deed × (list_of
         (Atom word.now ∷ number_atom session ∷ Atom further.now ∷ []) ≡ deed_tree version deed)) result }
 {
-    let how = how_of(further)?;
+    let how = How::of_word(further)?;
     if version != 2 {
         return None;
     }
