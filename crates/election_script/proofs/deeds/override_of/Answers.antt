@@ -1,7 +1,9 @@
 -- The causes of the first words, and then that of the last.
-use Rattle.std.proofs.Common.{◌∙◌, inl, inr, refl, sym, [], ◌∷◌}
+use Rattle.std.proofs.Common.{inl, inr, refl, [], ◌∷◌}
 use Rattle.roster.specs.declared.post.Role.TheVariants.{Supervisor}
 use Rattle.election_script.specs.Faults.{how_causes, override_causes, role_session_causes}
+use Rattle.election_script.specs.Kinds.{how_names}
+use Rattle.election_script.proofs.Named.{known, some_how, no_how}
 use Rattle.election_script.proofs.Rows.{then_row, in_row, passed}
 use Rattle.election_script.proofs.deeds.override_of.Goals as goal
 
@@ -15,10 +17,10 @@ returns-in_err-place-clause-first c before are =
 pub returns-in_default-clause-first : goal.returns-in_default-clause-first
 returns-in_default-clause-first c before are =
     then_row (role_session_causes before Supervisor c.args.name.now c.args.session.now) (how_causes c.args.how.now) _
-    (c.in_ok-place.ensures.first before are) (inl (sym c.how_named.ensures.value ∙ c.in_default.is, refl))
+    (c.in_ok-place.ensures.first before are) (inl (no_how c.args.how.now c.in_default.ensures, refl))
 
 pub returns-clause-first : goal.returns-clause-first
 returns-clause-first c before are =
     then_row (role_session_causes before Supervisor c.args.name.now c.args.session.now) (how_causes c.args.how.now) _
     (c.in_ok-place.ensures.first before are)
-    (inr (λ none. cc (c.how_named.ensures.value, none, c.in-Some.is), refl))
+    (inr (known how_names c.args.how.now _ _ c.in-Some.ensures (some_how _), refl))

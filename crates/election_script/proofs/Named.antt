@@ -1,0 +1,76 @@
+-- What a word names in the tables of roles, ways to override, kinds of key and heights.
+use Rattle.std.proofs.Common.{◌≡◌, ◌≢◌, ◌∙◌, sym, ap, subst, refl, ℕ, Bool, true, false, List, [], ◌∷◌, inl, inr}
+use Rattle.std.proofs.Common.{Some, None, map}
+use Rattle.std.specs.Str.{bytes_eq}
+use Rattle.std.proofs.lemmas.Slice.Eq.{bytes_eq-Decides}
+use Rattle.entry_format.specs.EntryText.{how_word}
+use Rattle.entry_format.specs.declared.deed.How.{How}
+use Rattle.entry_format.specs.declared.deed.How.TheVariants as how
+use Rattle.lms_ots.specs.declared.kind.OtsKind.{OtsKind}
+use Rattle.lms_ots.specs.declared.kind.OtsKind.TheVariants.{W1, W2, W4, W8}
+use Rattle.lms_ots.specs.Words.{kind_word}
+use Rattle.lms_sign.specs.Height.{IsHeight, height_word}
+use Rattle.roster.specs.declared.post.Role.{Role}
+use Rattle.roster.specs.declared.post.Role.TheVariants.{Supervisor, Booth}
+use Rattle.roster.specs.RosterText.{role_word}
+use Rattle.election_script.specs.Kinds.{named, role_names, how_names, key_kinds, key_heights}
+
+-- a word that names something isn't unknown
+pub known : {A : Type 0} (rows : List (List ℕ × A)) (word own : List ℕ) (a : A) → word ≡ own
+    → named rows own ≡ Some a → named rows word ≡ None → ⊥
+known rows word own a is some none =
+    let both : Some a ≡ None = sym some ∙ ap (named rows) (sym is) ∙ none in
+    cc
+
+-- a row of another word is passed over
+next_row : {A : Type 0} (own : List ℕ) (a : A) (rows : List (List ℕ × A)) (word : List ℕ) → word ≢ own
+    → named rows word ≡ None → named ((own, a) ∷ rows) word ≡ None
+next_row own a rows word other none = by (bytes_eq word own) refl
+  where
+    by : (test : Bool) → bytes_eq word own ≡ test → named ((own, a) ∷ rows) word ≡ None
+    by true is = absurd (other ((bytes_eq-Decides word own).0 is))
+    by false is = rw is none
+
+-- a word of none of the things names none
+no_word : {A : Type 0} (word_of : A → List ℕ) (word : List ℕ) → ((a : A) → word ≢ word_of a) → (things : List A)
+    → named (map (λ a. (word_of a, a)) things) word ≡ None
+no_word word_of word none [] = refl
+no_word word_of word none (a ∷ things) =
+    next_row (word_of a) a (map (λ a. (word_of a, a)) things) word (none a) (no_word word_of word none things)
+
+-- the word of a role names it, and no other word names one
+pub some_role : (role : Role) → named role_names (role_word role) ≡ Some role
+some_role Supervisor = refl
+some_role Booth = refl
+
+pub no_role : (word : List ℕ) → ((role : Role) → word ≢ role_word role) → named role_names word ≡ None
+no_role word none = no_word role_word word none (Supervisor ∷ Booth ∷ [])
+
+-- so it is with the word of how a session is overridden
+pub some_how : (how : How) → named how_names (how_word how) ≡ Some how
+some_how how.Cancel = refl
+some_how how.Cast = refl
+
+pub no_how : (word : List ℕ) → ((how : How) → word ≢ how_word how) → named how_names word ≡ None
+no_how word none = no_word how_word word none (how.Cancel ∷ how.Cast ∷ [])
+
+-- with that of a kind of key
+pub some_kind : (kind : OtsKind) → named key_kinds (kind_word kind) ≡ Some kind
+some_kind W1 = refl
+some_kind W2 = refl
+some_kind W4 = refl
+some_kind W8 = refl
+
+pub no_kind : (word : List ℕ) → ((kind : OtsKind) → word ≢ kind_word kind) → named key_kinds word ≡ None
+no_kind word none = no_word kind_word word none (W1 ∷ W2 ∷ W4 ∷ W8 ∷ [])
+
+-- and with that of a height
+pub some_height : (height : ℕ) → IsHeight height → named key_heights (height_word height) ≡ Some height
+some_height height (inl is) = subst (λ h. named key_heights (height_word h) ≡ Some h) (sym is) refl
+some_height height (inr is) = subst (λ h. named key_heights (height_word h) ≡ Some h) (sym is) refl
+
+pub no_height : (word : List ℕ) → ((height : ℕ) → IsHeight height → word ≢ height_word height)
+    → named key_heights word ≡ None
+no_height word none =
+    next_row (height_word 5) 5 ((height_word 10, 10) ∷ []) word (none 5 (inl refl))
+    (next_row (height_word 10) 10 [] word (none 10 (inr refl)) refl)
