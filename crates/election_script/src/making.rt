@@ -5,6 +5,8 @@ ghost use Rattle.std.specs.Prelude.{
   ◌+◌,
   ◌-◌,
   ◌++◌,
+  ◌∷◌,
+  [],
   length,
   replicate,
   reverse,
@@ -116,34 +118,40 @@ fn supervisor_actions(alloc: Global, n: u32) -> Result<Vec<Deed>, Memory>
     Ok(deeds)
 }
 
-/// A machine with what it does.
-fn machine(alloc: Global, name: &str, role: Role, actions: Vec<Deed>) -> Result<Cast0, Memory>
-    ensures { IfOk result (λ cast. cast ≡ record {
-      name = name.now;
-      role = role;
-      actions = actions.items;
-    }) }
+/// Appends a machine with what it does.
+fn push_machine(
+    alloc: Global,
+    machines: &mut Items<Cast0>,
+    name: &str,
+    role: Role,
+    actions: Vec<Deed>,
+) -> Result<(), Memory>
+    ensures { OnOk result (machines.new ≡ machines.old
+        ++ (record { name = name.now; role = role; actions = actions.items }) ∷ []) }
 {
     let name = Name::new(String::from_str(alloc, name)?);
     let actions = Items::from_vec(actions);
-    Ok(Cast0 {
+    machines.push(Cast0 {
         name,
         role,
         actions,
     })
 }
 
-/// A booth with what it does on a day of n sessions.
-fn booth(alloc: Global, name: &str, place: u32, n: u32) -> Result<Cast0, Memory>
+/// Appends a booth with what it does on a day of n sessions.
+fn push_booth(
+    alloc: Global,
+    machines: &mut Items<Cast0>,
+    name: &str,
+    place: u32,
+    n: u32,
+) -> Result<(), Memory>
     requires { n ≤ 800 }
-    ensures { IfOk result (λ cast. cast ≡ record {
-      name = name.now;
-      role = Booth;
-      actions = actions_of place n;
-    }) }
+    ensures { OnOk result (machines.new ≡ machines.old
+        ++ (record { name = name.now; role = Booth; actions = actions_of place n }) ∷ []) }
 {
     let actions = actions_of(alloc, place, n)?;
-    machine(alloc, name, Role::Booth, actions)
+    push_machine(alloc, machines, name, Role::Booth, actions)
 }
 
 /// The machines of a day of n sessions.
@@ -153,10 +161,10 @@ fn machines_of(alloc: Global, n: u32) -> Result<Items<Cast0>, Memory>
 {
     let mut machines = Items::new(alloc);
     let actions = supervisor_actions(alloc, n)?;
-    machines.push(machine(alloc, "sv", Role::Supervisor, actions)?)?;
-    machines.push(booth(alloc, "b1", 1, n)?)?;
-    machines.push(booth(alloc, "b2", 2, n)?)?;
-    machines.push(booth(alloc, "b3", 3, n)?)?;
+    push_machine(alloc, &mut machines, "sv", Role::Supervisor, actions)?;
+    push_booth(alloc, &mut machines, "b1", 1, n)?;
+    push_booth(alloc, &mut machines, "b2", 2, n)?;
+    push_booth(alloc, &mut machines, "b3", 3, n)?;
     Ok(machines)
 }
 
