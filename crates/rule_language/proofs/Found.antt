@@ -1,12 +1,13 @@
 -- What a word is that was found.
 use Rattle.std.proofs.Common.{◌≡◌, ◌≢◌, ◌∙◌, ℕ, ◌^◌, ◌<◌, Bool, true, false, ◌&&◌, List, [], ◌∷◌, length, Option, Some}
-use Rattle.std.proofs.Common.{None, Result, Ok, Err, refl, ap, sym, subst, arith}
+use Rattle.std.proofs.Common.{None, Result, Ok, Err, refl, ap, sym, subst, arith, ◌+◌, get_or, drop}
 use Rattle.std.specs.Prelude.{if◌then◌else◌, nat_lt, nat_le, ◌==◌, ◌||◌, is_some}
 use Rattle.std.specs.Str.{bytes_eq}
 use Rattle.std.specs.Fmt.{decimal}
 use Rattle.std.proofs.lemmas.Slice.Eq.{bytes_eq-Decides}
 use Rattle.std.proofs.lemmas.Bool.{ltb-true, lt-ltb, eqb-true}
 use Rattle.std.proofs.lemmas.Fmt.{decimal_nonempty}
+use Rattle.std.proofs.lemmas.List.{drop_more}
 use Rattle.roster.specs.declared.post.Role.{Role}
 use Rattle.roster.specs.declared.post.Role.TheVariants as role
 use Rattle.roster.specs.RosterText.{role_word}
@@ -70,6 +71,13 @@ both_true false b e = absurd (cc)
 -- words with equal bytes are the same
 pub bytes_same : (xs ys : List ℕ) → bytes_eq xs ys ≡ true → xs ≡ ys
 bytes_same xs ys e = (bytes_eq-Decides xs ys).0 e
+
+-- a thing is passed whose word it isn't
+pub named_next : {A : Type 0} (word_of : A → List ℕ) (things : List A) (i : ℕ) (a : A) (word : List ℕ)
+    → i < length things → bytes_eq word (word_of (get_or things i a)) ≡ false
+    → named word_of (drop i things) word ≡ named word_of (drop (i + 1) things) word
+named_next word_of things i a word inside other =
+    ap (λ left. named word_of left word) (drop_more things i a inside) ∙ rw other refl
 
 -- a word that names a thing is the word of that thing
 pub named_found : {A : Type 0} (word_of : A → List ℕ) (things : List A) (word : List ℕ) (a : A)

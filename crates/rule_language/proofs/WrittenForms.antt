@@ -7,6 +7,7 @@ use Rattle.rule_language.specs.Trees.{Trees, no_trees, tree_then}
 use Rattle.rule_language.specs.Forms.{in_front, tree_of}
 use Rattle.rule_language.specs.Spelling.{form_words}
 use Rattle.rule_language.specs.Written.{joined, form_text, row_text}
+use Rattle.rule_language.specs.inside.Parts.{parts_of}
 use Rattle.rule_language.proofs.Views.{shape}
 
 -- all but `true` stands in parentheses
@@ -40,6 +41,17 @@ written_form tree f parts old is other =
     ∙ ap (λ xs. old ++ 32 ∷ xs) (sym (enclosed_text f (row_text parts) other)
     ∙ sym (append-nil (form_text f (row_text parts))))
     ∙ ap (λ t. old ++ row_text t) (sym is)
+
+-- and so the text is, with each piece appended to what is there
+pub written_pieces : (tree : Trees) (f : Form) (parts : Trees) (old opened headed filled closed : List ℕ)
+    → tree ≡ tree_then f parts no_trees → f ≢ form.True → opened ≡ old ++ 32 ∷ 40 ∷ []
+    → headed ≡ opened ++ joined (form_words f) → filled ≡ headed ++ row_text (parts_of tree)
+    → closed ≡ filled ++ 41 ∷ [] → closed ≡ old ++ row_text tree
+written_pieces tree f parts old opened headed filled closed is other opens heads fills closes =
+    closes
+    ∙ ap (λ xs. xs ++ 41 ∷ []) (fills ∙ ap (λ t. headed ++ row_text (parts_of t)) is
+    ∙ ap (λ xs. xs ++ row_text parts) (heads ∙ ap (λ xs. xs ++ joined (form_words f)) opens))
+    ∙ written_form tree f parts old is other
 
 -- a row is written formula by formula
 pub row_front : (p : Formula) (rest : Trees) → row_text (in_front p rest) ≡ row_text (tree_of p) ++ row_text rest

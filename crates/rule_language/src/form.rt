@@ -7,7 +7,7 @@ use crate::term::Term;
 use roster::Role;
 
 /// A formula without the formulas in it.
-#[derive(Clone, Copy, Debug, PartialEq, Eq)]
+#[derive(Clone, Copy)]
 pub enum Form {
     True,
     ForEvery { v: u8, kind: Kind },
@@ -45,6 +45,23 @@ pub(crate) enum Head {
     Less,
 }
 
+// The heads, in the order of their declaration.
+const HEADS: &[Head] = &[
+    Head::ForEvery,
+    Head::ForSome,
+    Head::And,
+    Head::Or,
+    Head::Not,
+    Head::Implies,
+    Head::Same,
+    Head::Before,
+    Head::Next,
+    Head::Is,
+    Head::OfKind,
+    Head::Equal,
+    Head::Less,
+];
+
 impl Head {
     /// The word.
     pub(crate) fn word(self) -> &'static [u8]
@@ -78,34 +95,11 @@ impl Head {
     pub(crate) fn of_word(word: &[u8]) -> Option<Head>
         ensures { result ≡ head_named word.now }
     {
-        if word == b"every".as_slice() {
-            Some(Head::ForEvery)
-        } else if word == b"some".as_slice() {
-            Some(Head::ForSome)
-        } else if word == b"and".as_slice() {
-            Some(Head::And)
-        } else if word == b"or".as_slice() {
-            Some(Head::Or)
-        } else if word == b"not".as_slice() {
-            Some(Head::Not)
-        } else if word == b"implies".as_slice() {
-            Some(Head::Implies)
-        } else if word == b"same".as_slice() {
-            Some(Head::Same)
-        } else if word == b"before".as_slice() {
-            Some(Head::Before)
-        } else if word == b"next".as_slice() {
-            Some(Head::Next)
-        } else if word == b"is".as_slice() {
-            Some(Head::Is)
-        } else if word == b"kind".as_slice() {
-            Some(Head::OfKind)
-        } else if word == b"=".as_slice() {
-            Some(Head::Equal)
-        } else if word == b"<".as_slice() {
-            Some(Head::Less)
-        } else {
-            None
+        for &head in HEADS {
+            if word == head.word() {
+                return Some(head);
+            }
         }
+        None
     }
 }

@@ -6,7 +6,7 @@ use roster::Role;
 
 /// A formula. A variable is the byte of its letter. Contracts see a formula as its tree (`tree_of`),
 /// whatever room its vectors have.
-#[derive(Debug, Drop)]
+#[derive(Drop)]
 pub enum Formula {
     True,
     /// For each survivor of the kind.
@@ -55,7 +55,7 @@ pub enum Formula {
 }
 
 /// A rule: a name and what it says.
-#[derive(Debug, Drop)]
+#[derive(Drop)]
 pub struct Rule {
     /// 1 to 16 letters and digits.
     pub name: String,

@@ -12,7 +12,7 @@ ghost use Rattle.rule_language.specs.Kinds.{
 };
 
 /// A kind of entries, by what their makers did.
-#[derive(Clone, Copy, Debug, PartialEq, Eq)]
+#[derive(Clone, Copy)]
 pub enum Kind {
     /// Every entry.
     Any,
@@ -29,6 +29,21 @@ pub enum Kind {
     Cancel,
     Challenge,
 }
+
+// The kinds, in the order of their declaration.
+const KINDS: &[Kind] = &[
+    Kind::Any,
+    Kind::Opened,
+    Kind::Authorise,
+    Kind::Override,
+    Kind::Forced,
+    Kind::Closed,
+    Kind::Activate,
+    Kind::Commit,
+    Kind::Cast,
+    Kind::Cancel,
+    Kind::Challenge,
+];
 
 impl Kind {
     /// The kind's word in texts of rules.
@@ -54,31 +69,12 @@ impl Kind {
     pub fn of_word(word: &[u8]) -> Option<Kind>
         ensures { result ≡ kind_named word.now }
     {
-        if word == b"entry".as_slice() {
-            Some(Kind::Any)
-        } else if word == b"opened".as_slice() {
-            Some(Kind::Opened)
-        } else if word == b"authorise".as_slice() {
-            Some(Kind::Authorise)
-        } else if word == b"override".as_slice() {
-            Some(Kind::Override)
-        } else if word == b"forced".as_slice() {
-            Some(Kind::Forced)
-        } else if word == b"closed".as_slice() {
-            Some(Kind::Closed)
-        } else if word == b"activate".as_slice() {
-            Some(Kind::Activate)
-        } else if word == b"commit".as_slice() {
-            Some(Kind::Commit)
-        } else if word == b"cast".as_slice() {
-            Some(Kind::Cast)
-        } else if word == b"cancel".as_slice() {
-            Some(Kind::Cancel)
-        } else if word == b"challenge".as_slice() {
-            Some(Kind::Challenge)
-        } else {
-            None
+        for &kind in KINDS {
+            if word == kind.word() {
+                return Some(kind);
+            }
         }
+        None
     }
 
     /// Whether entries of the kind have the field.
@@ -107,7 +103,7 @@ impl Kind {
 }
 
 /// A field of an entry.
-#[derive(Clone, Copy, Debug, PartialEq, Eq)]
+#[derive(Clone, Copy, PartialEq, Eq)]
 pub enum Field {
     Maker,
     Booth,
@@ -115,6 +111,15 @@ pub enum Field {
     Session,
     Ballot,
 }
+
+// The fields, in the order of their declaration.
+const FIELDS: &[Field] = &[
+    Field::Maker,
+    Field::Booth,
+    Field::Number,
+    Field::Session,
+    Field::Ballot,
+];
 
 impl Field {
     /// The field's word in texts of rules.
@@ -134,19 +139,12 @@ impl Field {
     pub fn of_word(word: &[u8]) -> Option<Field>
         ensures { result ≡ field_named word.now }
     {
-        if word == b"maker".as_slice() {
-            Some(Field::Maker)
-        } else if word == b"booth".as_slice() {
-            Some(Field::Booth)
-        } else if word == b"number".as_slice() {
-            Some(Field::Number)
-        } else if word == b"session".as_slice() {
-            Some(Field::Session)
-        } else if word == b"ballot".as_slice() {
-            Some(Field::Ballot)
-        } else {
-            None
+        for &field in FIELDS {
+            if word == field.word() {
+                return Some(field);
+            }
         }
+        None
     }
 
     /// The sort of the field's values.

@@ -4,7 +4,7 @@ use crate::kind::Kind;
 use roster::Role;
 
 /// What a rule sees of an entry; 0 where its kind lacks a field.
-#[derive(Clone, Copy, Debug)]
+#[derive(Clone, Copy)]
 pub struct Row {
     pub kind: Kind,
     /// The machine's place in the roster, from 0.

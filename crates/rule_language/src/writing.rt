@@ -5,7 +5,7 @@ ghost use Rattle.rule_language.specs.Trees.{Trees, no_trees, tree_then};
 ghost use Rattle.rule_language.specs.Forms.{tree_of, trees_of, rule_tree};
 ghost use Rattle.rule_language.specs.Spelling.{variable, term_word, form_words};
 ghost use Rattle.rule_language.specs.Written.{spaced, joined, row_text, rule_text, rules_text};
-ghost use Rattle.rule_language.specs.declared.form.Form.{Form as FormOf};
+ghost use Rattle.rule_language.specs.inside.Parts.{parts_of};
 
 use crate::form::Form;
 use crate::formula::{Formula, Rule};
@@ -189,8 +189,7 @@ fn push_formula(alloc: Global, out: &mut Vec<u8>, formula: &Formula) -> Result<(
 /// Appends the formulas in it, with a space before each.
 #[cycle(writing)]
 fn push_parts(alloc: Global, out: &mut Vec<u8>, formula: &Formula) -> Result<(), Memory>
-    ensures { (form : FormOf) (parts : Trees) → tree_of formula.now ≡ tree_then form parts no_trees →
-        OnOk result (out.new.items ≡ out.old.items ++ row_text parts) }
+    ensures { OnOk result (out.new.items ≡ out.old.items ++ row_text (parts_of (tree_of formula.now))) }
 {
     match formula {
         Formula::ForEvery { body, .. } => push_formula(alloc, out, body),
