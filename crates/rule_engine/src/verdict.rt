@@ -1,9 +1,9 @@
 //! What is answered of a rule.
-ghost use Rattle.std.specs.Prelude.{◌≡◌, ◌++◌, ◌<◌, length, OnOk, IfSome};
+ghost use Rattle.std.specs.Prelude.{◌≡◌, ◌++◌, ◌<◌, length, IfErr, IfOk, OnOk, IfSome};
 ghost use Rattle.precedence.specs.Graph.{Graph};
 ghost use Rattle.precedence.specs.Known.{IsKnownOf, known_before, known_count, known_whole};
 ghost use Rattle.rule_engine.specs.Meaning.{bind};
-ghost use Rattle.rule_engine.specs.Verdicts.{IsAnswer, IsJudged, broken, first_false};
+ghost use Rattle.rule_engine.specs.Verdicts.{IsAnswer, IsJudged, IsVerdict, broken, first_false};
 ghost use Rattle.rule_engine.specs.inside.Index.{AreIndexesOf};
 ghost use Rattle.rule_engine.specs.inside.Judging.{value_of};
 ghost use Rattle.rule_engine.specs.inside.Scopes.{IsWithin, env_of};
@@ -23,7 +23,7 @@ use std::alloc::{AllocError, Global};
 use thiserror::Error;
 
 /// What is answered of a rule.
-#[derive(Debug, Drop)]
+#[derive(Drop)]
 pub enum Verdict {
     /// It holds, whatever was lost.
     Kept,
@@ -35,7 +35,7 @@ pub enum Verdict {
 }
 
 /// Why a rule isn't judged.
-#[derive(Clone, Copy, Debug, PartialEq, Eq, Error)]
+#[derive(Clone, Copy, Debug, Error)]
 pub enum JudgeFault {
     #[error("quantifiers go over more than 268,435,456 entries together")]
     TooWide,
@@ -77,12 +77,27 @@ fn answer(alloc: Global, body: &Formula, rows: &[Row], order: &Rows) -> Result<V
         order,
         indexes,
     };
-    match value(body, &Scope::Empty, &survivors) {
+    verdict_of(alloc, body, &survivors)
+}
+
+// The verdict on a rule that says this.
+fn verdict_of(
+    alloc: Global,
+    body: &Formula,
+    survivors: &Survivors<'_>,
+) -> Result<Verdict, JudgeFault>
+    requires same { length survivors.now.rows.now ≡ known_count survivors.now.order.now }
+    requires indexed { AreIndexesOf survivors.now.rows.now survivors.now.indexes }
+    ensures ok { IfOk result (IsVerdict survivors.now.rows.now (known_before survivors.now.order.now)
+        (known_whole survivors.now.order.now) (tree_of body.now)) }
+    ensures err { IfErr result (λ fault. fault ≡ JudgeFault.Memory) }
+{
+    match value(body, &Scope::Empty, survivors) {
         Three::True => Ok(Verdict::Kept),
         Three::Unknown => Ok(Verdict::Unsettled),
         Three::False => {
             let mut places = Vec::new(alloc);
-            push_broken(body, &Scope::Empty, &survivors, &mut places)?;
+            push_broken(body, &Scope::Empty, survivors, &mut places)?;
             Ok(Verdict::Broken(places))
         }
     }
