@@ -19,7 +19,9 @@ ghost use Rattle.rule_language.specs.Forms.{rule_tree};
 ghost use Rattle.evidence.specs.Graphs.{GivesGraph, entries_of};
 ghost use Rattle.evidence.specs.Reading.{IsReadFrom, store_seen};
 ghost use Rattle.evidence.specs.Refusal.{IsAbsent, refusal_of};
-ghost use Rattle.auditor.specs.Rows.{HaveMakers};
+ghost use Rattle.auditor.specs.Rows.{HaveMakers, row_of};
+ghost use Rattle.auditor.specs.Judged.{AreJudged, nodes_of};
+ghost use Rattle.auditor.specs.inside.Unjudged.{IsUnjudged};
 ghost use Rattle.auditor.specs.Report.{report_of};
 ghost use Rattle.rule_language.specs.Standard.{standard_rules};
 ghost use Rattle.auditor.specs.Sources.{source_of, source_word, max_rules, GivesRules, rule_files};
@@ -42,11 +44,12 @@ use hall_outside::{Store, read_file};
 use log_files::LogRead;
 use precedence::Rows;
 use roster::Roster;
+use rule_engine::Verdict;
 use rule_language::{Rule, RuleFault, read, standard};
 use std::alloc::{AllocError, Global};
 
 /// Where the rules of an audit come from.
-#[derive(Clone, Copy, Debug)]
+#[derive(Clone, Copy)]
 pub enum RulesFrom<'a> {
     /// The standard rules.
     Standard,
@@ -114,6 +117,26 @@ fn copies(alloc: Global, names: &[String]) -> Result<Vec<String>, AllocError>
     Ok(copies)
 }
 
+// Judges the rules by the survivors of the graph, which were unsealed with this roster.
+fn judge_graph(
+    alloc: Global,
+    roster: &Roster,
+    rules: &[Rule],
+    graph: &Graph,
+) -> Result<Vec<Verdict>, Unjudged>
+    requires makers { HaveMakers roster.now.machines graph.now.survivors }
+    requires few { length graph.now.survivors ≤ 16384 }
+    ensures ok { IfOk result (λ verdicts. AreJudged
+        (map (row_of roster.now.machines) graph.now.survivors) (nodes_of graph.now)
+        (map rule_tree rules.now) verdicts.items) }
+    ensures err { IfErr result (IsUnjudged
+        (map (row_of roster.now.machines) graph.now.survivors) (map rule_tree rules.now)) }
+{
+    let seen = rows(alloc, graph, roster)?;
+    let order = Rows::make(alloc, graph)?;
+    judge_all(alloc, rules, seen.as_slice(), &order)
+}
+
 /// The report on this graph, which is that of the entries that the logs keep.
 fn with_graph(
     alloc: Global,
@@ -135,9 +158,7 @@ fn with_graph(
         (map string_bytes files.items) logs.items graph (Err refusal))) }
     ensures only { IfErr result (λ fault. (fault ≢ AuditFault.ReadFault) × (¬ IsAbsent fault)) }
 {
-    let seen = rows(alloc, &graph, &roster)?;
-    let order = Rows::make(alloc, &graph)?;
-    match judge_all(alloc, rules.as_slice(), seen.as_slice(), &order) {
+    match judge_graph(alloc, &roster, rules.as_slice(), &graph) {
         Ok(verdicts) => Ok(Report::new(roster, files, logs, graph, rules, verdicts)),
         Err(Unjudged::TooWide(place)) => {
             Err(AuditFault::refused(alloc, from.word(), place as u64, "TooWide"))

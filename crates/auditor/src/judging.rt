@@ -9,7 +9,7 @@ ghost use Rattle.auditor.specs.inside.Unjudged.{IsUnjudged};
 use precedence::Rows;
 use rule_engine::{JudgeFault, Verdict, judge};
 use rule_language::{Row, Rule};
-use std::alloc::{AllocFailed, Global};
+use std::alloc::{AllocError, AllocFailed, Global};
 
 /// Why rules aren't judged.
 #[derive(Clone, Copy)]
@@ -17,6 +17,17 @@ pub(crate) enum Unjudged {
     /// The rule at this place, counted from 0, is the first that is too wide.
     TooWide(usize),
     Memory,
+}
+
+impl From<AllocError> for Unjudged {
+    ghost use Rattle.std.specs.Prelude.{◌≡◌};
+    ghost use Rattle.auditor.specs.declared.judging.Unjudged.TheVariants.{Memory};
+
+    ghost from_gives = { λ _ e. e ≡ Memory };
+
+    fn from(_refused: AllocError) -> Unjudged {
+        Unjudged::Memory
+    }
 }
 
 impl<T: Drop> From<AllocFailed<T>> for Unjudged {

@@ -1,6 +1,6 @@
-use Rattle.std.proofs.Common.{◌∙◌, map, string_bytes, ap}
+use Rattle.std.proofs.Common.{map, string_bytes, ap, refl}
 use Rattle.rule_language.specs.Forms.{rule_tree}
-use Rattle.auditor.specs.Judged.{nodes_of}
+use Rattle.auditor.specs.Rows.{row_of}
 use Rattle.auditor.specs.Sources.{source_of}
 use Rattle.auditor.proofs.Audited.{too_wide_gives}
 use Rattle.auditor.proofs.auditing.with_graph.Goals as goal
@@ -9,7 +9,6 @@ pub returns-in-Err-TooWide-clause-err : goal.returns-in-Err-TooWide-clause-err
 returns-in-Err-TooWide-clause-err c =
     too_wide_gives c.args.roster.machines (source_of c.args.from) (map rule_tree c.args.rules.items)
     (map rule_tree c.as_slice.result.now) (map string_bytes c.args.files.items) c.args.logs.items c.args.graph
-    c.as_slice-2.result.now c.in-Err-TooWide.field-0 c.in-Err-TooWide.place c.word.result.now c.refused.result
-    (c.as_slice-2.ensures.value ∙ c.in_ok-seen.ensures) (ap (map rule_tree) c.as_slice.ensures.value)
-    (c.in-Err-TooWide.ensures.err (nodes_of c.args.graph) c.in_ok-order.ensures)
+    (map (row_of c.args.roster.machines) c.args.graph.survivors) c.in-Err-TooWide.field-0 c.in-Err-TooWide.place
+    c.word.result.now c.refused.result refl (ap (map rule_tree) c.as_slice.ensures.value) c.in-Err-TooWide.ensures.err
     c.in-Err-TooWide.field-0-is c.word.ensures c.refused.ensures
