@@ -5,7 +5,7 @@ use supervisor_core::SupervisorNot;
 
 /// What became of a machine's next action: the first cause against it, or else its entry. Where
 /// there is a cause the machine is as it was.
-#[derive(Debug, Drop)]
+#[derive(Drop)]
 pub enum Acted {
     /// It is done. The entry has this number among the machine's, counted from 0, and these are
     /// equal copies of it, one for each receiver.

@@ -2,7 +2,7 @@
 use entry_format::Sealed;
 
 /// What became of an entry that a machine heard; one that isn't taken comes back.
-#[derive(Debug, Drop)]
+#[derive(Drop)]
 pub enum MachineHeard {
     /// It was appended to the log.
     Taken,

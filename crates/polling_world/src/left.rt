@@ -6,7 +6,7 @@ use booth_core::BoothNot;
 use supervisor_core::SupervisorNot;
 
 /// The first action that a machine hasn't done.
-#[derive(Clone, Copy, Debug, PartialEq, Eq)]
+#[derive(Clone, Copy)]
 pub struct Left {
     /// Its place among the machine's actions, counted from 0.
     pub place: u32,
@@ -15,7 +15,7 @@ pub struct Left {
 }
 
 /// Why an action isn't done, the first cause that applies.
-#[derive(Clone, Copy, Debug, PartialEq, Eq)]
+#[derive(Clone, Copy)]
 pub enum LeftWhy {
     /// The machine has stopped.
     Stopped,

@@ -1,5 +1,5 @@
 //! A machine of a polling place.
-ghost use Rattle.std.specs.Prelude.{◌≡◌, ◌↔◌, ◌<◌, ◌≤◌, length, true, IfOk, IfSome, IsTrue, OnErr};
+ghost use Rattle.std.specs.Prelude.{◌≡◌, ◌↔◌, ◌<◌, ◌≤◌, length, true, IfOk, IfSome, IsTrue, OnErr, Some};
 ghost use Rattle.entry_format.specs.Nodes.{node_of_sealed};
 ghost use Rattle.entry_order.specs.declared.event.Event.TheVariants.{Sent};
 ghost use Rattle.entry_order.specs.History.{held, sent};
@@ -18,13 +18,13 @@ ghost use Rattle.polling_world.specs.Waiting.{IsGoing, IsLeft, IsReady, IsWhy};
 use crate::acted::Acted;
 use crate::heard::MachineHeard;
 use crate::left::{Left, LeftWhy};
-use crate::parts::{copies_of, hear_into, is_reached, note_last};
+use crate::parts::{copies_of, copy_cast, copy_roster, hear_into, is_reached, note_last};
 use crate::rules::Rules;
 use election_script::Script;
 use entangled_log::{Heard, Log, NextFault};
 use entry_format::{Deed, Entry, Names, SealFault, Sealed, seal};
 use lms_sign::LmsSecret;
-use roster::{Name, Role, Roster, election};
+use roster::{Name, Role, Roster};
 use std::alloc::{AllocError, Global};
 use std::marker::Model;
 
@@ -88,17 +88,14 @@ impl Machine {
     {
         let machines = script.machines.as_slice();
         let cast = &machines[at as usize];
-        let name = String::from_str(alloc, cast.name.as_str())?;
-        let actions = Vec::from_slice(alloc, cast.actions.as_slice())?;
-        let roster = roster.copy(alloc)?;
-        let text = roster.write(alloc)?;
-        let election = election(&text);
+        let (name, actions) = copy_cast(alloc, cast)?;
+        let (roster, election) = copy_roster(alloc, roster)?;
         let capacity = script.log as usize;
         let log = Log::make(alloc, at, capacity)?;
         let rules = Rules::make(alloc, cast.role, at, capacity)?;
         Ok(Machine {
             version: script.version,
-            name: Name::new(name),
+            name,
             role: cast.role,
             actions,
             key,
@@ -129,14 +126,25 @@ impl Machine {
             });
         };
         match self.why(&deed) {
-            LeftWhy::Ready => {}
-            LeftWhy::Stopped => return Ok(Acted::Stopped),
-            LeftWhy::SupervisorNot(why) => return Ok(Acted::SupervisorNot(why)),
-            LeftWhy::BoothNot(why) => return Ok(Acted::BoothNot(why)),
-            LeftWhy::Full => return Ok(Acted::Full),
-            LeftWhy::StampSpent => return Ok(Acted::StampSpent),
-            LeftWhy::Spent => return Ok(Acted::Spent),
+            LeftWhy::Ready => self.act_ready(alloc, receivers, deed),
+            LeftWhy::Stopped => Ok(Acted::Stopped),
+            LeftWhy::SupervisorNot(why) => Ok(Acted::SupervisorNot(why)),
+            LeftWhy::BoothNot(why) => Ok(Acted::BoothNot(why)),
+            LeftWhy::Full => Ok(Acted::Full),
+            LeftWhy::StampSpent => Ok(Acted::StampSpent),
+            LeftWhy::Spent => Ok(Acted::Spent),
         }
+    }
+
+    // Does the next action, which is this deed and ready to be done.
+    fn act_ready(&mut self, alloc: Global, receivers: usize, deed: Deed) -> Result<Acted, Memory>
+        requires receivers { receivers ≤ 15 }
+        requires deed { IsDeedIn self.old.config.version deed }
+        requires action { next_action self.old.config self.old.events ≡ Some deed }
+        requires ready { IsReady self.old deed }
+        ensures ok { IfOk result (λ acted. IsActed self.old receivers acted self.new) }
+        ensures err { OnErr result (self.new ≡ self.old) }
+    {
         let sealed = self.next_entry(alloc, deed)?;
         if self.holds(sealed.digest()) {
             return Ok(Acted::SameDigest);

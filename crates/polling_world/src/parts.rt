@@ -7,13 +7,17 @@ ghost use Rattle.entry_format.specs.SealedEntry.{SealedEntry};
 ghost use Rattle.entry_order.specs.History.{entry_of};
 ghost use Rattle.polling_world.specs.Kept.{StandFor, spare_of};
 ghost use Rattle.polling_world.specs.Machines.{is_reached};
+ghost use Rattle.polling_world.specs.Making.{election_of};
 ghost use Rattle.polling_world.specs.Rules.{entries_in};
 ghost use Rattle.entry_order.specs.declared.event.Event.{Event};
 ghost use Rattle.roster.specs.declared.post.Role.{Role};
+ghost use Rattle.roster.specs.Machines.{HaveText};
 
 use crate::rules::Rules;
+use election_script::Cast0;
 use entangled_log::{Event, Heard, Log};
-use entry_format::{Entry, Sealed};
+use entry_format::{Deed, Entry, Sealed};
+use roster::{Name, Roster, election};
 use std::alloc::{AllocError, Global};
 
 /// Whether there is a number of events to stop at, and there are that many.
@@ -24,6 +28,27 @@ pub fn is_reached(stop_at: Option<u32>, count: usize) -> bool
         None => false,
         Some(stop_at) => stop_at as usize <= count,
     }
+}
+
+/// The name and the actions of a machine of a script.
+pub fn copy_cast(alloc: Global, cast: &Cast0) -> Result<(Name, Vec<Deed>), AllocError>
+    ensures name { IfOk result (λ copy. copy.0 ≡ cast.now.name) }
+    ensures actions { IfOk result (λ copy. copy.1.items ≡ cast.now.actions) }
+{
+    let name = String::from_str(alloc, cast.name.as_str())?;
+    let actions = Vec::from_slice(alloc, cast.actions.as_slice())?;
+    Ok((Name::new(name), actions))
+}
+
+/// A copy of the roster, and SHA-256 of its text.
+pub fn copy_roster(alloc: Global, roster: &Roster) -> Result<(Roster, [u8; 32]), AllocError>
+    requires { HaveText roster.now.machines }
+    ensures copy { IfOk result (λ copy. copy.0.machines ≡ roster.now.machines) }
+    ensures election { IfOk result (λ copy. copy.1 ≡ election_of roster.now.machines) }
+{
+    let text = roster.write(alloc)?;
+    let election = election(&text);
+    Ok((roster.copy(alloc)?, election))
 }
 
 /// Equal copies of the entry.

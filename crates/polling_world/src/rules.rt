@@ -18,7 +18,7 @@ use std::alloc::{AllocError, Global};
 use supervisor_core::SupervisorState;
 
 /// What the rules of a machine's role ask of the entries that it holds.
-#[derive(Debug, Drop)]
+#[derive(Drop)]
 pub enum Rules {
     Supervisor(SupervisorState),
     Booth(BoothState),

@@ -1,7 +1,7 @@
 //! What became of a step.
 
 /// What became of a step of a world.
-#[derive(Clone, Copy, Debug, PartialEq, Eq)]
+#[derive(Clone, Copy, PartialEq, Eq)]
 pub enum Stepped {
     /// A machine sent, heard or stopped.
     Did,
