@@ -1,14 +1,16 @@
 //! The stations of a script.
-ghost use Rattle.std.specs.Prelude.{◌≡◌, [], All, IfOk, map};
+ghost use Rattle.std.specs.Prelude.{◌≡◌, ◌<◌, [], All, IfOk, length, map};
 ghost use Rattle.election_script.specs.Lawful.{IsLawful};
 ghost use Rattle.finished_floor.specs.Places.{IsStopOf};
 ghost use Rattle.machine_floor.specs.Fresh.{AreNewStations};
-ghost use Rattle.polling_world.specs.Keys.{key_of, roster_of};
+ghost use Rattle.machine_floor.specs.inside.Beginning.{HasBegun, MayBegin};
+ghost use Rattle.polling_world.specs.Keys.{IsKeyOf, key_of, roster_of};
 ghost use Rattle.machine_floor.specs.Stations.{IsOfLinks, made_of};
 
 use crate::station::Station;
+use broadcast_queues::{LinkIn, LinkOut};
 use election_script::{Script, StopAt};
-use floor_links::{Links, NewLinks, make_links};
+use floor_links::{Broadcast, Links, NewLinks, make_links};
 use lms_sign::LmsSecret;
 use polling_world::{Machine, Memory, keys_of, roster_of};
 use roster::Roster;
@@ -62,21 +64,41 @@ pub(crate) fn prepare(
     let mut all = Vec::new(alloc);
     for key in keys {
         let at = all.len() as u32;
-        let stop_at = stop_of(script.stops.as_slice(), at);
-        let machine = Machine::make(alloc, script, &roster, at, key, stop_at)?;
         let Some(ends_out) = outs.next() else {
             unreachable!();
         };
         let Some(ends_in) = inns.next() else {
             unreachable!();
         };
-        all.push(Station::new(alloc, script, machine, ends_out, ends_in)?)?;
+        all.push(station_of(alloc, script, &roster, at, key, ends_out, ends_in)?)?;
     }
     Ok(Prepared {
         roster,
         stations: all,
         links,
     })
+}
+
+// The station of the script's machine at a place, which has this key and these ends of its links.
+fn station_of(
+    alloc: Global,
+    script: &Script,
+    roster: &Roster,
+    at: u32,
+    key: LmsSecret,
+    outs: Vec<LinkOut<Broadcast>>,
+    inns: Vec<LinkIn<Broadcast>>,
+) -> Result<Station, Memory>
+    requires lawful { IsLawful script.now }
+    requires at { at < length script.now.machines }
+    requires roster { roster.now.machines ≡ roster_of script.now }
+    requires key { IsKeyOf script.now at key }
+    requires ends { MayBegin script.now at outs.items inns.items }
+    ensures { IfOk result (HasBegun script.now at outs.items inns.items) }
+{
+    let stop_at = stop_of(script.stops.as_slice(), at);
+    let machine = Machine::make(alloc, script, roster, at, key, stop_at)?;
+    Station::new(alloc, script, machine, outs, inns)
 }
 
 // The number of events at which the machine stops, if a line says so.

@@ -1,6 +1,6 @@
 //! A machine with the ends of its links.
 ghost use Rattle.std.specs.Prelude.{◌≡◌, ◌≢◌, ◌<◌, ◌-◌, ◌++◌, [], true, false, length, List, All};
-ghost use Rattle.std.specs.Prelude.{IfOk, OnErr, slice_index_or};
+ghost use Rattle.std.specs.Prelude.{◌≤◌, IfOk, OnErr, slice_index_or, vec_capacity};
 ghost use Rattle.log_lock.specs.declared.story.Tick.{Tick};
 ghost use Rattle.broadcast_queues.specs.Ends.{InView, IsInOf};
 ghost use Rattle.entry_format.specs.SealedEntry.{SealedEntry};
@@ -90,9 +90,7 @@ impl Station {
         ensures { IfOk result (λ s. s ≡ begun script.now machine outs.items inns.items) }
     {
         let own = machine.log().owner();
-        let loses = lines_of(alloc, script.loses.as_slice(), own)?;
-        let losses = Vec::with_capacity(alloc, MOST_LOSSES)?;
-        let ticks = Vec::with_capacity(alloc, script.log as usize)?;
+        let (loses, losses, ticks) = new_lists(alloc, script, own)?;
         Ok(Station {
             machine,
             link: script.link,
@@ -249,6 +247,22 @@ fn cause_of(answer: MachineHeard) -> Option<LossWhy>
         MachineHeard::Already(_back) => Some(LossWhy::SameDigest),
         MachineHeard::Full(_back) => Some(LossWhy::LogFull),
     }
+}
+
+// The script's lines on entries of this machine, and room for its losses and its ticks.
+fn new_lists(
+    alloc: Global,
+    script: &Script,
+    own: u32,
+) -> Result<(Vec<Lose>, Vec<Loss>, Vec<Tick>), Memory>
+    ensures loses { IfOk result (λ r. r.0.items ≡ lines_of own script.now.loses) }
+    ensures losses { IfOk result (λ r. (r.1.items ≡ []) × (131072 ≤ vec_capacity r.1)) }
+    ensures ticks { IfOk result (λ r. (r.2.items ≡ []) × (script.now.log ≤ vec_capacity r.2)) }
+{
+    let loses = lines_of(alloc, script.loses.as_slice(), own)?;
+    let losses = Vec::with_capacity(alloc, MOST_LOSSES)?;
+    let ticks = Vec::with_capacity(alloc, script.log as usize)?;
+    Ok((loses, losses, ticks))
 }
 
 // The lines on entries of this machine.

@@ -1,9 +1,10 @@
 -- A station before anything happened.
-use Rattle.std.specs.Prelude.{◌≡◌, ◌<◌, ◌≤◌, false, List, [], length, All}
+use Rattle.std.specs.Prelude.{◌≡◌, ℕ, ◌<◌, ◌≤◌, false, List, [], length, All, Option}
 use Rattle.entry_format.specs.SealedEntry.{SealedEntry}
 use Rattle.election_script.specs.declared.script.Script.{Script}
 use Rattle.broadcast_queues.specs.Ends.{OutView, InView}
-use Rattle.polling_world.specs.Machines.{MachineState}
+use Rattle.polling_world.specs.Machines.{MachineState, IsFresh}
+use Rattle.finished_floor.specs.Places.{IsStopOf}
 use Rattle.machine_floor.specs.Stations.{StationState}
 use Rattle.machine_floor.specs.Fresh.{lines_of}
 
@@ -31,3 +32,17 @@ pub record IsBeginning (script : Script) (machine : MachineState) (outs : List (
   pub as_many : length inns ≡ length outs
   pub put : All (λ out. out.put ≡ []) outs
   pub taken : All (λ inn. inn.taken ≡ []) inns
+
+-- with these ends the script's machine at this place can begin
+abbrev pub MayBegin : Script → ℕ → List (OutView SealedEntry) → List (InView SealedEntry) → Type 0
+MayBegin script at outs inns = (stop : Option ℕ) (m : MachineState) → IsStopOf script.stops at stop →
+    IsFresh script at stop m → IsBeginning script m outs inns
+
+-- the station is that machine's, and nothing happened yet
+pub record HasBegun (script : Script) (at : ℕ) (outs : List (OutView SealedEntry)) (inns : List (InView SealedEntry))
+    (s : StationState) : Type 0 where
+  pub stop : Option ℕ
+  pub machine : MachineState
+  pub stops : IsStopOf script.stops at stop
+  pub fresh : IsFresh script at stop machine
+  pub is : s ≡ begun script machine outs inns

@@ -50,8 +50,8 @@ overflow_cast-at c =
     let few = c.requires.lawful.machines.few.1 in
     omega arith
 
-pub make-requires-clause-at : goal.make-requires-clause-at
-make-requires-clause-at c =
+pub station_of-requires-clause-at : goal.station_of-requires-clause-at
+station_of-requires-clause-at c =
     let links = c.in_ok-links.field-0.links in
     let are = given c.as_slice-count.result.now c.args.script.now links c.in_ok-links.field-0.outs
     c.in_ok-links.field-0.inns _ _ c.as_slice-count.ensures c.into_iter-outs.ensures.rest
@@ -61,8 +61,8 @@ make-requires-clause-at c =
     next_within c.args.script.now links _ _ c.loop-key.all.items _ _ _ _ c.in-Some.key c.len-at.result first
     c.in-Some.ensures.steps.0 at
 
-pub make-requires-clause-key : goal.make-requires-clause-key
-make-requires-clause-key c =
+pub station_of-requires-clause-key : goal.station_of-requires-clause-key
+station_of-requires-clause-key c =
     let links = c.in_ok-links.field-0.links in
     let are = given c.as_slice-count.result.now c.args.script.now links c.in_ok-links.field-0.outs
     c.in_ok-links.field-0.inns _ _ c.as_slice-count.ensures c.into_iter-outs.ensures.rest
@@ -96,8 +96,8 @@ unreachable-requires-in_default-next c =
     c.in-Some.ensures.steps.0 at c.requires.lawful are
     (ap lists_of (none_in (into_iter_items c.loop-key.inns) (omega (arith, c.in_default-next.ensures.cases))))
 
-pub new-requires : goal.new-requires
-new-requires c =
+pub station_of-requires-clause-ends : goal.station_of-requires-clause-ends
+station_of-requires-clause-ends c = λ stop m stops fresh.
     let links = c.in_ok-links.field-0.links in
     let are = given c.as_slice-count.result.now c.args.script.now links c.in_ok-links.field-0.outs
     c.in_ok-links.field-0.inns _ _ c.as_slice-count.ensures c.into_iter-outs.ensures.rest
@@ -106,20 +106,17 @@ new-requires c =
     let first = c.loop-key.invariant links are in
     may_begin c.args.script.now links _ _ c.loop-key.all.items _ _ _ _ c.in-Some.key c.len-at.result first
     c.in-Some.ensures.steps.0 at c.requires.lawful are c.in-Some-next.ends_out.items _ c.in-Some-next-2.ends_in.items _
-    (ap lists_of c.in-Some-next.ensures.items) (ap lists_of c.in-Some-next-2.ensures.items) _
-    c.in_ok-machine.machine (subst (λ l. IsStopOf l c.len-at.result c.stop_of-stop_at.result) c.as_slice.ensures
-    c.stop_of-stop_at.ensures) c.in_ok-machine.ensures
+    (ap lists_of c.in-Some-next.ensures.items) (ap lists_of c.in-Some-next-2.ensures.items) stop m stops fresh
 
 pub loop-key-preserved : goal.loop-key-preserved
 loop-key-preserved c = λ links are.
     let at = c.len-at.ensures ∙ c.loop-key.all.ok.0 in
     let first = c.loop-key.invariant links are in
+    let has = c.in_ok-station_of.ensures in
     one_more c.args.script.now links _ _ c.loop-key.all.items _ _ _ _ c.in-Some.key c.len-at.result first
     c.in-Some.ensures.steps.0 at c.requires.lawful are c.in-Some-next.ends_out.items _ c.in-Some-next-2.ends_in.items _
-    (ap lists_of c.in-Some-next.ensures.items) (ap lists_of c.in-Some-next-2.ensures.items) _
-    c.in_ok-machine.machine (subst (λ l. IsStopOf l c.len-at.result c.stop_of-stop_at.result) c.as_slice.ensures
-    c.stop_of-stop_at.ensures) c.in_ok-machine.ensures c.in_ok-new.field-0 c.push.new.self.items c.in_ok-new.ensures
-    c.in_ok-push.ensures.items
+    (ap lists_of c.in-Some-next.ensures.items) (ap lists_of c.in-Some-next-2.ensures.items) has.stop has.machine
+    has.stops has.fresh c.in_ok-station_of.field-0 c.push.new.self.items has.is c.in_ok-push.ensures.items
 
 pub returns-clause-new : goal.returns-clause-new
 returns-clause-new c =

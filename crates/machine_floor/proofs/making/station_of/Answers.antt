@@ -1,0 +1,23 @@
+use Rattle.std.proofs.Common.{◌≡◌, subst}
+use Rattle.std.proofs.lemmas.Result.{IfOk-weaker}
+use Rattle.finished_floor.specs.Places.{IsStopOf}
+use Rattle.machine_floor.specs.inside.Beginning.{begun, HasBegun}
+use Rattle.machine_floor.proofs.making.station_of.Goals as goal
+
+pub new-requires : goal.new-requires
+new-requires c =
+    c.requires.ends _ _ (subst (λ l. IsStopOf l c.args.at c.stop_of-stop_at.result) c.as_slice.ensures
+    c.stop_of-stop_at.ensures) c.in_ok-machine.ensures
+
+pub returns : goal.returns
+returns c =
+    let outs = c.args.outs.items in
+    let inns = c.args.inns.items in
+    IfOk-weaker c.new.result (λ s. s ≡ begun c.args.script.now c.in_ok-machine.machine outs inns)
+    (HasBegun c.args.script.now c.args.at outs inns) (λ s is. record {
+      stop = c.stop_of-stop_at.result;
+      machine = c.in_ok-machine.machine;
+      stops = subst (λ l. IsStopOf l c.args.at c.stop_of-stop_at.result) c.as_slice.ensures c.stop_of-stop_at.ensures;
+      fresh = c.in_ok-machine.ensures;
+      is = is;
+    }) c.new.ensures
