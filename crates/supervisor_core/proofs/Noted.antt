@@ -394,3 +394,27 @@ other_activate owner entry session is = record {
   committed = λ s such. cc (such.1);
   ended = λ s. no_end entry.deed s (λ ballot e. cc) (λ e. cc) (λ ballot e. cc);
 }
+
+-- another machine authorises a session
+pub other_authorise : (owner : ℕ) (entry : Entry) (booth session : ℕ) → entry.deed ≡ Authorise booth session →
+    (entry.maker ≡ owner → ⊥) → IsOther owner entry
+other_authorise owner entry booth session is other = record {
+  opened = λ such. other such.0;
+  closed = λ such. other such.0;
+  authorised = λ b s such. other such.0;
+  overridden = λ s how such. other such.0;
+  committed = λ s such. cc (such.1);
+  ended = λ s. no_end entry.deed s (λ ballot e. cc) (λ e. cc) (λ ballot e. cc);
+}
+
+-- another machine overrides one
+pub other_override : (owner : ℕ) (entry : Entry) (session : ℕ) (how : How) → entry.deed ≡ Override session how →
+    (entry.maker ≡ owner → ⊥) → IsOther owner entry
+other_override owner entry session how is other = record {
+  opened = λ such. other such.0;
+  closed = λ such. other such.0;
+  authorised = λ b s such. other such.0;
+  overridden = λ s how such. other such.0;
+  committed = λ s such. cc (such.1);
+  ended = λ s. no_end entry.deed s (λ ballot e. cc) (λ e. cc) (λ ballot e. cc);
+}

@@ -4,7 +4,7 @@ ghost use Rattle.std.specs.Prelude.{[], ◌∷◌, ◌++◌, Any, IsTrue, filter
 ghost use Rattle.std.specs.Prelude.{vec_len, vec_capacity};
 
 /// A session that was authorised and hasn't ended.
-#[derive(Clone, Copy, Debug, PartialEq, Eq)]
+#[derive(Clone, Copy)]
 pub struct Running {
     /// The booth's place in the roster.
     pub booth: u32,

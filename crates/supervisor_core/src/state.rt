@@ -12,6 +12,7 @@ ghost use Rattle.std.specs.Prelude.{
   IfOk,
   IsTrue,
   Contains,
+  vec_capacity,
 };
 ghost use Rattle.entry_format.specs.declared.entry.Entry.{Entry};
 ghost use Rattle.entry_format.specs.declared.deed.How.TheVariants.{Cast};
@@ -78,7 +79,7 @@ impl SupervisorNot {
 }
 
 /// What the supervisor's rules ask of the entries that it holds.
-#[derive(Debug, Drop)]
+#[derive(Drop)]
 pub struct SupervisorState {
     owner: u32,
     opened: bool,
@@ -133,15 +134,17 @@ impl SupervisorState {
         ensures empty { IfOk result (λ state. StandsFor state owner []) }
         ensures room { IfOk result (λ state. count ≤ state.spare) }
     {
+        let (authorised, ended) = two_lists(alloc, count)?;
+        let (to_cancel, to_cast) = two_lists(alloc, count)?;
         Ok(SupervisorState {
             owner,
             opened: false,
             closed: false,
-            authorised: Vec::with_capacity(alloc, count)?,
+            authorised,
             running: Vec::with_capacity(alloc, count)?,
-            ended: Vec::with_capacity(alloc, count)?,
-            to_cancel: Vec::with_capacity(alloc, count)?,
-            to_cast: Vec::with_capacity(alloc, count)?,
+            ended,
+            to_cancel,
+            to_cast,
             committed: Vec::with_capacity(alloc, count)?,
             spare: count,
         })
@@ -259,4 +262,13 @@ impl SupervisorState {
             | Deed::Challenge { .. } => Ok(()),
         }
     }
+}
+
+// Two empty lists with room for `count` sessions each.
+fn two_lists(alloc: Global, count: usize) -> Result<(Vec<u32>, Vec<u32>), Memory>
+    ensures first { IfOk result (λ r. (r.0.items ≡ []) × (count ≤ vec_capacity r.0)) }
+    ensures second { IfOk result (λ r. (r.1.items ≡ []) × (count ≤ vec_capacity r.1)) }
+{
+    let first = Vec::with_capacity(alloc, count)?;
+    Ok((first, Vec::with_capacity(alloc, count)?))
 }

@@ -1,11 +1,12 @@
-use Rattle.std.proofs.Common.{◌≡◌, ◌∙◌, ℕ, true, ap, sym, subst}
+use Rattle.std.proofs.Common.{◌≡◌, ◌∙◌, ℕ, true≢false, ap, sym, subst}
 use Rattle.entry_format.specs.declared.deed.Deed.TheVariants.{Override}
 use Rattle.deed_history.specs.Held.{HasEnded}
-use Rattle.deed_history.proofs.Ending.{no_end, cast_ends, cancel_ends, challenge_ends}
+use Rattle.deed_history.proofs.Ending.{cast_ends, cancel_ends, challenge_ends}
 use Rattle.deed_history.proofs.Members.{is_listed}
 use Rattle.supervisor_core.specs.State.{StandsFor}
 use Rattle.supervisor_core.proofs.Noted.{noted_opened, noted_closed, noted_other, noted_running, noted_ended_before}
-use Rattle.supervisor_core.proofs.Noted.{noted_end, noted_to_cancel, noted_to_cast, noted_committed, other_activate}
+use Rattle.supervisor_core.proofs.Noted.{noted_end, noted_to_cancel, noted_to_cast, noted_committed}
+use Rattle.supervisor_core.proofs.Noted.{other_activate, other_authorise, other_override}
 use Rattle.supervisor_core.proofs.state.SupervisorState.note.Goals as goal
 
 pub returns-in-Opened-clause-kept : goal.returns-in-Opened-clause-kept
@@ -24,8 +25,7 @@ returns-then-not-contains-clause-kept c = λ owner entries stands.
     let session : ℕ = c.in-Authorise.session in
     let listed = is_listed _ _ _ session c.contains.ensures.value c.deref.ensures.value in
     let lasts : HasEnded entries session → ⊥ = λ ended.
-    let told : c.contains.result ≡ true = listed.1 ((before.ended session).1 ended) in
-    cc in
+    true≢false (sym (listed.1 ((before.ended session).1 ended)) ∙ c.if-not-contains.true) in
     rw (c.push_reserved.ensures.items, c.push_reserved-then-not-contains.ensures.items)
     (noted_running _ _ owner entries c.args.entry.now c.in-Authorise.booth session before c.in-Authorise.is
     (c.if-own.true ∙ before.same_owner) lasts)
@@ -44,14 +44,8 @@ pub returns-else-own-clause-kept : goal.returns-else-own-clause-kept
 returns-else-own-clause-kept c = λ owner entries stands.
     let before = subst (λ notes. StandsFor notes owner entries) (sym c.self.view_is) stands in
     let other : c.args.entry.now.maker ≡ owner → ⊥ = λ own. c.if-own.false (own ∙ sym before.same_owner) in
-    noted_other _ _ owner entries c.args.entry.now before (record {
-      opened = λ such. other such.0;
-      closed = λ such. other such.0;
-      authorised = λ booth session such. other such.0;
-      overridden = λ session how such. other such.0;
-      committed = λ session such. cc (such.1);
-      ended = λ session. no_end c.args.entry.now.deed session (λ ballot e. cc) (λ e. cc) (λ ballot e. cc);
-    })
+    noted_other _ _ owner entries c.args.entry.now before
+    (other_authorise owner c.args.entry.now c.in-Authorise.booth c.in-Authorise.session c.in-Authorise.is other)
 
 pub returns-in-Cast-clause-kept : goal.returns-in-Cast-clause-kept
 returns-in-Cast-clause-kept c = λ owner entries stands.
@@ -92,14 +86,8 @@ pub returns-else-own-2-clause-kept : goal.returns-else-own-2-clause-kept
 returns-else-own-2-clause-kept c = λ owner entries stands.
     let before = subst (λ notes. StandsFor notes owner entries) (sym c.self.view_is) stands in
     let other : c.args.entry.now.maker ≡ owner → ⊥ = λ own. c.if-own-2.false (own ∙ sym before.same_owner) in
-    noted_other _ _ owner entries c.args.entry.now before (record {
-      opened = λ such. other such.0;
-      closed = λ such. other such.0;
-      authorised = λ booth session such. other such.0;
-      overridden = λ session how such. other such.0;
-      committed = λ session such. cc (such.1);
-      ended = λ session. no_end c.args.entry.now.deed session (λ ballot e. cc) (λ e. cc) (λ ballot e. cc);
-    })
+    noted_other _ _ owner entries c.args.entry.now before
+    (other_override owner c.args.entry.now c.in-Override.session c.in-Override.how c.in-Override.is other)
 
 pub returns-in-Commit-clause-kept : goal.returns-in-Commit-clause-kept
 returns-in-Commit-clause-kept c = λ owner entries stands.
