@@ -1,5 +1,6 @@
 //! The booth's state and its rules.
 ghost use Rattle.std.specs.Prelude.{◌≡◌, ◌↔◌, ◌+◌, ◌≤◌, List, [], ◌∷◌, ◌++◌, ℕ, IfOk, IsTrue};
+ghost use Rattle.std.specs.Prelude.{vec_capacity};
 ghost use Rattle.entry_format.specs.declared.entry.Entry.{Entry};
 ghost use Rattle.entry_format.specs.Deeds.{IsDeedOf};
 ghost use Rattle.roster.specs.declared.post.Role.TheVariants.{Booth};
@@ -64,7 +65,7 @@ impl BoothNot {
 }
 
 /// What a booth's rules ask of the entries that it holds.
-#[derive(Debug, Drop)]
+#[derive(Drop)]
 pub struct BoothState {
     owner: u32,
     closed: bool,
@@ -117,13 +118,15 @@ impl BoothState {
         ensures empty { IfOk result (λ state. StandsFor state owner []) }
         ensures room { IfOk result (λ state. count ≤ state.spare) }
     {
+        let (authorised, activated) = two_lists(alloc, count)?;
+        let (to_cancel, to_cast) = two_lists(alloc, count)?;
         Ok(BoothState {
             owner,
             closed: false,
-            authorised: Vec::with_capacity(alloc, count)?,
-            to_cancel: Vec::with_capacity(alloc, count)?,
-            to_cast: Vec::with_capacity(alloc, count)?,
-            activated: Vec::with_capacity(alloc, count)?,
+            authorised,
+            to_cancel,
+            to_cast,
+            activated,
             committed: Vec::with_capacity(alloc, count)?,
             ended: Vec::with_capacity(alloc, count)?,
             spare: count,
@@ -245,4 +248,13 @@ impl BoothState {
             Deed::Opened | Deed::Authorise { .. } | Deed::Override { .. } | Deed::Closed => Ok(()),
         }
     }
+}
+
+// Two empty lists with room for `count` sessions each.
+fn two_lists(alloc: Global, count: usize) -> Result<(Vec<u32>, Vec<u32>), Memory>
+    ensures first { IfOk result (λ r. (r.0.items ≡ []) × (count ≤ vec_capacity r.0)) }
+    ensures second { IfOk result (λ r. (r.1.items ≡ []) × (count ≤ vec_capacity r.1)) }
+{
+    let first = Vec::with_capacity(alloc, count)?;
+    Ok((first, Vec::with_capacity(alloc, count)?))
 }
