@@ -126,7 +126,7 @@ impl<T: Knot> Log<T> {
         if s.maker() == self.owner {
             return Heard::Own(s);
         }
-        if self.holds(s.digest()) {
+        if !self.is_new(&s) {
             return Heard::Already(s);
         }
         if self.events.len() >= self.capacity {
@@ -134,6 +134,15 @@ impl<T: Knot> Log<T> {
         }
         self.append(Event::Got(s));
         Heard::Taken
+    }
+
+    // Whether no entry with the digest of this one is held.
+    fn is_new(&self, entry: &T) -> bool
+        ensures new { IsTrue result → IsNew T.node (held self.now.events) entry.now }
+        ensures borne { ¬ IsTrue result
+            → IsBorneIn T.node (held self.now.events) (T.node entry.now).digest }
+    {
+        !self.holds(entry.digest())
     }
 
     // Appends an event, for which there is room.
