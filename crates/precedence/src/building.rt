@@ -63,7 +63,7 @@ pub fn row_of(alloc: Global, rows: &[Row], parents: &[u32]) -> Result<Row, Alloc
         ≡ list_any (λ parent. (parent == y) || row_has rows.now parent y) parents.now) }
     ensures words { IfOk result (λ row. length row ≡ words_below (length rows.now)) }
 {
-    let count = rows.len().div_ceil(64);
+    let count = words_for(rows.len());
     match parents {
         [] => empty_row(alloc, count),
         [first, rest @ ..] => {
@@ -73,6 +73,14 @@ pub fn row_of(alloc: Global, rows: &[Row], parents: &[u32]) -> Result<Row, Alloc
             Ok(row)
         }
     }
+}
+
+// How many words hold a bit for each of so many nodes.
+fn words_for(nodes: usize) -> usize
+    ensures words { result ≡ words_below nodes }
+    ensures room { nodes ≤ 64 * result }
+{
+    nodes.div_ceil(64)
 }
 
 // A row of so many words without a bit.
