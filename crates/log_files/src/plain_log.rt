@@ -25,7 +25,7 @@ pub enum End {
 }
 
 /// What a log's file says, of entries whose signatures aren't looked at.
-#[derive(Debug, Drop)]
+#[derive(Drop)]
 pub struct PlainLog {
     /// The entries, in the order of the file.
     pub kept: Vec<Plain>,

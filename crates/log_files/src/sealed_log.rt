@@ -22,7 +22,7 @@ use roster::Roster;
 use std::alloc::Global;
 
 /// A record whose entry is valid.
-#[derive(Debug, Drop)]
+#[derive(Drop)]
 pub struct Kept {
     /// The record's place, counted from 0 behind the header.
     pub place: u32,
@@ -58,7 +58,7 @@ impl Knot for Kept {
 }
 
 /// What a log's file says under a roster.
-#[derive(Debug, Drop)]
+#[derive(Drop)]
 pub struct LogRead {
     /// The machine whose log it is, by its place in the roster, which may lack it.
     pub owner: u32,
