@@ -11,7 +11,7 @@ use std::alloc::{AllocError, Global};
 use std::marker::Model;
 
 /// What a survivor names: which survivors, by their numbers, and whether a gap too.
-#[derive(Debug, Drop)]
+#[derive(Drop)]
 pub struct Links {
     parents: Vec<u32>,
     ragged: bool,
