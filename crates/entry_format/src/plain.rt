@@ -12,7 +12,7 @@ use std::alloc::{AllocError, Global};
 use thiserror::Error;
 
 /// An entry and its digest.
-#[derive(Debug, Drop)]
+#[derive(Drop)]
 pub struct Plain {
     pub entry: Entry,
     /// SHA-256 of the whole signed text.
