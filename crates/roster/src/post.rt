@@ -84,7 +84,7 @@ impl Name {
 }
 
 /// A machine of the roster. A key of an unknown type is kept: no signature verifies under it.
-#[derive(Debug, Drop)]
+#[derive(Drop)]
 pub struct Post {
     /// 1 to 16 characters from `a` to `z` and `0` to `9`.
     pub name: Name,

@@ -23,7 +23,7 @@ const MAX_MACHINES: usize = 16;
 pub type Posts = Items<Post>;
 
 /// A roster. A machine is named by its place in it, from 0.
-#[derive(Debug, Drop)]
+#[derive(Drop)]
 pub struct Roster {
     pub machines: Posts,
 }
