@@ -14,7 +14,7 @@ use std::marker::Model;
 pub type Memory = AllocError;
 
 /// Digests of 32 bytes each. A contract sees them as a list.
-#[derive(Debug, Drop)]
+#[derive(Drop)]
 pub struct Digests {
     digests: Vec<[u8; 32]>,
 }
