@@ -94,49 +94,7 @@ fn ear<R: Wait, G: Gate>(
     pass
 }
 
-// Both workers of one station, each in a thread, with a pass of its lock.
-fn work_both<R: Threads + Wait + Sync, G: Gate + Sync>(
-    rt: &R,
-    alloc: Global,
-    gate: &G,
-    links: &Links,
-    news: &News,
-    lock: &LogLock<Station, Station>,
-    first: Pass<Station, Station>,
-    second: Pass<Station, Station>,
-    machine: u32,
-    turns: u32,
-) -> (
-    (Pass<Station, Station>, Result<(), Memory>),
-    Pass<Station, Station>,
-)
-    requires first { (first.lock ≡ lock.now) × (first.number ≡ 0)
-        × All (IsOfLinks links.now) first.brand }
-    requires second { (second.lock ≡ lock.now) × (second.number ≡ 1)
-        × All (IsOfLinks links.now) second.brand }
-    ensures first { (result.0.0.lock ≡ lock.now) × (result.0.0.number ≡ 0)
-        × (result.0.0.brand ≡ first.brand) }
-    ensures second { (result.1.lock ≡ lock.now) × (result.1.number ≡ 1)
-        × (result.1.brand ≡ second.brand) }
-{
-    thread::join(
-        rt,
-        move ||
-            requires { (first.lock ≡ lock.now) × (first.number ≡ 0)
-                × All (IsOfLinks links.now) first.brand }
-            ensures { (result.0.lock ≡ lock.entry.now) × (result.0.number ≡ 0)
-                × (result.0.brand ≡ first.brand) }
-        { hand(rt, alloc, gate, links, news, lock, first, machine, turns) },
-        move ||
-            requires { (second.lock ≡ lock.now) × (second.number ≡ 1)
-                × All (IsOfLinks links.now) second.brand }
-            ensures { (result.lock ≡ lock.entry.now) × (result.number ≡ 1)
-                × (result.brand ≡ second.brand) }
-        { ear(rt, gate, links, news, lock, second, machine, turns) },
-    )
-}
-
-// The same with the lock, which is made and opened again.
+// Both workers of one station, each in a thread.
 fn work_station<R: Threads + Wait + Sync, G: Gate + Sync>(
     rt: &R,
     alloc: Global,
@@ -152,8 +110,21 @@ fn work_station<R: Threads + Wait + Sync, G: Gate + Sync>(
 {
     let machine = station.machine().log().owner();
     let (lock, first, second) = LogLock::<Station, Station>::make(rt, alloc, station)?;
-    let ((first, refused), second) = work_both(
-        rt, alloc, gate, links, news, &lock, first, second, machine, turns,
+    let shared = &lock;
+    let ((first, refused), second) = thread::join(
+        rt,
+        move ||
+            requires { (first.lock ≡ shared.now) × (first.number ≡ 0)
+                × All (IsOfLinks links.now) first.brand }
+            ensures { (result.0.lock ≡ shared.entry.now) × (result.0.number ≡ 0)
+                × (result.0.brand ≡ first.brand) }
+        { hand(rt, alloc, gate, links, news, shared, first, machine, turns) },
+        move ||
+            requires { (second.lock ≡ shared.now) × (second.number ≡ 1)
+                × All (IsOfLinks links.now) second.brand }
+            ensures { (result.lock ≡ shared.entry.now) × (result.number ≡ 1)
+                × (result.brand ≡ second.brand) }
+        { ear(rt, gate, links, news, shared, second, machine, turns) },
     );
     let station = lock.close(rt, first, second);
     refused?;

@@ -35,7 +35,7 @@ pub enum Verdict {
 }
 
 /// Why a rule isn't judged.
-#[derive(Clone, Copy, Debug, Error)]
+#[derive(Clone, Copy, Debug, PartialEq, Eq, Error)]
 pub enum JudgeFault {
     #[error("quantifiers go over more than 268,435,456 entries together")]
     TooWide,

@@ -6,7 +6,7 @@ use std::alloc::{AllocError, AllocFailed};
 use thiserror::Error;
 
 /// Why a token can't stand where it does, numbered in this order from 1.
-#[derive(Clone, Copy, Debug, Error)]
+#[derive(Clone, Copy, Debug, PartialEq, Eq, Error)]
 pub enum RuleWhy {
     #[error("a byte is no token and separates none")]
     Token,
@@ -42,7 +42,7 @@ impl RuleWhy {
 }
 
 /// Why a text isn't one of rules: its first fault, by place and then by the order of causes.
-#[derive(Clone, Copy, Debug, Error)]
+#[derive(Clone, Copy, Debug, PartialEq, Eq, Error)]
 pub enum RuleFault {
     #[error("byte {at}: {why}")]
     At {
