@@ -2,7 +2,7 @@
 use Rattle.std.proofs.Common.{◌≡◌, ℕ, List, [], ◌∷◌, ◌++◌, map, Option, Some, None, inl, inr, refl, sym, ap, subst}
 use Rattle.std.specs.Prelude.{Result, Ok, Err, IfOk, IfErr, IfSome, codes}
 use Rattle.hall_outside.specs.Files.{Files, OnSomeFile}
-use Rattle.hall_outside.specs.ReadFile.{IsRefused as FileIsRefused}
+use Rattle.hall_outside.specs.ReadFile.{IsFileRefused}
 use Rattle.hall_outside.specs.declared.reading.FileFault.TheVariants as file
 use Rattle.roster.specs.declared.post.Post.{Post}
 use Rattle.log_files.specs.declared.sealed_log.LogRead.{LogRead}
@@ -69,7 +69,7 @@ too_wide_gives machines source trees given names logs graph rows unjudged place 
     ))
 
 -- a file of rules that is too long gives that refusal
-pub long_rules : (name : List ℕ) (this : Option (List ℕ)) → FileIsRefused max_rules file.TooLong this →
+pub long_rules : (name : List ℕ) (this : Option (List ℕ)) → IsFileRefused max_rules file.TooLong this →
     GivesRules name this (Err (too_long name))
 long_rules name None is = absurd is
 long_rules name (Some bytes) is = inl (is, refl)

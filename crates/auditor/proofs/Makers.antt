@@ -24,7 +24,7 @@ use Rattle.entry_graph.specs.Given.{distinct}
 use Rattle.entry_graph.specs.EntryGraph.{EntryGraph, AreForks}
 use Rattle.rule_language.specs.declared.row.Row.{Row}
 use Rattle.evidence.specs.Logs.{GivesLogs}
-use Rattle.evidence.specs.Graphs.{entries_in, entries_of, GivesGraph}
+use Rattle.evidence.specs.Graphs.{entries_of_records, entries_of, GivesGraph}
 use Rattle.auditor.specs.Rows.{HaveMakers, row_of}
 
 -- so are those of forks
@@ -93,7 +93,7 @@ each_append machines (x ∷ xs) ys p q = (p.0, each_append machines xs ys p.1 q)
 -- the entries that a log keeps are of machines
 kept_each : (machines : List Post) (election : List ℕ) (place : ℕ) (trees : List Sexp)
     (readings : List (Result Kept EntryFault)) → EachGives (IsReadSealed machines election) place trees readings →
-    Each machines (entries_in (kept_of readings))
+    Each machines (entries_of_records (kept_of readings))
 kept_each machines election place [] [] gives = tt
 kept_each machines election place [] (r ∷ readings) gives = absurd gives
 kept_each machines election place (t ∷ trees) [] gives = absurd gives
@@ -109,11 +109,11 @@ kept_each machines election place (t ∷ trees) (Ok kept ∷ readings) gives =
 
 -- so are those that the log of a file keeps
 log_each : (machines : List Post) (election : List ℕ) (log : LogRead) (file : Option (List ℕ)) →
-    IsSealedLogOf machines election log file → Each machines (entries_in log.kept.items)
+    IsSealedLogOf machines election log file → Each machines (entries_of_records log.kept.items)
 log_each machines election log None is = absurd is
 log_each machines election log (Some bytes) is =
     let says = is.1.says in
-    let P : List Kept → Type 0 = λ kept. Each machines (entries_in kept) in
+    let P : List Kept → Type 0 = λ kept. Each machines (entries_of_records kept) in
     subst P (sym says.keeps) (kept_each machines election 0 says.trees says.readings says.gives)
 
 -- and those that all logs of named files keep, one log after another
@@ -125,7 +125,8 @@ logs_each machines election [] (file ∷ files) logs gives = absurd gives
 logs_each machines election (name ∷ names) [] logs gives = absurd gives
 logs_each machines election (name ∷ names) (file ∷ files) [] gives = absurd gives
 logs_each machines election (name ∷ names) (file ∷ files) (log ∷ logs) gives =
-    each_append machines (entries_in log.kept.items) (entries_of logs) (log_each machines election log file gives.0)
+    each_append machines (entries_of_records log.kept.items) (entries_of logs)
+    (log_each machines election log file gives.0)
     (logs_each machines election names files logs gives.1)
 
 -- the entries that logs keep are of the machines of the roster under which they were read

@@ -15,12 +15,12 @@ use Rattle.auditor.specs.Report.{AuditReport}
 use Rattle.auditor.specs.Outcomes.{outcome_word, outcome_of}
 
 -- the name of the machine with this number
-abbrev pub name_at : List Post → ℕ → List ℕ
-name_at machines maker = slice_index_or (map (λ (post : Post). post.name) machines) maker []
+abbrev pub maker_name : List Post → ℕ → List ℕ
+maker_name machines maker = slice_index_or (map (λ (post : Post). post.name) machines) maker []
 
 -- whose log it says it is, how many records are kept, and how many are refused
-abbrev pub log_line : List ℕ → LogRead → List ℕ
-log_line file log =
+abbrev pub log_head_line : List ℕ → LogRead → List ℕ
+log_head_line file log =
     line (codes "log " ++ file ++ codes " owner " ++ decimal log.owner ++ codes " kept "
     ++ decimal (length log.kept.items) ++ codes " refused " ++ decimal (length log.refused.items))
 
@@ -32,7 +32,7 @@ break_line file (Some place) = line (codes "break " ++ file ++ codes " " ++ deci
 -- all lines of a log
 abbrev pub log_lines : List ℕ × LogRead → List ℕ
 log_lines named =
-    log_line named.0 named.1 ++ refused_lines named.0 named.1.refused.items ++ end_line named.0 named.1.end
+    log_head_line named.0 named.1 ++ refused_lines named.0 named.1.refused.items ++ end_line named.0 named.1.end
     ++ break_line named.0 named.1.broke
 
 -- how many survivors there are
@@ -46,7 +46,7 @@ stray_lines digests = flat_map (λ digest. line (codes "stray " ++ encode_lower 
 -- a line for each fork: the machine's name, and the number that two of its entries have
 abbrev pub fork_lines : List Post → List (ℕ × ℕ) → List ℕ
 fork_lines machines forks =
-    flat_map (λ fork. line (codes "fork " ++ name_at machines fork.0 ++ codes " " ++ decimal fork.1)) forks
+    flat_map (λ fork. line (codes "fork " ++ maker_name machines fork.0 ++ codes " " ++ decimal fork.1)) forks
 
 -- all lines of the graph
 abbrev pub graph_lines : List Post → EntryGraph SealedEntry → List ℕ
@@ -58,7 +58,7 @@ graph_lines machines graph =
 abbrev pub entry_word : List Post → Option SealedEntry → List ℕ
 entry_word machines None = []
 entry_word machines (Some sealed) =
-    codes " " ++ name_at machines sealed.entry.maker ++ codes "." ++ decimal sealed.entry.number ++ codes ":"
+    codes " " ++ maker_name machines sealed.entry.maker ++ codes "." ++ decimal sealed.entry.number ++ codes ":"
     ++ encode_lower sealed.digest
 
 -- the survivors at these places

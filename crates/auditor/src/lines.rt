@@ -5,8 +5,8 @@ ghost use Rattle.rule_engine.specs.declared.verdict.Verdict.{Verdict as VerdictO
 ghost use Rattle.rule_language.specs.Forms.{rule_tree};
 ghost use Rattle.auditor.specs.Rows.{HaveMakers};
 ghost use Rattle.auditor.specs.ReportText.{
-  name_at,
-  log_line,
+  maker_name,
+  log_head_line,
   break_line,
   log_lines,
   stray_lines,
@@ -35,7 +35,7 @@ use std::fmt::Write;
 /// The name of the machine with this number.
 fn name_at(roster: &Roster, maker: u32) -> &str
     requires { maker < length roster.now.machines }
-    ensures { result.now ≡ name_at roster.now.machines maker }
+    ensures { result.now ≡ maker_name roster.now.machines maker }
 {
     roster.machines.as_slice()[maker as usize].name.as_str()
 }
@@ -43,7 +43,7 @@ fn name_at(roster: &Roster, maker: u32) -> &str
 /// Adds the first line of a log.
 fn add_log_line(lines: &mut String, file: &str, log: &LogRead) -> Result<(), AllocError>
     ensures { OnOk result
-        (string_bytes lines.new ≡ string_bytes lines.old ++ log_line file.now log.now) }
+        (string_bytes lines.new ≡ string_bytes lines.old ++ log_head_line file.now log.now) }
 {
     let owner = log.owner;
     let kept = log.kept.len();

@@ -3,7 +3,7 @@ use Rattle.std.proofs.Common.{◌≡◌, ◌∙◌, ℕ, ◌+◌, ◌<◌, List,
 use Rattle.std.proofs.Common.{Option, inr}
 use Rattle.std.specs.Prelude.{Result}
 use Rattle.std.proofs.lemmas.List.{drop_more}
-use Rattle.hall_outside.specs.Writing.{Puts}
+use Rattle.hall_outside.specs.Writing.{PutsFile}
 use Rattle.hall_outside.specs.declared.stores.Failed.{Failed}
 use Rattle.auditorium_core.specs.Outcome.{with_files, SetsSome, PutsAll, puts, fails}
 use Rattle.hall_outside.specs.Files.{Files, with_file}
@@ -17,18 +17,19 @@ rest_from files i file within is = ap (λ f. f ∷ drop (i + 1) files) is ∙ sy
 pub as_put : {S : Type 0} (create : List ℕ → S → Bool → S → Type 0)
     (append : List ℕ → S → List ℕ → Result ℕ Failed → S → Type 0) (old mid : S) (file : List ℕ × List ℕ)
     (name bytes : List ℕ) (done ok : Bool) → name ≡ file.0 → bytes ≡ file.1 → done ≡ ok →
-    Puts (create name) (append name) old bytes done mid → Puts (create file.0) (append file.0) old file.1 ok mid
+    PutsFile (create name) (append name) old bytes done mid → PutsFile (create file.0) (append file.0) old file.1 ok mid
 as_put {S} create append old mid file name bytes done ok same_name same_bytes same put =
-    let P : List ℕ → Type 0 = λ n. Puts (create n) (append n) old bytes done mid in
-    let Q : List ℕ → Type 0 = λ bs. Puts (create file.0) (append file.0) old bs done mid in
-    let R : Bool → Type 0 = λ b. Puts (create file.0) (append file.0) old file.1 b mid in
+    let P : List ℕ → Type 0 = λ n. PutsFile (create n) (append n) old bytes done mid in
+    let Q : List ℕ → Type 0 = λ bs. PutsFile (create file.0) (append file.0) old bs done mid in
+    let R : Bool → Type 0 = λ b. PutsFile (create file.0) (append file.0) old file.1 b mid in
     subst R same (subst Q same_bytes (subst P same_name put))
 
 -- the file at this place is put, and then the rest
 pub put_next : {S : Type 0} (create : List ℕ → S → Bool → S → Type 0)
     (append : List ℕ → S → List ℕ → Result ℕ Failed → S → Type 0) (old mid end : S) (files : List (List ℕ × List ℕ))
     (i : ℕ) (file : List ℕ × List ℕ) (ok : Bool) → i < length files → file ≡ get_or files i file →
-    Puts (create file.0) (append file.0) old file.1 true mid → PutsAll create append mid (drop (i + 1) files) ok end →
+    PutsFile (create file.0) (append file.0) old file.1 true mid → PutsAll create append mid
+    (drop (i + 1) files) ok end →
     PutsAll create append old (drop i files) ok end
 put_next {S} create append old mid end files i file ok within is put rest =
     let P : List (List ℕ × List ℕ) → Type 0 = λ fs. PutsAll create append old fs ok end in
@@ -38,7 +39,7 @@ put_next {S} create append old mid end files i file ok within is put rest =
 pub put_fails : {S : Type 0} (create : List ℕ → S → Bool → S → Type 0)
     (append : List ℕ → S → List ℕ → Result ℕ Failed → S → Type 0) (old end : S) (files : List (List ℕ × List ℕ))
     (i : ℕ) (file : List ℕ × List ℕ) → i < length files → file ≡ get_or files i file →
-    Puts (create file.0) (append file.0) old file.1 false end → PutsAll create append old (drop i files) false end
+    PutsFile (create file.0) (append file.0) old file.1 false end → PutsAll create append old (drop i files) false end
 put_fails {S} create append old end files i file within is put =
     let P : List (List ℕ × List ℕ) → Type 0 = λ fs. PutsAll create append old fs false end in
     subst P (rest_from files i file within is) (fails old end file (drop (i + 1) files) put)

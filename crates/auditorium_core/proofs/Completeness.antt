@@ -31,7 +31,7 @@ use Rattle.auditorium_core.specs.Demonstrated.{GivesDemonstration, demonstration
 use Rattle.auditorium_core.specs.Demonstrated.{ShowsReport}
 use Rattle.auditorium_core.specs.Order.{IsOrderAmong, IsOrderOver, IsOrderOverLogs, IsOrderUnder, IsOrderAnswer}
 use Rattle.auditorium_core.specs.Audit.{status_by, IsAuditOver}
-use Rattle.auditorium_core.specs.Answer.{IsAnswer, IsAnswerTo, Answers}
+use Rattle.auditorium_core.specs.Answer.{IsCommandAnswer, IsAnswerTo, AnswersWords}
 use Rattle.auditorium_core.specs.Outcome.{Outside, GivesAnswer, IsWritten, HasDone}
 use Rattle.auditorium_core.specs.Complete.{IsCarriedOut, IsScriptFile, GiveEntries, AreAccepted, HasNoFailure}
 use Rattle.auditorium_core.specs.Complete.{IsComplete}
@@ -165,7 +165,8 @@ demonstration_complete one sessions answer (half, is_half, machines, report, aud
 
 -- so is each command
 command_complete : SayOne → PlayOne → OrderOne → ReportOne → ShowOne → (command : Command)
-    (files : List (Option (List ℕ))) (answer : Answer) → IsAnswer command files answer → AreAccepted command files →
+    (files : List (Option (List ℕ))) (answer : Answer) → IsCommandAnswer command files answer →
+    AreAccepted command files →
     IsCarriedOut answer.status
 command_complete one way orders reports shows (gaps log) (file ∷ []) answer right (read, is) =
     gaps_complete one log file answer read is right
@@ -194,12 +195,12 @@ no_cut old new fault (inr risen) = fault.output risen
 -- what was done where no count of faults rose is complete
 pub complete : SayOne → PlayOne → OrderOne → ReportOne → ShowOne → (IsDone : Command → Type 0)
     (words : List (List ℕ)) (old : Outside) (how : Status) (new : Outside) →
-    HasDone (Answers IsDone words) (λ _ _. ⊤) old how new → IsComplete IsDone words old how new
+    HasDone (AnswersWords IsDone words) (λ _ _. ⊤) old how new → IsComplete IsDone words old how new
 complete one way orders reports shows IsDone words old how new = by how
   where
     -- the answer of good words is the command's
     of_command : (command : Command) (answer : Answer) → IsDone command → Means words command →
-        Answers IsDone words old.store.files answer → IsAnswerTo command old.store.files answer
+        AnswersWords IsDone words old.store.files answer → IsAnswerTo command old.store.files answer
     of_command command answer done means (inl (other, done', means', is)) =
         let P : Command → Type 0 = λ c. IsAnswerTo c old.store.files answer in
         subst P (same_command words other command means' means) is
@@ -208,7 +209,7 @@ complete one way orders reports shows IsDone words old how new = by how
     -- what was done with an answer
     IsAnswered : Status → Type 0
     IsAnswered how =
-        (answer : Answer) × GivesAnswer (Answers IsDone words) old new answer × (how ≡ answer.status) × ⊤
+        (answer : Answer) × GivesAnswer (AnswersWords IsDone words) old new answer × (how ≡ answer.status) × ⊤
         × IsWritten answer old new
 
     -- what was done with an answer is complete, whatever its status is
@@ -230,7 +231,7 @@ complete one way orders reports shows IsDone words old how new = by how
         )
 
     -- by the status: where no count rose, no read and no write failed, so there is an answer or no memory
-    by : (how : Status) → HasDone (Answers IsDone words) (λ _ _. ⊤) old how new →
+    by : (how : Status) → HasDone (AnswersWords IsDone words) (λ _ _. ⊤) old how new →
         IsComplete IsDone words old how new
     by status.ReadFault (risen, unwritten) command done means fault = absurd (fault.reads risen)
     by status.WriteFault (answer, gives, calls, cut) command done means fault = absurd (no_cut old new fault cut.cause)

@@ -11,7 +11,7 @@ use Rattle.auditorium_core.specs.declared.status.Status.{Status}
 use Rattle.auditorium_core.specs.declared.status.Status.TheVariants as status
 use Rattle.auditorium_core.specs.Lines.{Answer}
 use Rattle.auditorium_core.specs.Words.{Command, run, IsAny, IsStill, Means}
-use Rattle.auditorium_core.specs.Answer.{Answers}
+use Rattle.auditorium_core.specs.Answer.{AnswersWords}
 use Rattle.auditorium_core.specs.Outcome.{Outside, outside, with_files, SetsSome, GivesAnswer, HasDone}
 use Rattle.auditorium_core.specs.inside.Ending.{IsToldAs, EndsWith}
 use Rattle.auditorium_core.specs.inside.Promise.{IsAnswered}
@@ -48,17 +48,17 @@ module _ (IsDone : Command → Type 0) (words : List (List ℕ)) (is_told_by is_
   mid = outside after output faults
 
   -- the answer was made in this call
-  gives : (answer : Answer) → IsAnswered (Answers IsDone words) before (Ok answer) after →
-      new.store.answered ≡ after.answered → GivesAnswer (Answers IsDone words) old new answer
+  gives : (answer : Answer) → IsAnswered (AnswersWords IsDone words) before (Ok answer) after →
+      new.store.answered ≡ after.answered → GivesAnswer (AnswersWords IsDone words) old new answer
   gives answer made same =
       let P : Answered → Type 0 = λ a. ComesExactly before.answered.absences a.absences
       (answer.status ≡ status.Absent) in
       record { answers = made.answer; absent = subst P (sym same) made.absent }
 
   -- making it changed no file, so what is written is told of the files as they were
-  was_told : (answer : Answer) (how : Status) → IsAnswered (Answers IsDone words) before (Ok answer) after →
+  was_told : (answer : Answer) (how : Status) → IsAnswered (AnswersWords IsDone words) before (Ok answer) after →
       new.store.answered ≡ after.answered → IsToldAs answer is_told_by mid how new →
-      HasDone (Answers IsDone words) is_written_by old how new
+      HasDone (AnswersWords IsDone words) is_written_by old how new
   was_told answer how made same (inl (is, told, written)) =
       is_done IsDone words is_written_by old new answer how is (gives answer made same) (calls answer true told)
       (record {
@@ -66,7 +66,7 @@ module _ (IsDone : Command → Type 0) (words : List (List ℕ)) (is_told_by is_
         output = written.output;
       })
   was_told answer how made same (inr (is, told, cut)) =
-      subst (λ (s : Status). HasDone (Answers IsDone words) is_written_by old s new) (sym is) (
+      subst (λ (s : Status). HasDone (AnswersWords IsDone words) is_written_by old s new) (sym is) (
         answer,
         gives answer made same,
         calls answer false told,
@@ -85,11 +85,11 @@ module _ (IsDone : Command → Type 0) (words : List (List ℕ)) (is_told_by is_
 
   -- what was done, whether there is an answer or not
   pub was_done : (result : Result Answer Fault) (how : Status) →
-      IsAnswered (Answers IsDone words) before result after → EndsWith result is_told_by mid how new →
-      HasDone (Answers IsDone words) is_written_by old how new
+      IsAnswered (AnswersWords IsDone words) before result after → EndsWith result is_told_by mid how new →
+      HasDone (AnswersWords IsDone words) is_written_by old how new
   was_done (Ok answer) how made (told, same) = was_told answer how made same told
   was_done (Err fault.ReadFault) how made (is, same) =
-      let P : Status → Type 0 = λ s. HasDone (Answers IsDone words) is_written_by old s new in
+      let P : Status → Type 0 = λ s. HasDone (AnswersWords IsDone words) is_written_by old s new in
       subst P (sym is) (
         subst (λ (o : Outside). HasRisen before.read_faults o.store.read_faults) (sym same) (made.read_fault.only refl),
         record {
@@ -98,7 +98,7 @@ module _ (IsDone : Command → Type 0) (words : List (List ℕ)) (is_told_by is_
         },
       )
   was_done (Err fault.Memory) how made (is, same) =
-      let P : Status → Type 0 = λ s. HasDone (Answers IsDone words) is_written_by old s new in
+      let P : Status → Type 0 = λ s. HasDone (AnswersWords IsDone words) is_written_by old s new in
       subst P (sym is)
       (record {
         files = ap (λ (o : Outside). o.store.files) same ∙ made.files;
@@ -108,20 +108,21 @@ module _ (IsDone : Command → Type 0) (words : List (List ℕ)) (is_told_by is_
 -- where the words are no run's, what was done without threads is what is to be done
 pub done_as_any : (words : List (List ℕ)) (is_written_by : Answer → Bool → Type 0) (old new : Outside) (how : Status) →
     ((script prefix : List ℕ) → ¬ Means words (run script prefix)) →
-    HasDone (Answers IsStill words) is_written_by old how new → HasDone (Answers IsAny words) is_written_by old how new
+    HasDone (AnswersWords IsStill words) is_written_by old how new → HasDone (AnswersWords IsAny words)
+    is_written_by old how new
 done_as_any words is_written_by old new how none = by how
   where
     -- an answer that is given without threads is given with them
-    given : (answer : Answer) → GivesAnswer (Answers IsStill words) old new answer →
-        GivesAnswer (Answers IsAny words) old new answer
+    given : (answer : Answer) → GivesAnswer (AnswersWords IsStill words) old new answer →
+        GivesAnswer (AnswersWords IsAny words) old new answer
     given answer gives = record {
       answers = any_of_still words none old.store.files answer gives.answers;
       absent = gives.absent;
     }
 
     -- by the status, which says what is to be shown
-    by : (how : Status) → HasDone (Answers IsStill words) is_written_by old how new →
-        HasDone (Answers IsAny words) is_written_by old how new
+    by : (how : Status) → HasDone (AnswersWords IsStill words) is_written_by old how new →
+        HasDone (AnswersWords IsAny words) is_written_by old how new
     by status.ReadFault done = done
     by status.Memory done = done
     by status.WriteFault (answer, gives, calls, cut) = (answer, given answer gives, calls, cut)

@@ -13,7 +13,7 @@ use Rattle.log_files.specs.declared.plain_log.PlainLog.{PlainLog}
 use Rattle.log_files.specs.declared.plain_log.LogFault.{LogFault}
 use Rattle.log_files.specs.declared.plain_log.LogFault.TheVariants.{Absent, TooLong, Header, ReadFault, Memory}
 use Rattle.log_files.specs.LogText.{HasHeader, Says}
-use Rattle.log_files.specs.LogFile.{max_bytes, IsRefused}
+use Rattle.log_files.specs.LogFile.{max_bytes, IsLogRefused}
 use Rattle.hall_outside.specs.Files.{Files}
 use Rattle.report_lines.specs.Lines.{refused_lines, end_line, gap_lines}
 use Rattle.evidence.specs.Refusal.{Refusal}
@@ -27,11 +27,11 @@ use Rattle.auditor.specs.Sources.{RuleSource}
 use Rattle.auditor.specs.Audits.{GivesReport}
 use Rattle.auditorium_core.specs.Audit.{status_by, report_answer, IsAuditOf, IsAuditOver}
 use Rattle.auditorium_core.specs.Words.{Command, gaps, play, order, audit, generate, demonstrate, run, source_named}
-use Rattle.auditorium_core.specs.Words.{words_of}
+use Rattle.auditorium_core.specs.Words.{words_of_command}
 use Rattle.auditorium_core.specs.Words.{files_of, AreSessions, IsStill, Means}
 use Rattle.auditorium_core.specs.Lines.{Answer, absent_answer, refused_answer}
-use Rattle.auditorium_core.specs.Gaps.{log_lines, findings_answer, IsRefusal, IsGapsAnswer}
-use Rattle.auditorium_core.specs.Answer.{IsAnswer, IsAnswerTo, Answers}
+use Rattle.auditorium_core.specs.Gaps.{gaps_log_lines, findings_answer, IsRefusal, IsGapsAnswer}
+use Rattle.auditorium_core.specs.Answer.{IsCommandAnswer, IsAnswerTo, AnswersWords}
 use Rattle.evidence.proofs.OneLogs.{same_files}
 use Rattle.auditorium_core.proofs.OnePlayAnswer.{PlayOne, same_play}
 use Rattle.auditorium_core.proofs.OneOrderAnswer.{OrderOne, same_order}
@@ -54,7 +54,7 @@ pub record SayOne : Type 0 where
 -- one log has one text of lines
 same_lines : (name : List ℕ) (log other : PlainLog) → log.kept.items ≡ other.kept.items
     → log.refused.items ≡ other.refused.items
-    → log.end ≡ other.end → log_lines name log ≡ log_lines name other
+    → log.end ≡ other.end → gaps_log_lines name log ≡ gaps_log_lines name other
 same_lines name log other kept refused end =
     ap (λ (r : List (ℕ × EntryFault)). refused_lines name r ++ end_line name log.end ++ gap_lines
     (gaps_of node_of log.kept.items)) refused
@@ -69,10 +69,10 @@ Cases name bytes answer =
     ((max_bytes < length bytes) × (answer ≡ refused_answer name 0 (codes "TooLong")))
     ⊎ (((length bytes ≤ max_bytes) × (HasHeader bytes → ⊥) × (answer ≡ refused_answer name 0 (codes "Header")))
     ⊎ ((log : PlainLog) × (length bytes ≤ max_bytes) × Says bytes log
-    × (answer ≡ findings_answer (log_lines name log))))
+    × (answer ≡ findings_answer (gaps_log_lines name log))))
 
 -- a refusal is one of these
-refusal_cases : (name bytes : List ℕ) (answer : Answer) (fault : LogFault) → IsRefused fault (Some bytes)
+refusal_cases : (name bytes : List ℕ) (answer : Answer) (fault : LogFault) → IsLogRefused fault (Some bytes)
     → IsRefusal name fault answer → Cases name bytes answer
 refusal_cases name bytes answer Absent is e = cc
 refusal_cases name bytes answer TooLong is e = inl (is, e)
@@ -86,7 +86,7 @@ cases name bytes answer (inl (log, is, e)) = inr (inr (log, is.0, is.1, e))
 cases name bytes answer (inr (fault, is, e)) = refusal_cases name bytes answer fault is e
 
 -- where there is no file, the answer is that
-absent_alone : (name : List ℕ) (answer : Answer) (fault : LogFault) → IsRefused fault None
+absent_alone : (name : List ℕ) (answer : Answer) (fault : LogFault) → IsLogRefused fault None
     → IsRefusal name fault answer → answer ≡ absent_answer name
 absent_alone name answer Absent is e = e
 absent_alone name answer TooLong is e = absurd is
@@ -134,31 +134,32 @@ same_sessions n l some also word =
 -- Words mean one command. The first words of two that differ begin with different bytes.
 pub same_command : (words : List (List ℕ)) (a b : Command) → Means words a → Means words b → a ≡ b
 same_command words (gaps x) (gaps y) m n =
-    let e : words_of (gaps x) ≡ words_of (gaps y) = sym m.spelt ∙ n.spelt in
+    let e : words_of_command (gaps x) ≡ words_of_command (gaps y) = sym m.spelt ∙ n.spelt in
     let f : x ≡ y = cc in
     ap gaps f
 same_command words (play script prefix) (play other start) m n =
-    let e : words_of (play script prefix) ≡ words_of (play other start) = sym m.spelt ∙ n.spelt in
+    let e : words_of_command (play script prefix) ≡ words_of_command (play other start) = sym m.spelt ∙ n.spelt in
     cc
 same_command words (order r u v logs) (order s w z others) m n =
-    let e : words_of (order r u v logs) ≡ words_of (order s w z others) = sym m.spelt ∙ n.spelt in
+    let e : words_of_command (order r u v logs) ≡ words_of_command (order s w z others) = sym m.spelt ∙ n.spelt in
     cc
 same_command words (audit r u logs) (audit s w others) m n =
-    let e : words_of (audit r u logs) ≡ words_of (audit s w others) = sym m.spelt ∙ n.spelt in
+    let e : words_of_command (audit r u logs) ≡ words_of_command (audit s w others) = sym m.spelt ∙ n.spelt in
     cc
 same_command words (generate s) (generate t) m n =
-    let e : words_of (generate s) ≡ words_of (generate t) = sym m.spelt ∙ n.spelt in
+    let e : words_of_command (generate s) ≡ words_of_command (generate t) = sym m.spelt ∙ n.spelt in
     let word : decimal s ≡ decimal t = cc in
     ap generate (same_sessions s t m.parts n.parts word)
 same_command words (demonstrate s) (demonstrate t) m n =
-    let e : words_of (demonstrate s) ≡ words_of (demonstrate t) = sym m.spelt ∙ n.spelt in
+    let e : words_of_command (demonstrate s) ≡ words_of_command (demonstrate t) = sym m.spelt ∙ n.spelt in
     let word : decimal s ≡ decimal t = cc in
     ap demonstrate (same_sessions s t m.parts n.parts word)
 same_command words (run script prefix) (run other start) m n =
-    let e : words_of (run script prefix) ≡ words_of (run other start) = sym m.spelt ∙ n.spelt in
+    let e : words_of_command (run script prefix) ≡ words_of_command (run other start) = sym m.spelt ∙ n.spelt in
     cc
 same_command words a b m n =
-    let first : first_byte (words_of a) ≡ first_byte (words_of b) = ap first_byte (sym m.spelt ∙ n.spelt) in
+    let first : first_byte (words_of_command a) ≡ first_byte (words_of_command b) = ap first_byte
+    (sym m.spelt ∙ n.spelt) in
     absurd (omega (arith, first))
 
 -- files give at most one report
@@ -184,7 +185,8 @@ same_audit one roster rules logs files a b =
 
 -- without threads a command has one answer over files
 same_answer : SayOne → PlayOne → OrderOne → ReportOne → ShowOne → (command : Command) → IsStill command →
-    (files : List (Option (List ℕ))) (a b : Answer) → IsAnswer command files a → IsAnswer command files b → a ≡ b
+    (files : List (Option (List ℕ))) (a b : Answer) → IsCommandAnswer command files a →
+    IsCommandAnswer command files b → a ≡ b
 same_answer one way orders reports shows (gaps log) still (file ∷ []) a b x y = same_gaps one log file a b x y
 same_answer one way orders reports shows (play script prefix) still (file ∷ []) a b x y =
     same_play way script prefix file a b x y
@@ -202,13 +204,13 @@ same_answer one way orders reports shows command still files a b x y = absurd x
 same_answer_to : SayOne → PlayOne → OrderOne → ReportOne → ShowOne → (command : Command) → IsStill command →
     (told : Files) (a b : Answer) → IsAnswerTo command (Some told) a → IsAnswerTo command (Some told) b → a ≡ b
 same_answer_to one way orders reports shows command still told a b (files, are, is) (others, are', is') =
-    let P : List (Option (List ℕ)) → Type 0 = λ fs. IsAnswer command fs b in
+    let P : List (Option (List ℕ)) → Type 0 = λ fs. IsCommandAnswer command fs b in
     same_answer one way orders reports shows command still files a b is
     (subst P (same_files told (files_of command) others files are' are) is')
 
 -- so have any words
 pub one_answer : SayOne → PlayOne → OrderOne → ReportOne → ShowOne → (words : List (List ℕ)) (files : Files)
-    (a b : Answer) → Answers IsStill words (Some files) a → Answers IsStill words (Some files) b → a ≡ b
+    (a b : Answer) → AnswersWords IsStill words (Some files) a → AnswersWords IsStill words (Some files) b → a ≡ b
 one_answer one way orders reports shows words files a b (inl (command, still, means, is))
     (inl (other, still', means', is')) =
     let P : Command → Type 0 = λ c. IsAnswerTo c (Some files) b in

@@ -28,7 +28,7 @@ use Rattle.auditorium_core.specs.Words.{Command, gaps, play, order, audit, gener
 use Rattle.auditorium_core.specs.Words.{Means, AreGood}
 use Rattle.auditorium_core.specs.Lines.{Answer, OrRefused, usage_answer, absent_answer, refused_answer, refusal_answer}
 use Rattle.auditorium_core.specs.Lines.{line_answer, no_entry, order_word}
-use Rattle.auditorium_core.specs.Gaps.{log_lines, findings_answer, status_of, IsRefusal, IsGapsAnswer}
+use Rattle.auditorium_core.specs.Gaps.{gaps_log_lines, findings_answer, status_of, IsRefusal, IsGapsAnswer}
 use Rattle.auditorium_core.specs.ScriptFile.{GivesScript}
 use Rattle.auditorium_core.specs.Play.{status_of_undone, IsPlayOf}
 use Rattle.auditorium_core.specs.Run.{IsRunOf}
@@ -36,7 +36,7 @@ use Rattle.auditorium_core.specs.Demonstrated.{GivesDemonstration, demonstration
 use Rattle.auditorium_core.specs.Order.{IsOrderAmong, IsOrderOver, IsOrderOverLogs, IsOrderUnder}
 use Rattle.auditorium_core.specs.Made.{made_answer}
 use Rattle.auditorium_core.specs.Outcome.{Outside, GivesAnswer, IsWritten, HasDone}
-use Rattle.auditorium_core.specs.Answer.{Answers, IsAnswer, IsOfAnswers, IsAudited, IsPlayed, HasItsWords}
+use Rattle.auditorium_core.specs.Answer.{AnswersWords, IsCommandAnswer, IsOfAnswers, MeansAudit, MeansPlay, HasItsWords}
 
 -- the command may have findings
 abbrev MayFind : Command → Type 0
@@ -70,20 +70,20 @@ IsStatusOf command other = ⊥
 
 -- words that mean a command that may have findings
 found_words : (words : List (List ℕ)) (command : Command) → Means words command → MayFind command →
-    ((log : List ℕ) × Means words (gaps log)) ⊎ IsAudited words
+    ((log : List ℕ) × Means words (gaps log)) ⊎ MeansAudit words
 found_words words (gaps log) means may = inl (log, means)
 found_words words (audit roster rules logs) means may = inr (inl (roster, rules, logs, means))
 found_words words (demonstrate sessions) means may = inr (inr (sessions, means))
 found_words words command means may = absurd may
 
 -- that mean one that audits
-audited_words : (words : List (List ℕ)) (command : Command) → Means words command → DoesAudit command → IsAudited words
+audited_words : (words : List (List ℕ)) (command : Command) → Means words command → DoesAudit command → MeansAudit words
 audited_words words (audit roster rules logs) means does = inl (roster, rules, logs, means)
 audited_words words (demonstrate sessions) means does = inr (sessions, means)
 audited_words words command means does = absurd does
 
 -- and that mean one that plays
-played_words : (words : List (List ℕ)) (command : Command) → Means words command → DoesPlay command → IsPlayed words
+played_words : (words : List (List ℕ)) (command : Command) → Means words command → DoesPlay command → MeansPlay words
 played_words words (play script prefix) means does = (script, prefix, inl means)
 played_words words (run script prefix) means does = (script, prefix, inr means)
 played_words words command means does = absurd does
@@ -202,11 +202,12 @@ of_log_refusal log log_fault.Memory answer e = absurd e
 of_gaps : (log : List ℕ) (file : Option (List ℕ)) (answer : Answer) → IsGapsAnswer log file answer →
     IsStatusOf (gaps log) answer.status
 of_gaps log file answer (inl (read, is, e)) =
-    answer_is (gaps log) answer (findings_answer (log_lines log read)) e (of_lines log (log_lines log read))
+    answer_is (gaps log) answer (findings_answer (gaps_log_lines log read)) e (of_lines log (gaps_log_lines log read))
 of_gaps log file answer (inr (fault, is, refusal)) = of_log_refusal log fault answer refusal
 
 -- so each command answers
-of_command : (command : Command) (files : List (Option (List ℕ))) (answer : Answer) → IsAnswer command files answer →
+of_command : (command : Command) (files : List (Option (List ℕ))) (answer : Answer) →
+    IsCommandAnswer command files answer →
     IsStatusOf command answer.status
 of_command (gaps log) (file ∷ []) answer is = of_gaps log file answer is
 of_command (play script prefix) (file ∷ []) answer is =
@@ -239,7 +240,7 @@ of_command command files answer is = absurd is
 
 -- what the status says of the words of any command, and of words that aren't good
 pub status_words : (IsDone : Command → Type 0) (words : List (List ℕ)) (told : Option Files) (answer : Answer) →
-    Answers IsDone words told answer → HasItsWords IsDone words answer
+    AnswersWords IsDone words told answer → HasItsWords IsDone words answer
 status_words IsDone words told answer (inl (command, done, means, (files, are, is))) =
     command_words IsDone words command answer done means (of_command command files answer is)
 status_words IsDone words told answer (inr (bad, e)) = usage_words IsDone words answer bad e
@@ -247,14 +248,14 @@ status_words IsDone words told answer (inr (bad, e)) = usage_words IsDone words 
 -- the program is done with an answer, and ends with its status
 pub is_done : (IsDone : Command → Type 0) (words : List (List ℕ)) (is_written_by : Answer → Bool → Type 0)
     (old new : Outside) (answer : Answer) (how : Status) → how ≡ answer.status →
-    GivesAnswer (Answers IsDone words) old new answer → is_written_by answer true → IsWritten answer old new →
-    HasDone (Answers IsDone words) is_written_by old how new
+    GivesAnswer (AnswersWords IsDone words) old new answer → is_written_by answer true → IsWritten answer old new →
+    HasDone (AnswersWords IsDone words) is_written_by old how new
 is_done IsDone words is_written_by old new answer how same gives calls written =
     by_status how same (status_words IsDone words old.store.files answer gives.answers).some
   where
     -- by the status: failed calls and want of memory have none that is an answer's
     by_status : (how : Status) → how ≡ answer.status → IsOfAnswers answer.status →
-        HasDone (Answers IsDone words) is_written_by old how new
+        HasDone (AnswersWords IsDone words) is_written_by old how new
     by_status status.ReadFault e some = absurd (subst IsOfAnswers (sym e) some)
     by_status status.WriteFault e some = absurd (subst IsOfAnswers (sym e) some)
     by_status status.Memory e some = absurd (subst IsOfAnswers (sym e) some)

@@ -3,7 +3,7 @@ use Rattle.std.proofs.Common.{ℕ, List, Option, inl, inr}
 use Rattle.hall_outside.specs.Files.{Files}
 use Rattle.auditorium_core.specs.Words.{Command, run, IsAny, IsStill, Means, AreGood}
 use Rattle.auditorium_core.specs.Lines.{Answer}
-use Rattle.auditorium_core.specs.Answer.{Answers}
+use Rattle.auditorium_core.specs.Answer.{AnswersWords}
 
 module _ (words : List (List ℕ)) (no_run : (script prefix : List ℕ) → ¬ Means words (run script prefix)) where
   -- what the words mean is done without threads
@@ -12,8 +12,8 @@ module _ (words : List (List ℕ)) (no_run : (script prefix : List ℕ) → ¬ M
   is_still command means = tt
 
   -- so what is right without threads is right with them
-  pub any_of_still : (told : Option Files) (answer : Answer) → Answers IsStill words told answer →
-      Answers IsAny words told answer
+  pub any_of_still : (told : Option Files) (answer : Answer) → AnswersWords IsStill words told answer →
+      AnswersWords IsAny words told answer
   any_of_still told answer (inl (command, still, means, is)) = inl (command, tt, means, is)
   any_of_still told answer (inr (bad, e)) = inr (
     λ (good : AreGood IsAny words). bad (good.0, is_still good.0 good.2, good.2),
@@ -21,7 +21,7 @@ module _ (words : List (List ℕ)) (no_run : (script prefix : List ℕ) → ¬ M
   )
 
   -- and the other way round
-  pub still_of_any : (told : Option Files) (answer : Answer) → Answers IsAny words told answer →
-      Answers IsStill words told answer
+  pub still_of_any : (told : Option Files) (answer : Answer) → AnswersWords IsAny words told answer →
+      AnswersWords IsStill words told answer
   still_of_any told answer (inl (command, any, means, is)) = inl (command, is_still command means, means, is)
   still_of_any told answer (inr (bad, e)) = inr (λ (good : AreGood IsStill words). bad (good.0, tt, good.2), e)

@@ -6,13 +6,13 @@ use Rattle.hall_outside.proofs.SomeFile.{on_some}
 use Rattle.election_script.specs.declared.script.Script.{Script}
 use Rattle.log_files.specs.declared.plain_log.PlainLog.{PlainLog}
 use Rattle.log_files.specs.declared.plain_log.LogFault.{LogFault}
-use Rattle.log_files.specs.LogFile.{IsLogOf, IsRefused}
+use Rattle.log_files.specs.LogFile.{IsLogOf, IsLogRefused}
 use Rattle.evidence.specs.Refusal.{Refusal}
 use Rattle.auditorium_core.specs.declared.status.Status.{Status}
 use Rattle.auditorium_core.specs.declared.status.Status.TheVariants as status
 use Rattle.auditorium_core.specs.Words.{gaps, play, run}
 use Rattle.auditorium_core.specs.Lines.{Answer, refusal_answer}
-use Rattle.auditorium_core.specs.Gaps.{log_lines, findings_answer, IsRefusal, IsGapsAnswer}
+use Rattle.auditorium_core.specs.Gaps.{gaps_log_lines, findings_answer, IsRefusal, IsGapsAnswer}
 use Rattle.auditorium_core.specs.Play.{IsPlayOf, status_of_undone}
 use Rattle.auditorium_core.specs.Run.{IsRunOf}
 use Rattle.auditorium_core.specs.ScriptFile.{GivesScriptIn}
@@ -25,7 +25,7 @@ gaps_to told log answer (file, is, right) = (file ∷ [], (is, tt), right)
 
 -- the lines on a log that was read are an answer of `gaps`
 pub gaps_findings : (told : Option Files) (log : List ℕ) (plain : PlainLog) (answer : Answer) →
-    answer ≡ findings_answer (log_lines log plain) → OnSomeFile told log (IsLogOf plain) →
+    answer ≡ findings_answer (gaps_log_lines log plain) → OnSomeFile told log (IsLogOf plain) →
     IsAnswerTo (gaps log) told answer
 gaps_findings told log plain answer e said =
     gaps_to told log answer
@@ -33,11 +33,11 @@ gaps_findings told log plain answer e said =
 
 -- and so is why a log was refused
 pub gaps_refusal : (told : Option Files) (log : List ℕ) (fault given : LogFault) (answer : Answer) → given ≡ fault →
-    IsRefusal log fault answer → OnSomeFile told log (IsRefused given) → IsAnswerTo (gaps log) told answer
+    IsRefusal log fault answer → OnSomeFile told log (IsLogRefused given) → IsAnswerTo (gaps log) told answer
 gaps_refusal told log fault given answer same is said =
-    let P : LogFault → Type 0 = λ f. OnSomeFile told log (IsRefused f) in
+    let P : LogFault → Type 0 = λ f. OnSomeFile told log (IsLogRefused f) in
     gaps_to told log answer
-    (on_some told log (IsRefused fault) (λ file. IsGapsAnswer log file answer)
+    (on_some told log (IsLogRefused fault) (λ file. IsGapsAnswer log file answer)
     (λ file refused. inr (fault, refused, is))
     (subst P same said))
 

@@ -3,7 +3,7 @@ use Rattle.std.proofs.Common.{◌≡◌, ◌∙◌, ℕ, ◌<◌, ◌≤◌, Lis
 use Rattle.std.proofs.Common.{string_bytes, ap, sym, subst, arith}
 use Rattle.std.specs.Prelude.{All}
 use Rattle.std.proofs.lemmas.List.{get_or-map, length-map}
-use Rattle.auditorium_core.specs.Words.{IsWord}
+use Rattle.auditorium_core.specs.Words.{IsCommandWord}
 
 -- the bytes of a word
 pub bytes_at : (words : List (String Global)) (i : ℕ) (word : String Global) (d : List ℕ) → i < length words
@@ -14,22 +14,22 @@ bytes_at words i word d within is = ap string_bytes is ∙ sym (get_or-map strin
 -- a word that has the form, at its place
 pub has_form_at : (words : List (String Global)) (i : ℕ) (word : String Global) (text d : List ℕ) → i < length words
     → word ≡ get_or words i word
-    → text ≡ string_bytes word → IsWord text → IsWord (get_or (map string_bytes words) i d)
+    → text ≡ string_bytes word → IsCommandWord text → IsCommandWord (get_or (map string_bytes words) i d)
 has_form_at words i word text d within is e h = let P : List ℕ
-    → Type 0 = λ t. IsWord t in subst P (e ∙ bytes_at words i word d within is) h
+    → Type 0 = λ t. IsCommandWord t in subst P (e ∙ bytes_at words i word d within is) h
 
 -- a word without the form
 pub lacks_form_at : (words : List (String Global)) (i : ℕ) (word : String Global) (text : List ℕ) → i < length words
     → word ≡ get_or words i word
-    → text ≡ string_bytes word → All IsWord (map string_bytes words) → IsWord text
+    → text ≡ string_bytes word → All IsCommandWord (map string_bytes words) → IsCommandWord text
 lacks_form_at words i word text within is e all =
-    let P : List ℕ → Type 0 = λ t. IsWord t in
+    let P : List ℕ → Type 0 = λ t. IsCommandWord t in
     subst P (sym (e ∙ bytes_at words i word text within is)) (all i text (omega (arith, length-map words string_bytes)))
 
 -- words of which each has the form
 pub all_have_form : (words : List (String Global)) (n : ℕ) → length words ≤ n
-    → ((k : ℕ) → k < n → (d : List ℕ) → IsWord (get_or (map string_bytes words) k d))
-    → All IsWord (map string_bytes words)
+    → ((k : ℕ) → k < n → (d : List ℕ) → IsCommandWord (get_or (map string_bytes words) k d))
+    → All IsCommandWord (map string_bytes words)
 all_have_form words n past h = λ k d within. h k (omega (arith, length-map words string_bytes)) d
 
 -- two words

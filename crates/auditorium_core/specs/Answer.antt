@@ -17,24 +17,24 @@ use Rattle.auditorium_core.specs.Order.{IsOrderAnswer}
 use Rattle.auditorium_core.specs.HonestAudit.{IsAuditAnswer}
 
 -- what a command gives for the files that it reads, each of which may be absent
-abbrev pub IsAnswer : Command → List (Option (List ℕ)) → Answer → Type 0
-IsAnswer (gaps log) (file ∷ []) answer = IsGapsAnswer log file answer
-IsAnswer (play script prefix) (file ∷ []) answer = IsPlayAnswer script prefix file answer
-IsAnswer (order roster x y logs) (file ∷ files) answer = IsOrderAnswer roster x y logs file files answer
-IsAnswer (audit roster rules logs) files answer = IsAuditAnswer roster rules logs files answer
-IsAnswer (generate sessions) [] answer = answer ≡ made_answer sessions
-IsAnswer (demonstrate sessions) [] answer = IsDemonstrationAnswer sessions answer
-IsAnswer (run script prefix) (file ∷ []) answer = IsRunAnswer script prefix file answer
-IsAnswer command others answer = ⊥
+abbrev pub IsCommandAnswer : Command → List (Option (List ℕ)) → Answer → Type 0
+IsCommandAnswer (gaps log) (file ∷ []) answer = IsGapsAnswer log file answer
+IsCommandAnswer (play script prefix) (file ∷ []) answer = IsPlayAnswer script prefix file answer
+IsCommandAnswer (order roster x y logs) (file ∷ files) answer = IsOrderAnswer roster x y logs file files answer
+IsCommandAnswer (audit roster rules logs) files answer = IsAuditAnswer roster rules logs files answer
+IsCommandAnswer (generate sessions) [] answer = answer ≡ made_answer sessions
+IsCommandAnswer (demonstrate sessions) [] answer = IsDemonstrationAnswer sessions answer
+IsCommandAnswer (run script prefix) (file ∷ []) answer = IsRunAnswer script prefix file answer
+IsCommandAnswer command others answer = ⊥
 
 -- what a command gives, over these files or, where none are told, over some
 abbrev pub IsAnswerTo : Command → Option Files → Answer → Type 0
 IsAnswerTo command told answer =
-    (files : List (Option (List ℕ))) × AreFiles told (files_of command) files × IsAnswer command files answer
+    (files : List (Option (List ℕ))) × AreFiles told (files_of command) files × IsCommandAnswer command files answer
 
 -- what words give where these are the commands, likewise
-abbrev pub Answers : (Command → Type 0) → List (List ℕ) → Option Files → Answer → Type 0
-Answers IsDone words told answer =
+abbrev pub AnswersWords : (Command → Type 0) → List (List ℕ) → Option Files → Answer → Type 0
+AnswersWords IsDone words told answer =
     ((command : Command) × IsDone command × Means words command × IsAnswerTo command told answer)
     ⊎ ((¬ AreGood IsDone words) × (answer ≡ usage_answer))
 
@@ -52,20 +52,20 @@ IsOfAnswers status.Memory = ⊥
 IsOfAnswers other = Unit {0}
 
 -- the words are those of an audit, or of a demonstration, which ends with one
-abbrev pub IsAudited : List (List ℕ) → Type 0
-IsAudited words =
+abbrev pub MeansAudit : List (List ℕ) → Type 0
+MeansAudit words =
     ((roster rules : List ℕ) × (logs : List (List ℕ)) × Means words (audit roster rules logs))
     ⊎ ((sessions : ℕ) × Means words (demonstrate sessions))
 
 -- the words are those of a script's machines, on one thread or in several
-abbrev pub IsPlayed : List (List ℕ) → Type 0
-IsPlayed words = (script prefix : List ℕ) × (Means words (play script prefix) ⊎ Means words (run script prefix))
+abbrev pub MeansPlay : List (List ℕ) → Type 0
+MeansPlay words = (script prefix : List ℕ) × (Means words (play script prefix) ⊎ Means words (run script prefix))
 
 -- what the status of an answer says of the words, where these are the commands
 pub record HasItsWords (IsDone : Command → Type 0) (words : List (List ℕ)) (answer : Answer) : Type 0 where
   pub some : IsOfAnswers answer.status
   pub usage : (answer.status ≡ status.Usage) ↔ ¬ AreGood IsDone words
-  pub findings : answer.status ≡ status.Findings → ((log : List ℕ) × Means words (gaps log)) ⊎ IsAudited words
-  pub unsettled : answer.status ≡ status.Unsettled → IsAudited words
-  pub broken : answer.status ≡ status.Broken → IsAudited words
-  pub undone : answer.status ≡ status.Undone → IsPlayed words
+  pub findings : answer.status ≡ status.Findings → ((log : List ℕ) × Means words (gaps log)) ⊎ MeansAudit words
+  pub unsettled : answer.status ≡ status.Unsettled → MeansAudit words
+  pub broken : answer.status ≡ status.Broken → MeansAudit words
+  pub undone : answer.status ≡ status.Undone → MeansPlay words

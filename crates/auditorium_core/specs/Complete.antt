@@ -22,7 +22,7 @@ use Rattle.auditorium_core.specs.Words.{Command, gaps, play, order, audit, gener
 use Rattle.auditorium_core.specs.Words.{files_of, Means}
 use Rattle.auditorium_core.specs.Lines.{Answer}
 use Rattle.auditorium_core.specs.ScriptFile.{max_script}
-use Rattle.auditorium_core.specs.Answer.{IsAnswer}
+use Rattle.auditorium_core.specs.Answer.{IsCommandAnswer}
 use Rattle.auditorium_core.specs.Demonstrated.{ShowsReport}
 use Rattle.auditorium_core.specs.Outcome.{Outside, IsUnwritten, IsWritten}
 
@@ -78,7 +78,7 @@ pub record HasNoFailure (old new : Outside) : Type 0 where
 pub record IsAnsweredOver (command : Command) (files : List (Option (List ℕ))) (old : Outside) (how : Status)
     (new : Outside) : Type 0 where
   pub answer : Answer
-  pub right : IsAnswer command files answer
+  pub right : IsCommandAnswer command files answer
   pub told : how ≡ answer.status
   pub carried_out : AreAccepted command files → IsCarriedOut how
   pub written : IsWritten answer old new

@@ -5,15 +5,15 @@ use Rattle.entry_format.specs.Nodes.{node_of}
 use Rattle.log_files.specs.declared.plain_log.PlainLog.{PlainLog}
 use Rattle.log_files.specs.declared.plain_log.LogFault.{LogFault}
 use Rattle.log_files.specs.declared.plain_log.LogFault.TheVariants.{Absent, TooLong, Header, ReadFault, Memory}
-use Rattle.log_files.specs.LogFile.{IsLogOf, IsRefused}
+use Rattle.log_files.specs.LogFile.{IsLogOf, IsLogRefused}
 use Rattle.auditorium_core.specs.declared.status.Status.{Status}
 use Rattle.auditorium_core.specs.declared.status.Status.TheVariants.{Done, Findings}
 use Rattle.report_lines.specs.Lines.{refused_lines, end_line, gap_lines}
 use Rattle.auditorium_core.specs.Lines.{Answer, absent_answer, refused_answer}
 
 -- all lines of a log: the gaps are the digests that its entries name and none of them bears
-abbrev pub log_lines : List ℕ → PlainLog → List ℕ
-log_lines name log =
+abbrev pub gaps_log_lines : List ℕ → PlainLog → List ℕ
+gaps_log_lines name log =
     refused_lines name log.refused.items ++ end_line name log.end ++ gap_lines (gaps node_of log.kept.items)
 
 -- findings, where there is any line
@@ -36,5 +36,5 @@ IsRefusal name Memory answer = ⊥
 -- the answer for the log's file, or where there is none
 abbrev pub IsGapsAnswer : List ℕ → Option (List ℕ) → Answer → Type 0
 IsGapsAnswer name file answer =
-    ((log : PlainLog) × IsLogOf log file × (answer ≡ findings_answer (log_lines name log)))
-    ⊎ ((fault : LogFault) × IsRefused fault file × IsRefusal name fault answer)
+    ((log : PlainLog) × IsLogOf log file × (answer ≡ findings_answer (gaps_log_lines name log)))
+    ⊎ ((fault : LogFault) × IsLogRefused fault file × IsRefusal name fault answer)

@@ -2,7 +2,7 @@
 use Rattle.std.specs.Prelude.{◌≡◌, ℕ, List, [], ◌∷◌, Option, ◌⊎◌, Bool, true, false, Result}
 use Rattle.hall_outside.specs.Counts.{HasRisen}
 use Rattle.hall_outside.specs.Files.{Files, with_file, SetsPrefix}
-use Rattle.hall_outside.specs.Writing.{appended, AppendsPrefix, OffersAll, Puts}
+use Rattle.hall_outside.specs.Writing.{appended, AppendsPrefix, OffersAll, PutsFile}
 use Rattle.hall_outside.specs.declared.stores.Failed.{Failed}
 use Rattle.evidence.specs.Reading.{StoreSeen}
 use Rattle.auditorium_core.specs.declared.status.Status.{Status}
@@ -37,9 +37,10 @@ pub data PutsAll {S : Type 0} (create : List ℕ → S → Bool → S → Type 0
     → Type 0 where
   all_put : (now : S) → PutsAll create append now [] true now
   fails : (old new : S) (file : List ℕ × List ℕ) (files : List (List ℕ × List ℕ))
-      → Puts (create file.0) (append file.0) old file.1 false new → PutsAll create append old (file ∷ files) false new
+      → PutsFile (create file.0) (append file.0) old file.1 false new → PutsAll create append old
+      (file ∷ files) false new
   puts : (old mid new : S) (file : List ℕ × List ℕ) (files : List (List ℕ × List ℕ)) (ok : Bool)
-      → Puts (create file.0) (append file.0) old file.1 true mid → PutsAll create append mid files ok new
+      → PutsFile (create file.0) (append file.0) old file.1 true mid → PutsAll create append mid files ok new
       → PutsAll create append old (file ∷ files) ok new
 
 -- The calls by which an answer is written: each file by one create and by appends, and then the output by writes, each

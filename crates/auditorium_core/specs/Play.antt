@@ -39,13 +39,13 @@ abbrev pub play_files : List ℕ → List Post → List MachineState → List (L
 play_files prefix roster machines = roster_file prefix roster ∷ map (log_file prefix) machines
 
 -- how many entries a machine sent, and how many events its log has
-abbrev pub machine_line : MachineState → List ℕ
-machine_line m =
+abbrev pub played_line : MachineState → List ℕ
+played_line m =
     line (codes "machine " ++ m.config.name ++ codes " sent " ++ decimal (length (sent m.events))
     ++ codes " held " ++ decimal (length m.events))
 
 abbrev pub machine_lines : List MachineState → List ℕ
-machine_lines machines = flat_map machine_line machines
+machine_lines machines = flat_map played_line machines
 
 -- the next action of a machine with this name that isn't done, and why
 abbrev pub undone_line : List ℕ → Option Left → List ℕ

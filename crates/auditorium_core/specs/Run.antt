@@ -16,7 +16,7 @@ use Rattle.floor_losses.specs.CauseWords.{loss_why_word}
 use Rattle.floor_losses.specs.declared.loss.Loss.{Loss}
 use Rattle.finished_floor.specs.Floors.{IsFloorOf}
 use Rattle.report_lines.specs.Lines.{line}
-use Rattle.auditor.specs.ReportText.{name_at}
+use Rattle.auditor.specs.ReportText.{maker_name}
 use Rattle.auditorium_core.specs.HonestPlace.{LeaveHonestFiles}
 use Rattle.auditorium_core.specs.Lines.{Answer, OrRefused}
 use Rattle.auditorium_core.specs.Play.{KeepOrder, SayUndone, machine_lines, play_files, status_of_undone}
@@ -25,8 +25,8 @@ use Rattle.auditorium_core.specs.ScriptFile.{GivesScript}
 -- an entry that didn't arrive: its maker's name and its number there, the receiver's name, and why
 abbrev pub loss_line : List Post → Loss → List ℕ
 loss_line roster loss =
-    line (codes "loss " ++ name_at roster loss.from ++ codes "." ++ decimal loss.number ++ codes " "
-    ++ name_at roster loss.to ++ codes " " ++ loss_why_word loss.why)
+    line (codes "loss " ++ maker_name roster loss.from ++ codes "." ++ decimal loss.number ++ codes " "
+    ++ maker_name roster loss.to ++ codes " " ++ loss_why_word loss.why)
 
 abbrev pub loss_lines : List Post → List Loss → List ℕ
 loss_lines roster losses = flat_map (loss_line roster) losses

@@ -29,14 +29,14 @@ abbrev pub source_named : List ℕ → RuleSource
 source_named word = if bytes_eq word (codes "standard") then standard else in_file word
 
 -- the words of a command
-abbrev pub words_of : Command → List (List ℕ)
-words_of (gaps log) = codes "gaps" ∷ log ∷ []
-words_of (play script prefix) = codes "play" ∷ script ∷ prefix ∷ []
-words_of (order roster x y logs) = codes "order" ∷ roster ∷ x ∷ y ∷ logs
-words_of (audit roster rules logs) = codes "audit" ∷ roster ∷ rules ∷ logs
-words_of (generate sessions) = codes "make" ∷ decimal sessions ∷ []
-words_of (demonstrate sessions) = codes "demo" ∷ decimal sessions ∷ []
-words_of (run script prefix) = codes "run" ∷ script ∷ prefix ∷ []
+abbrev pub words_of_command : Command → List (List ℕ)
+words_of_command (gaps log) = codes "gaps" ∷ log ∷ []
+words_of_command (play script prefix) = codes "play" ∷ script ∷ prefix ∷ []
+words_of_command (order roster x y logs) = codes "order" ∷ roster ∷ x ∷ y ∷ logs
+words_of_command (audit roster rules logs) = codes "audit" ∷ roster ∷ rules ∷ logs
+words_of_command (generate sessions) = codes "make" ∷ decimal sessions ∷ []
+words_of_command (demonstrate sessions) = codes "demo" ∷ decimal sessions ∷ []
+words_of_command (run script prefix) = codes "run" ∷ script ∷ prefix ∷ []
 
 -- the files that a command reads, in order
 abbrev pub files_of : Command → List (List ℕ)
@@ -49,14 +49,14 @@ files_of (demonstrate sessions) = []
 files_of (run script prefix) = script ∷ []
 
 -- the form of a word: 1 to 1,024 bytes, each from `!` to `~`, of which the first isn't `-`
-pub record IsWord (word : List ℕ) : Type 0 where
+pub record IsCommandWord (word : List ℕ) : Type 0 where
   pub some : 0 < length word
   pub at_most : length word ≤ 1024
   pub printing : All (λ byte. (33 ≤ byte) × (byte ≤ 126)) word
   pub no_option : slice_get word 0 ≢ Some 45
 
 -- two words for entries, and 1 to 16 logs
-pub record AreOrdered (x y : List ℕ) (logs : List (List ℕ)) : Type 0 where
+pub record AreOrderWords (x y : List ℕ) (logs : List (List ℕ)) : Type 0 where
   pub first : IsEntryWord x
   pub second : IsEntryWord y
   pub some : 0 < length logs
@@ -74,7 +74,7 @@ pub record AreSessions (sessions : ℕ) : Type 0 where
 
 -- what a command asks of its words beside the form of each
 abbrev pub HasParts : Command → Type 0
-HasParts (order roster x y logs) = AreOrdered x y logs
+HasParts (order roster x y logs) = AreOrderWords x y logs
 HasParts (audit roster rules logs) = AreLogs logs
 HasParts (generate sessions) = AreSessions sessions
 HasParts (demonstrate sessions) = AreSessions sessions
@@ -82,8 +82,8 @@ HasParts other = ⊤
 
 -- the words are this command's, and each has the form of a word
 pub record Means (words : List (List ℕ)) (command : Command) : Type 0 where
-  pub form : All IsWord words
-  pub spelt : words ≡ words_of command
+  pub form : All IsCommandWord words
+  pub spelt : words ≡ words_of_command command
   pub parts : HasParts command
 
 -- the program does every command

@@ -1,7 +1,7 @@
 // The command `gaps`: what one log says, without its signatures.
 ghost use Rattle.std.specs.Prelude.{◌≡◌, IfOk, string_bytes};
 ghost use Rattle.auditorium_core.specs.Answer.{IsAnswerTo};
-ghost use Rattle.auditorium_core.specs.Gaps.{log_lines};
+ghost use Rattle.auditorium_core.specs.Gaps.{gaps_log_lines};
 ghost use Rattle.evidence.specs.Reading.{store_seen};
 ghost use Rattle.auditorium_core.specs.Words.{gaps};
 ghost use Rattle.auditorium_core.specs.inside.Promise.{IsAnswered};
@@ -33,7 +33,7 @@ pub(crate) fn gaps<S: Store>(alloc: Global, store: &mut S, log: &str) -> Result<
 
 /// The lines of a log: refused records, an end that isn't clean, and gaps.
 fn lines_of(alloc: Global, name: &str, log: &PlainLog) -> Result<String, AllocError>
-    ensures { IfOk result (λ lines. string_bytes lines ≡ log_lines name.now log.now) }
+    ensures { IfOk result (λ lines. string_bytes lines ≡ gaps_log_lines name.now log.now) }
 {
     let mut lines = String::new(alloc);
     add_refused(&mut lines, name, log.refused.as_slice())?;

@@ -4,7 +4,7 @@ ghost use Rattle.hall_outside.specs.Files.{Files};
 ghost use Rattle.auditorium_core.specs.declared.status.Status.{Status};
 ghost use Rattle.auditorium_core.specs.Lines.{Answer};
 ghost use Rattle.auditorium_core.specs.Words.{run, IsAny, IsStill, Means};
-ghost use Rattle.auditorium_core.specs.Answer.{Answers, HasItsWords};
+ghost use Rattle.auditorium_core.specs.Answer.{AnswersWords, HasItsWords};
 ghost use Rattle.auditorium_core.specs.Outcome.{Outside, HasDone};
 ghost use Rattle.auditorium_core.specs.Complete.{IsComplete};
 
@@ -22,7 +22,7 @@ use polling_world::{scripts_are_played_in_one_way, what_is_left_is_told_in_one_w
 /// determined by a script, so `run` may have several. It does nothing.
 pub fn one_answer_is_right()
     ensures { (words : List (List ℕ)) (files : Files) (answer other : Answer) →
-        Answers IsStill words (Some files) answer → Answers IsStill words (Some files) other →
+        AnswersWords IsStill words (Some files) answer → AnswersWords IsStill words (Some files) other →
         answer ≡ other }
 {
     bytes_say_one_log();
@@ -42,18 +42,18 @@ pub fn one_answer_is_right()
 pub fn only_runs_need_threads()
     ensures any { (words : List (List ℕ)) (told : Option Files) (answer : Answer) →
         ((script prefix : List ℕ) → ¬ Means words (run script prefix)) →
-        Answers IsStill words told answer → Answers IsAny words told answer }
+        AnswersWords IsStill words told answer → AnswersWords IsAny words told answer }
     ensures still { (words : List (List ℕ)) (told : Option Files) (answer : Answer) →
         ((script prefix : List ℕ) → ¬ Means words (run script prefix)) →
-        Answers IsAny words told answer → Answers IsStill words told answer }
+        AnswersWords IsAny words told answer → AnswersWords IsStill words told answer }
 {}
 
 /// Over any files, the status of an answer says of which words it is the answer. It does nothing.
 pub fn statuses_have_their_words()
     ensures any { (words : List (List ℕ)) (told : Option Files) (answer : Answer) →
-        Answers IsAny words told answer → HasItsWords IsAny words answer }
+        AnswersWords IsAny words told answer → HasItsWords IsAny words answer }
     ensures still { (words : List (List ℕ)) (told : Option Files) (answer : Answer) →
-        Answers IsStill words told answer → HasItsWords IsStill words answer }
+        AnswersWords IsStill words told answer → HasItsWords IsStill words answer }
 {}
 
 /// What the program has done is complete, by whatever calls it was written: where no count of
@@ -61,9 +61,9 @@ pub fn statuses_have_their_words()
 /// It does nothing.
 pub fn answers_are_complete()
     ensures any { (words : List (List ℕ)) (old : Outside) (how : Status) (new : Outside) →
-        HasDone (Answers IsAny words) (λ _ _. ⊤) old how new → IsComplete IsAny words old how new }
+        HasDone (AnswersWords IsAny words) (λ _ _. ⊤) old how new → IsComplete IsAny words old how new }
     ensures still { (words : List (List ℕ)) (old : Outside) (how : Status) (new : Outside) →
-        HasDone (Answers IsStill words) (λ _ _. ⊤) old how new →
+        HasDone (AnswersWords IsStill words) (λ _ _. ⊤) old how new →
         IsComplete IsStill words old how new }
 {
     bytes_say_one_log();

@@ -9,7 +9,7 @@ ghost use Rattle.auditorium_core.specs.inside.Promise.{IsAnswered};
 ghost use Rattle.auditorium_core.specs.Play.{
   roster_file,
   log_file,
-  machine_line,
+  played_line,
   machine_lines,
   undone_line,
   SayUndone,
@@ -54,7 +54,7 @@ fn add_logs(
 /// Adds the line of a machine.
 fn add_machine(lines: &mut String, machine: &Machine) -> Result<(), AllocError>
     ensures { OnOk result
-        (string_bytes lines.new ≡ string_bytes lines.old ++ machine_line machine.now) }
+        (string_bytes lines.new ≡ string_bytes lines.old ++ played_line machine.now) }
 {
     let name = machine.name();
     let sent = machine.sent_count();

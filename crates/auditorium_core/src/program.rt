@@ -1,6 +1,6 @@
 // From the words of the command line to the bytes that go out.
 ghost use Rattle.std.specs.Prelude.{◌≡◌, map, string_bytes};
-ghost use Rattle.auditorium_core.specs.Answer.{Answers};
+ghost use Rattle.auditorium_core.specs.Answer.{AnswersWords};
 ghost use Rattle.evidence.specs.Reading.{store_seen};
 ghost use Rattle.auditorium_core.specs.Outcome.{outside, IsWrittenBy, HasDone};
 ghost use Rattle.auditorium_core.specs.Words.{IsAny, IsStill};
@@ -33,7 +33,7 @@ pub fn auditorium<R: Threads + Wait + Sync, S: Store, K: Sink, G: Gate + Sync>(
     out: &mut K,
     gate: &G,
 ) -> Status
-    ensures { HasDone (Answers IsAny (map string_bytes words.now))
+    ensures { HasDone (AnswersWords IsAny (map string_bytes words.now))
         (λ answer ok. (read : S) × (S.files read ≡ S.files store.old)
         × IsWrittenBy S.creates S.appends K.writes answer read out.old ok store.new out.new)
         (outside (store_seen (S.files store.old) (S.answered store.old) (S.read_faults store.old)
@@ -58,7 +58,7 @@ pub fn auditorium_still<S: Store, K: Sink>(
     store: &mut S,
     out: &mut K,
 ) -> Status
-    ensures { HasDone (Answers IsStill (map string_bytes words.now))
+    ensures { HasDone (AnswersWords IsStill (map string_bytes words.now))
         (λ answer ok. (read : S) × (S.files read ≡ S.files store.old)
         × IsWrittenBy S.creates S.appends K.writes answer read out.old ok store.new out.new)
         (outside (store_seen (S.files store.old) (S.answered store.old) (S.read_faults store.old)
@@ -73,7 +73,7 @@ pub fn auditorium_still<S: Store, K: Sink>(
 
 /// The answer to the words. Nothing is written.
 fn answer_of<S: Store>(alloc: Global, words: &[String], store: &mut S) -> Result<Answer, Fault>
-    ensures { IsAnswered (Answers IsStill (map string_bytes words.now))
+    ensures { IsAnswered (AnswersWords IsStill (map string_bytes words.now))
         (store_seen (S.files store.old) (S.answered store.old) (S.read_faults store.old)
         (S.write_faults store.old))
         result

@@ -13,7 +13,7 @@ ghost use Rattle.std.specs.Prelude.{
   All,
 };
 ghost use Rattle.std.specs.Fmt.{decimal};
-ghost use Rattle.auditorium_core.specs.Words.{IsWord, AreOrdered, AreLogs, AreSessions};
+ghost use Rattle.auditorium_core.specs.Words.{IsCommandWord, AreOrderWords, AreLogs, AreSessions};
 ghost use Rattle.auditorium_core.specs.Words.{Means, gaps, play, order, audit, generate, run};
 ghost use Rattle.auditorium_core.specs.inside.Meaning.{Asks};
 
@@ -59,7 +59,7 @@ pub(crate) fn request_of(words: &[String]) -> Request<'_>
 
 /// What the words ask for, which have the form of words and are of no other command.
 fn order_of(words: &[String]) -> Request<'_>
-    requires form { All IsWord (map string_bytes words.now) }
+    requires form { All IsCommandWord (map string_bytes words.now) }
     requires others { (log : List ℕ) → ¬ Means (map string_bytes words.now) (gaps log) }
     requires no_play { (script prefix : List ℕ) →
         ¬ Means (map string_bytes words.now) (play script prefix) }
@@ -76,7 +76,7 @@ fn order_of(words: &[String]) -> Request<'_>
 
 /// What the words ask for, likewise.
 fn audit_of(words: &[String]) -> Request<'_>
-    requires form { All IsWord (map string_bytes words.now) }
+    requires form { All IsCommandWord (map string_bytes words.now) }
     requires others { (log : List ℕ) → ¬ Means (map string_bytes words.now) (gaps log) }
     requires no_play { (script prefix : List ℕ) →
         ¬ Means (map string_bytes words.now) (play script prefix) }
@@ -94,7 +94,7 @@ fn audit_of(words: &[String]) -> Request<'_>
 
 /// What the words ask for, likewise.
 fn make_of(words: &[String]) -> Request<'_>
-    requires form { All IsWord (map string_bytes words.now) }
+    requires form { All IsCommandWord (map string_bytes words.now) }
     requires others { (log : List ℕ) → ¬ Means (map string_bytes words.now) (gaps log) }
     requires no_play { (script prefix : List ℕ) →
         ¬ Means (map string_bytes words.now) (play script prefix) }
@@ -115,7 +115,7 @@ fn make_of(words: &[String]) -> Request<'_>
 
 /// What the words ask for, likewise.
 fn demonstration_of(words: &[String]) -> Request<'_>
-    requires form { All IsWord (map string_bytes words.now) }
+    requires form { All IsCommandWord (map string_bytes words.now) }
     requires others { (log : List ℕ) → ¬ Means (map string_bytes words.now) (gaps log) }
     requires no_play { (script prefix : List ℕ) →
         ¬ Means (map string_bytes words.now) (play script prefix) }
@@ -170,14 +170,14 @@ fn are_logs(logs: &[String]) -> bool
 
 /// Whether these are words for entries, and there are 1 to 16 logs.
 fn are_ordered(x: &str, y: &str, logs: &[String]) -> bool
-    ensures { IsTrue result ↔ AreOrdered x.now y.now (map string_bytes logs.now) }
+    ensures { IsTrue result ↔ AreOrderWords x.now y.now (map string_bytes logs.now) }
 {
     is_entry_word(x) && is_entry_word(y) && !logs.is_empty() && logs.len() <= 16
 }
 
 /// Whether each of the words has the form of a word.
 fn have_form(words: &[String]) -> bool
-    ensures { IsTrue result ↔ All IsWord (map string_bytes words.now) }
+    ensures { IsTrue result ↔ All IsCommandWord (map string_bytes words.now) }
 {
     for word in words {
         if !is_word(word.as_str()) {
@@ -189,7 +189,7 @@ fn have_form(words: &[String]) -> bool
 
 /// Whether the word has the form of a word: there are no options, so none begins with `-`.
 fn is_word(word: &str) -> bool
-    ensures { IsTrue result ↔ IsWord word.now }
+    ensures { IsTrue result ↔ IsCommandWord word.now }
 {
     let bytes = word.as_bytes();
     !bytes.is_empty()

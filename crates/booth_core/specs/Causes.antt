@@ -4,23 +4,23 @@ use Rattle.entry_format.specs.declared.deed.Deed.TheVariants.{Authorise, Overrid
 use Rattle.entry_format.specs.declared.deed.How.{How}
 use Rattle.entry_format.specs.declared.entry.Entry.{Entry}
 use Rattle.deed_history.specs.Deeds.{Overrides, Commits, Ends}
-use Rattle.deed_history.specs.Held.{Holds, HoldsOwn}
+use Rattle.deed_history.specs.Held.{HoldsSome, HoldsOwn}
 
 -- an Authorise of the session that names this booth is held
 abbrev pub IsAuthorised : ℕ → List Entry → ℕ → Type 0
-IsAuthorised owner entries session = Holds entries (λ deed. deed ≡ Authorise owner session)
+IsAuthorised owner entries session = HoldsSome entries (λ deed. deed ≡ Authorise owner session)
 
 -- an Override of the session is held, whichever word it says
 abbrev pub IsOverridden : List Entry → ℕ → Type 0
-IsOverridden entries session = Holds entries (Overrides session)
+IsOverridden entries session = HoldsSome entries (Overrides session)
 
 -- an Override of the session that says the word is held
 abbrev pub IsOverriddenTo : How → List Entry → ℕ → Type 0
-IsOverriddenTo how entries session = Holds entries (λ deed. deed ≡ Override session how)
+IsOverriddenTo how entries session = HoldsSome entries (λ deed. deed ≡ Override session how)
 
 -- a Closed is held
 abbrev pub IsClosed : List Entry → Type 0
-IsClosed entries = Holds entries (λ deed. deed ≡ Closed)
+IsClosed entries = HoldsSome entries (λ deed. deed ≡ Closed)
 
 -- an own Activate of the session is held
 abbrev pub HasActivated : ℕ → List Entry → ℕ → Type 0

@@ -14,7 +14,7 @@ use Rattle.entry_format.specs.declared.deed.How.{How}
 use Rattle.entry_format.specs.declared.deed.How.TheVariants as word
 use Rattle.entry_format.specs.declared.entry.Entry.{Entry}
 use Rattle.deed_history.specs.Deeds.{Authorises, Overrides, Commits, Ends}
-use Rattle.deed_history.specs.Held.{Holds, HoldsOwn, HasEnded}
+use Rattle.deed_history.specs.Held.{HoldsSome, HoldsOwn, HasEnded}
 use Rattle.first_cause.specs.Causes.{IsFirstOf, tests_of}
 
 -- where a test decides a sentence of each member, one decides whether it holds of any
@@ -29,7 +29,7 @@ any_decides p P each xs = (
 
 -- an entry with such a deed is held
 pub holds_decides : (p : Deed → Bool) (P : Deed → Type 0) → ((deed : Deed) → Decides (p deed) (P deed))
-    → (entries : List Entry) → Decides (list_any (λ entry. p entry.deed) entries) (Holds entries P)
+    → (entries : List Entry) → Decides (list_any (λ entry. p entry.deed) entries) (HoldsSome entries P)
 holds_decides p P each entries =
     any_decides (λ (entry : Entry). p entry.deed) (λ (entry : Entry). P entry.deed) (λ entry. each entry.deed) entries
 

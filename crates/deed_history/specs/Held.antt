@@ -5,8 +5,8 @@ use Rattle.entry_format.specs.declared.entry.Entry.{Entry}
 use Rattle.deed_history.specs.Deeds.{Ends}
 
 -- an entry with such a deed is held
-abbrev pub Holds : List Entry → (Deed → Type 0) → Type 0
-Holds entries IsSuch = Any (λ entry. IsSuch entry.deed) entries
+abbrev pub HoldsSome : List Entry → (Deed → Type 0) → Type 0
+HoldsSome entries IsSuch = Any (λ entry. IsSuch entry.deed) entries
 
 -- an own one is held: its maker is the owner of the history
 abbrev pub HoldsOwn : ℕ → List Entry → (Deed → Type 0) → Type 0
@@ -14,4 +14,4 @@ HoldsOwn owner entries IsSuch = Any (λ entry. (entry.maker ≡ owner) × IsSuch
 
 -- a session has ended where a Cast, a Cancel or a Challenge of it is held
 abbrev pub HasEnded : List Entry → ℕ → Type 0
-HasEnded entries session = Holds entries (Ends session)
+HasEnded entries session = HoldsSome entries (Ends session)

@@ -6,7 +6,7 @@ use Rattle.std.proofs.lemmas.Bool.{ne_eqb, cases_eq}
 use Rattle.std.proofs.lemmas.Bool.Decides.{nat_tests}
 use Rattle.std.proofs.lemmas.List.{length-append, get_or-set_same, get_or-set_other}
 use Rattle.entry_format.specs.declared.deed.Deed.{Deed}
-use Rattle.election_script.specs.Generated.{booth_of, deeds_of, actions_of, first_of}
+use Rattle.election_script.specs.Generated.{session_booth, deeds_of, actions_of, first_number}
 use Rattle.election_script.proofs.DaySessions.{actions_own, actions_other}
 
 -- two lists of at most three
@@ -22,10 +22,10 @@ deeds_few i = either_few (i % 10 == 0) _ _ (omega arith) (omega arith)
 -- a booth's deeds with one session more
 pub count_more : (booth i : ℕ) → 1 ≤ i
     → length (actions_of booth (i + 1 - 1))
-    ≡ length (actions_of booth (i - 1)) + cond (booth_of i == booth) (length (deeds_of i)) 0
-count_more booth i h = go (booth_of i == booth) refl
+    ≡ length (actions_of booth (i - 1)) + cond (session_booth i == booth) (length (deeds_of i)) 0
+count_more booth i h = go (session_booth i == booth) refl
   where
-    go : (b : Bool) → (booth_of i == booth) ≡ b
+    go : (b : Bool) → (session_booth i == booth) ≡ b
         → length (actions_of booth (i + 1 - 1)) ≡ length (actions_of booth (i - 1)) + cond b (length (deeds_of i)) 0
     go true e = ap length (actions_own booth i h e) ∙ length-append (actions_of booth (i - 1)) (deeds_of i)
     go false e = ap length (actions_other booth i h e) ∙ sym (add-zero (length (actions_of booth (i - 1))))
@@ -59,7 +59,7 @@ share_few (suc (suc zero)) a b c most h few f e g k = omega (arith, k)
 share_few (suc (suc (suc r))) a b c most h few f e g k = absurd (omega arith)
 
 -- a booth's next entry has a small number
-pub first_few : (i : ℕ) → 1 ≤ i → first_of i ≤ 3 * (i - 1)
+pub first_few : (i : ℕ) → 1 ≤ i → first_number i ≤ 3 * (i - 1)
 first_few i h =
     share_few ((i - 1) % 3) _ _ _ (3 * (i - 1)) (omega arith) (booths_few (i - 1))
     (λ booth. length (actions_of booth (i - 1))) refl refl refl
@@ -67,17 +67,17 @@ first_few i h =
 -- how many entries each booth has made, with one session more
 pub made_more : (made : List ℕ) (i end : ℕ) → 1 ≤ i → length made ≡ 3
     → ((k : ℕ) → k < 3 → get_or made k 0 ≡ length (actions_of (1 + k) (i - 1)))
-    → end ≡ first_of i + length (deeds_of i)
+    → end ≡ first_number i + length (deeds_of i)
     → (k : ℕ) → k < 3 → get_or (set made ((i - 1) % 3) end) k 0 ≡ length (actions_of (1 + k) (i + 1 - 1))
 made_more made i end h long before is k less = elim (cases_eq k ((i - 1) % 3)) [
   | inl e ↦
       ap (λ p. get_or (set made p end) k 0) (sym e) ∙ get_or-set_same made k end 0 (omega arith) ∙ is
       ∙ ap (λ p. length (actions_of (1 + p) (i - 1)) + length (deeds_of i)) (sym e)
-      ∙ sym (ap length (actions_own (1 + k) i h (eq-eqb (booth_of i) (1 + k) (ap (λ p. 1 + p) (sym e))))
+      ∙ sym (ap length (actions_own (1 + k) i h (eq-eqb (session_booth i) (1 + k) (ap (λ p. 1 + p) (sym e))))
       ∙ length-append (actions_of (1 + k) (i - 1)) (deeds_of i))
   | inr other ↦
       get_or-set_other made ((i - 1) % 3) k end 0 other ∙ before k less
-      ∙ sym (ap length (actions_other (1 + k) i h (ne_eqb (booth_of i) (1 + k) (λ e. other (omega arith)))))
+      ∙ sym (ap length (actions_other (1 + k) i h (ne_eqb (session_booth i) (1 + k) (λ e. other (omega arith)))))
 ]
 
 -- nothing is made before the first session

@@ -22,7 +22,7 @@ use Rattle.roster.specs.declared.post.Role.TheVariants.{Supervisor, Booth}
 use Rattle.roster.specs.Machines.{IsName, IsNameByte}
 use Rattle.election_script.specs.declared.script.Cast0.{Cast0}
 use Rattle.election_script.specs.Lawful.{AreCast, IsCast, IsBoothAt, IsDeedAmong, IsSession}
-use Rattle.election_script.specs.Generated.{sessions, booth_of, ballot_of, deeds_of, authorise_of}
+use Rattle.election_script.specs.Generated.{sessions, session_booth, session_ballot, deeds_of, authorise_of}
 use Rattle.election_script.specs.Generated.{supervisor_actions, actions_of}
 use Rattle.election_script.specs.Generated.{machines_of, count_actions}
 use Rattle.election_script.proofs.DayCounts.{booths_few}
@@ -93,12 +93,12 @@ copies_octets (suc n) text h =
     All-append (λ byte. byte < 256) text (concat (replicate n text)) h (copies_octets n text h)
 
 -- a ballot is a digest
-ballot_digest : (i : ℕ) → IsDigest (ballot_of i)
+ballot_digest : (i : ℕ) → IsDigest (session_ballot i)
 unfolding u32str
 ballot_digest i = refl
 
-ballot_bytes : (i : ℕ) → IsBytes (ballot_of i)
-ballot_bytes i = bytes_from_all (ballot_of i) (copies_octets 8 (u32str i) (octets_of i))
+ballot_bytes : (i : ℕ) → IsBytes (session_ballot i)
+ballot_bytes i = bytes_from_all (session_ballot i) (copies_octets 8 (u32str i) (octets_of i))
 
 -- what a lawful machine of the role does
 abbrev IsAction : List Cast0 → Role → Deed → Type 0
@@ -114,24 +114,25 @@ deeds_lawful : (machines : List Cast0) (i : ℕ) → IsSession i → All (IsActi
 unfolding deeds_of
 deeds_lawful machines i h =
     let P : Deed → Type 0 = IsAction machines Booth in
-    let ballot : IsSession i × IsDigest (ballot_of i) × IsBytes (ballot_of i) = (h, ballot_digest i, ballot_bytes i) in
-    let commit : P (Commit i (ballot_of i)) = (tt, tt, ballot) in
-    let cast : P (Cast i (ballot_of i)) = (tt, tt, ballot) in
+    let ballot : IsSession i × IsDigest (session_ballot i) × IsBytes (session_ballot i) =
+    (h, ballot_digest i, ballot_bytes i) in
+    let commit : P (Commit i (session_ballot i)) = (tt, tt, ballot) in
+    let cast : P (Cast i (session_ballot i)) = (tt, tt, ballot) in
     let activate : P (Activate i) = (tt, tt, h) in
     let cancel : P (Cancel i) = (tt, tt, h) in
     all_either P (i % 10 == 0) (Activate i ∷ Cancel i ∷ [])
-    (Activate i ∷ Commit i (ballot_of i) ∷ Cast i (ballot_of i) ∷ [])
+    (Activate i ∷ Commit i (session_ballot i) ∷ Cast i (session_ballot i) ∷ [])
     (All-cons P (Activate i) (Cancel i ∷ []) activate (All-cons P (Cancel i) [] cancel (All-nil P)))
-    (All-cons P (Activate i) (Commit i (ballot_of i) ∷ Cast i (ballot_of i) ∷ []) activate
-    (All-cons P (Commit i (ballot_of i)) (Cast i (ballot_of i) ∷ []) commit
-    (All-cons P (Cast i (ballot_of i)) [] cast (All-nil P))))
+    (All-cons P (Activate i) (Commit i (session_ballot i) ∷ Cast i (session_ballot i) ∷ []) activate
+    (All-cons P (Commit i (session_ballot i)) (Cast i (session_ballot i) ∷ []) commit
+    (All-cons P (Cast i (session_ballot i)) [] cast (All-nil P))))
 
 -- a booth's deeds are a booth's
 actions_lawful : (machines : List Cast0) (booth n : ℕ) → n ≤ 800 → All (IsAction machines Booth) (actions_of booth n)
 unfolding actions_of
 actions_lawful machines booth n h =
     let P : Deed → Type 0 = IsAction machines Booth in
-    all_pieces P deeds_of _ (All-filter (λ i. booth_of i == booth) (λ i. All P (deeds_of i)) (sessions n)
+    all_pieces P deeds_of _ (All-filter (λ i. session_booth i == booth) (λ i. All P (deeds_of i)) (sessions n)
     (all_sessions (λ i. All P (deeds_of i)) n (λ i g k. deeds_lawful machines i (g, omega arith))))
 
 -- the place of a session's booth is a booth's

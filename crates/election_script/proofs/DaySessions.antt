@@ -10,7 +10,7 @@ use Rattle.std.proofs.lemmas.List.Elements.{filter-append}
 use Rattle.std.specs.List.{flat_map, concat, range_with_len}
 use Rattle.entry_format.specs.declared.deed.Deed.{Deed}
 use Rattle.lms_ots.proofs.Pieces.{range_with_len_next}
-use Rattle.election_script.specs.Generated.{supervisor, booth_of, deeds_of, actions_of, first_of}
+use Rattle.election_script.specs.Generated.{supervisor, session_booth, deeds_of, actions_of, first_number}
 use Rattle.election_script.specs.Generated.{count_actions, hears, supervisor_steps, others, session_steps}
 use Rattle.entry_order.specs.declared.step.Step.{Step}
 use Rattle.entry_order.specs.declared.step.Step.TheVariants.{Act}
@@ -109,16 +109,16 @@ kept_none {A = A} f p a i h e =
     kept_more f p a i h ∙ ap (λ b. front ++ flat_map f (cond b (i ∷ []) [])) e ∙ append-nil front
 
 -- a session of the booth
-pub actions_own : (booth i : ℕ) → 1 ≤ i → (booth_of i == booth) ≡ true
+pub actions_own : (booth i : ℕ) → 1 ≤ i → (session_booth i == booth) ≡ true
     → actions_of booth (i + 1 - 1) ≡ actions_of booth (i - 1) ++ deeds_of i
 unfolding actions_of
-actions_own booth i h own = kept_one deeds_of (λ i. booth_of i == booth) 1 i h own
+actions_own booth i h own = kept_one deeds_of (λ i. session_booth i == booth) 1 i h own
 
 -- a session of another booth
-pub actions_other : (booth i : ℕ) → 1 ≤ i → (booth_of i == booth) ≡ false
+pub actions_other : (booth i : ℕ) → 1 ≤ i → (session_booth i == booth) ≡ false
     → actions_of booth (i + 1 - 1) ≡ actions_of booth (i - 1)
 unfolding actions_of
-actions_other booth i h other = kept_none deeds_of (λ i. booth_of i == booth) 1 i h other
+actions_other booth i h other = kept_none deeds_of (λ i. session_booth i == booth) 1 i h other
 
 -- four pieces behind a start
 four_joined : {A : Type 0} (start a b c d w x y z : List A) → a ≡ start ++ w → b ≡ a ++ x → c ≡ b ++ y → d ≡ c ++ z
@@ -129,7 +129,8 @@ four_joined start a b c d w x y z e f g h =
     joined_more start c d (w ++ x ++ y) z (w ++ x ++ y ++ z) three h refl
 
 -- the steps of a session, part by part
-pub session_joined : (i booth first count : ℕ) (start a b c d : List Step) → booth ≡ booth_of i → first ≡ first_of i
+pub session_joined : (i booth first count : ℕ) (start a b c d : List Step) →
+    booth ≡ session_booth i → first ≡ first_number i
     → count ≡ length (deeds_of i) → a ≡ start ++ supervisor_steps i → b ≡ a ++ replicate count (Act booth)
     → c ≡ b ++ hears supervisor booth (reverse (range_with_len first (first + count - first)))
     → d ≡ c ++ flat_map (λ other. hears other booth (range_with_len first (first + count - first))) (others booth)
@@ -144,4 +145,4 @@ session_joined i booth first count start a b c d is_booth is_first is_count e f 
     let numbers : first + count - first ≡ all = omega arith in
     four_joined start a b c d _ _ _ _ e f g h
     ∙ ap (λ n. start ++ steps booth first count n) numbers ∙ ap (λ n. start ++ steps booth first n all) is_count
-    ∙ ap (λ n. start ++ steps booth n all all) is_first ∙ ap (λ n. start ++ steps n (first_of i) all all) is_booth
+    ∙ ap (λ n. start ++ steps booth n all all) is_first ∙ ap (λ n. start ++ steps n (first_number i) all all) is_booth

@@ -9,7 +9,8 @@ use Rattle.std.specs.List.{flat_map}
 use Rattle.entry_order.specs.declared.step.Step.{Step}
 use Rattle.entry_order.specs.declared.step.Step.TheVariants.{Act, Hear}
 use Rattle.election_script.specs.Lawful.{IsStep}
-use Rattle.election_script.specs.Generated.{sessions, supervisor, booths, booth_of, deeds_of, first_of, numbers_of}
+use Rattle.election_script.specs.Generated.{sessions, supervisor, booths, session_booth, deeds_of, first_number}
+use Rattle.election_script.specs.Generated.{numbers_of}
 use Rattle.election_script.specs.Generated.{hears}
 use Rattle.election_script.specs.Generated.{supervisor_steps, others, session_steps, day_steps, machines_of}
 use Rattle.election_script.proofs.DayCounts.{deeds_few, first_few}
@@ -39,7 +40,7 @@ supervisor_steps_lawful n number h =
 -- the numbers of a session are small
 numbers_small : (i : ℕ) → 1 ≤ i → i ≤ 800 → All (λ number. number ≤ 4095) (numbers_of i)
 numbers_small i h g =
-    all_range (λ number. number ≤ 4095) (first_of i) (length (deeds_of i))
+    all_range (λ number. number ≤ 4095) (first_number i) (length (deeds_of i))
     (λ number from up. omega (arith, up, first_few i h, deeds_few i))
 
 -- a session's steps
@@ -47,24 +48,24 @@ session_lawful : (n i : ℕ) → 1 ≤ i → i ≤ 800 → All (IsStep (machines
 unfolding session_steps
 session_lawful n i h g =
     let P : Step → Type 0 = IsStep (machines_of n) in
-    let heard : ℕ → List Step = λ other. hears other (booth_of i) (numbers_of i) in
+    let heard : ℕ → List Step = λ other. hears other (session_booth i) (numbers_of i) in
     let w : List Step = supervisor_steps i in
-    let x : List Step = replicate (length (deeds_of i)) (Act (booth_of i)) in
-    let y : List Step = hears supervisor (booth_of i) (reverse (numbers_of i)) in
-    let z : List Step = flat_map heard (others (booth_of i)) in
-    let less : booth_of i < 4 = omega arith in
+    let x : List Step = replicate (length (deeds_of i)) (Act (session_booth i)) in
+    let y : List Step = hears supervisor (session_booth i) (reverse (numbers_of i)) in
+    let z : List Step = flat_map heard (others (session_booth i)) in
+    let less : session_booth i < 4 = omega arith in
     let none : supervisor < 4 = omega arith in
     let small : All (λ number. number ≤ 4095) (numbers_of i) = numbers_small i h g in
     let w_lawful : All P w = supervisor_steps_lawful n i (omega arith) in
-    let x_lawful : All P x = All-replicate P (length (deeds_of i)) (Act (booth_of i)) less in
+    let x_lawful : All P x = All-replicate P (length (deeds_of i)) (Act (session_booth i)) less in
     let y_lawful : All P y =
-    hears_lawful n supervisor (booth_of i) (reverse (numbers_of i)) none less
+    hears_lawful n supervisor (session_booth i) (reverse (numbers_of i)) none less
     (all_back (λ number. number ≤ 4095) (numbers_of i) small) in
     let z_lawful : All P z =
-    all_pieces P heard (others (booth_of i))
-    (All-filter (λ other. not (other == booth_of i)) (λ other. All P (heard other)) booths
+    all_pieces P heard (others (session_booth i))
+    (All-filter (λ other. not (other == session_booth i)) (λ other. All P (heard other)) booths
     (booths_hear (λ other. All P (heard other))
-    (λ other k. hears_lawful n other (booth_of i) (numbers_of i) k less small))) in
+    (λ other k. hears_lawful n other (session_booth i) (numbers_of i) k less small))) in
     All-append P (w ++ x ++ y) z (All-append P (w ++ x) y (All-append P w x w_lawful x_lawful) y_lawful) z_lawful
 
 -- a day's steps
@@ -93,23 +94,23 @@ session_few : (i : ℕ) → length (session_steps i) ≤ 19
 unfolding session_steps
 session_few i =
     let w : List Step = supervisor_steps i in
-    let x : List Step = replicate (length (deeds_of i)) (Act (booth_of i)) in
-    let y : List Step = hears supervisor (booth_of i) (reverse (numbers_of i)) in
-    let z : List Step = flat_map (λ other. hears other (booth_of i) (numbers_of i)) (others (booth_of i)) in
+    let x : List Step = replicate (length (deeds_of i)) (Act (session_booth i)) in
+    let y : List Step = hears supervisor (session_booth i) (reverse (numbers_of i)) in
+    let z : List Step = flat_map (λ other. hears other (session_booth i) (numbers_of i)) (others (session_booth i)) in
     let long : length (w ++ x ++ y ++ z) ≡ length w + length x + length y + length z =
     length-append (w ++ x ++ y) z
     ∙ ap (λ k. k + length z) (length-append (w ++ x) y ∙ ap (λ k. k + length y) (length-append w x)) in
-    let count : length (numbers_of i) ≡ length (deeds_of i) = length-range_with_len (first_of i)
+    let count : length (numbers_of i) ≡ length (deeds_of i) = length-range_with_len (first_number i)
     (length (deeds_of i)) in
-    let x_long : length x ≡ length (deeds_of i) = length-replicate (length (deeds_of i)) (Act (booth_of i)) in
+    let x_long : length x ≡ length (deeds_of i) = length-replicate (length (deeds_of i)) (Act (session_booth i)) in
     let y_long : length y ≡ length (deeds_of i) =
-    length-map (reverse (numbers_of i)) (λ number. Hear supervisor (booth_of i) number)
+    length-map (reverse (numbers_of i)) (λ number. Hear supervisor (session_booth i) number)
     ∙ length-reverse (numbers_of i) ∙ count in
-    let one : (other : ℕ) → length (hears other (booth_of i) (numbers_of i)) ≤ 3 = λ (other : ℕ).
-    omega (arith, length-map (numbers_of i) (λ number. Hear other (booth_of i) number), count, deeds_few i) in
-    let z_few : length z ≤ 3 * length (others (booth_of i)) =
-    pieces_few (λ other. hears other (booth_of i) (numbers_of i)) 3 (others (booth_of i)) (λ k d h. one _) in
-    let three : length (others (booth_of i)) ≤ 3 = filter_few (λ other. not (other == booth_of i)) booths in
+    let one : (other : ℕ) → length (hears other (session_booth i) (numbers_of i)) ≤ 3 = λ (other : ℕ).
+    omega (arith, length-map (numbers_of i) (λ number. Hear other (session_booth i) number), count, deeds_few i) in
+    let z_few : length z ≤ 3 * length (others (session_booth i)) =
+    pieces_few (λ other. hears other (session_booth i) (numbers_of i)) 3 (others (session_booth i)) (λ k d h. one _) in
+    let three : length (others (session_booth i)) ≤ 3 = filter_few (λ other. not (other == session_booth i)) booths in
     omega (arith, long, x_long, y_long, z_few, three, deeds_few i)
 
 -- a day has few steps

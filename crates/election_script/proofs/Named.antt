@@ -8,7 +8,7 @@ use Rattle.entry_format.specs.declared.deed.How.{How}
 use Rattle.entry_format.specs.declared.deed.How.TheVariants as how
 use Rattle.lms_ots.specs.declared.kind.OtsKind.{OtsKind}
 use Rattle.lms_ots.specs.declared.kind.OtsKind.TheVariants.{W1, W2, W4, W8}
-use Rattle.lms_ots.specs.Words.{kind_word}
+use Rattle.lms_ots.specs.Words.{ots_word}
 use Rattle.lms_sign.specs.Height.{IsHeight, height_word}
 use Rattle.roster.specs.declared.post.Role.{Role}
 use Rattle.roster.specs.declared.post.Role.TheVariants.{Supervisor, Booth}
@@ -55,14 +55,14 @@ pub no_how : (word : List ℕ) → ((how : How) → word ≢ how_word how) → n
 no_how word none = no_word how_word word none (how.Cancel ∷ how.Cast ∷ [])
 
 -- with that of a kind of key
-pub some_kind : (kind : OtsKind) → named key_kinds (kind_word kind) ≡ Some kind
+pub some_kind : (kind : OtsKind) → named key_kinds (ots_word kind) ≡ Some kind
 some_kind W1 = refl
 some_kind W2 = refl
 some_kind W4 = refl
 some_kind W8 = refl
 
-pub no_kind : (word : List ℕ) → ((kind : OtsKind) → word ≢ kind_word kind) → named key_kinds word ≡ None
-no_kind word none = no_word kind_word word none (W1 ∷ W2 ∷ W4 ∷ W8 ∷ [])
+pub no_kind : (word : List ℕ) → ((kind : OtsKind) → word ≢ ots_word kind) → named key_kinds word ≡ None
+no_kind word none = no_word ots_word word none (W1 ∷ W2 ∷ W4 ∷ W8 ∷ [])
 
 -- and with that of a height
 pub some_height : (height : ℕ) → IsHeight height → named key_heights (height_word height) ≡ Some height

@@ -24,21 +24,21 @@ abbrev pub booths : List ℕ
 booths = 1 ∷ 2 ∷ 3 ∷ []
 
 -- the booth of a session: the booths take turns
-abbrev pub booth_of : ℕ → ℕ
-booth_of i = 1 + (i - 1) % 3
+abbrev pub session_booth : ℕ → ℕ
+session_booth i = 1 + (i - 1) % 3
 
 -- the ballot of a session: its number in four octets, eight times
-abbrev pub ballot_of : ℕ → List ℕ
-ballot_of i = concat (replicate 8 (u32str i))
+abbrev pub session_ballot : ℕ → List ℕ
+session_ballot i = concat (replicate 8 (u32str i))
 
 -- what its booth does in a session: each tenth is cancelled, and in the others a ballot is cast
 unfoldable pub deeds_of : ℕ → List Deed
 deeds_of i = if i % 10 == 0
     then Activate i ∷ Cancel i ∷ []
-    else Activate i ∷ Commit i (ballot_of i) ∷ Cast i (ballot_of i) ∷ []
+    else Activate i ∷ Commit i (session_ballot i) ∷ Cast i (session_ballot i) ∷ []
 
 abbrev pub authorise_of : ℕ → Deed
-authorise_of i = Authorise (booth_of i) i
+authorise_of i = Authorise (session_booth i) i
 
 -- what the supervisor does on a day of n sessions
 abbrev pub supervisor_actions : ℕ → List Deed
@@ -46,15 +46,15 @@ supervisor_actions n = Opened ∷ map authorise_of (sessions n) ++ Closed ∷ []
 
 -- what a booth does on a day of n sessions: the deeds of its own, session by session
 unfoldable pub actions_of : ℕ → ℕ → List Deed
-actions_of booth n = flat_map deeds_of (filter (λ i. booth_of i == booth) (sessions n))
+actions_of booth n = flat_map deeds_of (filter (λ i. session_booth i == booth) (sessions n))
 
 -- how many entries the booth of a session has made in the sessions before, so its next entry's number
-abbrev pub first_of : ℕ → ℕ
-first_of i = length (actions_of (booth_of i) (i - 1))
+abbrev pub first_number : ℕ → ℕ
+first_number i = length (actions_of (session_booth i) (i - 1))
 
 -- the numbers of the entries that its booth makes in a session
 abbrev pub numbers_of : ℕ → List ℕ
-numbers_of i = range_with_len (first_of i) (length (deeds_of i))
+numbers_of i = range_with_len (first_number i) (length (deeds_of i))
 
 -- the machine at a place hears a machine's entries of these numbers, in their order
 abbrev pub hears : ℕ → ℕ → List ℕ → List Step
@@ -73,9 +73,9 @@ others booth = filter (λ other. not (other == booth)) booths
 unfoldable pub session_steps : ℕ → List Step
 session_steps i =
     supervisor_steps i
-    ++ replicate (length (deeds_of i)) (Act (booth_of i))
-    ++ hears supervisor (booth_of i) (reverse (numbers_of i))
-    ++ flat_map (λ other. hears other (booth_of i) (numbers_of i)) (others (booth_of i))
+    ++ replicate (length (deeds_of i)) (Act (session_booth i))
+    ++ hears supervisor (session_booth i) (reverse (numbers_of i))
+    ++ flat_map (λ other. hears other (session_booth i) (numbers_of i)) (others (session_booth i))
 
 -- the opening, the sessions and the closing
 abbrev pub day_steps : ℕ → List Step

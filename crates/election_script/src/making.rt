@@ -19,12 +19,12 @@ ghost use Rattle.election_script.specs.Lawful.{IsLawful};
 ghost use Rattle.roster.specs.declared.post.Role.TheVariants.{Booth};
 ghost use Rattle.election_script.specs.Generated.{
   supervisor,
-  booth_of,
-  ballot_of,
+  session_booth,
+  session_ballot,
   deeds_of,
   supervisor_actions,
   actions_of,
-  first_of,
+  first_number,
   hears,
   supervisor_steps,
 };
@@ -56,14 +56,14 @@ const BOOTHS: u32 = 3;
 /// The booth of a session.
 fn booth_of(session: u32) -> u32
     requires { 1 ≤ session }
-    ensures { result ≡ booth_of session }
+    ensures { result ≡ session_booth session }
 {
     1 + (session - 1) % BOOTHS
 }
 
 /// The ballot of a session.
 fn ballot_of(session: u32) -> [u8; 32]
-    ensures { result ≡ ballot_of session }
+    ensures { result ≡ session_ballot session }
 {
     let mut ballot = [0; 32];
     let octets = u32_bytes(session);
@@ -255,9 +255,9 @@ fn count_deeds(session: u32) -> u32
 /// how many it has made after it.
 fn push_session(steps: &mut Vec<Step>, session: u32, first: u32) -> Result<u32, Memory>
     requires session { (1 ≤ session) × (session ≤ 800) }
-    requires first { first ≡ first_of session }
+    requires first { first ≡ first_number session }
     ensures steps { OnOk result (steps.new.items ≡ steps.old.items ++ session_steps session) }
-    ensures end { IfOk result (λ end. end ≡ first_of session + length (deeds_of session)) }
+    ensures end { IfOk result (λ end. end ≡ first_number session + length (deeds_of session)) }
 {
     let booth = booth_of(session);
     let count = count_deeds(session);

@@ -9,6 +9,6 @@ pub record History (T : Type 0) : Type 0 where
   pub events : List (Event T)
 
 -- the log with one event more at its end
-abbrev pub with_event : {T : Type 0} → Event T → History T → History T
-with_event x log =
+abbrev pub log_with_event : {T : Type 0} → Event T → History T → History T
+log_with_event x log =
     record { owner = log.owner; capacity = log.capacity; events = log.events ++ x ∷ [] }

@@ -6,9 +6,9 @@ ghost use Rattle.entry_order.specs.declared.event.Event.TheVariants.{Sent};
 ghost use Rattle.entry_order.specs.History.{IsLegal, IsNext, MayFollow, greatest_stamp, held, sent};
 ghost use Rattle.entry_order.specs.Naming.{IsBorneIn, IsNew};
 ghost use Rattle.entangled_log.specs.declared.next.NextFault.{NextFault};
-ghost use Rattle.entangled_log.specs.Hearing.{IsAnswer, log_after};
-ghost use Rattle.entangled_log.specs.Logs.{with_event};
-ghost use Rattle.entangled_log.specs.Nexts.{HasGreatestStamp, IsNextOf};
+ghost use Rattle.entangled_log.specs.Hearing.{IsHearAnswer, log_after};
+ghost use Rattle.entangled_log.specs.Logs.{log_with_event};
+ghost use Rattle.entangled_log.specs.Nexts.{HasGreatestStamp, IsNextAfter};
 ghost use Rattle.entangled_log.specs.Whole.{NamesOnlyHeld};
 
 use crate::heard::Heard;
@@ -76,7 +76,7 @@ impl<T: Knot> Log<T> {
     /// What the owner puts into the entry that it sends next: how many it has sent, Lamport's
     /// logical clock (1978), and the frontier. Out of memory is reported last.
     pub fn next(&self, alloc: Global) -> Result<Next, NextFault>
-        ensures ok { IfOk result (λ next. IsNextOf T.node self.now.events next) }
+        ensures ok { IfOk result (λ next. IsNextAfter T.node self.now.events next) }
         ensures spent { (result ≡ Err NextFault.StampSpent)
             ↔ HasGreatestStamp T.node (held self.now.events) }
     {
@@ -112,7 +112,7 @@ impl<T: Knot> Log<T> {
         requires next { IsNext T.node self.old.owner self.old.events s }
         requires new { IsNew T.node (held self.old.events) s }
         requires room { length self.old.events < self.old.capacity }
-        ensures { self.new ≡ with_event (Sent s) self.old }
+        ensures { self.new ≡ log_with_event (Sent s) self.old }
     {
         self.append(Event::Sent(s));
     }
@@ -120,7 +120,7 @@ impl<T: Knot> Log<T> {
     /// Appends an entry of another machine, unless it can't be taken: then it comes back, and the
     /// log stays. It takes no memory.
     pub fn hear(&mut self, s: T) -> Heard<T>
-        ensures answer { IsAnswer T.node self.old s result }
+        ensures answer { IsHearAnswer T.node self.old s result }
         ensures log { self.new ≡ log_after result s self.old }
     {
         if s.maker() == self.owner {
@@ -149,7 +149,7 @@ impl<T: Knot> Log<T> {
     fn append(&mut self, event: Event<T>)
         requires may { MayFollow T.node self.old.owner self.old.events event }
         requires room { length self.old.events < self.old.capacity }
-        ensures { self.new ≡ with_event event self.old }
+        ensures { self.new ≡ log_with_event event self.old }
     {
         let place = self.events.len();
         self.top = self.top.max(event.stamp());

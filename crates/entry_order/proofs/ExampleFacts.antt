@@ -6,12 +6,13 @@ use Rattle.entry_order.specs.declared.event.Event.TheVariants.{Sent, Got}
 use Rattle.entry_order.specs.declared.step.Step.TheVariants.{Act, Hear}
 use Rattle.entry_order.specs.Node.{Node}
 use Rattle.entry_order.specs.Naming.{is_named, Distinct}
-use Rattle.entry_order.specs.World.{sent_in, IsLawful}
+use Rattle.entry_order.specs.World.{sent_in, IsLegalNext}
 use Rattle.entry_order.specs.HeldBefore.{HeldBefore, HeldBefore.itself, HeldBefore.descendant}
 use Rattle.entry_order.specs.Precedes.{Precedes}
 use Rattle.entry_order.specs.Settled.{NamesNoGap, IsWhole}
 use Rattle.entry_order.specs.Made.{DigestTellsNumber}
-use Rattle.entry_order.specs.Example.{Entry, digest_of, shown, made, next, world, a0, a1, b0, b1, c0, c1, left}
+use Rattle.entry_order.specs.Example.{Entry, digest_of, shown, example_entry, next_example, world, a0, a1, b0, b1, c0}
+use Rattle.entry_order.specs.Example.{c1, without_b0}
 use Rattle.entry_order.specs.Example.{IsExample}
 use Rattle.entry_order.proofs.Lists.{Contains-none, Contains-cons_cases}
 use Rattle.entry_order.proofs.Naming.{is_named_of}
@@ -20,9 +21,9 @@ use Rattle.entry_order.proofs.Made.{made_is_lawful}
 use Rattle.entry_order.proofs.Honest.{numbered_is_distinct}
 
 -- the machines of the example follow the rules
-lawful : IsLawful shown next
+lawful : IsLegalNext shown next_example
 lawful =
-    made_is_lawful shown made
+    made_is_lawful shown example_entry
     (record { maker = λ m n s ns. refl; number = λ m n s ns. refl; stamp = λ m n s ns. refl; names = λ m n s ns. refl })
     (λ m h. true)
 
@@ -39,7 +40,7 @@ no_path node E f free e (cf, ce, g ∷ gs, p) = true≢false (sym (is_named_of n
 -- its entries have different digests
 distinct : Distinct shown (sent_in world)
 distinct =
-    numbered_is_distinct shown next 64 3
+    numbered_is_distinct shown next_example 64 3
     (Act 0 ∷ Hear 1 0 0 ∷ Act 1 ∷ Act 1 ∷ Hear 2 0 0 ∷ Hear 2 1 1 ∷ Act 2 ∷ Hear 2 1 0 ∷ Act 2 ∷ Act 0 ∷ [])
     lawful tells_number
 
@@ -59,7 +60,7 @@ precedes = (
 )
 
 -- what a1 names is no gap
-names_no_gap : NamesNoGap shown left a1
+names_no_gap : NamesNoGap shown without_b0 a1
 names_no_gap d named gap =
     elim (Contains-cons_cases (digest_of 0 0) [] d named) [
       | inl is ↦ elim
@@ -68,7 +69,7 @@ names_no_gap d named gap =
     ]
 
 -- an entry that is left with a stamp below 2 is a0, which names nothing
-names_none : (y : Entry) → Contains left y → y.stamp < 2 → NamesNoGap shown left y
+names_none : (y : Entry) → Contains without_b0 y → y.stamp < 2 → NamesNoGap shown without_b0 y
 names_none y c low d named gap =
     elim (Contains-cons_cases a0 (a1 ∷ b1 ∷ c0 ∷ c1 ∷ []) y c) [
       | inl is ↦ absurd (Contains-none d (subst (λ (u : Entry). Contains u.names d) (sym is) named))
@@ -95,10 +96,10 @@ names_none y c low d named gap =
         stamp_of e is l = subst (λ (u : Entry). 2 ≤ u.stamp) is l
 
 -- the entry names nothing that is lost
-whole : IsWhole shown left a1
+whole : IsWhole shown without_b0 a1
 whole = record {
   itself = names_no_gap;
-  ancestors = λ y p. names_none y p.0 (rises_along shown left y p.2 a1 p.0 p.1 p.3);
+  ancestors = λ y p. names_none y p.0 (rises_along shown without_b0 y p.2 a1 p.0 p.1 p.3);
 }
 
 -- all facts of the example

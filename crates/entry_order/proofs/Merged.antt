@@ -20,7 +20,7 @@ use Rattle.entry_order.specs.History.{held, sent, IsLegal}
 use Rattle.entry_order.specs.World.{Machine, World, start, history, history_of, with_machine, append, send, cannot_hear}
 use Rattle.entry_order.specs.World.{hear, happens, play}
 use Rattle.entry_order.specs.Receipt.{IsOrderly}
-use Rattle.entry_order.specs.Merged.{PlacedEvent, rank, IsSortedByRank, placed, IsMergedOf, step_of}
+use Rattle.entry_order.specs.Merged.{PlacedEvent, sort_key, IsSortedByKey, placed, IsMergedOf, step_of}
 use Rattle.entry_order.specs.Made.{IsMadeBy}
 use Rattle.entry_order.specs.Merged.{MergedIsPlayedAgain}
 use Rattle.entry_order.proofs.Lists.{Contains-none, Contains-head, Contains-later, Contains-at, Contains-cons_cases}
@@ -35,15 +35,16 @@ use Rattle.entry_order.proofs.Orders.{member_split, was_sent}
 module _ {T : Type 0} where
   -- one event goes before another
   abbrev pub Lower : PlacedEvent T → PlacedEvent T → Type 0
-  Lower x y = slice_cmp nat_cmp (rank x) (rank y) ≡ Less
+  Lower x y = slice_cmp nat_cmp (sort_key x) (sort_key y) ≡ Less
 
   -- no two events each go before the other
   not_both : (x y : PlacedEvent T) → Lower x y → Lower y x → ⊥
   not_both x y a b =
-      let e : Less ≡ Greater = sym a ∙ nat_list_cmp_total.antisymm (rank x) (rank y) ∙ ap ordering_reverse b in cc
+      let e : Less ≡ Greater = sym a ∙ nat_list_cmp_total.antisymm (sort_key x) (sort_key y)
+      ∙ ap ordering_reverse b in cc
 
   -- two sorted lists with the same members are equal
-  pub same_sorted : (xs ys : List (PlacedEvent T)) → IsSortedByRank xs → IsSortedByRank ys →
+  pub same_sorted : (xs ys : List (PlacedEvent T)) → IsSortedByKey xs → IsSortedByKey ys →
       ((d : PlacedEvent T) → Contains xs d → Contains ys d) →
       ((d : PlacedEvent T) → Contains ys d → Contains xs d) → xs ≡ ys
   same_sorted [] [] a b to from = refl
@@ -78,11 +79,11 @@ module _ {T : Type 0} where
       λ i. heads i ∷ tails i
 
   -- a part of a sorted list is sorted
-  filter_sorted : (p : PlacedEvent T → Bool) (xs : List (PlacedEvent T)) → IsSortedByRank xs →
-      IsSortedByRank (filter p xs)
+  filter_sorted : (p : PlacedEvent T → Bool) (xs : List (PlacedEvent T)) → IsSortedByKey xs →
+      IsSortedByKey (filter p xs)
   filter_sorted p [] a = tt
   filter_sorted p (x ∷ xs) a =
-      elim (p x) as (λ b. IsSortedByRank (cond b (x ∷ filter p xs) (filter p xs))) [
+      elim (p x) as (λ b. IsSortedByKey (cond b (x ∷ filter p xs) (filter p xs))) [
         | true ↦
             (λ y h. a.0 y (Contains-filter_cases p xs y h).0, filter_sorted p xs a.1)
         | false ↦ filter_sorted p xs a.1
@@ -90,7 +91,7 @@ module _ {T : Type 0} where
 
   -- what is lower than a member stands before it
   lower_is_before : (d : List (PlacedEvent T)) (x : PlacedEvent T) (r : List (PlacedEvent T)) (y : PlacedEvent T) →
-      IsSortedByRank (d ++ x ∷ r) → Contains (d ++ x ∷ r) y → Lower y x → Contains d y
+      IsSortedByKey (d ++ x ∷ r) → Contains (d ++ x ∷ r) y → Lower y x → Contains d y
   lower_is_before [] x r y a c l =
       elim (Contains-cons_cases x r y c) [
         | inl e ↦ absurd
@@ -220,7 +221,7 @@ module _ {T : Type 0} (node : T → Node) where
 
   -- the events of a legal history are sorted
   placed_rise : (m : ℕ) (before h whole : List (Event T)) → IsLegal node m whole → whole ≡ before ++ h →
-      IsSortedByRank (placed_of m before h)
+      IsSortedByKey (placed_of m before h)
   placed_rise m before [] whole legal is = tt
   placed_rise m before (x ∷ h) whole legal is =
       let step : (before ++ x ∷ []) ++ h ≡ before ++ x ∷ h = append_assoc before (x ∷ []) h in (
@@ -229,7 +230,7 @@ module _ {T : Type 0} (node : T → Node) where
             let place : (before ++ x ∷ []) ++ r.0 ≡ before ++ x ∷ r.0 = append_assoc before (x ∷ []) r.0 in
             let at : whole ≡ (before ++ x ∷ r.0) ++ y.event ∷ r.1 =
             is ∙ ap (λ u. before ++ x ∷ u) r.2 ∙ sym (append_assoc before (x ∷ r.0) (y.event ∷ r.1)) in
-            subst (λ u. slice_cmp nat_cmp (rank (placed node m before x)) (rank u) ≡ Less)
+            subst (λ u. slice_cmp nat_cmp (sort_key (placed node m before x)) (sort_key u) ≡ Less)
             (sym (r.3 ∙ ap (λ p. placed node m p y.event) place))
             (later_rank node m whole legal before x r.0 y.event r.1 at),
         placed_rise m (before ++ x ∷ []) h whole legal (is ∙ sym step),
@@ -306,7 +307,7 @@ module _ {T : Type 0} (node : T → Node) (next : ℕ → List (Event T) → Opt
       subst (λ u. Lower y u) (sym (ms.3 ∙ ap (λ u. placed node x.machine ms.0 u) got))
       (receipt_rank node s.1.0 s.0 e legal.stamp x.machine ms.0) in
       let earlier : Contains d y =
-      lower_is_before d x r y (subst IsSortedByRank is merged.sorted) (subst (λ u. Contains u y) is there) lower in
+      lower_is_before d x r y (subst IsSortedByKey is merged.sorted) (subst (λ u. Contains u y) is there) lower in
       let p = member_split (part s.1.0 d) (Sent e) (Contains-part d y earlier) in
       let whole : history w s.1.0 ≡ p.0 ++ Sent e ∷ (p.1 ++ part s.1.0 (x ∷ r)) =
       split_history s.1.0 d x r is ∙ ap (λ h. h ++ part s.1.0 (x ∷ r)) p.2

@@ -13,7 +13,7 @@ use Rattle.std.proofs.lemmas.Bool.{cases_lt}
 use Rattle.entry_order.specs.declared.event.Event.{Event}
 use Rattle.entry_order.specs.Node.{Node}
 use Rattle.entry_order.specs.World.{World, history}
-use Rattle.entry_order.specs.Merged.{PlacedEvent, rank, IsSortedByRank, placed, IsEventOf, IsMergedOf}
+use Rattle.entry_order.specs.Merged.{PlacedEvent, sort_key, IsSortedByKey, placed, IsEventOf, IsMergedOf}
 use Rattle.entry_order.specs.Merged.{WorldsHaveOneMergedOrder}
 use Rattle.entry_order.proofs.Lists.{Contains-none, Contains-at, Contains-later, Contains-cons_cases}
 use Rattle.entry_order.proofs.Machines.{in_world}
@@ -32,7 +32,7 @@ module _ {T : Type 0} where
   -- x put in its place by rank
   abbrev insert : PlacedEvent T → List (PlacedEvent T) → List (PlacedEvent T)
   insert x [] = x ∷ []
-  insert x (c ∷ cs) = put (slice_cmp nat_cmp (rank x) (rank c)) x c cs (insert x cs)
+  insert x (c ∷ cs) = put (slice_cmp nat_cmp (sort_key x) (sort_key c)) x c cs (insert x cs)
 
   -- all of them, by rank
   abbrev sorted : List (PlacedEvent T) → List (PlacedEvent T)
@@ -55,7 +55,7 @@ module _ {T : Type 0} where
       (x ≡ y) ⊎ Contains xs y
   insert_cases x [] y h = Contains-cons_cases x [] y h
   insert_cases x (c ∷ cs) y h =
-      put_cases (slice_cmp nat_cmp (rank x) (rank c)) x c cs (insert x cs) y h (insert_cases x cs y)
+      put_cases (slice_cmp nat_cmp (sort_key x) (sort_key c)) x c cs (insert x cs) y h (insert_cases x cs y)
 
   -- what is sorted was given
   sorted_cases : (xs : List (PlacedEvent T)) (y : PlacedEvent T) → Contains (sorted xs) y → Contains xs y
@@ -66,44 +66,45 @@ module _ {T : Type 0} where
 
   -- putting x beside the first keeps the order, where the rest keeps it
   put_sorted : (o : Ordering) (x c : PlacedEvent T) (cs after : List (PlacedEvent T)) →
-      slice_cmp nat_cmp (rank x) (rank c) ≡ o → IsSortedByRank (c ∷ cs) → IsSortedByRank after →
-      ((y : PlacedEvent T) → Contains after y → (x ≡ y) ⊎ Contains cs y) → IsSortedByRank (put o x c cs after)
+      slice_cmp nat_cmp (sort_key x) (sort_key c) ≡ o → IsSortedByKey (c ∷ cs) → IsSortedByKey after →
+      ((y : PlacedEvent T) → Contains after y → (x ≡ y) ⊎ Contains cs y) → IsSortedByKey (put o x c cs after)
   put_sorted Less x c cs after is a b from = (
     λ y h. elim (Contains-cons_cases c cs y h) [
       | inl e ↦ subst (λ (u : PlacedEvent T). Lower x u) e is
-      | inr l ↦ nat_list_cmp_total.trans (rank x) (rank c) (rank y) is (a.0 y l)
+      | inr l ↦ nat_list_cmp_total.trans (sort_key x) (sort_key c) (sort_key y) is (a.0 y l)
     ],
     a,
   )
   put_sorted Equal x c cs after is a b from = a
   put_sorted Greater x c cs after is a b from =
-      let below : Lower c x = nat_list_cmp_total.antisymm (rank c) (rank x) ∙ ap ordering_reverse is in
+      let below : Lower c x = nat_list_cmp_total.antisymm (sort_key c) (sort_key x) ∙ ap ordering_reverse is in
       (λ y h. elim (from y h) [ inl e ↦ subst (λ (u : PlacedEvent T). Lower c u) e below | inr l ↦ a.0 y l ], b)
 
   -- putting x in its place keeps the order
-  insert_sorted : (x : PlacedEvent T) (xs : List (PlacedEvent T)) → IsSortedByRank xs → IsSortedByRank (insert x xs)
+  insert_sorted : (x : PlacedEvent T) (xs : List (PlacedEvent T)) → IsSortedByKey xs → IsSortedByKey (insert x xs)
   insert_sorted x [] a = (λ y h. absurd (Contains-none y h), tt)
   insert_sorted x (c ∷ cs) a =
-      put_sorted (slice_cmp nat_cmp (rank x) (rank c)) x c cs (insert x cs) refl a (insert_sorted x cs a.1)
+      put_sorted (slice_cmp nat_cmp (sort_key x) (sort_key c)) x c cs (insert x cs) refl a (insert_sorted x cs a.1)
       (insert_cases x cs)
 
   -- the sorted list is sorted
-  sorted_sorted : (xs : List (PlacedEvent T)) → IsSortedByRank (sorted xs)
+  sorted_sorted : (xs : List (PlacedEvent T)) → IsSortedByKey (sorted xs)
   sorted_sorted [] = tt
   sorted_sorted (x ∷ xs) = insert_sorted x (sorted xs) (sorted_sorted xs)
 
   -- no two of the list have one rank
   abbrev HasOneOfARank : List (PlacedEvent T) → Type 0
-  HasOneOfARank xs = (x y : PlacedEvent T) → Contains xs x → Contains xs y → rank x ≡ rank y → x ≡ y
+  HasOneOfARank xs = (x y : PlacedEvent T) → Contains xs x → Contains xs y → sort_key x ≡ sort_key y → x ≡ y
 
   -- what was there stays beside x
   put_keeps : (o : Ordering) (x c : PlacedEvent T) (cs after : List (PlacedEvent T)) (y : PlacedEvent T) →
-      slice_cmp nat_cmp (rank x) (rank c) ≡ o → (rank x ≡ rank c → x ≡ c) → (x ≡ y) ⊎ Contains (c ∷ cs) y →
+      slice_cmp nat_cmp (sort_key x) (sort_key c) ≡ o → (sort_key x ≡ sort_key c → x ≡ c) → (x ≡ y)
+      ⊎ Contains (c ∷ cs) y →
       ((x ≡ y) ⊎ Contains cs y → Contains after y) → Contains (put o x c cs after) y
   put_keeps Less x c cs after y is one h rest =
       elim h [ inl e ↦ Contains-at x (c ∷ cs) y e | inr g ↦ Contains-later x (c ∷ cs) y g ]
   put_keeps Equal x c cs after y is one h rest =
-      elim h [ inl e ↦ Contains-at c cs y (sym (one (exact_bytes (rank x) (rank c) is)) ∙ e) | inr g ↦ g ]
+      elim h [ inl e ↦ Contains-at c cs y (sym (one (exact_bytes (sort_key x) (sort_key c) is)) ∙ e) | inr g ↦ g ]
   put_keeps Greater x c cs after y is one h rest =
       elim h [
         | inl e ↦ Contains-later c after y (rest (inl e))
@@ -113,11 +114,12 @@ module _ {T : Type 0} where
 
   -- and so it does in the list
   insert_keeps : (x : PlacedEvent T) (xs : List (PlacedEvent T)) →
-      ((c : PlacedEvent T) → Contains xs c → rank x ≡ rank c → x ≡ c) → (y : PlacedEvent T) →
+      ((c : PlacedEvent T) → Contains xs c → sort_key x ≡ sort_key c → x ≡ c) → (y : PlacedEvent T) →
       (x ≡ y) ⊎ Contains xs y → Contains (insert x xs) y
   insert_keeps x [] one y h = elim h [ inl e ↦ Contains-at x [] y e | inr g ↦ absurd (Contains-none y g) ]
   insert_keeps x (c ∷ cs) one y h =
-      put_keeps (slice_cmp nat_cmp (rank x) (rank c)) x c cs (insert x cs) y refl (one c (Contains-at c cs c refl)) h
+      put_keeps (slice_cmp nat_cmp (sort_key x) (sort_key c)) x c cs (insert x cs) y refl
+      (one c (Contains-at c cs c refl)) h
       (insert_keeps x cs (λ d g. one d (Contains-later c cs d g)) y)
 
   -- all that was given is in the sorted list
@@ -149,7 +151,7 @@ module _ {T : Type 0} (node : T → Node) where
 
   module _ (w : World T) where
     -- an event of the world is one by its rank
-    one_of_a_rank : (x y : PlacedEvent T) → IsEventOf node w x → IsEventOf node w y → rank x ≡ rank y → x ≡ y
+    one_of_a_rank : (x y : PlacedEvent T) → IsEventOf node w x → IsEventOf node w y → sort_key x ≡ sort_key y → x ≡ y
     one_of_a_rank x y (b, l, hx, px) (c, m, hy, py) same =
         let machines : x.machine ≡ y.machine = cc in
         let places : x.place ≡ y.place = cc in

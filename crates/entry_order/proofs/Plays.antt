@@ -17,7 +17,7 @@ use Rattle.entry_order.specs.Node.{Node}
 use Rattle.entry_order.specs.Naming.{has_digest, IsNew}
 use Rattle.entry_order.specs.History.{held, sent, MayFollow, IsLegal}
 use Rattle.entry_order.specs.World.{Machine, World, start, history, sent_in, with_machine, append, stop, send}
-use Rattle.entry_order.specs.World.{cannot_hear, hear, IsLawful, happens, play}
+use Rattle.entry_order.specs.World.{cannot_hear, hear, IsLegalNext, happens, play}
 use Rattle.entry_order.specs.Receipt.{IsOrderly, OrderIsReceipt}
 use Rattle.entry_order.proofs.Lists.{Contains-none, Contains-cons_cases}
 use Rattle.entry_order.proofs.Histories.{IsLegal-push, IsLegal-none}
@@ -104,7 +104,7 @@ module _ {T : Type 0} (node : T → Node) (w : World T) where
           let sure = from e refl in
           inr (Got e, refl, (IsNew-from_test node (held a.history) e free, sure.0), sure.1)
 
-  module _ (next : ℕ → List (Event T) → Option T) (log : ℕ) (lawful : IsLawful node next)
+  module _ (next : ℕ → List (Event T) → Option T) (log : ℕ) (lawful : IsLegalNext node next)
       (orderly : IsOrderly node w) where
     -- what a machine sent has it as its maker
     made_by : (from : ℕ) (e : T) → Contains (sent (history w from)) e → (node e).maker ≡ from
@@ -209,7 +209,7 @@ module _ {T : Type 0} (node : T → Node) where
   }
 
   -- steps keep it orderly
-  pub IsOrderly-play : (next : ℕ → List (Event T) → Option T) (log : ℕ) → IsLawful node next →
+  pub IsOrderly-play : (next : ℕ → List (Event T) → Option T) (log : ℕ) → IsLegalNext node next →
       (w : World T) (steps : List Step) → IsOrderly node w → IsOrderly node (play node next log w steps)
   IsOrderly-play next log lawful w [] o = o
   IsOrderly-play next log lawful w (s ∷ steps) o =

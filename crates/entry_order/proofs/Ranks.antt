@@ -13,7 +13,7 @@ use Rattle.entry_order.specs.declared.event.Event.{Event}
 use Rattle.entry_order.specs.declared.event.Event.TheVariants.{Sent, Got}
 use Rattle.entry_order.specs.Node.{Node}
 use Rattle.entry_order.specs.History.{entry_of, held, greatest_stamp, IsLegal}
-use Rattle.entry_order.specs.Merged.{kind, rank, placed}
+use Rattle.entry_order.specs.Merged.{kind, sort_key, placed}
 use Rattle.entry_order.proofs.Lists.{Contains-head, Contains-map}
 use Rattle.entry_order.proofs.Histories.{greatest_push}
 use Rattle.entry_order.proofs.Stamps.{stamp_below, top_at_least}
@@ -65,7 +65,7 @@ module _ {T : Type 0} (node : T → Node) where
       greatest_stamp node (held (before ++ x ∷ [])) ≤ greatest_stamp node (held ((before ++ x ∷ b) ++ y ∷ [])) →
       (greatest_stamp node (held (before ++ x ∷ [])) ≡ greatest_stamp node (held ((before ++ x ∷ b) ++ y ∷ [])) →
       kind y ≡ 1) →
-      slice_cmp nat_cmp (rank (placed node m before x)) (rank (placed node m (before ++ x ∷ b) y)) ≡ Less
+      slice_cmp nat_cmp (sort_key (placed node m before x)) (sort_key (placed node m (before ++ x ∷ b) y)) ≡ Less
   by_later m before x b y le got =
       let tx = greatest_stamp node (held (before ++ x ∷ [])) in
       let ty = greatest_stamp node (held ((before ++ x ∷ b) ++ y ∷ [])) in
@@ -95,7 +95,7 @@ module _ {T : Type 0} (node : T → Node) where
   pub later_rank : (m : ℕ) (h : List (Event T)) → IsLegal node m h →
       (before : List (Event T)) (x : Event T) (b : List (Event T)) (y : Event T) (l : List (Event T)) →
       h ≡ (before ++ x ∷ b) ++ y ∷ l →
-      slice_cmp nat_cmp (rank (placed node m before x)) (rank (placed node m (before ++ x ∷ b) y)) ≡ Less
+      slice_cmp nat_cmp (sort_key (placed node m before x)) (sort_key (placed node m (before ++ x ∷ b) y)) ≡ Less
   later_rank m h legal before x b (Got e) l is =
       by_later m before x b (Got e) (up (Got e)) (λ _. refl)
     where
@@ -119,7 +119,7 @@ module _ {T : Type 0} (node : T → Node) where
   -- a receipt has a higher rank than the sending
   pub receipt_rank : (s : ℕ) (past : List (Event T)) (e : T) →
       (node e).stamp ≡ 1 + greatest_stamp node (held past) → (m : ℕ) (before : List (Event T)) →
-      slice_cmp nat_cmp (rank (placed node s past (Sent e))) (rank (placed node m before (Got e))) ≡ Less
+      slice_cmp nat_cmp (sort_key (placed node s past (Sent e))) (sort_key (placed node m before (Got e))) ≡ Less
   receipt_rank s past e is m before =
       let ts = greatest_stamp node (held (past ++ Sent e ∷ [])) in
       let tg = greatest_stamp node (held (before ++ Got e ∷ [])) in

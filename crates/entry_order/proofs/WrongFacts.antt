@@ -7,7 +7,7 @@ use Rattle.entry_order.specs.World.{sent_in}
 use Rattle.entry_order.specs.HeldBefore.{HeldBefore.itself}
 use Rattle.entry_order.specs.Receipt.{OrderIsReceiptIn}
 use Rattle.entry_order.specs.Frontier.{IsFrontier}
-use Rattle.entry_order.specs.Example.{Entry, digest_of, shown, made, b1}
+use Rattle.entry_order.specs.Example.{Entry, digest_of, shown, example_entry, b1}
 use Rattle.entry_order.specs.WrongNames.{world, OwnLastFails}
 use Rattle.entry_order.specs.WrongFrontier.{frontier_by_arrival, heard, ArrivalFails}
 use Rattle.entry_order.specs.WrongStrays.{ByOthersFails}
@@ -16,11 +16,11 @@ use Rattle.entry_order.proofs.ExampleFacts.{no_path}
 
 -- what A sends
 abbrev sent_by_a : Entry
-sent_by_a = made 0 0 1 []
+sent_by_a = example_entry 0 0 1 []
 
 -- what B sends, naming its own last entry alone
 abbrev sent_by_b : Entry
-sent_by_b = made 1 0 2 []
+sent_by_b = example_entry 1 0 2 []
 
 -- their digests differ
 distinct : Distinct shown (sent_in world)

@@ -6,7 +6,7 @@ use Rattle.entry_order.specs.declared.step.Step.{Step}
 use Rattle.entry_order.specs.Node.{Node}
 use Rattle.entry_order.specs.Naming.{Distinct}
 use Rattle.entry_order.specs.History.{held}
-use Rattle.entry_order.specs.World.{World, start, sent_in, IsLawful, play}
+use Rattle.entry_order.specs.World.{World, start, sent_in, IsLegalNext, play}
 use Rattle.entry_order.specs.HeldBefore.{WasSentAfter, HeldBefore}
 
 module _ {T : Type 0} (w : World T) where
@@ -32,7 +32,7 @@ module _ {T : Type 0} (w : World T) where
 abbrev pub FormsAgree : {T : Type 0} → (T → Node) → Type 0
 FormsAgree {T} node =
     (next : ℕ → List (Event T) → Option T) (log machines : ℕ) (steps : List Step) →
-    IsLawful node next →
+    IsLegalNext node next →
     let w = play node next log (start machines) steps in
     Distinct node (sent_in w) →
     (f e : T) → (HeldByChain w f e ↔ HeldBefore w f e)

@@ -6,7 +6,7 @@ use Rattle.entry_order.specs.declared.step.Step.{Step}
 use Rattle.entry_order.specs.declared.three.Three.TheVariants.{False, Unknown, True}
 use Rattle.entry_order.specs.Node.{Node}
 use Rattle.entry_order.specs.Naming.{Distinct}
-use Rattle.entry_order.specs.World.{World, start, sent_in, IsLawful, play}
+use Rattle.entry_order.specs.World.{World, start, sent_in, IsLegalNext, play}
 use Rattle.entry_order.specs.HeldBefore.{HeldBefore}
 use Rattle.entry_order.specs.Receipt.{IsOrderly}
 use Rattle.entry_order.specs.Survivors.{survivors, gaps}
@@ -56,7 +56,7 @@ module _ {T : Type 0} (node : T → Node) where
   abbrev pub HonestEntriesAgree : Type 0
   HonestEntriesAgree =
       (next : ℕ → List (Event T) → Option T) (log machines : ℕ) (steps : List Step) →
-      IsLawful node next →
+      IsLegalNext node next →
       let w = play node next log (start machines) steps in
       Distinct node (sent_in w) →
       (given : List T) → ((e : T) → Contains given e → Contains (sent_in w) e) →

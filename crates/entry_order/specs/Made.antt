@@ -8,7 +8,7 @@ use Rattle.entry_order.specs.Node.{Node}
 use Rattle.entry_order.specs.Naming.{has_digest, Distinct}
 use Rattle.entry_order.specs.Frontier.{frontier}
 use Rattle.entry_order.specs.History.{held, sent, greatest_stamp}
-use Rattle.entry_order.specs.World.{World, start, history, sent_in, IsLawful, play}
+use Rattle.entry_order.specs.World.{World, start, history, sent_in, IsLegalNext, play}
 
 -- each entry that was sent is what its machine sends next after the history before it
 abbrev pub IsMadeBy : {T : Type 0} → (ℕ → List (Event T) → Option T) → World T → Type 0
@@ -45,7 +45,7 @@ module _ {T : Type 0} (node : T → Node) (made : ℕ → ℕ → ℕ → List (
   -- so whatever the rules allow, it is what a legal history asks
   abbrev pub MadeIsLawful : Type 0
   MadeIsLawful =
-      ShowsItsParts → (allowed : ℕ → List (Event T) → Bool) → IsLawful node (next_made allowed)
+      ShowsItsParts → (allowed : ℕ → List (Event T) → Bool) → IsLegalNext node (next_made allowed)
 
 -- two entries with one digest are of one maker and have one number
 abbrev pub DigestTellsNumber : {T : Type 0} → (T → Node) → Type 0
@@ -57,5 +57,5 @@ DigestTellsNumber {T} node =
 abbrev pub NumberedIsDistinct : {T : Type 0} → (T → Node) → Type 0
 NumberedIsDistinct {T} node =
     (next : ℕ → List (Event T) → Option T) (log machines : ℕ) (steps : List Step) →
-    IsLawful node next → DigestTellsNumber node →
+    IsLegalNext node next → DigestTellsNumber node →
     Distinct node (sent_in (play node next log (start machines) steps))

@@ -7,7 +7,7 @@ use Rattle.entry_order.specs.declared.step.Step.{Step}
 use Rattle.entry_order.specs.Node.{Node}
 use Rattle.entry_order.specs.Naming.{Names, Distinct}
 use Rattle.entry_order.specs.History.{held, IsLegal}
-use Rattle.entry_order.specs.World.{World, start, history, sent_in, IsLawful, play}
+use Rattle.entry_order.specs.World.{World, start, history, sent_in, IsLegalNext, play}
 use Rattle.entry_order.specs.HeldBefore.{WasSentAfter, HeldBefore}
 use Rattle.entry_order.specs.Precedes.{Precedes}
 
@@ -31,7 +31,7 @@ OrderIsReceiptInOrderlyWorlds {T} node =
 abbrev pub OrderIsReceipt : {T : Type 0} → (T → Node) → Type 0
 OrderIsReceipt {T} node =
     (next : ℕ → List (Event T) → Option T) (log machines : ℕ) (steps : List Step) →
-    IsLawful node next →
+    IsLegalNext node next →
     let w = play node next log (start machines) steps in
     Distinct node (sent_in w) → OrderIsReceiptIn node w
 

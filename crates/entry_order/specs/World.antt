@@ -68,8 +68,8 @@ module _ {T : Type 0} (node : T → Node) where
   hear log (Some e) a = if cannot_hear log a (node e).digest then a else append (Got e) a
 
   -- next m h, what m sends after the history h if it may send, is what a legal history asks
-  abbrev pub IsLawful : (ℕ → List (Event T) → Option T) → Type 0
-  IsLawful next =
+  abbrev pub IsLegalNext : (ℕ → List (Event T) → Option T) → Type 0
+  IsLegalNext next =
       (m : ℕ) (h : List (Event T)) (e : T) → next m h ≡ Some e → MayFollow node m h (Sent e)
 
   module _ (next : ℕ → List (Event T) → Option T) (log : ℕ) where

@@ -6,7 +6,7 @@ use Rattle.entry_order.specs.Naming.{Distinct}
 use Rattle.entry_order.specs.History.{held, sent, greatest_stamp}
 use Rattle.entry_order.specs.World.{World, start, sent_in, play}
 use Rattle.entry_order.specs.Receipt.{OrderIsReceiptIn}
-use Rattle.entry_order.specs.Example.{Entry, shown, made}
+use Rattle.entry_order.specs.Example.{Entry, shown, example_entry}
 
 -- the digest of the last entry, where there is one
 abbrev pub last_digest : List Entry → List (List ℕ)
@@ -17,7 +17,7 @@ last_digest (e ∷ f ∷ es) = last_digest (f ∷ es)
 -- what a machine sends that names only its own last entry
 abbrev pub next_of_own : ℕ → List (Event Entry) → Option Entry
 next_of_own m h =
-    Some (made m (length (sent h)) (1 + greatest_stamp shown (held h)) (last_digest (sent h)))
+    Some (example_entry m (length (sent h)) (1 + greatest_stamp shown (held h)) (last_digest (sent h)))
 
 -- A sends; B hears it and sends
 abbrev pub world : World Entry

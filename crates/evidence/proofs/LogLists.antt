@@ -11,7 +11,7 @@ use Rattle.roster.specs.declared.post.Post.{Post}
 use Rattle.log_files.specs.declared.plain_log.LogFault.{LogFault}
 use Rattle.log_files.specs.declared.plain_log.LogFault.TheVariants as log
 use Rattle.log_files.specs.declared.sealed_log.LogRead.{LogRead}
-use Rattle.log_files.specs.LogFile.{IsSealedLogOf, IsRefused}
+use Rattle.log_files.specs.LogFile.{IsSealedLogOf, IsLogRefused}
 use Rattle.evidence.specs.declared.fault.AuditFault.{AuditFault}
 use Rattle.evidence.specs.Refusal.{Refusal, absent, refused, too_long}
 use Rattle.evidence.specs.NamedFiles.{AreFiles}
@@ -79,7 +79,7 @@ names_from names i name word within is spelt =
 pub log_not_read : {T V : Type 0} (value : T → List LogRead)
     (IsRight : Option Files → Result (List LogRead) Refusal → Type 0) (old new : StoreSeen) (name : List ℕ)
     (given : LogFault) (fault : AuditFault) → IsLogFault name given fault →
-    OnSomeFile old.files name (IsRefused given) →
+    OnSomeFile old.files name (IsLogRefused given) →
     ((refusal : Refusal) → OnSomeFile old.files name (λ file. IsLogRefusal name file refusal) →
     IsRight old.files (Err refusal)) →
     ComesExactly old.answered.absences new.answered.absences (IsErrOf {T = V} (Err given) log.Absent) →
@@ -87,17 +87,17 @@ pub log_not_read : {T V : Type 0} (value : T → List LogRead)
     IsLeft old new → IsReadFrom value IsRight old (Err fault) new
 log_not_read value IsRight old new name log.Absent fault is said right comes failed left =
     refused_reading value IsRight old new (absent name) fault is
-    (right (absent name) (on_some old.files name (IsRefused log.Absent)
+    (right (absent name) (on_some old.files name (IsLogRefused log.Absent)
     (λ file. IsLogRefusal name file (absent name)) (λ file why. (log.Absent, why, refl)) said))
     (record { only = λ absence. comes.only refl; always = λ more. tt }) left
 log_not_read value IsRight old new name log.TooLong fault is said right comes failed left =
     refused_reading value IsRight old new (too_long name) fault is
-    (right (too_long name) (on_some old.files name (IsRefused log.TooLong)
+    (right (too_long name) (on_some old.files name (IsLogRefused log.TooLong)
     (λ file. IsLogRefusal name file (too_long name)) (λ file why. (log.TooLong, why, refl)) said))
     (record { only = λ absence. absurd absence; always = λ more. absurd (let no = comes.always more in cc) }) left
 log_not_read value IsRight old new name log.Header fault is said right comes failed left =
     refused_reading value IsRight old new (refused name 0 _) fault is
-    (right (refused name 0 _) (on_some old.files name (IsRefused log.Header)
+    (right (refused name 0 _) (on_some old.files name (IsLogRefused log.Header)
     (λ file. IsLogRefusal name file (refused name 0 _)) (λ file why. (log.Header, why, refl)) said))
     (record { only = λ absence. absurd absence; always = λ more. absurd (let no = comes.always more in cc) }) left
 log_not_read value IsRight old new name log.ReadFault fault is said right comes failed left =

@@ -13,7 +13,7 @@ use Rattle.log_files.specs.SealedLog.{SaysSealed}
 use Rattle.evidence.specs.Refusal.{Refusal, absent, refused, too_long}
 use Rattle.evidence.specs.NamedFiles.{AreFiles}
 use Rattle.evidence.specs.Logs.{IsLogRefusal, GivesLogs}
-use Rattle.evidence.specs.Graphs.{entries_in, entries_of}
+use Rattle.evidence.specs.Graphs.{entries_of_records, entries_of}
 use Rattle.evidence.specs.Same.{Agree, SameLog, SameLogs}
 
 -- the files that are told are these alone
@@ -130,5 +130,5 @@ same_entries [] [] same = refl
 same_entries [] (other ∷ others) same = absurd same
 same_entries (log ∷ logs) [] same = absurd same
 same_entries (log ∷ logs) (other ∷ others) same =
-    ap (λ (kept : List Kept). entries_in kept ++ entries_of logs) same.0.kept
-    ∙ ap (λ es. entries_in other.kept.items ++ es) (same_entries logs others same.1)
+    ap (λ (kept : List Kept). entries_of_records kept ++ entries_of logs) same.0.kept
+    ∙ ap (λ es. entries_of_records other.kept.items ++ es) (same_entries logs others same.1)

@@ -20,7 +20,7 @@ use Rattle.floor_losses.specs.Losses.{is_of}
 use Rattle.floor_losses.proofs.Arriving.{is_of_parts, itself}
 use Rattle.floor_losses.proofs.Lists.{filter_same}
 use Rattle.floor_sweep.specs.Places.{ArePlaced, HaveGrown, count_sent}
-use Rattle.floor_sweep.specs.Swept.{AreScripted, IsCause, IsLicensed}
+use Rattle.floor_sweep.specs.Swept.{AreScripted, IsLossCause, IsLicensed}
 use Rattle.floor_sweep.proofs.Handed.{legal_at}
 use Rattle.floor_losses.proofs.Numbers.{numbers_below}
 use Rattle.polling_world.specs.Machines.{MachineState, IsWithinStop}
@@ -86,7 +86,7 @@ module _ (script : Script) (ms ns : List MachineState) (of : AreMachinesOf scrip
 
     -- of what was sent before, nothing more is kept off a link
     scripted_before : (l : Loss) → IsLicensed script.loses ns l → is_of from number to l ≡ true → (why : LossWhy) →
-        IsCause script.loses ns l why → is_before_link why ≡ true → is_kept_off before from number to ≡ true
+        IsLossCause script.loses ns l why → is_before_link why ≡ true → is_kept_off before from number to ≡ true
     scripted_before l is of_this Scripted cause off =
         let parts = is_of_parts l from number to of_this in
         let many = ap (count_sent ms) parts.0 in
@@ -180,7 +180,7 @@ module _ (script : Script) (ms ns : List MachineState) (of : AreMachinesOf scrip
       )
 
   -- and what is lost in the sweep has one
-  cause_new : (l : Loss) (why : LossWhy) → IsCause script.loses ns l why → IsCauseOf script ns told l why
+  cause_new : (l : Loss) (why : LossWhy) → IsLossCause script.loses ns l why → IsCauseOf script ns told l why
   cause_new l Scripted cause = cause
   cause_new l LinkFull cause = absurd cause
   cause_new l ToStopped cause = cause

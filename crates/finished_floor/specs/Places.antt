@@ -6,7 +6,7 @@ use Rattle.election_script.specs.declared.script.StopAt.{StopAt}
 use Rattle.election_script.specs.declared.script.Script.{Script}
 use Rattle.polling_world.specs.Machines.{MachineState, IsMachine, IsFresh}
 use Rattle.polling_world.specs.Sending.{next_action}
-use Rattle.floor_sweep.specs.Wholes.{IsRefused, IsHeldBefore}
+use Rattle.floor_sweep.specs.Wholes.{IsNextRefused, IsHeldBefore}
 
 -- the number of events at which the machine stops, if a line says so
 abbrev pub IsStopOf : List StopAt → ℕ → Option ℕ → Type 0
@@ -31,7 +31,7 @@ abbrev pub IsAtEnd : MachineState → Type 0
 IsAtEnd m =
     (next_action m.config m.events ≡ None)
     ⊎ (m.stop ≡ Some (length m.events))
-    ⊎ IsRefused m
+    ⊎ IsNextRefused m
     ⊎ (length m.events ≡ m.config.log)
     ⊎ (length (sent m.events) ≡ 2 ^ m.config.key.height)
     ⊎ IsHeldBefore m

@@ -25,7 +25,7 @@ use Rattle.polling_world.specs.Waiting.{IsGoing}
 use Rattle.polling_world.specs.Worlds.{world_of}
 use Rattle.polling_world.proofs.Placing.{set_cases, set_get, one_there}
 use Rattle.floor_sweep.specs.Places.{IsAt, ArePlaced, AreMadeByThese, AreOfSent, HasGrown, HaveGrown, count_sent}
-use Rattle.floor_sweep.specs.Swept.{HoldsSame, IsCause, IsLicensed}
+use Rattle.floor_sweep.specs.Swept.{HoldsSame, IsLossCause, IsLicensed}
 use Rattle.polling_world.proofs.Keeping.{IsMachine-event}
 use Rattle.floor_sweep.proofs.Places.{get_others, history_more, length_set}
 
@@ -142,8 +142,8 @@ module _ (ms : List MachineState) (at : ℕ) (m : MachineState) (x : Event Seale
       (same.0, sent_event from same.0 same.1, same.2, holds (node_of_sealed same.0).digest same.3)
 
   -- a cause stays
-  cause_event : (loses : List Lose) (loss : Loss) (why : LossWhy) → IsCause loses ms loss why →
-      IsCause loses after loss why
+  cause_event : (loses : List Lose) (loss : Loss) (why : LossWhy) → IsLossCause loses ms loss why →
+      IsLossCause loses after loss why
   cause_event loses loss Scripted cause = cause
   cause_event loses loss LinkFull cause = cause
   cause_event loses loss ToStopped cause =

@@ -32,7 +32,7 @@ use Rattle.polling_world.specs.Configs.{Config}
 use Rattle.floor_sweep.specs.Places.{ArePlaced, count_sent}
 use Rattle.floor_losses.specs.Scripted.{is_scripted}
 use Rattle.floor_losses.specs.OfEntries.{lost_by}
-use Rattle.floor_sweep.specs.Swept.{IsCause, IsLicensed}
+use Rattle.floor_sweep.specs.Swept.{IsLossCause, IsLicensed}
 use Rattle.floor_sweep.specs.inside.Fates.{AreNumbered, IsFate, IsHanded}
 use Rattle.floor_sweep.specs.inside.Steps.{IsSwept, IsWaiting, Waits}
 use Rattle.floor_sweep.proofs.Events as event
@@ -205,7 +205,7 @@ module _ (loses : List Lose) (old : List MachineState) (before : List Loss) (wai
   loss_by why = record { from = from; number = e.entry.number; to = to; why = why }
 
   -- or lost
-  pub lost_now : (why : LossWhy) → IsCause loses ms (loss_by why) why →
+  pub lost_now : (why : LossWhy) → IsLossCause loses ms (loss_by why) why →
       (is_scripted loses from e.entry.number to ≡ true → why ≡ Scripted) →
       IsSwept loses old before later ms (losses ++ loss_by why ∷ [])
   lost_now why cause named_so =
@@ -273,7 +273,7 @@ module _ (loses : List Lose) (old : List MachineState) (before : List Loss) (wai
       placed n same changed = changed ∙ ap (slice_set ms to) same ∙ set_same ms to m hands.stood
 
       -- where it is as it was, and there is a cause, the entry is lost by this cause
-      stays : (why : LossWhy) → hands.then_machine ≡ m → IsCause loses ms (loss_by why) why →
+      stays : (why : LossWhy) → hands.then_machine ≡ m → IsLossCause loses ms (loss_by why) why →
           (is_scripted loses from e.entry.number to ≡ true → why ≡ Scripted) →
           more ≡ losses ++ loss_by why ∷ [] → IsSwept loses old before later new more
       stays why same cause named_so l =

@@ -23,14 +23,14 @@ HoldsSame machines from number m =
 
 -- Why an entry is lost in a sweep: a line of the script names it; or its receiver has as many events as it stops at, or
 -- as its log can have, or holds another entry with its digest. No link is full.
-abbrev pub IsCause : List Lose → List MachineState → Loss → LossWhy → Type 0
-IsCause loses machines loss Scripted = is_scripted loses loss.from loss.number loss.to ≡ true
-IsCause loses machines loss LinkFull = ⊥
-IsCause loses machines loss ToStopped =
+abbrev pub IsLossCause : List Lose → List MachineState → Loss → LossWhy → Type 0
+IsLossCause loses machines loss Scripted = is_scripted loses loss.from loss.number loss.to ≡ true
+IsLossCause loses machines loss LinkFull = ⊥
+IsLossCause loses machines loss ToStopped =
     (m : MachineState) × (slice_get machines loss.to ≡ Some m) × (m.stop ≡ Some (length m.events))
-IsCause loses machines loss LogFull =
+IsLossCause loses machines loss LogFull =
     (m : MachineState) × (slice_get machines loss.to ≡ Some m) × (length m.events ≡ m.config.log)
-IsCause loses machines loss SameDigest =
+IsLossCause loses machines loss SameDigest =
     (m : MachineState) × (slice_get machines loss.to ≡ Some m) × HoldsSame machines loss.from loss.number m
 
 -- the loss is of an entry that one machine sent, on its way to another, and has its cause
@@ -39,7 +39,7 @@ pub record IsLicensed (loses : List Lose) (machines : List MachineState) (loss :
   pub to : loss.to < length machines
   pub other : loss.from ≢ loss.to
   pub number : loss.number < count_sent machines loss.from
-  pub cause : IsCause loses machines loss loss.why
+  pub cause : IsLossCause loses machines loss loss.why
 
 -- of the entries that were sent since `old`, each that a line of the script names is lost so
 abbrev pub AreScripted : List Lose → List MachineState → List MachineState → List Loss → Type 0

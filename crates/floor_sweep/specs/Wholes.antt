@@ -12,8 +12,8 @@ use Rattle.polling_world.specs.Sending.{next_action}
 use Rattle.polling_world.specs.Waiting.{IsStampSpent}
 
 -- the rules of its role give a cause against its next action
-abbrev pub IsRefused : MachineState → Type 0
-IsRefused m =
+abbrev pub IsNextRefused : MachineState → Type 0
+IsNextRefused m =
     (deed : Deed) × (next_action m.config m.events ≡ Some deed)
     × ((why : LeftWhy) × Refuses m.config m.events deed (Err why))
 
@@ -30,7 +30,7 @@ abbrev pub IsWholeRun : MachineState → Type 0
 IsWholeRun m =
     (next_action m.config m.events ≡ None)
     ⊎ (m.stop ≡ Some (length m.events))
-    ⊎ IsRefused m
+    ⊎ IsNextRefused m
     ⊎ (length m.events ≡ m.config.log)
     ⊎ IsStampSpent m
     ⊎ (length (sent m.events) ≡ 2 ^ m.config.key.height)

@@ -5,7 +5,7 @@ use Rattle.std.proofs.lemmas.Bool.{false≢true}
 use Rattle.std.proofs.lemmas.List.{drop-drop, drop_all}
 use Rattle.hall_outside.specs.declared.stores.Failed.{Failed}
 use Rattle.hall_outside.specs.Counts.{raised}
-use Rattle.hall_outside.specs.Writing.{OffersAll, none_left, fails, takes, Puts, not_created}
+use Rattle.hall_outside.specs.Writing.{OffersAll, none_left, fails, takes, PutsFile, not_created}
 
 -- what is still to be offered completes what was begun
 abbrev pub Continues : {S : Type 0} → (S → List ℕ → Result ℕ Failed → S → Type 0) → S → S → List ℕ → List ℕ → Type 0
@@ -16,7 +16,7 @@ Continues {S} step start now bytes left =
 abbrev pub Creates : {S : Type 0} → (S → Bool → S → Type 0) → (S → List ℕ → Result ℕ Failed → S → Type 0) → S → S
     → List ℕ → List ℕ → Type 0
 Creates {S} create step start now bytes left =
-    (ok : Bool) (end : S) → OffersAll step now left ok end → Puts create step start bytes ok end
+    (ok : Bool) (end : S) → OffersAll step now left ok end → PutsFile create step start bytes ok end
 
 -- one call more
 pub takes_more : {S : Type 0} (step : S → List ℕ → Result ℕ Failed → S → Type 0) (now next end : S)
@@ -48,7 +48,7 @@ all_offered step now bytes at past =
 -- a create that fails, whose error is handed on
 pub not_created_at : {S T : Type 0} (create : S → Bool → S → Type 0)
     (step : S → List ℕ → Result ℕ Failed → S → Type 0) (old new : S) (bytes : List ℕ)
-    (result : Result T Failed) → IsErr result → create old false new → Puts create step old bytes (is_ok result) new
+    (result : Result T Failed) → IsErr result → create old false new → PutsFile create step old bytes (is_ok result) new
 not_created_at create step old new bytes (Err e) err c = not_created old new bytes c
 not_created_at create step old new bytes (Ok x) err c = absurd (false≢true err)
 

@@ -1,7 +1,7 @@
 -- Some file, where none is told.
 use Rattle.std.proofs.Common.{◌≡◌, ℕ, ◌+◌, List, [], ◌∷◌, length, Option, Some, None, refl, arith, zero, suc}
 use Rattle.hall_outside.specs.Files.{Files, OnFile, OnSomeFile}
-use Rattle.hall_outside.specs.ReadFile.{IsRefused}
+use Rattle.hall_outside.specs.ReadFile.{IsFileRefused}
 use Rattle.hall_outside.specs.declared.reading.FileFault.{FileFault}
 use Rattle.hall_outside.specs.declared.reading.FileFault.TheVariants.{Absent, TooLong, ReadFault, Memory}
 
@@ -35,7 +35,7 @@ refused_file limit ReadFault = None
 refused_file limit Memory = None
 
 -- that file is refused for this fault
-pub is_refused_file : (limit : ℕ) (fault : FileFault) → IsRefused limit fault (refused_file limit fault)
+pub is_refused_file : (limit : ℕ) (fault : FileFault) → IsFileRefused limit fault (refused_file limit fault)
 is_refused_file limit Absent = refl
 is_refused_file limit TooLong = let long = length_noughts (limit + 1) in omega (arith, long)
 is_refused_file limit ReadFault = tt

@@ -9,16 +9,16 @@ use Rattle.hall_outside.specs.declared.reading.FileFault.TheVariants.{Absent, To
 use Rattle.hall_outside.specs.Files.{Files, OnFile}
 
 -- the bytes are within the limit and, where files are told, exactly the file's
-pub record IsWhole (files : Option Files) (name : List ℕ) (limit : ℕ) (bytes : List ℕ) : Type 0 where
+pub record IsFileWhole (files : Option Files) (name : List ℕ) (limit : ℕ) (bytes : List ℕ) : Type 0 where
   pub fits : length bytes ≤ limit
   pub whole : OnFile files name (λ file. file ≡ Some bytes)
 
 -- what a refusal says of the file
-abbrev pub IsRefused : ℕ → FileFault → Option (List ℕ) → Type 0
-IsRefused limit Absent file = file ≡ None
-IsRefused limit TooLong file = IsSomeAnd file (λ bytes. limit < length bytes)
-IsRefused limit ReadFault file = ⊤
-IsRefused limit Memory file = ⊤
+abbrev pub IsFileRefused : ℕ → FileFault → Option (List ℕ) → Type 0
+IsFileRefused limit Absent file = file ≡ None
+IsFileRefused limit TooLong file = IsSomeAnd file (λ bytes. limit < length bytes)
+IsFileRefused limit ReadFault file = ⊤
+IsFileRefused limit Memory file = ⊤
 
 -- with this answer of a read from `at` on a file has been read to its end, or can't be
 abbrev pub IsLastRead : ℕ → ℕ → Result Taken Failed → Type 0

@@ -36,8 +36,8 @@ pub data OffersAll {S : Type 0} (step : S → List ℕ → Result ℕ Failed →
       → OffersAll step mid (drop n left) ok new → OffersAll step old left ok new
 
 -- a create, and after it such calls
-pub data Puts {S : Type 0} (create : S → Bool → S → Type 0) (step : S → List ℕ → Result ℕ Failed → S → Type 0) : S
+pub data PutsFile {S : Type 0} (create : S → Bool → S → Type 0) (step : S → List ℕ → Result ℕ Failed → S → Type 0) : S
     → List ℕ → Bool → S → Type 0 where
-  not_created : (old new : S) (bytes : List ℕ) → create old false new → Puts create step old bytes false new
+  not_created : (old new : S) (bytes : List ℕ) → create old false new → PutsFile create step old bytes false new
   created : (old mid new : S) (bytes : List ℕ) (ok : Bool) → create old true mid
-      → OffersAll step mid bytes ok new → Puts create step old bytes ok new
+      → OffersAll step mid bytes ok new → PutsFile create step old bytes ok new

@@ -3,7 +3,7 @@ ghost use Rattle.std.specs.Prelude.{◌≡◌, ◌+◌, ◌≤◌, ◌++◌, ℕ
 ghost use Rattle.std.specs.Prelude.{IfOk, IfErr, OnOk, IsErrOf, vec_len};
 ghost use Rattle.hall_outside.specs.Counts.{HasCause, ComesExactly};
 ghost use Rattle.hall_outside.specs.Files.{OnFile};
-ghost use Rattle.hall_outside.specs.ReadFile.{IsWhole, IsRefused, ReadsOn};
+ghost use Rattle.hall_outside.specs.ReadFile.{IsFileWhole, IsFileRefused, ReadsOn};
 
 use crate::stores::{Failed, Store, Taken};
 use std::alloc::{AllocError, Global};
@@ -83,9 +83,9 @@ pub fn read_pieces<S: Store, T: TakePieces>(
     requires nothing { T.takes into.old [] into.old }
     requires room { limit ≤ T.most into.old }
     ensures ok { OnOk result ((bytes : List ℕ)
-        × IsWhole (S.files store.old) name.now limit bytes × T.takes into.old bytes into.new) }
+        × IsFileWhole (S.files store.old) name.now limit bytes × T.takes into.old bytes into.new) }
     ensures err { IfErr result (λ fault.
-        OnFile (S.files store.old) name.now (IsRefused limit fault)) }
+        OnFile (S.files store.old) name.now (IsFileRefused limit fault)) }
 
     // Each refusal but want of memory comes only where the store said so in this call.
     ensures absent { ComesExactly (S.answered store.old).absences (S.answered store.new).absences
@@ -130,9 +130,9 @@ pub fn read_file<S: Store>(
     limit: usize,
 ) -> Result<Vec<u8>, FileFault>
     ensures ok { IfOk result (λ bytes.
-        IsWhole (S.files store.old) name.now limit bytes.items) }
+        IsFileWhole (S.files store.old) name.now limit bytes.items) }
     ensures err { IfErr result (λ fault.
-        OnFile (S.files store.old) name.now (IsRefused limit fault)) }
+        OnFile (S.files store.old) name.now (IsFileRefused limit fault)) }
 
     // Each refusal but want of memory comes only where the store said so in this call.
     ensures absent { ComesExactly (S.answered store.old).absences (S.answered store.new).absences

@@ -20,7 +20,7 @@ ghost use Rattle.std.specs.Prelude.{
 ghost use Rattle.hall_outside.specs.Counts.{HasCause};
 ghost use Rattle.hall_outside.specs.Files.{Files, OnFile, with_file, SetsPrefix};
 ghost use Rattle.hall_outside.specs.Reading.{Answered, IsTaken, counted};
-ghost use Rattle.hall_outside.specs.Writing.{IsCountOf, with_appended, Puts};
+ghost use Rattle.hall_outside.specs.Writing.{IsCountOf, with_appended, PutsFile};
 
 use std::alloc::AllocError;
 use thiserror::Error;
@@ -110,7 +110,7 @@ pub fn put_file<S: Store>(store: &mut S, name: &str, bytes: &[u8]) -> Result<(),
     ensures err { OnErr result
         (SetsPrefix (S.files store.old) name.now bytes.now (S.files store.new)) }
     ensures cause { HasCause (S.write_faults store.old) (S.write_faults store.new) (IsErr result) }
-    ensures offers { Puts (S.creates name.now) (S.appends name.now)
+    ensures offers { PutsFile (S.creates name.now) (S.appends name.now)
         store.old bytes.now (is_ok result) store.new }
     ensures answered { S.answered store.new ≡ S.answered store.old }
     ensures read_faults { S.read_faults store.new ≡ S.read_faults store.old }

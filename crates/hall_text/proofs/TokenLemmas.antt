@@ -4,7 +4,7 @@ use Rattle.std.proofs.Common.{⊎_elim, arith}
 use Rattle.std.proofs.lemmas.Bool.{cases_lt}
 use Rattle.hall_text.specs.declared.spans.Span.{Span}
 use Rattle.hall_text.specs.Spans.{IsWordByte, IsParenthesis, IsWord, IsAlone, IsToken, AreAll}
-use Rattle.hall_text.specs.Places.{IsBetween, BeginsToken}
+use Rattle.hall_text.specs.Places.{CutsNoWord, BeginsToken}
 use Rattle.hall_text.proofs.SpanLists.{same_spans, one_span_more, no_spans}
 
 -- no parenthesis is a byte of a word
@@ -107,7 +107,7 @@ module _ (text : List ℕ) where
           (λ (a : IsAlone text s). inr a.byte) token
 
   -- behind a token, and behind a byte of none, no word goes on
-  pub between_behind : (at end : ℕ) → at < end → IsToken text (record { start = at; end = end }) → IsBetween text end
+  pub between_behind : (at end : ℕ) → at < end → IsToken text (record { start = at; end = end }) → CutsNoWord text end
   between_behind at end some token positive within byte =
       let new : Span = record { start = at; end = end } in
       ⊎_elim (λ (w : IsWord text new). absurd (w.ends within byte))
@@ -115,7 +115,7 @@ module _ (text : List ℕ) where
       λ word. no_word_byte (get_or text at 0) (subst (λ k. IsWordByte (get_or text k 0)) before word) a.byte) token
 
   -- behind a byte that begins no token no word goes on
-  pub between_none : (at : ℕ) → ¬ (BeginsToken text at) → IsBetween text (at + 1)
+  pub between_none : (at : ℕ) → ¬ (BeginsToken text at) → CutsNoWord text (at + 1)
   between_none at none positive within byte word = let before : at + 1 - 1 ≡ at = omega arith in
       none (inl (subst (λ k. IsWordByte (get_or text k 0)) before word))
 

@@ -3,8 +3,8 @@ use Rattle.std.specs.Prelude.{◌⊎◌, ℕ, ◌-◌, ◌<◌, List, length, sl
 use Rattle.hall_text.specs.Spans.{IsWordByte, IsParenthesis}
 
 -- no word goes on across the place
-abbrev pub IsBetween : List ℕ → ℕ → Type 0
-IsBetween text at = 0 < at → at < length text → IsWordByte (slice_index text at) →
+abbrev pub CutsNoWord : List ℕ → ℕ → Type 0
+CutsNoWord text at = 0 < at → at < length text → IsWordByte (slice_index text at) →
     ¬ (IsWordByte (slice_index text (at - 1)))
 
 -- a byte stands there with which a token begins

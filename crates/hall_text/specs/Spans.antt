@@ -1,6 +1,11 @@
 -- Where the tokens and the lines of a text stand.
-use Rattle.std.specs.Prelude.{◌≡◌, ◌≢◌, ◌↔◌, ◌⊎◌, ℕ, ◌+◌, ◌-◌, ◌<◌, ◌≤◌, List, length, slice_index, Contains, AllPairs}
+use Rattle.std.specs.Prelude.{◌≡◌, ◌≢◌, ◌↔◌, ◌⊎◌, ℕ, ◌+◌, ◌-◌, ◌<◌, ◌≤◌, List, length, take, drop, slice_index}
+use Rattle.std.specs.Prelude.{Contains, AllPairs}
 use Rattle.hall_text.specs.declared.spans.Span.{Span}
+
+-- the text's bytes from a span's start up to and without its end
+abbrev pub piece : List ℕ → Span → List ℕ
+piece text span = take (span.end - span.start) (drop span.start text)
 
 -- a byte of a word: from `!` to `~`, and no parenthesis
 abbrev pub IsWordByte : ℕ → Type 0

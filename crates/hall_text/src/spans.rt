@@ -1,7 +1,7 @@
 //! Where the tokens and the lines of a text stand.
 ghost use Rattle.std.specs.Prelude.{◌≡◌, ◌↔◌, ℕ, ◌<◌, ◌≤◌, length, slice_index, IfOk, IsTrue};
 ghost use Rattle.hall_text.specs.Spans.{IsWordByte, IsToken, IsLine, AreAll};
-ghost use Rattle.hall_text.specs.Places.{IsBetween, BeginsToken};
+ghost use Rattle.hall_text.specs.Places.{CutsNoWord, BeginsToken};
 
 use std::alloc::{AllocError, Global};
 
@@ -40,7 +40,7 @@ fn word_end(text: &[u8], at: usize) -> usize
 /// `at`.
 pub fn token_end(text: &[u8], at: usize) -> usize
     requires within { at < length text.now }
-    requires between { IsBetween text.now at }
+    requires between { CutsNoWord text.now at }
     ensures token { at < result → IsToken text.now (record { start = at; end = result }) }
     ensures none { result ≤ at → (result ≡ at) × ¬ (BeginsToken text.now at) }
 {

@@ -12,7 +12,7 @@ use Rattle.entry_order.specs.Frontier.{frontier}
 use Rattle.entry_order.specs.HeldBefore.{WasSentAfter}
 use Rattle.entry_order.specs.History.{held, sent, greatest_stamp}
 use Rattle.entry_order.specs.Receipt.{IsOrderly}
-use Rattle.entry_order.specs.World.{Machine, World, history_of, start, sent_in, IsLawful as IsLawfulNext, play}
+use Rattle.entry_order.specs.World.{Machine, World, history_of, start, sent_in, IsLegalNext, play}
 use Rattle.entry_order.proofs.Frontiers.{frontier_entry}
 use Rattle.entry_order.proofs.Histories.{nth_split}
 use Rattle.entry_order.proofs.Machines.{length_play, length_start}
@@ -114,7 +114,7 @@ module _ (script : Script) (lawful : IsLawful script) (next : ℕ → List (Even
       ]
 
   -- so it follows in a legal history
-  next_lawful : IsLawfulNext node_of_sealed next
+  next_lawful : IsLegalNext node_of_sealed next
   next_lawful m h e is = let (cast, at, may) = may_at m h e is in may_follow (config_of script m cast) h e may
 
   module _ (steps : List Step) where

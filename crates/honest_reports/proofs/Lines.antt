@@ -12,7 +12,7 @@ use Rattle.log_files.specs.declared.plain_log.End.TheVariants.{Clean, Torn, Malf
 use Rattle.log_files.specs.declared.sealed_log.LogRead.{LogRead}
 use Rattle.report_lines.specs.Lines.{refused_lines, end_line, gap_lines}
 use Rattle.honest_logs.specs.WhatIsLeft.{IsReadIn, AreReadIn, IsCutAt}
-use Rattle.auditor.specs.ReportText.{log_line, log_lines, break_line, entries_line, stray_lines, fork_lines}
+use Rattle.auditor.specs.ReportText.{log_head_line, log_lines, break_line, entries_line, stray_lines, fork_lines}
 use Rattle.auditor.specs.ReportText.{graph_lines}
 use Rattle.honest_reports.specs.Reports.{IsCleanOrTorn, torn_line, log_and_torn_line, entries_and_gap_lines}
 
@@ -39,7 +39,7 @@ module _ (w : World SealedEntry) where
   pub log_innocent : (file : List ℕ) (log : LogRead) → IsReadIn w log →
       log_lines (file, log) ≡ log_and_torn_line (file, log)
   log_innocent file log is =
-      parts_same (log_line file log) (refused_lines file log.refused.items) (end_line file log.end)
+      parts_same (log_head_line file log) (refused_lines file log.refused.items) (end_line file log.end)
       (break_line file log.broke) (torn_line file log.end) (ap (refused_lines file) is.read.none_refused)
       (torn_is file log.end (not_malformed _ _ log.end is.read.ends)) (ap (break_line file) is.read.no_break)
 

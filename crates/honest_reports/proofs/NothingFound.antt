@@ -32,7 +32,7 @@ use Rattle.auditor.specs.declared.outcome.Outcome.TheVariants as outcome
 use Rattle.auditor.specs.Outcomes.{graph_has_finding, has_finding, has_some, is_broken, is_clean, is_unsettled}
 use Rattle.auditor.specs.Outcomes.{log_has_finding, outcome_by, outcome_of, outcome_word}
 use Rattle.auditor.specs.Report.{AuditReport}
-use Rattle.auditor.specs.ReportText.{entries_line, log_line, main_lines, report_text, rule_line}
+use Rattle.auditor.specs.ReportText.{entries_line, log_head_line, main_lines, report_text, rule_line}
 use Rattle.honest_reports.specs.Kept.{EndClean, FindsNothing, kept_line, kept_text}
 use Rattle.honest_reports.specs.Places.{AreWholeFilesOf, IsWholeIn}
 use Rattle.honest_reports.specs.Reports.{entries_and_gap_lines, innocent_lines, log_and_torn_line, torn_line}
@@ -103,7 +103,7 @@ kept_lines machines survivors (rule ∷ rules) =
 
 -- a log with a clean end has its line and no other
 abbrev line_of : List ℕ × LogRead → List ℕ
-line_of named = log_line named.0 named.1
+line_of named = log_head_line named.0 named.1
 
 -- logs with clean ends have no line but their own
 clean_lines : (files : List (List ℕ)) (logs : List LogRead) → EndClean logs →
@@ -111,10 +111,10 @@ clean_lines : (files : List (List ℕ)) (logs : List LogRead) → EndClean logs 
 clean_lines [] logs clean = refl
 clean_lines (file ∷ files) [] clean = refl
 clean_lines (file ∷ files) (log ∷ logs) clean =
-    ap (λ (e : End). log_line file log ++ torn_line file e ++ flat_map log_and_torn_line (zip files logs))
+    ap (λ (e : End). log_head_line file log ++ torn_line file e ++ flat_map log_and_torn_line (zip files logs))
     (clean log (Contains-head log logs))
-    ∙ ap (λ (x : List ℕ). x ++ flat_map log_and_torn_line (zip files logs)) (append-nil (log_line file log))
-    ∙ ap (λ (x : List ℕ). log_line file log ++ x)
+    ∙ ap (λ (x : List ℕ). x ++ flat_map log_and_torn_line (zip files logs)) (append-nil (log_head_line file log))
+    ∙ ap (λ (x : List ℕ). log_head_line file log ++ x)
     (clean_lines files logs (λ other there. clean other (Contains-later log logs other there)))
 
 -- what is false of two is false of each

@@ -13,7 +13,7 @@ use Rattle.rule_engine.specs.declared.verdict.Verdict.TheVariants as verdict
 use Rattle.auditor.specs.declared.outcome.Outcome.TheVariants as outcome
 use Rattle.auditor.specs.Report.{AuditReport}
 use Rattle.auditor.specs.Outcomes.{is_broken, outcome_of}
-use Rattle.auditor.specs.ReportText.{log_line, entries_line, report_text, rule_line}
+use Rattle.auditor.specs.ReportText.{log_head_line, entries_line, report_text, rule_line}
 use Rattle.honest_reports.specs.Places.{AreWholeFilesOf}
 
 -- the line of a rule that is kept or unsettled, and none of one that is broken
@@ -45,7 +45,7 @@ kept_line rule = line (codes "kept " ++ rule.name)
 -- so the verdict
 abbrev pub kept_text : AuditReport → List ℕ
 kept_text report =
-    flat_map (λ (named : List ℕ × LogRead). log_line named.0 named.1) (zip report.files report.logs)
+    flat_map (λ (named : List ℕ × LogRead). log_head_line named.0 named.1) (zip report.files report.logs)
     ++ entries_line (length report.graph.survivors) ++ flat_map kept_line standard_rules
     ++ line (codes "verdict kept")
 

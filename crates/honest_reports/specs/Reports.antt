@@ -15,7 +15,8 @@ use Rattle.honest_logs.specs.Agreement.{HaveAll, IsHonestGraph}
 use Rattle.honest_logs.specs.LeftFiles.{AreAllFilesOf, AreReadOf}
 use Rattle.honest_logs.specs.WhatIsLeft.{AreReadIn}
 use Rattle.auditor.specs.Report.{AuditReport}
-use Rattle.auditor.specs.ReportText.{log_line, break_line, entries_line, stray_lines, fork_lines, rule_line, main_lines}
+use Rattle.auditor.specs.ReportText.{log_head_line, break_line, entries_line, stray_lines, fork_lines, rule_line}
+use Rattle.auditor.specs.ReportText.{main_lines}
 
 -- a log ends behind a whole record, or inside of one, and not in what is none
 abbrev pub IsCleanOrTorn : End → Type 0
@@ -30,7 +31,7 @@ torn_line file other = []
 
 -- the line of a log, and one more where its end is torn
 abbrev pub log_and_torn_line : List ℕ × LogRead → List ℕ
-log_and_torn_line named = log_line named.0 named.1 ++ torn_line named.0 named.1.end
+log_and_torn_line named = log_head_line named.0 named.1 ++ torn_line named.0 named.1.end
 
 -- how many entries survive, and a line for each gap
 abbrev pub entries_and_gap_lines : EntryGraph SealedEntry → List ℕ

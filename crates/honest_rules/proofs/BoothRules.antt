@@ -21,7 +21,8 @@ use Rattle.polling_world.specs.Rules.{entries_in}
 use Rattle.booth_core.specs.Causes.{IsAuthorised, HasCommittedTo}
 use Rattle.rule_language.specs.declared.kind.Kind.TheVariants as kind
 use Rattle.rule_language.specs.Trees.{Trees}
-use Rattle.rule_language.specs.Standard.{a1, c1, c2, c3, c4, c5, c6, c7, v2, v3, p4}
+use Rattle.rule_language.specs.Standard.{a1_body, c1_body, c2_body, c3_body, c4_body, c5_body, c6_body, c7_body}
+use Rattle.rule_language.specs.Standard.{v2_body, v3_body, p4_body}
 use Rattle.rule_engine.specs.Meaning.{Holds as Says}
 use Rattle.rule_engine.specs.Tests.{is_kind}
 use Rattle.auditor.specs.Rows.{row_of, kind_of, session_of, ballot_of, booth_of}
@@ -146,14 +147,14 @@ module _ {posts : List Post} {w : World SealedEntry} (honest : IsHonest posts w)
   )
 
   -- a booth activates what it is authorised for
-  pub rule_a1 : Rule a1
+  pub rule_a1 : Rule a1_body
   rule_a1 e ce ke =
       let s = sent_by honest e (were_sent e ce) in
       let (named, _) = booth_row honest e s _ (of_kind kind.Activate e.entry.deed ke) tt in
       seen_authorised e (authorised honest distinct e s (were_sent e ce) (session_of e.entry.deed) named)
 
   -- a booth cancels what it is authorised for
-  pub rule_c5 : Rule c5
+  pub rule_c5 : Rule c5_body
   rule_c5 e ce ke =
       let s = sent_by honest e (were_sent e ce) in
       let (named, _) = booth_row honest e s _ (of_kind kind.Cancel e.entry.deed ke) tt in
@@ -180,7 +181,7 @@ module _ {posts : List Post} {w : World SealedEntry} (honest : IsHonest posts w)
   )
 
   -- a booth casts what it committed to
-  pub rule_c2 : Rule c2
+  pub rule_c2 : Rule c2_body
   rule_c2 e ce ke =
       let s = sent_by honest e (were_sent e ce) in
       let (bound, _) = booth_row honest e s _ (of_kind kind.Cast e.entry.deed ke) tt in
@@ -188,7 +189,7 @@ module _ {posts : List Post} {w : World SealedEntry} (honest : IsHonest posts w)
       (committed honest distinct e s (were_sent e ce) (session_of e.entry.deed) (ballot_of e.entry.deed) bound)
 
   -- a booth challenges what it committed to
-  pub rule_c6 : Rule c6
+  pub rule_c6 : Rule c6_body
   rule_c6 e ce ke =
       let s = sent_by honest e (were_sent e ce) in
       let (bound, _) = booth_row honest e s _ (of_kind kind.Challenge e.entry.deed ke) tt in
@@ -196,7 +197,7 @@ module _ {posts : List Post} {w : World SealedEntry} (honest : IsHonest posts w)
       (committed honest distinct e s (were_sent e ce) (session_of e.entry.deed) (ballot_of e.entry.deed) bound)
 
   -- a booth commits in a session that it activated
-  pub rule_c1 : Rule c1
+  pub rule_c1 : Rule c1_body
   rule_c1 e ce ke =
       let n = session_of e.entry.deed in
       let f = activated honest distinct e (were_sent e ce) n (ballot_of e.entry.deed)
@@ -213,7 +214,7 @@ module _ {posts : List Post} {w : World SealedEntry} (honest : IsHonest posts w)
   -- ---- rules on what ends a session
 
   -- one ballot a session
-  pub rule_c3 : Rule c3
+  pub rule_c3 : Rule c3_body
   rule_c3 e ce ke f cf kf same =
       one_end_by_session honest distinct e f (were_sent e ce) (were_sent f cf) (cast_ends e.entry.deed ke)
       (cast_ends f.entry.deed kf) same
@@ -227,7 +228,7 @@ module _ {posts : List Post} {w : World SealedEntry} (honest : IsHonest posts w)
       (one_end_by_session honest distinct e f (were_sent e ce) (were_sent f cf) ends ends' same))
 
   -- a session with a ballot is neither cancelled nor challenged
-  pub rule_c4 : Rule c4
+  pub rule_c4 : Rule c4_body
   rule_c4 e ce ke = (
     λ f cf kf same.
         no_cast_is_cancel (kind_of e.entry.deed) ke
@@ -243,7 +244,7 @@ module _ {posts : List Post} {w : World SealedEntry} (honest : IsHonest posts w)
   )
 
   -- one challenge a session, which is not cancelled
-  pub rule_c7 : Rule c7
+  pub rule_c7 : Rule c7_body
   rule_c7 e ce ke = (
     λ f cf kf same.
         one_end_by_session honest distinct e f (were_sent e ce) (were_sent f cf) (challenge_ends e.entry.deed ke)
@@ -260,7 +261,7 @@ module _ {posts : List Post} {w : World SealedEntry} (honest : IsHonest posts w)
   -- ---- rules that deny an earlier entry
 
   -- no ballot after an override that cancels
-  pub rule_v2 : Rule v2
+  pub rule_v2 : Rule v2_body
   rule_v2 e ce ke (f, kf, before, same) =
       let s = sent_by honest e (were_sent e ce) in
       let n = session_of e.entry.deed in
@@ -271,7 +272,7 @@ module _ {posts : List Post} {w : World SealedEntry} (honest : IsHonest posts w)
       ∙ ap (λ m. deed.Override m how.Cancel) (eqb-true (session_of f.entry.deed) n same))
 
   -- no ballot after a closing
-  pub rule_p4 : Rule p4
+  pub rule_p4 : Rule p4_body
   rule_p4 e ce ke (f, kf, before, _) =
       let s = sent_by honest e (were_sent e ce) in
       let (_, (_, (_, (unclosed, (whole, _))))) = booth_row honest e s _ (of_kind kind.Cast e.entry.deed ke) tt in
@@ -289,7 +290,7 @@ module _ {posts : List Post} {w : World SealedEntry} (honest : IsHonest posts w)
       before overrides
 
   -- no challenge after an override
-  pub rule_v3 : Rule v3
+  pub rule_v3 : Rule v3_body
   rule_v3 e ce ke = (
     λ (f, kf, before, same).
         no_override e ce ke f before (

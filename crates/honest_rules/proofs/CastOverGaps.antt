@@ -16,7 +16,7 @@ use Rattle.roster.specs.declared.post.Role.TheVariants.{Supervisor, Booth}
 use Rattle.booth_core.specs.declared.state.BoothNot.TheVariants.{LogNotWhole}
 use Rattle.polling_world.specs.declared.left.LeftWhy.TheVariants.{BoothNot}
 use Rattle.entangled_log.specs.Whole.{NamesOnlyHeld}
-use Rattle.rule_language.specs.Standard.{v2}
+use Rattle.rule_language.specs.Standard.{v2_body}
 use Rattle.rule_engine.specs.Meaning.{Holds}
 use Rattle.auditor.specs.Rows.{row_of}
 use Rattle.honest_rules.specs.Honest.{role_at}
@@ -212,11 +212,11 @@ before = (
 )
 
 -- the ballot follows an override, which the rule forbids
-fails : ¬ (Holds node_of_sealed (row_of posts) (sent_in w) (sent_in w) v2)
+fails : ¬ (Holds node_of_sealed (row_of posts) (sent_in w) (sent_in w) v2_body)
 fails holds = holds cast (6, omega arith, refl) refl (overridden, refl, before, refl)
 
 -- so a booth that casts over a log that isn't whole can break the rule on overrides
-pub casting_over_gaps_fails : FailsAtSome (IsHonestBut (BoothNot LogNotWhole)) v2
+pub casting_over_gaps_fails : FailsAtSome (IsHonestBut (BoothNot LogNotWhole)) v2_body
 casting_over_gaps_fails = (
   posts,
   w,

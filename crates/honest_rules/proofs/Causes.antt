@@ -12,14 +12,14 @@ use Rattle.entry_order.specs.History.{held}
 use Rattle.entry_order.specs.World.{World}
 use Rattle.entangled_log.proofs.Whole.{whole_or_not}
 use Rattle.first_cause.specs.Causes.{IsFirstOf}
-use Rattle.deed_history.specs.Held.{Holds, HoldsOwn}
+use Rattle.deed_history.specs.Held.{HoldsSome, HoldsOwn}
 use Rattle.deed_history.proofs.Deciding.{holds_decides, holds_own, own_decides}
 use Rattle.supervisor_core.specs.Table as supervisor
 use Rattle.booth_core.specs.Table as booth
 use Rattle.roster.specs.declared.post.Post.{Post}
 use Rattle.roster.specs.declared.post.Role.{Role}
 use Rattle.roster.specs.declared.post.Role.TheVariants.{Supervisor, Booth}
-use Rattle.polling_world.specs.Rules.{entries_in, IsWhole, RoleRefuses}
+use Rattle.polling_world.specs.Rules.{entries_in, IsWholeHistory, RoleRefuses}
 use Rattle.honest_rules.specs.Honest.{IsHonest, role_at}
 use Rattle.honest_rules.proofs.DeedKinds.{one_role}
 use Rattle.honest_rules.proofs.Pasts.{SentBy, may}
@@ -49,12 +49,12 @@ own_for_sure test IsSuch decides owner entries deny =
 
 -- so is one of any maker
 pub any_for_sure : (test : Deed → Bool) (IsSuch : Deed → Type 0) → ((d : Deed) → Decides (test d) (IsSuch d)) →
-    (entries : List Entry) → ((Holds entries IsSuch → ⊥) → ⊥) → Holds entries IsSuch
+    (entries : List Entry) → ((HoldsSome entries IsSuch → ⊥) → ⊥) → HoldsSome entries IsSuch
 any_for_sure test IsSuch decides entries deny = sure _ _ (holds_decides test IsSuch decides entries) deny
 
 -- and a log is whole where it isn't denied
-pub whole_for_sure : (h : List (Event SealedEntry)) → ((IsWhole h → ⊥) → ⊥) → IsWhole h
-whole_for_sure h deny = let r = whole_or_not node_of_sealed (held h) in sure r.0 (IsWhole h) r.1 deny
+pub whole_for_sure : (h : List (Event SealedEntry)) → ((IsWholeHistory h → ⊥) → ⊥) → IsWholeHistory h
+whole_for_sure h deny = let r = whole_or_not node_of_sealed (held h) in sure r.0 (IsWholeHistory h) r.1 deny
 
 module _ {posts : List Post} {w : World SealedEntry} (honest : IsHonest posts w) where
   -- the maker of such a deed has the role whose deed it is, and its rules give no cause
@@ -80,7 +80,7 @@ module _ {posts : List Post} {w : World SealedEntry} (honest : IsHonest posts w)
 
   -- a booth's deed
   pub booth_row : (e : SealedEntry) (s : SentBy w e) (d : Deed) → e.entry.deed ≡ d → IsDeedOf Booth d →
-      NoneApplies (booth.causes_of e.entry.maker (entries_in s.past) (IsWhole s.past) d)
+      NoneApplies (booth.causes_of e.entry.maker (entries_in s.past) (IsWholeHistory s.past) d)
   booth_row e s d is of =
       let r = role_allows Booth e s d is of in
-      none_applies (booth.causes_of e.entry.maker (entries_in s.past) (IsWhole s.past) d) r.1
+      none_applies (booth.causes_of e.entry.maker (entries_in s.past) (IsWholeHistory s.past) d) r.1

@@ -15,7 +15,7 @@ use Rattle.roster.specs.declared.post.Role.TheVariants.{Supervisor, Booth}
 use Rattle.supervisor_core.specs.declared.state.SupervisorNot.TheVariants.{SessionsLeft}
 use Rattle.polling_world.specs.declared.left.LeftWhy.TheVariants.{SupervisorNot}
 use Rattle.rule_language.specs.declared.kind.Kind.TheVariants as kind
-use Rattle.rule_language.specs.Standard.{p3}
+use Rattle.rule_language.specs.Standard.{p3_body}
 use Rattle.rule_engine.specs.Meaning.{Holds}
 use Rattle.rule_engine.specs.Tests.{is_kind}
 use Rattle.auditor.specs.Rows.{row_of, kind_of}
@@ -105,7 +105,7 @@ before : Precedes node_of_sealed (sent_in w) authorised closed
 before = ((1, omega arith, refl), (2, omega arith, refl), [], (0, omega arith, refl))
 
 -- and no end of the session does
-fails : ¬ (Holds node_of_sealed (row_of posts) (sent_in w) (sent_in w) p3)
+fails : ¬ (Holds node_of_sealed (row_of posts) (sent_in w) (sent_in w) p3_body)
 fails holds =
     elim (holds authorised (1, omega arith, refl) refl closed (2, omega arith, refl) refl before) [
       | inl cast ↦ none_such (λ e. is_kind kind.Cast (kind_of e.entry.deed)) (sent_in w) refl cast.0 cast.2.0 cast.1
@@ -118,7 +118,7 @@ fails holds =
     ]
 
 -- so a supervisor that closes while a session is left breaks the rule on closing
-pub closing_over_sessions_fails : FailsAtSome (IsHonestBut (SupervisorNot SessionsLeft)) p3
+pub closing_over_sessions_fails : FailsAtSome (IsHonestBut (SupervisorNot SessionsLeft)) p3_body
 closing_over_sessions_fails = (
   posts,
   w,

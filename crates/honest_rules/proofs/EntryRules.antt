@@ -27,7 +27,7 @@ use Rattle.roster.specs.declared.post.Role.{Role}
 use Rattle.roster.specs.declared.post.Role.TheVariants.{Supervisor, Booth}
 use Rattle.rule_language.specs.declared.kind.Kind.TheVariants as kind
 use Rattle.rule_language.specs.Trees.{Trees}
-use Rattle.rule_language.specs.Standard.{m1, k1, k2}
+use Rattle.rule_language.specs.Standard.{m1_body, k1_body, k2_body}
 use Rattle.rule_engine.specs.Meaning.{Holds, SomeHolds}
 use Rattle.rule_engine.specs.Tests.{is_kind, is_role}
 use Rattle.auditor.specs.Rows.{row_of, kind_of}
@@ -90,7 +90,7 @@ module _ {posts : List Post} {w : World SealedEntry} (honest : IsHonest posts w)
   Rule rule = Holds node_of_sealed (row_of posts) S (sent_in w) rule
 
   -- each entry is a deed of its maker's role
-  pub rule_m1 : Rule m1
+  pub rule_m1 : Rule m1_body
   rule_m1 e ce ke =
       let s = sent_by honest e (were_sent e ce) in
       kind_by_role (role_at posts e.entry.maker) e.entry.deed (may honest e s).of_role
@@ -98,7 +98,7 @@ module _ {posts : List Post} {w : World SealedEntry} (honest : IsHonest posts w)
   -- ---- no fork
 
   -- two entries of one maker with one number are one
-  pub rule_k1 : Rule k1
+  pub rule_k1 : Rule k1_body
   rule_k1 e ce ke f cf kf same =
       no_fork node_of_sealed w honest.orderly e f (were_sent e ce) (were_sent f cf)
       (eqb-true e.entry.maker f.entry.maker same.0) (eqb-true e.entry.number f.entry.number same.1.0)
@@ -122,7 +122,7 @@ module _ {posts : List Post} {w : World SealedEntry} (honest : IsHonest posts w)
       (f, Contains-map entry_of s.past (Sent f) c, next.maker, next.number ∙ r.3)
 
   -- each entry but the first comes after the one before
-  pub rule_k2 : Rule k2
+  pub rule_k2 : Rule k2_body
   rule_k2 e ce ke = by e.entry.number refl
     where
       -- the same by the entry's number: it is 0, or some entry comes before

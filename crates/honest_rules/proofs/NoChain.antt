@@ -14,7 +14,7 @@ use Rattle.entry_order.proofs.Lists.{Contains-none, Contains-cons_cases}
 use Rattle.entry_order.proofs.Plays.{IsNew-from_test}
 use Rattle.roster.specs.declared.post.Post.{Post}
 use Rattle.roster.specs.declared.post.Role.TheVariants.{Supervisor, Booth}
-use Rattle.rule_language.specs.Standard.{k2}
+use Rattle.rule_language.specs.Standard.{k2_body}
 use Rattle.rule_engine.specs.Meaning.{Holds}
 use Rattle.auditor.specs.Rows.{row_of}
 use Rattle.honest_rules.specs.Honest.{MayAs, role_at}
@@ -116,7 +116,7 @@ distinct e f ce cf is =
     ]
 
 -- no path leads to the second entry, whose number is 1
-fails : ¬ (Holds node_of_sealed (row_of posts) (sent_in w) (sent_in w) k2)
+fails : ¬ (Holds node_of_sealed (row_of posts) (sent_in w) (sent_in w) k2_body)
 fails holds =
     elim (holds authorised (1, omega arith, refl) refl) [
       | inl first ↦ cc
@@ -125,7 +125,7 @@ fails holds =
     ]
 
 -- so a machine that doesn't name its own last entry breaks the rule on chains
-pub naming_none_of_its_own_fails : FailsAtSome IsHonestUnchained k2
+pub naming_none_of_its_own_fails : FailsAtSome IsHonestUnchained k2_body
 naming_none_of_its_own_fails = (
   posts,
   w,

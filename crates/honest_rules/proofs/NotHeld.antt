@@ -15,7 +15,7 @@ use Rattle.entry_order.specs.Naming.{has_digest, IsBorneIn}
 use Rattle.entry_order.proofs.Lists.{list_any_of}
 use Rattle.entry_order.proofs.Naming.{has_digest_of}
 use Rattle.deed_history.specs.Deeds.{Authorises, Overrides, Commits, Ends}
-use Rattle.deed_history.specs.Held.{Holds, HoldsOwn}
+use Rattle.deed_history.specs.Held.{HoldsSome, HoldsOwn}
 use Rattle.deed_history.proofs.Deciding.{holds_own, own_decides, holds_decides, is_opened, opened_decides}
 use Rattle.deed_history.proofs.Deciding.{is_closed, closed_decides, authorises, authorises_decides}
 use Rattle.deed_history.proofs.Deciding.{authorises_booth, authorises_booth_decides, overrides, overrides_decides}
@@ -42,7 +42,7 @@ no_own test IsSuch decides owner es none held =
 
 -- no entry of any maker with such a deed is held
 no_any : (test : Deed → Bool) (IsSuch : Deed → Type 0) → ((d : Deed) → Decides (test d) (IsSuch d)) →
-    (es : List Entry) → list_any (λ entry. test entry.deed) es ≡ false → Holds es IsSuch → ⊥
+    (es : List Entry) → list_any (λ entry. test entry.deed) es ≡ false → HoldsSome es IsSuch → ⊥
 no_any test IsSuch decides es none held = false≢true (sym none ∙ (holds_decides test IsSuch decides es).1 held)
 
 -- the sentences of the tables
@@ -57,7 +57,7 @@ not_closed_own = no_own is_closed (λ d. d ≡ deed.Closed) closed_decides
 
 -- no closing is held
 pub not_closed : (es : List Entry) → list_any (λ entry. is_closed entry.deed) es ≡ false →
-    Holds es (λ d. d ≡ deed.Closed) → ⊥
+    HoldsSome es (λ d. d ≡ deed.Closed) → ⊥
 not_closed = no_any is_closed (λ d. d ≡ deed.Closed) closed_decides
 
 -- no own authorising of the session is held
@@ -67,12 +67,12 @@ not_used n = no_own (authorises n) (Authorises n) (authorises_decides n)
 
 -- no authorising of the session for the booth is held
 pub not_named : (booth n : ℕ) (es : List Entry) → list_any (λ entry. authorises_booth booth n entry.deed) es ≡ false →
-    Holds es (λ d. d ≡ deed.Authorise booth n) → ⊥
+    HoldsSome es (λ d. d ≡ deed.Authorise booth n) → ⊥
 not_named booth n =
     no_any (authorises_booth booth n) (λ d. d ≡ deed.Authorise booth n) (authorises_booth_decides booth n)
 
 -- nothing that ends the session is held
-pub not_ended : (n : ℕ) (es : List Entry) → list_any (λ entry. ends n entry.deed) es ≡ false → Holds es (Ends n) → ⊥
+pub not_ended : (n : ℕ) (es : List Entry) → list_any (λ entry. ends n entry.deed) es ≡ false → HoldsSome es (Ends n) → ⊥
 not_ended n = no_any (ends n) (Ends n) (ends_decides n)
 
 -- nothing of its own that ends the session is held
@@ -82,12 +82,12 @@ not_ended_own n = no_own (ends n) (Ends n) (ends_decides n)
 
 -- no override of the session is held
 pub not_overridden : (n : ℕ) (es : List Entry) → list_any (λ entry. overrides n entry.deed) es ≡ false →
-    Holds es (Overrides n) → ⊥
+    HoldsSome es (Overrides n) → ⊥
 not_overridden n = no_any (overrides n) (Overrides n) (overrides_decides n)
 
 -- no override of the session with this word is held
 pub not_overridden_to : (n : ℕ) (how : How) (es : List Entry) →
-    list_any (λ entry. overrides_by n how entry.deed) es ≡ false → Holds es (λ d. d ≡ deed.Override n how) → ⊥
+    list_any (λ entry. overrides_by n how entry.deed) es ≡ false → HoldsSome es (λ d. d ≡ deed.Override n how) → ⊥
 not_overridden_to n how = no_any (overrides_by n how) (λ d. d ≡ deed.Override n how) (overrides_by_decides n how)
 
 -- no own override of the session with this word is held

@@ -16,7 +16,7 @@ use Rattle.roster.specs.declared.post.Role.TheVariants.{Supervisor, Booth}
 use Rattle.booth_core.specs.declared.state.BoothNot.TheVariants.{NotAuthorised}
 use Rattle.polling_world.specs.declared.left.LeftWhy.TheVariants.{BoothNot}
 use Rattle.rule_language.specs.declared.kind.Kind.TheVariants as kind
-use Rattle.rule_language.specs.Standard.{a1}
+use Rattle.rule_language.specs.Standard.{a1_body}
 use Rattle.rule_engine.specs.Meaning.{Holds}
 use Rattle.rule_engine.specs.Tests.{is_kind}
 use Rattle.auditor.specs.Rows.{row_of, kind_of, booth_of}
@@ -88,7 +88,7 @@ allowed (suc (suc zero)) =
 allowed (suc (suc (suc m))) = tt
 
 -- no authorising names the booth that activates
-fails : ¬ (Holds node_of_sealed (row_of posts) (sent_in w) (sent_in w) a1)
+fails : ¬ (Holds node_of_sealed (row_of posts) (sent_in w) (sent_in w) a1_body)
 fails holds =
     let (f, authorises, before, (_, (names, _))) = holds activated (2, omega arith, refl) refl in
     let test : SealedEntry → Bool =
@@ -97,7 +97,7 @@ fails holds =
     (and_from (is_kind kind.Authorise (kind_of f.entry.deed)) (booth_of f.entry.deed == 2) authorises names)
 
 -- so a booth that takes another's session breaks the rule on activations
-pub taking_another_booths_session_fails : FailsAtSome (IsHonestBut (BoothNot NotAuthorised)) a1
+pub taking_another_booths_session_fails : FailsAtSome (IsHonestBut (BoothNot NotAuthorised)) a1_body
 taking_another_booths_session_fails = (
   posts,
   w,

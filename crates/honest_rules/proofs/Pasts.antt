@@ -14,7 +14,7 @@ use Rattle.entry_order.proofs.Histories.{split_two}
 use Rattle.entry_order.proofs.Lists.{Contains-map}
 use Rattle.entry_order.proofs.Orders.{was_sent, held_was_sent, next_of, held_rises, named_held, one_order}
 use Rattle.roster.specs.declared.post.Post.{Post}
-use Rattle.polling_world.specs.Rules.{IsWhole}
+use Rattle.polling_world.specs.Rules.{IsWholeHistory}
 use Rattle.honest_rules.specs.Honest.{IsHonest, MayAs, role_at}
 
 -- e was sent by its maker, after this past
@@ -83,7 +83,8 @@ module _ {posts : List Post} {w : World SealedEntry} (honest : IsHonest posts w)
         ]
 
     -- whoever held a whole log held each entry that has a path to what it sent
-    path_held : (e : SealedEntry) (s : SentBy w e) → IsWhole s.past → (f : SealedEntry) → Contains (sent_in w) f →
+    path_held : (e : SealedEntry) (s : SentBy w e) → IsWholeHistory s.past → (f : SealedEntry) →
+        Contains (sent_in w) f →
         (between : List SealedEntry) → IsPath node_of_sealed (sent_in w) f between e → Contains (held s.past) f
     path_held e s whole f c [] path =
         named_held node_of_sealed w honest.orderly distinct s.past e (after e s) f c path
@@ -93,6 +94,6 @@ module _ {posts : List Post} {w : World SealedEntry} (honest : IsHonest posts w)
         subst (λ (u : SealedEntry). Contains (held s.past) u) (distinct r.0 f (held_too e s r.0 r.1) c r.2) r.1
 
     -- and so each that precedes it
-    pub whole_held : (e : SealedEntry) (s : SentBy w e) → IsWhole s.past → (f : SealedEntry) →
+    pub whole_held : (e : SealedEntry) (s : SentBy w e) → IsWholeHistory s.past → (f : SealedEntry) →
         Precedes node_of_sealed (sent_in w) f e → Contains (held s.past) f
     whole_held e s whole f p = path_held e s whole f p.0 p.2 p.3

@@ -13,7 +13,7 @@ use Rattle.entry_order.specs.declared.event.Event.{Event}
 use Rattle.entry_order.specs.declared.event.Event.TheVariants.{Sent}
 use Rattle.entry_order.specs.declared.step.Step.{Step}
 use Rattle.entry_order.specs.History.{sent, MayFollow}
-use Rattle.entry_order.specs.World.{World, start, history, history_of, play, IsLawful as IsLegalNext}
+use Rattle.entry_order.specs.World.{World, start, history, history_of, play, IsLegalNext}
 use Rattle.entry_order.proofs.MadePlays.{plays_are_made}
 use Rattle.entry_order.proofs.Plays.{IsOrderly-play, IsOrderly-start}
 use Rattle.roster.specs.declared.post.Role.{Role}
@@ -31,7 +31,7 @@ use Rattle.polling_world.proofs.MadeEntries.{entry-made, may_follow}
 use Rattle.polling_world.proofs.Rosters.{roster_has_text}
 use Rattle.auditor.specs.Rows.{role_in}
 use Rattle.honest_rules.specs.Honest.{IsHonest, MayAs, role_at}
-use Rattle.honest_rules.specs.Scripts.{AreMachinesOf, MachinesAreHonest}
+use Rattle.honest_rules.specs.Scripts.{AreOrderlyMachinesOf, MachinesAreHonest}
 use Rattle.honest_rules.specs.Scripts.{ScriptsLeadToHonestPlaces, ScriptsKeepTheRules, ScriptsAreNeverBroken}
 use Rattle.honest_rules.specs.Scripts.{ScriptsAreKept}
 use Rattle.honest_rules.proofs.Standard.{honest_entries_keep_the_rules}
@@ -137,7 +137,7 @@ module _ (script : Script) (lawful : IsLawful script) where
       }
 
   -- what was sent by machines that are there, which could send it
-  machine_allowed : (machines : List MachineState) → AreMachinesOf script machines → (m : ℕ)
+  machine_allowed : (machines : List MachineState) → AreOrderlyMachinesOf script machines → (m : ℕ)
       (past : List (Event SealedEntry)) (e : SealedEntry) (later : List (Event SealedEntry)) →
       history (world_of machines) m ≡ past ++ Sent e ∷ later → MayAs (role_at (roster_of script) m) m past e
   machine_allowed machines are m past e later is =

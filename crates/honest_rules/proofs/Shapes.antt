@@ -14,9 +14,9 @@ use Rattle.entry_order.specs.History.{held}
 use Rattle.entry_order.specs.Precedes.{Precedes}
 use Rattle.entry_order.specs.World.{World, sent_in}
 use Rattle.entry_order.proofs.Lists.{Contains-map, Contains-map_cases}
-use Rattle.deed_history.specs.Held.{Holds, HoldsOwn}
+use Rattle.deed_history.specs.Held.{HoldsSome, HoldsOwn}
 use Rattle.roster.specs.declared.post.Post.{Post}
-use Rattle.polling_world.specs.Rules.{entries_in, IsWhole}
+use Rattle.polling_world.specs.Rules.{entries_in, IsWholeHistory}
 use Rattle.honest_rules.specs.Honest.{IsHonest}
 use Rattle.honest_rules.proofs.Causes.{own_for_sure, any_for_sure}
 use Rattle.honest_rules.proofs.Pasts.{SentBy, two_of_one, held_precedes, own_held, whole_held}
@@ -56,7 +56,7 @@ module _ {posts : List Post} {w : World SealedEntry} (honest : IsHonest posts w)
   module _ (distinct : Distinct node_of_sealed (sent_in w)) where
     -- an entry with such a deed that is held precedes what is sent
     pub any_before : (IsSuch : Deed → Type 0) (e : SealedEntry) (s : SentBy w e) → Contains (sent_in w) e →
-        Holds (entries_in s.past) IsSuch →
+        HoldsSome (entries_in s.past) IsSuch →
         (f : SealedEntry) × Precedes node_of_sealed (sent_in w) f e × IsSuch f.entry.deed
     any_before IsSuch e s ce has =
         let f = any_held (λ (n : Entry). IsSuch n.deed) s.past has in
@@ -65,7 +65,7 @@ module _ {posts : List Post} {w : World SealedEntry} (honest : IsHonest posts w)
     -- where it is asked for that one is held
     pub any_asked : (test : Deed → Bool) (IsSuch : Deed → Type 0) → ((d : Deed) → Decides (test d) (IsSuch d)) →
         (e : SealedEntry) (s : SentBy w e) → Contains (sent_in w) e →
-        ((Holds (entries_in s.past) IsSuch → ⊥) → ⊥) →
+        ((HoldsSome (entries_in s.past) IsSuch → ⊥) → ⊥) →
         (f : SealedEntry) × Precedes node_of_sealed (sent_in w) f e × IsSuch f.entry.deed
     any_asked test IsSuch decides e s ce deny =
         any_before IsSuch e s ce (any_for_sure test IsSuch decides (entries_in s.past) deny)
@@ -82,8 +82,8 @@ module _ {posts : List Post} {w : World SealedEntry} (honest : IsHonest posts w)
         (f.0, held_precedes honest distinct e s f.0 ce f.1, f.2.0, f.2.1)
 
     -- no entry with such a deed precedes what is sent over a whole log that holds none
-    pub none_before_whole : (IsSuch : Deed → Type 0) (e : SealedEntry) (s : SentBy w e) → IsWhole s.past →
-        (Holds (entries_in s.past) IsSuch → ⊥) →
+    pub none_before_whole : (IsSuch : Deed → Type 0) (e : SealedEntry) (s : SentBy w e) → IsWholeHistory s.past →
+        (HoldsSome (entries_in s.past) IsSuch → ⊥) →
         (f : SealedEntry) → Precedes node_of_sealed (sent_in w) f e → IsSuch f.entry.deed → ⊥
     none_before_whole IsSuch e s whole none f before such =
         none

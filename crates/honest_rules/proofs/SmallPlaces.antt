@@ -14,7 +14,7 @@ use Rattle.entry_order.specs.History.{held}
 use Rattle.entry_order.specs.Made.{made_after, next_made}
 use Rattle.entry_order.specs.Naming.{has_digest, Distinct}
 use Rattle.entry_order.specs.Receipt.{IsOrderly}
-use Rattle.entry_order.specs.World.{World, start, sent_in, play, IsLawful}
+use Rattle.entry_order.specs.World.{World, start, sent_in, play, IsLegalNext}
 use Rattle.entry_order.proofs.Honest.{no_fork}
 use Rattle.entry_order.proofs.Made.{made_is_lawful}
 use Rattle.entry_order.proofs.MadePlays.{plays_are_made}
@@ -88,7 +88,7 @@ module _ (deeds : List (List Deed)) where
   next = next_made node_of_sealed (made deeds) (λ m h. true)
 
   -- it is what a legal history asks
-  lawful : IsLawful node_of_sealed next
+  lawful : IsLegalNext node_of_sealed next
   lawful =
       made_is_lawful node_of_sealed (made deeds)
       (record {

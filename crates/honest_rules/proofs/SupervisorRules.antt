@@ -21,7 +21,7 @@ use Rattle.deed_history.proofs.Deciding.{is_opened, opened_decides, authorises, 
 use Rattle.deed_history.proofs.Deciding.{commits, commits_decides, ends, ends_decides}
 use Rattle.rule_language.specs.declared.kind.Kind.TheVariants as kind
 use Rattle.rule_language.specs.Trees.{Trees}
-use Rattle.rule_language.specs.Standard.{o1, o2, a2, p1, p2, p3, v1, v4}
+use Rattle.rule_language.specs.Standard.{o1_body, o2_body, a2_body, p1_body, p2_body, p3_body, v1_body, v4_body}
 use Rattle.rule_engine.specs.Meaning.{Holds}
 use Rattle.rule_engine.specs.Tests.{is_kind}
 use Rattle.auditor.specs.Rows.{row_of, role_in, kind_of, session_of, booth_of}
@@ -99,7 +99,7 @@ module _ {posts : List Post} {w : World SealedEntry} (honest : IsHonest posts w)
   Rule rule = Holds node_of_sealed (row_of posts) S (sent_in w) rule
 
   -- one opening
-  pub rule_o1 : Rule o1
+  pub rule_o1 : Rule o1_body
   rule_o1 e ce ke f cf kf =
       let s = sent_by honest e (were_sent e ce) in
       let t = sent_by honest f (were_sent f cf) in
@@ -111,7 +111,7 @@ module _ {posts : List Post} {w : World SealedEntry} (honest : IsHonest posts w)
       (one_supervisor honest e.entry.maker f.entry.maker role role') de df unopened unopened'
 
   -- one closing
-  pub rule_p1 : Rule p1
+  pub rule_p1 : Rule p1_body
   rule_p1 e ce ke f cf kf =
       let s = sent_by honest e (were_sent e ce) in
       let t = sent_by honest f (were_sent f cf) in
@@ -123,7 +123,7 @@ module _ {posts : List Post} {w : World SealedEntry} (honest : IsHonest posts w)
       (one_supervisor honest e.entry.maker f.entry.maker role role') de df unclosed unclosed'
 
   -- one authorising of each session
-  pub rule_a2 : Rule a2
+  pub rule_a2 : Rule a2_body
   rule_a2 e ce ke f cf kf same =
       let de = of_kind kind.Authorise e.entry.deed ke in
       let df = of_kind kind.Authorise f.entry.deed kf in
@@ -133,7 +133,7 @@ module _ {posts : List Post} {w : World SealedEntry} (honest : IsHonest posts w)
       (de ∙ ap (λ n. deed.Authorise (booth_of e.entry.deed) n) sessions) df
 
   -- an opening before each authorising
-  pub rule_o2 : Rule o2
+  pub rule_o2 : Rule o2_body
   rule_o2 e ce ke =
       let s = sent_by honest e (were_sent e ce) in
       let de = of_kind kind.Authorise e.entry.deed ke in
@@ -159,11 +159,11 @@ module _ {posts : List Post} {w : World SealedEntry} (honest : IsHonest posts w)
       )
 
   -- an override that cancels is of an authorised session
-  pub rule_v1 : Rule v1
+  pub rule_v1 : Rule v1_body
   rule_v1 e ce ke = authorised_before e ce how.Cancel (of_kind kind.Override e.entry.deed ke)
 
   -- one that casts is of an authorised session with a commitment
-  pub rule_v4 : Rule v4
+  pub rule_v4 : Rule v4_body
   rule_v4 e ce ke =
       let s = sent_by honest e (were_sent e ce) in
       let de = of_kind kind.Forced e.entry.deed ke in
@@ -184,7 +184,7 @@ module _ {posts : List Post} {w : World SealedEntry} (honest : IsHonest posts w)
       )
 
   -- no authorising after a closing
-  pub rule_p2 : Rule p2
+  pub rule_p2 : Rule p2_body
   rule_p2 e ce ke (f, kf, before, _) =
       let s = sent_by honest e (were_sent e ce) in
       let t = sent_by honest f before.0 in
@@ -219,7 +219,7 @@ module _ {posts : List Post} {w : World SealedEntry} (honest : IsHonest posts w)
       (λ running. none_left (_, (n, (held, running))))
 
   -- a session that was authorised before a closing has ended before it
-  pub rule_p3 : Rule p3
+  pub rule_p3 : Rule p3_body
   rule_p3 e ce ke f cf kf before =
       let g = ended_before e f ce cf ke kf before in
       let n = session_of e.entry.deed in

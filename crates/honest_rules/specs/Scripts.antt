@@ -25,7 +25,7 @@ ScriptsLeadToHonestPlaces =
 
 -- these are machines of the script, each at its place, whatever stopped it; each could send what it sent when it did,
 -- and together they are orderly
-pub record AreMachinesOf (script : Script) (machines : List MachineState) : Type 0 where
+pub record AreOrderlyMachinesOf (script : Script) (machines : List MachineState) : Type 0 where
   pub number : (place : ℕ) (m : MachineState) → slice_get machines place ≡ Some m → m.config.number ≡ place
   pub config : (place : ℕ) (m : MachineState) → slice_get machines place ≡ Some m → IsOf script m.config
   pub made : (place : ℕ) (m : MachineState) → slice_get machines place ≡ Some m → AreMade m.config m.events
@@ -34,7 +34,7 @@ pub record AreMachinesOf (script : Script) (machines : List MachineState) : Type
 -- so they are an honest place too, which needs no list of steps
 abbrev pub MachinesAreHonest : Type 0
 MachinesAreHonest =
-    (script : Script) (machines : List MachineState) → IsLawful script → AreMachinesOf script machines →
+    (script : Script) (machines : List MachineState) → IsLawful script → AreOrderlyMachinesOf script machines →
     IsHonest (roster_of script) (world_of machines)
 
 -- of any entries that a script's machines sent by any steps each standard rule holds

@@ -36,7 +36,7 @@ impl Parameters {
 
 impl OtsKind {
     ghost use Rattle.lms_ots.specs.Parameters.{parameters, signature_len};
-    ghost use Rattle.lms_ots.specs.Words.{kind_word};
+    ghost use Rattle.lms_ots.specs.Words.{ots_word};
 
     pub(crate) fn parameters(self) -> Parameters
         ensures table { result ≡ parameters self }
@@ -78,7 +78,7 @@ impl OtsKind {
 
     /// The set's word in texts: `w` and the width of a digit in bits.
     pub fn word(self) -> &'static [u8]
-        ensures { result.now ≡ kind_word self }
+        ensures { result.now ≡ ots_word self }
     {
         match self {
             OtsKind::W1 => b"w1",
@@ -90,8 +90,8 @@ impl OtsKind {
 
     /// The set whose word it is.
     pub fn of_word(word: &[u8]) -> Option<OtsKind>
-        ensures known { IfSome result (λ kind. word.now ≡ kind_word kind) }
-        ensures unknown { IfNone result ((kind : OtsKind) → word.now ≢ kind_word kind) }
+        ensures known { IfSome result (λ kind. word.now ≡ ots_word kind) }
+        ensures unknown { IfNone result ((kind : OtsKind) → word.now ≢ ots_word kind) }
     {
         match word {
             b"w1" => Some(OtsKind::W1),

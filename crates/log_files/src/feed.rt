@@ -3,7 +3,7 @@ ghost use Rattle.std.specs.Prelude.{◌≡◌, ◌≤◌, ◌+◌, length, drop,
 ghost use Rattle.hall_outside.specs.Counts.{HasCause, ComesExactly};
 ghost use Rattle.hall_outside.specs.Files.{OnSomeFile};
 ghost use Rattle.hall_outside.specs.ReadFile.{ReadsOn};
-ghost use Rattle.log_files.specs.LogFile.{max_bytes, IsRefused};
+ghost use Rattle.log_files.specs.LogFile.{max_bytes, IsLogRefused};
 ghost use Rattle.log_files.specs.inside.Fed.{IsReadOf};
 
 use crate::plain_log::LogFault;
@@ -70,7 +70,7 @@ pub(crate) fn read_records<S: Store, R: ReadEntry>(
     ensures ok { IfOk result (λ log. OnSomeFile (S.files store.old) name.now
         (IsReadOf (R.reads reader.now) log)) }
     ensures err { IfErr result (λ fault.
-        OnSomeFile (S.files store.old) name.now (IsRefused fault)) }
+        OnSomeFile (S.files store.old) name.now (IsLogRefused fault)) }
     ensures absent { ComesExactly (S.answered store.old).absences (S.answered store.new).absences
         (IsErrOf result LogFault.Absent) }
     ensures absences { (S.answered store.old).absences ≤ (S.answered store.new).absences }

@@ -4,7 +4,7 @@ ghost use Rattle.std.specs.List.{All};
 ghost use Rattle.hall_outside.specs.Counts.{HasCause, ComesExactly};
 ghost use Rattle.hall_outside.specs.Files.{OnSomeFile};
 ghost use Rattle.hall_outside.specs.ReadFile.{ReadsOn};
-ghost use Rattle.log_files.specs.LogFile.{max_bytes, IsSealedLogOf, IsRefused};
+ghost use Rattle.log_files.specs.LogFile.{max_bytes, IsSealedLogOf, IsLogRefused};
 ghost use Rattle.log_files.specs.LogText.{HasHeader};
 ghost use Rattle.log_files.specs.SealedLog.{AreValid, SaysSealed};
 ghost use Rattle.log_files.specs.inside.Fed.{IsWithBreak};
@@ -136,7 +136,7 @@ pub fn read_log<S: Store>(
     ensures ok { IfOk result (λ log. OnSomeFile (S.files store.old) name.now
         (IsSealedLogOf roster.now.machines election.now log)) }
     ensures err { IfErr result (λ fault.
-        OnSomeFile (S.files store.old) name.now (IsRefused fault)) }
+        OnSomeFile (S.files store.old) name.now (IsLogRefused fault)) }
 
     // Absent and TooLong come exactly where the store said so in this call, ReadFault only so.
     ensures absent { ComesExactly (S.answered store.old).absences (S.answered store.new).absences
@@ -176,7 +176,7 @@ pub fn read_log_after<S: Store>(
     ensures ok { IfOk result (λ log. OnSomeFile (S.files store.old) name.now
         (IsSealedLogOf roster.now.machines election.now log)) }
     ensures err { IfErr result (λ fault.
-        OnSomeFile (S.files store.old) name.now (IsRefused fault)) }
+        OnSomeFile (S.files store.old) name.now (IsLogRefused fault)) }
 
     // So it may stand among those that were read before.
     ensures valid { IfOk result (λ log.

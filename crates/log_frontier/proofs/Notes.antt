@@ -19,7 +19,7 @@ use Rattle.entry_order.specs.Ascending.{inserted, insert_digest}
 use Rattle.entry_order.specs.Frontier.{frontier}
 use Rattle.entry_order.proofs.Lists.{Contains-head, Contains-later, Contains-filter_cases, Contains-map_cases}
 use Rattle.entry_order.proofs.Frontiers.{frontier_cases, frontier_push}
-use Rattle.log_frontier.specs.Places.{digest_of, digest_at, IsFrontierAt, HasNoDigestTwice}
+use Rattle.log_frontier.specs.Places.{digest_or_none, digest_at, IsFrontierAt, HasNoDigestTwice}
 use Rattle.log_frontier.specs.inside.Noting.{is_left, count_below}
 
 -- how many digests from the front on are below d
@@ -100,7 +100,7 @@ left_at node e (f ∷ es) (suc p) l = left_at node e es p (omega arith)
 -- the digest at a place that was read
 pub digest_at_read : {T : Type 0} (node : T → Node) (es : List T) (p : ℕ) (e : T) → p < length es →
     e ≡ get_or es p e → digest_at node es p ≡ (node e).digest
-digest_at_read node es p e l is = ap (digest_of node) (slice_get_read es (length es) p e refl l is)
+digest_at_read node es p e l is = ap (digest_or_none node) (slice_get_read es (length es) p e refl l is)
 
 module _ {T : Type 0} (node : T → Node) (es : List T) (e : T) where
   -- the digest at a place when e is held too
@@ -113,7 +113,7 @@ module _ {T : Type 0} (node : T → Node) (es : List T) (e : T) where
   same_digests [] all = refl
   same_digests (p ∷ ps) all =
       let one : at_new p ≡ digest_at node es p =
-      ap (digest_of node) (get_append es (e ∷ []) p (All-head (λ p. p < length es) p ps all)) in
+      ap (digest_or_none node) (get_append es (e ∷ []) p (All-head (λ p. p < length es) p ps all)) in
       let rest = same_digests ps (All-tail (λ p. p < length es) p ps all) in
       λ i. one i ∷ rest i
 
@@ -197,7 +197,7 @@ module _ {T : Type 0} (node : T → Node) (es : List T) (e : T) where
             let n = count_below node (es ++ e ∷ []) (node e).digest (left ps) in
             map_insert (λ p. at_new p) (left ps) n (length es)
             ∙ ap (λ cs. take n cs ++ at_new (length es) ∷ drop n cs) left_digests
-            ∙ ap (λ d. take n kept ++ d ∷ drop n kept) (ap (digest_of node) (get_last es e))
+            ∙ ap (λ d. take n kept ++ d ∷ drop n kept) (ap (digest_or_none node) (get_last es e))
             ∙ ap (put_at (node e).digest kept) (sym counts)
             ∙ sym (insert_by_count (node e).digest kept apart)
             ∙ sym (frontier_push node es e ∙ ap (λ b. cond b kept (insert_digest (node e).digest kept)) free)

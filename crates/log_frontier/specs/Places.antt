@@ -17,13 +17,13 @@ pub record Places : Type 0 where
 
 module _ {T : Type 0} (node : T → Node) where
   -- the digest of the entry, and none where there is no entry
-  abbrev pub digest_of : Option T → List ℕ
-  digest_of None = []
-  digest_of (Some e) = (node e).digest
+  abbrev pub digest_or_none : Option T → List ℕ
+  digest_or_none None = []
+  digest_or_none (Some e) = (node e).digest
 
   -- the digest of the entry at a place
   abbrev pub digest_at : List T → ℕ → List ℕ
-  digest_at es p = digest_of (slice_get es p)
+  digest_at es p = digest_or_none (slice_get es p)
 
   -- the digests at these places are the frontier of the entries, in its ascending order
   pub record IsFrontierAt (es : List T) (places : List ℕ) : Type 0 where

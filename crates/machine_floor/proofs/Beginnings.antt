@@ -25,7 +25,7 @@ use Rattle.polling_world.specs.Machines.{MachineState, IsMachine, IsFresh}
 use Rattle.machine_floor.specs.Stations.{StationState, IsStation, IsTakenWell, IsOfLinks, new_out, new_in}
 use Rattle.machine_floor.specs.Stations.{ticks_from}
 use Rattle.finished_floor.specs.Places.{IsStopOf}
-use Rattle.machine_floor.specs.Fresh.{lines_of, IsNewStation}
+use Rattle.machine_floor.specs.Fresh.{lose_lines_of, IsNewStation}
 use Rattle.machine_floor.specs.inside.Beginning.{begun, IsBeginning}
 use Rattle.machine_floor.proofs.Hands.{some_of}
 
@@ -190,12 +190,12 @@ module _ (script : Script) (lawful : IsLawful script) (links : List (List LinkVi
     stops = stops;
     machine = fresh;
     link = refl;
-    loses = ap (λ n. lines_of n script.loses) number;
+    loses = ap (λ n. lose_lines_of n script.loses) number;
     ends = ends;
     fresh = ap (λ (x : MachineState). record {
       machine = x;
       link = script.link;
-      loses = lines_of m.config.number script.loses;
+      loses = lose_lines_of m.config.number script.loses;
       outs = map new_out the_outs;
       inns = map new_in the_inns;
       losses = [];
@@ -204,7 +204,7 @@ module _ (script : Script) (lawful : IsLawful script) (links : List (List LinkVi
         ∙ ap (λ (o : List (OutView SealedEntry)). record {
           machine = m;
           link = script.link;
-          loses = lines_of m.config.number script.loses;
+          loses = lose_lines_of m.config.number script.loses;
           outs = o;
           inns = map new_in the_inns;
           losses = [];
@@ -213,7 +213,7 @@ module _ (script : Script) (lawful : IsLawful script) (links : List (List LinkVi
         ∙ ap (λ (i : List (InView SealedEntry)). record {
           machine = m;
           link = script.link;
-          loses = lines_of m.config.number script.loses;
+          loses = lose_lines_of m.config.number script.loses;
           outs = the_outs;
           inns = i;
           losses = [];
@@ -224,7 +224,7 @@ module _ (script : Script) (lawful : IsLawful script) (links : List (List LinkVi
 -- a station that is made of these parts is the one that begins
 pub begun_is : (script : Script) (m : MachineState) (outs : List (OutView SealedEntry))
     (inns : List (InView SealedEntry))
-    (own : ℕ) (loses given : List Lose) (losses : List Loss) (ticks : List Tick) → loses ≡ lines_of own given →
+    (own : ℕ) (loses given : List Lose) (losses : List Loss) (ticks : List Tick) → loses ≡ lose_lines_of own given →
     given ≡ script.loses → own ≡ m.config.number → losses ≡ [] → ticks ≡ [] →
     record {
       machine = m;
@@ -246,6 +246,6 @@ begun_is script m outs inns own loses given losses ticks l g o lost done =
       ticks = c;
     } in
     ap (λ a. State a losses ticks)
-    (l ∙ ap (lines_of own) g ∙ ap (λ n. lines_of n script.loses) o)
-    ∙ ap (λ b. State (lines_of m.config.number script.loses) b ticks) lost
-    ∙ ap (λ c. State (lines_of m.config.number script.loses) [] c) done
+    (l ∙ ap (lose_lines_of own) g ∙ ap (λ n. lose_lines_of n script.loses) o)
+    ∙ ap (λ b. State (lose_lines_of m.config.number script.loses) b ticks) lost
+    ∙ ap (λ c. State (lose_lines_of m.config.number script.loses) [] c) done

@@ -43,7 +43,7 @@ use Rattle.polling_world.proofs.Placing.{get-map, get-map_from}
 use Rattle.roster.specs.declared.post.Post.{Post}
 use Rattle.machine_floor.specs.Stations.{StationState, IsStation, IsOfHand, IsOfEar, IsOutCause, IsInCause}
 use Rattle.machine_floor.specs.Stations.{made_of, numbered_below, ticks_from}
-use Rattle.machine_floor.specs.Fresh.{lines_of, IsNewStation, AreNewStations}
+use Rattle.machine_floor.specs.Fresh.{lose_lines_of, IsNewStation, AreNewStations}
 use Rattle.machine_floor.specs.inside.Gathering.{by_of, AreMadeBy, AreEndsOf, AreRests}
 use Rattle.machine_floor.proofs.Gathers.{gather_pair}
 use Rattle.machine_floor.proofs.Linked.{rows_are, row_is, ends_out, ends_in}
@@ -97,17 +97,17 @@ once_all f (x ∷ xs) each across =
 
 -- the lines on one machine name its losses as all lines do
 lines_name : (own : ℕ) (loses : List Lose) (number to : ℕ) →
-    is_scripted (lines_of own loses) own number to ≡ is_scripted loses own number to
+    is_scripted (lose_lines_of own loses) own number to ≡ is_scripted loses own number to
 lines_name own [] number to = refl
 lines_name own (lose ∷ loses) number to =
     let rest = lines_name own loses number to in
     let more : Bool = (lose.number == number) && (lose.to == to) in
     let P : Bool → Type 0 = λ b.
-    is_scripted (cond b (lose ∷ lines_of own loses) (lines_of own loses)) own number to
+    is_scripted (cond b (lose ∷ lose_lines_of own loses) (lose_lines_of own loses)) own number to
     ≡ ((b && more) || is_scripted loses own number to) in
     elim (cases_Bool (lose.from == own)) [
       | inl is ↦ subst P (sym is)
-          (ap (λ b. (b && more) || is_scripted (lines_of own loses) own number to) is
+          (ap (λ b. (b && more) || is_scripted (lose_lines_of own loses) own number to) is
           ∙ ap (λ b. more || b) rest)
       | inr isnt ↦ subst P (sym isnt) rest
     ]

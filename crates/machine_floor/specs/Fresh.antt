@@ -9,8 +9,8 @@ use Rattle.finished_floor.specs.Places.{IsStopOf}
 use Rattle.machine_floor.specs.Stations.{StationState, IsOfLinks, made_of}
 
 -- the lines on entries of this machine
-abbrev pub lines_of : ℕ → List Lose → List Lose
-lines_of own loses = filter (λ lose. lose.from == own) loses
+abbrev pub lose_lines_of : ℕ → List Lose → List Lose
+lose_lines_of own loses = filter (λ lose. lose.from == own) loses
 
 -- The script's station at this place: its machine is the script's, with its stop line, before anything happened; it
 -- has the machine's lines and the ends of these links; and nothing was put, taken, lost or done.
@@ -19,7 +19,7 @@ pub record IsNewStation (script : Script) (links : List (List LinkView)) (at : �
   pub stops : IsStopOf script.stops at stop
   pub machine : IsFresh script at stop s.machine
   pub link : s.link ≡ script.link
-  pub loses : s.loses ≡ lines_of at script.loses
+  pub loses : s.loses ≡ lose_lines_of at script.loses
   pub ends : IsOfLinks links s
   pub fresh : made_of s ≡ s
 

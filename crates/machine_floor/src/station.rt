@@ -6,7 +6,7 @@ ghost use Rattle.broadcast_queues.specs.Ends.{InView, IsInOf};
 ghost use Rattle.entry_format.specs.SealedEntry.{SealedEntry};
 ghost use Rattle.polling_world.specs.declared.acted.Acted.{Acted};
 ghost use Rattle.polling_world.specs.Acting.{IsActed};
-ghost use Rattle.machine_floor.specs.Fresh.{lines_of};
+ghost use Rattle.machine_floor.specs.Fresh.{lose_lines_of};
 ghost use Rattle.machine_floor.specs.inside.Beginning.{IsBeginning, begun};
 ghost use Rattle.machine_floor.specs.Stations.{IsOfLinks, IsStation, made_of};
 ghost use Rattle.floor_sweep.specs.Done.{did};
@@ -255,7 +255,7 @@ fn new_lists(
     script: &Script,
     own: u32,
 ) -> Result<(Vec<Lose>, Vec<Loss>, Vec<Tick>), Memory>
-    ensures loses { IfOk result (λ r. r.0.items ≡ lines_of own script.now.loses) }
+    ensures loses { IfOk result (λ r. r.0.items ≡ lose_lines_of own script.now.loses) }
     ensures losses { IfOk result (λ r. (r.1.items ≡ []) × (131072 ≤ vec_capacity r.1)) }
     ensures ticks { IfOk result (λ r. (r.2.items ≡ []) × (script.now.log ≤ vec_capacity r.2)) }
 {
@@ -267,7 +267,7 @@ fn new_lists(
 
 // The lines on entries of this machine.
 fn lines_of(alloc: Global, loses: &[Lose], own: u32) -> Result<Vec<Lose>, Memory>
-    ensures { IfOk result (λ lines. lines.items ≡ lines_of own loses.now) }
+    ensures { IfOk result (λ lines. lines.items ≡ lose_lines_of own loses.now) }
 {
     let mut lines = Vec::new(alloc);
     for at in 0..loses.len() {

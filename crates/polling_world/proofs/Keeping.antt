@@ -16,7 +16,7 @@ use Rattle.entry_order.specs.declared.event.Event.TheVariants.{Sent, Got}
 use Rattle.entry_order.specs.History.{MayFollow}
 use Rattle.entangled_log.specs.declared.heard.Heard.{Heard}
 use Rattle.entangled_log.specs.declared.heard.Heard.TheVariants.{Taken, Own, Already, Full}
-use Rattle.entangled_log.specs.Hearing.{IsAnswer, log_after}
+use Rattle.entangled_log.specs.Hearing.{IsHearAnswer, log_after}
 use Rattle.entangled_log.specs.Logs.{History}
 use Rattle.entry_order.proofs.Histories.{IsLegal-push, IsLegal-none, sent_one_more, sent_as_many}
 use Rattle.election_script.specs.declared.script.Cast0.{Cast0}
@@ -218,7 +218,7 @@ module _ (m : MachineState) (election : List ℕ) (next capacity : ℕ) (before 
 
   -- it keeps what it has to, whatever the log answered
   heard_kept : IsGoing m → (e : SealedEntry) (heard : Heard SealedEntry) →
-      IsAnswer node_of_sealed (log_of m) e heard →
+      IsHearAnswer node_of_sealed (log_of m) e heard →
       StandFor after m.config.role m.config.number (entries_in (log_after heard e (log_of m)).events) →
       m.config.log ≤ length (log_after heard e (log_of m)).events + spare_of after →
       IsKept (with_log (log_after heard e (log_of m)) m) election next capacity after
@@ -239,7 +239,7 @@ module _ (m : MachineState) (election : List ℕ) (next capacity : ℕ) (before 
 
   -- a machine whose log heard an entry
   pub IsKept-heard : IsGoing m → (e : SealedEntry) (heard : Heard SealedEntry) (log : History SealedEntry) →
-      IsAnswer node_of_sealed (log_of m) e heard → log ≡ log_after heard e (log_of m) →
+      IsHearAnswer node_of_sealed (log_of m) e heard → log ≡ log_after heard e (log_of m) →
       StandFor after m.config.role m.config.number (entries_in log.events) →
       log.capacity ≤ length log.events + spare_of after → IsKept (with_log log m) election next capacity after
   IsKept-heard going e heard log answer is noted spare =

@@ -26,7 +26,7 @@ use Rattle.booth_core.proofs.Answered as booth_answer
 use Rattle.polling_world.specs.Configs.{Config}
 use Rattle.polling_world.specs.Making.{next_entry}
 use Rattle.polling_world.specs.Worlds.{IsNextOf, IsNextAt, TellsNext}
-use Rattle.polling_world.specs.Rules.{MayDo, RoleRefuses, IsWhole, entries_in}
+use Rattle.polling_world.specs.Rules.{MayDo, RoleRefuses, IsWholeHistory, entries_in}
 use Rattle.polling_world.specs.Sending.{MaySend, next_action}
 
 -- it holds, or it doesn't
@@ -60,8 +60,8 @@ role_either Supervisor owner h deed =
     supervisor_by owner (entries_in h) deed first.0 first.1
 role_either Booth owner h deed =
     let whole = whole_or_not node_of_sealed (held h) in
-    let first = booth_answer.answered owner (entries_in h) (IsWhole h) whole.0 deed whole.1 in
-    booth_by owner (entries_in h) (IsWhole h) deed first.0 first.1
+    let first = booth_answer.answered owner (entries_in h) (IsWholeHistory h) whole.0 deed whole.1 in
+    booth_by owner (entries_in h) (IsWholeHistory h) deed first.0 first.1
 
 -- an entry's digest is new among those held or it isn't
 new_either : (h : List (Event SealedEntry)) (e : SealedEntry) → Either (IsNew node_of_sealed (held h) e)

@@ -13,7 +13,7 @@ use Rattle.polling_world.specs.declared.left.Left.{Left}
 use Rattle.polling_world.specs.declared.left.LeftWhy.{LeftWhy}
 use Rattle.polling_world.specs.declared.left.LeftWhy.TheVariants as why
 use Rattle.polling_world.specs.Machines.{MachineState, has_stopped}
-use Rattle.polling_world.specs.Rules.{RoleRefuses, IsWhole, entries_in}
+use Rattle.polling_world.specs.Rules.{RoleRefuses, IsWholeHistory, entries_in}
 use Rattle.polling_world.specs.Waiting.{IsWhy, IsLeft}
 
 -- what holds isn't denied
@@ -40,12 +40,12 @@ booth_rule : (owner : ℕ) (h : List (Event SealedEntry)) (deed : Deed) (a b : R
     → RoleRefuses Booth owner h deed a → RoleRefuses Booth owner h deed b → a ≡ b
 booth_rule owner h deed (Ok x) (Ok y) p q = refl
 booth_rule owner h deed (Ok x) (Err (why.BoothNot w)) p q =
-    let same = one_first (booth.causes_of owner (entries_in h) (IsWhole h) deed) (Ok x) (Err w) p q in cc
+    let same = one_first (booth.causes_of owner (entries_in h) (IsWholeHistory h) deed) (Ok x) (Err w) p q in cc
 booth_rule owner h deed (Ok x) (Err _) p q = absurd q
 booth_rule owner h deed (Err (why.BoothNot v)) (Ok y) p q =
-    let same = one_first (booth.causes_of owner (entries_in h) (IsWhole h) deed) (Err v) (Ok y) p q in cc
+    let same = one_first (booth.causes_of owner (entries_in h) (IsWholeHistory h) deed) (Err v) (Ok y) p q in cc
 booth_rule owner h deed (Err (why.BoothNot v)) (Err (why.BoothNot w)) p q =
-    let same = one_first (booth.causes_of owner (entries_in h) (IsWhole h) deed) (Err v) (Err w) p q in cc
+    let same = one_first (booth.causes_of owner (entries_in h) (IsWholeHistory h) deed) (Err v) (Err w) p q in cc
 booth_rule owner h deed (Err (why.BoothNot v)) (Err _) p q = absurd q
 booth_rule owner h deed (Err _) b p q = absurd p
 

@@ -12,7 +12,7 @@ use Rattle.entry_order.specs.declared.event.Event.{Event}
 use Rattle.entry_order.specs.Node.{Node}
 use Rattle.entry_order.specs.History.{entry_of, held, greatest_stamp}
 use Rattle.entry_order.specs.World.{World, history}
-use Rattle.entry_order.specs.Merged.{PlacedEvent, kind, rank, placed, IsEventOf, step_of}
+use Rattle.entry_order.specs.Merged.{PlacedEvent, kind, sort_key, placed, IsEventOf, step_of}
 use Rattle.entry_order.proofs.Histories.{greatest_push}
 use Rattle.entry_order.proofs.Lists.{Contains-none, Contains-head, Contains-later}
 use Rattle.entry_order.proofs.Machines.{in_world}
@@ -26,11 +26,11 @@ module _ {T : Type 0} where
   -- each has another rank than all later ones
   abbrev IsOnce : List (PlacedEvent T) → Type 0
   IsOnce [] = Unit {0}
-  IsOnce (x ∷ xs) = ((y : PlacedEvent T) → Contains xs y → rank x ≢ rank y) × IsOnce xs
+  IsOnce (x ∷ xs) = ((y : PlacedEvent T) → Contains xs y → sort_key x ≢ sort_key y) × IsOnce xs
 
   -- two lists of which none of the one has a rank of the other
   once_append : (xs ys : List (PlacedEvent T)) → IsOnce xs → IsOnce ys →
-      ((x y : PlacedEvent T) → Contains xs x → Contains ys y → rank x ≢ rank y) → IsOnce (xs ++ ys)
+      ((x y : PlacedEvent T) → Contains xs x → Contains ys y → sort_key x ≢ sort_key y) → IsOnce (xs ++ ys)
   once_append [] ys a b differ = b
   once_append (x ∷ xs) ys a b differ = (
     λ y c. elim (Contains-append_cases xs ys y c)
@@ -40,20 +40,20 @@ module _ {T : Type 0} where
 
   -- a rank is none of these where it is found to differ from each
   none_of : (x : PlacedEvent T) (xs : List (PlacedEvent T)) →
-      ((y : PlacedEvent T) → Contains xs y → rank x ≢ rank y) →
-      AllByRecursion (λ r. bytes_eq (rank x) r ≡ false) (map rank xs)
+      ((y : PlacedEvent T) → Contains xs y → sort_key x ≢ sort_key y) →
+      AllByRecursion (λ r. bytes_eq (sort_key x) r ≡ false) (map sort_key xs)
   none_of x [] differ = tt
   none_of x (y ∷ xs) differ = (
-    false_from_ne_true (bytes_eq (rank x) (rank y))
-        (λ t. differ y (Contains-head y xs) ((bytes_eq-Decides (rank x) (rank y)).0 t)),
+    false_from_ne_true (bytes_eq (sort_key x) (sort_key y))
+        (λ t. differ y (Contains-head y xs) ((bytes_eq-Decides (sort_key x) (sort_key y)).0 t)),
     none_of x xs (λ z c. differ z (Contains-later y xs z c)),
   )
 
   -- the ranks differ
-  distinct_ranks : (xs : List (PlacedEvent T)) → IsOnce xs → IsDistinct bytes_eq (map rank xs)
+  distinct_ranks : (xs : List (PlacedEvent T)) → IsOnce xs → IsDistinct bytes_eq (map sort_key xs)
   distinct_ranks [] once = IsDistinct-from_apart bytes_eq [] (λ i j d less within. absurd (omega arith))
   distinct_ranks (x ∷ xs) once =
-      IsDistinct-cons bytes_eq (rank x) (map rank xs) (none_of x xs once.0) (distinct_ranks xs once.1)
+      IsDistinct-cons bytes_eq (sort_key x) (map sort_key xs) (none_of x xs once.0) (distinct_ranks xs once.1)
 
 module _ {T : Type 0} (node : T → Node) where
   -- ---- the events of one machine

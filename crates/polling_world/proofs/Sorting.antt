@@ -20,7 +20,7 @@ use Rattle.std.proofs.lemmas.Map.Lookups.{exact_bytes}
 use Rattle.std.proofs.lemmas.Slice.Eq.{bytes_eq-Decides}
 use Rattle.entry_order.specs.Node.{Node}
 use Rattle.entry_order.specs.World.{World}
-use Rattle.entry_order.specs.Merged.{PlacedEvent, rank, IsSortedByRank, IsMergedOf, step_of}
+use Rattle.entry_order.specs.Merged.{PlacedEvent, sort_key, IsSortedByKey, IsMergedOf, step_of}
 use Rattle.polling_world.specs.declared.merging.RankedStep.{RankedStep}
 use Rattle.polling_world.specs.inside.Ranked.{ranked_step, AreRanked}
 
@@ -81,31 +81,31 @@ lower a b = is_lt (slice_cmp nat_cmp (rank_of a) (rank_of b))
 module _ {T : Type 0} (node : T → Node) where
   -- of sorted events of which no two have one rank the first is lower than each later one
   first_lower : (x : PlacedEvent T) (xs : List (PlacedEvent T)) (y : PlacedEvent T) → Contains xs y →
-      IsDistinct bytes_eq (map rank (x ∷ xs)) → IsSortedBy lower (map (ranked_step node) (x ∷ xs)) →
-      slice_cmp nat_cmp (rank x) (rank y) ≡ Less
+      IsDistinct bytes_eq (map sort_key (x ∷ xs)) → IsSortedBy lower (map (ranked_step node) (x ∷ xs)) →
+      slice_cmp nat_cmp (sort_key x) (sort_key y) ≡ Less
   first_lower x xs y (k, l, at) once sorted =
       let list = map (ranked_step node) (x ∷ xs) in
       let long : length (map (ranked_step node) xs) ≡ length xs = length-map xs (ranked_step node) in
-      let ranks : length (map rank xs) ≡ length xs = length-map xs rank in
+      let ranks : length (map sort_key xs) ≡ length xs = length-map xs sort_key in
       let there : get_or (map (ranked_step node) xs) k (ranked_step node y) ≡ ranked_step node y =
       get_or-map (ranked_step node) xs k y ∙ ap (ranked_step node) at in
       let far : lower (get_or (map (ranked_step node) xs) k (ranked_step node y)) (ranked_step node x) ≡ false =
       sorted_far lower (ranks_by nat_list_cmp_total rank_of) list sorted 0 (suc k) (ranked_step node y) (omega arith)
       (omega arith) in
-      let other : bytes_eq (rank x) (get_or (map rank xs) k (rank y)) ≡ false =
-      apart_from_distinct bytes_eq (map rank (x ∷ xs)) 0 (suc k) (rank y) once (omega arith) (omega arith) in
-      below (rank x) (rank y) (ap (λ r. lower r (ranked_step node x)) (sym there) ∙ far)
+      let other : bytes_eq (sort_key x) (get_or (map sort_key xs) k (sort_key y)) ≡ false =
+      apart_from_distinct bytes_eq (map sort_key (x ∷ xs)) 0 (suc k) (sort_key y) once (omega arith) (omega arith) in
+      below (sort_key x) (sort_key y) (ap (λ r. lower r (ranked_step node x)) (sym there) ∙ far)
       (λ same. true≢false
-      (sym ((bytes_eq-Decides (rank x) (rank y)).1 same)
-      ∙ ap (bytes_eq (rank x)) (sym (get_or-map rank xs k y ∙ ap rank at)) ∙ other))
+      (sym ((bytes_eq-Decides (sort_key x) (sort_key y)).1 same)
+      ∙ ap (bytes_eq (sort_key x)) (sym (get_or-map sort_key xs k y ∙ ap sort_key at)) ∙ other))
 
   -- so they rise
-  rises : (xs : List (PlacedEvent T)) → IsDistinct bytes_eq (map rank xs) →
-      IsSortedBy lower (map (ranked_step node) xs) → IsSortedByRank xs
+  rises : (xs : List (PlacedEvent T)) → IsDistinct bytes_eq (map sort_key xs) →
+      IsSortedBy lower (map (ranked_step node) xs) → IsSortedByKey xs
   rises [] once sorted = tt
   rises (x ∷ xs) once sorted = (
     λ y c. first_lower x xs y c once sorted,
-    rises xs (IsDistinct-tail bytes_eq (rank x) (map rank xs) once)
+    rises xs (IsDistinct-tail bytes_eq (sort_key x) (map sort_key xs) once)
         (sorted_rest lower (ranked_step node x) (map (ranked_step node) xs) sorted),
   )
 
@@ -126,8 +126,8 @@ module _ {T : Type 0} (node : T → Node) where
         r.0,
         record {
           sorted = rises r.0
-              (IsDistinct-IsPermutation bytes_eq nat_list_eq_equiv.symm (map rank of.xs) (map rank r.0)
-              (IsPermutation-map rank of.xs r.0 r.1) of.once)
+              (IsDistinct-IsPermutation bytes_eq nat_list_eq_equiv.symm (map sort_key of.xs) (map sort_key r.0)
+              (IsPermutation-map sort_key of.xs r.0 r.1) of.once)
               (subst (IsSortedBy lower) (sym r.2) rising);
           events = λ x. (
             λ c. (of.events x).0 (Contains-permutation r.0 of.xs x (IsPermutation-sym of.xs r.0 r.1) c),

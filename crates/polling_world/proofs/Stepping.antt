@@ -28,7 +28,7 @@ use Rattle.polling_world.specs.Hearing.{IsHeard, machine_after}
 use Rattle.polling_world.specs.Configs.{Config}
 use Rattle.polling_world.specs.Machines.{MachineState, has_stopped}
 use Rattle.polling_world.specs.Making.{next_entry}
-use Rattle.polling_world.specs.Rules.{RoleRefuses, Refuses, MayDo, entries_in, IsWhole}
+use Rattle.polling_world.specs.Rules.{RoleRefuses, Refuses, MayDo, entries_in, IsWholeHistory}
 use Rattle.polling_world.specs.Sending.{MaySend, next_action}
 use Rattle.polling_world.specs.Waiting.{IsStampSpent}
 use Rattle.polling_world.specs.Worlds.{machine_of, IsNextOf}
@@ -51,7 +51,7 @@ refuses_one Supervisor owner h deed (left.SupervisorNot why) ok err =
     one_first (supervisor.causes_of owner (entries_in h) deed) why ok err
 refuses_one Supervisor owner h deed _ ok err = err
 refuses_one Booth owner h deed (left.BoothNot why) ok err =
-    one_first (booth.causes_of owner (entries_in h) (IsWhole h) deed) why ok err
+    one_first (booth.causes_of owner (entries_in h) (IsWholeHistory h) deed) why ok err
 refuses_one Booth owner h deed _ ok err = err
 
 -- what is denied by a test that holds fails

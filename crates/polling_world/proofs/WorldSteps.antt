@@ -30,7 +30,7 @@ use Rattle.polling_world.specs.Acting.{IsActed}
 use Rattle.polling_world.specs.Hearing.{IsHeard, machine_after}
 use Rattle.polling_world.specs.Machines.{MachineState, has_stopped, with_event}
 use Rattle.polling_world.specs.Sending.{MaySend}
-use Rattle.polling_world.specs.Steps.{stepped_by, stepped_in, ActsAt, IsGiven, HearsAt, StopsAt, StepsBy}
+use Rattle.polling_world.specs.Steps.{stepped_by, stepped_in, ActsAt, IsGiven, HearsAt, StopsMachine, StepsBy}
 use Rattle.polling_world.specs.Waiting.{IsStampSpent}
 use Rattle.polling_world.specs.Configs.{Config}
 use Rattle.polling_world.specs.Worlds.{machine_of, world_of, configs_of, stops_of, HaveLog, IsNextAt, IsPlaced, IsWorld}
@@ -384,7 +384,7 @@ module _ (posts : List Post) (ms : List MachineState) (world : IsWorld posts ms)
   -- ---- a machine stops
 
   -- a machine that stops keeps the world
-  stops_kept : (at : ℕ) (stepped : Stepped) (new : List MachineState) → StopsAt at ms stepped new →
+  stops_kept : (at : ℕ) (stepped : Stepped) (new : List MachineState) → StopsMachine at ms stepped new →
       KeepsWorld posts ms stepped new
   stops_kept at stepped new h =
       elim h.changed [
@@ -393,7 +393,7 @@ module _ (posts : List Post) (ms : List MachineState) (world : IsWorld posts ms)
       ]
 
   -- and does what the world's machine does
-  stop_happens : (at : ℕ) (stepped : Stepped) (new : List MachineState) → StopsAt at ms stepped new →
+  stop_happens : (at : ℕ) (stepped : Stepped) (new : List MachineState) → StopsMachine at ms stepped new →
       Happens ms (Stop at) new
   stop_happens at stepped new h next log tells size =
       elim h.changed [

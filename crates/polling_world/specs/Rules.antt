@@ -22,8 +22,8 @@ abbrev pub entries_in : List (Event SealedEntry) → List Entry
 entries_in h = map (λ sealed. sealed.entry) (held h)
 
 -- every digest that a held entry names is that of a held entry
-abbrev pub IsWhole : List (Event SealedEntry) → Type 0
-IsWhole h = NamesOnlyHeld node_of_sealed (held h)
+abbrev pub IsWholeHistory : List (Event SealedEntry) → Type 0
+IsWholeHistory h = NamesOnlyHeld node_of_sealed (held h)
 
 -- a Cast and a Challenge alone are asked whether the log is whole
 abbrev pub needs_whole : Deed → Bool
@@ -51,7 +51,7 @@ BoothRefuses owner entries IsWhole deed (Err _) = ⊥
 -- what the rules of the role answer to the deed: the first cause against it, or none
 abbrev pub RoleRefuses : Role → ℕ → List (Event SealedEntry) → Deed → Result (Unit {0}) LeftWhy → Type 0
 RoleRefuses Supervisor owner h deed answer = SupervisorRefuses owner (entries_in h) deed answer
-RoleRefuses Booth owner h deed answer = BoothRefuses owner (entries_in h) (IsWhole h) deed answer
+RoleRefuses Booth owner h deed answer = BoothRefuses owner (entries_in h) (IsWholeHistory h) deed answer
 
 -- what they answer to the machine
 abbrev pub Refuses : Config → List (Event SealedEntry) → Deed → Result (Unit {0}) LeftWhy → Type 0

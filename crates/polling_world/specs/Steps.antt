@@ -76,7 +76,7 @@ HearsAt at from number old stepped new =
     × IsGiven at e old stepped new))
 
 -- the machine at this place was stopped, unless it was before
-pub record StopsAt (at : ℕ) (old : List MachineState) (stepped : Stepped) (new : List MachineState) : Type 0 where
+pub record StopsMachine (at : ℕ) (old : List MachineState) (stepped : Stepped) (new : List MachineState) : Type 0 where
   pub before : MachineState
   pub stood : slice_get old at ≡ Some before
   pub changed : ((has_stopped before ≡ false) × (stepped ≡ Did)
@@ -87,4 +87,4 @@ pub record StopsAt (at : ℕ) (old : List MachineState) (stepped : Stepped) (new
 abbrev pub StepsBy : Step → List MachineState → Stepped → List MachineState → Type 0
 StepsBy (Act at) old stepped new = ActsAt at old stepped new
 StepsBy (Hear at from number) old stepped new = HearsAt at from number old stepped new
-StepsBy (Stop at) old stepped new = StopsAt at old stepped new
+StepsBy (Stop at) old stepped new = StopsMachine at old stepped new

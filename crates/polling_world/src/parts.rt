@@ -1,7 +1,7 @@
 //! What is done to the parts of a machine.
 ghost use Rattle.std.specs.Prelude.{◌≡◌, ◌<◌, ◌≤◌, ◌+◌, ℕ, List, [], ◌∷◌, ◌++◌, length};
 ghost use Rattle.std.specs.Prelude.{replicate, IfOk};
-ghost use Rattle.entangled_log.specs.Hearing.{IsAnswer, log_after};
+ghost use Rattle.entangled_log.specs.Hearing.{IsHearAnswer, log_after};
 ghost use Rattle.entry_format.specs.Nodes.{node_of_sealed};
 ghost use Rattle.entry_format.specs.SealedEntry.{SealedEntry};
 ghost use Rattle.entry_order.specs.History.{entry_of};
@@ -65,7 +65,7 @@ pub fn copies_of(alloc: Global, sealed: &Sealed, count: usize) -> Result<Vec<Sea
 /// Hears an entry into the log, for which the rules have room. It takes no memory.
 pub fn hear_into(log: &mut Log<Sealed>, rules: &mut Rules, s: Sealed) -> Heard<Sealed>
     requires { log.old.capacity ≤ length log.old.events + spare_of rules.old }
-    ensures answer { IsAnswer node_of_sealed log.old s result }
+    ensures answer { IsHearAnswer node_of_sealed log.old s result }
     ensures log { log.new ≡ log_after result s log.old }
     ensures rules { (role : Role) (owner : ℕ) →
         StandFor rules.old role owner (entries_in log.old.events) →

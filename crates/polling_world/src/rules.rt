@@ -7,7 +7,7 @@ ghost use Rattle.booth_core.specs.Table.{Refuses};
 ghost use Rattle.entry_format.specs.Deeds.{IsDeedOf};
 ghost use Rattle.roster.specs.declared.post.Role.TheVariants.{Booth};
 ghost use Rattle.polling_world.specs.Kept.{IsDeedFor, StandFor, spare_of};
-ghost use Rattle.polling_world.specs.Rules.{IsWhole, RoleRefuses, entries_in, needs_whole};
+ghost use Rattle.polling_world.specs.Rules.{IsWholeHistory, RoleRefuses, entries_in, needs_whole};
 
 use crate::left::LeftWhy;
 use booth_core::{BoothNot, BoothState};
@@ -77,7 +77,7 @@ impl Rules {
 fn booth_may(state: &BoothState, deed: &Deed, log: &Log<Sealed>) -> Result<(), BoothNot>
     requires { IsDeedOf Booth deed.now }
     ensures { (owner : ℕ) → StandsFor state.now owner (entries_in log.now.events) →
-        Refuses owner (entries_in log.now.events) (IsWhole log.now.events) deed.now result }
+        Refuses owner (entries_in log.now.events) (IsWholeHistory log.now.events) deed.now result }
 {
     let whole = needs_whole(deed) && log.is_whole();
     state.may(deed, whole)

@@ -1,6 +1,6 @@
 //! What a step does to the machines.
 ghost use Rattle.std.specs.Prelude.{◌≡◌, ◌<◌, IfOk, OnErr, vec_len};
-ghost use Rattle.polling_world.specs.Steps.{ActsAt, HearsAt, IsGiven, IsStepOf, StepsBy, StopsAt};
+ghost use Rattle.polling_world.specs.Steps.{ActsAt, HearsAt, IsGiven, IsStepOf, StepsBy, StopsMachine};
 
 use crate::acted::Acted;
 use crate::heard::MachineHeard;
@@ -85,7 +85,7 @@ fn give(machines: &mut Vec<Machine>, at: usize, entry: Sealed) -> Stepped
 /// The machine at this place stops, unless it has.
 fn stop_at(machines: &mut Vec<Machine>, at: usize) -> Stepped
     requires { at < vec_len machines.old }
-    ensures { StopsAt at machines.old.items result machines.new.items }
+    ensures { StopsMachine at machines.old.items result machines.new.items }
 {
     if machines[at].has_stopped() {
         return Stepped::Nothing;

@@ -26,7 +26,7 @@ use Rattle.rule_engine.specs.Tests.{has_kind}
 use Rattle.rule_engine.specs.Meaning.{bind, unbound}
 use Rattle.rule_engine.specs.Values.{first_value, second_value, places, ancestors, rest_of, values_before, order_of}
 use Rattle.rule_engine.specs.Values.{value, values}
-use Rattle.rule_engine.specs.Verdicts.{broken, and_then, first_false, IsAnswer}
+use Rattle.rule_engine.specs.Verdicts.{broken, and_then, first_false, IsJudgeAnswer}
 
 -- functions that agree on the members of a list give the same list of values
 map_same : (f g : ℕ → Three) (xs : List ℕ) → ((i : ℕ) → Contains xs i → f i ≡ g i) → map f xs ≡ map g xs
@@ -219,8 +219,8 @@ module _ (rows : List Row) (order order' : ℕ → ℕ → Three) (wholes wholes
   same_broken (tree_then (form.Less t s) parts rest) env are = refl
 
   -- so the answers are one
-  pub same_answer : (rule : Trees) (result : Result Verdict JudgeFault) → IsAnswer rows order wholes rule result →
-      IsAnswer rows order' wholes' rule result
+  pub same_answer : (rule : Trees) (result : Result Verdict JudgeFault) → IsJudgeAnswer rows order wholes rule result →
+      IsJudgeAnswer rows order' wholes' rule result
   same_answer rule (Ok Kept) a = (a.0, sym (ap first_value (same_values rule unbound (λ v. tt))) ∙ a.1)
   same_answer rule (Ok (Broken found)) a = (
     a.0,
@@ -236,8 +236,8 @@ module _ (rows : List Row) (order order' : ℕ → ℕ → Three) (wholes wholes
 -- what rows of bits say of a graph is what the graph says
 pub answer_by_graph : (rows : List Row) (graph : Graph) (known : Known) → length rows ≡ known_count known →
     IsKnownOf graph known → (rule : Trees) (result : Result Verdict JudgeFault) →
-    IsAnswer rows (known_before known) (known_whole known) rule result →
-    IsAnswer rows (before graph.parents graph.ragged) (λ x. is_whole graph.parents graph.ragged x x) rule result
+    IsJudgeAnswer rows (known_before known) (known_whole known) rule result →
+    IsJudgeAnswer rows (before graph.parents graph.ragged) (λ x. is_whole graph.parents graph.ragged x x) rule result
 answer_by_graph rows graph known as_many is =
     let count = as_many ∙ is.nodes in
     same_answer rows (known_before known) (before graph.parents graph.ragged) (known_whole known)

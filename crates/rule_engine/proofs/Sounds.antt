@@ -28,7 +28,7 @@ use Rattle.rule_language.specs.Trees.{Trees, no_trees, tree_then}
 use Rattle.rule_engine.specs.Tests.{has_kind, passes}
 use Rattle.rule_engine.specs.Kleene.{opposite, either, least, greatest, as_three, is_true}
 use Rattle.rule_engine.specs.Meaning.{bind, unbound, first_sentence, second_sentence, EachHolds, SomeHolds}
-use Rattle.rule_engine.specs.Meaning.{IsOfKind, AreSame, ComesBefore, AreOrdered, Says, meanings}
+use Rattle.rule_engine.specs.Meaning.{IsOfKind, AreSame, ComesBefore, AreInOrder, FormHolds, meanings}
 use Rattle.rule_engine.specs.Values.{first_value, second_value, places, ancestors, rest_of, values_before, row_at}
 use Rattle.rule_engine.specs.Values.{same_place, order_of, value, values}
 use Rattle.rule_engine.specs.Sound.{HasNoDouble, RulesAreSettled}
@@ -292,7 +292,7 @@ module _ {T : Type 0} (node : T → Node) (row : T → Row) (machines : ℕ) (S 
 
   -- what is known of the order of two places is right of their entries in every completion
   order_agrees : (i : Option ℕ) (e : Option T) (j : Option ℕ) (f : Option T) → StandFor S i e → StandFor S j f →
-      Agrees (order_of comes_before i j) (AreOrdered node row S G e f)
+      Agrees (order_of comes_before i j) (AreInOrder node row S G e f)
   order_agrees (Some i) (Some e) (Some j) (Some f) se sf =
       let o = order_is_settled node machines S parents ragged graph i j e f se sf in
       record { yes = λ t. o.0 t G completion; no = λ t. o.1 t G completion }
@@ -436,7 +436,7 @@ module _ {T : Type 0} (node : T → Node) (row : T → Row) (machines : ℕ) (S 
   -- one form, where its parts agree
   form_agrees : (form : Form) (ts : (ℕ → Option ℕ) → List Three) (Ps : (ℕ → Option T) → List (Type 0)) →
       PartsAgree ts Ps → (σ : ℕ → Option ℕ) (ρ : ℕ → Option T) → StandForAll σ ρ →
-      Agrees (value rows comes_before whole_at_place form σ ts) (Says node row S G form ρ Ps)
+      Agrees (value rows comes_before whole_at_place form σ ts) (FormHolds node row S G form ρ Ps)
   form_agrees form.True ts Ps parts σ ρ stand = record { yes = λ t. tt; no = λ t. cc }
   form_agrees (form.ForEvery v kind) ts Ps parts σ ρ stand = for_every v kind σ ρ stand ts Ps parts
   form_agrees (form.ForSome v kind) ts Ps parts σ ρ stand = for_some v kind σ ρ stand ts Ps parts

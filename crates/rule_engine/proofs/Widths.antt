@@ -12,7 +12,7 @@ use Rattle.rule_language.specs.declared.form.Form.TheVariants as form
 use Rattle.rule_language.specs.Trees.{Trees, no_trees, tree_then}
 use Rattle.rule_language.specs.Forms.{in_front, tree_of, trees_of}
 use Rattle.rule_language.proofs.Views.{shape}
-use Rattle.rule_engine.specs.Verdicts.{is_too_wide, widens, widens_by, kind_of}
+use Rattle.rule_engine.specs.Verdicts.{is_too_wide, widens, widens_by, quantified_kind}
 
 module _ (rows : List Row) (width : ℕ) where
   -- whether some quantifier of the formulas is too wide at this width
@@ -23,7 +23,7 @@ module _ (rows : List Row) (width : ℕ) where
   pub wide-in_front : (f : Formula) (rest : Trees) → wide (in_front f rest) ≡ (wide (tree_of f) || wide rest)
   wide-in_front f rest =
       let s = shape f in
-      let inside = widens_by rows (kind_of s.0) (is_too_wide rows s.1) width in
+      let inside = widens_by rows (quantified_kind s.0) (is_too_wide rows s.1) width in
       ap wide (s.2 rest)
       ∙ ap (λ (b : Bool). b || wide rest) (sym (ap wide (s.2 no_trees) ∙ or-false inside))
 

@@ -54,37 +54,37 @@ module _ {T : Type 0} (node : T → Node) (row : T → Row) (S G : List T) where
   ComesBefore x (Some u) = Precedes node G x u
 
   -- so does what another stands for
-  abbrev pub AreOrdered : Option T → Option T → Type 0
-  AreOrdered None u = ⊥
-  AreOrdered (Some x) u = ComesBefore x u
+  abbrev pub AreInOrder : Option T → Option T → Type 0
+  AreInOrder None u = ⊥
+  AreInOrder (Some x) u = ComesBefore x u
 
   -- what the form says, by what its parts say
-  abbrev pub Says : Form → (ℕ → Option T) → ((ℕ → Option T) → List (Type 0)) → Type 0
-  Says form.True env parts = Unit {0}
-  Says (form.ForEvery v kind) env parts =
+  abbrev pub FormHolds : Form → (ℕ → Option T) → ((ℕ → Option T) → List (Type 0)) → Type 0
+  FormHolds form.True env parts = Unit {0}
+  FormHolds (form.ForEvery v kind) env parts =
       (x : T) → Contains S x → IsOfKind kind x → first_sentence (parts (bind v x env))
-  Says (form.ForSome v kind) env parts =
+  FormHolds (form.ForSome v kind) env parts =
       (x : T) × Contains S x × IsOfKind kind x × first_sentence (parts (bind v x env))
-  Says (form.EveryBefore v kind u) env parts =
+  FormHolds (form.EveryBefore v kind u) env parts =
       (x : T) → IsOfKind kind x → ComesBefore x (env u) → first_sentence (parts (bind v x env))
-  Says (form.SomeBefore v kind u) env parts =
+  FormHolds (form.SomeBefore v kind u) env parts =
       (x : T) × IsOfKind kind x × ComesBefore x (env u) × first_sentence (parts (bind v x env))
-  Says form.And env parts = EachHolds (parts env)
-  Says form.Or env parts = SomeHolds (parts env)
-  Says form.Not env parts = ¬ first_sentence (parts env)
-  Says form.Implies env parts = first_sentence (parts env) → second_sentence (parts env)
-  Says (form.Same v u) env parts = AreSame (env v) (env u)
-  Says (form.Before v u) env parts = AreOrdered (env v) (env u)
-  Says (form.Next v u) env parts = IsTrue (passes (λ w. option_map row (env w)) (form.Next v u))
-  Says (form.Is v role) env parts = IsTrue (passes (λ w. option_map row (env w)) (form.Is v role))
-  Says (form.OfKind v kind) env parts = IsTrue (passes (λ w. option_map row (env w)) (form.OfKind v kind))
-  Says (form.Equal t s) env parts = IsTrue (passes (λ w. option_map row (env w)) (form.Equal t s))
-  Says (form.Less t s) env parts = IsTrue (passes (λ w. option_map row (env w)) (form.Less t s))
+  FormHolds form.And env parts = EachHolds (parts env)
+  FormHolds form.Or env parts = SomeHolds (parts env)
+  FormHolds form.Not env parts = ¬ first_sentence (parts env)
+  FormHolds form.Implies env parts = first_sentence (parts env) → second_sentence (parts env)
+  FormHolds (form.Same v u) env parts = AreSame (env v) (env u)
+  FormHolds (form.Before v u) env parts = AreInOrder (env v) (env u)
+  FormHolds (form.Next v u) env parts = IsTrue (passes (λ w. option_map row (env w)) (form.Next v u))
+  FormHolds (form.Is v role) env parts = IsTrue (passes (λ w. option_map row (env w)) (form.Is v role))
+  FormHolds (form.OfKind v kind) env parts = IsTrue (passes (λ w. option_map row (env w)) (form.OfKind v kind))
+  FormHolds (form.Equal t s) env parts = IsTrue (passes (λ w. option_map row (env w)) (form.Equal t s))
+  FormHolds (form.Less t s) env parts = IsTrue (passes (λ w. option_map row (env w)) (form.Less t s))
 
   -- what each formula in the row says
   abbrev pub meanings : Trees → (ℕ → Option T) → List (Type 0)
   meanings no_trees env = []
-  meanings (tree_then form parts rest) env = Says form env (meanings parts) ∷ meanings rest env
+  meanings (tree_then form parts rest) env = FormHolds form env (meanings parts) ∷ meanings rest env
 
   -- the rule holds
   abbrev pub Holds : Trees → Type 0

@@ -49,41 +49,41 @@ module _ (rows : List Row) (order : ℕ → ℕ → Three) (wholes : ℕ → Boo
   IsVerdict rule Unsettled = three rows order wholes rule ≡ known.Unknown
 
 -- how many rows are of the kind
-abbrev pub count_of : List Row → Kind → ℕ
-count_of rows kind = count_by (λ row. has_kind kind (Some row)) rows
+abbrev pub count_of_rows : List Row → Kind → ℕ
+count_of_rows rows kind = count_by (λ row. has_kind kind (Some row)) rows
 
 -- the kind that a quantifier goes over
-abbrev pub kind_of : Form → Option Kind
-kind_of (ForEvery v kind) = Some kind
-kind_of (ForSome v kind) = Some kind
-kind_of (EveryBefore v kind u) = Some kind
-kind_of (SomeBefore v kind u) = Some kind
-kind_of form = None
+abbrev pub quantified_kind : Form → Option Kind
+quantified_kind (ForEvery v kind) = Some kind
+quantified_kind (ForSome v kind) = Some kind
+quantified_kind (EveryBefore v kind u) = Some kind
+quantified_kind (SomeBefore v kind u) = Some kind
+quantified_kind form = None
 
 -- the width, or the width with one quantifier more, is too great, or that of what stands inside
 abbrev pub widens_by : List Row → Option Kind → (ℕ → Bool) → ℕ → Bool
 widens_by rows None inside width = inside width
 widens_by rows (Some kind) inside width =
-    nat_lt 268435456 (width * count_of rows kind) || inside (width * count_of rows kind)
+    nat_lt 268435456 (width * count_of_rows rows kind) || inside (width * count_of_rows rows kind)
 
 -- whether some quantifier is too wide, where the formulas stand in quantifiers of this width
 abbrev pub is_too_wide : List Row → Trees → ℕ → Bool
 is_too_wide rows no_trees width = false
 is_too_wide rows (tree_then form parts rest) width =
-    widens_by rows (kind_of form) (is_too_wide rows parts) width || is_too_wide rows rest width
+    widens_by rows (quantified_kind form) (is_too_wide rows parts) width || is_too_wide rows rest width
 
 -- the same of a quantifier over the kind with this body
 abbrev pub widens : List Row → Kind → Trees → ℕ → Bool
 widens rows kind body width = widens_by rows (Some kind) (is_too_wide rows body) width
 
 -- a rule that isn't too wide has its verdict, and one that is too wide is refused as such
-abbrev pub IsAnswer : List Row → (ℕ → ℕ → Three) → (ℕ → Bool) → Trees → Result Verdict JudgeFault → Type 0
-IsAnswer rows order wholes rule (Ok verdict) =
+abbrev pub IsJudgeAnswer : List Row → (ℕ → ℕ → Three) → (ℕ → Bool) → Trees → Result Verdict JudgeFault → Type 0
+IsJudgeAnswer rows order wholes rule (Ok verdict) =
     (is_too_wide rows rule 1 ≡ false) × IsVerdict rows order wholes rule verdict
-IsAnswer rows order wholes rule (Err TooWide) = is_too_wide rows rule 1 ≡ true
-IsAnswer rows order wholes rule (Err Memory) = Unit {0}
+IsJudgeAnswer rows order wholes rule (Err TooWide) = is_too_wide rows rule 1 ≡ true
+IsJudgeAnswer rows order wholes rule (Err Memory) = Unit {0}
 
 -- the answer on a rule by the survivors' rows and graph
 abbrev pub IsJudged : List Row → Graph → Trees → Result Verdict JudgeFault → Type 0
 IsJudged rows graph =
-    IsAnswer rows (before graph.parents graph.ragged) (λ x. is_whole graph.parents graph.ragged x x)
+    IsJudgeAnswer rows (before graph.parents graph.ragged) (λ x. is_whole graph.parents graph.ragged x x)

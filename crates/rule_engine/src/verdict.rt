@@ -3,7 +3,7 @@ ghost use Rattle.std.specs.Prelude.{◌≡◌, ◌++◌, ◌<◌, length, IfErr,
 ghost use Rattle.precedence.specs.Graph.{Graph};
 ghost use Rattle.precedence.specs.Known.{IsKnownOf, known_before, known_count, known_whole};
 ghost use Rattle.rule_engine.specs.Meaning.{bind};
-ghost use Rattle.rule_engine.specs.Verdicts.{IsAnswer, IsJudged, IsVerdict, broken, first_false};
+ghost use Rattle.rule_engine.specs.Verdicts.{IsJudgeAnswer, IsJudged, IsVerdict, broken, first_false};
 ghost use Rattle.rule_engine.specs.inside.Index.{AreIndexesOf};
 ghost use Rattle.rule_engine.specs.inside.Judging.{value_of};
 ghost use Rattle.rule_engine.specs.inside.Scopes.{IsWithin, env_of};
@@ -66,7 +66,7 @@ pub fn judge(alloc: Global, rule: &Rule, rows: &[Row], order: &Rows) -> Result<V
 /// The answer on a rule that says this.
 fn answer(alloc: Global, body: &Formula, rows: &[Row], order: &Rows) -> Result<Verdict, JudgeFault>
     requires { length rows.now ≡ known_count order.now }
-    ensures { IsAnswer rows.now (known_before order.now) (known_whole order.now) (tree_of body.now) result }
+    ensures { IsJudgeAnswer rows.now (known_before order.now) (known_whole order.now) (tree_of body.now) result }
 {
     if is_too_wide(body, 1, rows) {
         return Err(JudgeFault::TooWide);

@@ -1,6 +1,6 @@
 //! How wide a rule is.
 ghost use Rattle.std.specs.Prelude.{◌≡◌, ◌≤◌};
-ghost use Rattle.rule_engine.specs.Verdicts.{count_of, is_too_wide, widens};
+ghost use Rattle.rule_engine.specs.Verdicts.{count_of_rows, is_too_wide, widens};
 ghost use Rattle.rule_language.specs.Forms.{tree_of, trees_of};
 
 use crate::atoms::has_kind;
@@ -58,7 +58,7 @@ fn is_some_too_wide(parts: &[Formula], width: u128, rows: &[Row]) -> bool
 
 /// How many rows are of the kind.
 fn count_of(kind: Kind, rows: &[Row]) -> usize
-    ensures { result ≡ count_of rows.now kind }
+    ensures { result ≡ count_of_rows rows.now kind }
 {
     let mut count = 0;
     for row in rows {

@@ -12,9 +12,10 @@ use Rattle.rule_language.specs.declared.binder.Binder.{Binder}
 use Rattle.rule_language.specs.Kinds.{kind_word}
 use Rattle.rule_language.specs.Scopes.{Scope, kind_in, is_letter}
 use Rattle.rule_language.specs.Lawful.{can_bind}
-use Rattle.rule_language.specs.Spelling.{Token, variable, piece}
+use Rattle.hall_text.specs.Spans.{piece}
+use Rattle.rule_language.specs.Spelling.{Token, variable}
 use Rattle.rule_language.specs.Wants.{Want, formula, close, new_variable, kind_of, before_or_body, a_variable}
-use Rattle.rule_language.specs.Wants.{meets_formula, new_in, letter_in, nested, then_want, Met}
+use Rattle.rule_language.specs.Wants.{meets_formula, unbound_in, letter_in, nested, then_want, Met}
 use Rattle.rule_language.specs.inside.Reader.{IsNext, Takes, FailsAt}
 use Rattle.rule_language.specs.inside.Quantifiers.{IsRange, IsBinder, range_words, quantifier_head}
 use Rattle.rule_language.proofs.Refusals.{Passed, spell_more, transfer, fails_behind}
@@ -28,7 +29,7 @@ made v k u = record { v = v; kind = k; u = u }
 -- a new letter, a kind, and then `before` with a bound letter or another token, are what a quantifier binds
 pub binder_read : (text : List ℕ) (a b d e : Span) (scope : Scope) (v : ℕ) (k : Kind) (u : Option ℕ)
     → Takes text a b (variable v ∷ [])
-    → new_in scope (letter_in (variable v)) ≡ Ok v → Takes text b d (kind_word k ∷ []) → IsRange text d e scope u
+    → unbound_in scope (letter_in (variable v)) ≡ Ok v → Takes text b d (kind_word k ∷ []) → IsRange text d e scope u
     → IsBinder text a e scope (made v k u)
 binder_read text a b d e scope v k None one fresh two range = record {
   taken = subst (λ (s : Span). Takes text a s (variable v ∷ kind_word k ∷ [])) (sym range.0)
@@ -47,7 +48,7 @@ binder_read text a b d e scope v k (Some u) one fresh two range = record {
 }
 
 -- the variable may be bound where a quantifier may begin
-new_parts : (scope : Scope) (v : ℕ) (b : Bool) → new_in scope (if b then Some v else None) ≡ Ok v
+new_parts : (scope : Scope) (v : ℕ) (b : Bool) → unbound_in scope (if b then Some v else None) ≡ Ok v
     → (b ≡ true) × (is_some (kind_in scope v) ≡ false)
 new_parts scope v true e = (refl, (if_second (is_some (kind_in scope v)) (Ok v) SameName v e).0)
 new_parts scope v false e = absurd (cc)
@@ -61,7 +62,7 @@ few_bound scope false e = (if_second (nat_le 4 (length scope)) (Ok (quantifier_h
     (quantifier_head false) e).0
 
 -- where a quantifier may begin, a letter that isn't bound yet may be bound
-pub may_bind : (scope : Scope) (v : ℕ) (every : Bool) → new_in scope (letter_in (variable v)) ≡ Ok v
+pub may_bind : (scope : Scope) (v : ℕ) (every : Bool) → unbound_in scope (letter_in (variable v)) ≡ Ok v
     → nested scope (Some (quantifier_head every)) ≡ Ok (quantifier_head every) → can_bind scope v ≡ true
 may_bind scope v every fresh few =
     let parts = new_parts scope v (is_letter v) fresh in

@@ -15,7 +15,8 @@ use Rattle.rule_language.specs.Scopes.{Scope}
 use Rattle.rule_language.specs.Trees.{Trees, no_trees, tree_then, count_of}
 use Rattle.rule_language.specs.Forms.{in_front, tree_of}
 use Rattle.rule_language.specs.Lawful.{are_formulas}
-use Rattle.rule_language.specs.Spelling.{Token, left, right, form_words, spelt, tokens_then, piece}
+use Rattle.hall_text.specs.Spans.{piece}
+use Rattle.rule_language.specs.Spelling.{Token, left, right, form_words, spelt, tokens_then}
 use Rattle.rule_language.specs.Wants.{Want, Met, formula, head, more, new_variable, meets_formula, behind_head, nested}
 use Rattle.rule_language.specs.inside.Reader.{IsNext, Takes, FailsAt, IfFault, IsRead, IsBody, told}
 use Rattle.rule_language.proofs.Refusals.{Passed, one_passed, spell_more, fails_there, cause_there, transfer}

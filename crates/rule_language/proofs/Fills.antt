@@ -16,7 +16,7 @@ use Rattle.rule_language.specs.Lawful.{is_among, follow}
 use Rattle.rule_language.specs.Spelling.{Token, right, variable, term_word, form_words, tokens_then, rules_tokens}
 use Rattle.rule_language.specs.Wants.{Want, more_rules, rule_word, rule_name, formula, head, new_variable, kind_of}
 use Rattle.rule_language.specs.Wants.{before_or_body, more, a_variable, a_role, a_kind, first_term, second_term, close}
-use Rattle.rule_language.specs.Wants.{may_begin, new_in, letter_in}
+use Rattle.rule_language.specs.Wants.{may_begin, unbound_in, letter_in}
 use Rattle.rule_language.specs.inside.Quantifiers.{range_words}
 
 -- a formula
@@ -73,7 +73,7 @@ pub record FillsBinder (scope : Scope) (depth : ℕ) (ts rest : List Token) : Ty
   pub v : ℕ
   pub behind_it : List Token
   -- the variable isn't bound yet
-  pub fresh : new_in scope (letter_in (variable v)) ≡ Ok v
+  pub fresh : unbound_in scope (letter_in (variable v)) ≡ Ok v
   pub rest_of : FillsKind v scope depth behind_it rest
   pub is : ts ≡ variable v ∷ behind_it
 

@@ -21,12 +21,13 @@ use Rattle.rule_language.specs.declared.form.Head.{Head}
 use Rattle.rule_language.specs.declared.form.Head.TheVariants as head
 use Rattle.rule_language.specs.declared.faults.RuleWhy.{RuleWhy}
 use Rattle.rule_language.specs.declared.faults.RuleWhy.TheVariants.{Shape, UnknownKind, SameName, Unbound, WrongField}
-use Rattle.rule_language.specs.Kinds.{named, kind_word, kinds, kind_named, field_word, fields, field_named, role_named}
+use Rattle.rule_language.specs.Kinds.{first_named, kind_word, entry_kinds, kind_named, field_word, fields, field_named}
+use Rattle.rule_language.specs.Kinds.{role_named}
 use Rattle.rule_language.specs.Kinds.{head_word, heads, head_named, has_field, sort_of_field, is_quantifier}
 use Rattle.rule_language.specs.Scopes.{Scope, kind_in, is_letter}
 use Rattle.rule_language.specs.Lawful.{is_bound, sort_of}
 use Rattle.rule_language.specs.Spelling.{Token, left, right, variable, term_word}
-use Rattle.rule_language.specs.Wants.{Typed, letter_in, new_in, bound_in, kind_for, or_cause, value_from, number_in}
+use Rattle.rule_language.specs.Wants.{Typed, letter_in, unbound_in, bound_in, kind_for, or_cause, value_from, number_in}
 use Rattle.rule_language.specs.Wants.{of_field, of_variable, dotted_in, number_or, term_in, whose_sort, nested}
 use Rattle.rule_language.specs.Wants.{head_for, only}
 use Rattle.rule_language.specs.inside.Reader.{IsTyped}
@@ -75,20 +76,21 @@ bytes_same xs ys e = (bytes_eq-Decides xs ys).0 e
 -- a thing is passed whose word it isn't
 pub named_next : {A : Type 0} (word_of : A → List ℕ) (things : List A) (i : ℕ) (a : A) (word : List ℕ)
     → i < length things → bytes_eq word (word_of (get_or things i a)) ≡ false
-    → named word_of (drop i things) word ≡ named word_of (drop (i + 1) things) word
+    → first_named word_of (drop i things) word ≡ first_named word_of (drop (i + 1) things) word
 named_next word_of things i a word inside other =
-    ap (λ left. named word_of left word) (drop_more things i a inside) ∙ rw other refl
+    ap (λ left. first_named word_of left word) (drop_more things i a inside) ∙ rw other refl
 
 -- a word that names a thing is the word of that thing
 pub named_found : {A : Type 0} (word_of : A → List ℕ) (things : List A) (word : List ℕ) (a : A)
-    → named word_of things word ≡ Some a
+    → first_named word_of things word ≡ Some a
     → word ≡ word_of a
 named_found word_of [] word a e = absurd (cc)
 named_found {A = A} word_of (thing ∷ things) word a e =
     step (bytes_eq word (word_of thing)) refl (λ later. named_found word_of things word a later)
   where
     -- the same by whether the word is that of the first thing
-    step : (b : Bool) → bytes_eq word (word_of thing) ≡ b → (named word_of things word ≡ Some a → word ≡ word_of a)
+    step : (b : Bool) → bytes_eq word (word_of thing) ≡ b →
+        (first_named word_of things word ≡ Some a → word ≡ word_of a)
         → word ≡ word_of a
     step true is later = bytes_same word (word_of thing) is ∙ ap word_of (some_same thing a (rw is at e))
     step false is later = later (rw is at e)
@@ -121,13 +123,13 @@ variable_found scope word v e = found (letter_in word) refl e
         (letter.0 ∙ ap variable same, some_word v, ap (is_bound scope) (sym same) ∙ rw letter.1 (rw b.0 refl))
 
 -- a token that was read as a new variable is its letter, which is free
-pub new_found : (scope : Scope) (word : Token) (v : ℕ) → new_in scope (letter_in word) ≡ Ok v
-    → (word ≡ variable v) × (variable v ≢ []) × (new_in scope (letter_in (variable v)) ≡ Ok v)
+pub new_found : (scope : Scope) (word : Token) (v : ℕ) → unbound_in scope (letter_in word) ≡ Ok v
+    → (word ≡ variable v) × (variable v ≢ []) × (unbound_in scope (letter_in (variable v)) ≡ Ok v)
 new_found scope word v e = found (letter_in word) refl e
   where
     -- the same by the letter in the token
-    found : (o : Option ℕ) → letter_in word ≡ o → new_in scope o ≡ Ok v
-        → (word ≡ variable v) × (variable v ≢ []) × (new_in scope (letter_in (variable v)) ≡ Ok v)
+    found : (o : Option ℕ) → letter_in word ≡ o → unbound_in scope o ≡ Ok v
+        → (word ≡ variable v) × (variable v ≢ []) × (unbound_in scope (letter_in (variable v)) ≡ Ok v)
     found None is e = absurd (cc)
     found (Some w) is h =
         let b = if_second (is_some (kind_in scope w)) (Ok w) SameName v h in
@@ -180,7 +182,7 @@ or_found cause (Some b) a e = ap (λ x. Some x) (ok_same b a e)
 pub kind_found : (word : Token) (k : Kind) → kind_for word ≡ Ok k → (word ≡ kind_word k) × (kind_word k ≢ []) × Unit {0}
 kind_found word k e =
     let b = if_second (bytes_eq word left || bytes_eq word right) (or_cause UnknownKind (kind_named word)) Shape k e in
-    (named_found kind_word kinds word k (or_found UnknownKind (kind_named word) k b.1), kind_some k, tt)
+    (named_found kind_word entry_kinds word k (or_found UnknownKind (kind_named word) k b.1), kind_some k, tt)
 
 -- a token that was read as a role is the word of that role
 pub role_found : (word : Token) (r : Role) → or_cause Shape (role_named word) ≡ Ok r → (word ≡ role_word r)

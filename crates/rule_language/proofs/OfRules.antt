@@ -15,7 +15,7 @@ use Rattle.rule_language.specs.Spelling.{IsTextOf}
 use Rattle.rule_language.specs.Wants.{Want, Met, Typed, more_rules, rule_word, rule_name, formula, head, new_variable}
 use Rattle.rule_language.specs.Wants.{kind_of, before_or_body, more, a_variable, a_role, a_kind, first_term}
 use Rattle.rule_language.specs.Wants.{second_term, close}
-use Rattle.rule_language.specs.Wants.{meets, behind, behind_head, head_for, new_in, bound_in, letter_in, kind_for}
+use Rattle.rule_language.specs.Wants.{meets, behind, behind_head, head_for, unbound_in, bound_in, letter_in, kind_for}
 use Rattle.rule_language.specs.Wants.{or_cause, whose_sort, may_begin, term_in, only, opening, name_in, is_end, begin}
 use Rattle.rule_language.specs.Reading.{HasNoFault}
 use Rattle.rule_language.proofs.Found.{if_first, if_second, bytes_same, head_found, new_found, kind_found}
@@ -117,7 +117,7 @@ want_back (head scope depth) wants next t ts met fills =
     let inside = head_back scope depth wants a.0 ts h.2 (moved next (behind_head scope depth wants a.0) ts a.2 fills) in
     (inside.0, head_of scope depth (head_word a.0) t ts inside.0 (sym h.0) inside.1, inside.2)
 want_back (new_variable scope depth) wants next t ts met fills =
-    let a = then_found (new_in scope (letter_in t)) (λ v. kind_of v scope depth ∷ wants) next met in
+    let a = then_found (unbound_in scope (letter_in t)) (λ v. kind_of v scope depth ∷ wants) next met in
     let n = new_found scope t a.0 a.1 in
     let inside = moved next (kind_of a.0 scope depth ∷ wants) ts a.2 fills in (
       inside.0,

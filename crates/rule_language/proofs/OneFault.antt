@@ -6,13 +6,13 @@ use Rattle.std.proofs.lemmas.Bool.{cases_lt}
 use Rattle.std.proofs.lemmas.List.{map-append, get_or_append_left}
 use Rattle.std.proofs.lemmas.List.Elements.{Contains-append_left, Contains-append_cases}
 use Rattle.hall_text.specs.declared.spans.Span.{Span}
-use Rattle.hall_text.specs.Spans.{IsToken, AreAll}
+use Rattle.hall_text.specs.Spans.{IsToken, AreAll, piece}
 use Rattle.hall_text.proofs.TokenLemmas.{same_end, some_bytes}
 use Rattle.hall_text.proofs.OneSpans.{StandsBefore, one_all, first_among, behind_first, tail_ordered, first_is_before}
 use Rattle.rule_language.specs.declared.faults.RuleWhy.{RuleWhy}
-use Rattle.rule_language.specs.Spelling.{Token, piece, StandBefore}
+use Rattle.rule_language.specs.Spelling.{Token, StandBefore}
 use Rattle.rule_language.specs.Wants.{Want, Met, meets, behind, begin, is_end}
-use Rattle.rule_language.specs.Reading.{Leaves, IsCause, IsFirstFault, HasNoFault}
+use Rattle.rule_language.specs.Reading.{Leaves, IsRuleCause, IsFirstFault, HasNoFault}
 use Rattle.rule_language.proofs.Stands.{token_good}
 use Rattle.rule_language.proofs.Refusals.{first_met, behind_more, ok_wants}
 
@@ -178,7 +178,7 @@ left_behind wants left ts us a b = sym (behind_more begin wants ts us a) ∙ b
 
 -- no text goes on over a fault
 pub nothing_behind : (text : List ℕ) (at later : ℕ) (why : RuleWhy) (wants left : List Want) → Leaves text at wants
-    → IsCause text at wants why
+    → IsRuleCause text at wants why
     → at < later → Leaves text later left → ⊥
 nothing_behind text at later why wants left before (inl bad) lt after = bad.1 (after.1.good at lt)
 nothing_behind text at later why wants left before (inr (inl stands)) lt after =
@@ -212,7 +212,7 @@ fault_or_none text at why fault none =
         wants_same fault.0 none.0 none.1.0 (sym (ap (behind (Ok begin)) ts) ∙ fault.1.2) none.1.2
 
     -- where the text may end, its end is no fault
-    ended : at ≡ length text → IsCause text at fault.0 why → ⊥
+    ended : at ≡ length text → IsRuleCause text at fault.0 why → ⊥
     ended e (inl bad) = let lt : at < length text = bad.0 in omega arith
     ended e (inr (inl stands)) =
         let bytes = some_bytes text (record { start = at; end = stands.0 }) stands.1 in
@@ -223,8 +223,8 @@ fault_or_none text at why fault none =
         absurd (cc)
 
 -- a place has one cause
-one_cause : (text : List ℕ) (at : ℕ) (wants : List Want) (why cause : RuleWhy) → IsCause text at wants why
-    → IsCause text at wants cause → why ≡ cause
+one_cause : (text : List ℕ) (at : ℕ) (wants : List Want) (why cause : RuleWhy) → IsRuleCause text at wants why
+    → IsRuleCause text at wants cause → why ≡ cause
 one_cause text at wants why cause (inl a) (inl b) = a.2 ∙ sym b.2
 one_cause text at wants why cause (inl a) (inr (inl b)) =
     let bytes = some_bytes text (record { start = at; end = b.0 }) b.1 in
@@ -266,6 +266,6 @@ one_fault text at place why cause a b =
     same e =
         let ts = one_before text place a.1.0 b.1.0 (subst (λ n. StandBefore text n a.1.0) e a.1.1) b.1.1 in
         let wants : a.0 ≡ b.0 = wants_same a.0 b.0 b.1.0 (sym (ap (behind (Ok begin)) ts) ∙ a.1.2) b.1.2 in
-        let moved : IsCause text place b.0 why =
-        subst (λ (w : List Want). IsCause text place w why) wants (subst (λ n. IsCause text n a.0 why) e a.2) in
+        let moved : IsRuleCause text place b.0 why =
+        subst (λ (w : List Want). IsRuleCause text place w why) wants (subst (λ n. IsRuleCause text n a.0 why) e a.2) in
         (e, one_cause text place b.0 why cause moved b.2)

@@ -4,22 +4,22 @@ use Rattle.std.proofs.Common.{Result, Ok, Err, refl, sym, ap, subst, ⊎_elim, a
 use Rattle.std.specs.Prelude.{if◌then◌else◌, nat_le, ◌==◌, IfOk, IsErrAnd}
 use Rattle.std.proofs.lemmas.Bool.{cases_lt, leb-true, leb-false, eqb-true, eqb-false}
 use Rattle.hall_text.specs.declared.spans.Span.{Span}
-use Rattle.hall_text.specs.Spans.{IsToken}
+use Rattle.hall_text.specs.Spans.{IsToken, piece}
 use Rattle.hall_text.proofs.TokenLemmas.{same_end, some_bytes}
 use Rattle.rule_language.proofs.Stands.{token_good}
 use Rattle.rule_language.specs.declared.faults.RuleWhy.{RuleWhy}
 use Rattle.rule_language.specs.declared.faults.RuleWhy.TheVariants.{Token as BadByte, Shape}
 use Rattle.rule_language.specs.declared.faults.RuleFault.{RuleFault}
 use Rattle.rule_language.specs.declared.faults.RuleFault.TheVariants.{At, Memory}
-use Rattle.rule_language.specs.Spelling.{Token, piece, StandBefore}
+use Rattle.rule_language.specs.Spelling.{Token, StandBefore}
 use Rattle.rule_language.specs.Wants.{Want, Met, behind, meets, then_want, is_end}
-use Rattle.rule_language.specs.Reading.{IsCause}
+use Rattle.rule_language.specs.Reading.{IsRuleCause}
 use Rattle.rule_language.specs.inside.Reader.{IsNext, Takes, Spell, Fails, FailsAt, IfFault, IsRefused, Asks, told}
 
 -- the fault of the next token
 pub cause_there : (text : List ℕ) (token : Span) (wants : List Want) (reason : RuleWhy) → IsNext text token
     → meets wants (piece text token) ≡ Err reason → (token.start ≡ length text → is_end wants ≡ false)
-    → IsCause text token.start wants (told text token reason)
+    → IsRuleCause text token.start wants (told text token reason)
 cause_there text token wants reason next against going =
     ends (token.start == length text) refl
   where
@@ -29,13 +29,13 @@ cause_there text token wants reason next against going =
 
     -- within the text the cause is the bad byte that is there, or else the token's
     bad : (b : Bool) → nat_le token.end token.start ≡ b → token.start < length text
-        → IsCause text token.start wants (if b then BadByte else reason)
+        → IsRuleCause text token.start wants (if b then BadByte else reason)
     bad true none within = inl (within, next.none (leb-true token.end token.start none) within, refl)
     bad false some within = inr (inl (token.end, next.some (leb-false token.end token.start some), against))
 
     -- the cause is the text's end where it is there, or else that of the byte or the token
     ends : (b : Bool) → (token.start == length text) ≡ b
-        → IsCause text token.start wants
+        → IsRuleCause text token.start wants
         (if b then Shape else (if nat_le token.end token.start then BadByte else reason))
     ends true at_end = let e : token.start ≡ length text = eqb-true token.start (length text) at_end in
         inr (inr (e, going e, refl))
@@ -47,7 +47,7 @@ cause_there text token wants reason next against going =
 
 -- it is a fault of the wants there
 pub fails_there : (text : List ℕ) (token : Span) (wants : List Want) (why : RuleWhy)
-    → IsCause text token.start wants why
+    → IsRuleCause text token.start wants why
     → Fails text token.start wants token.start why
 fails_there text token wants why cause = record {
   tokens = [];
@@ -250,7 +250,7 @@ next_is text token end next is =
 -- a cause against other wants that the next token meets alike
 same_cause : (text : List ℕ) (token : Span) (wants other : List Want) (why : RuleWhy) → IsNext text token
     → meets other (piece text token) ≡ meets wants (piece text token) → is_end wants ≡ false
-    → IsCause text token.start other why → IsCause text token.start wants why
+    → IsRuleCause text token.start other why → IsRuleCause text token.start wants why
 same_cause text token wants other why next here going (inl bad) = inl bad
 same_cause text token wants other why next here going (inr (inl stands)) =
     let one : piece text (record { start = token.start; end = stands.0 }) ≡ piece text token =
@@ -290,7 +290,7 @@ transfer text token wants other at why next here agree going f = by f.tokens f.s
     by [] spell there met =
         let place : at ≡ token.start = there refl in
         let left : other ≡ f.left = ok_wants other f.left met in
-        let cause : IsCause text token.start other why = rw place at (rw (← left) at f.cause) in
+        let cause : IsRuleCause text token.start other why = rw place at (rw (← left) at f.cause) in
         rw place (fails_there text token wants why (same_cause text token wants other why next here going cause))
     by (t ∷ ts) spell there met =
         let first = first_met other t ts f.left met in

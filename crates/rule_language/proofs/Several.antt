@@ -14,7 +14,8 @@ use Rattle.rule_language.specs.Scopes.{Scope}
 use Rattle.rule_language.specs.Trees.{no_trees, tree_then, count_of}
 use Rattle.rule_language.specs.Forms.{tree_of, trees_of}
 use Rattle.rule_language.specs.Lawful.{are_formulas}
-use Rattle.rule_language.specs.Spelling.{left, right, variable, tokens_then, piece}
+use Rattle.hall_text.specs.Spans.{piece}
+use Rattle.rule_language.specs.Spelling.{left, right, variable, tokens_then}
 use Rattle.rule_language.specs.Wants.{formula, more, nested}
 use Rattle.rule_language.specs.inside.Reader.{Takes, FailsAt, IsRead, IsBody, IsSeveral, told}
 use Rattle.rule_language.specs.inside.Quantifiers.{form_of, quantifier_head, IsBinder}
@@ -110,7 +111,8 @@ quantified_read text a e z scope depth false v k None p whole tree binder few sh
 quantified_read text a e z scope depth true v k (Some u) p whole tree binder few shallow body =
     form_read text a z scope depth whole (form.EveryBefore v k u) (tree_of p) (quantifier_head true)
     (variable v ∷ kind_word k ∷ codes "before" ∷ variable u ∷ []) tree refl (λ x y. refl)
-    (lt-ltb depth 32 shallow) (rw (may_bind scope v true binder.fresh few) binder.range) (rw body.one refl) body.lawful (
+    (lt-ltb depth 32 shallow) (rw (may_bind scope v true binder.fresh few) binder.range)
+    (rw body.one refl) body.lawful (
       spell_more text a.start e.start z.start (variable v ∷ kind_word k ∷ codes "before" ∷ variable u ∷ [])
           (tokens_then (tree_of p) (right ∷ [])) binder.taken.0 body.taken.0,
       body.taken.1,

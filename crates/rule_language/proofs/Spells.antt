@@ -6,10 +6,10 @@ use Rattle.std.specs.Prelude.{nat_le, not, ◌==◌}
 use Rattle.std.proofs.lemmas.Bool.{leb-true, eqb-false}
 use Rattle.std.proofs.lemmas.List.{get_or_append_left}
 use Rattle.hall_text.specs.declared.spans.Span.{Span}
-use Rattle.hall_text.specs.Spans.{IsWordByte, IsParenthesis, IsToken}
-use Rattle.hall_text.specs.Places.{IsBetween}
+use Rattle.hall_text.specs.Spans.{IsWordByte, IsParenthesis, IsToken, piece}
+use Rattle.hall_text.specs.Places.{CutsNoWord}
 use Rattle.hall_text.proofs.TokenLemmas.{between_behind}
-use Rattle.rule_language.specs.Spelling.{Token, IsSeparator, piece, StandBefore}
+use Rattle.rule_language.specs.Spelling.{Token, IsSeparator, StandBefore}
 use Rattle.rule_language.proofs.Found.{both_true}
 use Rattle.rule_language.proofs.Stands.{separator_more, between_separator, token_one}
 
@@ -48,16 +48,16 @@ Breaks (byte ∷ more) = ¬ (IsWordByte byte)
 abbrev pub Spells : List ℕ → List Token → Type 0
 Spells xs ts =
     (text front more : List ℕ) (before : List Token) → text ≡ front ++ (xs ++ more) → Breaks more
-    → IsBetween text (length front)
+    → CutsNoWord text (length front)
     → StandBefore text (length front) before
-    → StandBefore text (length (front ++ xs)) (before ++ ts) × IsBetween text (length (front ++ xs))
+    → StandBefore text (length (front ++ xs)) (before ++ ts) × CutsNoWord text (length (front ++ xs))
 
 -- the same whatever stands behind it
 abbrev pub Opens : List ℕ → List Token → Type 0
 Opens xs ts =
-    (text front more : List ℕ) (before : List Token) → text ≡ front ++ (xs ++ more) → IsBetween text (length front)
+    (text front more : List ℕ) (before : List Token) → text ≡ front ++ (xs ++ more) → CutsNoWord text (length front)
     → StandBefore text (length front) before
-    → StandBefore text (length (front ++ xs)) (before ++ ts) × IsBetween text (length (front ++ xs))
+    → StandBefore text (length (front ++ xs)) (before ++ ts) × CutsNoWord text (length (front ++ xs))
 
 -- a piece that spells its tokens in front of whatever follows, and one behind it, spell theirs in a row
 pub opens_more : (xs ys : List ℕ) (ts us : List Token) → Opens xs ts → Spells ys us → Spells (xs ++ ys) (ts ++ us)
@@ -69,7 +69,7 @@ opens_more xs ys ts us first second text front more before is breaks between sta
     let place : length ((front ++ xs) ++ ys) ≡ length (front ++ (xs ++ ys)) = ap length (append_assoc front xs ys) in (
       subst (λ n. StandBefore text n (before ++ (ts ++ us))) place
           (subst (StandBefore text (length ((front ++ xs) ++ ys))) (append_assoc before ts us) b.0),
-      subst (IsBetween text) place b.1,
+      subst (CutsNoWord text) place b.1,
     )
 
 -- what spells its tokens in front of whatever follows spells them
@@ -91,7 +91,7 @@ spells_more xs ys ts us first second apart text front more before is breaks betw
     let place : length ((front ++ xs) ++ ys) ≡ length (front ++ (xs ++ ys)) = ap length (append_assoc front xs ys) in (
       subst (λ n. StandBefore text n (before ++ (ts ++ us))) place
           (subst (StandBefore text (length ((front ++ xs) ++ ys))) (append_assoc before ts us) b.0),
-      subst (IsBetween text) place b.1,
+      subst (CutsNoWord text) place b.1,
     )
 
 -- the byte of a piece in its text
@@ -112,7 +112,7 @@ spells_none text front more before is breaks between stand =
     let place : length front ≡ length (front ++ []) = ap length (sym (append-nil front)) in (
       subst (λ n. StandBefore text n (before ++ [])) place
           (subst (StandBefore text (length front)) (sym (append-nil before)) stand),
-      subst (IsBetween text) place between,
+      subst (CutsNoWord text) place between,
     )
 
 -- a separator spells no token, whatever follows
@@ -128,7 +128,7 @@ opens_separator byte separator text front more before is between stand =
       subst (λ n. StandBefore text n (before ++ [])) place
           (subst (StandBefore text (length front + 1)) (sym (append-nil before))
           (separator_more text (length front) before within sep stand)),
-      subst (IsBetween text) place (between_separator text (length front) sep),
+      subst (CutsNoWord text) place (between_separator text (length front) sep),
     )
 
 -- the token that a piece is
@@ -145,7 +145,7 @@ piece_is text front xs more is =
 token_stands : (xs text front more : List ℕ) (before : List Token) → 0 < length xs → text ≡ front ++ (xs ++ more)
     → IsToken text (record { start = length front; end = length (front ++ xs) })
     → StandBefore text (length front) before
-    → StandBefore text (length (front ++ xs)) (before ++ xs ∷ []) × IsBetween text (length (front ++ xs))
+    → StandBefore text (length (front ++ xs)) (before ++ xs ∷ []) × CutsNoWord text (length (front ++ xs))
 token_stands xs text front more before some is token stand =
     let span : Span = record { start = length front; end = length (front ++ xs) } in
     let size : length (front ++ xs) ≡ length front + length xs = length-append front xs in

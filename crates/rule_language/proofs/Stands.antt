@@ -3,10 +3,10 @@ use Rattle.std.proofs.Common.{◌≡◌, ◌⊎◌, inl, inr, ℕ, ◌+◌, ◌<
 use Rattle.std.proofs.Common.{ap, ◌∙◌, subst, ⊎_elim, arith}
 use Rattle.std.proofs.lemmas.Bool.{cases_lt}
 use Rattle.hall_text.specs.declared.spans.Span.{Span}
-use Rattle.hall_text.specs.Spans.{IsWordByte, IsParenthesis, IsWord, IsAlone, IsToken}
-use Rattle.hall_text.specs.Places.{IsBetween}
+use Rattle.hall_text.specs.Spans.{IsWordByte, IsParenthesis, IsWord, IsAlone, IsToken, piece}
+use Rattle.hall_text.specs.Places.{CutsNoWord}
 use Rattle.hall_text.proofs.TokenLemmas.{token_more, none_there, none_before_first, between_none}
-use Rattle.rule_language.specs.Spelling.{Token, IsSeparator, IsGoodByte, piece, StandBefore}
+use Rattle.rule_language.specs.Spelling.{Token, IsSeparator, IsGoodByte, StandBefore}
 
 -- a separator begins no token
 pub none_begins : (byte : ℕ) → IsSeparator byte → (IsWordByte byte ⊎ IsParenthesis byte) → ⊥
@@ -41,7 +41,7 @@ separator_more text at tokens within separator stand = record {
 }
 
 -- no word goes on behind a separator
-pub between_separator : (text : List ℕ) (at : ℕ) → IsSeparator (get_or text at 0) → IsBetween text (at + 1)
+pub between_separator : (text : List ℕ) (at : ℕ) → IsSeparator (get_or text at 0) → CutsNoWord text (at + 1)
 between_separator text at separator = between_none text at (none_begins (get_or text at 0) separator)
 
 -- the bytes of a token are good

@@ -11,7 +11,8 @@ use Rattle.rule_language.specs.Scopes.{Scope}
 use Rattle.rule_language.specs.Lawful.{is_bound, sort_of}
 use Rattle.rule_language.specs.Spelling.{right, variable, term_word}
 use Rattle.rule_language.specs.Wants.{Want, close, a_variable, a_role, a_kind, first_term, second_term, new_variable}
-use Rattle.rule_language.specs.Wants.{kind_of, before_or_body, may_begin, only, kind_for, new_in, letter_in, then_want}
+use Rattle.rule_language.specs.Wants.{kind_of, before_or_body, may_begin, only, kind_for, unbound_in, letter_in}
+use Rattle.rule_language.specs.Wants.{then_want}
 use Rattle.rule_language.specs.inside.Reader.{Takes, Asks}
 use Rattle.rule_language.proofs.Refusals.{Passed, one_passed}
 use Rattle.rule_language.proofs.Passing.{variable_passes, role_passes, kind_passes, kind_of_passes, first_passes}
@@ -68,7 +69,7 @@ module _ (text : List ℕ) (old new : Span) (further : List Want → List Want) 
 
   -- a new variable was passed, and its kind is wanted
   pub new_step : (scope : Scope) (depth v : ℕ) → Takes text old new (variable v ∷ [])
-      → new_in scope (letter_in (variable v)) ≡ Ok v
+      → unbound_in scope (letter_in (variable v)) ≡ Ok v
       → Passed text old.start new.start (variable v ∷ []) (λ rest. new_variable scope depth ∷ further rest)
       (λ rest. kind_of v scope depth ∷ further rest)
   new_step scope depth v takes fresh =

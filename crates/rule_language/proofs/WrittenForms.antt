@@ -6,13 +6,13 @@ use Rattle.rule_language.specs.declared.form.Form.TheVariants as form
 use Rattle.rule_language.specs.Trees.{Trees, no_trees, tree_then}
 use Rattle.rule_language.specs.Forms.{in_front, tree_of}
 use Rattle.rule_language.specs.Spelling.{form_words}
-use Rattle.rule_language.specs.Written.{joined, form_text, row_text}
+use Rattle.rule_language.specs.Written.{with_spaces, form_text, row_text}
 use Rattle.rule_language.specs.inside.Parts.{parts_of}
 use Rattle.rule_language.proofs.Views.{shape}
 
 -- all but `true` stands in parentheses
 pub enclosed_text : (f : Form) (inside : List ℕ) → f ≢ form.True
-    → form_text f inside ≡ 40 ∷ (joined (form_words f) ++ (inside ++ 41 ∷ []))
+    → form_text f inside ≡ 40 ∷ (with_spaces (form_words f) ++ (inside ++ 41 ∷ []))
 enclosed_text form.True inside other = absurd (other refl)
 enclosed_text (form.ForEvery v k) inside other = refl
 enclosed_text (form.ForSome v k) inside other = refl
@@ -33,11 +33,11 @@ enclosed_text (form.Less t u) inside other = refl
 -- a formula in parentheses, piece by piece
 pub written_form : (tree : Trees) (f : Form) (parts : Trees) (old : List ℕ)
     → tree ≡ tree_then f parts no_trees → f ≢ form.True
-    → ((old ++ 32 ∷ 40 ∷ []) ++ joined (form_words f)) ++ row_text parts ++ 41 ∷ [] ≡ old ++ row_text tree
+    → ((old ++ 32 ∷ 40 ∷ []) ++ with_spaces (form_words f)) ++ row_text parts ++ 41 ∷ [] ≡ old ++ row_text tree
 written_form tree f parts old is other =
-    append_assoc ((old ++ 32 ∷ 40 ∷ []) ++ joined (form_words f)) (row_text parts) (41 ∷ [])
-    ∙ append_assoc (old ++ 32 ∷ 40 ∷ []) (joined (form_words f)) (row_text parts ++ 41 ∷ [])
-    ∙ append_assoc old (32 ∷ 40 ∷ []) (joined (form_words f) ++ (row_text parts ++ 41 ∷ []))
+    append_assoc ((old ++ 32 ∷ 40 ∷ []) ++ with_spaces (form_words f)) (row_text parts) (41 ∷ [])
+    ∙ append_assoc (old ++ 32 ∷ 40 ∷ []) (with_spaces (form_words f)) (row_text parts ++ 41 ∷ [])
+    ∙ append_assoc old (32 ∷ 40 ∷ []) (with_spaces (form_words f) ++ (row_text parts ++ 41 ∷ []))
     ∙ ap (λ xs. old ++ 32 ∷ xs) (sym (enclosed_text f (row_text parts) other)
     ∙ sym (append-nil (form_text f (row_text parts))))
     ∙ ap (λ t. old ++ row_text t) (sym is)
@@ -45,12 +45,12 @@ written_form tree f parts old is other =
 -- and so the text is, with each piece appended to what is there
 pub written_pieces : (tree : Trees) (f : Form) (parts : Trees) (old opened headed filled closed : List ℕ)
     → tree ≡ tree_then f parts no_trees → f ≢ form.True → opened ≡ old ++ 32 ∷ 40 ∷ []
-    → headed ≡ opened ++ joined (form_words f) → filled ≡ headed ++ row_text (parts_of tree)
+    → headed ≡ opened ++ with_spaces (form_words f) → filled ≡ headed ++ row_text (parts_of tree)
     → closed ≡ filled ++ 41 ∷ [] → closed ≡ old ++ row_text tree
 written_pieces tree f parts old opened headed filled closed is other opens heads fills closes =
     closes
     ∙ ap (λ xs. xs ++ 41 ∷ []) (fills ∙ ap (λ t. headed ++ row_text (parts_of t)) is
-    ∙ ap (λ xs. xs ++ row_text parts) (heads ∙ ap (λ xs. xs ++ joined (form_words f)) opens))
+    ∙ ap (λ xs. xs ++ row_text parts) (heads ∙ ap (λ xs. xs ++ with_spaces (form_words f)) opens))
     ∙ written_form tree f parts old is other
 
 -- a row is written formula by formula

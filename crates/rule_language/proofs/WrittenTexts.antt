@@ -27,7 +27,7 @@ use Rattle.rule_language.specs.Lawful.{scope_in, are_formulas, is_alphanumeric, 
 use Rattle.rule_language.specs.Lawful.{follow, are_rules}
 use Rattle.rule_language.specs.Spelling.{Token, left, right, variable, term_word, form_words, spelt, tokens_then}
 use Rattle.rule_language.specs.Spelling.{rule_tokens, rules_tokens, IsTextOf}
-use Rattle.rule_language.specs.Written.{spaced, joined, form_text, row_text, rule_text, rules_text}
+use Rattle.rule_language.specs.Written.{spaced, with_spaces, form_text, row_text, rule_text, rules_text}
 use Rattle.rule_language.proofs.Found.{both_true}
 use Rattle.rule_language.proofs.Passing.{spelt_cases, tokens_append}
 use Rattle.rule_language.proofs.Passes.{may_stand}
@@ -203,7 +203,7 @@ spaced_spells (w ∷ ws) good =
     (spaced_breaks ws))
 
 -- words with a space between each two spell themselves
-joined_spells : (ws : List Token) → AreSpelt ws → Spells (joined ws) ws
+joined_spells : (ws : List Token) → AreSpelt ws → Spells (with_spaces ws) ws
 joined_spells [] good = spells_none
 joined_spells (w ∷ ws) good = spells_more w (spaced ws) (w ∷ []) ws (spells_word w good.0.0 good.0.1)
     (spaced_spells ws good.1) (spaced_breaks ws)
@@ -226,13 +226,13 @@ form_spells : (scope : Scope) (f : Form) (parts : Trees) → is_closed scope f �
 form_spells scope f parts good inside = by (spelt_cases f)
   where
     -- the same of a form in parentheses
-    enclosed : f ≢ form.True → Spells (40 ∷ (joined (form_words f) ++ (row_text parts ++ 41 ∷ [])))
+    enclosed : f ≢ form.True → Spells (40 ∷ (with_spaces (form_words f) ++ (row_text parts ++ 41 ∷ [])))
         (left ∷ (form_words f ++ (tokens_then parts [] ++ right ∷ [])))
     enclosed other =
-        opens_more (40 ∷ []) (joined (form_words f) ++ (row_text parts ++ 41 ∷ [])) (left ∷ [])
+        opens_more (40 ∷ []) (with_spaces (form_words f) ++ (row_text parts ++ 41 ∷ [])) (left ∷ [])
         (form_words f ++ (tokens_then parts [] ++ right ∷ []))
         (opens_parenthesis 40 (inl refl))
-        (spells_more (joined (form_words f)) (row_text parts ++ 41 ∷ []) (form_words f)
+        (spells_more (with_spaces (form_words f)) (row_text parts ++ 41 ∷ []) (form_words f)
         (tokens_then parts [] ++ right ∷ [])
         (joined_spells (form_words f) (form_spelt scope f good))
         (spells_more (row_text parts) (41 ∷ []) (tokens_then parts []) (right ∷ []) inside

@@ -16,9 +16,10 @@ use Rattle.rule_language.specs.declared.faults.RuleWhy.{RuleWhy}
 use Rattle.rule_language.specs.declared.faults.RuleWhy.TheVariants as why
 
 -- the first of the things whose word this is
-abbrev pub named : {A : Type 0} → (A → List ℕ) → List A → List ℕ → Option A
-named word_of [] word = None
-named word_of (thing ∷ things) word = if bytes_eq word (word_of thing) then Some thing else named word_of things word
+abbrev pub first_named : {A : Type 0} → (A → List ℕ) → List A → List ℕ → Option A
+first_named word_of [] word = None
+first_named word_of (thing ∷ things) word =
+    if bytes_eq word (word_of thing) then Some thing else first_named word_of things word
 
 -- the word of a kind
 abbrev pub kind_word : Kind → List ℕ
@@ -34,14 +35,14 @@ kind_word kind.Cast = codes "cast"
 kind_word kind.Cancel = codes "cancel"
 kind_word kind.Challenge = codes "challenge"
 
-abbrev pub kinds : List Kind
-kinds =
+abbrev pub entry_kinds : List Kind
+entry_kinds =
     kind.Any ∷ kind.Opened ∷ kind.Authorise ∷ kind.Override ∷ kind.Forced ∷ kind.Closed ∷ kind.Activate ∷ kind.Commit
     ∷ kind.Cast ∷ kind.Cancel ∷ kind.Challenge ∷ []
 
 -- the kind that a word names
 abbrev pub kind_named : List ℕ → Option Kind
-kind_named word = named kind_word kinds word
+kind_named word = first_named kind_word entry_kinds word
 
 -- the word of a field
 abbrev pub field_word : Field → List ℕ
@@ -56,7 +57,7 @@ fields = field.Maker ∷ field.Booth ∷ field.Number ∷ field.Session ∷ fiel
 
 -- the field that a word names
 abbrev pub field_named : List ℕ → Option Field
-field_named word = named field_word fields word
+field_named word = first_named field_word fields word
 
 -- whether entries of a kind have a session
 abbrev pub has_session : Kind → Bool
@@ -108,7 +109,7 @@ is_same_sort sort other = false
 
 -- the role that a word names
 abbrev pub role_named : List ℕ → Option Role
-role_named word = named role_word (role.Supervisor ∷ role.Booth ∷ []) word
+role_named word = first_named role_word (role.Supervisor ∷ role.Booth ∷ []) word
 
 -- the word that a formula in parentheses begins with
 abbrev pub head_word : Head → List ℕ
@@ -132,7 +133,7 @@ heads =
     ∷ head.Is ∷ head.OfKind ∷ head.Equal ∷ head.Less ∷ []
 
 abbrev pub head_named : List ℕ → Option Head
-head_named word = named head_word heads word
+head_named word = first_named head_word heads word
 
 -- whether it is the word of a quantifier
 abbrev pub is_quantifier : Head → Bool

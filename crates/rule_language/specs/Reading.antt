@@ -2,7 +2,7 @@
 use Rattle.std.specs.Prelude.{◌≡◌, ◌⊎◌, ℕ, ◌<◌, false, true, List, length, map, slice_index, Result, Ok, Err}
 use Rattle.std.specs.declared.vec.Vec.{Vec}
 use Rattle.std.specs.declared.alloc.Global.{Global}
-use Rattle.hall_text.specs.Spans.{IsToken}
+use Rattle.hall_text.specs.Spans.{IsToken, piece}
 use Rattle.rule_language.specs.declared.formula.Rule.{Rule}
 use Rattle.rule_language.specs.declared.faults.RuleWhy.{RuleWhy}
 use Rattle.rule_language.specs.declared.faults.RuleWhy.TheVariants.{Token as BadByte, Shape}
@@ -10,7 +10,7 @@ use Rattle.rule_language.specs.declared.faults.RuleFault.{RuleFault}
 use Rattle.rule_language.specs.declared.faults.RuleFault.TheVariants.{At, Memory}
 use Rattle.rule_language.specs.Trees.{RuleTree}
 use Rattle.rule_language.specs.Forms.{rule_tree}
-use Rattle.rule_language.specs.Spelling.{Token, IsGoodByte, piece, StandBefore, IsTextOf}
+use Rattle.rule_language.specs.Spelling.{Token, IsGoodByte, StandBefore, IsTextOf}
 use Rattle.rule_language.specs.Wants.{Want, meets, behind, begin, is_end}
 
 -- the wants that are left behind the tokens that begin before the place, each of which can stand
@@ -19,8 +19,8 @@ Leaves text at wants = (tokens : List Token) × StandBefore text at tokens × (b
 
 -- why the text can't go on at the place: a byte there is bad, the token that begins there can't stand, or the text ends
 -- too early
-abbrev pub IsCause : List ℕ → ℕ → List Want → RuleWhy → Type 0
-IsCause text at wants why =
+abbrev pub IsRuleCause : List ℕ → ℕ → List Want → RuleWhy → Type 0
+IsRuleCause text at wants why =
     ((at < length text) × ¬ IsGoodByte (slice_index text at) × (why ≡ BadByte))
     ⊎ (((end : ℕ) × IsToken text (record { start = at; end = end })
     × (meets wants (piece text (record { start = at; end = end })) ≡ Err why))
@@ -28,7 +28,7 @@ IsCause text at wants why =
 
 -- the first fault of a text: everything before its place can stand
 abbrev pub IsFirstFault : List ℕ → ℕ → RuleWhy → Type 0
-IsFirstFault text at why = (wants : List Want) × Leaves text at wants × IsCause text at wants why
+IsFirstFault text at why = (wants : List Want) × Leaves text at wants × IsRuleCause text at wants why
 
 -- a text without a fault
 abbrev pub HasNoFault : List ℕ → Type 0

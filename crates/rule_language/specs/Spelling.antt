@@ -1,10 +1,10 @@
 -- The tokens of rules, by recursion on their trees, and texts of them.
-use Rattle.std.specs.Prelude.{◌≡◌, ◌⊎◌, ℕ, ◌-◌, ◌<◌, ◌≤◌, IsTrue, List, [], ◌∷◌, ◌++◌, length, map, take, drop, codes}
+use Rattle.std.specs.Prelude.{◌≡◌, ◌⊎◌, ℕ, ◌<◌, ◌≤◌, IsTrue, List, [], ◌∷◌, ◌++◌, length, map, codes}
 use Rattle.std.specs.Prelude.{slice_index}
 use Rattle.std.specs.Fmt.{decimal}
 use Rattle.roster.specs.RosterText.{role_word}
 use Rattle.hall_text.specs.declared.spans.Span.{Span}
-use Rattle.hall_text.specs.Spans.{IsWordByte, IsParenthesis, IsToken, AreAll}
+use Rattle.hall_text.specs.Spans.{IsWordByte, IsParenthesis, IsToken, AreAll, piece}
 use Rattle.rule_language.specs.declared.term.Term.{Term}
 use Rattle.rule_language.specs.declared.term.Term.TheVariants.{Of, Number}
 use Rattle.rule_language.specs.declared.form.Form.{Form}
@@ -78,10 +78,6 @@ IsSeparator byte = (byte ≡ 32) ⊎ ((byte ≡ 9) ⊎ ((byte ≡ 10) ⊎ (byte 
 -- a byte of a token, or one that separates tokens
 abbrev pub IsGoodByte : ℕ → Type 0
 IsGoodByte byte = IsWordByte byte ⊎ (IsParenthesis byte ⊎ IsSeparator byte)
-
--- the bytes of a span
-abbrev pub piece : List ℕ → Span → Token
-piece text span = take (span.end - span.start) (drop span.start text)
 
 -- these are the tokens that begin before the place, and no byte before it is bad
 pub record StandBefore (text : List ℕ) (at : ℕ) (tokens : List Token) : Type 0 where

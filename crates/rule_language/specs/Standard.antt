@@ -84,84 +84,84 @@ some_z_before_y kind f = one (form.SomeBefore z kind y) f
 abbrev never : Inner → Inner
 never f = one form.Not f
 
-abbrev pub o1 : Trees
-o1 = every_x kind.Opened (every_y kind.Opened is_same)
+abbrev pub o1_body : Trees
+o1_body = every_x kind.Opened (every_y kind.Opened is_same)
 
-abbrev pub o2 : Trees
-o2 = every_x kind.Authorise (some_y_before kind.Opened (atom form.True))
+abbrev pub o2_body : Trees
+o2_body = every_x kind.Authorise (some_y_before kind.Opened (atom form.True))
 
-abbrev pub a1 : Trees
-a1 = every_x kind.Activate (some_y_before kind.Authorise (two form.And (same_session y x) (booth_is_maker y x)))
+abbrev pub a1_body : Trees
+a1_body = every_x kind.Activate (some_y_before kind.Authorise (two form.And (same_session y x) (booth_is_maker y x)))
 
-abbrev pub a2 : Trees
-a2 = every_x kind.Authorise (every_y kind.Authorise (two form.Implies (same_session x y) is_same))
+abbrev pub a2_body : Trees
+a2_body = every_x kind.Authorise (every_y kind.Authorise (two form.Implies (same_session x y) is_same))
 
-abbrev pub c1 : Trees
-c1 = every_x kind.Commit (some_y_before kind.Activate (two form.And (same_maker y x) (same_session y x)))
+abbrev pub c1_body : Trees
+c1_body = every_x kind.Commit (some_y_before kind.Activate (two form.And (same_maker y x) (same_session y x)))
 
-abbrev pub c2 : Trees
-c2 = every_x kind.Cast (some_y_before kind.Commit
+abbrev pub c2_body : Trees
+c2_body = every_x kind.Cast (some_y_before kind.Commit
     (three form.And (same_maker y x) (same_session y x) (same_ballot y x)))
 
-abbrev pub c3 : Trees
-c3 = every_x kind.Cast (every_y kind.Cast (two form.Implies (same_session x y) is_same))
+abbrev pub c3_body : Trees
+c3_body = every_x kind.Cast (every_y kind.Cast (two form.Implies (same_session x y) is_same))
 
-abbrev pub c4 : Trees
-c4 = every_x kind.Cast (two form.And (every_y kind.Cancel (never (same_session x y)))
+abbrev pub c4_body : Trees
+c4_body = every_x kind.Cast (two form.And (every_y kind.Cancel (never (same_session x y)))
     (every_z kind.Challenge (never (same_session x z))))
 
-abbrev pub c5 : Trees
-c5 = every_x kind.Cancel (some_y_before kind.Authorise (two form.And (same_session y x) (booth_is_maker y x)))
+abbrev pub c5_body : Trees
+c5_body = every_x kind.Cancel (some_y_before kind.Authorise (two form.And (same_session y x) (booth_is_maker y x)))
 
-abbrev pub v1 : Trees
-v1 = every_x kind.Override (some_y_before kind.Authorise (same_session y x))
+abbrev pub v1_body : Trees
+v1_body = every_x kind.Override (some_y_before kind.Authorise (same_session y x))
 
-abbrev pub v2 : Trees
-v2 = every_x kind.Cast (never (some_y_before kind.Override (same_session y x)))
+abbrev pub v2_body : Trees
+v2_body = every_x kind.Cast (never (some_y_before kind.Override (same_session y x)))
 
-abbrev pub p1 : Trees
-p1 = every_x kind.Closed (every_y kind.Closed is_same)
+abbrev pub p1_body : Trees
+p1_body = every_x kind.Closed (every_y kind.Closed is_same)
 
-abbrev pub p2 : Trees
-p2 = every_x kind.Authorise (never (some_y_before kind.Closed (atom form.True)))
+abbrev pub p2_body : Trees
+p2_body = every_x kind.Authorise (never (some_y_before kind.Closed (atom form.True)))
 
-abbrev pub p3 : Trees
-p3 = every_x kind.Authorise (every_y kind.Closed (two form.Implies (atom (form.Before x y))
+abbrev pub p3_body : Trees
+p3_body = every_x kind.Authorise (every_y kind.Closed (two form.Implies (atom (form.Before x y))
     (three form.Or (some_z_before_y kind.Cast (same_session z x)) (some_z_before_y kind.Cancel (same_session z x))
     (some_z_before_y kind.Challenge (same_session z x)))))
 
-abbrev pub p4 : Trees
-p4 = every_x kind.Cast (never (some_y_before kind.Closed (atom form.True)))
+abbrev pub p4_body : Trees
+p4_body = every_x kind.Cast (never (some_y_before kind.Closed (atom form.True)))
 
-abbrev pub m1 : Trees
-m1 = every_x kind.Any (two form.Or
+abbrev pub m1_body : Trees
+m1_body = every_x kind.Any (two form.Or
     (two form.And (atom (form.Is x Supervisor)) (five form.Or (of_kind kind.Opened) (of_kind kind.Authorise)
     (of_kind kind.Override) (of_kind kind.Forced) (of_kind kind.Closed)))
     (two form.And (atom (form.Is x Booth)) (five form.Or (of_kind kind.Activate) (of_kind kind.Commit)
     (of_kind kind.Cast) (of_kind kind.Cancel) (of_kind kind.Challenge))))
 
-abbrev pub k1 : Trees
-k1 = every_x kind.Any (every_y kind.Any (two form.Implies
+abbrev pub k1_body : Trees
+k1_body = every_x kind.Any (every_y kind.Any (two form.Implies
     (two form.And (same_maker x y) (same_number x y)) is_same))
 
-abbrev pub k2 : Trees
-k2 = every_x kind.Any (two form.Or (atom (form.Equal (Of x field.Number) (Number 0)))
+abbrev pub k2_body : Trees
+k2_body = every_x kind.Any (two form.Or (atom (form.Equal (Of x field.Number) (Number 0)))
     (some_y_before kind.Any (atom (form.Next y x))))
 
-abbrev pub c6 : Trees
-c6 = every_x kind.Challenge (some_y_before kind.Commit
+abbrev pub c6_body : Trees
+c6_body = every_x kind.Challenge (some_y_before kind.Commit
     (three form.And (same_maker y x) (same_session y x) (same_ballot y x)))
 
-abbrev pub c7 : Trees
-c7 = every_x kind.Challenge (two form.And (every_y kind.Challenge (two form.Implies (same_session x y) is_same))
+abbrev pub c7_body : Trees
+c7_body = every_x kind.Challenge (two form.And (every_y kind.Challenge (two form.Implies (same_session x y) is_same))
     (every_z kind.Cancel (never (same_session x z))))
 
-abbrev pub v3 : Trees
-v3 = every_x kind.Challenge (two form.And (never (some_y_before kind.Override (same_session y x)))
+abbrev pub v3_body : Trees
+v3_body = every_x kind.Challenge (two form.And (never (some_y_before kind.Override (same_session y x)))
     (never (some_z_before kind.Forced (same_session z x))))
 
-abbrev pub v4 : Trees
-v4 = every_x kind.Forced (two form.And (some_y_before kind.Authorise (same_session y x))
+abbrev pub v4_body : Trees
+v4_body = every_x kind.Forced (two form.And (some_y_before kind.Authorise (same_session y x))
     (some_z_before kind.Commit (same_session z x)))
 
 abbrev named : List ℕ → Trees → RuleTree
@@ -172,9 +172,11 @@ named name body = record { name = name; body = body }
 -- (V); one closing, after which nothing is authorised or cast (P); each role its deeds (M); no fork, and a chain (K)
 abbrev pub standard_rules : List RuleTree
 standard_rules =
-    named (codes "O1") o1 ∷ named (codes "O2") o2 ∷ named (codes "A1") a1 ∷ named (codes "A2") a2
-    ∷ named (codes "C1") c1 ∷ named (codes "C2") c2 ∷ named (codes "C3") c3 ∷ named (codes "C4") c4
-    ∷ named (codes "C5") c5 ∷ named (codes "V1") v1 ∷ named (codes "V2") v2 ∷ named (codes "P1") p1
-    ∷ named (codes "P2") p2 ∷ named (codes "P3") p3 ∷ named (codes "P4") p4 ∷ named (codes "M1") m1
-    ∷ named (codes "K1") k1 ∷ named (codes "K2") k2 ∷ named (codes "C6") c6 ∷ named (codes "C7") c7
-    ∷ named (codes "V3") v3 ∷ named (codes "V4") v4 ∷ []
+    named (codes "O1") o1_body ∷ named (codes "O2") o2_body ∷ named (codes "A1") a1_body
+    ∷ named (codes "A2") a2_body ∷ named (codes "C1") c1_body ∷ named (codes "C2") c2_body
+    ∷ named (codes "C3") c3_body ∷ named (codes "C4") c4_body ∷ named (codes "C5") c5_body
+    ∷ named (codes "V1") v1_body ∷ named (codes "V2") v2_body ∷ named (codes "P1") p1_body
+    ∷ named (codes "P2") p2_body ∷ named (codes "P3") p3_body ∷ named (codes "P4") p4_body
+    ∷ named (codes "M1") m1_body ∷ named (codes "K1") k1_body ∷ named (codes "K2") k2_body
+    ∷ named (codes "C6") c6_body ∷ named (codes "C7") c7_body ∷ named (codes "V3") v3_body
+    ∷ named (codes "V4") v4_body ∷ []

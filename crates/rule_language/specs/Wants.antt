@@ -61,9 +61,9 @@ letter_in (v ∷ []) = if is_letter v then Some v else None
 letter_in (v ∷ w ∷ bytes) = None
 
 -- a variable that isn't bound, or one that is
-abbrev pub new_in : Scope → Option ℕ → Result ℕ RuleWhy
-new_in scope None = Err Shape
-new_in scope (Some v) = if is_some (kind_in scope v) then Err SameName else Ok v
+abbrev pub unbound_in : Scope → Option ℕ → Result ℕ RuleWhy
+unbound_in scope None = Err Shape
+unbound_in scope (Some v) = if is_some (kind_in scope v) then Err SameName else Ok v
 
 abbrev pub bound_in : Scope → Option ℕ → Result ℕ RuleWhy
 bound_in scope None = Err Shape
@@ -177,7 +177,7 @@ meets_want (rule_name names) rest token =
 meets_want (formula scope depth) rest token = meets_formula scope depth rest token
 meets_want (head scope depth) rest token = then_want (head_for scope token) (behind_head scope depth rest)
 meets_want (new_variable scope depth) rest token =
-    then_want (new_in scope (letter_in token)) (λ v. kind_of v scope depth ∷ rest)
+    then_want (unbound_in scope (letter_in token)) (λ v. kind_of v scope depth ∷ rest)
 meets_want (kind_of v scope depth) rest token =
     then_want (kind_for token) (λ kind. before_or_body v kind scope depth ∷ rest)
 meets_want (before_or_body v kind scope depth) rest token =

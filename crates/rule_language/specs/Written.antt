@@ -11,14 +11,14 @@ spaced [] = []
 spaced (word ∷ words) = 32 ∷ (word ++ spaced words)
 
 -- words with a space between each two
-abbrev pub joined : List Token → List ℕ
-joined [] = []
-joined (word ∷ words) = word ++ spaced words
+abbrev pub with_spaces : List Token → List ℕ
+with_spaces [] = []
+with_spaces (word ∷ words) = word ++ spaced words
 
 -- a form with the text of the formulas in it
 abbrev pub form_text : Form → List ℕ → List ℕ
 form_text form.True inside = codes "true"
-form_text form inside = 40 ∷ (joined (form_words form) ++ (inside ++ 41 ∷ []))
+form_text form inside = 40 ∷ (with_spaces (form_words form) ++ (inside ++ 41 ∷ []))
 
 -- formulas in a row, with a space before each
 abbrev pub row_text : Trees → List ℕ

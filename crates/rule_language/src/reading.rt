@@ -6,7 +6,8 @@ ghost use Rattle.rule_language.specs.declared.kind.Kind.{Kind};
 ghost use Rattle.rule_language.specs.declared.faults.RuleWhy.{RuleWhy};
 ghost use Rattle.rule_language.specs.Kinds.{kind_word, head_word, is_same_sort};
 ghost use Rattle.rule_language.specs.Lawful.{is_bound};
-ghost use Rattle.rule_language.specs.Spelling.{variable, term_word, piece};
+ghost use Rattle.hall_text.specs.Spans.{piece};
+ghost use Rattle.rule_language.specs.Spelling.{variable, term_word};
 ghost use Rattle.rule_language.specs.Wants.{
   Want,
   formula,
@@ -19,7 +20,7 @@ ghost use Rattle.rule_language.specs.Wants.{
   only,
   nested,
   kind_for,
-  new_in,
+  unbound_in,
   letter_in,
   may_begin,
 };
@@ -111,7 +112,7 @@ pub(crate) fn read_new_variable(
 ) -> Result<u8, RuleFault>
     requires { IsNext text.now token.old }
     ensures ok { IfOk result (λ v. Takes text.now token.old token.new (variable v ∷ [])
-        × (new_in (bindings scope.now) (letter_in (variable v)) ≡ Ok v)) }
+        × (unbound_in (bindings scope.now) (letter_in (variable v)) ≡ Ok v)) }
     ensures err { (depth : ℕ) → IfFault result
         (FailsAt text.now token.old.start (λ rest. new_variable (bindings scope.now) depth ∷ rest)) }
 {

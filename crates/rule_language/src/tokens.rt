@@ -1,10 +1,10 @@
 //! The tokens of a text, one after another.
 ghost use Rattle.std.specs.Prelude.{◌≡◌, ◌≢◌, ◌≤◌, ◌<◌, ◌↔◌, List, length, IsTrue, [], ◌∷◌};
-ghost use Rattle.hall_text.specs.Places.{IsBetween};
+ghost use Rattle.hall_text.specs.Places.{CutsNoWord};
+ghost use Rattle.hall_text.specs.Spans.{piece};
 ghost use Rattle.rule_language.specs.Spelling.{
   Token as TokenBytes,
   IsSeparator,
-  piece,
   StandBefore,
 };
 ghost use Rattle.rule_language.specs.inside.Reader.{IsNext, Takes, told};
@@ -23,7 +23,7 @@ fn is_separator(byte: u8) -> bool
 /// the text's end.
 pub(crate) fn token_from(text: &[u8], from: usize) -> Span
     requires inside { from ≤ length text.now }
-    requires between { IsBetween text.now from }
+    requires between { CutsNoWord text.now from }
     ensures next { IsNext text.now result }
     ensures passed { (tokens : List TokenBytes) →
         StandBefore text.now from tokens → StandBefore text.now result.start tokens }

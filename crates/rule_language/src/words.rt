@@ -6,7 +6,7 @@ ghost use Rattle.rule_language.specs.Scopes.{is_letter};
 ghost use Rattle.rule_language.specs.Wants.{
   or_cause,
   letter_in,
-  new_in,
+  unbound_in,
   bound_in,
   kind_for,
   number_in,
@@ -50,7 +50,7 @@ fn letter_in(word: &[u8]) -> Option<u8>
 
 /// The variable that the word is and that isn't bound yet.
 pub(crate) fn new_variable_in(word: &[u8], scope: &Scope<'_>) -> Result<u8, RuleWhy>
-    ensures { result ≡ new_in (bindings scope.now) (letter_in word.now) }
+    ensures { result ≡ unbound_in (bindings scope.now) (letter_in word.now) }
 {
     let Some(v) = letter_in(word) else {
         return Err(RuleWhy::Shape);

@@ -4,7 +4,7 @@ ghost use Rattle.rule_language.specs.Kinds.{kind_word};
 ghost use Rattle.rule_language.specs.Trees.{Trees, no_trees, tree_then};
 ghost use Rattle.rule_language.specs.Forms.{tree_of, trees_of, rule_tree};
 ghost use Rattle.rule_language.specs.Spelling.{variable, term_word, form_words};
-ghost use Rattle.rule_language.specs.Written.{spaced, joined, row_text, rule_text, rules_text};
+ghost use Rattle.rule_language.specs.Written.{spaced, with_spaces, row_text, rule_text, rules_text};
 ghost use Rattle.rule_language.specs.inside.Parts.{parts_of};
 
 use crate::form::Form;
@@ -65,7 +65,7 @@ fn push_range(out: &mut Vec<u8>, u: u8) -> Result<(), Memory>
 
 /// Appends the first word of a form and two variables.
 fn push_pair(out: &mut Vec<u8>, word: &[u8], v: u8, u: u8) -> Result<(), Memory>
-    ensures { OnOk result (out.new.items ≡ out.old.items ++ joined (word.now ∷ variable v ∷ variable u ∷ [])) }
+    ensures { OnOk result (out.new.items ≡ out.old.items ++ with_spaces (word.now ∷ variable v ∷ variable u ∷ [])) }
 {
     out.extend_from_slice(word)?;
     push_variable(out, v)?;
@@ -74,7 +74,7 @@ fn push_pair(out: &mut Vec<u8>, word: &[u8], v: u8, u: u8) -> Result<(), Memory>
 
 /// Appends the first word of a form, a variable and a word.
 fn push_said(out: &mut Vec<u8>, word: &[u8], v: u8, said: &[u8]) -> Result<(), Memory>
-    ensures { OnOk result (out.new.items ≡ out.old.items ++ joined (word.now ∷ variable v ∷ said.now ∷ [])) }
+    ensures { OnOk result (out.new.items ≡ out.old.items ++ with_spaces (word.now ∷ variable v ∷ said.now ∷ [])) }
 {
     out.extend_from_slice(word)?;
     push_variable(out, v)?;
@@ -83,7 +83,7 @@ fn push_said(out: &mut Vec<u8>, word: &[u8], v: u8, said: &[u8]) -> Result<(), M
 
 /// Appends the first word of a form and two terms.
 fn push_terms(alloc: Global, out: &mut Vec<u8>, word: &[u8], t: Term, u: Term) -> Result<(), Memory>
-    ensures { OnOk result (out.new.items ≡ out.old.items ++ joined (word.now ∷ term_word t ∷ term_word u ∷ [])) }
+    ensures { OnOk result (out.new.items ≡ out.old.items ++ with_spaces (word.now ∷ term_word t ∷ term_word u ∷ [])) }
 {
     out.extend_from_slice(word)?;
     push_term(alloc, out, t)?;
@@ -92,7 +92,7 @@ fn push_terms(alloc: Global, out: &mut Vec<u8>, word: &[u8], t: Term, u: Term) -
 
 /// Appends the first word of a quantifier and what it binds.
 fn push_quantifier(out: &mut Vec<u8>, word: &[u8], v: u8, kind: Kind) -> Result<(), Memory>
-    ensures { OnOk result (out.new.items ≡ out.old.items ++ joined (word.now ∷ variable v ∷ kind_word kind ∷ [])) }
+    ensures { OnOk result (out.new.items ≡ out.old.items ++ with_spaces (word.now ∷ variable v ∷ kind_word kind ∷ [])) }
 {
     out.extend_from_slice(word)?;
     push_binder(out, v, kind)
@@ -101,7 +101,7 @@ fn push_quantifier(out: &mut Vec<u8>, word: &[u8], v: u8, kind: Kind) -> Result<
 /// The same of one that goes over what precedes the entry of a variable.
 fn push_preceding(out: &mut Vec<u8>, word: &[u8], v: u8, kind: Kind, u: u8) -> Result<(), Memory>
     ensures { OnOk result (out.new.items ≡ out.old.items
-        ++ joined (word.now ∷ variable v ∷ kind_word kind ∷ codes "before" ∷ variable u ∷ [])) }
+        ++ with_spaces (word.now ∷ variable v ∷ kind_word kind ∷ codes "before" ∷ variable u ∷ [])) }
 {
     push_quantifier(out, word, v, kind)?;
     push_range(out, u)
@@ -109,14 +109,14 @@ fn push_preceding(out: &mut Vec<u8>, word: &[u8], v: u8, kind: Kind, u: u8) -> R
 
 /// Appends a word alone.
 fn push_alone(out: &mut Vec<u8>, word: &[u8]) -> Result<(), Memory>
-    ensures { OnOk result (out.new.items ≡ out.old.items ++ joined (word.now ∷ [])) }
+    ensures { OnOk result (out.new.items ≡ out.old.items ++ with_spaces (word.now ∷ [])) }
 {
     out.extend_from_slice(word)
 }
 
 /// Appends the words of a form.
 fn push_form(alloc: Global, out: &mut Vec<u8>, form: Form) -> Result<(), Memory>
-    ensures { OnOk result (out.new.items ≡ out.old.items ++ joined (form_words form)) }
+    ensures { OnOk result (out.new.items ≡ out.old.items ++ with_spaces (form_words form)) }
 {
     match form {
         Form::True => push_alone(out, b"true"),

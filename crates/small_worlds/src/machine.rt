@@ -4,7 +4,7 @@ ghost use Rattle.std.specs.Prelude.{◌≡◌, ℕ, List, Option, IfOk, OnOk, On
 ghost use Rattle.entry_order.specs.declared.event.Event.{Event};
 ghost use Rattle.entry_order.specs.Naming.{has_digest};
 ghost use Rattle.entry_order.specs.History.{held, sent};
-ghost use Rattle.entry_order.specs.World.{IsLawful, cannot_hear, hear, send, stop};
+ghost use Rattle.entry_order.specs.World.{IsLegalNext, cannot_hear, hear, send, stop};
 
 use crate::history::holds;
 use entry_order::{Event, Knot};
@@ -30,7 +30,7 @@ pub trait Sender: Knot + Drop {
         ensures { IfOk result (λ made. made ≡ next machine history.now) };
 
     /// It is what a legal history asks.
-    ghost lawful: { IsLawful Self.node next };
+    ghost lawful: { IsLegalNext Self.node next };
 }
 
 /// One machine: Lamport's process.

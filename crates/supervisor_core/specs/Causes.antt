@@ -5,7 +5,7 @@ use Rattle.entry_format.specs.declared.deed.How.{How}
 use Rattle.entry_format.specs.declared.deed.How.TheVariants as word
 use Rattle.entry_format.specs.declared.entry.Entry.{Entry}
 use Rattle.deed_history.specs.Deeds.{Authorises, Commits}
-use Rattle.deed_history.specs.Held.{Holds, HoldsOwn, HasEnded}
+use Rattle.deed_history.specs.Held.{HoldsSome, HoldsOwn, HasEnded}
 
 -- an own Opened is held
 abbrev pub HasOpened : ℕ → List Entry → Type 0
@@ -30,7 +30,7 @@ other word.Cast = word.Cancel
 
 -- a Commit of the session is held, by whichever booth
 abbrev pub IsCommitted : List Entry → ℕ → Type 0
-IsCommitted entries session = Holds entries (Commits session)
+IsCommitted entries session = HoldsSome entries (Commits session)
 
 -- an own Authorise of the booth and the session is held, and the session hasn't ended
 abbrev pub IsRunning : ℕ → List Entry → ℕ → ℕ → Type 0

@@ -5,7 +5,7 @@ use Rattle.entry_format.specs.declared.deed.Deed.{Deed}
 use Rattle.entry_format.specs.declared.deed.Deed.TheVariants.{Opened, Authorise, Override, Closed, Activate, Commit}
 use Rattle.entry_format.specs.declared.deed.Deed.TheVariants.{Cast, Cancel, Challenge}
 use Rattle.entry_format.specs.declared.entry.Entry.{Entry}
-use Rattle.deed_history.specs.Held.{Holds, HoldsOwn}
+use Rattle.deed_history.specs.Held.{HoldsSome, HoldsOwn}
 use Rattle.deed_history.specs.VersionOne.{EndsInVersion1}
 use Rattle.first_cause.specs.Causes.{IsFirstOf}
 use Rattle.supervisor_core.specs.declared.state.SupervisorNot.{SupervisorNot}
@@ -14,7 +14,7 @@ use Rattle.supervisor_core.specs.Causes.{HasOpened, HasClosed, HasAuthorised}
 
 -- a Cast or a Cancel of the session is held
 abbrev pub HasEndedInVersion1 : List Entry → ℕ → Type 0
-HasEndedInVersion1 entries session = Holds entries (EndsInVersion1 session)
+HasEndedInVersion1 entries session = HoldsSome entries (EndsInVersion1 session)
 
 -- an own Authorise of the booth and the session is held, and the session hasn't ended
 abbrev pub IsRunningInVersion1 : ℕ → List Entry → ℕ → ℕ → Type 0

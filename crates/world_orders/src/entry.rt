@@ -1,7 +1,7 @@
 //! The entries of a small world.
 
 ghost use Rattle.std.specs.Prelude.{◌≡◌, ◌<◌};
-ghost use Rattle.world_orders.specs.Numbered.{digest_of, may_send};
+ghost use Rattle.world_orders.specs.Numbered.{numbered_digest, may_send};
 
 use entry_order::{Event, Knot};
 use small_worlds::{Sender, clock, held_frontier, holds, sent_count};
@@ -36,9 +36,9 @@ impl Model for Entry {
 }
 
 impl Knot for Entry {
-    ghost use Rattle.world_orders.specs.Numbered.{shown};
+    ghost use Rattle.world_orders.specs.Numbered.{shown_itself};
 
-    ghost node = { shown };
+    ghost node = { shown_itself };
 
     fn digest(&self) -> &[u8; 32] {
         &self.digest
@@ -63,7 +63,7 @@ impl Knot for Entry {
 
 /// The digest of a machine's entry with this number.
 pub fn digest_of(maker: u8, number: u8) -> [u8; 32]
-    ensures { result ≡ digest_of maker number }
+    ensures { result ≡ numbered_digest maker number }
 {
     let mut digest = [0; 32];
     digest[0] = maker;
@@ -80,9 +80,9 @@ fn may_send(machine: usize, history: &[Event<Entry>]) -> bool
 }
 
 impl Sender for Entry {
-    ghost use Rattle.world_orders.specs.Numbered.{next, next_is_lawful};
+    ghost use Rattle.world_orders.specs.Numbered.{next_numbered, next_is_lawful};
 
-    ghost next = { next };
+    ghost next = { next_numbered };
 
     ghost lawful = { next_is_lawful };
 

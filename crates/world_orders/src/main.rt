@@ -7,7 +7,7 @@
 ghost use Rattle.std.specs.Prelude.{◌≡◌, ◌<◌, length};
 ghost use Rattle.entry_order.specs.Receipt.{IsOrderly};
 ghost use Rattle.entry_order.specs.World.{start};
-ghost use Rattle.world_orders.specs.Numbered.{shown};
+ghost use Rattle.world_orders.specs.Numbered.{shown_itself};
 
 mod entry;
 mod rows;
@@ -35,7 +35,7 @@ fn print_frontiers(rt: &impl Print, alloc: Global, machines: &[Process<Entry>]) 
 }
 
 fn print_held_before(rt: &impl Print, alloc: Global, machines: &[Process<Entry>]) -> io::Result<()>
-    requires { IsOrderly shown machines.now }
+    requires { IsOrderly shown_itself machines.now }
 {
     for a in 0..machines.len() {
         for i in 0..sent_count(machines[a].events()) {
@@ -53,7 +53,7 @@ fn print_held_before_one(
     second: (usize, usize),
 ) -> io::Result<()>
     requires in_world { second.0 < length machines.now }
-    requires orderly { IsOrderly shown machines.now }
+    requires orderly { IsOrderly shown_itself machines.now }
 {
     for b in 0..machines.len() {
         for j in 0..sent_count(machines[b].events()) {

@@ -6,14 +6,14 @@ use Rattle.broadcast_queues.specs.Ends.{OutView, InView}
 use Rattle.polling_world.specs.Machines.{MachineState, IsFresh}
 use Rattle.finished_floor.specs.Places.{IsStopOf}
 use Rattle.machine_floor.specs.Stations.{StationState}
-use Rattle.machine_floor.specs.Fresh.{lines_of}
+use Rattle.machine_floor.specs.Fresh.{lose_lines_of}
 
 -- the station of a machine, with these ends of its links
 abbrev pub begun : Script → MachineState → List (OutView SealedEntry) → List (InView SealedEntry) → StationState
 begun script machine outs inns = record {
   machine = machine;
   link = script.link;
-  loses = lines_of machine.config.number script.loses;
+  loses = lose_lines_of machine.config.number script.loses;
   outs = outs;
   inns = inns;
   losses = [];

@@ -5,13 +5,13 @@ use Rattle.std.specs.Str.{bytes_eq}
 use Rattle.entry_order.specs.declared.event.Event.{Event}
 use Rattle.entry_order.specs.Node.{Node}
 use Rattle.entry_order.specs.World.{World}
-use Rattle.entry_order.specs.Merged.{PlacedEvent, rank, placed, IsEventOf, step_of}
+use Rattle.entry_order.specs.Merged.{PlacedEvent, sort_key, placed, IsEventOf, step_of}
 use Rattle.polling_world.specs.declared.merging.RankedStep.{RankedStep}
 
 module _ {T : Type 0} (node : T → Node) where
   -- the step that makes the event, with the event's rank
   abbrev pub ranked_step : PlacedEvent T → RankedStep
-  ranked_step x = record { rank = rank x; step = step_of node x.machine x.event }
+  ranked_step x = record { rank = sort_key x; step = step_of node x.machine x.event }
 
   -- those of the events of machine m's history
   abbrev pub ranked_steps : ℕ → List (Event T) → List RankedStep
@@ -22,4 +22,4 @@ module _ {T : Type 0} (node : T → Node) where
     pub xs : List (PlacedEvent T)
     pub are : ranked ≡ map ranked_step xs
     pub events : (x : PlacedEvent T) → Contains xs x ↔ IsEventOf node w x
-    pub once : IsDistinct bytes_eq (map rank xs)
+    pub once : IsDistinct bytes_eq (map sort_key xs)

@@ -10,8 +10,9 @@ use Rattle.rule_language.specs.declared.binder.Binder.{Binder}
 use Rattle.rule_language.specs.Kinds.{kind_word}
 use Rattle.rule_language.specs.Scopes.{Scope}
 use Rattle.rule_language.specs.Lawful.{is_bound}
-use Rattle.rule_language.specs.Spelling.{Token, variable, piece}
-use Rattle.rule_language.specs.Wants.{new_in, letter_in}
+use Rattle.hall_text.specs.Spans.{piece}
+use Rattle.rule_language.specs.Spelling.{Token, variable}
+use Rattle.rule_language.specs.Wants.{unbound_in, letter_in}
 use Rattle.rule_language.specs.inside.Reader.{IsNext, Takes}
 
 abbrev pub form_of : Bool → ℕ → Kind → Option ℕ → Form
@@ -45,5 +46,5 @@ IsBound text new scope (Some u) = is_bound scope u ≡ true
 
 pub record IsBinder (text : List ℕ) (old new : Span) (scope : Scope) (binder : Binder) : Type 0 where
   pub taken : Takes text old new (variable binder.v ∷ kind_word binder.kind ∷ range_words binder.u)
-  pub fresh : new_in scope (letter_in (variable binder.v)) ≡ Ok binder.v
+  pub fresh : unbound_in scope (letter_in (variable binder.v)) ≡ Ok binder.v
   pub range : IsBound text new scope binder.u

@@ -18,7 +18,7 @@ use Rattle.rule_language.specs.Forms.{tree_of, trees_of}
 use Rattle.rule_language.specs.Lawful.{are_formulas, sort_of, is_bound, are_of_one_sort, has_order}
 use Rattle.rule_language.specs.Spelling.{Token, IsGoodByte, StandBefore, tokens_then, right, variable, term_word}
 use Rattle.rule_language.specs.Wants.{Want, behind, meets, then_want, is_end, Typed}
-use Rattle.rule_language.specs.Reading.{IsCause}
+use Rattle.rule_language.specs.Reading.{IsRuleCause}
 
 -- the bindings of a scope
 abbrev pub bindings : CodeScope → Scope
@@ -62,7 +62,7 @@ pub record Fails (text : List ℕ) (from : ℕ) (wants : List Want) (at : ℕ) (
   pub spell : Spell text from at tokens
   pub there : tokens ≡ [] → at ≡ from
   pub met : behind (Ok wants) tokens ≡ Ok left
-  pub cause : IsCause text at left why
+  pub cause : IsRuleCause text at left why
 
 -- the same whatever other wants are left
 abbrev pub FailsAt : List ℕ → ℕ → (List Want → List Want) → ℕ → RuleWhy → Type 0

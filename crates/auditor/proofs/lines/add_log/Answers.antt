@@ -1,7 +1,7 @@
 use Rattle.std.proofs.Common.{◌∙◌, ◌++◌, List, ℕ, ap, string_bytes}
 use Rattle.entry_format.specs.declared.plain.EntryFault.{EntryFault}
 use Rattle.report_lines.specs.Lines.{refused_lines, end_line}
-use Rattle.auditor.specs.ReportText.{log_line, break_line}
+use Rattle.auditor.specs.ReportText.{log_head_line, break_line}
 use Rattle.auditor.proofs.Pieces.{four_added}
 use Rattle.auditor.proofs.lines.add_log.Goals as goal
 
@@ -11,7 +11,7 @@ returns c =
     let log = c.args.log.now in
     four_added c.add_break.result (string_bytes c.args.lines.now) (string_bytes c.add_log_line.new.lines)
     (string_bytes c.add_refused.new.lines) (string_bytes c.add_end.new.lines) (string_bytes c.add_break.new.lines)
-    (log_line file log) (refused_lines file log.refused.items) (end_line file log.end) (break_line file log.broke)
+    (log_head_line file log) (refused_lines file log.refused.items) (end_line file log.end) (break_line file log.broke)
     c.in_ok-add_log_line.ensures
     (c.in_ok-add_refused.ensures
     ∙ ap (λ (refused : List (ℕ × EntryFault)). string_bytes c.add_log_line.new.lines ++ refused_lines file refused)

@@ -1,7 +1,7 @@
 use Rattle.std.proofs.Common.{◌≡◌, Bool, inl, map, string_bytes}
 use Rattle.evidence.specs.Reading.{StoreSeen, store_seen}
 use Rattle.auditorium_core.specs.Lines.{Answer}
-use Rattle.auditorium_core.specs.Answer.{Answers, IsAnswerTo}
+use Rattle.auditorium_core.specs.Answer.{AnswersWords, IsAnswerTo}
 use Rattle.auditorium_core.specs.Outcome.{outside, IsWrittenBy}
 use Rattle.auditorium_core.specs.Words.{IsAny, run}
 use Rattle.auditorium_core.proofs.Endings.{answered_as, was_done, done_as_any}
@@ -25,7 +25,7 @@ returns-in-Some g c =
     (mid : g.row.S.Denot) × (store.files mid ≡ store.files old)
     × IsWrittenBy store.creates store.appends sink.writes answer mid out ok new out_now in
     let command = run c.in-Some.script.now c.in-Some.prefix.now in
-    let made = answered_as (IsAnswerTo command) (Answers IsAny words) (seen old) (seen read) c.run-answer.result
+    let made = answered_as (IsAnswerTo command) (AnswersWords IsAny words) (seen old) (seen read) c.run-answer.result
     (λ told answer is. inl (command, tt, c.in-Some.ensures.some, is)) c.run-answer.ensures in
     was_done IsAny words is_told_by is_written_by (seen old) (seen read) (sink.written out) (sink.faults out)
     (outside (seen new) (sink.written out_now) (sink.faults out_now))

@@ -1,7 +1,7 @@
 use Rattle.std.proofs.Common.{ℕ, List, map, get_or, string_bytes, refl}
 use Rattle.std.proofs.lemmas.Bool.{false≢true}
 use borrow.Author.Count.{below_more}
-use Rattle.auditorium_core.specs.Words.{IsWord}
+use Rattle.auditorium_core.specs.Words.{IsCommandWord}
 use Rattle.auditorium_core.proofs.WordLists.{has_form_at, lacks_form_at, all_have_form}
 use Rattle.auditorium_core.proofs.words.have_form.Goals as goal
 
@@ -15,7 +15,7 @@ returns-then-not-is_word c = (
 
 pub loop-word-preserved : goal.loop-word-preserved
 loop-word-preserved c =
-    let P : ℕ → Type 0 = λ k. (d : List ℕ) → IsWord (get_or (map string_bytes c.args.words.now) k d) in
+    let P : ℕ → Type 0 = λ k. (d : List ℕ) → IsCommandWord (get_or (map string_bytes c.args.words.now) k d) in
     below_more P c.loop-word.word-index c.loop-word.invariant
     (λ d. has_form_at c.args.words.now c.loop-word.word-index c.word-item.result c.as_str.result.now d
     c.loop-word-test.true c.word-item.is c.as_str.ensures.value (c.if-not-is_word.ensures.0 refl))

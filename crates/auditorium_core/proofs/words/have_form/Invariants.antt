@@ -1,7 +1,8 @@
 use Rattle.std.proofs.Common.{ℕ, ◌<◌, List, map, get_or, string_bytes}
-use Rattle.auditorium_core.specs.Words.{IsWord}
+use Rattle.auditorium_core.specs.Words.{IsCommandWord}
 use Rattle.auditorium_core.proofs.words.have_form.Given as goal
 
 -- the words so far have the form
 abbrev pub invariant-loop-word : goal.invariant-loop-word
-invariant-loop-word l = (k : ℕ) → k < l.word-index → (d : List ℕ) → IsWord (get_or (map string_bytes l.words) k d)
+invariant-loop-word l = (k : ℕ) → k < l.word-index → (d : List ℕ) → IsCommandWord
+    (get_or (map string_bytes l.words) k d)

@@ -2,7 +2,7 @@ use Rattle.std.proofs.Common.{◌≡◌, ◌∙◌, ◌-◌, List, ℕ, ◌∷�
 use Rattle.std.specs.Prelude.{codes}
 use Rattle.std.proofs.lemmas.List.{take_rest}
 use Rattle.std.proofs.lemmas.Slice.Eq.{bytes_eq-Decides}
-use Rattle.auditorium_core.specs.Words.{AreOrdered}
+use Rattle.auditorium_core.specs.Words.{AreOrderWords}
 use Rattle.auditorium_core.proofs.WordLists.{four_words}
 use Rattle.auditorium_core.proofs.words.order_of.Goals as goal
 
@@ -29,8 +29,8 @@ returns-in-len4-up c =
           (sym (take_rest c.args.words.now 4));
       parts =
           let logs = map string_bytes (take (length c.args.words.now - 4) (drop 4 c.args.words.now)) in
-          let P : List ℕ → Type 0 = λ w. AreOrdered w c.as_str-then-eq-2.result.now logs in
-          let Q : List ℕ → Type 0 = λ w. AreOrdered x w logs in
+          let P : List ℕ → Type 0 = λ w. AreOrderWords w c.as_str-then-eq-2.result.now logs in
+          let Q : List ℕ → Type 0 = λ w. AreOrderWords x w logs in
           subst Q (c.as_str-then-eq-2.ensures.value ∙ sym c.as_str-in-len4-up-3.ensures.value)
           (subst P (c.as_str-then-eq.ensures.value ∙ sym c.as_str-in-len4-up-2.ensures.value)
           (c.if-are_ordered.ensures.0 refl));

@@ -1,6 +1,6 @@
 use Rattle.std.proofs.Common.{◌++◌, eq-eqb, ap, sym, ◌∙◌}
 use Rattle.std.proofs.lemmas.Bool.{ne_eqb}
-use Rattle.election_script.specs.Generated.{booth_of, deeds_of, actions_of}
+use Rattle.election_script.specs.Generated.{session_booth, deeds_of, actions_of}
 use Rattle.election_script.proofs.DaySessions.{actions_own, actions_other}
 use Rattle.election_script.proofs.making.actions_of.Goals as goal
 use Rattle.election_script.proofs.making.actions_of.Goals.{then-booth_of-booth+in_ok-push_deeds, else-booth_of-booth}
@@ -19,10 +19,10 @@ loop-session-preserved c =
           rw w.deeds-is
           (w.in_ok-push_deeds.ensures ∙ ap (λ l. l ++ deeds_of session) c.loop-session.invariant
           ∙ sym (actions_own booth session c.loop-session.auto.session
-          (eq-eqb (booth_of session) booth (sym c.booth_of.ensures ∙ w.if-booth_of-booth.true))))
+          (eq-eqb (session_booth session) booth (sym c.booth_of.ensures ∙ w.if-booth_of-booth.true))))
       | else-booth_of-booth w ↦
           rw w.deeds-is
           (c.loop-session.invariant
           ∙ sym (actions_other booth session c.loop-session.auto.session
-          (ne_eqb (booth_of session) booth (λ e. w.if-booth_of-booth.false (c.booth_of.ensures ∙ e)))))
+          (ne_eqb (session_booth session) booth (λ e. w.if-booth_of-booth.false (c.booth_of.ensures ∙ e)))))
     ]

@@ -1,6 +1,6 @@
 use Rattle.std.proofs.Common.{length, ◌-◌}
 use Rattle.hall_text.specs.Spans.{AreAll}
-use Rattle.hall_text.specs.Places.{IsBetween}
+use Rattle.hall_text.specs.Places.{CutsNoWord}
 use Rattle.hall_text.proofs.TokenLemmas.{IsTokenBefore}
 use Rattle.hall_text.proofs.spans.tokens.Given as goal
 
@@ -8,7 +8,7 @@ use Rattle.hall_text.proofs.spans.tokens.Given as goal
 abbrev pub invariant-loop-at : goal.invariant-loop-at
 invariant-loop-at l = record {
   found : AreAll (IsTokenBefore l.text l.at) l.spans.items;
-  between : IsBetween l.text l.at;
+  between : CutsNoWord l.text l.at;
 }
 
 abbrev pub decreases-loop-at : goal.decreases-loop-at

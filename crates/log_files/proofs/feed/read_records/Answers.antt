@@ -1,7 +1,7 @@
 use Rattle.std.proofs.Common.{Some, sym, subst}
 use Rattle.hall_outside.specs.Files.{OnSomeFile}
 use Rattle.log_files.specs.declared.plain_log.LogFault.{LogFault}
-use Rattle.log_files.specs.LogFile.{IsRefused}
+use Rattle.log_files.specs.LogFile.{IsLogRefused}
 use Rattle.log_files.specs.LogText.{HasHeader, AreLog}
 use Rattle.log_files.specs.declared.records.Records.{Records}
 use Rattle.log_files.specs.inside.Taking.{StandsFor}
@@ -46,5 +46,5 @@ returns-in-Ok-clause-err g c = some_without_memory (g.S.Store.files c.args.store
 pub returns-clause-err : goal.returns-clause-err
 returns-clause-err g c =
     let told = g.S.Store.files c.args.store.now in
-    let P : LogFault → Type 0 = λ fault. OnSomeFile told c.args.name.now (IsRefused fault) in
+    let P : LogFault → Type 0 = λ fault. OnSomeFile told c.args.name.now (IsLogRefused fault) in
     subst P (sym c.from.ensures) (some_refused told c.args.name.now c.in-Err.fault c.in-Err.ensures.err)

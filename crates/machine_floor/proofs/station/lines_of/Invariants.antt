@@ -1,7 +1,7 @@
 use Rattle.std.proofs.Common.{◌≡◌, take}
-use Rattle.machine_floor.specs.Fresh.{lines_of}
+use Rattle.machine_floor.specs.Fresh.{lose_lines_of}
 use Rattle.machine_floor.proofs.station.lines_of.Given as goal
 
 -- the lines that were read
 abbrev pub invariant-loop-at : goal.invariant-loop-at
-invariant-loop-at l = l.lines.items ≡ lines_of l.own (take l.at l.loses)
+invariant-loop-at l = l.lines.items ≡ lose_lines_of l.own (take l.at l.loses)

@@ -1,7 +1,7 @@
 use Rattle.std.proofs.Common.{◌∙◌, sym, subst}
 use Rattle.std.specs.Prelude.{IsTrue, ◌↔◌}
 use Rattle.std.proofs.lemmas.Bool.{true≢false}
-use Rattle.polling_world.specs.Rules.{IsWhole, entries_in, needs_whole}
+use Rattle.polling_world.specs.Rules.{IsWholeHistory, entries_in, needs_whole}
 use Rattle.polling_world.proofs.Ruled.{same_whole}
 use Rattle.polling_world.proofs.rules.booth_may.Goals as goal
 use Rattle.polling_world.proofs.rules.booth_may.Goals.{then-needs_whole, else-needs_whole}
@@ -10,10 +10,11 @@ use Rattle.polling_world.proofs.rules.booth_may.Goals.{then-needs_whole, else-ne
 pub returns : goal.returns
 returns c = λ owner stands.
     let h = c.args.log.now.events in
-    let asked : IsTrue (needs_whole c.args.deed.now) → IsTrue c.if-needs_whole.whole ↔ IsWhole h =
+    let asked : IsTrue (needs_whole c.args.deed.now) → IsTrue c.if-needs_whole.whole ↔ IsWholeHistory h =
     λ needs. elim c.if-needs_whole.branch [
-      | then-needs_whole w ↦ subst (λ b. IsTrue b ↔ IsWhole h) (sym w.whole-is) w.is_whole-whole.ensures
+      | then-needs_whole w ↦ subst (λ b. IsTrue b ↔ IsWholeHistory h) (sym w.whole-is) w.is_whole-whole.ensures
       | else-needs_whole w ↦ absurd (true≢false (sym needs ∙ sym c.needs_whole.ensures ∙ w.if-needs_whole.false))
     ] in
-    same_whole (IsTrue c.if-needs_whole.whole) (IsWhole h) owner (entries_in h) c.args.deed.now c.may.result asked
+    same_whole (IsTrue c.if-needs_whole.whole) (IsWholeHistory h) owner (entries_in h)
+    c.args.deed.now c.may.result asked
     (c.may.ensures owner (entries_in h) stands)

@@ -6,7 +6,8 @@ use Rattle.rule_language.specs.declared.faults.RuleWhy.TheVariants.{Shape, TooDe
 use Rattle.rule_language.specs.declared.form.Head.TheVariants as heads
 use Rattle.rule_language.specs.Kinds.{head_word}
 use Rattle.rule_language.specs.Forms.{tree_of, trees_of}
-use Rattle.rule_language.specs.Spelling.{left, right, piece, tokens_then}
+use Rattle.hall_text.specs.Spans.{piece}
+use Rattle.rule_language.specs.Spelling.{left, right, tokens_then}
 use Rattle.rule_language.specs.Wants.{formula, head, close, more, new_variable, behind_head}
 use Rattle.rule_language.specs.inside.Reader.{bindings, Takes, IsRead}
 use Rattle.rule_language.proofs.Refusals.{exit_behind, exit_first, exit_by, if_fault, fails_behind}

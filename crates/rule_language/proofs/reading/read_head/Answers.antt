@@ -2,7 +2,7 @@ use Rattle.std.proofs.Common.{◌≡◌, ◌∙◌, ap, sym, refl, ◌∷◌, Ok
 use Rattle.rule_language.proofs.Refusals.{taken, asked, if_fault}
 use Rattle.rule_language.specs.inside.Reader.{bindings}
 use Rattle.rule_language.specs.Kinds.{head_word}
-use Rattle.rule_language.specs.Spelling.{piece}
+use Rattle.hall_text.specs.Spans.{piece}
 use Rattle.rule_language.specs.Wants.{head, head_for, nested, behind_head}
 use Rattle.rule_language.proofs.Found.{head_found}
 use Rattle.rule_language.proofs.reading.read_head.Goals as goal

@@ -1,7 +1,7 @@
 use Rattle.std.proofs.Common.{◌∙◌, ap, sym}
 use Rattle.rule_language.proofs.Refusals.{taken, asked, if_fault}
 use Rattle.rule_language.specs.Kinds.{kind_word}
-use Rattle.rule_language.specs.Spelling.{piece}
+use Rattle.hall_text.specs.Spans.{piece}
 use Rattle.rule_language.specs.Wants.{kind_for}
 use Rattle.rule_language.proofs.Found.{kind_found}
 use Rattle.rule_language.proofs.reading.read_kind.Goals as goal

@@ -3,7 +3,7 @@ use Rattle.rule_language.proofs.Refusals.{taken, asked, if_fault}
 use Rattle.roster.specs.RosterText.{role_word}
 use Rattle.rule_language.specs.declared.faults.RuleWhy.TheVariants.{Shape}
 use Rattle.rule_language.specs.Kinds.{role_named}
-use Rattle.rule_language.specs.Spelling.{piece}
+use Rattle.hall_text.specs.Spans.{piece}
 use Rattle.rule_language.specs.Wants.{a_role, or_cause}
 use Rattle.rule_language.proofs.Found.{role_found}
 use Rattle.rule_language.proofs.reading.read_role.Goals as goal

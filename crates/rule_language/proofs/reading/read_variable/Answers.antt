@@ -2,7 +2,8 @@ use Rattle.std.proofs.Common.{◌≡◌, ◌∙◌, true, ap, sym, refl, ◌∷�
 use Rattle.rule_language.proofs.Refusals.{taken, asked, if_fault}
 use Rattle.rule_language.specs.inside.Reader.{bindings}
 use Rattle.rule_language.specs.Lawful.{is_bound}
-use Rattle.rule_language.specs.Spelling.{piece, variable}
+use Rattle.hall_text.specs.Spans.{piece}
+use Rattle.rule_language.specs.Spelling.{variable}
 use Rattle.rule_language.specs.Wants.{a_variable, bound_in, letter_in}
 use Rattle.rule_language.proofs.Found.{variable_found}
 use Rattle.rule_language.proofs.reading.read_variable.Goals as goal

@@ -1,5 +1,5 @@
 use Rattle.std.proofs.Common.{◌∷◌, ◌++◌, [], ◌∙◌, ap, refl, sym}
-use Rattle.rule_language.specs.Spelling.{piece}
+use Rattle.hall_text.specs.Spans.{piece}
 use Rattle.rule_language.specs.Wants.{rule_name, name_in, formula, close, more_rules, then_want}
 use Rattle.rule_language.specs.inside.Reader.{rule_names, checked}
 use Rattle.rule_language.proofs.Refusals.{exit_first, refuse, if_fault}

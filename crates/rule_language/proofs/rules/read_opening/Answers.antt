@@ -2,7 +2,8 @@ use Rattle.std.proofs.Common.{◌≡◌, ◌∷◌, ◌∙◌, [], true, length,
 use Rattle.std.proofs.lemmas.List.{length-map}
 use Rattle.std.specs.Prelude.{nat_lt, string_bytes}
 use Rattle.rule_language.specs.declared.formula.Rule.{Rule}
-use Rattle.rule_language.specs.Spelling.{left, piece}
+use Rattle.hall_text.specs.Spans.{piece}
+use Rattle.rule_language.specs.Spelling.{left}
 use Rattle.rule_language.specs.Wants.{more_rules, rule_word, opening, then_want, is_end}
 use Rattle.rule_language.specs.inside.Reader.{rule_names}
 use Rattle.rule_language.proofs.Refusals.{taken, refuse, if_fault}

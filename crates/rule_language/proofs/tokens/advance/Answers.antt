@@ -1,6 +1,6 @@
 use Rattle.std.proofs.Common.{List, ℕ, ◌++◌, ◌∷◌, []}
 use Rattle.hall_text.specs.declared.spans.Span.{Span}
-use Rattle.rule_language.specs.Spelling.{piece}
+use Rattle.hall_text.specs.Spans.{piece}
 use Rattle.rule_language.proofs.Stands.{token_one}
 use Rattle.rule_language.proofs.tokens.advance.Goals as goal
 

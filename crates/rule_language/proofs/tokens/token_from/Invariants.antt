@@ -1,5 +1,5 @@
 use Rattle.std.proofs.Common.{length, ◌-◌, ◌≤◌, List}
-use Rattle.hall_text.specs.Places.{IsBetween}
+use Rattle.hall_text.specs.Places.{CutsNoWord}
 use Rattle.rule_language.specs.Spelling.{Token, StandBefore}
 use Rattle.rule_language.proofs.tokens.token_from.Given as goal
 
@@ -7,7 +7,7 @@ use Rattle.rule_language.proofs.tokens.token_from.Given as goal
 abbrev pub invariant-loop-start : goal.invariant-loop-start
 invariant-loop-start l = record {
   inside : l.start ≤ length l.text;
-  between : IsBetween l.text l.start;
+  between : CutsNoWord l.text l.start;
   passed : (tokens : List Token) → StandBefore l.text l.fn.from tokens → StandBefore l.text l.start tokens;
 }
 

@@ -2,7 +2,7 @@ use Rattle.std.proofs.Common.{◌≡◌, ◌∙◌, ◌∷◌, ◌++◌, [], Lis
 use Rattle.entry_format.specs.SealedEntry.{SealedEntry}
 use Rattle.entry_order.specs.declared.event.Event.{Event}
 use Rattle.entry_order.specs.declared.event.Event.TheVariants.{Sent}
-use Rattle.entangled_log.specs.Logs.{History, with_event}
+use Rattle.entangled_log.specs.Logs.{History, log_with_event}
 use Rattle.lms_sign.specs.Secret.{Secret}
 use Rattle.polling_world.specs.Kept.{IsKept, StandFor}
 use Rattle.polling_world.specs.Machines.{MachineState}
@@ -46,7 +46,7 @@ invariant_of-self c =
     going may.room c.args.sealed may noted c.note_last.ensures.spare in
     let with_key = subst (λ (k : Secret). IsKept (state_from fields.stop_at fields.marked fields.version fields.name
     fields.role fields.actions.items k fields.roster.machines
-    (with_event (Sent c.args.sealed) fields.log))
+    (log_with_event (Sent c.args.sealed) fields.log))
     fields.election k.next fields.capacity c.note_last.new.rules) (sym c.advance.ensures) after in
     subst (λ (l : History SealedEntry). IsKept (state_from fields.stop_at fields.marked fields.version fields.name
     fields.role fields.actions.items c.advance.new.self fields.roster.machines l) fields.election

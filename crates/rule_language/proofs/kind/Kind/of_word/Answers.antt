@@ -1,5 +1,5 @@
 use Rattle.std.proofs.Common.{◌∙◌, rules}
-use Rattle.rule_language.specs.Kinds.{kind_word, kinds}
+use Rattle.rule_language.specs.Kinds.{kind_word, entry_kinds}
 use Rattle.rule_language.proofs.Found.{named_next}
 use Rattle.rule_language.specs.declared.kind.Kind.TheVariants.{Any}
 use Rattle.rule_language.proofs.kind.Kind.of_word.Goals as goal
@@ -7,4 +7,4 @@ use Rattle.rule_language.proofs.kind.Kind.of_word.Goals as goal
 pub loop-kind-preserved : goal.loop-kind-preserved
 loop-kind-preserved c =
     c.loop-kind.invariant
-    ∙ named_next kind_word kinds c.loop-kind.kind-index Any c.args.word.now c.loop-kind-test.true (search rules)
+    ∙ named_next kind_word entry_kinds c.loop-kind.kind-index Any c.args.word.now c.loop-kind-test.true (search rules)
