@@ -170,11 +170,11 @@ whole : (bytes : List ℕ) (at : ℕ) (outer : List Forest) (current : Forest) �
     (tree : Sexp) × Answers bytes (read.Whole tree (at + 1))
 whole bytes at [] current h within is none = (
   Branch current,
-  (
-    h.nested,
-    omega arith,
-    take_more bytes at 0 within ∙ ap (λ k. take at bytes ++ k ∷ []) is ∙ ap (λ bs. bs ++ 41 ∷ []) h.so_far,
-  ),
+  record {
+    fits = h.nested;
+    within = omega arith;
+    spelt = take_more bytes at 0 within ∙ ap (λ k. take at bytes ++ k ∷ []) is ∙ ap (λ bs. bs ++ 41 ∷ []) h.so_far;
+  },
 )
 whole bytes at (f ∷ outer) current h within is none = absurd (omega arith)
 
@@ -210,7 +210,8 @@ scanned_from bytes at r s h e =
 
 -- an atom alone
 pub atom_scan : (bytes : List ℕ) (answer : Extent) → IsAtomScan bytes answer → Scans bytes answer
-atom_scan bytes (scan.Whole used) h = (Atom h.0, (h.1, h.2, h.3))
+atom_scan bytes (scan.Whole used) h =
+    (Atom h.octets, record { fits = h.few; within = h.within; spelt = h.spelt })
 atom_scan bytes scan.Cut h = atom_is_cut at_start bytes tt (omega arith) h
 atom_scan bytes (scan.Bad at why) h =
-    is_bad_length at_start bytes at h.2 why tt (omega arith) h.0 h.3 h.4 h.5
+    is_bad_length at_start bytes at h.value why tt (omega arith) h.inside h.few h.digits h.fault

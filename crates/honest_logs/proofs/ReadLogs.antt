@@ -276,7 +276,13 @@ module _ (posts : List Post) (election : List ℕ) where
           | inr (x, at, (more, some, text)) ↦
               (let kept = (valid (entry_of x)
               (Contains-map entry_of events x (there_is events cut.count x at))).kept in
-              inr (tree_of x, more, records_fit x kept, some, records_spelt x kept ∙ text))
+              inr (record {
+                tree = tree_of x;
+                rest = more;
+                fits = records_fit x kept;
+                goes_on = some;
+                spelt = records_spelt x kept ∙ text;
+              }))
         ]
 
     -- where the whole records end in the bytes

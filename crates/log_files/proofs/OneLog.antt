@@ -81,13 +81,13 @@ pub one_end : (offset : ℕ) (bytes : List ℕ) (end other : End) → IsEnd offs
 one_end offset bytes Clean Clean h k = refl
 one_end offset bytes Clean (Torn at) h k = let none : length bytes ≡ 0 = ap length h in absurd (omega arith)
 one_end offset bytes Clean (Malformed at why) h k =
-    let none : length bytes ≡ 0 = ap length h in absurd (omega (arith, none, k.2.0.0))
+    let none : length bytes ≡ 0 = ap length h in absurd (omega (arith, none, k.2.0.inside))
 one_end offset bytes (Torn at) Clean h k = let none : length bytes ≡ 0 = ap length k in absurd (omega arith)
 one_end offset bytes (Torn at) (Torn place) h k = ap Torn (h.0 ∙ sym k.0)
 one_end offset bytes (Torn at) (Malformed place why) h k =
     let same : read.Cut ≡ read.Bad k.0 why = one_answer bytes read.Cut (read.Bad k.0 why) h.2 k.2 in cc
 one_end offset bytes (Malformed at why) Clean h k =
-    let none : length bytes ≡ 0 = ap length k in absurd (omega (arith, none, h.2.0.0))
+    let none : length bytes ≡ 0 = ap length k in absurd (omega (arith, none, h.2.0.inside))
 one_end offset bytes (Malformed at why) (Torn place) h k =
     let same : read.Bad h.0 why ≡ read.Cut = one_answer bytes (read.Bad h.0 why) read.Cut h.2 k.2 in cc
 one_end offset bytes (Malformed at why) (Malformed place cause) h k =

@@ -97,7 +97,7 @@ module _ {T : Type 0} (IsReadAs : ℕ → Bool → List ℕ → Result T EntryFa
     within = All-nil Fits;
     spelt = refl;
     so_far = omega arith;
-    inside = is.1.1;
+    inside = is.1.within;
     gives = tt;
     kept_so_far = none;
     refused_so_far = none';
@@ -115,17 +115,17 @@ module _ {T : Type 0} (IsReadAs : ℕ → Bool → List ℕ → Result T EntryFa
       AreReadTo IsReadAs bytes owner header (at + used) (place + 1) kept' refused'
   read_more bytes owner header at place used kept kept' refused refused' tree reading h whole gives is_kept is_refused =
       let behind : drop at bytes ≡ text_of tree ++ drop (at + used) bytes =
-      sym (take-append-drop used (drop at bytes)) ∙ ap (λ bs. bs ++ drop used (drop at bytes)) whole.2
+      sym (take-append-drop used (drop at bytes)) ∙ ap (λ bs. bs ++ drop used (drop at bytes)) whole.spelt
       ∙ ap (λ bs. text_of tree ++ bs) (drop-drop used at bytes) in
       let long : used ≡ length (text_of tree) =
-      sym (length-take-le used (drop at bytes) whole.1) ∙ ap length whole.2 in
-      let some : 0 < used = text_some tree (drop at bytes) used whole.2 in
+      sym (length-take-le used (drop at bytes) whole.within) ∙ ap length whole.spelt in
+      let some : 0 < used = text_some tree (drop at bytes) used whole.spelt in
       let numbered : place ≡ 0 + length h.readings = omega (arith, h.counted) in
       record {
         is_header = h.is_header;
         trees = h.trees ++ tree ∷ [];
         readings = h.readings ++ reading ∷ [];
-        within = All-push Fits h.trees tree h.within whole.0;
+        within = All-push Fits h.trees tree h.within whole.fits;
         spelt = h.spelt ∙ ap (λ bs. flat_map text_of h.trees ++ bs) behind
             ∙ sym (append_assoc (flat_map text_of h.trees) (text_of tree) (drop (at + used) bytes))
             ∙ ap (λ bs. bs ++ drop (at + used) bytes) (sym (flat_map-push h.trees tree));
@@ -136,7 +136,7 @@ module _ {T : Type 0} (IsReadAs : ℕ → Bool → List ℕ → Result T EntryFa
           ap length (flat_map-push h.trees tree),
           length-append (flat_map text_of h.trees) (text_of tree),
         );
-        inside = omega (arith, h.inside, whole.1, length-drop at bytes);
+        inside = omega (arith, h.inside, whole.within, length-drop at bytes);
         gives = EachGives-push 0 place h.trees h.readings tree reading numbered h.gives gives;
         kept_so_far = is_kept;
         refused_so_far = is_refused;
@@ -168,7 +168,7 @@ module _ {T : Type 0} (IsReadAs : ℕ → Bool → List ℕ → Result T EntryFa
       AreLog IsReadAs bytes owner kept refused end
   read_all bytes owner header at place kept refused end h ends =
       let long : header ≡ length (text_of (header_tree owner)) =
-      sym (length-take-le header bytes h.is_header.1.1) ∙ ap length h.is_header.1.2 in
+      sym (length-take-le header bytes h.is_header.1.within) ∙ ap length h.is_header.1.spelt in
       let at_is : at ≡ length (text_of (header_tree owner)) + length (flat_map text_of h.trees) =
       h.so_far ∙ ap (λ n. n + length (flat_map text_of h.trees)) long in
       record {
@@ -176,7 +176,7 @@ module _ {T : Type 0} (IsReadAs : ℕ → Bool → List ℕ → Result T EntryFa
         trees = h.trees;
         readings = h.readings;
         number = h.is_header.0;
-        header = sym (take-append-drop header bytes) ∙ ap (λ bs. bs ++ drop header bytes) h.is_header.1.2;
+        header = sym (take-append-drop header bytes) ∙ ap (λ bs. bs ++ drop header bytes) h.is_header.1.spelt;
         records = record {
           rest = drop at bytes;
           within = h.within;

@@ -32,24 +32,27 @@ use Rattle.log_files.proofs.Splits.{read_none, adds_more, read_all, some_text}
 -- a whole text stays whole with more bytes behind it
 pub whole_more : (bytes more : List ℕ) (tree : Sexp) (used : ℕ) → Answers bytes (read.Whole tree used) →
     Answers (bytes ++ more) (read.Whole tree used)
-whole_more bytes more tree used h =
-    (h.0, omega (arith, h.1, length-append bytes more), take-append-le used bytes more h.1 ∙ h.2)
+whole_more bytes more tree used h = record {
+  fits = h.fits;
+  within = omega (arith, h.within, length-append bytes more);
+  spelt = take-append-le used bytes more h.within ∙ h.spelt;
+}
 
 -- a byte that can't stand is so with more bytes behind it
 pub bad_more : (bytes more : List ℕ) (at : ℕ) (why : Why) → Answers bytes (read.Bad at why) →
     Answers (bytes ++ more) (read.Bad at why)
-bad_more bytes more at why ((inside, proper, none), cause) =
+bad_more bytes more at why (first, cause) =
     let before : take at bytes ≡ take at (bytes ++ more) =
-    sym (take-append-le at bytes more (omega (arith, inside))) in
+    sym (take-append-le at bytes more (omega (arith, first.inside))) in
     let up_to : take (at + 1) bytes ≡ take (at + 1) (bytes ++ more) =
-    sym (take-append-le (at + 1) bytes more (omega (arith, inside))) in
+    sym (take-append-le (at + 1) bytes more (omega (arith, first.inside))) in
     let byte : slice_index bytes at ≡ slice_index (bytes ++ more) at =
-    sym (get_or_append_left bytes more 0 at inside) in (
-      (
-        omega (arith, inside, length-append bytes more),
-        subst IsProperPrefixOfText before proper,
-        subst (λ bs. IsPrefixOfText bs → ⊥) up_to none,
-      ),
+    sym (get_or_append_left bytes more 0 at first.inside) in (
+      record {
+        inside = omega (arith, first.inside, length-append bytes more);
+        cut = subst IsProperPrefixOfText before first.cut;
+        bad = subst (λ bs. IsPrefixOfText bs → ⊥) up_to first.bad;
+      },
       subst (λ b. IsCause (take at (bytes ++ more)) b why) byte
           (subst (λ bs. IsCause bs (slice_index bytes at) why) before cause),
     )
@@ -210,7 +213,7 @@ module _ {T : Type 0} (IsReadAs : ℕ → Bool → List ℕ → Result T EntryFa
     trees = h.trees;
     readings = h.readings;
     within = h.within;
-    spelt = drop-append-le header bytes more h.is_header.1.1 ∙ ap (λ bs. bs ++ more) h.spelt
+    spelt = drop-append-le header bytes more h.is_header.1.within ∙ ap (λ bs. bs ++ more) h.spelt
         ∙ append_assoc (flat_map text_of h.trees) (drop at bytes) more
         ∙ ap (λ bs. flat_map text_of h.trees ++ bs) (sym (drop-append-le at bytes more h.inside));
     so_far = h.so_far;
@@ -332,7 +335,7 @@ module _ {T : Type 0} (IsReadAs : ℕ → Bool → List ℕ → Result T EntryFa
   bad_at NoLog bytes rest owner at place kept refused bad why e h = cc
   bad_at (Malformed b w) bytes rest owner at place kept refused bad why e (header, h, wrong) =
       let same : b ≡ bad = cc in
-      omega (arith, same, wrong.0.0, length-drop at bytes, h.inside)
+      omega (arith, same, wrong.0.inside, length-drop at bytes, h.inside)
 
   -- so the place that the reader tells is within the bytes
   pub bad_inside : (bytes rest : List ℕ) (log : Progress T) (bad : ℕ) (why : Why) → log.stage ≡ Malformed bad why →

@@ -15,14 +15,14 @@ pub returns-in-Whole-clause-found : goal.returns-in-Whole-clause-found
 returns-in-Whole-clause-found c =
     let atom = is_atom c.args.bytes.now c.requires.0 c.requires.1.0 c.requires.1.1 c.if-bytes-eq40.false in
     let same = behind_length c.args.bytes.now atom.0 c.in-Whole.octets c.in-Whole.used atom.1.0 atom.1.1
-    c.in-Whole.ensures.0 c.in-Whole.ensures.2 in
+    c.in-Whole.ensures.few c.in-Whole.ensures.spelt in
     (omega (arith, ap length same, atom.1.0), atom.1.1 ∙ ap atom_text (sym same))
 
 pub returns-in-Cut-clause-none : goal.returns-in-Cut-clause-none
 returns-in-Cut-clause-none c = λ octets small e.
-    not_cut c.args.bytes.now octets c.in-Cut.ensures.0 small e c.in-Cut.ensures.1 c.in-Cut.ensures.2
+    not_cut c.args.bytes.now octets c.in-Cut.ensures.value small e c.in-Cut.ensures.few c.in-Cut.ensures.digits
 
 pub returns-in-Bad-clause-none : goal.returns-in-Bad-clause-none
 returns-in-Bad-clause-none c = λ octets small e.
-    not_bad c.args.bytes.now octets c.in-Bad.at c.in-Bad.ensures.2 c.in-Bad.why small e c.in-Bad.ensures.0
-    c.in-Bad.ensures.3 c.in-Bad.ensures.4 c.in-Bad.ensures.5
+    not_bad c.args.bytes.now octets c.in-Bad.at c.in-Bad.ensures.value c.in-Bad.why small e c.in-Bad.ensures.inside
+    c.in-Bad.ensures.few c.in-Bad.ensures.digits c.in-Bad.ensures.fault

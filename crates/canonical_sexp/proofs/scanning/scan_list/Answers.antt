@@ -46,7 +46,8 @@ pub loop-at-smaller : goal.loop-at-smaller
 loop-at-smaller c =
     let whole : IsAtomScan (drop c.loop-at.at c.args.bytes.now) (scan.Whole c.in-Whole.used) =
     scanned_from c.args.bytes.now c.loop-at.at _ _ c.scan_atom.ensures c.in-Whole.is in
-    let some : 0 < c.in-Whole.used = atom_some whole.0 (drop c.loop-at.at c.args.bytes.now) c.in-Whole.used whole.3 in
+    let some : 0 < c.in-Whole.used = atom_some whole.octets (drop c.loop-at.at c.args.bytes.now) c.in-Whole.used
+    whole.spelt in
     omega arith
 
 pub loop-at-preserved : goal.loop-at-preserved
@@ -55,7 +56,7 @@ loop-at-preserved c =
     scanned_from c.args.bytes.now c.loop-at.at _ _ c.scan_atom.ensures c.in-Whole.is in
     let room : c.loop-at.members < 16384 = grind (arith, nat_tests) in
     scan_atom_step c.args.bytes.now c.loop-at.at c.in-Whole.used c.loop-at.counts c.loop-at.outer c.loop-at.members
-    whole.0 c.loop-at.invariant room whole.1 whole.2 whole.3
+    whole.octets c.loop-at.invariant room whole.few whole.within whole.spelt
 
 pub returns-in-Cut : goal.returns-in-Cut
 returns-in-Cut c =
@@ -70,9 +71,10 @@ returns-in-Bad c =
     let bad : IsAtomScan (drop c.loop-at.at c.args.bytes.now) (scan.Bad c.in-Bad.place c.in-Bad.why) =
     scanned_from c.args.bytes.now c.loop-at.at _ _ c.scan_atom.ensures c.in-Bad.is in
     let room : c.loop-at.members < 16384 = grind (arith, nat_tests) in
-    length_exit c.args.bytes.now c.loop-at.at c.in-Bad.place bad.2 c.loop-at.invariant.outer
+    length_exit c.args.bytes.now c.loop-at.at c.in-Bad.place bad.value c.loop-at.invariant.outer
     c.loop-at.invariant.current c.in-Bad.why c.loop-at.invariant.so_far
-    (omega (arith, room, c.loop-at.invariant.members_is)) bad.0 bad.3 bad.4 bad.5
+    (omega (arith, room, c.loop-at.invariant.members_is)) bad.inside bad.few bad.digits
+    bad.fault
 
 pub returns : goal.returns
 returns c = end_exit c.args.bytes.now c.loop-at.at c.loop-at.invariant.outer c.loop-at.invariant.current
