@@ -40,6 +40,21 @@ whole = record {
   other_mine = [];
 }
 
+-- what the pass with the turn knows: it sits at the holder's seat, knows the whole story, and the queue is empty
+pub record KnowsStory {V B : Type 0} (holder : ℕ) (story : List Tick) (items : List V) (seat : ℕ) (v : PassState B)
+    : Type 0 where
+  pub holds : seat ≡ holder
+  pub bound : v.bound ≡ story
+  pub empty : items ≡ []
+
+-- what a pass that stands for both numbers knows of the other number
+pub record KnowsOther {B : Type 0} (seats : ℕ → ℕ) (brand : List B) (story : List Tick) (seat : ℕ) (v : PassState B)
+    : Type 0 where
+  pub sits : seat ≡ seats (1 - v.number)
+  pub brand_is : v.other_brand ≡ brand
+  pub seen : IsPrefix v.other_seen story
+  pub mine : ticks_of (1 - v.number) story ≡ v.other_mine
+
 -- what the rule says of one pass, which sits at `seat`: it knows a prefix of the story and its own ticks; with the turn
 -- it knows the whole story, and the queue is empty; where it stands for both numbers it knows the other's too
 pub record FitsState {V B : Type 0} (seats : ℕ → ℕ) (holder : ℕ) (brand : List B) (story : List Tick) (items : List V)
@@ -49,9 +64,8 @@ pub record FitsState {V B : Type 0} (seats : ℕ → ℕ) (holder : ℕ) (brand 
   pub brand_is : v.brand ≡ brand
   pub seen : IsPrefix v.seen story
   pub mine : ticks_of v.number story ≡ v.mine
-  pub turn : v.turn ≡ true → (seat ≡ holder) × (v.bound ≡ story) × (items ≡ [])
-  pub both : v.both ≡ true → (seat ≡ seats (1 - v.number)) × (v.other_brand ≡ brand) × IsPrefix v.other_seen story
-      × (ticks_of (1 - v.number) story ≡ v.other_mine)
+  pub turn : v.turn ≡ true → KnowsStory holder story items seat v
+  pub both : v.both ≡ true → KnowsOther seats brand story seat v
 
 -- the step "second pass made": what the first keeps, and what the second gets
 abbrev pub first_pass : {B : Type 0} → PassState B → PassState B
@@ -64,10 +78,21 @@ second_pass v = record v { number = 1; both = false; brand = v.other_brand; seen
 abbrev pub both_passes : {B : Type 0} → PassState B → PassState B → PassState B
 both_passes v w = record v { both = true; other_brand = w.brand; other_seen = w.seen; other_mine = w.mine }
 
+-- the queue is empty, and the pass at this seat has the turn
+pub record IsOut {V B : Type 0} (holder : ℕ) (items : List V) (views : List (PassState B)) : Type 0 where
+  pub empty : items ≡ []
+  pub pass : PassState B
+  pub there : get_elem? views holder ≡ some pass
+  pub turn : pass.turn ≡ true
+  pub alive : pass.alive ≡ true
+
 module _ {V B : Type 0} (brand_of : V → List B) (story_of : V → List Tick) where
   -- the queue holds the value
-  abbrev pub IsIn : List B → List Tick → List V → Type 0
-  IsIn brand story items = (x : V) × (items ≡ x ∷ []) × (brand_of x ≡ brand) × (story_of x ≡ story)
+  pub record IsIn (brand : List B) (story : List Tick) (items : List V) : Type 0 where
+    pub inside : V
+    pub alone : items ≡ inside ∷ []
+    pub brand_is : brand_of inside ≡ brand
+    pub story_is : story_of inside ≡ story
 
   -- the rule
   pub record IsLocked (items : List V) (views : List (PassState B)) : Type 0 where
@@ -76,8 +101,7 @@ module _ {V B : Type 0} (brand_of : V → List B) (story_of : V → List Tick) w
     pub brand : List B
     pub story : List Tick
     pub passes : All (λ (t : Tick). t.pass < 2) story
-    pub value : IsIn brand story items ⊎ ((items ≡ []) × ((v : PassState B) × (get_elem? views holder ≡ some v) ×
-        (v.turn ≡ true) × (v.alive ≡ true)))
+    pub value : IsIn brand story items ⊎ IsOut holder items views
     pub each : (seat : ℕ) (v : PassState B) → get_elem? views seat ≡ some v → v.alive ≡ true →
         FitsState seats holder brand story items seat v
 
