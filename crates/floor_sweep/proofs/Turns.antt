@@ -126,12 +126,12 @@ still_whole place m receivers (acted.Did number copies) at is isnt = absurd (tru
 still_whole place m receivers acted.Stopped at is isnt = inr (inl (stopped_there m at.machine at.unmarked is.0))
 still_whole place m receivers acted.NoMore at is isnt = inl is.1
 still_whole place m receivers (acted.SupervisorNot cause) at is isnt =
-    inr (inr (inl (is.0.0, is.0.1, (why.SupervisorNot cause, is.0.2.1))))
+    inr (inr (inl (is.0.0, is.0.1, (why.SupervisorNot cause, is.0.2.refused))))
 still_whole place m receivers (acted.BoothNot cause) at is isnt =
-    inr (inr (inl (is.0.0, is.0.1, (why.BoothNot cause, is.0.2.1))))
-still_whole place m receivers acted.Full at is isnt = inr (inr (inr (inl is.0.2.2)))
-still_whole place m receivers acted.StampSpent at is isnt = inr (inr (inr (inr (inl is.0.2.3))))
-still_whole place m receivers acted.Spent at is isnt = inr (inr (inr (inr (inr (inl is.0.2.4)))))
+    inr (inr (inl (is.0.0, is.0.1, (why.BoothNot cause, is.0.2.refused))))
+still_whole place m receivers acted.Full at is isnt = inr (inr (inr (inl is.0.2.full)))
+still_whole place m receivers acted.StampSpent at is isnt = inr (inr (inr (inr (inl is.0.2.stamp))))
+still_whole place m receivers acted.Spent at is isnt = inr (inr (inr (inr (inr (inl is.0.2.spent)))))
 still_whole place m receivers acted.SameDigest at is isnt =
     inr (inr (inr (inr (inr (inr (is.0.deed, is.0.action, is.0.held))))))
 

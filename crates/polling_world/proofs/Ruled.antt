@@ -51,8 +51,8 @@ of_rules Booth owner h deed _ refused = absurd refused
 -- where the machine hasn't stopped, a cause that its rules give is the first against the deed
 pub refused_why : (m : MachineState) (deed : Deed) (why : LeftWhy) → IsGoing m →
     Refuses m.config m.events deed (Err why) → IsWhy m deed why
-refused_why m deed (left.SupervisorNot why) going refused = (going, refused)
-refused_why m deed (left.BoothNot why) going refused = (going, refused)
+refused_why m deed (left.SupervisorNot why) going refused = record { going = going; refused = refused }
+refused_why m deed (left.BoothNot why) going refused = record { going = going; refused = refused }
 refused_why m deed _ going refused = absurd (of_rules m.config.role m.config.number m.events deed _ refused)
 
 -- the fifth and last cause of a row by another fact that holds alike

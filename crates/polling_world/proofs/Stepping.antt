@@ -117,23 +117,23 @@ act_is m new acted.NoMore o alone spent told h =
     ap machine_of h.2
     ∙ sym (next_not m.config m.events o (machine_of m) told
     (λ e may. let no : None ≡ Some may.deed = sym h.1 ∙ may.action in cc))
-act_is m new (acted.SupervisorNot why) o alone spent told ((deed, action, (going, refused)), same) =
+act_is m new (acted.SupervisorNot why) o alone spent told ((deed, action, first), same) =
     ap machine_of same
     ∙ sym (next_not m.config m.events o (machine_of m) told
-    (refused_not m.config m.events deed (left.SupervisorNot why) action refused))
-act_is m new (acted.BoothNot why) o alone spent told ((deed, action, (going, refused)), same) =
+    (refused_not m.config m.events deed (left.SupervisorNot why) action first.refused))
+act_is m new (acted.BoothNot why) o alone spent told ((deed, action, first), same) =
     ap machine_of same
     ∙ sym (next_not m.config m.events o (machine_of m) told
-    (refused_not m.config m.events deed (left.BoothNot why) action refused))
-act_is m new acted.Full o alone spent told ((deed, action, (going, allowed, full)), same) =
-    ap machine_of same
-    ∙ sym (next_not m.config m.events o (machine_of m) told (λ e may. let room = may.room in omega (arith, full, room)))
-act_is m new acted.StampSpent o alone spent told ((deed, action, (going, allowed, room, greatest)), same) =
-    absurd (spent greatest)
-act_is m new acted.Spent o alone spent told ((deed, action, (going, allowed, room, below, all)), same) =
+    (refused_not m.config m.events deed (left.BoothNot why) action first.refused))
+act_is m new acted.Full o alone spent told ((deed, action, first), same) =
     ap machine_of same
     ∙ sym (next_not m.config m.events o (machine_of m) told
-    (λ e may. let left = may.unspent in omega (arith, all, left)))
+    (λ e may. let room = may.room in omega (arith, first.full, room)))
+act_is m new acted.StampSpent o alone spent told ((deed, action, first), same) = absurd (spent first.stamp)
+act_is m new acted.Spent o alone spent told ((deed, action, first), same) =
+    ap machine_of same
+    ∙ sym (next_not m.config m.events o (machine_of m) told
+    (λ e may. let left = may.unspent in omega (arith, first.spent, left)))
 act_is m new acted.SameDigest o alone spent told (already, same) =
     ap machine_of same
     ∙ sym (next_not m.config m.events o (machine_of m) told

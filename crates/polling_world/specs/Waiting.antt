@@ -32,21 +32,50 @@ pub record IsReady (m : MachineState) (deed : Deed) : Type 0 where
   pub stamp : ¬ IsStampSpent m
   pub unspent : length (sent m.events) < 2 ^ m.config.key.height
 
+-- the rules refuse the deed for this cause, and no earlier cause stands against it
+pub record IsAgainstRules (m : MachineState) (deed : Deed) (why : LeftWhy) : Type 0 where
+  pub going : IsGoing m
+  pub refused : Refuses m.config m.events deed (Err why)
+
+-- the machine's log is full, and no earlier cause stands against the deed
+pub record IsLogFull (m : MachineState) (deed : Deed) : Type 0 where
+  pub going : IsGoing m
+  pub allowed : MayDo m.config m.events deed
+  pub full : length m.events ≡ m.config.log
+
+-- the machine's stamps are spent, and no earlier cause stands against the deed
+pub record HasNoStamp (m : MachineState) (deed : Deed) : Type 0 where
+  pub going : IsGoing m
+  pub allowed : MayDo m.config m.events deed
+  pub room : HasRoom m
+  pub stamp : IsStampSpent m
+
+-- the machine's key is spent, and no earlier cause stands against the deed
+pub record IsKeySpent (m : MachineState) (deed : Deed) : Type 0 where
+  pub going : IsGoing m
+  pub allowed : MayDo m.config m.events deed
+  pub room : HasRoom m
+  pub stamp : ¬ IsStampSpent m
+  pub spent : length (sent m.events) ≡ 2 ^ m.config.key.height
+
 -- the first cause against the deed, in this order, or `Ready` where none applies
 abbrev pub IsWhy : MachineState → Deed → LeftWhy → Type 0
 IsWhy m deed Stopped = IsTrue (has_stopped m)
-IsWhy m deed (SupervisorNot why) = IsGoing m × Refuses m.config m.events deed (Err (SupervisorNot why))
-IsWhy m deed (BoothNot why) = IsGoing m × Refuses m.config m.events deed (Err (BoothNot why))
-IsWhy m deed Full = IsGoing m × MayDo m.config m.events deed × (length m.events ≡ m.config.log)
-IsWhy m deed StampSpent = IsGoing m × MayDo m.config m.events deed × HasRoom m × IsStampSpent m
-IsWhy m deed Spent =
-    IsGoing m × MayDo m.config m.events deed × HasRoom m × (¬ IsStampSpent m)
-    × (length (sent m.events) ≡ 2 ^ m.config.key.height)
+IsWhy m deed (SupervisorNot why) = IsAgainstRules m deed (SupervisorNot why)
+IsWhy m deed (BoothNot why) = IsAgainstRules m deed (BoothNot why)
+IsWhy m deed Full = IsLogFull m deed
+IsWhy m deed StampSpent = HasNoStamp m deed
+IsWhy m deed Spent = IsKeySpent m deed
 IsWhy m deed Ready = IsReady m deed
+
+-- the next action's place, and why it isn't done
+pub record IsNextLeft (m : MachineState) (left : Left) : Type 0 where
+  pub deed : Deed
+  pub action : next_action m.config m.events ≡ Some deed
+  pub place : left.place ≡ length (sent m.events)
+  pub cause : IsWhy m deed left.why
 
 -- what is left: nothing where there is no next action, and else the next action's place and why it isn't done
 abbrev pub IsLeft : MachineState → Option Left → Type 0
 IsLeft m None = next_action m.config m.events ≡ None
-IsLeft m (Some left) =
-    (deed : Deed) × (next_action m.config m.events ≡ Some deed) × (left.place ≡ length (sent m.events))
-    × IsWhy m deed left.why
+IsLeft m (Some left) = IsNextLeft m left
