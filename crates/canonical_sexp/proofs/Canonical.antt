@@ -37,19 +37,25 @@ stop_of bytes (read.Whole value used) = used
 stop_of bytes read.Cut = length bytes
 stop_of bytes (read.Bad at why) = at
 
+-- an answer that is right says that they stop there
+record HasStopAnswer (bytes : List ℕ) (at : ℕ) : Type 0 where
+  pub answer : Read
+  pub right : Answers bytes answer
+  pub stops : stop_of bytes answer ≡ at
+
 -- where bytes stop, some answer is right that says so
-stop_answer : (bytes : List ℕ) (at : ℕ) → StopsAt bytes at →
-    (answer : Read) × (Answers bytes answer × (stop_of bytes answer ≡ at))
-stop_answer bytes at (inl (why, is)) = (read.Bad at why, (is, refl))
-stop_answer bytes at (inr (inl (tree, is, more))) = (read.Whole tree at, (is, refl))
-stop_answer bytes at (inr (inr (is, end))) = (read.Cut, (is, sym end))
+stop_answer : (bytes : List ℕ) (at : ℕ) → StopsAt bytes at → HasStopAnswer bytes at
+stop_answer bytes at (inl (why, is)) = record { answer = read.Bad at why; right = is; stops = refl }
+stop_answer bytes at (inr (inl (tree, is, more))) = record { answer = read.Whole tree at; right = is; stops = refl }
+stop_answer bytes at (inr (inr (is, end))) = record { answer = read.Cut; right = is; stops = sym end }
 
 -- so they stop at one place
 pub one_stop : (bytes : List ℕ) (at other : ℕ) → StopsAt bytes at → StopsAt bytes other → at ≡ other
 one_stop bytes at other stops also =
-    let first = stop_answer bytes at stops in
-    let second = stop_answer bytes other also in
-    sym first.1.1 ∙ ap (stop_of bytes) (one_answer bytes first.0 second.0 first.1.0 second.1.0) ∙ second.1.1
+    let first : HasStopAnswer bytes at = stop_answer bytes at stops in
+    let second : HasStopAnswer bytes other = stop_answer bytes other also in
+    sym first.stops ∙ ap (stop_of bytes) (one_answer bytes first.answer second.answer first.right second.right)
+    ∙ second.stops
 
 -- where they stop, with what it says of them
 pub stops : (bytes : List ℕ) (at : ℕ) → StopsAt bytes at → StopsAt bytes at × (IsCanonical bytes → ⊥)

@@ -93,10 +93,17 @@ pub text_some : (tree : Sexp) → 0 < length (text_of tree)
 text_some (Atom octets) = omega (arith, length-append (decimal (length octets)) (58 ∷ octets))
 text_some (Branch row) = omega arith
 
+-- the row is this tree and the others, whose texts the bytes are
+pub record HasBehind (bytes : List ℕ) (row : Forest) (tree : Sexp) : Type 0 where
+  pub rest : Forest
+  pub is : row ≡ in_front tree rest
+  pub fits : Fits (Branch rest)
+  pub spelt : bytes ≡ texts_of rest
+
 -- the member that was found in front, and what is behind it
 pub taken : (bytes : List ℕ) (row : Forest) (used : ℕ) (tree : Sexp) → Fits (Branch row) → bytes ≡ texts_of row →
     Fits tree → take used bytes ≡ text_of tree →
-    (rest : Forest) × ((row ≡ in_front tree rest) × Fits (Branch rest) × (drop used bytes ≡ texts_of rest))
+    HasBehind (drop used bytes) row tree
 taken bytes row used tree fits e tree_fits found =
     let whole : bytes ≡ text_of tree ++ drop used bytes =
     sym (take-append-drop used bytes) ∙ ap (λ bs. bs ++ drop used bytes) found in
@@ -106,7 +113,12 @@ taken bytes row used tree fits e tree_fits found =
     let one : (tree ≡ first.tree) × (drop used bytes ≡ texts_of first.rest) =
     one_tree 8 tree first.tree (drop used bytes) (texts_of first.rest) tree_fits first.fits
     (sym whole ∙ e ∙ first.text) in
-    (first.rest, (first.is ∙ ap (λ t. in_front t first.rest) (sym one.0), first.rest_fits, one.1))
+    record {
+      rest = first.rest;
+      is = first.is ∙ ap (λ t. in_front t first.rest) (sym one.0);
+      fits = first.rest_fits;
+      spelt = one.1;
+    }
 
 -- where no text stands in front, no member is left
 pub none_left : (bytes : List ℕ) (row : Forest) → Fits (Branch row) → bytes ≡ texts_of row →
@@ -137,23 +149,28 @@ no_bytes_left row fits none =
     none_left (texts_of row) row fits refl (λ tree rest tree_fits is.
     omega (arith, ap length is, length-append (text_of tree) rest, text_some tree))
 
+-- the tree is the list of this row, whose texts the bytes are
+pub record IsListOf (tree : Sexp) (bytes : List ℕ) : Type 0 where
+  pub row : Forest
+  pub is : tree ≡ Branch row
+  pub spelt : bytes ≡ texts_of row
+
 -- a text that begins with a parenthesis is a list's, and the bytes within are those of its members
 pub listed : (bytes : List ℕ) (tree : Sexp) → Fits tree → bytes ≡ text_of tree → get_or bytes 0 0 ≡ 40 →
-    (row : Forest) × ((tree ≡ Branch row) × (take (length bytes - 1 - 1) (drop 1 bytes) ≡ texts_of row))
+    IsListOf tree (take (length bytes - 1 - 1) (drop 1 bytes))
 listed [] (Atom octets) fits e begins = absurd (omega arith)
 listed (c ∷ bytes) (Atom octets) fits e begins =
     absurd (no_atom octets bytes [] c fits (omega arith) (e ∙ sym (append-nil (atom_text octets))))
 listed bytes (Branch row) fits e begins =
     let inside : List ℕ = texts_of row ++ 41 ∷ [] in
     let long : length (texts_of row) ≡ length bytes - 1 - 1 =
-    omega (arith, ap length e, length-append (texts_of row) (41 ∷ [])) in (
-      row,
-      (
-        refl,
-        ap (λ bs. take (length bytes - 1 - 1) (drop 1 bs)) e
-            ∙ take_at (texts_of row) (41 ∷ []) (length bytes - 1 - 1) long,
-      ),
-    )
+    omega (arith, ap length e, length-append (texts_of row) (41 ∷ [])) in
+    record {
+      row = row;
+      is = refl;
+      spelt = ap (λ bs. take (length bytes - 1 - 1) (drop 1 bs)) e
+          ∙ take_at (texts_of row) (41 ∷ []) (length bytes - 1 - 1) long;
+    }
 
 -- an atom's text begins with a digit
 pub begins_low : (bytes octets : List ℕ) → length octets ≤ 262144 → bytes ≡ atom_text octets → get_or bytes 0 0 ≡ 40 → ⊥
@@ -165,15 +182,22 @@ begins_low (c ∷ bytes) octets small e begins =
 digit_in : (c : ℕ) → 48 ≤ c → c < 58 → IsTrue (is_digit c)
 digit_in c low high = grind (arith, nat_tests)
 
+-- the bytes are the text of an atom, and begin with a digit
+pub record IsAtomText (bytes : List ℕ) : Type 0 where
+  pub octets : List ℕ
+  pub few : length octets ≤ 262144
+  pub spelt : bytes ≡ atom_text octets
+  pub digit : IsTrue (is_digit (get_or bytes 0 0))
+
 -- and what begins with no parenthesis is an atom's
 pub is_atom : (bytes : List ℕ) (tree : Sexp) → Fits tree → bytes ≡ text_of tree → get_or bytes 0 0 ≢ 40 →
-    (octets : List ℕ) × ((length octets ≤ 262144) × (bytes ≡ atom_text octets) × IsTrue (is_digit (get_or bytes 0 0)))
+    IsAtomText bytes
 is_atom [] (Atom octets) fits e other =
     let none : 0 ≡ length (decimal (length octets) ++ 58 ∷ octets) = ap length e in
     absurd (omega (arith, length-append (decimal (length octets)) (58 ∷ octets)))
 is_atom (c ∷ bytes) (Atom octets) fits e other =
     let digit : (48 ≤ c) × (c < 58) = atom_starts octets bytes [] c fits (e ∙ sym (append-nil (atom_text octets))) in
-    (octets, (fits, e, digit_in c digit.0 digit.1))
+    record { octets = octets; few = fits; spelt = e; digit = digit_in c digit.0 digit.1 }
 is_atom bytes (Branch row) fits e other = absurd (other (ap (λ bs. get_or bs 0 0) e))
 
 -- the octets stand behind the length and its colon
@@ -185,8 +209,8 @@ behind_length bytes octets count used small e few front =
     ∙ take-append-drop used bytes ∙ e in
     take_rest bytes used
     ∙ elim (behind_digits count (length octets) 58 (drop used bytes) octets (omega arith) (omega arith) whole) [
-      | inl h ↦ h.2
-      | inr h ↦ absurd (omega arith)
+      | inl h ↦ h.behind
+      | inr h ↦ let low : 58 < 58 = h.high in absurd (omega (arith, low))
     ]
 
 -- a length that is cut short or bad begins no atom's text

@@ -44,13 +44,19 @@ length-counts : (outer : List Forest) → length (map count_of outer) ≡ length
 length-counts [] = refl
 length-counts (f ∷ outer) = omega (arith, length-counts outer)
 
--- the innermost of the lists around
-last_of : (outer : List Forest) → 0 < length outer →
-    (around : List Forest) × (last : Forest) × (outer ≡ around ++ last ∷ [])
+-- the innermost of the lists around, and the others
+record HasLast (outer : List Forest) : Type 0 where
+  pub around : List Forest
+  pub last : Forest
+  pub is : outer ≡ around ++ last ∷ []
+
+-- lists that aren't none have a last
+last_of : (outer : List Forest) → 0 < length outer → HasLast outer
 last_of [] some = absurd (omega arith)
-last_of (f ∷ []) some = ([], f, refl)
-last_of (f ∷ (g ∷ outer)) some = let below = last_of (g ∷ outer) (omega arith) in
-    (f ∷ below.0, below.1, ap (λ fs. f ∷ fs) below.2)
+last_of (f ∷ []) some = record { around = []; last = f; is = refl }
+last_of (f ∷ (g ∷ outer)) some =
+    let below : HasLast (g ∷ outer) = last_of (g ∷ outer) (omega arith) in
+    record { around = f ∷ below.around; last = below.last; is = ap (λ fs. f ∷ fs) below.is }
 
 -- a list begins: the count of the one around it is kept
 pub scan_open : (bytes : List ℕ) (at : ℕ) (counts : List ℕ) (depth members : ℕ) →
@@ -91,16 +97,16 @@ pub record HasAround (bytes : List ℕ) (at : ℕ) (counts : List ℕ) (depth me
 pub has_around : (bytes : List ℕ) (at : ℕ) (counts : List ℕ) (depth members : ℕ) →
     AreScanned bytes at counts depth members → 0 < depth → HasAround bytes at counts depth members
 has_around bytes at counts depth members h some =
-    let split = last_of h.outer (omega (arith, h.depth_is)) in
-    let outer : List Forest = split.0 in
-    let around : Forest = split.1 in
+    let split : HasLast h.outer = last_of h.outer (omega (arith, h.depth_is)) in
+    let outer : List Forest = split.around in
+    let around : Forest = split.last in
     let P : List Forest → Type 0 = λ fs. AreRead bytes at fs h.current in
-    let so_far : AreRead bytes at (outer ++ around ∷ []) h.current = subst P split.2 h.so_far in
+    let so_far : AreRead bytes at (outer ++ around ∷ []) h.current = subst P split.is h.so_far in
     let depth_is : depth - 1 ≡ length outer =
-    omega (arith, h.depth_is, ap length split.2, length-append outer (around ∷ [])) in
+    omega (arith, h.depth_is, ap length split.is, length-append outer (around ∷ [])) in
     let back : depth - 1 + 1 ≡ depth = omega arith in
     let counts_are : take depth counts ≡ map count_of outer ++ count_of around ∷ [] =
-    h.counts_are ∙ ap (map count_of) split.2 ∙ counts-push outer around in
+    h.counts_are ∙ ap (map count_of) split.is ∙ counts-push outer around in
     let long : length (map count_of outer) ≡ depth - 1 = length-counts outer ∙ sym depth_is in
     let nested = AreOpenWithin-pop 8 outer around h.current so_far.nested in
     let enough : depth - 1 < length counts = omega (arith, nested.2.0, depth_is, h.size) in

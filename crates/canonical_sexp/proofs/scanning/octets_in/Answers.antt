@@ -9,14 +9,14 @@ returns-then-bytes-eq40-clause-none c = λ octets small e.
 
 pub read_length-requires-clause-digit : goal.read_length-requires-clause-digit
 read_length-requires-clause-digit c =
-    (is_atom c.args.bytes.now c.requires.0 c.requires.1.0 c.requires.1.1 c.if-bytes-eq40.false).1.2
+    (is_atom c.args.bytes.now c.requires.0 c.requires.1.0 c.requires.1.1 c.if-bytes-eq40.false).digit
 
 pub returns-in-Whole-clause-found : goal.returns-in-Whole-clause-found
 returns-in-Whole-clause-found c =
     let atom = is_atom c.args.bytes.now c.requires.0 c.requires.1.0 c.requires.1.1 c.if-bytes-eq40.false in
-    let same = behind_length c.args.bytes.now atom.0 c.in-Whole.octets c.in-Whole.used atom.1.0 atom.1.1
+    let same = behind_length c.args.bytes.now atom.octets c.in-Whole.octets c.in-Whole.used atom.few atom.spelt
     c.in-Whole.ensures.few c.in-Whole.ensures.spelt in
-    (omega (arith, ap length same, atom.1.0), atom.1.1 ∙ ap atom_text (sym same))
+    (omega (arith, ap length same, atom.few), atom.spelt ∙ ap atom_text (sym same))
 
 pub returns-in-Cut-clause-none : goal.returns-in-Cut-clause-none
 returns-in-Cut-clause-none c = λ octets small e.

@@ -9,7 +9,7 @@ new-requires c =
     let found = c.in-Whole.ensures in
     let behind = taken c.bytes-bytes.result.now c.args.self.now c.in-Whole.used found.0 c.bytes-bytes.ensures.0
     c.bytes-bytes.ensures.1 found.1.fits found.1.spelt in
-    row_spelt _ behind.0 behind.1.1 (take_rest c.bytes-bytes.result.now c.in-Whole.used ∙ behind.1.2)
+    row_spelt _ behind.rest behind.fits (take_rest c.bytes-bytes.result.now c.in-Whole.used ∙ behind.spelt)
 
 pub new-requires-in-Whole : goal.new-requires-in-Whole
 new-requires-in-Whole c = spelt _ c.in-Whole.ensures.0 c.in-Whole.ensures.1.fits c.in-Whole.ensures.1.spelt
@@ -19,13 +19,13 @@ returns-in-Whole-clause-found c =
     let found = c.in-Whole.ensures in
     let behind = taken c.bytes-bytes.result.now c.args.self.now c.in-Whole.used found.0 c.bytes-bytes.ensures.0
     c.bytes-bytes.ensures.1 found.1.fits found.1.spelt in
-    let rest : behind.0 ≡ c.new.result =
-    same_members behind.0 c.new.result behind.1.1 c.new.ensures.0 (sym behind.1.2
+    let rest : behind.rest ≡ c.new.result =
+    same_members behind.rest c.new.result behind.fits c.new.ensures.0 (sym behind.spelt
     ∙ sym (take_rest c.bytes-bytes.result.now c.in-Whole.used) ∙ c.new.ensures.1) in
     let tree : found.0 ≡ c.new-in-Whole.result =
     same_text found.0 c.new-in-Whole.result found.1.fits c.new-in-Whole.ensures.0
     (sym found.1.spelt ∙ c.new-in-Whole.ensures.1) in
-    behind.1.0 ∙ ap (λ t. in_front t behind.0) tree ∙ ap (in_front c.new-in-Whole.result) rest
+    behind.is ∙ ap (λ t. in_front t behind.rest) tree ∙ ap (in_front c.new-in-Whole.result) rest
 
 pub returns-in-Cut : goal.returns-in-Cut
 returns-in-Cut c =

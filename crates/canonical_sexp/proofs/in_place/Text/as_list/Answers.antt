@@ -10,12 +10,12 @@ new-requires c =
     let list = listed c.bytes-bytes.result.now c.args.self.now c.bytes-bytes.ensures.0 c.bytes-bytes.ensures.1
     c.if-bytes-ne40.false in
     let P : Sexp → Type 0 = λ t. Fits t in
-    row_spelt _ list.0 (subst P list.1.0 c.bytes-bytes.ensures.0) list.1.1
+    row_spelt _ list.row (subst P list.is c.bytes-bytes.ensures.0) list.spelt
 
 pub returns-clause-found : goal.returns-clause-found
 returns-clause-found c =
     let list = listed c.bytes-bytes.result.now c.args.self.now c.bytes-bytes.ensures.0 c.bytes-bytes.ensures.1
     c.if-bytes-ne40.false in
     let P : Sexp → Type 0 = λ t. Fits t in
-    list.1.0 ∙ ap Branch (same_members list.0 c.new.result (subst P list.1.0 c.bytes-bytes.ensures.0) c.new.ensures.0
-    (sym list.1.1 ∙ c.new.ensures.1))
+    list.is ∙ ap Branch (same_members list.row c.new.result (subst P list.is c.bytes-bytes.ensures.0) c.new.ensures.0
+    (sym list.spelt ∙ c.new.ensures.1))
