@@ -25,8 +25,8 @@ module _ {T : Type 0} (node : T → Node) (S : List T) where
               Contains-flat_map_cases (λ y. (node y).names) S d kept.0,
               λ borne. true≢false (sym (has_digest_of node S d borne) ∙ not-true (has_digest node S d) kept.1),
             ),
-        λ (named, lost).
-            let there = Contains-flat_map (λ y. (node y).names) S named.0 d named.1 named.2 in
+        λ ((e, in_e, named), lost).
+            let there = Contains-flat_map (λ y. (node y).names) S e d in_e named in
             let none = false_from_ne_true (has_digest node S d) (λ t. lost (has_digest_from node S d t)) in
             Contains-ascending (filter free names) d
             (Contains-filter free names d there (not_from_false (has_digest node S d) none)),
@@ -64,30 +64,33 @@ module _ {T : Type 0} (node : T → Node) (S : List T) where
     -- a path among survivors is one in the completion
     kept_path : (f : T) (between : List T) (e : T) → IsPath node S f between e → IsPath node G f between e
     kept_path f [] e p = p
-    kept_path f (g ∷ gs) e p = (completion.keeps g p.0, p.1, kept_path g gs e p.2)
+    kept_path f (g ∷ gs) e (there, names, rest) = (completion.keeps g there, names, kept_path g gs e rest)
 
     -- a path among the survivors is a path in the completion
     pub before_in_completion : (y x : T) → Precedes node S y x → Precedes node G y x
-    before_in_completion y x p = (completion.keeps y p.0, completion.keeps x p.1, p.2, kept_path y p.2 x p.3)
+    before_in_completion y x (in_y, in_x, gs, path) =
+        (completion.keeps y in_y, completion.keeps x in_x, gs, kept_path y gs x path)
 
     -- an entry of the completion that a survivor names is a survivor, where that survivor names no gap
     named_survives : (x f : T) → Contains S x → NamesNoGap node S x → Contains G f → Names node x f → Contains S f
     named_survives x f cx whole cf n =
-        let same : (g : T) × Contains S g × ((node g).digest ≡ (node f).digest) → Contains S f =
-        λ r. subst (λ (u : T). Contains S u) (completion.distinct r.0 f (completion.keeps r.0 r.1) cf r.2) r.1 in
-        elim (gap_or_bearer x (node f).digest cx n) [ inl gap ↦ absurd (whole (node f).digest n gap) | inr r ↦ same r ]
+        elim (gap_or_bearer x (node f).digest cx n) [
+          | inl gap ↦ absurd (whole (node f).digest n gap)
+          | inr (g, there, same) ↦ subst (Contains S) (completion.distinct g f (completion.keeps g there) cf same) there
+        ]
 
     -- a path of the completion to a whole survivor is one among survivors
     survives : (x : T) → Contains S x → IsWhole node S x → (f : T) (between : List T) → Contains G f →
         IsPath node G f between x → Contains S f × IsPath node S f between x
     survives x cx whole f [] cf n = (named_survives x f cx whole.itself cf n, n)
-    survives x cx whole f (g ∷ gs) cf p =
-        let rest = survives x cx whole g gs p.0 p.2 in
-        (named_survives g f rest.0 (whole.ancestors g (rest.0, cx, gs, rest.1)) cf p.1, (rest.0, p.1, rest.1))
+    survives x cx whole f (g ∷ gs) cf (in_g, names, path_g) =
+        let (there, path) = survives x cx whole g gs in_g path_g in
+        (named_survives g f there (whole.ancestors g (there, cx, gs, path)) cf names, (there, names, path))
 
     -- where x is whole, its ancestors in the completion are its ancestors among the survivors
     pub before_among_survivors : (y x : T) → Contains S x → IsWhole node S x → Precedes node G y x → Precedes node S y x
-    before_among_survivors y x cx whole p = let r = survives x cx whole y p.2 p.0 p.3 in (r.0, cx, p.2, r.1)
+    before_among_survivors y x cx whole (in_y, _, gs, path) =
+        let (there, kept) = survives x cx whole y gs in_y path in (there, cx, gs, kept)
 
 -- both, for all survivors and completions
 pub paths_are_settled : {T : Type 0} (node : T → Node) → PathsAreSettled node

@@ -99,7 +99,7 @@ names_none y c low d named gap =
 whole : IsWhole shown without_b0 a1
 whole = record {
   itself = names_no_gap;
-  ancestors = λ y p. names_none y p.0 (rises_along shown without_b0 y p.2 a1 p.0 p.1 p.3);
+  ancestors = λ y (there, here, gs, path). names_none y there (rises_along shown without_b0 y gs a1 there here path);
 }
 
 -- all facts of the example

@@ -16,22 +16,22 @@ use Rattle.entry_order.proofs.Orders.{member_split, was_sent, held_was_sent, nex
 pub many : (s : ℕ) (xs : List ℕ) → ((t : ℕ) → 1 ≤ t → t ≤ s → Contains xs t) → s ≤ length xs
 many zero xs all = omega arith
 many (suc s) xs all =
-    let split = member_split xs (suc s) (all (suc s) (omega arith) (omega arith)) in
-    let rest : List ℕ = split.0 ++ split.1 in
+    let (front, back, split) = member_split xs (suc s) (all (suc s) (omega arith) (omega arith)) in
+    let rest : List ℕ = front ++ back in
     let others : (t : ℕ) → 1 ≤ t → t ≤ s → Contains rest t =
     λ t low high.
-    let there : Contains (split.0 ++ suc s ∷ split.1) t =
-    subst (λ (l : List ℕ). Contains l t) split.2 (all t low (omega arith)) in
-    elim (Contains-append_cases split.0 (suc s ∷ split.1) t there) [
-      | inl h ↦ Contains-append_left split.0 split.1 t h
-      | inr h ↦ elim (Contains-cons_cases (suc s) split.1 t h) [
+    let there : Contains (front ++ suc s ∷ back) t =
+    subst (λ (l : List ℕ). Contains l t) split (all t low (omega arith)) in
+    elim (Contains-append_cases front (suc s ∷ back) t there) [
+      | inl h ↦ Contains-append_left front back t h
+      | inr h ↦ elim (Contains-cons_cases (suc s) back t h) [
         | inl e ↦ absurd (omega arith)
         | inr k ↦
-            Contains-append_right split.0 split.1 t k
+            Contains-append_right front back t k
       ]
     ] in
     let fewer = many s rest others in
-    omega (arith, ap length split.2, length-append split.0 (suc s ∷ split.1), length-append split.0 split.1)
+    omega (arith, ap length split, length-append front (suc s ∷ back), length-append front back)
 
 module _ {T : Type 0} (node : T → Node) where
   -- the greatest stamp is one of them, or what it began with
@@ -49,7 +49,7 @@ module _ {T : Type 0} (node : T → Node) where
           )
           | inr le ↦ inl (let m : max top (node z).stamp ≡ top = omega arith in same ∙ m)
         ]
-        | inr found ↦ inr (found.0, Contains-later z es found.0 found.1, found.2)
+        | inr (g, there, is) ↦ inr (g, Contains-later z es g there, is)
       ]
 
   module _ (w : World T) (orderly : IsOrderly node w) where
@@ -61,15 +61,13 @@ module _ {T : Type 0} (node : T → Node) where
         elim (cases_eq (node e).stamp t) [
           | inl s ↦ (e, c, s)
           | inr differs ↦
-              (let was = was_sent w e c in
-              let next = next_of node w orderly was.0 e was.1 in
-              elim (attained_from 0 (held was.0)) [
+              (let (past, s) = was_sent w e c in
+              let next = next_of node w orderly past e s in
+              elim (attained_from 0 (held past)) [
                 | inl none ↦ absurd (let h = next.stamp in omega arith)
-                | inr found ↦
+                | inr (g, there, is) ↦
                     (let h = next.stamp in
-                    let lower = found.2 in
-                    each_stamp n found.0 (held_was_sent node w orderly was.0 e was.1 found.0 found.1) (omega arith) t
-                    low (omega arith))
+                    each_stamp n g (held_was_sent node w orderly past e s g there) (omega arith) t low (omega arith))
               ])
         ]
 
@@ -78,7 +76,7 @@ module _ {T : Type 0} (node : T → Node) where
     stamps_are_few e c =
         let all = many (node e).stamp (map (λ (x : T). (node x).stamp) (sent_in w))
         (λ t low high.
-        let f = each_stamp (node e).stamp e c (omega arith) t low high in
-        subst (λ n. Contains (map (λ (x : T). (node x).stamp) (sent_in w)) n) f.2
-        (Contains-map (λ (x : T). (node x).stamp) (sent_in w) f.0 f.1)) in
+        let (g, there, is) = each_stamp (node e).stamp e c (omega arith) t low high in
+        subst (λ n. Contains (map (λ (x : T). (node x).stamp) (sent_in w)) n) is
+        (Contains-map (λ (x : T). (node x).stamp) (sent_in w) g there)) in
         omega (arith, length-map (sent_in w) (λ (x : T). (node x).stamp))

@@ -57,9 +57,9 @@ module _ {T : Type 0} (node : T → Node) where
     λ c.
         let r = frontier_cases es d c in
         (Contains-map_cases (λ e. (node e).digest) es d r.0, λ n. true≢false (sym (is_named_of node es d n) ∙ r.1)),
-    λ (borne, free).
-        let there = Contains-map (λ e. (node e).digest) es borne.0 borne.1 in
-        frontier_from es d (subst (λ c. Contains (map (λ e. (node e).digest) es) c) borne.2 there)
+    λ ((g, there_g, same), free).
+        let there = Contains-map (λ e. (node e).digest) es g there_g in
+        frontier_from es d (subst (λ c. Contains (map (λ e. (node e).digest) es) c) same there)
         (false_from_ne_true (is_named node es d) (λ t. free (is_named_from node es d t))),
   )
 
@@ -108,10 +108,10 @@ module _ {T : Type 0} (node : T → Node) where
       from_left d h =
           let r = Contains-filter_cases (λ d. not (names_digest node e d)) (frontier node es) d h in
           let s = frontier_cases es d r.0 in
-          let m = Contains-map_cases (λ e. (node e).digest) es d s.0 in
+          let (g, held_g, same) = Contains-map_cases (λ e. (node e).digest) es d s.0 in
           let there : Contains (map (λ e. (node e).digest) (es ++ e ∷ [])) d =
-          subst (λ c. Contains (map (λ e. (node e).digest) (es ++ e ∷ [])) c) m.2
-          (Contains-map (λ e. (node e).digest) (es ++ e ∷ []) m.0 (Contains-append_left es (e ∷ []) m.0 m.1)) in
+          subst (λ c. Contains (map (λ e. (node e).digest) (es ++ e ∷ [])) c) same
+          (Contains-map (λ e. (node e).digest) (es ++ e ∷ []) g (Contains-append_left es (e ∷ []) g held_g)) in
           frontier_from (es ++ e ∷ []) d there
           (named_push es e d
           ∙ or_from (is_named node es d) (names_digest node e d) s.1 (not-true (names_digest node e d) r.1))
@@ -122,20 +122,20 @@ module _ {T : Type 0} (node : T → Node) where
       to_left d h =
           let s = frontier_cases (es ++ e ∷ []) d h in
           let free = or_parts (is_named node es d) (names_digest node e d) (sym (named_push es e d) ∙ s.1) in
-          let m = Contains-map_cases (λ e. (node e).digest) (es ++ e ∷ []) d s.0 in
-          let old : Contains es m.0 → Contains (filter (λ d. not (names_digest node e d)) (frontier node es)) d =
+          let (g, there, same) = Contains-map_cases (λ e. (node e).digest) (es ++ e ∷ []) d s.0 in
+          let old : Contains es g → Contains (filter (λ d. not (names_digest node e d)) (frontier node es)) d =
           λ c. Contains-filter (λ d. not (names_digest node e d)) (frontier node es) d
           (frontier_from es d
-          (subst (λ u. Contains (map (λ e. (node e).digest) es) u) m.2
-          (Contains-map (λ e. (node e).digest) es m.0 c)) free.0)
+          (subst (λ u. Contains (map (λ e. (node e).digest) es) u) same
+          (Contains-map (λ e. (node e).digest) es g c)) free.0)
           (not_from_false (names_digest node e d) free.1) in
-          elim (Contains-append_cases es (e ∷ []) m.0 m.1) [
+          elim (Contains-append_cases es (e ∷ []) g there) [
             | inl c ↦ inr (old c)
             | inr c ↦ elim
-                (Contains-cons_cases e [] m.0 c) [
-                  | inl is ↦ inl (ap (λ u. (node u).digest) is ∙ m.2)
+                (Contains-cons_cases e [] g c) [
+                  | inl is ↦ inl (ap (λ u. (node u).digest) is ∙ same)
                   | inr n ↦ absurd
-                      (Contains-none m.0 n)
+                      (Contains-none g n)
                 ]
           ]
 

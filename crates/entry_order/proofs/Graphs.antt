@@ -87,8 +87,8 @@ module _ {T : Type 0} (node : T → Node) (S : List T) where
   -- what is found is a gap
   is_gap_from : (d : List ℕ) → is_gap d ≡ true → Contains (gaps node S) d
   is_gap_from d t =
-      let r = list_any_some (λ c. bytes_eq c d) (gaps node S) t in
-      subst (λ u. Contains (gaps node S) u) ((bytes_eq-Decides r.0 d).0 r.2) r.1
+      let (g, there, same) = list_any_some (λ c. bytes_eq c d) (gaps node S) t in
+      subst (λ u. Contains (gaps node S) u) ((bytes_eq-Decides g d).0 same) there
 
   -- a place isn't ragged exactly when its entry names no gap
   gaps_shown : (i : ℕ) (e : T) → slice_get S i ≡ Some e → (ragged_of i ≡ false) ↔ NamesNoGap node S e
@@ -97,7 +97,7 @@ module _ {T : Type 0} (node : T → Node) (S : List T) where
         true≢false (sym (list_any_of is_gap (node e).names d named (is_gap_of d gap)) ∙ sym (ap is_ragged ie) ∙ clean),
     λ free.
         let none : list_any is_gap (node e).names ≡ true → ⊥ =
-        λ t. let r = list_any_some is_gap (node e).names t in free r.0 r.1 (is_gap_from r.0 r.2) in
+        λ t. let (d, named, gap) = list_any_some is_gap (node e).names t in free d named (is_gap_from d gap) in
         ap is_ragged ie ∙ false_from_ne_true (list_any is_gap (node e).names) none,
   )
 
@@ -108,13 +108,13 @@ survivors_have_a_graph {T} node S sorted kept = (
   ragged_of node S,
   record {
     descends = descends_by_stamp node S (parents_of node S) sorted sound (arrow_cases node S);
-    inside = λ i p c. let r = arrow_cases node S i p c in (r.1, r.3);
+    inside = λ i p c. let (_, f, _, at_p, _) = arrow_cases node S i p c in (f, at_p);
     arrows = λ i p e f ie pf. (
       λ c.
-          let r = arrow_cases node S i p c in
-          let first : r.0 ≡ e = (let two = sym r.2 ∙ ie in cc) in
-          let second : r.1 ≡ f = (let two = sym r.3 ∙ pf in cc) in
-          subst (λ u. Names node u f) first (subst (λ u. Names node r.0 u) second r.4),
+          let (g, h, at_i, at_p, names) = arrow_cases node S i p c in
+          let first : g ≡ e = (let two = sym at_i ∙ ie in cc) in
+          let second : h ≡ f = (let two = sym at_p ∙ pf in cc) in
+          subst (λ u. Names node u f) first (subst (λ u. Names node g u) second names),
       arrow_from node S i p e f ie pf,
     );
     gaps_shown = gaps_shown node S;

@@ -25,10 +25,10 @@ last_or_earlier (a ∷ xs) x [] y later e = inl (xs, cc)
 last_or_earlier {X} (a ∷ xs) x (b ∷ before) y later e =
     let head : a ≡ b = cc in
     let tail : xs ++ x ∷ [] ≡ before ++ y ∷ later = cc in
-    let earlier : (rest : List X) × (xs ≡ before ++ y ∷ rest) →
-    (rest : List X) × (a ∷ xs ≡ b ∷ (before ++ y ∷ rest)) = λ r. (r.0, cc (r.1, head)) in
-    let last : (xs ≡ before) × (x ≡ y) → (a ∷ xs ≡ b ∷ before) × (x ≡ y) = λ r. (cc (r.0, head), r.1) in
-    elim (last_or_earlier xs x before y later tail) [ inl r ↦ inl (earlier r) | inr r ↦ inr (last r) ]
+    elim (last_or_earlier xs x before y later tail) [
+      | inl (rest, is) ↦ inl (rest, cc (is, head))
+      | inr (is, same) ↦ inr (cc (is, head), same)
+    ]
 
 -- of two members of a list one stands before the other, or they are one
 pub split_two : {X : Type 0} (p q : List X) (x y : X) (l m : List X) → p ++ x ∷ l ≡ q ++ y ∷ m →
@@ -77,8 +77,9 @@ module _ {T : Type 0} where
   nth_split [] i x e = cc
   nth_split (Sent g ∷ h) zero x e = let same : g ≡ x = cc in ([], h, ap (λ u. Sent u ∷ h) same, refl)
   nth_split (Sent g ∷ h) (suc i) x e =
-      let r = nth_split h i x e in (Sent g ∷ r.0, r.1, ap (λ u. Sent g ∷ u) r.2, ap suc r.3)
-  nth_split (Got g ∷ h) i x e = let r = nth_split h i x e in (Got g ∷ r.0, r.1, ap (λ u. Got g ∷ u) r.2, r.3)
+      let (p, l, split, count) = nth_split h i x e in (Sent g ∷ p, l, ap (λ u. Sent g ∷ u) split, ap suc count)
+  nth_split (Got g ∷ h) i x e =
+      let (p, l, split, count) = nth_split h i x e in (Got g ∷ p, l, ap (λ u. Got g ∷ u) split, count)
 
 -- ---- legal histories
 
@@ -87,10 +88,11 @@ module _ {T : Type 0} (node : T → Node) where
   pub IsLegal-push : (owner : ℕ) (h : List (Event T)) (x : Event T) → IsLegal node owner h → MayFollow node owner h x →
       IsLegal node owner (h ++ x ∷ [])
   IsLegal-push owner h x legal may before y later e =
-      let last : (h ≡ before) × (x ≡ y) → MayFollow node owner before y =
-      λ r. subst (λ (u : Event T). MayFollow node owner before u) r.1
-      (subst (λ (p : List (Event T)). MayFollow node owner p x) r.0 may) in
-      elim (last_or_earlier h x before y later e) [ inl r ↦ legal before y r.0 r.1 | inr r ↦ last r ]
+      elim (last_or_earlier h x before y later e) [
+        | inl (rest, is) ↦ legal before y rest is
+        | inr (is, same) ↦ subst (λ (u : Event T). MayFollow node owner before u) same
+            (subst (λ (p : List (Event T)). MayFollow node owner p x) is may)
+      ]
 
   -- the empty history is legal
   pub IsLegal-none : (owner : ℕ) → IsLegal node owner []

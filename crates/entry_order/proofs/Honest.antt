@@ -56,27 +56,27 @@ module _ {T : Type 0} (node : T → Node) (w : World T) (orderly : IsOrderly nod
   -- a maker sends one entry with a number
   pub no_fork : HasNoFork node (sent_in w)
   no_fork e f ce cf made number =
-      let a = was_sent w e ce in
-      let b = was_sent w f cf in
-      let na = next_of node w orderly a.0 e a.1 in
-      let nb = next_of node w orderly b.0 f b.1 in
-      let one : a.1.0 ≡ b.1.0 = sym na.maker ∙ made ∙ nb.maker in
-      nth_sent a.0 b.0 e f a.1.1 b.1.1 (sym a.1.2 ∙ ap (history w) one ∙ b.1.2) (sym na.number ∙ number ∙ nb.number)
+      let (past, (m, later, at)) = was_sent w e ce in
+      let (before, (k, rest, there)) = was_sent w f cf in
+      let na = next_of node w orderly past e (m, later, at) in
+      let nb = next_of node w orderly before f (k, rest, there) in
+      let one : m ≡ k = sym na.maker ∙ made ∙ nb.maker in
+      nth_sent past before e f later rest (sym at ∙ ap (history w) one ∙ there) (sym na.number ∙ number ∙ nb.number)
 
   -- what was sent bears all that it names
   lacks_nothing : (d : List ℕ) → IsNamedIn node (sent_in w) d → IsBorneIn node (sent_in w) d
   lacks_nothing d (e, c, n) =
-      let a = was_sent w e c in
-      let r = frontier_entry node (held a.0) d
-      (subst (λ (ds : List (List ℕ)). Contains ds d) (next_of node w orderly a.0 e a.1).names n) in
-      (r.0, held_was_sent node w orderly a.0 e a.1 r.0 r.1, r.2)
+      let (past, s) = was_sent w e c in
+      let (g, there, same) = frontier_entry node (held past) d
+      (subst (λ (ds : List (List ℕ)). Contains ds d) (next_of node w orderly past e s).names n) in
+      (g, held_was_sent node w orderly past e s g there, same)
 
   -- each maker is one of the machines
   in_roster : (machines : ℕ) → length w ≡ machines → (e : T) → Contains (sent_in w) e → (node e).maker < machines
   in_roster machines count e c =
-      let a = was_sent w e c in
-      let inside = in_world w a.1.0 a.0 (Sent e) a.1.1 a.1.2 in
-      let maker = (next_of node w orderly a.0 e a.1).maker in
+      let (past, (m, later, at)) = was_sent w e c in
+      let inside = in_world w m past (Sent e) later at in
+      let maker = (next_of node w orderly past e (m, later, at)).maker in
       omega arith
 
   module _ (distinct : Distinct node (sent_in w)) (machines : ℕ) (count : length w ≡ machines) (given : List T)
@@ -111,9 +111,9 @@ module _ {T : Type 0} (node : T → Node) (w : World T) (orderly : IsOrderly nod
       -- what a given entry names, a given entry bears
       no_gap : (d : List ℕ) → Contains (gaps node given) d → ⊥
       no_gap d c =
-          let g = gap_cases node given d c in
-          let lack = lacks_nothing d (g.0.0, were_sent g.0.0 g.0.1, g.0.2) in
-          g.1 (lack.0, all lack.0 lack.1, lack.2)
+          let ((e, there, names), unborne) = gap_cases node given d c in
+          let (f, sent_f, same) = lacks_nothing d (e, were_sent e there, names) in
+          unborne (f, all f sent_f, same)
 
       -- where all are given, nothing is unknown
       all_known : IsAllKnown node given

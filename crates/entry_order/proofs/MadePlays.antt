@@ -27,10 +27,10 @@ module _ {T : Type 0} (node : T → Node) (next : ℕ → List (Event T) → Opt
   grows_changed w m change grows n =
       elim (changed m change w n) [
         | inl same ↦ inl same
-        | inr r ↦
-            let here = subst (λ (k : ℕ). Grows k r.1.0.history (change r.1.0).history) (sym r.0) (grows r.1.0) in
-            subst (λ (h : List (Event T)). Grows n h (history (with_machine m change w) n)) (sym r.1.1)
-            (subst (λ (h : List (Event T)). Grows n r.1.0.history h) (sym r.1.2) here)
+        | inr (is_m, (a, was, now)) ↦
+            let here = subst (λ (k : ℕ). Grows k a.history (change a).history) (sym is_m) (grows a) in
+            subst (λ (h : List (Event T)). Grows n h (history (with_machine m change w) n)) (sym was)
+            (subst (λ (h : List (Event T)). Grows n a.history h) (sym now) here)
       ]
 
   -- a machine that sends has its next entry more
@@ -69,9 +69,9 @@ module _ {T : Type 0} (node : T → Node) (next : ℕ → List (Event T) → Opt
   made_step w s made m past e later is =
       elim (grows_step w s m) [
         | inl same ↦ made m past e later (sym same ∙ is)
-        | inr r ↦ elim (last_or_earlier (history w m) r.0 past (Sent e) later (sym r.1 ∙ is)) [
+        | inr (x, more, is_next) ↦ elim (last_or_earlier (history w m) x past (Sent e) later (sym more ∙ is)) [
           | inl old ↦ made m past e old.0 old.1
-          | inr new ↦ subst (λ (h : List (Event T)). next m h ≡ Some e) new.0 (r.2 e new.1)
+          | inr new ↦ subst (λ (h : List (Event T)). next m h ≡ Some e) new.0 (is_next e new.1)
         ]
       ]
 

@@ -208,14 +208,8 @@ module _ {T : Type 0} (node : T → Node) where
       let later : Contains (placed_of m (before ++ x ∷ []) h) y →
       (b : List (Event T)) × (l : List (Event T)) × (x ∷ h ≡ b ++ y.event ∷ l)
       × (y ≡ placed node m (before ++ b) y.event) =
-      λ g. let r =
-      placed_cases m (before ++ x ∷ []) h y g in (
-        x ∷ r.0,
-        r.1,
-        ap (λ u. x ∷ u) r.2,
-        r.3
-            ∙ ap (λ p. placed node m p y.event) (append_assoc before (x ∷ []) r.0),
-      ) in
+      λ g. let (b, l, split, at) = placed_cases m (before ++ x ∷ []) h y g in
+      (x ∷ b, l, ap (λ u. x ∷ u) split, at ∙ ap (λ p. placed node m p y.event) (append_assoc before (x ∷ []) b)) in
       elim (Contains-cons_cases (placed node m before x)
       (placed_of m (before ++ x ∷ []) h) y c) [ inl e ↦ first e | inr g ↦ later g ]
 
@@ -226,13 +220,13 @@ module _ {T : Type 0} (node : T → Node) where
   placed_rise m before (x ∷ h) whole legal is =
       let step : (before ++ x ∷ []) ++ h ≡ before ++ x ∷ h = append_assoc before (x ∷ []) h in (
         λ y c.
-            let r = placed_cases m (before ++ x ∷ []) h y c in
-            let place : (before ++ x ∷ []) ++ r.0 ≡ before ++ x ∷ r.0 = append_assoc before (x ∷ []) r.0 in
-            let at : whole ≡ (before ++ x ∷ r.0) ++ y.event ∷ r.1 =
-            is ∙ ap (λ u. before ++ x ∷ u) r.2 ∙ sym (append_assoc before (x ∷ r.0) (y.event ∷ r.1)) in
+            let (b, l, split, placed_at) = placed_cases m (before ++ x ∷ []) h y c in
+            let place : (before ++ x ∷ []) ++ b ≡ before ++ x ∷ b = append_assoc before (x ∷ []) b in
+            let at : whole ≡ (before ++ x ∷ b) ++ y.event ∷ l =
+            is ∙ ap (λ u. before ++ x ∷ u) split ∙ sym (append_assoc before (x ∷ b) (y.event ∷ l)) in
             subst (λ u. slice_cmp nat_cmp (sort_key (placed node m before x)) (sort_key u) ≡ Less)
-            (sym (r.3 ∙ ap (λ p. placed node m p y.event) place))
-            (later_rank node m whole legal before x r.0 y.event r.1 at),
+            (sym (placed_at ∙ ap (λ p. placed node m p y.event) place))
+            (later_rank node m whole legal before x b y.event l at),
         placed_rise m (before ++ x ∷ []) h whole legal (is ∙ sym step),
       )
 
@@ -244,23 +238,23 @@ module _ {T : Type 0} (node : T → Node) where
         to : (y : PlacedEvent T) → Contains (filter (λ x. x.machine == m) xs) y →
             Contains (placed_of m [] (history w m)) y
         to y c =
-            let r = Contains-filter_cases (λ x. x.machine == m) xs y c in
-            let mine : y.machine ≡ m = eqb-true y.machine m r.1 in
-            let s = (merged.events y).0 r.0 in
-            let is : history w m ≡ s.0 ++ y.event ∷ s.1 = ap (history w) (sym mine) ∙ s.2 in
+            let (there, passes) = Contains-filter_cases (λ x. x.machine == m) xs y c in
+            let mine : y.machine ≡ m = eqb-true y.machine m passes in
+            let (b, l, split, at) = (merged.events y).0 there in
+            let is : history w m ≡ b ++ y.event ∷ l = ap (history w) (sym mine) ∙ split in
             subst (λ u. Contains (placed_of m [] (history w m)) u)
-            (sym (s.3 ∙ ap (λ n. placed node n s.0 y.event) mine))
-            (subst (λ h. Contains (placed_of m [] h) (placed node m s.0 y.event)) (sym is)
-            (has_placed m [] s.0 y.event s.1))
+            (sym (at ∙ ap (λ n. placed node n b y.event) mine))
+            (subst (λ h. Contains (placed_of m [] h) (placed node m b y.event)) (sym is)
+            (has_placed m [] b y.event l))
 
         from : (y : PlacedEvent T) → Contains (placed_of m [] (history w m)) y →
             Contains (filter (λ x. x.machine == m) xs) y
         from y c =
-            let r = placed_cases m [] (history w m) y c in
-            let mine : y.machine ≡ m = ap (λ u. u.machine) r.3 in
-            let is : history w y.machine ≡ r.0 ++ y.event ∷ r.1 = ap (history w) mine ∙ r.2 in
+            let (b, l, split, at) = placed_cases m [] (history w m) y c in
+            let mine : y.machine ≡ m = ap (λ u. u.machine) at in
+            let is : history w y.machine ≡ b ++ y.event ∷ l = ap (history w) mine ∙ split in
             Contains-filter (λ x. x.machine == m) xs y
-            ((merged.events y).1 (r.0, r.1, is, r.3 ∙ ap (λ n. placed node n r.0 y.event) (sym mine)))
+            ((merged.events y).1 (b, l, is, at ∙ ap (λ n. placed node n b y.event) (sym mine)))
             (eq-eqb y.machine m mine)
 
         same : filter (λ x. x.machine == m) xs ≡ placed_of m [] (history w m)
@@ -295,28 +289,28 @@ module _ {T : Type 0} (node : T → Node) (next : ℕ → List (Event T) → Opt
       ((node e).maker < length w) × (slice_get (sent (part (node e).maker d)) (node e).number ≡ Some e)
   heard_ready d x r e is got =
       let here : Contains xs x = subst (λ u. Contains u x) (sym is) (contains_middle d x r) in
-      let ms = (merged.events x).0 here in
+      let (b, l, split, at) = (merged.events x).0 here in
       let in_history : Contains (history w x.machine) (Got e) =
-      subst (λ h. Contains h (Got e)) (sym ms.2)
-      (subst (λ u. Contains (ms.0 ++ u ∷ ms.1) (Got e)) (sym got) (contains_middle ms.0 (Got e) ms.1)) in
-      let s = was_sent w e (orderly.heard x.machine e in_history) in
-      let legal = (orderly.legal s.1.0 s.0 (Sent e) s.1.1 s.1.2).1 in
-      let y = placed node s.1.0 s.0 (Sent e) in
-      let there : Contains xs y = (merged.events y).1 (s.0, s.1.1, s.1.2, refl) in
+      subst (λ h. Contains h (Got e)) (sym split)
+      (subst (λ u. Contains (b ++ u ∷ l) (Got e)) (sym got) (contains_middle b (Got e) l)) in
+      let (past, (m, later, sent_then)) = was_sent w e (orderly.heard x.machine e in_history) in
+      let legal = (orderly.legal m past (Sent e) later sent_then).1 in
+      let y = placed node m past (Sent e) in
+      let there : Contains xs y = (merged.events y).1 (past, later, sent_then, refl) in
       let lower : Lower y x =
-      subst (λ u. Lower y u) (sym (ms.3 ∙ ap (λ u. placed node x.machine ms.0 u) got))
-      (receipt_rank node s.1.0 s.0 e legal.stamp x.machine ms.0) in
+      subst (λ u. Lower y u) (sym (at ∙ ap (λ u. placed node x.machine b u) got))
+      (receipt_rank node m past e legal.stamp x.machine b) in
       let earlier : Contains d y =
       lower_is_before d x r y (subst IsSortedByKey is merged.sorted) (subst (λ u. Contains u y) is there) lower in
-      let p = member_split (part s.1.0 d) (Sent e) (Contains-part d y earlier) in
-      let whole : history w s.1.0 ≡ p.0 ++ Sent e ∷ (p.1 ++ part s.1.0 (x ∷ r)) =
-      split_history s.1.0 d x r is ∙ ap (λ h. h ++ part s.1.0 (x ∷ r)) p.2
-      ∙ append_assoc p.0 (Sent e ∷ p.1) (part s.1.0 (x ∷ r)) in
-      let number = (orderly.legal s.1.0 p.0 (Sent e) (p.1 ++ part s.1.0 (x ∷ r)) whole).1.number in
-      let found : slice_get (sent (part s.1.0 d)) (node e).number ≡ Some e =
-      ap (λ h. slice_get (sent h) (node e).number) p.2 ∙ ap (slice_get (sent (p.0 ++ Sent e ∷ p.1))) number
-      ∙ nth_of_sent p.0 e p.1 in (
-        subst (λ n. n < length w) (sym legal.maker) (in_world w s.1.0 s.0 (Sent e) s.1.1 s.1.2),
+      let (front, back, parts) = member_split (part m d) (Sent e) (Contains-part d y earlier) in
+      let whole : history w m ≡ front ++ Sent e ∷ (back ++ part m (x ∷ r)) =
+      split_history m d x r is ∙ ap (λ h. h ++ part m (x ∷ r)) parts
+      ∙ append_assoc front (Sent e ∷ back) (part m (x ∷ r)) in
+      let number = (orderly.legal m front (Sent e) (back ++ part m (x ∷ r)) whole).1.number in
+      let found : slice_get (sent (part m d)) (node e).number ≡ Some e =
+      ap (λ h. slice_get (sent h) (node e).number) parts ∙ ap (slice_get (sent (front ++ Sent e ∷ back))) number
+      ∙ nth_of_sent front e back in (
+        subst (λ n. n < length w) (sym legal.maker) (in_world w m past (Sent e) later sent_then),
         ap
             (λ n. slice_get (sent (part n d)) (node e).number) legal.maker ∙ found,
       )
@@ -376,7 +370,8 @@ module _ {T : Type 0} (node : T → Node) (next : ℕ → List (Event T) → Opt
       let ready = heard_ready done x rest e is ev in
       let free : has_digest node (held (part x.machine done)) (node e).digest ≡ false =
       false_from_ne_true (has_digest node (held (part x.machine done)) (node e).digest)
-      (λ t. let b = has_digest_from node (held (part x.machine done)) (node e).digest t in may.0 b.0 b.1 b.2) in
+      (λ t. let (g, there, same) = has_digest_from node (held (part x.machine done)) (node e).digest t in
+      may.0 g there same) in
       let room : leb log (length (part x.machine done)) ≡ false =
       let f = fits x.machine in let l = ap length own in let n =
       length-append (part x.machine done) (Got e ∷ part x.machine rest) in

@@ -173,9 +173,9 @@ module _ {T : Type 0} (node : T → Node) where
     events_cases (suc m) x h =
         elim (Contains-append_cases (placed_of node m [] (history w m)) (events_of m) x h) [
           | inl c ↦
-              let r = placed_cases node m [] (history w m) x c in
-              let mine : x.machine ≡ m = ap (λ u. u.machine) r.3 in
-              (r.0, r.1, ap (history w) mine ∙ r.2, r.3 ∙ ap (λ k. placed node k r.0 x.event) (sym mine))
+              let (b, l, split, at) = placed_cases node m [] (history w m) x c in
+              let mine : x.machine ≡ m = ap (λ u. u.machine) at in
+              (b, l, ap (history w) mine ∙ split, at ∙ ap (λ k. placed node k b x.event) (sym mine))
           | inr c ↦ events_cases m x c
         ]
 

@@ -17,8 +17,8 @@ module _ {T : Type 0} (node : T → Node) where
   -- what is found is among the names
   pub names_digest_from : (e : T) (d : List ℕ) → names_digest node e d ≡ true → Contains (node e).names d
   names_digest_from e d t =
-      let s = list_any_some (λ c. bytes_eq c d) (node e).names t in
-      subst (λ c. Contains (node e).names c) ((bytes_eq-Decides s.0 d).0 s.2) s.1
+      let (c, named, same) = list_any_some (λ c. bytes_eq c d) (node e).names t in
+      subst (λ c. Contains (node e).names c) ((bytes_eq-Decides c d).0 same) named
 
   -- a digest that an entry names is found
   pub is_named_of : (E : List T) (d : List ℕ) → IsNamedIn node E d → is_named node E d ≡ true
@@ -28,8 +28,8 @@ module _ {T : Type 0} (node : T → Node) where
   -- what is found is named
   pub is_named_from : (E : List T) (d : List ℕ) → is_named node E d ≡ true → IsNamedIn node E d
   is_named_from E d t =
-      let r = list_any_some (λ g. names_digest node g d) E t in
-      (r.0, r.1, names_digest_from r.0 d r.2)
+      let (g, there, names) = list_any_some (λ g. names_digest node g d) E t in
+      (g, there, names_digest_from g d names)
 
   -- a digest that an entry bears is found
   pub has_digest_of : (E : List T) (d : List ℕ) → IsBorneIn node E d → has_digest node E d ≡ true
@@ -40,5 +40,5 @@ module _ {T : Type 0} (node : T → Node) where
   -- what is found is borne
   pub has_digest_from : (E : List T) (d : List ℕ) → has_digest node E d ≡ true → IsBorneIn node E d
   has_digest_from E d t =
-      let r = list_any_some (λ g. bytes_eq (node g).digest d) E t in
-      (r.0, r.1, (bytes_eq-Decides (node r.0).digest d).0 r.2)
+      let (g, there, same) = list_any_some (λ g. bytes_eq (node g).digest d) E t in
+      (g, there, (bytes_eq-Decides (node g).digest d).0 same)

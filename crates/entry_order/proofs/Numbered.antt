@@ -19,12 +19,12 @@ module _ {T : Type 0} (node : T → Node) where
       ((i p : ℕ) → Contains (parents i) p →
       (e : T) × (f : T) × (slice_get S i ≡ Some e) × (slice_get S p ≡ Some f) × Names node e f) → Descends parents
   descends_by_stamp S parents sorted sound arrows i p c =
-      let r = arrows i p c in
-      let up = stamp_rises node S r.0 r.1 (sound r.0 (at_place S i r.0 r.2)) (at_place S p r.1 r.3) r.4 in
+      let (e, f, at_i, at_p, names) = arrows i p c in
+      let up = stamp_rises node S e f (sound e (at_place S i e at_i)) (at_place S p f at_p) names in
       let high : i ≤ p → ⊥ =
       λ le.
-      let s = sorted i p r.0 le (slice_get_within S p r.1 r.3) in
-      let a = ap (λ e. (node e).stamp) (get_or_from_slice_get S i r.0 r.0 r.2) in
-      let b = ap (λ e. (node e).stamp) (get_or_from_slice_get S p r.1 r.0 r.3) in
+      let s = sorted i p e le (slice_get_within S p f at_p) in
+      let a = ap (λ e. (node e).stamp) (get_or_from_slice_get S i e e at_i) in
+      let b = ap (λ e. (node e).stamp) (get_or_from_slice_get S p f e at_p) in
       omega arith in
       elim (cases_lt p i) [ inl l ↦ l | inr l ↦ absurd (high l) ]

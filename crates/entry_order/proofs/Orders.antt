@@ -28,7 +28,7 @@ pub member_split : {X : Type 0} (xs : List X) (x : X) → Contains xs x →
 member_split [] x c = absurd (Contains-none x c)
 member_split {X} (z ∷ xs) x c =
     let deeper : Contains xs x → (before : List X) × (later : List X) × (z ∷ xs ≡ before ++ x ∷ later) =
-    λ l. let r = member_split xs x l in (z ∷ r.0, r.1, ap (λ ys. z ∷ ys) r.2) in
+    λ l. let (before, later, is) = member_split xs x l in (z ∷ before, later, ap (λ ys. z ∷ ys) is) in
     elim (Contains-cons_cases z xs x c) [ inl s ↦ ([], xs, ap (λ u. u ∷ xs) s) | inr l ↦ deeper l ]
 
 module _ {T : Type 0} where
@@ -65,19 +65,19 @@ module _ {T : Type 0} where
   -- what was sent in the world a machine sent
   pub sent_in_cases : (w : World T) (e : T) → Contains (sent_in w) e → (m : ℕ) × Contains (history w m) (Sent e)
   sent_in_cases w e c =
-      let r = Contains-flat_map_cases (λ (a : Machine T). sent a.history) w e c in
-      let at : slice_get w r.1.0 ≡ Some r.0 = slice_get_read w (length w) r.1.0 r.0 refl r.1.1 (sym r.1.2) in (
-        r.1.0,
+      let (a, (m, within, is), there) = Contains-flat_map_cases (λ (a : Machine T). sent a.history) w e c in
+      let at : slice_get w m ≡ Some a = slice_get_read w (length w) m a refl within (sym is) in (
+        m,
         subst (λ (o : Option (Machine T)). Contains (history_of o) (Sent e)) (sym at)
-            (Contains-sent_cases r.0.history e r.2),
+            (Contains-sent_cases a.history e there),
       )
 
   -- each entry that was sent was sent after some history
   pub was_sent : (w : World T) (e : T) → Contains (sent_in w) e → (past : List (Event T)) × WasSentAfter w past e
   was_sent w e c =
-      let r = sent_in_cases w e c in
-      let s = member_split (history w r.0) (Sent e) r.1 in
-      (s.0, (r.0, s.1, s.2))
+      let (m, there) = sent_in_cases w e c in
+      let (past, later, is) = member_split (history w m) (Sent e) there in
+      (past, (m, later, is))
 
   -- what was sent after a history was sent
   pub sent_from_after : (w : World T) (past : List (Event T)) (e : T) → WasSentAfter w past e → Contains (sent_in w) e
@@ -90,7 +90,7 @@ module _ {T : Type 0} where
 join : {T : Type 0} (node : T → Node) (E : List T) (f : T) (bs : List T) (g : T) (cs : List T) (e : T) →
     IsPath node E f bs g → Contains E g → IsPath node E g cs e → IsPath node E f (bs ++ g ∷ cs) e
 join node E f [] g cs e p c q = (c, p, q)
-join node E f (b ∷ bs) g cs e p c q = (p.0, p.1, join node E b bs g cs e p.2 c q)
+join node E f (b ∷ bs) g cs e (there, names, rest) c q = (there, names, join node E b bs g cs e rest c q)
 
 -- who held g held what g's maker held
 pub along : {T : Type 0} (w : World T) (f g e : T) → HeldBefore w f g → HeldBefore w g e → HeldBefore w f e
@@ -102,10 +102,10 @@ module _ {T : Type 0} (node : T → Node) (w : World T) (orderly : IsOrderly nod
   pub held_was_sent : (past : List (Event T)) (e : T) → WasSentAfter w past e → (f : T) → Contains (held past) f →
       Contains (sent_in w) f
   held_was_sent past e (m, later, is) f c =
-      let r = Contains-map_cases entry_of past f c in
-      of_event r.0
-      (subst (λ (h : List (Event T)). Contains h r.0) (sym is)
-      (Contains-append_left past (Sent e ∷ later) r.0 r.1)) r.2
+      let (x, there, same) = Contains-map_cases entry_of past f c in
+      of_event x
+      (subst (λ (h : List (Event T)). Contains h x) (sym is)
+      (Contains-append_left past (Sent e ∷ later) x there)) same
     where
       of_event : (x : Event T) → Contains (history w m) x → entry_of x ≡ f → Contains (sent_in w) f
       of_event (Sent g) h s = subst (λ (u : T). Contains (sent_in w) u) s (sent_in_from w m g h)
@@ -113,7 +113,7 @@ module _ {T : Type 0} (node : T → Node) (w : World T) (orderly : IsOrderly nod
 
   -- what a legal history asks of e
   pub next_of : (past : List (Event T)) (e : T) (s : WasSentAfter w past e) → IsNext node s.0 past e
-  next_of past e s = (orderly.legal s.0 past (Sent e) s.1 s.2).1
+  next_of past e (m, later, is) = (orderly.legal m past (Sent e) later is).1
 
   -- stamps rise from an entry that its maker held
   pub held_lower : (past : List (Event T)) (e : T) → WasSentAfter w past e → (f : T) → Contains (held past) f →
@@ -130,15 +130,15 @@ module _ {T : Type 0} (node : T → Node) (w : World T) (orderly : IsOrderly nod
     pub named_held : (past : List (Event T)) (e : T) → WasSentAfter w past e → (f : T) → Contains (sent_in w) f →
         Names node e f → Contains (held past) f
     named_held past e s f c n =
-        let r = frontier_entry node (held past) (node f).digest
+        let (g, there, same) = frontier_entry node (held past) (node f).digest
         (subst (λ (ds : List (List ℕ)). Contains ds (node f).digest) (next_of past e s).names n) in
-        subst (λ (u : T). Contains (held past) u) (distinct r.0 f (held_was_sent past e s r.0 r.1) c r.2) r.1
+        subst (λ (u : T). Contains (held past) u) (distinct g f (held_was_sent past e s g there) c same) there
 
     -- stamps rise along names
     pub rises : (f g : T) → Contains (sent_in w) f → Contains (sent_in w) g → Names node g f →
         (node f).stamp < (node g).stamp
     rises f g cf cg n =
-        let r = was_sent w g cg in held_lower r.0 g r.1 f (named_held r.0 g r.1 f cf n)
+        let (past, s) = was_sent w g cg in held_lower past g s f (named_held past g s f cf n)
 
     -- from each entry that e's maker held there is a path to e: it is in the frontier, or a later one held names it
     covered_by : (past : List (Event T)) (e : T) → WasSentAfter w past e → (fuel : ℕ) (f : T) →
@@ -153,11 +153,11 @@ module _ {T : Type 0} (node : T → Node) (w : World T) (orderly : IsOrderly nod
           (in_frontier node (held past) f c free),
     )
     covered_by past e s fuel f c enough true named from =
-        let n = is_named_from node (held past) (node f).digest named in
-        let cg = held_was_sent past e s n.0 n.1 in
-        let up = rises f n.0 (held_was_sent past e s f c) cg n.2 in
-        let rest = from n.0 n.1 (omega arith) in
-        (n.0 ∷ rest.0, (cg, n.2, rest.1))
+        let (g, there, names) = is_named_from node (held past) (node f).digest named in
+        let cg = held_was_sent past e s g there in
+        let up = rises f g (held_was_sent past e s f c) cg names in
+        let (between, path) = from g there (omega arith) in
+        (g ∷ between, (cg, names, path))
 
     -- so it is by induction on how far the stamp is below the greatest
     covered : (past : List (Event T)) (e : T) → WasSentAfter w past e → (fuel : ℕ) (f : T) →
@@ -176,26 +176,28 @@ module _ {T : Type 0} (node : T → Node) (w : World T) (orderly : IsOrderly nod
     path_from_held : (f e : T) → HeldBefore w f e → (between : List T) × IsPath node (sent_in w) f between e
     path_from_held f e (itself past s c) = reached past e s f c
     path_from_held f e (descendant {g = g} past s c h) =
-        let p = path_from_held f g h in
-        let q = reached past e s g c in
-        (p.0 ++ g ∷ q.0, join node (sent_in w) f p.0 g q.0 e p.1 (held_was_sent past e s g c) q.1)
+        let (front, to_g) = path_from_held f g h in
+        let (back, to_e) = reached past e s g c in
+        (front ++ g ∷ back, join node (sent_in w) f front g back e to_g (held_was_sent past e s g c) to_e)
 
     -- what an entry names was held before it
     held_from_name : (f e : T) → Contains (sent_in w) f → Contains (sent_in w) e → Names node e f → HeldBefore w f e
-    held_from_name f e cf ce n = let r = was_sent w e ce in itself r.0 r.1 (named_held r.0 e r.1 f cf n)
+    held_from_name f e cf ce n = let (past, s) = was_sent w e ce in itself past s (named_held past e s f cf n)
 
     -- and so was each entry on a path to it
     held_from_path : (f : T) (between : List T) (e : T) → Contains (sent_in w) f → Contains (sent_in w) e →
         IsPath node (sent_in w) f between e → HeldBefore w f e
     held_from_path f [] e cf ce n = held_from_name f e cf ce n
-    held_from_path f (g ∷ gs) e cf ce p =
-        along w f g e (held_from_name f g cf p.0 p.1) (held_from_path g gs e p.0 ce p.2)
+    held_from_path f (g ∷ gs) e cf ce (there, names, rest) =
+        along w f g e (held_from_name f g cf there names) (held_from_path g gs e there ce rest)
 
     -- both ways together
     pub one_order : (f e : T) → Contains (sent_in w) f → Contains (sent_in w) e →
         Precedes node (sent_in w) f e ↔ HeldBefore w f e
-    one_order f e cf ce =
-        (λ p. held_from_path f p.2 e cf ce p.3, λ h. let p = path_from_held f e h in (cf, ce, p.0, p.1))
+    one_order f e cf ce = (
+      λ (_, _, between, path). held_from_path f between e cf ce path,
+      λ h. let (between, path) = path_from_held f e h in (cf, ce, between, path),
+    )
 
 -- the law of names
 pub names_were_held : {T : Type 0} (node : T → Node) → NamesWereHeld node

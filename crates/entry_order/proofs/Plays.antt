@@ -109,8 +109,8 @@ module _ {T : Type 0} (node : T → Node) (w : World T) where
     -- what a machine sent has it as its maker
     made_by : (from : ℕ) (e : T) → Contains (sent (history w from)) e → (node e).maker ≡ from
     made_by from e c =
-        let s = member_split (history w from) (Sent e) (Contains-sent_cases (history w from) e c) in
-        (orderly.legal from s.0 (Sent e) s.1 s.2).1.maker
+        let (past, later, is) = member_split (history w from) (Sent e) (Contains-sent_cases (history w from) e c) in
+        (orderly.legal from past (Sent e) later is).1.maker
 
     -- an entry found by its number was sent
     nth_was_sent : (from number : ℕ) (e : T) → slice_get (sent (history w from)) number ≡ Some e →

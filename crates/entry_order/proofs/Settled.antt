@@ -41,12 +41,12 @@ module _ (parents : ℕ → List ℕ) where
   ancestor_from_reaches : (n y x : ℕ) → reaches parents n y x ≡ true → IsAncestor parents y x
   ancestor_from_reaches zero y x e = absurd (true≢false (sym e))
   ancestor_from_reaches (suc n) y x e =
-      let r = list_any_some (λ z. (z == y) || reaches parents n y z) (parents x) e in
-      let deeper : reaches parents n y r.0 ≡ true → IsAncestor parents y x = λ h. let w =
-      ancestor_from_reaches n y r.0 h in (r.0 ∷ w.0, (r.1, w.1)) in
-      let here : (r.0 == y) ≡ true → IsAncestor parents y x =
-      λ h. ([], subst (λ (u : ℕ). Contains (parents x) u) (eqb-true r.0 y h) r.1) in
-      elim (or_cases (r.0 == y) (reaches parents n y r.0) r.2) [ inl h ↦ here h | inr h ↦ deeper h ]
+      let (z, arrow, test) = list_any_some (λ z. (z == y) || reaches parents n y z) (parents x) e in
+      let deeper : reaches parents n y z ≡ true → IsAncestor parents y x =
+      λ h. let (zs, walk) = ancestor_from_reaches n y z h in (z ∷ zs, (arrow, walk)) in
+      let here : (z == y) ≡ true → IsAncestor parents y x =
+      λ h. ([], subst (λ (u : ℕ). Contains (parents x) u) (eqb-true z y h) arrow) in
+      elim (or_cases (z == y) (reaches parents n y z) test) [ inl h ↦ here h | inr h ↦ deeper h ]
 
   module _ (descends : Descends parents) where
     -- and an ancestor is reached within as many arrows as the place's number
@@ -56,10 +56,10 @@ module _ (parents : ℕ → List ℕ) where
     reaches_from_walk (suc n) y x [] l w =
         list_any_of (λ z. (z == y) || reaches parents n y z) (parents x) y w
         (or_left (y == y) (reaches parents n y y) (eq-eqb y y refl))
-    reaches_from_walk (suc n) y x (z ∷ zs) l w =
-        let d = descends x z w.0 in
-        list_any_of (λ z. (z == y) || reaches parents n y z) (parents x) z w.0
-        (or_right (z == y) (reaches parents n y z) (reaches_from_walk n y z zs (omega arith) w.1))
+    reaches_from_walk (suc n) y x (z ∷ zs) l (arrow, walk) =
+        let d = descends x z arrow in
+        list_any_of (λ z. (z == y) || reaches parents n y z) (parents x) z arrow
+        (or_right (z == y) (reaches parents n y z) (reaches_from_walk n y z zs (omega arith) walk))
 
     module _ (ragged : ℕ → Bool) where
       -- a whole place isn't ragged
@@ -80,11 +80,11 @@ module _ (parents : ℕ → List ℕ) where
       clean_ancestor (suc n) x l e y [] w =
           let parts = and_parts (not (ragged x)) (list_all (λ z. is_whole parents ragged n z) (parents x)) e in
           clean_itself n y (list_all_each (λ z. is_whole parents ragged n z) (parents x) parts.1 y w)
-      clean_ancestor (suc n) x l e y (z ∷ zs) w =
+      clean_ancestor (suc n) x l e y (z ∷ zs) (arrow, walk) =
           let parts = and_parts (not (ragged x)) (list_all (λ z. is_whole parents ragged n z) (parents x)) e in
-          let d = descends x z w.0 in
+          let d = descends x z arrow in
           clean_ancestor n z (omega arith)
-          (list_all_each (λ z. is_whole parents ragged n z) (parents x) parts.1 z w.0) y zs w.1
+          (list_all_each (λ z. is_whole parents ragged n z) (parents x) parts.1 z arrow) y zs walk
 
       -- and where none is, the place is whole
       is_whole_from_clean : (n x : ℕ) → IsClean x → is_whole parents ragged n x ≡ true
@@ -115,7 +115,7 @@ walk_on parents x (v ∷ zs) y z w c = (w.0, walk_on parents v zs y z w.1 c)
 path_on : {T : Type 0} (node : T → Node) (S : List T) (f : T) (gs : List T) (g e : T) → IsPath node S f gs g →
     Contains S g → Names node e g → IsPath node S f (gs ++ g ∷ []) e
 path_on node S f [] g e p c n = (c, p, n)
-path_on node S f (h ∷ gs) g e p c n = (p.0, p.1, path_on node S h gs g e p.2 c n)
+path_on node S f (h ∷ gs) g e (there, names, rest) c n = (there, names, path_on node S h gs g e rest c n)
 
 module _ {T : Type 0} (node : T → Node) (machines : ℕ) (S : List T) (parents : ℕ → List ℕ) (ragged : ℕ → Bool)
     (graph : IsGraphOf node S parents ragged) where
@@ -123,22 +123,21 @@ module _ {T : Type 0} (node : T → Node) (machines : ℕ) (S : List T) (parents
   path_from_walk : (x y : ℕ) (zs : List ℕ) (e f : T) → slice_get S x ≡ Some e → slice_get S y ≡ Some f →
       IsWalk parents x zs y → (gs : List T) × IsPath node S f gs e
   path_from_walk x y [] e f ex fy w = ([], (graph.arrows x y e f ex fy).0 w)
-  path_from_walk x y (z ∷ zs) e f ex fy w =
-      let g = graph.inside x z w.0 in
-      let rest = path_from_walk z y zs g.0 f g.1 fy w.1 in (
-        rest.0 ++ g.0 ∷ [],
-        path_on node S f rest.0 g.0 e rest.1 (at_place S z g.0 g.1)
-            ((graph.arrows x z e g.0 ex g.1).0 w.0),
+  path_from_walk x y (z ∷ zs) e f ex fy (arrow, walk) =
+      let (g, gz) = graph.inside x z arrow in
+      let (gs, path) = path_from_walk z y zs g f gz fy walk in (
+        gs ++ g ∷ [],
+        path_on node S f gs g e path (at_place S z g gz) ((graph.arrows x z e g ex gz).0 arrow),
       )
 
   -- and a path is a walk
   walk_from_path : (x y : ℕ) (e f : T) (gs : List T) → slice_get S x ≡ Some e → slice_get S y ≡ Some f →
       IsPath node S f gs e → IsAncestor parents y x
   walk_from_path x y e f [] ex fy n = ([], (graph.arrows x y e f ex fy).1 n)
-  walk_from_path x y e f (g ∷ gs) ex fy p =
-      let z = place_of S g p.0 in
-      let rest = walk_from_path x z.0 e g gs ex z.1 p.2 in
-      (rest.0 ++ z.0 ∷ [], walk_on parents x rest.0 z.0 y rest.1 ((graph.arrows z.0 y g f z.1 fy).1 p.1))
+  walk_from_path x y e f (g ∷ gs) ex fy (there, names, path) =
+      let (z, gz) = place_of S g there in
+      let (zs, walk) = walk_from_path x z e g gs ex gz path in
+      (zs ++ z ∷ [], walk_on parents x zs z y walk ((graph.arrows z y g f gz fy).1 names))
 
   module _ (y x : ℕ) (f e : T) (fy : slice_get S y ≡ Some f) (ex : slice_get S x ≡ Some e) where
     -- an entry whose place and its ancestors aren't ragged is whole
@@ -146,8 +145,8 @@ module _ {T : Type 0} (node : T → Node) (machines : ℕ) (S : List T) (parents
     whole_from_clean clean = record {
       itself = (graph.gaps_shown x e ex).0 clean.0;
       ancestors =
-          λ g p. let z = place_of S g p.0 in
-          (graph.gaps_shown z.0 g z.1).0 (clean.1 z.0 (walk_from_path x z.0 e g p.2 ex z.1 p.3));
+          λ g (there, _, gs, path). let (z, gz) = place_of S g there in
+          (graph.gaps_shown z g gz).0 (clean.1 z (walk_from_path x z e g gs ex gz path));
     }
 
     -- an ancestor is a survivor's place
@@ -159,23 +158,23 @@ module _ {T : Type 0} (node : T → Node) (machines : ℕ) (S : List T) (parents
     clean_from_whole : IsWhole node S e → IsClean parents graph.descends ragged x
     clean_from_whole whole = (
       (graph.gaps_shown x e ex).1 whole.itself,
-      λ z a. let g = is_inside z a.0 x a.1 in
-          let p = path_from_walk x z a.0 e g.0 ex g.1 a.1 in
-          (graph.gaps_shown z g.0 g.1).1 (whole.ancestors g.0 (at_place S z g.0 g.1, at_place S x e ex, p.0, p.1)),
+      λ z (zs, walk). let (g, gz) = is_inside z zs x walk in
+          let (gs, path) = path_from_walk x z zs e g ex gz walk in
+          (graph.gaps_shown z g gz).1 (whole.ancestors g (at_place S z g gz, at_place S x e ex, gs, path)),
     )
 
     -- a place that is reached is that of an entry that precedes
     pub precedes_from_reaches : reaches parents x y x ≡ true → Precedes node S f e
     precedes_from_reaches r =
-        let a = ancestor_from_reaches parents x y x r in
-        let p = path_from_walk x y a.0 e f ex fy a.1 in
-        (at_place S y f fy, at_place S x e ex, p.0, p.1)
+        let (zs, walk) = ancestor_from_reaches parents x y x r in
+        let (gs, path) = path_from_walk x y zs e f ex fy walk in
+        (at_place S y f fy, at_place S x e ex, gs, path)
 
     -- the place of an entry that precedes is reached
     pub reaches_from_precedes : Precedes node S f e → reaches parents x y x ≡ true
-    reaches_from_precedes p =
-        let a = walk_from_path x y e f p.2 ex fy p.3 in
-        reaches_from_walk parents graph.descends x y x a.0 (omega arith) a.1
+    reaches_from_precedes (_, _, gs, path) =
+        let (zs, walk) = walk_from_path x y e f gs ex fy path in
+        reaches_from_walk parents graph.descends x y x zs (omega arith) walk
 
     -- where the graph finds x whole, it is
     pub whole_from_test : is_whole parents ragged x x ≡ true → IsWhole node S e

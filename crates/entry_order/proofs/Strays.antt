@@ -26,10 +26,10 @@ module _ {T : Type 0} (node : T → Node) where
   -- what is found is a stray
   is_stray_from : (given : List T) (e : T) → is_stray node given e ≡ true → IsStray node given e
   is_stray_from given e t =
-      let r = list_any_some
+      let (g, there, test) = list_any_some
       (λ g. names_digest node e (node g).digest && nat_le (node e).stamp (node g).stamp) given t in
-      let parts = and_parts (names_digest node e (node r.0).digest) (nat_le (node e).stamp (node r.0).stamp) r.2 in
-      (r.0, r.1, names_digest_from node e (node r.0).digest parts.0, leb-true (node e).stamp (node r.0).stamp parts.1)
+      let parts = and_parts (names_digest node e (node g).digest) (nat_le (node e).stamp (node g).stamp) test in
+      (g, there, names_digest_from node e (node g).digest parts.0, leb-true (node e).stamp (node g).stamp parts.1)
 
   -- what is no stray is not found to be one
   pub no_stray_from : (given : List T) (e : T) → (¬ (IsStray node given e)) → is_stray node given e ≡ false
@@ -58,13 +58,14 @@ module _ {T : Type 0} (node : T → Node) where
       (node f).stamp < (node e).stamp
   rises_along given f [] e cf ce n =
       stamp_rises given e f ((survivors_are_no_strays given e).0 ce).1 ((survivors_are_no_strays given f).0 cf).0 n
-  rises_along given f (g ∷ gs) e cf ce p =
+  rises_along given f (g ∷ gs) e cf ce (there, names, path) =
       let first =
-      stamp_rises given g f ((survivors_are_no_strays given g).0 p.0).1
-      ((survivors_are_no_strays given f).0 cf).0 p.1 in
-      let rest = rises_along given g gs e p.0 ce p.2 in
+      stamp_rises given g f ((survivors_are_no_strays given g).0 there).1
+      ((survivors_are_no_strays given f).0 cf).0 names in
+      let rest = rises_along given g gs e there ce path in
       omega arith
 
   -- so no path leads back
   pub survivors_have_no_cycle : SurvivorsHaveNoCycle node
-  survivors_have_no_cycle given e p = let rise = rises_along given e p.2 e p.0 p.1 p.3 in absurd (omega arith)
+  survivors_have_no_cycle given e (there, here, gs, path) =
+      absurd (omega (arith, rises_along given e gs e there here path))
