@@ -50,8 +50,8 @@ module _ (c : List ℕ) (m n : ℕ) where
   raised_keeps a =
       elim raised_cases [
         | inl e ↦ (let s = ap (λ d. slice_index d a) e in omega arith)
-        | inr r ↦ elim
-            (cases_eq a m) [ inl e ↦ at r.0 r.1 r.2 e | inr e ↦ other r.2 e ]
+        | inr (inside, low, is) ↦ elim
+            (cases_eq a m) [ inl e ↦ at inside low is e | inr e ↦ other is e ]
       ]
     where
       -- the raised count is greater than it was
@@ -86,8 +86,8 @@ module _ (c : List ℕ) (m n : ℕ) where
   raised_from a i l =
       elim raised_cases [
         | inl e ↦ inl (let s = ap (λ d. slice_index d a) e in omega arith)
-        | inr r ↦ elim
-            (cases_eq a m) [ inl e ↦ inr (e, at r.0 r.2 e) | inr e ↦ inl (other r.2 e) ]
+        | inr (inside, low, is) ↦ elim
+            (cases_eq a m) [ inl e ↦ inr (e, at inside is e) | inr e ↦ inl (other is e) ]
       ]
     where
       -- below the raised count is what is at most the number
@@ -206,7 +206,7 @@ module _ {T : Type 0} (node : T → Node) where
         | inl g ↦ elim
             (raised_from c (node (entry_of z)).maker
             (node (entry_of z)).number a i g) [ inl h ↦ inl h | inr r ↦ inr (z, Contains-head z p, r.0, r.1) ]
-        | inr r ↦ inr (r.0, Contains-later z p r.0 r.1, r.2, r.3)
+        | inr (x, there, maker, low) ↦ inr (x, Contains-later z p x there, maker, low)
       ]
 
 -- ---- what is counted
@@ -219,42 +219,42 @@ module _ {T : Type 0} (node : T → Node) (w : World T) (orderly : IsOrderly nod
   -- the entry with a number was sent after as many others
   was_sent_after : (a i : ℕ) (x : T) → IsNth a i x →
       (p : List (Event T)) × (s : WasSentAfter w p x) × (length (sent p) ≡ i) × (s.0 ≡ a)
-  was_sent_after a i x e = let r = nth_split (history w a) i x e in (r.0, (a, r.1, r.2), r.3, refl)
+  was_sent_after a i x e = let (p, l, split, count) = nth_split (history w a) i x e in (p, (a, l, split), count, refl)
 
   -- its maker and its number say where it is
   is_own : (a i : ℕ) (x : T) → IsNth a i x → ((node x).maker ≡ a) × ((node x).number ≡ i)
   is_own a i x e =
-      let r = nth_split (history w a) i x e in let n = next_of node w orderly r.0 x (a, r.1, r.2) in
-      (n.maker, n.number ∙ r.3)
+      let (p, l, split, count) = nth_split (history w a) i x e in let n = next_of node w orderly p x (a, l, split) in
+      (n.maker, n.number ∙ count)
 
   -- each entry that was sent is the one with its number
   is_nth : (x : T) → Contains (sent_in w) x → IsNth (node x).maker (node x).number x
   is_nth x c =
-      let s = was_sent w x c in
-      let n = next_of node w orderly s.0 x s.1 in
+      let (past, (m, later, at)) = was_sent w x c in
+      let n = next_of node w orderly past x (m, later, at) in
       subst (λ a. IsNth a (node x).number x) (sym n.maker)
-      (ap (λ h. slice_get (sent h) (node x).number) s.1.2 ∙ ap (slice_get (sent (s.0 ++ Sent x ∷ s.1.1))) n.number
-      ∙ nth_of_sent s.0 x s.1.1)
+      (ap (λ h. slice_get (sent h) (node x).number) at ∙ ap (slice_get (sent (past ++ Sent x ∷ later))) n.number
+      ∙ nth_of_sent past x later)
 
   -- the entry with a number was sent
   nth_was_sent : (a i : ℕ) (x : T) → IsNth a i x → Contains (sent_in w) x
-  nth_was_sent a i x e = let r = nth_split (history w a) i x e in sent_from_after w r.0 x (a, r.1, r.2)
+  nth_was_sent a i x e = let (p, l, split, count) = nth_split (history w a) i x e in sent_from_after w p x (a, l, split)
 
   -- an earlier entry of the same maker was held
   own_earlier : (a i j : ℕ) (y z : T) → IsNth a i y → IsNth a j z → i < j → HeldBefore w y z
   own_earlier a i j y z ey ez l =
-      let p = nth_split (history w a) i y ey in
-      let q = nth_split (history w a) j z ez in
-      itself q.0 (a, q.1, q.2)
-      (Contains-map entry_of q.0 (Sent y) (earlier_held p.0 q.0 y z p.1 q.1 (sym p.2 ∙ q.2) (omega arith)))
+      let (p, k, split_y, count_y) = nth_split (history w a) i y ey in
+      let (q, m, split_z, count_z) = nth_split (history w a) j z ez in
+      let there = earlier_held p q y z k m (sym split_y ∙ split_z) (omega (arith, count_y, count_z)) in
+      itself q (a, m, split_z) (Contains-map entry_of q (Sent y) there)
 
   -- what an earlier entry's maker held, it held at a later one too
   held_later : (a i j : ℕ) (y z : T) (p : List (Event T)) (l : List (Event T)) → history w a ≡ p ++ Sent z ∷ l →
       length (sent p) ≡ j → i ≤ j → (q : List (Event T)) (m : List (Event T)) → history w a ≡ q ++ Sent y ∷ m →
       length (sent q) ≡ i → (f : T) → Contains (held q) f → (x : Event T) × Contains p x × (entry_of x ≡ f)
   held_later a i j y z p l is n le q m at o f c =
-      let r = Contains-map_cases entry_of q f c in
-      (r.0, past_grows q p y z m l r.0 (sym at ∙ is) (omega arith) r.1, r.2)
+      let (event, there, same) = Contains-map_cases entry_of q f c in
+      (event, past_grows q p y z m l event (sym at ∙ is) (omega arith) there, same)
 
   module _ (e : T) where
     -- each entry that is counted was held before e
@@ -276,16 +276,16 @@ module _ {T : Type 0} (node : T → Node) (w : World T) (orderly : IsOrderly nod
         sound a i x l nth =
             let new : (z : Event T) × Contains p z × (a ≡ (node (entry_of z)).maker)
             × (i ≤ (node (entry_of z)).number) → HeldBefore w x e =
-            λ r.
-            let z = entry_of r.0 in
+            λ (event, there, maker, low).
+            let z = entry_of event in
             let zn : IsNth a (node z).number z =
-            subst (λ b. IsNth b (node z).number z) (sym r.2) (is_nth z (each r.0 r.1).1) in
+            subst (λ b. IsNth b (node z).number z) (sym maker) (is_nth z (each event there).1) in
             let same : i ≡ (node z).number → HeldBefore w x e =
             λ s. let both : Some z ≡ Some x =
             sym zn ∙ ap (slice_get (sent (history w a))) (sym s) ∙ nth in let one : z ≡ x = cc in
-            subst (λ u. HeldBefore w u e) one (each r.0 r.1).0 in
+            subst (λ u. HeldBefore w u e) one (each event there).0 in
             let below : i < (node z).number → HeldBefore w x e =
-            λ s. along w x z e (own_earlier a i (node z).number x z nth zn s) (each r.0 r.1).0 in
+            λ s. along w x z e (own_earlier a i (node z).number x z nth zn s) (each event there).0 in
             elim (cases_eq i (node z).number) [ inl s ↦ same s | inr s ↦ below (omega arith) ] in
             elim (take_all_from node p c a i l) [ inl old ↦ good.0 a i x old nth | inr r ↦ new r ]
 
@@ -295,10 +295,10 @@ module _ {T : Type 0} (node : T → Node) (w : World T) (orderly : IsOrderly nod
             let over : length (sent (history w a)) < slice_index (take_all node p c) a → ⊥ =
             λ l. elim (take_all_from node p c a (length (sent (history w a))) l) [
               | inl old ↦ (let g = good.1 a in omega arith)
-              | inr r ↦
-                  (let z = entry_of r.0 in let zn : IsNth a (node z).number z =
-                  subst (λ b. IsNth b (node z).number z) (sym r.2) (is_nth z (each r.0 r.1).1) in let inside =
-                  slice_get_within (sent (history w a)) (node z).number z zn in let le = r.3 in omega arith)
+              | inr (event, there, maker, low) ↦
+                  (let z = entry_of event in let zn : IsNth a (node z).number z =
+                  subst (λ b. IsNth b (node z).number z) (sym maker) (is_nth z (each event there).1) in let inside =
+                  slice_get_within (sent (history w a)) (node z).number z zn in omega arith)
             ] in
             elim (cases_lt (length (sent (history w a))) (slice_index (take_all node p c) a)) [
               | inl l ↦ absurd
@@ -320,18 +320,18 @@ module _ {T : Type 0} (node : T → Node) (w : World T) (orderly : IsOrderly nod
             let some = eqb-false (slice_index c place) 0 s in
             let n = slice_index c place - 1 in
             let g = good.1 place in
-            let z = some_at (sent (history w place)) n (omega arith) in
-            let p = nth_split (history w place) n z.0 z.1 in
-            let zheld : HeldBefore w z.0 e = good.0 place n z.0 (omega arith) z.1 in
-            let is : taken_in node a.history n c ≡ take_all node p.0 c =
-            ap (λ h. taken_in node h n c) (sym at ∙ p.2)
-            ∙ ap (λ m. taken_in node (p.0 ++ Sent z.0 ∷ p.1) m c) (sym p.3) ∙ taken_in_is node p.0 z.0 p.1 c in
+            let (z, nth_z) = some_at (sent (history w place)) n (omega arith) in
+            let (p, l, split, count) = nth_split (history w place) n z nth_z in
+            let zheld : HeldBefore w z e = good.0 place n z (omega arith) nth_z in
+            let is : taken_in node a.history n c ≡ take_all node p c =
+            ap (λ h. taken_in node h n c) (sym at ∙ split)
+            ∙ ap (λ m. taken_in node (p ++ Sent z ∷ l) m c) (sym count) ∙ taken_in_is node p z l c in
             subst (λ d. Sound d × InRange d) (sym is)
-            (sound_take_all p.0 c good (λ x h.
-            let held_x = Contains-map entry_of p.0 x h in (
-              along w (entry_of x) z.0 e
-                  (itself p.0 (place, p.1, p.2) held_x) zheld,
-              held_was_sent node w orderly p.0 z.0 (place, p.1, p.2)
+            (sound_take_all p c good (λ x h.
+            let held_x = Contains-map entry_of p x h in (
+              along w (entry_of x) z e
+                  (itself p (place, l, split) held_x) zheld,
+              held_was_sent node w orderly p z (place, l, split)
                   (entry_of x) held_x,
             )))
 
@@ -424,8 +424,8 @@ module _ {T : Type 0} (node : T → Node) (w : World T) (orderly : IsOrderly nod
   -- the maker of an entry that was sent is a machine of the world
   maker_in_world : (f : T) → Contains (sent_in w) f → (node f).maker < length w
   maker_in_world f c =
-      let s = was_sent w f c in let n = next_of node w orderly s.0 f s.1 in let l =
-      in_world w s.1.0 s.0 (Sent f) s.1.1 s.1.2 in let e = n.maker in omega arith
+      let (past, (m, later, at)) = was_sent w f c in let n = next_of node w orderly past f (m, later, at) in let l =
+      in_world w m past (Sent f) later at in let e = n.maker in omega arith
 
   module _ (e : T) where
     -- a machine's turn counts what was held when one of its counted entries was sent
@@ -443,16 +443,17 @@ module _ {T : Type 0} (node : T → Node) (w : World T) (orderly : IsOrderly nod
         by false s =
             let g = good b in
             let j = slice_index c b - 1 in
-            let z = some_at (sent (history w b)) j (omega arith) in
-            let p = nth_split (history w b) j z.0 z.1 in
-            let x = held_later node w orderly b n j h z.0 p.0 p.1 p.2 p.3 (omega arith) q m split number f held_f in
-            let is : taken_in node a.history j c ≡ take_all node p.0 c =
-            ap (λ h. taken_in node h j c) (sym at ∙ p.2)
-            ∙ ap (λ m. taken_in node (p.0 ++ Sent z.0 ∷ p.1) m c) (sym p.3) ∙ taken_in_is node p.0 z.0 p.1 c in
-            let covered : (node f).number < slice_index (take_all node p.0 c) (node f).maker =
+            let (z, nth_z) = some_at (sent (history w b)) j (omega arith) in
+            let (p, rest, split_z, count) = nth_split (history w b) j z nth_z in
+            let (x, there, same) =
+            held_later node w orderly b n j h z p rest split_z count (omega arith) q m split number f held_f in
+            let is : taken_in node a.history j c ≡ take_all node p c =
+            ap (λ h. taken_in node h j c) (sym at ∙ split_z)
+            ∙ ap (λ m. taken_in node (p ++ Sent z ∷ rest) m c) (sym count) ∙ taken_in_is node p z rest c in
+            let covered : (node f).number < slice_index (take_all node p c) (node f).maker =
             subst (λ u. (node u).maker < length c →
-            (node u).number < slice_index (take_all node p.0 c) (node u).maker) x.2
-            (take_all_covers node p.0 c x.0 x.1) inside in
+            (node u).number < slice_index (take_all node p c) (node u).maker) same
+            (take_all_covers node p c x there) inside in
             subst (λ d. (node f).number < slice_index d (node f).maker) (sym is) covered
 
     -- so does a round, for whichever machine
@@ -504,11 +505,11 @@ module _ {T : Type 0} (node : T → Node) (w : World T) (orderly : IsOrderly nod
       -- so they are sound
       first_good : Sound node w orderly e first × InRange node w orderly e first
       first_good =
-          let p = nth_split (history w b) j e nth in
-          subst (λ d. Sound node w orderly e d × InRange node w orderly e d) (sym (first_is p.0 p.1 p.2 p.3))
-          (sound_take_all node w orderly e p.0 (replicate (length w) 0) zeros_good (λ x h.
-          let held_x = Contains-map entry_of p.0 x h in
-          (itself p.0 (b, p.1, p.2) held_x, held_was_sent node w orderly p.0 e (b, p.1, p.2) (entry_of x) held_x)))
+          let (p, l, split, count) = nth_split (history w b) j e nth in
+          subst (λ d. Sound node w orderly e d × InRange node w orderly e d) (sym (first_is p l split count))
+          (sound_take_all node w orderly e p (replicate (length w) 0) zeros_good (λ x h.
+          let held_x = Contains-map entry_of p x h in
+          (itself p (b, l, split) held_x, held_was_sent node w orderly p e (b, l, split) (entry_of x) held_x)))
 
       -- there is one for each machine
       long : length first ≡ length w
@@ -518,42 +519,40 @@ module _ {T : Type 0} (node : T → Node) (w : World T) (orderly : IsOrderly nod
       -- who is at most so many links away is counted after so many rounds
       counted : (n : ℕ) (f : T) (gs : List T) → IsChain w f gs e → length gs ≤ n →
           (node f).number < slice_index (spread_times node n w first) (node f).maker
-      counted n f [] (past, s, c) l =
-          let own = is_own node w orderly b j e nth in
-          let nx = next_of node w orderly past e s in
-          let same : s.0 ≡ b = sym nx.maker ∙ own.0 in
-          let is : history w b ≡ past ++ Sent e ∷ s.1 = ap (history w) (sym same) ∙ s.2 in
-          let at = first_is past s.1 is (sym nx.number ∙ own.1) in
-          let x = Contains-map_cases entry_of past f c in
-          let inside = maker_in_world f (held_was_sent node w orderly past e s f c) in
+      counted n f [] (past, (m, later, split), c) l =
+          let (maker, number) = is_own node w orderly b j e nth in
+          let nx = next_of node w orderly past e (m, later, split) in
+          let same : m ≡ b = sym nx.maker ∙ maker in
+          let is : history w b ≡ past ++ Sent e ∷ later = ap (history w) (sym same) ∙ split in
+          let at = first_is past later is (sym nx.number ∙ number) in
+          let (x, there, is_f) = Contains-map_cases entry_of past f c in
+          let inside = maker_in_world f (held_was_sent node w orderly past e (m, later, split) f c) in
           let zeros = length-replicate {A = ℕ} (length w) 0 in
           let covered : (node f).number < slice_index (take_all node past (replicate (length w) 0)) (node f).maker =
           subst (λ u. (node u).maker < length {A = ℕ} (replicate (length w) 0) →
-          (node u).number < slice_index (take_all node past (replicate (length w) 0)) (node u).maker) x.2
-          (take_all_covers node past (replicate (length w) 0) x.0 x.1) (omega arith) in
+          (node u).number < slice_index (take_all node past (replicate (length w) 0)) (node u).maker) is_f
+          (take_all_covers node past (replicate (length w) 0) x there) (omega arith) in
           let kept = times_keeps node n w first (node f).maker in
           let now = ap (λ d. slice_index d (node f).maker) at in
           omega arith
       counted zero f (g ∷ gs) h l = absurd (omega arith)
-      counted (suc n) f (g ∷ gs) h l =
-          let s = h.0.1 in
-          let past = h.0.0 in
-          let before = counted n g gs h.1 (omega arith) in
-          let sent_g = sent_from_after w past g s in
-          let nx = next_of node w orderly past g s in
-          let is : history w (node g).maker ≡ past ++ Sent g ∷ s.1 = ap (history w) nx.maker ∙ s.2 in
-          let inside = maker_in_world f (held_was_sent node w orderly past g s f h.0.2) in
+      counted (suc n) f (g ∷ gs) ((past, (m, later, split), held_f), rest) l =
+          let before = counted n g gs rest (omega arith) in
+          let sent_g = sent_from_after w past g (m, later, split) in
+          let nx = next_of node w orderly past g (m, later, split) in
+          let is : history w (node g).maker ≡ past ++ Sent g ∷ later = ap (history w) nx.maker ∙ split in
+          let inside = maker_in_world f (held_was_sent node w orderly past g (m, later, split) f held_f) in
           let longer = times_length node n w first ∙ long in
           covers_spread w 0 (spread_times node n w first) (λ i. ap (slice_get w) (omega arith))
           (sound_times node w orderly e n first first_good) (node g).maker (node g).maker (omega arith)
           (maker_in_world g sent_g)
-          (node g).number g before (is_nth node w orderly g sent_g) past s.1 is (sym nx.number) f h.0.2 (omega arith)
+          (node g).number g before (is_nth node w orderly g sent_g) past later is (sym nx.number) f held_f (omega arith)
 
   -- stamps rise along a chain
   chain_stamps : (f : T) (gs : List T) (e : T) → IsChain w f gs e → (node f).stamp + length gs < (node e).stamp
   chain_stamps f [] e (past, s, c) = let l = held_lower node w orderly past e s f c in omega arith
-  chain_stamps f (g ∷ gs) e (h, rest) =
-      let l = held_lower node w orderly h.0 g h.1 f h.2 in let r = chain_stamps g gs e rest in omega arith
+  chain_stamps f (g ∷ gs) e ((past, s, held_f), rest) =
+      let l = held_lower node w orderly past g s f held_f in let r = chain_stamps g gs e rest in omega arith
 
   -- the count says whether the entry was held before
   pub is_held_before_right : (a i b j : ℕ) (f e : T) → slice_get (sent (history w a)) i ≡ Some f →
@@ -576,20 +575,19 @@ module _ {T : Type 0} (node : T → Node) (w : World T) (orderly : IsOrderly nod
       -- what was held before is counted
       complete : HeldBefore w f e → is_held_before node w a i b j ≡ true
       complete h =
-          let c = to_chain w f e h in
-          let own = is_own node w orderly a i f nf in
-          let up = chain_stamps f c.0 e c.1 in
+          let (gs, chain) = to_chain w f e h in
+          let (maker, number) = is_own node w orderly a i f nf in
+          let up = chain_stamps f gs e chain in
           let top =
           stamp_below node (held (history w b)) e
           (Contains-map entry_of (history w b) (Sent e)
           (Contains-sent_cases (history w b) e (let r = nth_was_sent node w orderly b j e ne in sent_here r))) in
-          let l = counted e b j ne (greatest_stamp node (held (history w b))) f c.0 c.1 (omega arith) in
+          let l = counted e b j ne (greatest_stamp node (held (history w b))) f gs chain (omega arith) in
           let m = ap
-          (slice_index (spread_times node (greatest_stamp node (held (history w b))) w (first e b j ne))) own.0 in
-          let n = own.1 in
+          (slice_index (spread_times node (greatest_stamp node (held (history w b))) w (first e b j ne))) maker in
           lt-ltb i
           (slice_index (spread_times node (greatest_stamp node (held (history w b))) w (first e b j ne)) a)
-          (omega arith)
+          (omega (arith, number))
         where
           -- e is among what its machine sent
           sent_here : Contains (sent_in w) e → Contains (sent (history w b)) e
