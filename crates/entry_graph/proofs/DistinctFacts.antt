@@ -68,15 +68,15 @@ module _ {T : Type 0} (node : T → Node) where
       elim (Contains-cons_cases x es e c) [
         | inl is ↦ here e (ap (λ z. (node z).digest) is)
         | inr h ↦
-            (let r = distinct_bears es e h in
-            elim (cases_Bool (bytes_eq (node r.0).digest (node x).digest)) [
-              | inl t ↦ here e (sym ((bytes_eq-Decides (node r.0).digest (node x).digest).0 t) ∙ r.2)
+            (let (g, there, same) = distinct_bears es e h in
+            elim (cases_Bool (bytes_eq (node g).digest (node x).digest)) [
+              | inl t ↦ here e (sym ((bytes_eq-Decides (node g).digest (node x).digest).0 t) ∙ same)
               | inr t ↦ (
-                r.0,
-                Contains-later x rest r.0
-                    (Contains-filter (apart x) (distinct node es) r.0 r.1
-                    (not_from_false (bytes_eq (node r.0).digest (node x).digest) t)),
-                r.2,
+                g,
+                Contains-later x rest g
+                    (Contains-filter (apart x) (distinct node es) g there
+                    (not_from_false (bytes_eq (node g).digest (node x).digest) t)),
+                same,
               )
             ])
       ]
@@ -99,8 +99,8 @@ module _ {T : Type 0} (node : T → Node) where
   distinct_again (x ∷ es) e g c same =
       elim (cases_Bool (has_digest node es (node e).digest)) [
         | inl t ↦
-            (let r = has_digest_from node es (node e).digest t in
-            ap (λ ys. x ∷ filter (apart x) ys) (distinct_again es e r.0 r.1 r.2))
+            (let (g, there, same) = has_digest_from node es (node e).digest t in
+            ap (λ ys. x ∷ filter (apart x) ys) (distinct_again es e g there same))
         | inr t ↦
             (let new : (f : T) → Contains es f → (node f).digest ≢ (node e).digest =
             λ f cf is. true≢false (sym (has_digest_of node es (node e).digest (f, cf, is)) ∙ t) in

@@ -83,32 +83,24 @@ module _ {T : Type 0} (node : T → Node) where
     λ t. elim (or_cases (has_pair es (pair_of e) && is_at (pair_cmp (pair_of e)) (m, n)) f (sym is ∙ t)) [
       | inl both ↦
           (let parts = and_parts (has_pair es (pair_of e)) (is_at (pair_cmp (pair_of e)) (m, n)) both in
-          let r = list_any_some (λ x. is_at (pair_cmp (pair_of x)) (pair_of e)) es parts.0 in
-          let first : pair_of r.0 ≡ (m, n) =
-          same_pair (pair_of r.0) (pair_of e) r.2 ∙ same_pair (pair_of e) (m, n) parts.1 in
+          let (a, there, test) = list_any_some (λ x. is_at (pair_cmp (pair_of x)) (pair_of e)) es parts.0 in
+          let first : pair_of a ≡ (m, n) =
+          same_pair (pair_of a) (pair_of e) test ∙ same_pair (pair_of e) (m, n) parts.1 in
           let last : pair_of e ≡ (m, n) = same_pair (pair_of e) (m, n) parts.1 in (
-            r.0,
+            a,
             e,
-            Contains-append_left es (e ∷ []) r.0 r.1,
+            Contains-append_left es (e ∷ []) a there,
             Contains-push es e,
-            (λ same. new (subst (λ x. Contains es x) same r.1)),
+            (λ same. new (subst (λ x. Contains es x) same there)),
             ap (λ (p : ℕ × ℕ). p.0) first,
             ap (λ (p : ℕ × ℕ). p.1) first,
             ap (λ (p : ℕ × ℕ). p.0) last,
             ap (λ (p : ℕ × ℕ). p.1) last,
           ))
       | inr old ↦
-          (let r = before.0 old in (
-            r.0,
-            r.1,
-            Contains-append_left es (e ∷ []) r.0 r.2,
-            Contains-append_left es (e ∷ []) r.1 r.3,
-            r.4,
-            r.5,
-            r.6,
-            r.7,
-            r.8,
-          ))
+          (let (a, b, in_a, in_b, ne, am, an, bm, bn) = before.0 old in
+          let left : (x : T) → Contains es x → Contains (es ++ e ∷ []) x = Contains-append_left es (e ∷ []) in
+          (a, b, left a in_a, left b in_b, ne, am, an, bm, bn))
     ],
     λ (a, b, ca, cb, ne, am, an, bm, bn).
         is

@@ -31,8 +31,7 @@ pub found_more : (table : List (List ℕ × ℕ)) (names : List (List ℕ)) (nam
 found_more table names name parents p is before q = (
   λ c. elim (Contains-push_cases parents p q c) [
     | inl h ↦
-        (let r = (before q).0 h in
-        (r.0, Contains-append_left names (name ∷ []) r.0 r.1, r.2))
+        (let (d, named, found) = (before q).0 h in (d, Contains-append_left names (name ∷ []) d named, found))
     | inr same ↦ (name, Contains-push names name, is ∙ ap (λ (n : ℕ). Some n) same)
   ],
   λ (d, c, at). elim (Contains-push_cases names name d c) [
@@ -49,7 +48,7 @@ pub lacking_more : (table : List (List ℕ × ℕ)) (names : List (List ℕ)) (n
     → ((q : ℕ) → Contains parents q ↔ ((d : List ℕ) × Contains names d × (number_at table d ≡ Some q))) → (q : ℕ)
     → Contains parents q ↔ ((d : List ℕ) × Contains (names ++ name ∷ []) d × (number_at table d ≡ Some q))
 lacking_more table names name parents none before q = (
-  λ h. let r = (before q).0 h in (r.0, Contains-append_left names (name ∷ []) r.0 r.1, r.2),
+  λ h. let (d, named, found) = (before q).0 h in (d, Contains-append_left names (name ∷ []) d named, found),
   λ (d, c, at). elim (Contains-push_cases names name d c) [
     | inl h ↦ (before q).1 (d, h, at)
     | inr same ↦ absurd (none-some q (sym none ∙ ap (number_at table) same ∙ at))
@@ -175,10 +174,10 @@ module _ {T : Type 0} (node : T → Node) (S : List T) (table : List (List ℕ �
   arrow_at : (i p : ℕ) (e : T) → slice_get S i ≡ Some e → Contains (parents_of links i) p
       → (f : T) × (slice_get S p ≡ Some f) × Names node e f
   arrow_at i p e ie c =
-      let at = linked_at i e ie in
-      let r = (at.2.parents p).0 (subst (λ ps. Contains ps p) (parents_at i at.0 at.1) c) in
-      let f = places.found r.0 p r.2 in
-      (f.0, f.1, subst (λ d. Contains (node e).names d) (sym f.2) r.1)
+      let (l, at_l, linked_l) = linked_at i e ie in
+      let (d, named, found) = (linked_l.parents p).0 (subst (λ ps. Contains ps p) (parents_at i l at_l) c) in
+      let (f, at_p, same) = places.found d p found in
+      (f, at_p, subst (λ d. Contains (node e).names d) (sym same) named)
 
   -- past the end there is none
   arrow_cases : (i p : ℕ) → Contains (parents_of links i) p
@@ -188,7 +187,7 @@ module _ {T : Type 0} (node : T → Node) (S : List T) (table : List (List ℕ �
       -- by whether a survivor stands at the place: where none does, there are no links and so no parents
       by : (o : Option T) → slice_get S i ≡ o
           → (e : T) × (f : T) × (slice_get S i ≡ Some e) × (slice_get S p ≡ Some f) × Names node e f
-      by (Some e) is = let r = arrow_at i p e is c in (e, r.0, is, r.1, r.2)
+      by (Some e) is = let (f, at_p, names) = arrow_at i p e is c in (e, f, is, at_p, names)
       by None is =
           let past : length links ≤ i =
           elim (cases_lt i (length links)) [
@@ -203,33 +202,33 @@ module _ {T : Type 0} (node : T → Node) (S : List T) (table : List (List ℕ �
   arrow_from : (i p : ℕ) (e f : T) → slice_get S i ≡ Some e → slice_get S p ≡ Some f → Names node e f
       → Contains (parents_of links i) p
   arrow_from i p e f ie pf names =
-      let at = linked_at i e ie in
-      let n = found_from (number_at table (node f).digest)
+      let (l, at_l, linked_l) = linked_at i e ie in
+      let (n, found) = found_from (number_at table (node f).digest)
       (λ none. places.lacks (node f).digest p none (f, pf, refl)) in
-      let g = places.found (node f).digest n.0 n.1 in
-      let same : n.0 ≡ p = one_place node S n.0 p g.0 f single g.1 pf g.2 in
-      let among = (at.2.parents p).1
-      ((node f).digest, names, n.1 ∙ ap (λ (k : ℕ). Some k) same) in
-      subst (λ ps. Contains ps p) (sym (parents_at i at.0 at.1)) among
+      let (g, at_n, bears) = places.found (node f).digest n found in
+      let same : n ≡ p = one_place node S n p g f single at_n pf bears in
+      let among = (linked_l.parents p).1
+      ((node f).digest, names, found ∙ ap (λ (k : ℕ). Some k) same) in
+      subst (λ ps. Contains ps p) (sym (parents_at i l at_l)) among
 
   -- a parent has a lower stamp, and so a lower place
   descends : (x z : ℕ) → Contains (parents_of links x) z → z < x
   descends x z c =
-      let r = arrow_cases x z c in
-      let down : (node r.1).stamp < (node r.0).stamp =
-      falling r.0 r.1 (at_place S x r.0 r.2) (at_place S z r.1 r.3) r.4 in
+      let (e, f, at_x, at_z, names) = arrow_cases x z c in
+      let down : (node f).stamp < (node e).stamp =
+      falling e f (at_place S x e at_x) (at_place S z f at_z) names in
       elim (cases_order z x) [
         | inl same ↦
-            (let one : r.1 ≡ r.0 = same_Some r.1 r.0 (sym r.3 ∙ ap (slice_get S) same ∙ r.2) in
-            let stamps : (node r.1).stamp ≡ (node r.0).stamp = ap (λ e. (node e).stamp) one in
+            (let one : f ≡ e = same_Some f e (sym at_z ∙ ap (slice_get S) same ∙ at_x) in
+            let stamps : (node f).stamp ≡ (node e).stamp = ap (λ e. (node e).stamp) one in
             absurd (omega arith))
         | inr (inl l) ↦ l
         | inr (inr l) ↦
-            (let up : IsLower node (get_or S x r.0) (get_or S z r.0) =
-            numbered x z r.0 l (slice_get_within S z r.1 r.3) in
-            let up_here : IsLower node r.0 r.1 =
-            subst (λ e. IsLower node e r.1) (get_or_from_slice_get S x r.0 r.0 r.2)
-            (subst (λ f. IsLower node (get_or S x r.0) f) (get_or_from_slice_get S z r.1 r.0 r.3) up) in
+            (let up : IsLower node (get_or S x e) (get_or S z e) =
+            numbered x z e l (slice_get_within S z f at_z) in
+            let up_here : IsLower node e f =
+            subst (λ e. IsLower node e f) (get_or_from_slice_get S x e e at_x)
+            (subst (λ f. IsLower node (get_or S x e) f) (get_or_from_slice_get S z f e at_z) up) in
             elim up_here [
               | inl stamps ↦ absurd (omega arith)
               | inr (stamps, digests) ↦ absurd (omega arith)
@@ -239,25 +238,25 @@ module _ {T : Type 0} (node : T → Node) (S : List T) (table : List (List ℕ �
   -- the ragged ones are those that name a gap
   gaps_shown : (i : ℕ) (e : T) → slice_get S i ≡ Some e → (ragged_of links i ≡ false) ↔ NamesNoGap node S e
   gaps_shown i e ie =
-      let at = linked_at i e ie in
+      let (l, at_l, linked_l) = linked_at i e ie in
       let are = (gaps_are_unique node S (gaps node S)).0 refl in
       let lacking : List ℕ → Bool = λ d. is_none (number_at table d) in (
         λ clean d named gap.
             let known = (are.members d).0 gap in
-            let n = found_from (number_at table d) (λ none.
+            let (n, found) = found_from (number_at table d) (λ none.
             true≢false
             (sym (list_any_of lacking (node e).names d named (none_of (number_at table d) none))
-            ∙ sym at.2.ragged ∙ sym (ragged_at i at.0 at.1) ∙ clean)) in
-            let f = places.found d n.0 n.1 in
-            known.1 (f.0, at_place S n.0 f.0 f.1, f.2),
+            ∙ sym linked_l.ragged ∙ sym (ragged_at i l at_l) ∙ clean)) in
+            let (f, at_n, bears) = places.found d n found in
+            known.1 (f, at_place S n f at_n, bears),
         λ free.
-            ragged_at i at.0 at.1 ∙ at.2.ragged
+            ragged_at i l at_l ∙ linked_l.ragged
             ∙ false_from_ne_true (list_any lacking (node e).names) (λ t.
-            let r = list_any_some lacking (node e).names t in
-            let none = none_from (number_at table r.0) r.2 in
-            free r.0 r.1
-            ((are.members r.0).1
-            ((e, at_place S i e ie, r.1), lacks_borne node S table r.0 places none))),
+            let (d, named, test) = list_any_some lacking (node e).names t in
+            let none = none_from (number_at table d) test in
+            free d named
+            ((are.members d).1
+            ((e, at_place S i e ie, named), lacks_borne node S table d places none))),
       )
 
   -- so the links are those of the names
@@ -266,12 +265,12 @@ module _ {T : Type 0} (node : T → Node) (S : List T) (table : List (List ℕ �
     one_each = one_each;
     arrows = record {
       descends = descends;
-      inside = λ i p c. let r = arrow_cases i p c in (r.1, r.3);
+      inside = λ i p c. let (_, f, _, at_p, _) = arrow_cases i p c in (f, at_p);
       arrows = λ i p e f ie pf. (
         λ c.
-            let r = arrow_at i p e ie c in
-            let one : r.0 ≡ f = same_Some r.0 f (sym r.1 ∙ pf) in
-            subst (λ g. Names node e g) one r.2,
+            let (g, at_p, names) = arrow_at i p e ie c in
+            let one : g ≡ f = same_Some g f (sym at_p ∙ pf) in
+            subst (λ g. Names node e g) one names,
         arrow_from i p e f ie pf,
       );
       gaps_shown = gaps_shown;

@@ -132,10 +132,10 @@ module _ {T : Type 0} (node : T → Node) where
   pub one_entry : (es : List T) (e f : T) → HasNoDigestTwice node es → Contains es e → Contains es f
       → (node e).digest ≡ (node f).digest → e ≡ f
   one_entry es e f single ce cf same =
-      let p = place_of es e ce in
-      let q = place_of es f cf in
-      let i : p.0 ≡ q.0 = one_place es p.0 q.0 e f single p.1 q.1 same in
-      same_Some e f (sym p.1 ∙ ap (slice_get es) i ∙ q.1)
+      let (i, at_i) = place_of es e ce in
+      let (j, at_j) = place_of es f cf in
+      let one : i ≡ j = one_place es i j e f single at_i at_j same in
+      same_Some e f (sym at_i ∙ ap (slice_get es) one ∙ at_j)
 
   -- a part of them too
   pub single_filter : (p : T → Bool) (es : List T) → HasNoDigestTwice node es → HasNoDigestTwice node (filter p es)
@@ -170,8 +170,8 @@ module _ {T : Type 0} (node : T → Node) where
       let digest : T → List ℕ = λ f. (node f).digest in
       let none : list_any (bytes_eq (digest e)) (map digest es) ≡ false =
       false_from_ne_true (list_any (bytes_eq (digest e)) (map digest es)) (λ t.
-      let r = list_any_some (bytes_eq (digest e)) (map digest es) t in
-      let g = Contains-map_cases digest es r.0 r.1 in
-      new (g.0, g.1, g.2 ∙ sym ((bytes_eq-Decides (digest e) r.0).0 r.2))) in
+      let (d, there, test) = list_any_some (bytes_eq (digest e)) (map digest es) t in
+      let (g, in_es, same) = Contains-map_cases digest es d there in
+      new (g, in_es, same ∙ sym ((bytes_eq-Decides (digest e) d).0 test))) in
       subst (λ ds. IsDistinct bytes_eq ds) (sym (map_push digest es e))
       (IsDistinct-push nat_list_eq_equiv (map digest es) (digest e) single none)

@@ -55,9 +55,9 @@ module _ {T : Type 0} (node : T → Node) where
   -- what is found is a stray
   pub is_stray_from : (given : List T) (e : T) → is_stray node given e ≡ true → IsStray node given e
   is_stray_from given e t =
-      let r = list_any_some (λ g. names_later node e g) given t in
-      let parts = and_parts (names_digest node e (node r.0).digest) (nat_le (node e).stamp (node r.0).stamp) r.2 in
-      (r.0, r.1, names_digest_from node e (node r.0).digest parts.0, leb-true (node e).stamp (node r.0).stamp parts.1)
+      let (g, there, test) = list_any_some (λ g. names_later node e g) given t in
+      let parts = and_parts (names_digest node e (node g).digest) (nat_le (node e).stamp (node g).stamp) test in
+      (g, there, names_digest_from node e (node g).digest parts.0, leb-true (node e).stamp (node g).stamp parts.1)
 
   -- whether the table has a stamp that isn't lower at a digest that the entry names
   abbrev pub names_from : List (List ℕ × ℕ) → T → Bool
@@ -67,13 +67,13 @@ module _ {T : Type 0} (node : T → Node) where
   stray_by_table : (given : List T) (e : T) (table : List (List ℕ × ℕ)) → AreStamps node given table
       → names_from table e ≡ true → IsStray node given e
   stray_by_table given e table stamps t =
-      let r = list_any_some (λ d. is_from (node e).stamp (number_at table d)) (node e).names t in
-      let n = from_parts (node e).stamp (number_at table r.0) r.2 in
-      let f = stamps.found r.0 n.0 n.1 in (
-        f.0,
-        f.1,
-        subst (λ d. Contains (node e).names d) (sym f.2) r.1,
-        subst (λ s. (node e).stamp ≤ s) (sym f.3) n.2,
+      let (d, named, test) = list_any_some (λ d. is_from (node e).stamp (number_at table d)) (node e).names t in
+      let (n, found, high) = from_parts (node e).stamp (number_at table d) test in
+      let (f, there, bears, stamp) = stamps.found d n found in (
+        f,
+        there,
+        subst (λ d. Contains (node e).names d) (sym bears) named,
+        subst (λ s. (node e).stamp ≤ s) (sym stamp) high,
       )
 
   -- and the stamp of each given entry that is named is found
@@ -84,10 +84,10 @@ module _ {T : Type 0} (node : T → Node) where
       λ o. elim o as (λ o. number_at table (node g).digest ≡ o → is_from (node e).stamp o ≡ true) [
         | None ↦ λ is. absurd (stamps.lacks (node g).digest (node g).stamp is (g, c, refl, refl))
         | Some n ↦ λ is.
-            let f = stamps.found (node g).digest n is in
-            let same : f.0 ≡ g = one_entry node given f.0 g single f.1 c f.2 in
+            let (f, there, bears, stamp) = stamps.found (node g).digest n is in
+            let same : f ≡ g = one_entry node given f g single there c bears in
             le-leb (node e).stamp n
-            (subst (λ s. (node e).stamp ≤ s) (sym (ap (λ z. (node z).stamp) same) ∙ f.3) high)
+            (subst (λ s. (node e).stamp ≤ s) (sym (ap (λ z. (node z).stamp) same) ∙ stamp) high)
       ] in
       list_any_of (λ d. is_from (node e).stamp (number_at table d)) (node e).names (node g).digest names
       (at (number_at table (node g).digest) refl)
@@ -130,13 +130,13 @@ strays_from {T} node given set strays are is rises = record {
       let iff = btree_set_contains_iff nat_list_cmp_total exact_bytes set d in
       let test = λ (e : T). is_stray node given e && is_at (slice_cmp nat_cmp (node e).digest) d in (
         (λ c.
-            let r = list_any_some test given (sym (are d) ∙ iff.1 (subst (λ ks. Contains ks d) is c)) in
-            let parts = and_parts (is_stray node given r.0) (is_at (slice_cmp nat_cmp (node r.0).digest) d) r.2 in (
-              r.0,
-              r.1,
-              is_stray_from node given r.0 parts.0,
-              exact_bytes (node r.0).digest d
-                  (equal_from (slice_cmp nat_cmp (node r.0).digest d) parts.1),
+            let (e, there, test) = list_any_some test given (sym (are d) ∙ iff.1 (subst (λ ks. Contains ks d) is c)) in
+            let parts = and_parts (is_stray node given e) (is_at (slice_cmp nat_cmp (node e).digest) d) test in (
+              e,
+              there,
+              is_stray_from node given e parts.0,
+              exact_bytes (node e).digest d
+                  (equal_from (slice_cmp nat_cmp (node e).digest d) parts.1),
             )),
         (λ (e, c, stray, same).
             subst (λ ks. Contains ks d) (sym is)

@@ -42,9 +42,8 @@ loop-entry-preserved-in-Continue-branch-2 g c =
     lacks_borne node kept c.loop-entry.places (node e).digest c.loop-entry.invariant.places missing in
     let new : (f : g.row.T.Denot) → Contains before f → (node f).digest ≢ (node e).digest =
     λ f cf same.
-    let r = distinct_bears node before f cf in
-    not_borne
-    (r.0, subst (λ es. Contains es r.0) (sym c.loop-entry.invariant.found) r.1, r.2 ∙ same) in
+    let (h, there, bears) = distinct_bears node before f cf in
+    not_borne (h, subst (λ es. Contains es h) (sym c.loop-entry.invariant.found) there, bears ∙ same) in
     let pushed : c.push.new.self.items ≡ kept ++ e ∷ [] = search rules in
     let set : IsSet c.loop-entry.places c.set.new.self (node e).digest (length kept) = λ d. search rules in
     record {
@@ -68,8 +67,8 @@ index-requires g c =
     let node = g.T.Knot.node in
     let d = (node c.in-Some.entry).digest in
     let at : number_at c.loop-entry.places d ≡ Some c.in-Some-get.place = search rules in
-    let h = c.loop-entry.invariant.places.found d c.in-Some-get.place at in
-    let within = slice_get_within c.loop-entry.distinct.items c.in-Some-get.place h.0 h.1 in
+    let (h, at_h, _) = c.loop-entry.invariant.places.found d c.in-Some-get.place at in
+    let within = slice_get_within c.loop-entry.distinct.items c.in-Some-get.place h at_h in
     search (rules, within)
 
 pub swap_remove-requires : goal.swap_remove-requires
@@ -77,8 +76,8 @@ swap_remove-requires g c =
     let node = g.T.Knot.node in
     let d = (node c.in-Some.entry).digest in
     let at : number_at c.loop-entry.places d ≡ Some c.in-Some-get.place = search rules in
-    let h = c.loop-entry.invariant.places.found d c.in-Some-get.place at in
-    let within = slice_get_within c.loop-entry.distinct.items c.in-Some-get.place h.0 h.1 in
+    let (h, at_h, _) = c.loop-entry.invariant.places.found d c.in-Some-get.place at in
+    let within = slice_get_within c.loop-entry.distinct.items c.in-Some-get.place h at_h in
     search (rules, within)
 
 -- the entry at the place has another text
@@ -90,15 +89,15 @@ returns-then-ne-clause-fault g c =
     let kept = c.loop-entry.distinct.items in
     let place = c.in-Some-get.place in
     let at : number_at c.loop-entry.places (node e).digest ≡ Some place = search rules in
-    let h = c.loop-entry.invariant.places.found (node e).digest place at in
-    let first : h.0 ≡ c.swap_remove.result =
-    sym (get_or_from_slice_get kept place h.0 c.swap_remove.result h.1) ∙ sym c.swap_remove.ensures.value in
-    let shown : c.index.result.now ≡ h.0 =
-    c.index.ensures ∙ get_or_from_slice_get kept place h.0 c.index.result.now h.1 in
-    let among : Contains c.loop-entry.yielded h.0 =
-    distinct_given node c.loop-entry.yielded h.0
-    (subst (λ es. Contains es h.0) c.loop-entry.invariant.found (at_place kept place h.0 h.1)) in
-    let differ : text h.0 ≢ text e =
+    let (h, at_h, bears) = c.loop-entry.invariant.places.found (node e).digest place at in
+    let first : h ≡ c.swap_remove.result =
+    sym (get_or_from_slice_get kept place h c.swap_remove.result at_h) ∙ sym c.swap_remove.ensures.value in
+    let shown : c.index.result.now ≡ h =
+    c.index.ensures ∙ get_or_from_slice_get kept place h c.index.result.now at_h in
+    let among : Contains c.loop-entry.yielded h =
+    distinct_given node c.loop-entry.yielded h
+    (subst (λ es. Contains es h) c.loop-entry.invariant.found (at_place kept place h at_h)) in
+    let differ : text h ≢ text e =
     λ same.
     let one : c.signed_text.result.now ≡ c.signed_text-in-Some-get.result.now =
     c.signed_text.ensures ∙ ap text shown ∙ same ∙ sym c.signed_text-in-Some-get.ensures in
@@ -111,7 +110,7 @@ returns-then-ne-clause-fault g c =
       sym c.loop-entry.invariant.left ∙ ap (λ es. c.loop-entry.yielded ++ es) c.in-Some.ensures.steps.0,
       c.loop-entry.invariant.no_collision,
       subst (λ f. Contains c.loop-entry.yielded f) first among,
-      ap (λ f. (node f).digest) (sym first) ∙ h.2,
+      ap (λ f. (node f).digest) (sym first) ∙ bears,
       (λ same. differ (ap text first ∙ same)),
     )
 
@@ -125,13 +124,13 @@ loop-entry-preserved g c =
     let kept = c.loop-entry.distinct.items in
     let place = c.in-Some-get.place in
     let at : number_at c.loop-entry.places (node e).digest ≡ Some place = search rules in
-    let h = c.loop-entry.invariant.places.found (node e).digest place at in
-    let shown : c.index.result.now ≡ h.0 =
-    c.index.ensures ∙ get_or_from_slice_get kept place h.0 c.index.result.now h.1 in
-    let among : Contains before h.0 =
-    distinct_given node before h.0
-    (subst (λ es. Contains es h.0) c.loop-entry.invariant.found (at_place kept place h.0 h.1)) in
-    let same_text : text h.0 ≡ text e =
+    let (h, at_h, bears) = c.loop-entry.invariant.places.found (node e).digest place at in
+    let shown : c.index.result.now ≡ h =
+    c.index.ensures ∙ get_or_from_slice_get kept place h c.index.result.now at_h in
+    let among : Contains before h =
+    distinct_given node before h
+    (subst (λ es. Contains es h) c.loop-entry.invariant.found (at_place kept place h at_h)) in
+    let same_text : text h ≡ text e =
     ap text (sym shown) ∙ sym c.signed_text.ensures
     ∙ (bytes_eq-Decides c.signed_text.result.now c.signed_text-in-Some-get.result.now).0
     (not-false (bytes_eq c.signed_text.result.now c.signed_text-in-Some-get.result.now)
@@ -139,8 +138,8 @@ loop-entry-preserved g c =
     ∙ c.signed_text-in-Some-get.ensures in
     record {
       no_collision =
-          no_collision_again node text before e h.0 c.loop-entry.invariant.no_collision among h.2 same_text;
-      found = c.loop-entry.invariant.found ∙ sym (distinct_again node before e h.0 among h.2);
+          no_collision_again node text before e h c.loop-entry.invariant.no_collision among bears same_text;
+      found = c.loop-entry.invariant.found ∙ sym (distinct_again node before e h among bears);
       single = c.loop-entry.invariant.single;
       left =
           append_assoc before (e ∷ []) _ ∙ ap (λ es. before ++ es) (sym c.in-Some.ensures.steps.0)
