@@ -21,10 +21,8 @@ use Rattle.first_cause.specs.Causes.{IsFirstOf, tests_of}
 pub any_decides : {X : Type 0} (p : X → Bool) (P : X → Type 0) → ((x : X) → Decides (p x) (P x)) → (xs : List X)
     → Decides (list_any p xs) (Any P xs)
 any_decides p P each xs = (
-  λ yes.
-      let any : Any (λ x. p x ≡ true) xs = Any-from_list_any p xs yes in
-      (any.0, any.1, any.2, any.3, (each any.1).0 any.4),
-  λ any. list_any-from_Any p xs (any.0, any.1, any.2, any.3, (each any.1).1 any.4),
+  λ yes. let (i, x, within, at, passes) = Any-from_list_any p xs yes in (i, x, within, at, (each x).0 passes),
+  λ (i, x, within, at, holds). list_any-from_Any p xs (i, x, within, at, (each x).1 holds),
 )
 
 -- an entry with such a deed is held
@@ -185,33 +183,24 @@ pub ends_decides : (session : ℕ) (deed : Deed) → Decides (ends session deed)
 ends_decides session (Cast s ballot) =
     let same = Decides-eqb s session in (
       λ yes. inl (ballot, ap (λ n. Cast n ballot) (same.0 yes)),
-      λ is. same.1 (elim is [
-        | inl cast ↦ cc (cast.1)
-        | inr others ↦ elim others [ inl cancel ↦ cc | inr challenge ↦ cc (challenge.1) ]
-      ]),
+      λ is. same.1
+          (elim is [ inl (_, cast) ↦ cc cast | inr (inl cancel) ↦ cc | inr (inr (_, challenge)) ↦ cc challenge ]),
     )
 ends_decides session (Cancel s) =
     let same = Decides-eqb s session in (
       λ yes. inr (inl (ap Cancel (same.0 yes))),
-      λ is. same.1 (elim is [
-        | inl cast ↦ cc (cast.1)
-        | inr others ↦ elim others [ inl cancel ↦ cc | inr challenge ↦ cc (challenge.1) ]
-      ]),
+      λ is. same.1
+          (elim is [ inl (_, cast) ↦ cc cast | inr (inl cancel) ↦ cc | inr (inr (_, challenge)) ↦ cc challenge ]),
     )
 ends_decides session (Challenge s ballot) =
     let same = Decides-eqb s session in (
       λ yes. inr (inr (ballot, ap (λ n. Challenge n ballot) (same.0 yes))),
-      λ is. same.1 (elim is [
-        | inl cast ↦ cc (cast.1)
-        | inr others ↦ elim others [ inl cancel ↦ cc | inr challenge ↦ cc (challenge.1) ]
-      ]),
+      λ is. same.1
+          (elim is [ inl (_, cast) ↦ cc cast | inr (inl cancel) ↦ cc | inr (inr (_, challenge)) ↦ cc challenge ]),
     )
 ends_decides session _ = (
   λ yes. cc,
-  λ is. elim is [
-    | inl cast ↦ cc (cast.1)
-    | inr others ↦ elim others [ inl cancel ↦ cc | inr challenge ↦ cc (challenge.1) ]
-  ],
+  λ is. elim is [ inl (_, cast) ↦ cc cast | inr (inl cancel) ↦ cc | inr (inr (_, challenge)) ↦ cc challenge ],
 )
 
 -- whether some entry ends the session

@@ -17,14 +17,13 @@ IsSuchEntry IsSuch entry = IsSuch entry.deed
 -- what holds of one of the entries holds of one with another behind them
 pub any_kept : {X : Type 0} (P : X → Type 0) (xs : List X) (x : X) → Any P xs → Any P (xs ++ x ∷ [])
 any_kept P xs x (k, y, within, is, holds) =
-    let at : Contains (xs ++ x ∷ []) y = Contains-append_left xs (x ∷ []) y (k, within, is) in
-    (at.0, y, at.1, at.2, holds)
+    let (i, inside, at) = Contains-append_left xs (x ∷ []) y (k, within, is) in (i, y, inside, at, holds)
 
 -- what holds of one of them with another behind holds of one of them or of that
 pub any_cases : {X : Type 0} (P : X → Type 0) (xs : List X) (x : X) → Any P (xs ++ x ∷ []) → Any P xs ⊎ P x
 any_cases P xs x (k, y, within, is, holds) =
     elim (Contains-push_cases xs x y (k, within, is)) [
-      | inl at ↦ inl (at.0, y, at.1, at.2, holds)
+      | inl (i, inside, at) ↦ inl (i, y, inside, at, holds)
       | inr same ↦ inr (subst P (sym same) holds)
     ]
 

@@ -1,6 +1,6 @@
 -- Which members a list has.
 use Rattle.std.proofs.Common.{◌≡◌, ℕ, Bool, true, false, cond, List, [], ◌∷◌, ◌⊎◌, inl, inr, refl, sym, subst, arith}
-use Rattle.std.specs.Prelude.{Any, Contains, IsTrue, ◌↔◌, nat_eq, filter}
+use Rattle.std.specs.Prelude.{Contains, IsTrue, ◌↔◌, nat_eq, filter}
 use Rattle.std.specs.List.{list_any}
 use Rattle.std.proofs.lemmas.Bool.{eqb-true, eq-eqb}
 use Rattle.std.proofs.lemmas.List.Folds.{Any-from_list_any, list_any-from_Any}
@@ -14,9 +14,9 @@ at_place xs x y at same = subst (Contains xs) same at
 pub is_member : (xs : List ℕ) (x : ℕ) → IsTrue (list_any (λ y. nat_eq y x) xs) ↔ Contains xs x
 is_member xs x = (
   λ found.
-      let any : Any (λ y. nat_eq y x ≡ true) xs = Any-from_list_any (λ y. nat_eq y x) xs found in
-      at_place xs x any.1 (any.0, any.2, any.3) (eqb-true any.1 x any.4),
-  λ at. list_any-from_Any (λ y. nat_eq y x) xs (at.0, x, at.1, at.2, eq-eqb x x refl),
+      let (i, y, within, at, same) = Any-from_list_any (λ y. nat_eq y x) xs found in
+      at_place xs x y (i, within, at) (eqb-true y x same),
+  λ (i, within, at). list_any-from_Any (λ y. nat_eq y x) xs (i, x, within, at, eq-eqb x x refl),
 )
 
 -- the first member is one of the list
@@ -39,14 +39,14 @@ is_kept_by p y xs x true is rest = (
     | inl same ↦ (subst (Contains (y ∷ xs)) same (first_in y xs), cc)
     | inr later ↦ (Contains-append_right (y ∷ []) xs x (rest.0 later).0, (rest.0 later).1)
   ],
-  λ at. elim (in_cons y xs x at.0) [
+  λ (at, passes). elim (in_cons y xs x at) [
     | inl same ↦ subst (Contains (y ∷ filter p xs)) same (first_in y (filter p xs))
-    | inr later ↦ Contains-append_right (y ∷ []) (filter p xs) x (rest.1 (later, at.1))
+    | inr later ↦ Contains-append_right (y ∷ []) (filter p xs) x (rest.1 (later, passes))
   ],
 )
 is_kept_by p y xs x false is rest = (
   λ at. (Contains-append_right (y ∷ []) xs x (rest.0 at).0, (rest.0 at).1),
-  λ at. elim (in_cons y xs x at.0) [ inl same ↦ absurd (cc (at.1)) | inr later ↦ rest.1 (later, at.1) ],
+  λ (at, passes). elim (in_cons y xs x at) [ inl same ↦ absurd (cc passes) | inr later ↦ rest.1 (later, passes) ],
 )
 
 -- a member of the filtered list is one of the list that passes

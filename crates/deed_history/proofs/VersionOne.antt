@@ -14,8 +14,8 @@ use Rattle.deed_history.specs.VersionOne.{EndsInVersion1}
 pub any_alike : {X : Type 0} (R P Q : X → Type 0) (xs : List X) → All R xs → ((x : X) → R x → P x ↔ Q x) →
     Any P xs ↔ Any Q xs
 any_alike R P Q xs all alike = (
-  λ any. (any.0, any.1, any.2, any.3, (alike any.1 (subst R any.3 (all any.0 any.1 any.2))).0 any.4),
-  λ any. (any.0, any.1, any.2, any.3, (alike any.1 (subst R any.3 (all any.0 any.1 any.2))).1 any.4),
+  λ (i, x, within, at, holds). (i, x, within, at, (alike x (subst R at (all i x within))).0 holds),
+  λ (i, x, within, at, holds). (i, x, within, at, (alike x (subst R at (all i x within))).1 holds),
 )
 
 -- what is 1 isn't 2
@@ -67,22 +67,23 @@ first_to : {Cause : Type 0} (row others : List (Type 0 × Cause)) (answer : Resu
     IsAlike row others → IsFirstOf row answer → IsFirstOf others answer
 first_to [] [] answer alike first = first
 first_to [] (other ∷ others) answer alike first = absurd alike
-first_to (cause ∷ row) [] answer alike (inl here) = absurd (alike.0 here.0)
-first_to (cause ∷ row) [] answer alike (inr later) = first_to row [] answer alike.1 later.1
-first_to (cause ∷ row) (other ∷ others) answer alike (inl here) = inl (alike.0.0 here.0, here.1 ∙ ap Err alike.1)
-first_to (cause ∷ row) (other ∷ others) answer alike (inr later) =
-    inr (λ applies. later.0 (alike.0.1 applies), first_to row others answer alike.2 later.1)
+first_to (cause ∷ row) [] answer (never, rest) (inl here) = absurd (never here.0)
+first_to (cause ∷ row) [] answer (never, rest) (inr later) = first_to row [] answer rest later.1
+first_to (cause ∷ row) (other ∷ others) answer (both, same, rest) (inl here) =
+    inl (both.0 here.0, here.1 ∙ ap Err same)
+first_to (cause ∷ row) (other ∷ others) answer (both, same, rest) (inr later) =
+    inr (λ applies. later.0 (both.1 applies), first_to row others answer rest later.1)
 
 -- and the other way round
 first_from : {Cause : Type 0} (row others : List (Type 0 × Cause)) (answer : Result (Unit {0}) Cause) →
     IsAlike row others → IsFirstOf others answer → IsFirstOf row answer
 first_from [] [] answer alike first = first
 first_from [] (other ∷ others) answer alike first = absurd alike
-first_from (cause ∷ row) [] answer alike first = inr (alike.0, first_from row [] answer alike.1 first)
-first_from (cause ∷ row) (other ∷ others) answer alike (inl here) =
-    inl (alike.0.1 here.0, here.1 ∙ ap Err (sym alike.1))
-first_from (cause ∷ row) (other ∷ others) answer alike (inr later) =
-    inr (λ applies. later.0 (alike.0.0 applies), first_from row others answer alike.2 later.1)
+first_from (cause ∷ row) [] answer (never, rest) first = inr (never, first_from row [] answer rest first)
+first_from (cause ∷ row) (other ∷ others) answer (both, same, rest) (inl here) =
+    inl (both.1 here.0, here.1 ∙ ap Err (sym same))
+first_from (cause ∷ row) (other ∷ others) answer (both, same, rest) (inr later) =
+    inr (λ applies. later.0 (both.0 applies), first_from row others answer rest later.1)
 
 -- so both rows have the same first cause
 pub first_alike : {Cause : Type 0} (row others : List (Type 0 × Cause)) (answer : Result (Unit {0}) Cause) →
