@@ -80,13 +80,10 @@ runs_decides : (entries : List Entry) (booth : ℕ) (deed : Deed)
 runs_decides entries booth (Authorise b s) =
     let left = Decides-not (has_ended entries s) (ended_decides entries s) in
     let both = Decides-and (b == booth) (not (has_ended entries s)) (Decides-eqb b booth) left in (
-      λ yes.
-          let runs = both.0 yes in
-          (s, ap (λ n. Authorise n s) runs.0, runs.1),
-      λ runs.
-          let session : runs.0 ≡ s = cc (runs.1) in
-          let ended : HasEnded entries s → ⊥ = subst (λ n. HasEnded entries n → ⊥) session runs.2 in
-          both.1 (cc (runs.1), ended),
+      λ yes. let (same, lasts) = both.0 yes in (s, ap (λ n. Authorise n s) same, lasts),
+      λ (session, is, lasts).
+          let same : session ≡ s = cc is in
+          both.1 (cc is, subst (λ n. HasEnded entries n → ⊥) same lasts),
     )
 runs_decides entries booth _ = (λ yes. cc, λ runs. cc (runs.1))
 
@@ -95,10 +92,8 @@ busy_is : (owner : ℕ) (entries : List Entry) (booth : ℕ)
     → Decides (holds_own owner (runs_at entries booth) entries) (IsBusy owner entries booth)
 busy_is owner entries booth =
     Decides-like (holds_own owner (runs_at entries booth) entries)
-    (λ any. (any.4.1.0, ((any.0, any.1, any.2, any.3, (any.4.0, any.4.1.1)), any.4.1.2)))
-    (λ busy.
-    let any = busy.1.0 in
-    (any.0, any.1, any.2, any.3, (any.4.0, (busy.0, any.4.1, busy.1.1))))
+    (λ (i, entry, within, at, (own, (session, is, lasts))). (session, ((i, entry, within, at, (own, is)), lasts)))
+    (λ (session, ((i, entry, within, at, (own, is)), lasts)). (i, entry, within, at, (own, (session, is, lasts))))
     (own_decides owner (runs_at entries booth) (RunsAt entries booth) (runs_decides entries booth) entries)
 
 -- the same at whichever booth
@@ -115,9 +110,9 @@ left_decides : (entries : List Entry) (deed : Deed) → Decides (runs entries de
 left_decides entries (Authorise b s) =
     let left = Decides-not (has_ended entries s) (ended_decides entries s) in (
       λ yes. (b, (s, refl, left.0 yes)),
-      λ here.
-          let session : here.1.0 ≡ s = cc (here.1.1) in
-          left.1 (subst (λ n. HasEnded entries n → ⊥) session here.1.2),
+      λ (booth, (session, is, lasts)).
+          let same : session ≡ s = cc is in
+          left.1 (subst (λ n. HasEnded entries n → ⊥) same lasts),
     )
 left_decides entries _ = (λ yes. cc, λ here. cc (here.1.1))
 
@@ -126,12 +121,10 @@ left_is : (owner : ℕ) (entries : List Entry)
     → Decides (holds_own owner (runs entries) entries) (HasSessionsLeft owner entries)
 left_is owner entries =
     Decides-like (holds_own owner (runs entries) entries)
-    (λ any.
-    let here = any.4.1 in
-    (here.0, (here.1.0, ((any.0, any.1, any.2, any.3, (any.4.0, here.1.1)), here.1.2))))
-    (λ left.
-    let any = left.1.1.0 in
-    (any.0, any.1, any.2, any.3, (any.4.0, (left.0, (left.1.0, any.4.1, left.1.1.1)))))
+    (λ (i, entry, within, at, (own, (booth, (session, is, lasts)))).
+    (booth, (session, ((i, entry, within, at, (own, is)), lasts))))
+    (λ (booth, (session, ((i, entry, within, at, (own, is)), lasts))).
+    (i, entry, within, at, (own, (booth, (session, is, lasts)))))
     (own_decides owner (runs entries) (Runs entries) (left_decides entries) entries)
 
 -- the tests of a deed's row
@@ -198,8 +191,8 @@ are_tests owner entries _ = tt
 pub answered : (owner : ℕ) (entries : List Entry) (deed : Deed)
     → (answer : Result (Unit {0}) SupervisorNot) × Refuses owner entries deed answer
 answered owner entries deed =
-    let first = first_test (tests owner entries deed) in (
-      first.0,
-      first_by_tests (tests owner entries deed) (causes_of owner entries deed) first.0 (are_tests owner entries deed)
-          first.1,
+    let (answer, first) = first_test (tests owner entries deed) in (
+      answer,
+      first_by_tests (tests owner entries deed) (causes_of owner entries deed) answer (are_tests owner entries deed)
+          first,
     )

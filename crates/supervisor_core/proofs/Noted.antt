@@ -56,8 +56,8 @@ running_stays A owner entries entry booth session before none lasts = (
       | inr new ↦ lasts new
     ],
   ),
-  λ after. elim (any_cases (OwnAuthorise owner booth session) entries entry after.0) [
-    | inl old ↦ before.1 (old, λ ended. after.1 (any_kept (IsSuchEntry (Ends session)) entries entry ended))
+  λ (runs, not_ended). elim (any_cases (OwnAuthorise owner booth session) entries entry runs) [
+    | inl old ↦ before.1 (old, λ ended. not_ended (any_kept (IsSuchEntry (Ends session)) entries entry ended))
     | inr new ↦ absurd (none new)
   ],
 )
@@ -65,7 +65,7 @@ running_stays A owner entries entry booth session before none lasts = (
 -- an entry that authorises no booth for the session doesn't authorise the session
 authorises_stays : (owner session : ℕ) (entry : Entry) →
     ((booth : ℕ) → OwnAuthorise owner booth session entry → ⊥) → IsOwnSuch owner (Authorises session) entry → ⊥
-authorises_stays owner session entry none such = none such.1.0 (such.0, such.1.1)
+authorises_stays owner session entry none (own, (booth, is)) = none booth (own, is)
 
 -- another entry leaves the notes standing for what was heard
 pub noted_other : (notes : Notes) (spare owner : ℕ) (entries : List Entry) (entry : Entry) →
@@ -176,9 +176,9 @@ running_added notes owner entries entry booth session b s stands is own lasts =
               lasts_after entries entry s (subst (λ n. HasEnded entries n → ⊥) same_session lasts) none,
             )
       ],
-      λ after. elim (any_cases (OwnAuthorise owner b s) entries entry after.0) [
+      λ (runs, not_ended). elim (any_cases (OwnAuthorise owner b s) entries entry runs) [
         | inl old ↦ Contains-append_left notes.running (run booth session ∷ []) (run b s)
-            ((stands.running b s).1 (old, lasts_before entries entry s after.1))
+            ((stands.running b s).1 (old, lasts_before entries entry s not_ended))
         | inr new ↦
             let same : Authorise booth session ≡ Authorise b s = cc (new.1) in
             let same_booth : booth ≡ b = cc in
@@ -199,9 +199,9 @@ running_same notes owner entries entry booth session b s stands is ended =
         any_kept (OwnAuthorise owner b s) entries entry ((stands.running b s).0 at).0,
         lasts_after entries entry s ((stands.running b s).0 at).1 none,
       ),
-      λ after.
-          let lasts : HasEnded entries s → ⊥ = lasts_before entries entry s after.1 in
-          elim (any_cases (OwnAuthorise owner b s) entries entry after.0) [
+      λ (runs, not_ended).
+          let lasts : HasEnded entries s → ⊥ = lasts_before entries entry s not_ended in
+          elim (any_cases (OwnAuthorise owner b s) entries entry runs) [
             | inl old ↦ (stands.running b s).1 (old, lasts)
             | inr new ↦
                 let same : session ≡ s = cc (new.1) in
@@ -225,16 +225,16 @@ running_ended : (notes : Notes) (owner : ℕ) (entries : List Entry) (entry : En
 running_ended notes owner entries entry session b s stands ends none =
     let kept = is_kept (λ one. not (one.session == session)) notes.running (run b s) in (
       λ at.
-          let before : IsRunning owner entries b s = (stands.running b s).0 (kept.0 at).0 in (
-            any_kept (OwnAuthorise owner b s) entries entry before.0,
-            lasts_after entries entry s before.1 (λ new. other_session s session (kept.0 at).1 (sym (ends.1 new))),
+          let (runs, not_ended) = (stands.running b s).0 (kept.0 at).0 in (
+            any_kept (OwnAuthorise owner b s) entries entry runs,
+            lasts_after entries entry s not_ended (λ new. other_session s session (kept.0 at).1 (sym (ends.1 new))),
           ),
-      λ after.
-          let other : s ≡ session → ⊥ = λ same. after.1 (Any-push (IsSuchEntry (Ends s)) entries entry
+      λ (runs, not_ended).
+          let other : s ≡ session → ⊥ = λ same. not_ended (Any-push (IsSuchEntry (Ends s)) entries entry
           (ends.0 (sym same))) in
-          elim (any_cases (OwnAuthorise owner b s) entries entry after.0) [
+          elim (any_cases (OwnAuthorise owner b s) entries entry runs) [
             | inl old ↦ kept.1 (
-              (stands.running b s).1 (old, lasts_before entries entry s after.1),
+              (stands.running b s).1 (old, lasts_before entries entry s not_ended),
               is_other_session s session other,
             )
             | inr new ↦ absurd (none new)
@@ -297,25 +297,25 @@ noted_end notes spare owner entries entry session stands ends =
     record {
       same_owner = stands.same_owner;
       opened = stays (IsOwnSuch owner (λ deed. deed ≡ Opened)) entries entry stands.opened
-          (λ such. no_end Opened session (λ ballot e. cc) (λ e. cc) (λ ballot e. cc) (only Opened such.1));
+          (λ (_, is). no_end Opened session (λ ballot e. cc) (λ e. cc) (λ ballot e. cc) (only Opened is));
       closed = stays (IsOwnSuch owner (λ deed. deed ≡ Closed)) entries entry stands.closed
-          (λ such. no_end Closed session (λ ballot e. cc) (λ e. cc) (λ ballot e. cc) (only Closed such.1));
+          (λ (_, is). no_end Closed session (λ ballot e. cc) (λ e. cc) (λ ballot e. cc) (only Closed is));
       authorised = λ s. stays (IsOwnSuch owner (Authorises s)) entries entry (stands.authorised s)
-          (λ such. no_end (Authorise such.1.0 s) session (λ ballot e. cc) (λ e. cc) (λ ballot e. cc)
-          (only (Authorise such.1.0 s) such.1.1));
+          (λ (_, (booth, is)). no_end (Authorise booth s) session (λ ballot e. cc) (λ e. cc) (λ ballot e. cc)
+          (only (Authorise booth s) is));
       running = λ b s. running_ended notes owner entries entry session b s stands (ends s)
-          (λ such. no_end (Authorise b s) session (λ ballot e. cc) (λ e. cc) (λ ballot e. cc)
-          (only (Authorise b s) such.1));
+          (λ (_, is). no_end (Authorise b s) session (λ ballot e. cc) (λ e. cc) (λ ballot e. cc)
+          (only (Authorise b s) is));
       ended = λ s. is_added (IsSuchEntry (Ends s)) entries entry notes.ended session s (stands.ended s) (ends s);
       to_cancel = λ s. stays (OwnOverride owner s word.Cancel) entries entry (stands.to_cancel s)
-          (λ such. no_end (Override s word.Cancel) session (λ ballot e. cc) (λ e. cc) (λ ballot e. cc)
-          (only (Override s word.Cancel) such.1));
+          (λ (_, is). no_end (Override s word.Cancel) session (λ ballot e. cc) (λ e. cc) (λ ballot e. cc)
+          (only (Override s word.Cancel) is));
       to_cast = λ s. stays (OwnOverride owner s word.Cast) entries entry (stands.to_cast s)
-          (λ such. no_end (Override s word.Cast) session (λ ballot e. cc) (λ e. cc) (λ ballot e. cc)
-          (only (Override s word.Cast) such.1));
+          (λ (_, is). no_end (Override s word.Cast) session (λ ballot e. cc) (λ e. cc) (λ ballot e. cc)
+          (only (Override s word.Cast) is));
       committed = λ s. stays (IsSuchEntry (Commits s)) entries entry (stands.committed s)
-          (λ such. no_end (Commit s such.0) session (λ ballot e. cc) (λ e. cc) (λ ballot e. cc)
-          (only (Commit s such.0) such.1));
+          (λ (ballot, is). no_end (Commit s ballot) session (λ ballot e. cc) (λ e. cc) (λ ballot e. cc)
+          (only (Commit s ballot) is));
     }
 
 -- the supervisor overrides a session by cancelling

@@ -32,24 +32,24 @@ ended_alike entries session all =
 busy_alike : (owner : ℕ) (entries : List Entry) (booth : ℕ) → AreOfVersion1 entries →
     IsBusy owner entries booth ↔ IsBusyInVersion1 owner entries booth
 busy_alike owner entries booth all = (
-  λ busy. (busy.0, (busy.1.0, λ ended. busy.1.1 ((ended_alike entries busy.0 all).1 ended))),
-  λ busy. (busy.0, (busy.1.0, λ ended. busy.1.1 ((ended_alike entries busy.0 all).0 ended))),
+  λ (session, (runs, lasts)). (session, (runs, λ ended. lasts ((ended_alike entries session all).1 ended))),
+  λ (session, (runs, lasts)). (session, (runs, λ ended. lasts ((ended_alike entries session all).0 ended))),
 )
 
 -- sessions are left by the table exactly where they are by that of version 1
 left_alike : (owner : ℕ) (entries : List Entry) → AreOfVersion1 entries →
     HasSessionsLeft owner entries ↔ HasSessionsLeftInVersion1 owner entries
 left_alike owner entries all = (
-  λ left. (left.0, (busy_alike owner entries left.0 all).0 left.1),
-  λ left. (left.0, (busy_alike owner entries left.0 all).1 left.1),
+  λ (booth, busy). (booth, (busy_alike owner entries booth all).0 busy),
+  λ (booth, busy). (booth, (busy_alike owner entries booth all).1 busy),
 )
 
 -- no override says cast
 none_casts : (owner : ℕ) (entries : List Entry) (session : ℕ) → AreOfVersion1 entries →
     HasOverridden owner entries session word.Cast → ⊥
-none_casts owner entries session all any =
-    let one : IsDeedIn 1 any.1.deed = subst (λ entry. IsDeedIn 1 entry.deed) any.3 (all any.0 any.1 any.2) in
-    no_cast_override any.1.deed session one any.4.1
+none_casts owner entries session all (i, entry, within, at, (_, is)) =
+    let one : IsDeedIn 1 entry.deed = subst (λ entry. IsDeedIn 1 entry.deed) at (all i entry within) in
+    no_cast_override entry.deed session one is
 
 -- the causes of a deed are those of version 1, beside such as don't apply
 pub rows_alike : (owner : ℕ) (entries : List Entry) (deed : Deed) → AreOfVersion1 entries → IsDeedIn 1 deed →

@@ -35,13 +35,12 @@ pub authorise_row : (notes : Notes) (owner : ℕ) (entries : List Entry) (booth 
 authorise_row notes owner entries booth session used busy answer stands listed any =
     let is_busy : IsTrue busy ↔ IsBusy owner entries booth = (
       λ told.
-          let one : Any (λ session. session.booth ≡ booth) notes.running = any.0 told in
-          let at : Contains notes.running one.1 = (one.0, one.2, one.3) in
-          let same : one.1 ≡ run one.1.session booth = ap (run one.1.session) one.4 in
-          (one.1.session, (stands.running booth one.1.session).0 (subst (Contains notes.running) same at)),
-      λ one.
-          let at : Contains notes.running (run one.0 booth) = (stands.running booth one.0).1 one.1 in
-          any.1 (at.0, run one.0 booth, at.1, at.2, refl),
+          let (i, one, within, at, at_booth) = any.0 told in
+          let same : one ≡ run one.session booth = ap (run one.session) at_booth in
+          (one.session, (stands.running booth one.session).0 (subst (Contains notes.running) same (i, within, at))),
+      λ (session, runs).
+          let (i, within, at) = (stands.running booth session).1 runs in
+          any.1 (i, run session booth, within, at, refl),
     ) in
     first_by_tests ((not notes.opened, cause.NotOpened) ∷ (notes.closed, cause.Closed) ∷ (used, cause.SessionUsed)
     ∷ (busy, cause.BoothBusy) ∷ []) (causes_of owner entries (Authorise booth session)) answer (
@@ -66,8 +65,8 @@ pub override_row : (notes : Notes) (owner : ℕ) (entries : List Entry) (session
 override_row notes owner entries session how used over otherwise lacking answer stands listed ended overridden lacks =
     let nothing : ((how ≡ word.Cast) × (Contains notes.committed session → ⊥))
     ↔ ((how ≡ word.Cast) × (IsCommitted entries session → ⊥)) = (
-      λ none. (none.0, λ is. none.1 ((stands.committed session).1 is)),
-      λ none. (none.0, λ at. none.1 ((stands.committed session).0 at)),
+      λ (says, none). (says, λ is. none ((stands.committed session).1 is)),
+      λ (says, none). (says, λ at. none ((stands.committed session).0 at)),
     ) in
     first_by_tests ((not used, cause.NoSession) ∷ (over, cause.SessionEnded) ∷ (otherwise, cause.OtherOverride)
     ∷ (lacking, cause.NothingCommitted) ∷ [])
@@ -90,10 +89,10 @@ pub closed_row : (notes : Notes) (owner : ℕ) (entries : List Entry) (left : Bo
 closed_row notes owner entries left answer stands any =
     let some : (0 < length notes.running) ↔ HasSessionsLeft owner entries = (
       λ long.
-          let one : (booth session : ℕ) × Contains notes.running (run session booth) =
-          (some_member notes.running).0 long in
-          (one.0, (one.1, (stands.running one.0 one.1).0 one.2)),
-      λ one. (some_member notes.running).1 (one.0, one.1.0, (stands.running one.0 one.1.0).1 one.1.1),
+          let (booth, session, there) = (some_member notes.running).0 long in
+          (booth, (session, (stands.running booth session).0 there)),
+      λ (booth, (session, runs)).
+          (some_member notes.running).1 (booth, session, (stands.running booth session).1 runs),
     ) in
     first_by_tests ((not notes.opened, cause.NotOpened) ∷ (notes.closed, cause.Closed)
     ∷ (left, cause.SessionsLeft) ∷ [])
