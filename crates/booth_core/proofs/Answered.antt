@@ -192,8 +192,8 @@ are_tests owner entries IsWhole whole _ is = tt
 pub answered : (owner : ℕ) (entries : List Entry) (IsWhole : Type 0) (whole : Bool) (deed : Deed)
     → Decides whole IsWhole → (answer : Result (Unit {0}) BoothNot) × Refuses owner entries IsWhole deed answer
 answered owner entries IsWhole whole deed is =
-    let first = first_test (tests owner entries whole deed) in (
-      first.0,
-      first_by_tests (tests owner entries whole deed) (causes_of owner entries IsWhole deed) first.0
-          (are_tests owner entries IsWhole whole deed is) first.1,
+    let (answer, first) = first_test (tests owner entries whole deed) in (
+      answer,
+      first_by_tests (tests owner entries whole deed) (causes_of owner entries IsWhole deed) answer
+          (are_tests owner entries IsWhole whole deed is) first,
     )

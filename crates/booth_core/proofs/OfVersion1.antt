@@ -27,8 +27,8 @@ ended_alike owner entries session all =
     any_alike (λ entry. IsDeedIn 1 entry.deed) (λ entry. (entry.maker ≡ owner) × Ends session entry.deed)
     (λ entry. (entry.maker ≡ owner) × EndsInVersion1 session entry.deed) entries all
     (λ entry one. (
-      λ such. (such.0, (ends_alike entry.deed session one).0 such.1),
-      λ such. (such.0, (ends_alike entry.deed session one).1 such.1),
+      λ (own, ends). (own, (ends_alike entry.deed session one).0 ends),
+      λ (own, ends). (own, (ends_alike entry.deed session one).1 ends),
     ))
 
 -- a session is overridden by the table exactly where it is by that of version 1
@@ -42,9 +42,9 @@ overridden_alike entries session all =
 -- no override says cast
 none_casts : (entries : List Entry) (session : ℕ) → AreOfVersion1 entries →
     IsOverriddenTo word.Cast entries session → ⊥
-none_casts entries session all any =
-    let one : IsDeedIn 1 any.1.deed = subst (λ entry. IsDeedIn 1 entry.deed) any.3 (all any.0 any.1 any.2) in
-    no_cast_override any.1.deed session one any.4
+none_casts entries session all (i, entry, within, at, is) =
+    let one : IsDeedIn 1 entry.deed = subst (λ entry. IsDeedIn 1 entry.deed) at (all i entry within) in
+    no_cast_override entry.deed session one is
 
 -- the causes of a deed are those of version 1, beside such as don't apply
 pub rows_alike : (owner : ℕ) (entries : List Entry) (IsWhole : Type 0) (deed : Deed) → AreOfVersion1 entries →

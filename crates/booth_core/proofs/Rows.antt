@@ -10,7 +10,7 @@ use Rattle.first_cause.proofs.Rows.{first_by_tests, iff_trans, is_not}
 use Rattle.booth_core.specs.declared.commitment.Commitment.{Commitment}
 use Rattle.booth_core.specs.declared.state.BoothNot.{BoothNot}
 use Rattle.booth_core.specs.declared.state.BoothNot.TheVariants as cause
-use Rattle.booth_core.specs.Causes.{IsOverridden, IsOverriddenTo, HasCommitted, HasCommittedTo}
+use Rattle.booth_core.specs.Causes.{IsOverridden, IsOverriddenTo, HasCommitted}
 use Rattle.booth_core.specs.Notes.{Notes}
 use Rattle.booth_core.specs.State.{StandsFor}
 use Rattle.booth_core.specs.Table.{causes_of, Refuses}
@@ -22,14 +22,14 @@ to ballot session = record { session = session; ballot = ballot }
 -- an override says one word or the other
 by_word : (entries : List Entry) (session : ℕ) (how : How) → IsOverriddenTo how entries session →
     IsOverridden entries session
-by_word entries session how any = (any.0, any.1, any.2, any.3, (how, any.4))
+by_word entries session how (i, entry, within, at, is) = (i, entry, within, at, (how, is))
 
 -- an override of the session is one to cancel or one to cast
 one_word : (entries : List Entry) (session : ℕ) (entry : Entry) (how : How) → entry.deed ≡ Override session how →
     Contains entries entry →
     IsOverriddenTo word.Cancel entries session ⊎ IsOverriddenTo word.Cast entries session
-one_word entries session entry word.Cancel is at = inl (at.0, entry, at.1, at.2, is)
-one_word entries session entry word.Cast is at = inr (at.0, entry, at.1, at.2, is)
+one_word entries session entry word.Cancel is (i, within, at) = inl (i, entry, within, at, is)
+one_word entries session entry word.Cast is (i, within, at) = inr (i, entry, within, at, is)
 
 -- the test of the one word is true
 pub overridden_first : (notes : Notes) (owner : ℕ) (entries : List Entry) (session : ℕ) (cancels : Bool) →
@@ -45,7 +45,7 @@ pub overridden_second : (notes : Notes) (owner : ℕ) (entries : List Entry) (se
     IsTrue casts ↔ IsOverridden entries session
 overridden_second notes owner entries session cancels casts stands c f untold = (
   λ told. by_word entries session word.Cast ((stands.to_cast session).0 (f.0 told)),
-  λ any. elim (one_word entries session any.1 any.4.0 any.4.1 (any.0, any.2, any.3)) [
+  λ (i, entry, within, at, (how, is)). elim (one_word entries session entry how is (i, within, at)) [
     | inl cancel ↦ absurd (untold (c.1 ((stands.to_cancel session).1 cancel)))
     | inr cast ↦ f.1 ((stands.to_cast session).1 cast)
   ],
@@ -94,17 +94,14 @@ pub commit_row : (notes : Notes) (owner : ℕ) (entries : List Entry) (IsWhole :
 commit_row notes owner entries IsWhole session ballot activated ended committed overridden answer stands t e c o =
     let has_committed : IsTrue committed ↔ HasCommitted owner entries session = (
       λ told.
-          let one : Any (λ one. one.session ≡ session) notes.committed = c.0 told in
-          let at : Contains notes.committed one.1 = (one.0, one.2, one.3) in
-          let same : one.1 ≡ to one.1.ballot session = ap (to one.1.ballot) one.4 in
-          let is : HasCommittedTo owner entries session one.1.ballot =
-          (stands.committed session one.1.ballot).0 (subst (Contains notes.committed) same at) in
-          (is.0, is.1, is.2, is.3, (is.4.0, (one.1.ballot, is.4.1))),
-      λ is.
-          let ballot : List ℕ = is.4.1.0 in
-          let at : Contains notes.committed (to ballot session) =
-          (stands.committed session ballot).1 (is.0, is.1, is.2, is.3, (is.4.0, is.4.1.1)) in
-          c.1 (at.0, to ballot session, at.1, at.2, refl),
+          let (i, one, within, at, in_session) = c.0 told in
+          let same : one ≡ to one.ballot session = ap (to one.ballot) in_session in
+          let (j, entry, held, at_entry, (own, is)) =
+          (stands.committed session one.ballot).0 (subst (Contains notes.committed) same (i, within, at)) in
+          (j, entry, held, at_entry, (own, (one.ballot, is))),
+      λ (i, entry, within, at, (own, (ballot, is))).
+          let (j, noted, at_one) = (stands.committed session ballot).1 (i, entry, within, at, (own, is)) in
+          c.1 (j, to ballot session, noted, at_one, refl),
     ) in
     first_by_tests ((not activated, cause.NotActive) ∷ (ended, cause.Ended) ∷ (committed, cause.AlreadyCommitted)
     ∷ (overridden, cause.Overridden) ∷ (notes.closed, cause.Closed) ∷ [])
