@@ -194,24 +194,16 @@ module _ {T : Type 0} (node : T → Node) where
       (b : List (Event T)) × (l : List (Event T)) × (h ≡ b ++ y.event ∷ l) × (y ≡ placed node m (before ++ b) y.event)
   placed_cases m before [] y c = absurd (Contains-none y c)
   placed_cases m before (x ∷ h) y c =
-      let first : placed node m before x ≡ y →
-      (b : List (Event T)) × (l : List (Event T)) × (x ∷ h ≡ b ++ y.event ∷ l)
-      × (y ≡ placed node m (before ++ b) y.event) =
-      λ e. let same : x ≡ y.event =
-      ap (λ u. u.event) e in (
-        [],
-        h,
-        ap (λ u. u ∷ h) same,
-        sym e ∙ ap (λ u. placed node m before u) same
-            ∙ ap (λ p. placed node m p y.event) (sym (append-nil before)),
-      ) in
-      let later : Contains (placed_of m (before ++ x ∷ []) h) y →
-      (b : List (Event T)) × (l : List (Event T)) × (x ∷ h ≡ b ++ y.event ∷ l)
-      × (y ≡ placed node m (before ++ b) y.event) =
-      λ g. let (b, l, split, at) = placed_cases m (before ++ x ∷ []) h y g in
-      (x ∷ b, l, ap (λ u. x ∷ u) split, at ∙ ap (λ p. placed node m p y.event) (append_assoc before (x ∷ []) b)) in
-      elim (Contains-cons_cases (placed node m before x)
-      (placed_of m (before ++ x ∷ []) h) y c) [ inl e ↦ first e | inr g ↦ later g ]
+      elim (Contains-cons_cases (placed node m before x) (placed_of m (before ++ x ∷ []) h) y c) [
+        | inl e ↦
+            (let same : x ≡ y.event = ap (λ u. u.event) e in
+            let at : y ≡ placed node m before y.event = sym e ∙ ap (placed node m before) same in
+            ([], h, ap (λ u. u ∷ h) same, at ∙ ap (λ p. placed node m p y.event) (sym (append-nil before))))
+        | inr g ↦
+            (let (b, l, split, at) = placed_cases m (before ++ x ∷ []) h y g in
+            let place = append_assoc before (x ∷ []) b in
+            (x ∷ b, l, ap (λ u. x ∷ u) split, at ∙ ap (λ p. placed node m p y.event) place))
+      ]
 
   -- the events of a legal history are sorted
   placed_rise : (m : ℕ) (before h whole : List (Event T)) → IsLegal node m whole → whole ≡ before ++ h →
