@@ -30,7 +30,7 @@ def functions(crate):
             size, seconds = found.get(function, (0, 0))
             since = status.st_mtime - before if before else 0
             found[function] = (
-                size + (status.st_size if part == "Lts" else 0),
+                size + (status.st_size if name.endswith(".Lts.oantt") else 0),
                 seconds + (since if since < PAUSE else 0),
             )
         before = status.st_mtime

@@ -55,17 +55,21 @@ pub record IsCommandWord (word : List ℕ) : Type 0 where
   pub printing : All (λ byte. (33 ≤ byte) × (byte ≤ 126)) word
   pub no_option : slice_get word 0 ≢ Some 45
 
+-- the most logs of a command
+abbrev pub max_logs : ℕ
+max_logs = 16
+
 -- two words for entries, and 1 to 16 logs
 pub record AreOrderWords (x y : List ℕ) (logs : List (List ℕ)) : Type 0 where
   pub first : IsEntryWord x
   pub second : IsEntryWord y
   pub some : 0 < length logs
-  pub at_most : length logs ≤ 16
+  pub at_most : length logs ≤ max_logs
 
 -- 1 to 16 logs
 pub record AreLogs (logs : List (List ℕ)) : Type 0 where
   pub some : 0 < length logs
-  pub at_most : length logs ≤ 16
+  pub at_most : length logs ≤ max_logs
 
 -- 1 to 800 sessions
 pub record AreSessions (sessions : ℕ) : Type 0 where

@@ -165,14 +165,14 @@ fn sessions_of(word: &str) -> Option<u32>
 fn are_logs(logs: &[String]) -> bool
     ensures { IsTrue result ↔ AreLogs (map string_bytes logs.now) }
 {
-    !logs.is_empty() && logs.len() <= 16
+    !logs.is_empty() && logs.len() <= MAX_LOGS
 }
 
 /// Whether these are words for entries, and there are 1 to 16 logs.
 fn are_ordered(x: &str, y: &str, logs: &[String]) -> bool
     ensures { IsTrue result ↔ AreOrderWords x.now y.now (map string_bytes logs.now) }
 {
-    is_entry_word(x) && is_entry_word(y) && !logs.is_empty() && logs.len() <= 16
+    is_entry_word(x) && is_entry_word(y) && !logs.is_empty() && logs.len() <= MAX_LOGS
 }
 
 /// Whether each of the words has the form of a word.

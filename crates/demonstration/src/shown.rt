@@ -15,7 +15,7 @@ ghost use Rattle.std.specs.Prelude.{
 ghost use Rattle.std.specs.Prelude.{Err, Ok, Some, slice_get};
 ghost use Rattle.canonical_sexp.specs.Text.{text_of};
 ghost use Rattle.entry_order.specs.World.{history, sent_in};
-ghost use Rattle.roster.specs.Machines.{HaveText};
+ghost use Rattle.roster.specs.Machines.{HaveText, max_machines};
 ghost use Rattle.roster.specs.RosterText.{roster_tree};
 ghost use Rattle.election_script.specs.Lawful.{IsLawful};
 ghost use Rattle.log_files.specs.LogFile.{IsSealedLogOf};
@@ -40,15 +40,12 @@ ghost use Rattle.demonstration.specs.Shown.{is_kept, log_name};
 use crate::kept::kept_text;
 use auditor::{AuditFault, Outcome, Report, audit_logs};
 use election_script::Script;
-use log_files::{LogRead, sealed_log_of};
+use log_files::{LogRead, MAX_BYTES, sealed_log_of};
 use polling_world::{Machine, play};
 use precedence::Arrows;
 use roster::{Roster, election};
 use rule_engine::Verdict;
 use std::alloc::{AllocError, Global};
-
-/// The most bytes of a log that is read.
-const MAX_LOG: usize = 67_108_864;
 
 /// The name of the log in a refusal.
 const LOG: &str = "log";
@@ -74,7 +71,7 @@ pub struct Demonstration {
 
 /// How many entries the machines sent.
 fn count_sent(machines: &[Machine]) -> usize
-    requires { length machines.now ≤ 16 }
+    requires { length machines.now ≤ max_machines }
     ensures { result ≡ length (sent_in (world_of machines.now)) }
 {
     let mut count = 0;
@@ -141,7 +138,7 @@ fn log_of(alloc: Global, roster: &Roster, bytes: &[u8]) -> Result<LogRead, Audit
         (λ refusal. IsLogRefusal log_name (Some bytes.now) refusal)) }
     ensures only { IfErr result (λ fault. (fault ≢ AuditFault.ReadFault) × (¬ IsAbsent fault)) }
 {
-    if bytes.len() > MAX_LOG {
+    if bytes.len() > MAX_BYTES {
         return Err(AuditFault::refused(alloc, LOG, 0, "TooLong"));
     }
     let text = roster.write(alloc)?;

@@ -15,7 +15,7 @@ ghost use Rattle.std.specs.Prelude.{
 };
 ghost use Rattle.std.specs.List.{flat_map, range_with_len};
 ghost use Rattle.entry_order.specs.declared.step.Step.TheVariants.{Act};
-ghost use Rattle.election_script.specs.Lawful.{IsLawful};
+ghost use Rattle.election_script.specs.Lawful.{IsLawful, max_actions};
 ghost use Rattle.roster.specs.declared.post.Role.TheVariants.{Booth};
 ghost use Rattle.election_script.specs.Generated.{
   supervisor,
@@ -170,7 +170,7 @@ fn machines_of(alloc: Global, n: u32) -> Result<Items<Cast0>, Memory>
 
 /// How much the machines do in all.
 fn count_actions(machines: &[Cast0]) -> u32
-    requires { count_actions machines.now ≤ 4096 }
+    requires { count_actions machines.now ≤ max_actions }
     ensures { result ≡ count_actions machines.now }
 {
     let mut count = 0;

@@ -20,7 +20,7 @@ use Rattle.entry_order.specs.History.{held, sent, IsLegal}
 use Rattle.entry_order.specs.World.{Machine, World, start, history, history_of, with_machine, append, send, cannot_hear}
 use Rattle.entry_order.specs.World.{hear, happens, play}
 use Rattle.entry_order.specs.Receipt.{IsOrderly}
-use Rattle.entry_order.specs.Merged.{PlacedEvent, sort_key, IsSortedByKey, placed, IsMergedOf, step_of}
+use Rattle.entry_order.specs.Merged.{PlacedEvent, sort_key, IsInSortOrder, placed, IsMergedOf, step_of}
 use Rattle.entry_order.specs.Made.{IsMadeBy}
 use Rattle.entry_order.specs.Merged.{MergedIsPlayedAgain}
 use Rattle.entry_order.proofs.Lists.{Contains-none, Contains-head, Contains-later, Contains-at, Contains-cons_cases}
@@ -44,7 +44,7 @@ module _ {T : Type 0} where
       ∙ ap ordering_reverse b in cc
 
   -- two sorted lists with the same members are equal
-  pub same_sorted : (xs ys : List (PlacedEvent T)) → IsSortedByKey xs → IsSortedByKey ys →
+  pub same_sorted : (xs ys : List (PlacedEvent T)) → IsInSortOrder xs → IsInSortOrder ys →
       ((d : PlacedEvent T) → Contains xs d → Contains ys d) →
       ((d : PlacedEvent T) → Contains ys d → Contains xs d) → xs ≡ ys
   same_sorted [] [] a b to from = refl
@@ -79,11 +79,11 @@ module _ {T : Type 0} where
       λ i. heads i ∷ tails i
 
   -- a part of a sorted list is sorted
-  filter_sorted : (p : PlacedEvent T → Bool) (xs : List (PlacedEvent T)) → IsSortedByKey xs →
-      IsSortedByKey (filter p xs)
+  filter_sorted : (p : PlacedEvent T → Bool) (xs : List (PlacedEvent T)) → IsInSortOrder xs →
+      IsInSortOrder (filter p xs)
   filter_sorted p [] a = tt
   filter_sorted p (x ∷ xs) a =
-      elim (p x) as (λ b. IsSortedByKey (cond b (x ∷ filter p xs) (filter p xs))) [
+      elim (p x) as (λ b. IsInSortOrder (cond b (x ∷ filter p xs) (filter p xs))) [
         | true ↦
             (λ y h. a.0 y (Contains-filter_cases p xs y h).0, filter_sorted p xs a.1)
         | false ↦ filter_sorted p xs a.1
@@ -91,7 +91,7 @@ module _ {T : Type 0} where
 
   -- what is lower than a member stands before it
   lower_is_before : (d : List (PlacedEvent T)) (x : PlacedEvent T) (r : List (PlacedEvent T)) (y : PlacedEvent T) →
-      IsSortedByKey (d ++ x ∷ r) → Contains (d ++ x ∷ r) y → Lower y x → Contains d y
+      IsInSortOrder (d ++ x ∷ r) → Contains (d ++ x ∷ r) y → Lower y x → Contains d y
   lower_is_before [] x r y a c l =
       elim (Contains-cons_cases x r y c) [
         | inl e ↦ absurd
@@ -207,7 +207,7 @@ module _ {T : Type 0} (node : T → Node) where
 
   -- the events of a legal history are sorted
   placed_rise : (m : ℕ) (before h whole : List (Event T)) → IsLegal node m whole → whole ≡ before ++ h →
-      IsSortedByKey (placed_of m before h)
+      IsInSortOrder (placed_of m before h)
   placed_rise m before [] whole legal is = tt
   placed_rise m before (x ∷ h) whole legal is =
       let step : (before ++ x ∷ []) ++ h ≡ before ++ x ∷ h = append_assoc before (x ∷ []) h in (
@@ -293,7 +293,7 @@ module _ {T : Type 0} (node : T → Node) (next : ℕ → List (Event T) → Opt
       subst (λ u. Lower y u) (sym (at ∙ ap (λ u. placed node x.machine b u) got))
       (receipt_rank node m past e legal.stamp x.machine b) in
       let earlier : Contains d y =
-      lower_is_before d x r y (subst IsSortedByKey is merged.sorted) (subst (λ u. Contains u y) is there) lower in
+      lower_is_before d x r y (subst IsInSortOrder is merged.sorted) (subst (λ u. Contains u y) is there) lower in
       let (front, back, parts) = member_split (part m d) (Sent e) (Contains-part d y earlier) in
       let whole : history w m ≡ front ++ Sent e ∷ (back ++ part m (x ∷ r)) =
       split_history m d x r is ∙ ap (λ h. h ++ part m (x ∷ r)) parts

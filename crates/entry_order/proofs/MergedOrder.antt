@@ -13,7 +13,7 @@ use Rattle.std.proofs.lemmas.Bool.{cases_lt}
 use Rattle.entry_order.specs.declared.event.Event.{Event}
 use Rattle.entry_order.specs.Node.{Node}
 use Rattle.entry_order.specs.World.{World, history}
-use Rattle.entry_order.specs.Merged.{PlacedEvent, sort_key, IsSortedByKey, placed, IsEventOf, IsMergedOf}
+use Rattle.entry_order.specs.Merged.{PlacedEvent, sort_key, IsInSortOrder, placed, IsEventOf, IsMergedOf}
 use Rattle.entry_order.specs.Merged.{WorldsHaveOneMergedOrder}
 use Rattle.entry_order.proofs.Lists.{Contains-none, Contains-at, Contains-later, Contains-cons_cases}
 use Rattle.entry_order.proofs.Machines.{in_world}
@@ -66,8 +66,8 @@ module _ {T : Type 0} where
 
   -- putting x beside the first keeps the order, where the rest keeps it
   put_sorted : (o : Ordering) (x c : PlacedEvent T) (cs after : List (PlacedEvent T)) →
-      slice_cmp nat_cmp (sort_key x) (sort_key c) ≡ o → IsSortedByKey (c ∷ cs) → IsSortedByKey after →
-      ((y : PlacedEvent T) → Contains after y → (x ≡ y) ⊎ Contains cs y) → IsSortedByKey (put o x c cs after)
+      slice_cmp nat_cmp (sort_key x) (sort_key c) ≡ o → IsInSortOrder (c ∷ cs) → IsInSortOrder after →
+      ((y : PlacedEvent T) → Contains after y → (x ≡ y) ⊎ Contains cs y) → IsInSortOrder (put o x c cs after)
   put_sorted Less x c cs after is a b from = (
     λ y h. elim (Contains-cons_cases c cs y h) [
       | inl e ↦ subst (λ (u : PlacedEvent T). Lower x u) e is
@@ -81,14 +81,14 @@ module _ {T : Type 0} where
       (λ y h. elim (from y h) [ inl e ↦ subst (λ (u : PlacedEvent T). Lower c u) e below | inr l ↦ a.0 y l ], b)
 
   -- putting x in its place keeps the order
-  insert_sorted : (x : PlacedEvent T) (xs : List (PlacedEvent T)) → IsSortedByKey xs → IsSortedByKey (insert x xs)
+  insert_sorted : (x : PlacedEvent T) (xs : List (PlacedEvent T)) → IsInSortOrder xs → IsInSortOrder (insert x xs)
   insert_sorted x [] a = (λ y h. absurd (Contains-none y h), tt)
   insert_sorted x (c ∷ cs) a =
       put_sorted (slice_cmp nat_cmp (sort_key x) (sort_key c)) x c cs (insert x cs) refl a (insert_sorted x cs a.1)
       (insert_cases x cs)
 
   -- the sorted list is sorted
-  sorted_sorted : (xs : List (PlacedEvent T)) → IsSortedByKey (sorted xs)
+  sorted_sorted : (xs : List (PlacedEvent T)) → IsInSortOrder (sorted xs)
   sorted_sorted [] = tt
   sorted_sorted (x ∷ xs) = insert_sorted x (sorted xs) (sorted_sorted xs)
 

@@ -31,11 +31,11 @@ abbrev pub sort_key : {T : Type 0} → PlacedEvent T → List ℕ
 sort_key x = x.clock ∷ kind x.event ∷ x.machine ∷ x.place ∷ []
 
 -- each has a lower rank than all later ones
-abbrev pub IsSortedByKey : {T : Type 0} → List (PlacedEvent T) → Type 0
-IsSortedByKey [] = Unit {0}
-IsSortedByKey {T} (x ∷ xs) =
+abbrev pub IsInSortOrder : {T : Type 0} → List (PlacedEvent T) → Type 0
+IsInSortOrder [] = Unit {0}
+IsInSortOrder {T} (x ∷ xs) =
     ((y : PlacedEvent T) → Contains xs y → slice_cmp nat_cmp (sort_key x) (sort_key y) ≡ Less)
-    × IsSortedByKey xs
+    × IsInSortOrder xs
 
 module _ {T : Type 0} (node : T → Node) where
   -- the event x of machine m, after the history before; the clock is the greatest stamp then held
@@ -55,7 +55,7 @@ module _ {T : Type 0} (node : T → Node) where
 
   -- the list has all events of w and nothing else, sorted
   pub record IsMergedOf (w : World T) (xs : List (PlacedEvent T)) : Type 0 where
-    pub sorted : IsSortedByKey xs
+    pub sorted : IsInSortOrder xs
     pub events : (x : PlacedEvent T) → Contains xs x ↔ IsEventOf w x
 
   -- the step that makes the event at machine m

@@ -4,6 +4,7 @@ use Rattle.std.specs.Prelude.{AllPairs, Option, Some, None, slice_index_or}
 use Rattle.std.specs.List.{Contains}
 use Rattle.entry_format.specs.SealedEntry.{SealedEntry}
 use Rattle.election_script.specs.declared.script.Lose.{Lose}
+use Rattle.election_script.specs.Lawful.{max_actions}
 use Rattle.broadcast_queues.specs.Ends.{OutView, PutItem, FoundLinkFull}
 use Rattle.floor_losses.specs.declared.loss.Loss.{Loss}
 use Rattle.floor_losses.specs.declared.loss.LossWhy.{LossWhy}
@@ -64,4 +65,4 @@ pub record IsSentBelow (loses : List Lose) (capacity most : ℕ) (e : SealedEntr
 -- each of these is the machine's entry with this number
 abbrev pub AreCopies : ℕ → ℕ → List SealedEntry → Type 0
 AreCopies own number copies = All (λ x. (x.entry.maker ≡ own) × (x.entry.number ≡ number)
-    × (x.entry.number < 4096)) copies
+    × (x.entry.number < max_actions)) copies

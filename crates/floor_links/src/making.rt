@@ -1,6 +1,8 @@
 //! The links of a place, made row by row.
 ghost use Rattle.std.specs.Prelude.{◌≡◌, ◌<◌, ◌≤◌, ◌++◌, [], ◌∷◌, map, IfOk, slice_set, vec_len};
 ghost use Rattle.std.specs.Prelude.{slice_index_or};
+ghost use Rattle.election_script.specs.Lawful.{max_link};
+ghost use Rattle.roster.specs.Machines.{max_machines};
 ghost use Rattle.floor_links.specs.Fresh.{AreNewLinks};
 ghost use Rattle.floor_links.specs.inside.Growing.{IsRowBelow};
 
@@ -22,8 +24,8 @@ pub struct NewLinks {
 /// Links from each of `count` machines to each, which hold at most `capacity` entries. All memory
 /// that they need is taken here.
 pub fn make_links(alloc: Global, count: usize, capacity: usize) -> Result<NewLinks, Memory>
-    requires few { count ≤ 16 }
-    requires capacity { (0 < capacity) × (capacity ≤ 4096) }
+    requires few { count ≤ max_machines }
+    requires capacity { (0 < capacity) × (capacity ≤ max_link) }
     ensures { IfOk result (λ new. AreNewLinks count capacity new.links
         (map (λ row. row.items) new.outs.items) (map (λ row. row.items) new.inns.items)) }
 {
@@ -52,7 +54,7 @@ fn make_row(
     capacity: usize,
     inns: &mut Vec<Vec<LinkIn<Broadcast>>>,
 ) -> Result<(Vec<Link<Broadcast>>, Vec<LinkOut<Broadcast>>), Memory>
-    requires capacity { (0 < capacity) × (capacity ≤ 4096) }
+    requires capacity { (0 < capacity) × (capacity ≤ max_link) }
     ensures { IfOk result (λ r. IsRowBelow from capacity (vec_len inns.old) r.0.items r.1.items
         (map (λ row. row.items) inns.old.items) (map (λ row. row.items) inns.new.items)) }
 {

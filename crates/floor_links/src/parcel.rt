@@ -1,5 +1,6 @@
 //! What the links carry.
 ghost use Rattle.std.specs.Prelude.{◌≡◌, ◌<◌};
+ghost use Rattle.election_script.specs.Lawful.{max_actions};
 
 use broadcast_queues::Parcel;
 use entry_format::Sealed;
@@ -16,18 +17,19 @@ pub struct Broadcast {
 impl Model for Broadcast {
     ghost use Rattle.std.specs.Prelude.{◌<◌};
     ghost use Rattle.entry_format.specs.SealedEntry.{SealedEntry};
+    ghost use Rattle.election_script.specs.Lawful.{max_actions};
 
     ghost Value = { SealedEntry };
 
     ghost view = { λ b. b.sealed };
 
-    ghost invariant = { λ b. b.sealed.entry.number < 4096 };
+    ghost invariant = { λ b. b.sealed.entry.number < max_actions };
 }
 
 impl Broadcast {
     /// The entry, to be sent.
     pub fn new(sealed: Sealed) -> Broadcast
-        requires { sealed.entry.number < 4096 }
+        requires { sealed.entry.number < max_actions }
         ensures { result ≡ sealed }
     {
         Broadcast { sealed }
@@ -36,7 +38,7 @@ impl Broadcast {
     /// The entry that was sent.
     pub fn open(self) -> Sealed
         ensures value { result ≡ self }
-        ensures small { self.entry.number < 4096 }
+        ensures small { self.entry.number < max_actions }
     {
         let Broadcast { sealed } = self;
         sealed

@@ -1,6 +1,8 @@
 //! What becomes of an entry that a machine sent.
 ghost use Rattle.std.specs.Prelude.{◌≡◌, ◌≢◌, ◌≤◌, ◌<◌, ◌+◌, ◌++◌, ℕ, List, All};
 ghost use Rattle.std.specs.Prelude.{slice_index_or, vec_capacity, vec_len};
+ghost use Rattle.election_script.specs.Lawful.{max_actions};
+ghost use Rattle.roster.specs.Machines.{max_machines};
 ghost use Rattle.entry_format.specs.SealedEntry.{SealedEntry};
 ghost use Rattle.broadcast_queues.specs.Ends.{IsOutOf, OutView};
 ghost use Rattle.floor_losses.specs.declared.loss.Loss.{Loss};
@@ -28,7 +30,7 @@ fn send_one<R: Wait>(
 )
     requires end { IsOutOf link.now out.old }
     requires from { copy.entry.maker ≡ link.now.from }
-    requires small { copy.entry.number < 4096 }
+    requires small { copy.entry.number < max_actions }
     requires greater { All (λ (before : SealedEntry).
         before.entry.number < copy.entry.number) out.old.put }
     requires room { vec_len losses.old < vec_capacity losses.old }
@@ -71,7 +73,7 @@ pub fn send_all<R: Wait>(
 )
     // The ends are those of the links in the machine's row.
     requires own { own < vec_len outs.old }
-    requires few { vec_len outs.old ≤ 16 }
+    requires few { vec_len outs.old ≤ max_machines }
     requires row { IsRowOf links.now own outs.old.items }
 
     // The entry is the machine's next, and there is a copy for each receiver.

@@ -1,5 +1,6 @@
 //! What becomes of an entry that is handed to a machine.
 ghost use Rattle.std.specs.Prelude.{◌≡◌, ◌≢◌, ◌<◌, ◌≤◌, ◌+◌, List, All, IfOk, length};
+ghost use Rattle.roster.specs.Machines.{max_machines};
 ghost use Rattle.entry_format.specs.SealedEntry.{SealedEntry};
 ghost use Rattle.polling_world.specs.Machines.{MachineState};
 ghost use Rattle.floor_losses.specs.declared.loss.Loss.{Loss};
@@ -39,7 +40,7 @@ pub fn hand_to(
     loses: &[Lose],
     losses: &mut Vec<Loss>,
 ) -> Result<(), Memory>
-    requires few { length machines.old.items ≤ 16 }
+    requires few { length machines.old.items ≤ max_machines }
     requires to { to < length machines.old.items }
     requires numbers { AreNumbered machines.old.items }
     requires other { s.entry.maker ≢ to }
@@ -67,7 +68,7 @@ pub fn hand_waits(
     loses: &[Lose],
     losses: &mut Vec<Loss>,
 ) -> Result<(), Memory>
-    requires few { length machines.old.items ≤ 16 }
+    requires few { length machines.old.items ≤ max_machines }
     requires numbers { AreNumbered machines.old.items }
     requires waits { AreOnWay (length machines.old.items) waits.items }
     ensures swept { IfOk result (λ _. (old : List MachineState) (before : List Loss) →
@@ -90,7 +91,7 @@ pub fn hand_out(
     loses: &[Lose],
     losses: &mut Vec<Loss>,
 ) -> Result<(), Memory>
-    requires few { length machines.old.items ≤ 16 }
+    requires few { length machines.old.items ≤ max_machines }
     requires from { from < length machines.old.items }
     requires numbers { AreNumbered machines.old.items }
     requires many { length copies.items + 1 ≡ length machines.old.items }

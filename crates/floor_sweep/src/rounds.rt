@@ -1,5 +1,6 @@
 //! Rounds over machines, each of which acts while it can.
 ghost use Rattle.std.specs.Prelude.{◌≡◌, ◌<◌, ◌≤◌, List, IfOk, length, true, false};
+ghost use Rattle.roster.specs.Machines.{max_machines};
 ghost use Rattle.polling_world.specs.Machines.{MachineState};
 ghost use Rattle.floor_losses.specs.declared.loss.Loss.{Loss};
 ghost use Rattle.floor_sweep.specs.inside.Fates.{AreNumbered};
@@ -27,7 +28,7 @@ pub fn act_at(
     loses: &[Lose],
     losses: &mut Vec<Loss>,
 ) -> Result<bool, Memory>
-    requires few { length machines.old.items ≤ 16 }
+    requires few { length machines.old.items ≤ max_machines }
     requires at { at < length machines.old.items }
     requires numbers { AreNumbered machines.old.items }
     ensures swept { IfOk result (λ did. (old : List MachineState) (before : List Loss) →
@@ -58,7 +59,7 @@ pub fn act_while(
     loses: &[Lose],
     losses: &mut Vec<Loss>,
 ) -> Result<bool, Memory>
-    requires few { length machines.old.items ≤ 16 }
+    requires few { length machines.old.items ≤ max_machines }
     requires at { at < length machines.old.items }
     requires numbers { AreNumbered machines.old.items }
     ensures swept { IfOk result (λ did. (old : List MachineState) (before : List Loss) →
@@ -85,7 +86,7 @@ pub fn round(
     loses: &[Lose],
     losses: &mut Vec<Loss>,
 ) -> Result<bool, Memory>
-    requires few { length machines.old.items ≤ 16 }
+    requires few { length machines.old.items ≤ max_machines }
     requires numbers { AreNumbered machines.old.items }
     ensures swept { IfOk result (λ did. (old : List MachineState) (before : List Loss) →
         IsSwept loses.now old before no_waits machines.old.items losses.old.items →

@@ -1,6 +1,7 @@
 //! The sweep over machines and what waits for them.
 ghost use Rattle.std.specs.Prelude.{◌≡◌, ◌≤◌, ◌++◌, ℕ, List, [], Some, All, IfOk, length};
 ghost use Rattle.std.specs.Prelude.{slice_get};
+ghost use Rattle.roster.specs.Machines.{max_machines};
 ghost use Rattle.entry_format.specs.Nodes.{node_of_sealed};
 ghost use Rattle.entry_order.specs.World.{history};
 ghost use Rattle.polling_world.specs.Machines.{MachineState};
@@ -45,7 +46,7 @@ pub fn sweep(
     loses: &[Lose],
     losses: &mut Vec<Loss>,
 ) -> Result<(), Memory>
-    requires few { length machines.old.items ≤ 16 }
+    requires few { length machines.old.items ≤ max_machines }
     requires placed { ArePlaced machines.old.items }
 
     // Each entry that was sent is heard, lost or waiting.

@@ -1,7 +1,9 @@
 -- What is so of each world of an honest polling place, however its steps came about.
 use Rattle.std.specs.Prelude.{◌≡◌, ◌≤◌, List, length, Ok}
 use Rattle.std.specs.List.{Contains}
+use Rattle.election_script.specs.Lawful.{max_actions}
 use Rattle.roster.specs.declared.post.Post.{Post}
+use Rattle.roster.specs.Machines.{max_machines}
 use Rattle.entry_format.specs.Nodes.{node_of_sealed}
 use Rattle.entry_format.specs.SealedEntry.{SealedEntry}
 use Rattle.entry_format.specs.Unsealing.{Unseals}
@@ -14,7 +16,7 @@ use Rattle.polling_world.specs.Making.{election_of}
 -- the roster's election, and is that entry's.
 pub record IsHonestWorld (posts : List Post) (w : World SealedEntry) : Type 0 where
   pub one_each : length w ≡ length posts
-  pub few_machines : length posts ≤ 16
-  pub few_sent : length (sent_in w) ≤ 4096
+  pub few_machines : length posts ≤ max_machines
+  pub few_sent : length (sent_in w) ≤ max_actions
   pub orderly : IsOrderly node_of_sealed w
   pub valid : (e : SealedEntry) → Contains (sent_in w) e → Unseals posts (election_of posts) e.text (Ok e)

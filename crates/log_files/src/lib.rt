@@ -11,6 +11,7 @@ mod sealed_log;
 mod sealed_reader;
 mod written;
 
+pub use feed::MAX_BYTES;
 pub use laws::{
     bytes_say_one_log, bytes_say_one_sealed_log, kept_entries_are_valid,
     sealed_logs_agree_with_plain_ones,

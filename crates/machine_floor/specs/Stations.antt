@@ -2,6 +2,7 @@
 use Rattle.std.specs.Prelude.{◌≡◌, ◌≢◌, ℕ, ◌+◌, ◌*◌, ◌<◌, ◌≤◌, nat_lt, true, false, List, [], ◌∷◌, length, map}
 use Rattle.std.specs.Prelude.{All, ◌⊎◌, Some, slice_index_or}
 use Rattle.std.specs.List.{Contains, filter, sum_by}
+use Rattle.roster.specs.Machines.{max_machines}
 use Rattle.entry_format.specs.Nodes.{node_of_sealed}
 use Rattle.entry_format.specs.SealedEntry.{SealedEntry}
 use Rattle.entry_order.specs.declared.event.Event.{Event}
@@ -9,6 +10,7 @@ use Rattle.entry_order.specs.declared.event.Event.TheVariants.{Got}
 use Rattle.entry_order.specs.History.{held, sent}
 use Rattle.entry_order.specs.Naming.{IsBorneIn}
 use Rattle.election_script.specs.declared.script.Lose.{Lose}
+use Rattle.election_script.specs.Lawful.{max_actions, max_events}
 use Rattle.log_lock.specs.declared.story.Tick.{Tick}
 use Rattle.broadcast_queues.specs.Ends.{OutView, InView, LinkView, IsOutOf, IsInOf}
 use Rattle.floor_losses.specs.declared.loss.Loss.{Loss}
@@ -110,7 +112,7 @@ IsOfEar s loss =
 -- the entries are small in number, and the j-th has a number of at least j
 pub record IsTakenWell (from : ℕ) (taken : List SealedEntry) : Type 0 where
   pub makers : All (λ x. x.entry.maker ≡ from) taken
-  pub small : All (λ x. x.entry.number < 4096) taken
+  pub small : All (λ x. x.entry.number < max_actions) taken
   pub dense : (j : ℕ) (d : SealedEntry) → j < length taken → j ≤ (slice_index_or taken j d).entry.number
 
 -- What is true of every station. Its machine is one; each link out has what was sent and isn't lost on it, in order;
@@ -119,9 +121,9 @@ pub record IsTakenWell (from : ℕ) (taken : List SealedEntry) : Type 0 where
 pub record IsStation (s : StationState) : Type 0 where
   pub machine : IsMachine s.machine
   pub going : s.machine.marked ≡ false
-  pub small : s.machine.config.log ≤ 4096
+  pub small : s.machine.config.log ≤ max_events
   pub place : s.machine.config.number < length s.outs
-  pub few : length s.outs ≤ 16
+  pub few : length s.outs ≤ max_machines
   pub as_many : length s.inns ≡ length s.outs
   -- each link out has what was sent and isn't lost on it, in order
   pub puts : (to : ℕ) (d : OutView SealedEntry) → to < length s.outs → to ≢ s.machine.config.number →

@@ -1,6 +1,7 @@
 //! Links are finished, and what nobody took waits.
 ghost use Rattle.std.specs.Prelude.{◌≡◌, ◌≢◌, ◌<◌, ◌≤◌, ◌++◌, [], IfOk, length, map};
 ghost use Rattle.std.specs.Prelude.{slice_index_or, vec_len};
+ghost use Rattle.roster.specs.Machines.{max_machines};
 ghost use Rattle.broadcast_queues.specs.Ends.{IsInOf, IsOutOf};
 ghost use Rattle.machine_floor.specs.inside.Gathering.{AreEndsOf, AreMadeBy, ArePopped, AreRests};
 ghost use Rattle.machine_floor.specs.inside.Gathering.{IsRest, IsRowFinished, IsRowOfEnds, waiting};
@@ -45,7 +46,7 @@ fn finish_row<R: Wait>(
     inns: &mut Vec<Vec<LinkIn<Broadcast>>>,
     waits: &mut Vec<Waiting>,
 ) -> Result<(), Memory>
-    requires few { vec_len inns.old ≤ 16 }
+    requires few { vec_len inns.old ≤ max_machines }
     requires ends { IsRowOfEnds from row.items outs.items (map (λ row. row.items) inns.old.items) }
     ensures { IfOk result (λ _. IsRowFinished from outs.items
         (map (λ row. row.items) inns.old.items) (map (λ row. row.items) inns.new.items)
@@ -91,7 +92,7 @@ fn finish_one<R: Wait>(
     inn: LinkIn<Broadcast>,
     waits: &mut Vec<Waiting>,
 ) -> Result<(), Memory>
-    requires small { to ≤ 16 }
+    requires small { to ≤ max_machines }
     requires out { IsOutOf link out }
     requires inn { IsInOf link inn }
     requires makers { from ≢ to → AreMadeBy from out.put }

@@ -20,7 +20,7 @@ use Rattle.std.proofs.lemmas.Map.Lookups.{exact_bytes}
 use Rattle.std.proofs.lemmas.Slice.Eq.{bytes_eq-Decides}
 use Rattle.entry_order.specs.Node.{Node}
 use Rattle.entry_order.specs.World.{World}
-use Rattle.entry_order.specs.Merged.{PlacedEvent, sort_key, IsSortedByKey, IsMergedOf, step_of}
+use Rattle.entry_order.specs.Merged.{PlacedEvent, sort_key, IsInSortOrder, IsMergedOf, step_of}
 use Rattle.polling_world.specs.declared.merging.RankedStep.{RankedStep}
 use Rattle.polling_world.specs.inside.Ranked.{ranked_step, AreRanked}
 
@@ -101,7 +101,7 @@ module _ {T : Type 0} (node : T → Node) where
 
   -- so they rise
   rises : (xs : List (PlacedEvent T)) → IsDistinct bytes_eq (map sort_key xs) →
-      IsSortedBy lower (map (ranked_step node) xs) → IsSortedByKey xs
+      IsSortedBy lower (map (ranked_step node) xs) → IsInSortOrder xs
   rises [] once sorted = tt
   rises (x ∷ xs) once sorted = (
     λ y c. first_lower x xs y c once sorted,

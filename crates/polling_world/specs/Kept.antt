@@ -1,5 +1,6 @@
 -- What the fields of a machine keep that contracts don't see.
 use Rattle.std.specs.Prelude.{◌≡◌, ℕ, ◌+◌, ◌^◌, ◌≤◌, List, length}
+use Rattle.election_script.specs.Lawful.{max_events}
 use Rattle.entry_format.specs.declared.deed.Deed.{Deed}
 use Rattle.entry_format.specs.declared.entry.Entry.{Entry}
 use Rattle.entry_format.specs.Deeds.{IsDeedOf}
@@ -42,4 +43,4 @@ pub record IsKept (m : MachineState) (election : List ℕ) (next capacity : ℕ)
   pub of_log : capacity ≡ m.config.log
   pub noted : StandFor state m.config.role m.config.number (entries_in m.events)
   pub spare : m.config.log ≤ length m.events + spare_of state
-  pub few : m.config.log ≤ 4096
+  pub few : m.config.log ≤ max_events

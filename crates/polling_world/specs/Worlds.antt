@@ -7,7 +7,9 @@ use Rattle.entry_order.specs.declared.event.Event.{Event}
 use Rattle.entry_order.specs.Receipt.{IsOrderly}
 use Rattle.entry_order.specs.World.{Machine, World, sent_in}
 use Rattle.roster.specs.declared.post.Post.{Post}
+use Rattle.roster.specs.Machines.{max_machines}
 use Rattle.election_script.specs.declared.script.Script.{Script}
+use Rattle.election_script.specs.Lawful.{max_events}
 use Rattle.polling_world.specs.Configs.{Config}
 use Rattle.polling_world.specs.Machines.{MachineState, has_stopped, IsFresh}
 use Rattle.polling_world.specs.Sending.{MaySend}
@@ -50,8 +52,8 @@ pub record IsPlaced (posts : List Post) (log place : ℕ) (m : MachineState) : T
 -- world (Lamport 1978), so that none is ever the greatest that 32 bits hold.
 pub record IsWorld (posts : List Post) (machines : List MachineState) : Type 0 where
   pub log : ℕ
-  pub small : log ≤ 4096
-  pub few : length machines ≤ 16
+  pub small : log ≤ max_events
+  pub few : length machines ≤ max_machines
   pub placed : (place : ℕ) (m : MachineState) → slice_get machines place ≡ Some m → IsPlaced posts log place m
   pub orderly : IsOrderly node_of_sealed (world_of machines)
   pub stamps : (e : SealedEntry) → Contains (sent_in (world_of machines)) e →

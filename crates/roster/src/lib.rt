@@ -12,7 +12,7 @@ mod writing;
 pub use faults::RosterFault;
 pub use laws::{one_reading_is_right, texts_have_one_roster};
 pub use post::{Name, Post, Role, is_name};
-pub use rosters::{Memory, Posts, Roster, election};
+pub use rosters::{MAX_MACHINES, Memory, Posts, Roster, election};
 
 #[cfg(test)]
 mod tests;

@@ -17,7 +17,7 @@ use std::alloc::{AllocError, Global};
 pub type Memory = AllocError;
 
 /// The most machines of a roster.
-const MAX_MACHINES: usize = 16;
+pub const MAX_MACHINES: usize = 16;
 
 /// The machines of a roster, in their order.
 pub type Posts = Items<Post>;

@@ -1,7 +1,9 @@
 -- A station before anything happened.
 use Rattle.std.specs.Prelude.{◌≡◌, ℕ, ◌<◌, ◌≤◌, false, List, [], length, All, Option}
+use Rattle.roster.specs.Machines.{max_machines}
 use Rattle.entry_format.specs.SealedEntry.{SealedEntry}
 use Rattle.election_script.specs.declared.script.Script.{Script}
+use Rattle.election_script.specs.Lawful.{max_events}
 use Rattle.broadcast_queues.specs.Ends.{OutView, InView}
 use Rattle.polling_world.specs.Machines.{MachineState, IsFresh}
 use Rattle.finished_floor.specs.Places.{IsStopOf}
@@ -24,11 +26,11 @@ begun script machine outs inns = record {
 pub record IsBeginning (script : Script) (machine : MachineState) (outs : List (OutView SealedEntry))
     (inns : List (InView SealedEntry)) : Type 0 where
   pub log : machine.config.log ≡ script.log
-  pub small : script.log ≤ 4096
+  pub small : script.log ≤ max_events
   pub events : machine.events ≡ []
   pub going : machine.marked ≡ false
   pub place : machine.config.number < length outs
-  pub few : length outs ≤ 16
+  pub few : length outs ≤ max_machines
   pub as_many : length inns ≡ length outs
   pub put : All (λ out. out.put ≡ []) outs
   pub taken : All (λ inn. inn.taken ≡ []) inns

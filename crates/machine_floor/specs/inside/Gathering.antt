@@ -2,6 +2,7 @@
 use Rattle.std.specs.Prelude.{◌≡◌, ◌≢◌, ℕ, ◌+◌, ◌<◌, ◌≤◌, List, [], ◌∷◌, ◌++◌, length, map, All, Option, Some}
 use Rattle.std.specs.Prelude.{slice_index_or}
 use Rattle.std.specs.List.{flat_map}
+use Rattle.roster.specs.Machines.{max_machines}
 use Rattle.entry_format.specs.SealedEntry.{SealedEntry}
 use Rattle.broadcast_queues.specs.Ends.{OutView, InView, LinkView, IsOutOf, IsInOf}
 use Rattle.log_lock.specs.declared.story.Tick.{Tick}
@@ -45,7 +46,7 @@ AreMadeBy from es = All (λ x. x.entry.maker ≡ from) es
 -- all ends of these links, and what was put is the sender's
 pub record AreEndsOf (links : List (List LinkView)) (outs : List (List (OutView SealedEntry)))
     (inns : List (List (InView SealedEntry))) : Type 0 where
-  pub few : length links ≤ 16
+  pub few : length links ≤ max_machines
   pub senders : length outs ≡ length links
   pub receivers : length inns ≡ length links
   pub row : (a : ℕ) → a < length links → length (slice_index_or links a []) ≡ length links

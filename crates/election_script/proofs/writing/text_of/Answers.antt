@@ -9,8 +9,9 @@ use Rattle.election_script.specs.Grammar.{lines_of_kind, seed_line, key_line, lo
 use Rattle.election_script.specs.Kinds.{kinds}
 use Rattle.election_script.specs.Written.{ended, text_of_lines, deeds_from}
 use Rattle.election_script.proofs.writing.text_of.Goals as goal
+use Rattle.election_script.specs.WordLines.{Lines}
 
-by_kind : (f : Kind → List (List (List ℕ))) (ks : List Kind) →
+by_kind : (f : Kind → Lines) (ks : List Kind) →
     text_of_lines (flat_map f ks) ≡ flat_map (λ k. text_of_lines (f k)) ks
 by_kind f [] = refl
 by_kind f (k ∷ ks) =
@@ -23,7 +24,7 @@ joined v s k l n m d o t p = simp (append_assoc, append-nil)
 pub returns : goal.returns
 returns c =
     let script = c.args.script.now in
-    let f : Kind → List (List (List ℕ)) =
+    let f : Kind → Lines =
     lines_of_kind (not (script.version == 1)) script (deeds_from 0 script.machines) in
     let t : Kind → List ℕ = λ k. text_of_lines (f k) in
     rw (
