@@ -93,17 +93,16 @@ several_fills : (scope : Scope) (depth : ℕ) (wants : List Want) (ts : List Tok
     × (are_formulas scope depth parts ≡ true)
     × (ts ≡ tokens_then parts (right ∷ rest)) × Completes wants rest
 several_fills scope depth wants ts fills =
-    let f = fills.1 in
-    let m = fills.2.1 in
+    let (_, f, (rest, m, filled)) = fills in
     let count : count_of (in_row f.tree m.parts) ≡ count_of f.tree + count_of m.parts = row-count f.tree m.parts in
     let one : count_of f.tree ≡ 1 = f.one in
     let few : count_of m.parts ≤ 63 = m.few in (
       in_row f.tree m.parts,
-      fills.2.0,
+      rest,
       within (count_of (in_row f.tree m.parts)) (omega arith) (omega arith),
       row-good scope depth f.tree m.parts f.good m.good,
-      f.is ∙ ap (tokens_then f.tree) m.is ∙ sym (row-tokens f.tree m.parts (right ∷ fills.2.0)),
-      fills.2.2,
+      f.is ∙ ap (tokens_then f.tree) m.is ∙ sym (row-tokens f.tree m.parts (right ∷ rest)),
+      filled,
     )
   where
     -- a count from 1 to 64 passes both tests
@@ -186,64 +185,64 @@ pub head_back : (scope : Scope) (depth : ℕ) (wants : List Want) (h : Head) (ts
 head_back scope depth wants begins.ForEvery ts few fills = quantifier_back scope depth wants true ts few fills
 head_back scope depth wants begins.ForSome ts few fills = quantifier_back scope depth wants false ts few fills
 head_back scope depth wants begins.And ts few fills =
-    let s = several_fills scope depth wants ts fills in (
-      s.1,
+    let (parts, rest, arity, good, is, filled) = several_fills scope depth wants ts fills in (
+      rest,
       record {
         f = form.And;
-        parts = s.0;
+        parts = parts;
         other = λ e. absurd (cc);
         closed = refl;
-        arity = s.2;
-        good = s.3;
-        is = ap (λ xs. codes "and" ∷ xs) s.4;
+        arity = arity;
+        good = good;
+        is = ap (λ xs. codes "and" ∷ xs) is;
       },
-      s.5,
+      filled,
     )
 head_back scope depth wants begins.Or ts few fills =
-    let s = several_fills scope depth wants ts fills in (
-      s.1,
+    let (parts, rest, arity, good, is, filled) = several_fills scope depth wants ts fills in (
+      rest,
       record {
         f = form.Or;
-        parts = s.0;
+        parts = parts;
         other = λ e. absurd (cc);
         closed = refl;
-        arity = s.2;
-        good = s.3;
-        is = ap (λ xs. codes "or" ∷ xs) s.4;
+        arity = arity;
+        good = good;
+        is = ap (λ xs. codes "or" ∷ xs) is;
       },
-      s.5,
+      filled,
     )
 head_back scope depth wants begins.Not ts few fills =
-    let s = one_closed scope depth wants ts fills in (
-      s.1,
+    let (parts, rest, one, good, is, filled) = one_closed scope depth wants ts fills in (
+      rest,
       record {
         f = form.Not;
-        parts = s.0;
+        parts = parts;
         other = λ e. absurd (cc);
         closed = refl;
-        arity = rw s.2 refl;
-        good = s.3;
-        is = ap (λ xs. codes "not" ∷ xs) s.4;
+        arity = rw one refl;
+        good = good;
+        is = ap (λ xs. codes "not" ∷ xs) is;
       },
-      s.5,
+      filled,
     )
 head_back scope depth wants begins.Implies ts few fills =
-    let a = fills.1 in
-    let s = one_closed scope depth wants fills.0 fills.2 in
-    let count : count_of (in_row a.tree s.0) ≡ 2 =
-    row-count a.tree s.0 ∙ ap (λ n. n + count_of s.0) a.one ∙ ap (λ n. 1 + n) s.2 in (
-      s.1,
+    let (after, a, others) = fills in
+    let (parts, rest, one, good, is, filled) = one_closed scope depth wants after others in
+    let count : count_of (in_row a.tree parts) ≡ 2 =
+    row-count a.tree parts ∙ ap (λ n. n + count_of parts) a.one ∙ ap (λ n. 1 + n) one in (
+      rest,
       record {
         f = form.Implies;
-        parts = in_row a.tree s.0;
+        parts = in_row a.tree parts;
         other = λ e. absurd (cc);
         closed = refl;
         arity = rw count refl;
-        good = row-good scope depth a.tree s.0 a.good s.3;
+        good = row-good scope depth a.tree parts a.good good;
         is = ap (λ xs. codes "implies" ∷ xs)
-            (a.is ∙ ap (tokens_then a.tree) s.4 ∙ sym (row-tokens a.tree s.0 (right ∷ s.1)));
+            (a.is ∙ ap (tokens_then a.tree) is ∙ sym (row-tokens a.tree parts (right ∷ rest)));
       },
-      s.5,
+      filled,
     )
 head_back scope depth wants begins.Same ts few fills =
     let p = pair_fills scope wants ts fills in (
@@ -288,37 +287,34 @@ head_back scope depth wants begins.Next ts few fills =
       p.fills,
     )
 head_back scope depth wants begins.Is ts few fills =
-    let a = fills.1 in
-    let r = fills.2.1 in
-    let d = fills.2.2 in (
-      d.0,
+    let (_, a, (_, (role, role_is), (rest, shut, filled))) = fills in (
+      rest,
       record {
-        f = form.Is a.v r.0;
+        f = form.Is a.v role;
         parts = no_trees;
         other = λ e. absurd (cc);
         closed = a.bound;
         arity = refl;
         good = refl;
-        is = ap (λ xs. codes "is" ∷ xs) (a.is ∙ ap (λ xs. variable a.v ∷ xs) (r.1 ∙ ap (λ xs. role_word r.0 ∷ xs) d.1));
+        is = ap (λ xs. codes "is" ∷ xs)
+            (a.is ∙ ap (λ xs. variable a.v ∷ xs) (role_is ∙ ap (λ xs. role_word role ∷ xs) shut));
       },
-      d.2,
+      filled,
     )
 head_back scope depth wants begins.OfKind ts few fills =
-    let a = fills.1 in
-    let k = fills.2.1 in
-    let d = fills.2.2 in (
-      d.0,
+    let (_, a, (_, (kind, kind_is), (rest, shut, filled))) = fills in (
+      rest,
       record {
-        f = form.OfKind a.v k.0;
+        f = form.OfKind a.v kind;
         parts = no_trees;
         other = λ e. absurd (cc);
         closed = a.bound;
         arity = refl;
         good = refl;
         is = ap (λ xs. codes "kind" ∷ xs)
-            (a.is ∙ ap (λ xs. variable a.v ∷ xs) (k.1 ∙ ap (λ xs. kind_word k.0 ∷ xs) d.1));
+            (a.is ∙ ap (λ xs. variable a.v ∷ xs) (kind_is ∙ ap (λ xs. kind_word kind ∷ xs) shut));
       },
-      d.2,
+      filled,
     )
 head_back scope depth wants begins.Equal ts few fills =
     let t = terms_fill scope false wants ts fills in (

@@ -75,102 +75,102 @@ want_back : (want : Want) (wants next : List Want) (t : Token) (ts : List Token)
     → Completes next ts
     → Completes (want ∷ wants) (t ∷ ts)
 want_back (more_rules names) wants next t ts met fills =
-    let a = then_found (opening (length names) t) (λ it. rule_word names ∷ wants) next met in
-    let o = opening_found (length names) t a.0 a.1 in
-    let inside = moved next (rule_word names ∷ wants) ts a.2 fills in
-    let w = inside.1 in (
-      inside.0,
-      subst (λ (x : Token). FillsRules names (x ∷ ts) inside.0) (sym o.0)
-          (rule_fills names ts inside.0 o.2 w.0 w.1 w.2),
-      inside.2,
+    let (it, found, same) = then_found (opening (length names) t) (λ it. rule_word names ∷ wants) next met in
+    let (is, _, follows) = opening_found (length names) t it found in
+    let (rest, w, filled) = moved next (rule_word names ∷ wants) ts same fills in (
+      rest,
+      subst (λ (x : Token). FillsRules names (x ∷ ts) rest) (sym is)
+          (rule_fills names ts rest follows w.0 w.1 w.2),
+      filled,
     )
 want_back (rule_word names) wants next t ts met fills =
-    let a = then_found (only (codes "rule") t) (λ it. rule_name names ∷ wants) next met in
-    let inside = moved next (rule_name names ∷ wants) ts a.2 fills in
-    (inside.0, (ts, ap (λ (x : Token). x ∷ ts) (only_is (codes "rule") t a.0 a.1), inside.1), inside.2)
+    let (it, found, same) = then_found (only (codes "rule") t) (λ it. rule_name names ∷ wants) next met in
+    let (rest, named, filled) = moved next (rule_name names ∷ wants) ts same fills in
+    (rest, (ts, ap (λ (x : Token). x ∷ ts) (only_is (codes "rule") t it found), named), filled)
 want_back (rule_name names) wants next t ts met fills =
-    let a = then_found (name_in names t)
+    let (name, found, same) = then_found (name_in names t)
     (λ name. formula [] 1 ∷ close ∷ more_rules (names ++ name ∷ []) ∷ wants) next met in
-    let n = name_parts names t a.0 a.1 in
-    let inside = moved next (formula [] 1 ∷ close ∷ more_rules (names ++ a.0 ∷ []) ∷ wants) ts a.2 fills in
-    let body = one_closed [] 1 (more_rules (names ++ a.0 ∷ []) ∷ wants) ts inside in
-    let others = body.5 in
-    let r = others.1 in (
-      others.0,
+    let (is, named, fresh) = name_parts names t name found in
+    let inside = moved next (formula [] 1 ∷ close ∷ more_rules (names ++ name ∷ []) ∷ wants) ts same fills in
+    let (body, _, one, good, body_is, (rest, r, filled)) =
+    one_closed [] 1 (more_rules (names ++ name ∷ []) ∷ wants) ts inside in (
+      rest,
       record {
-        rule = record { name = a.0; body = body.0 };
+        rule = record { name = name; body = body };
         others = r.all;
-        name = n.1;
-        fresh = n.2;
-        one = body.2;
-        good = body.3;
+        name = named;
+        fresh = fresh;
+        one = one;
+        good = good;
         follows = r.follows;
-        is = ap (λ (x : Token). x ∷ ts) n.0
-            ∙ ap (λ xs. a.0 ∷ xs) (body.4 ∙ ap (λ xs. tokens_then body.0 (right ∷ xs)) r.is);
+        is = ap (λ (x : Token). x ∷ ts) is
+            ∙ ap (λ xs. name ∷ xs) (body_is ∙ ap (λ xs. tokens_then body (right ∷ xs)) r.is);
       },
-      others.2,
+      filled,
     )
 want_back (formula scope depth) wants next t ts met fills = formula_back scope depth wants next t ts met fills
 want_back (head scope depth) wants next t ts met fills =
-    let a = then_found (head_for scope t) (behind_head scope depth wants) next met in
-    let h = head_found scope t a.0 a.1 in
-    let inside = head_back scope depth wants a.0 ts h.2 (moved next (behind_head scope depth wants a.0) ts a.2 fills) in
-    (inside.0, head_of scope depth (head_word a.0) t ts inside.0 (sym h.0) inside.1, inside.2)
+    let (begun, found, same) = then_found (head_for scope t) (behind_head scope depth wants) next met in
+    let (is, _, few) = head_found scope t begun found in
+    let (rest, form_of, filled) = head_back scope depth wants begun ts few
+    (moved next (behind_head scope depth wants begun) ts same fills) in
+    (rest, head_of scope depth (head_word begun) t ts rest (sym is) form_of, filled)
 want_back (new_variable scope depth) wants next t ts met fills =
-    let a = then_found (unbound_in scope (letter_in t)) (λ v. kind_of v scope depth ∷ wants) next met in
-    let n = new_found scope t a.0 a.1 in
-    let inside = moved next (kind_of a.0 scope depth ∷ wants) ts a.2 fills in (
-      inside.0,
-      record { v = a.0; behind_it = ts; fresh = n.2; rest_of = inside.1; is = ap (λ (x : Token). x ∷ ts) n.0 },
-      inside.2,
+    let (v, found, same) = then_found (unbound_in scope (letter_in t)) (λ v. kind_of v scope depth ∷ wants) next met in
+    let (is, _, fresh) = new_found scope t v found in
+    let (rest, bound, filled) = moved next (kind_of v scope depth ∷ wants) ts same fills in (
+      rest,
+      record { v = v; behind_it = ts; fresh = fresh; rest_of = bound; is = ap (λ (x : Token). x ∷ ts) is },
+      filled,
     )
 want_back (kind_of v scope depth) wants next t ts met fills =
-    let a = then_found (kind_for t) (λ kind. before_or_body v kind scope depth ∷ wants) next met in
-    let k = kind_found t a.0 a.1 in
-    let inside = moved next (before_or_body v a.0 scope depth ∷ wants) ts a.2 fills in
-    (inside.0, record { kind = a.0; behind_it = ts; body = inside.1; is = ap (λ (x : Token). x ∷ ts) k.0 }, inside.2)
+    let (kind, found, same) = then_found (kind_for t) (λ kind. before_or_body v kind scope depth ∷ wants) next met in
+    let k = kind_found t kind found in
+    let (rest, body, filled) = moved next (before_or_body v kind scope depth ∷ wants) ts same fills in
+    (rest, record { kind = kind; behind_it = ts; body = body; is = ap (λ (x : Token). x ∷ ts) k.0 }, filled)
 want_back (before_or_body v kind scope depth) wants next t ts met fills =
     body_back v kind scope depth wants next t ts met fills
 want_back (more n scope depth) wants next t ts met fills = more_back n scope depth wants next t ts met fills
 want_back (a_variable scope) wants next t ts met fills =
-    let a = then_found (bound_in scope (letter_in t)) (λ v. wants) next met in
-    let v = variable_found scope t a.0 a.1 in
-    (ts, record { v = a.0; bound = v.2; is = ap (λ (x : Token). x ∷ ts) v.0 }, moved next wants ts a.2 fills)
+    let (v, found, same) = then_found (bound_in scope (letter_in t)) (λ v. wants) next met in
+    let (is, _, bound) = variable_found scope t v found in
+    (ts, record { v = v; bound = bound; is = ap (λ (x : Token). x ∷ ts) is }, moved next wants ts same fills)
 want_back a_role wants next t ts met fills =
-    let a = then_found (or_cause Shape (role_named t)) (λ role. wants) next met in
-    let r = role_found t a.0 a.1 in
-    (ts, (a.0, ap (λ (x : Token). x ∷ ts) r.0), moved next wants ts a.2 fills)
+    let (role, found, same) = then_found (or_cause Shape (role_named t)) (λ role. wants) next met in
+    let r = role_found t role found in
+    (ts, (role, ap (λ (x : Token). x ∷ ts) r.0), moved next wants ts same fills)
 want_back a_kind wants next t ts met fills =
-    let a = then_found (kind_for t) (λ kind. wants) next met in
-    let k = kind_found t a.0 a.1 in
-    (ts, (a.0, ap (λ (x : Token). x ∷ ts) k.0), moved next wants ts a.2 fills)
+    let (kind, found, same) = then_found (kind_for t) (λ kind. wants) next met in
+    let k = kind_found t kind found in
+    (ts, (kind, ap (λ (x : Token). x ∷ ts) k.0), moved next wants ts same fills)
 want_back (first_term ordered scope) wants next t ts met fills =
-    let a = then_found (whose_sort (may_begin ordered) (term_in scope t))
+    let ((word, sort), found, same) = then_found (whose_sort (may_begin ordered) (term_in scope t))
     (λ (term : Typed). second_term term.1 scope ∷ wants) next met in
-    let f = term_found scope (may_begin ordered) t a.0 a.1 in
-    let inside = moved next (second_term a.0.1 scope ∷ wants) ts a.2 fills in (
-      inside.0,
+    let (is, _, (sorted, may)) = term_found scope (may_begin ordered) t (word, sort) found in
+    let (rest, second, filled) = moved next (second_term sort scope ∷ wants) ts same fills in (
+      rest,
       record {
-        t = a.0.0;
-        sort = a.0.1;
+        t = word;
+        sort = sort;
         behind_it = ts;
-        sorted = f.2.0;
-        may = f.2.1;
-        second = inside.1;
-        is = ap (λ (x : Token). x ∷ ts) f.0;
+        sorted = sorted;
+        may = may;
+        second = second;
+        is = ap (λ (x : Token). x ∷ ts) is;
       },
-      inside.2,
+      filled,
     )
 want_back (second_term sort scope) wants next t ts met fills =
-    let a = then_found (whose_sort (is_same_sort sort) (term_in scope t)) (λ (term : Typed). wants) next met in
-    let f = term_found scope (is_same_sort sort) t a.0 a.1 in (
+    let ((word, its_sort), found, gives) = then_found (whose_sort (is_same_sort sort) (term_in scope t))
+    (λ (term : Typed). wants) next met in
+    let (is, _, (sorted, same)) = term_found scope (is_same_sort sort) t (word, its_sort) found in (
       ts,
-      record { t = a.0.0; sort = a.0.1; sorted = f.2.0; same = f.2.1; is = ap (λ (x : Token). x ∷ ts) f.0 },
-      moved next wants ts a.2 fills,
+      record { t = word; sort = its_sort; sorted = sorted; same = same; is = ap (λ (x : Token). x ∷ ts) is },
+      moved next wants ts gives fills,
     )
 want_back close wants next t ts met fills =
-    let a = then_found (only right t) (λ it. wants) next met in
-    (ts, ap (λ (x : Token). x ∷ ts) (only_is right t a.0 a.1), moved next wants ts a.2 fills)
+    let (it, found, same) = then_found (only right t) (λ it. wants) next met in
+    (ts, ap (λ (x : Token). x ∷ ts) (only_is right t it found), moved next wants ts same fills)
 
 -- wants with which a text may end are filled by nothing
 ended : (wants : List Want) → is_end wants ≡ true → Completes wants []
@@ -200,27 +200,26 @@ completes [] wants left_over e end = moved left_over wants [] (ok_wants wants le
 completes (t ∷ ts) [] left_over e end = let first = first_met [] t ts left_over e in let shut : shape_met ≡ Ok first.0 =
     first.1 in absurd (cc)
 completes (t ∷ ts) (want ∷ wants) left_over e end =
-    let first = first_met (want ∷ wants) t ts left_over e in
-    want_back want wants first.0 t ts first.1 (completes ts first.0 left_over first.2 end)
+    let (next, met, others) = first_met (want ∷ wants) t ts left_over e in
+    want_back want wants next t ts met (completes ts next left_over others end)
 
 -- a text without a fault is one of rules
 pub some_rules : (text : List ℕ) → HasNoFault text → (rs : List RuleTree) × IsTextOf text rs
-some_rules text none =
-    let tokens = none.1.0 in
-    let fills = completes tokens begin none.0 none.1.2 none.2 in
+some_rules text (wants, (tokens, stand, met), ends) =
+    let fills = completes tokens begin wants met ends in
     let r = fills.1 in
     let is : tokens ≡ rules_tokens r.all =
     r.is ∙ ap (λ xs. rules_tokens r.all ++ xs) fills.2 ∙ append-nil (rules_tokens r.all) in (
       r.all,
       record {
         lawful = rw (some r.all is) r.follows;
-        tokens = subst (StandBefore text (length text)) is none.1.1;
+        tokens = subst (StandBefore text (length text)) is stand;
       },
     )
   where
     -- the rules of a text that may end there are one at least
-    some : (rs : List RuleTree) → none.1.0 ≡ rules_tokens rs → nat_lt 0 (length rs) ≡ true
+    some : (rs : List RuleTree) → tokens ≡ rules_tokens rs → nat_lt 0 (length rs) ≡ true
     some [] is =
-        let left_over : begin ≡ none.0 = ok_wants begin none.0 (sym (ap (behind (Ok begin)) is) ∙ none.1.2) in
-        let shut : false ≡ true = ap is_end left_over ∙ none.2 in absurd (cc)
+        let left_over : begin ≡ wants = ok_wants begin wants (sym (ap (behind (Ok begin)) is) ∙ met) in
+        let shut : false ≡ true = ap is_end left_over ∙ ends in absurd (cc)
     some (r ∷ rs) is = lt-ltb 0 (length (r ∷ rs)) (omega arith)

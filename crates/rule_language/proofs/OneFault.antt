@@ -180,92 +180,84 @@ left_behind wants left ts us a b = sym (behind_more begin wants ts us a) ∙ b
 pub nothing_behind : (text : List ℕ) (at later : ℕ) (why : RuleWhy) (wants left : List Want) → Leaves text at wants
     → IsRuleCause text at wants why
     → at < later → Leaves text later left → ⊥
-nothing_behind text at later why wants left before (inl bad) lt after = bad.1 (after.1.good at lt)
-nothing_behind text at later why wants left before (inr (inl stands)) lt after =
-    let span : Span = record { start = at; end = stands.0 } in
-    let front = front_of text at later before.0 after.0 (omega arith) before.1 after.1 in
-    let first = first_is span front.rest front.ordered (front.tokens span stands.1 (omega arith) lt) front.back in
-    let us : after.0 ≡ before.0 ++ piece text span ∷ map (piece text) first.0 =
-    front.whole ∙ ap (λ ss. before.0 ++ map (piece text) ss) first.1 in
-    not_passed wants left (piece text span) (map (piece text) first.0) why stands.2
-    (left_behind wants left before.0 (piece text span ∷ map (piece text) first.0) before.2
-    (sym (ap (behind (Ok begin)) us) ∙ after.2))
-nothing_behind text at later why wants left before (inr (inr ended)) lt after =
-    let inside : later ≤ length text = after.1.inside in
-    let e : at ≡ length text = ended.0 in
-    omega arith
+nothing_behind text at later why wants left before (inl (_, bad, _)) lt (_, stands, _) = bad (stands.good at lt)
+nothing_behind text at later why wants left (past, stood, met) (inr (inl (end, token, against))) lt
+    (ts, stands, passed) =
+    let span : Span = record { start = at; end = end } in
+    let front = front_of text at later past ts (omega arith) stood stands in
+    let (more, same) = first_is span front.rest front.ordered (front.tokens span token (omega arith) lt) front.back in
+    let us : ts ≡ past ++ piece text span ∷ map (piece text) more =
+    front.whole ∙ ap (λ ss. past ++ map (piece text) ss) same in
+    not_passed wants left (piece text span) (map (piece text) more) why against
+    (left_behind wants left past (piece text span ∷ map (piece text) more) met
+    (sym (ap (behind (Ok begin)) us) ∙ passed))
+nothing_behind text at later why wants left before (inr (inr (at_end, _, _))) lt (_, stands, _) =
+    let inside : later ≤ length text = stands.inside in omega arith
 
 -- a text with a fault isn't without one
 pub fault_or_none : (text : List ℕ) (at : ℕ) (why : RuleWhy) → IsFirstFault text at why → HasNoFault text → ⊥
-fault_or_none text at why fault none =
-    let inside : at ≤ length text = fault.1.1.inside in
-    ⊎_elim (λ (lt : at < length text). nothing_behind text at (length text) why fault.0 none.0 fault.1
-    fault.2 lt none.1)
-    (λ (ge : length text ≤ at). let e : at ≡ length text = omega arith in ended e fault.2)
+fault_or_none text at why (wants, (past, stood, met), cause) (left, (ts, stands, passed), ends) =
+    let inside : at ≤ length text = stood.inside in
+    ⊎_elim (λ (lt : at < length text). nothing_behind text at (length text) why wants left (past, stood, met)
+    cause lt (ts, stands, passed))
+    (λ (ge : length text ≤ at). let e : at ≡ length text = omega arith in ended e cause)
     (cases_lt at (length text))
   where
     -- at the end of the text both readings leave the same wants
-    same_wants : at ≡ length text → fault.0 ≡ none.0
+    same_wants : at ≡ length text → wants ≡ left
     same_wants e =
-        let ts = one_before text (length text) fault.1.0 none.1.0
-        (subst (λ n. StandBefore text n fault.1.0) e fault.1.1) none.1.1 in
-        wants_same fault.0 none.0 none.1.0 (sym (ap (behind (Ok begin)) ts) ∙ fault.1.2) none.1.2
+        let same = one_before text (length text) past ts (subst (λ n. StandBefore text n past) e stood) stands in
+        wants_same wants left ts (sym (ap (behind (Ok begin)) same) ∙ met) passed
 
     -- where the text may end, its end is no fault
-    ended : at ≡ length text → IsRuleCause text at fault.0 why → ⊥
-    ended e (inl bad) = let lt : at < length text = bad.0 in omega arith
-    ended e (inr (inl stands)) =
-        let bytes = some_bytes text (record { start = at; end = stands.0 }) stands.1 in
-        let some : at < stands.0 = bytes.0 in
-        let inside : stands.0 ≤ length text = bytes.1 in
-        omega arith
-    ended e (inr (inr end)) = let shut : true ≡ false = sym none.2 ∙ sym (ap is_end (same_wants e)) ∙ end.1 in
+    ended : at ≡ length text → IsRuleCause text at wants why → ⊥
+    ended e (inl (lt, _, _)) = omega arith
+    ended e (inr (inl (end, token, _))) =
+        let (some, inside) = some_bytes text (record { start = at; end = end }) token in omega (arith, some, inside)
+    ended e (inr (inr (_, going, _))) = let shut : true ≡ false = sym ends ∙ sym (ap is_end (same_wants e)) ∙ going in
         absurd (cc)
 
 -- a place has one cause
 one_cause : (text : List ℕ) (at : ℕ) (wants : List Want) (why cause : RuleWhy) → IsRuleCause text at wants why
     → IsRuleCause text at wants cause → why ≡ cause
-one_cause text at wants why cause (inl a) (inl b) = a.2 ∙ sym b.2
-one_cause text at wants why cause (inl a) (inr (inl b)) =
-    let bytes = some_bytes text (record { start = at; end = b.0 }) b.1 in
-    absurd (a.1 (token_good text (record { start = at; end = b.0 }) b.1 at (omega arith) bytes.0))
-one_cause text at wants why cause (inl a) (inr (inr b)) = let lt : at < length text = a.0 in let e : at ≡ length text =
-    b.0 in absurd (omega arith)
-one_cause text at wants why cause (inr (inl a)) (inl b) =
-    let bytes = some_bytes text (record { start = at; end = a.0 }) a.1 in
-    absurd (b.1 (token_good text (record { start = at; end = a.0 }) a.1 at (omega arith) bytes.0))
-one_cause text at wants why cause (inr (inl a)) (inr (inl b)) =
-    let one = same_end text (record { start = at; end = b.0 }) at a.0 b.1 refl a.1 in
-    err_of why cause (sym a.2 ∙ ap (λ (s : Span). meets wants (piece text s)) one ∙ b.2)
-one_cause text at wants why cause (inr (inl a)) (inr (inr b)) =
-    let bytes = some_bytes text (record { start = at; end = a.0 }) a.1 in
-    let some : at < a.0 = bytes.0 in
-    let inside : a.0 ≤ length text = bytes.1 in
-    let e : at ≡ length text = b.0 in absurd (omega arith)
-one_cause text at wants why cause (inr (inr a)) (inl b) = let lt : at < length text = b.0 in let e : at ≡ length text =
-    a.0 in absurd (omega arith)
-one_cause text at wants why cause (inr (inr a)) (inr (inl b)) =
-    let bytes = some_bytes text (record { start = at; end = b.0 }) b.1 in
-    let some : at < b.0 = bytes.0 in
-    let inside : b.0 ≤ length text = bytes.1 in
-    let e : at ≡ length text = a.0 in absurd (omega arith)
-one_cause text at wants why cause (inr (inr a)) (inr (inr b)) = a.2 ∙ sym b.2
+one_cause text at wants why cause (inl (_, _, is)) (inl (_, _, same)) = is ∙ sym same
+one_cause text at wants why cause (inl (_, bad, _)) (inr (inl (end, token, _))) =
+    let (some, _) = some_bytes text (record { start = at; end = end }) token in
+    absurd (bad (token_good text (record { start = at; end = end }) token at (omega arith) some))
+one_cause text at wants why cause (inl (lt, _, _)) (inr (inr (at_end, _, _))) = absurd (omega arith)
+one_cause text at wants why cause (inr (inl (end, token, _))) (inl (_, bad, _)) =
+    let (some, _) = some_bytes text (record { start = at; end = end }) token in
+    absurd (bad (token_good text (record { start = at; end = end }) token at (omega arith) some))
+one_cause text at wants why cause (inr (inl (end, token, against))) (inr (inl (other, there, met))) =
+    let one = same_end text (record { start = at; end = other }) at end there refl token in
+    err_of why cause (sym against ∙ ap (λ (s : Span). meets wants (piece text s)) one ∙ met)
+one_cause text at wants why cause (inr (inl (end, token, _))) (inr (inr (at_end, _, _))) =
+    let (some, inside) = some_bytes text (record { start = at; end = end }) token in
+    absurd (omega (arith, some, inside))
+one_cause text at wants why cause (inr (inr (at_end, _, _))) (inl (lt, _, _)) = absurd (omega arith)
+one_cause text at wants why cause (inr (inr (at_end, _, _))) (inr (inl (end, token, _))) =
+    let (some, inside) = some_bytes text (record { start = at; end = end }) token in
+    absurd (omega (arith, some, inside))
+one_cause text at wants why cause (inr (inr (_, _, is))) (inr (inr (_, _, same))) = is ∙ sym same
 
 -- a text has one first fault
 pub one_fault : (text : List ℕ) (at place : ℕ) (why cause : RuleWhy) → IsFirstFault text at why
     → IsFirstFault text place cause → (at ≡ place) × (why ≡ cause)
-one_fault text at place why cause a b =
-    ⊎_elim (λ (lt : at < place). absurd (nothing_behind text at place why a.0 b.0 a.1 a.2 lt b.1))
+one_fault text at place why cause (wants, (past, stood, met), is) (left, (ts, stands, passed), other) =
+    ⊎_elim (λ (lt : at < place). absurd (nothing_behind text at place why wants left (past, stood, met) is lt
+    (ts, stands, passed)))
     (λ (ge : place ≤ at).
-    ⊎_elim (λ (lt : place < at). absurd (nothing_behind text place at cause b.0 a.0 b.1 b.2 lt a.1))
+    ⊎_elim (λ (lt : place < at). absurd (nothing_behind text place at cause left wants (ts, stands, passed) other lt
+    (past, stood, met)))
     (λ (le : at ≤ place). let e : at ≡ place = omega arith in same e) (cases_lt place at))
     (cases_lt at place)
   where
     -- two faults at one place have one cause
     same : at ≡ place → (at ≡ place) × (why ≡ cause)
     same e =
-        let ts = one_before text place a.1.0 b.1.0 (subst (λ n. StandBefore text n a.1.0) e a.1.1) b.1.1 in
-        let wants : a.0 ≡ b.0 = wants_same a.0 b.0 b.1.0 (sym (ap (behind (Ok begin)) ts) ∙ a.1.2) b.1.2 in
-        let moved : IsRuleCause text place b.0 why =
-        subst (λ (w : List Want). IsRuleCause text place w why) wants (subst (λ n. IsRuleCause text n a.0 why) e a.2) in
-        (e, one_cause text place b.0 why cause moved b.2)
+        let one = one_before text place past ts (subst (λ n. StandBefore text n past) e stood) stands in
+        let as_left : wants ≡ left = wants_same wants left ts (sym (ap (behind (Ok begin)) one) ∙ met) passed in
+        let moved : IsRuleCause text place left why =
+        subst (λ (w : List Want). IsRuleCause text place w why) as_left
+        (subst (λ n. IsRuleCause text n wants why) e is) in
+        (e, one_cause text place left why cause moved other)

@@ -62,98 +62,98 @@ pub enclosed_passes : (f : Form) (parts : Trees) → RowPasses parts → Members
     → (f ≡ form.True) ⊎ (behind (Ok (formula scope depth ∷ rest))
     (left ∷ (form_words f ++ tokens_then parts (right ∷ after))) ≡ behind (Ok rest) after)
 enclosed_passes form.True parts row members scope depth rest after shallow good = inl refl
-enclosed_passes (form.ForEvery v k) parts row members scope depth rest after shallow good =
+enclosed_passes (form.ForEvery v k) parts row members scope depth rest after shallow (closed, arity, formulas) =
     let ts = tokens_then parts (right ∷ after) in
-    let one : count_of parts ≡ 1 = eqb-true (count_of parts) 1 good.1 in
+    let one : count_of parts ≡ 1 = eqb-true (count_of parts) 1 arity in
     inr (begin_passes scope depth begins.ForEvery rest (variable v ∷ kind_word k ∷ ts) shallow
-    (quantifier_begins scope v begins.ForEvery good.0)
-    ∙ quantified scope (depth + 1) v k rest ts good.0
+    (quantifier_begins scope v begins.ForEvery closed)
+    ∙ quantified scope (depth + 1) v k rest ts closed
     ∙ body_row parts (right ∷ after) v k scope (depth + 1) rest one
-    ∙ one_passes parts ((v, k) ∷ scope) (depth + 1) rest after row one good.2)
-enclosed_passes (form.ForSome v k) parts row members scope depth rest after shallow good =
+    ∙ one_passes parts ((v, k) ∷ scope) (depth + 1) rest after row one formulas)
+enclosed_passes (form.ForSome v k) parts row members scope depth rest after shallow (closed, arity, formulas) =
     let ts = tokens_then parts (right ∷ after) in
-    let one : count_of parts ≡ 1 = eqb-true (count_of parts) 1 good.1 in
+    let one : count_of parts ≡ 1 = eqb-true (count_of parts) 1 arity in
     inr (begin_passes scope depth begins.ForSome rest (variable v ∷ kind_word k ∷ ts) shallow
-    (quantifier_begins scope v begins.ForSome good.0)
-    ∙ quantified scope (depth + 1) v k rest ts good.0
+    (quantifier_begins scope v begins.ForSome closed)
+    ∙ quantified scope (depth + 1) v k rest ts closed
     ∙ body_row parts (right ∷ after) v k scope (depth + 1) rest one
-    ∙ one_passes parts ((v, k) ∷ scope) (depth + 1) rest after row one good.2)
-enclosed_passes (form.EveryBefore v k u) parts row members scope depth rest after shallow good =
+    ∙ one_passes parts ((v, k) ∷ scope) (depth + 1) rest after row one formulas)
+enclosed_passes (form.EveryBefore v k u) parts row members scope depth rest after shallow (closed, arity, formulas) =
     let ts = tokens_then parts (right ∷ after) in
-    let one : count_of parts ≡ 1 = eqb-true (count_of parts) 1 good.1 in
-    let b = both_true (can_bind scope v) (is_bound scope u) good.0 in
+    let one : count_of parts ≡ 1 = eqb-true (count_of parts) 1 arity in
+    let (free, bound) = both_true (can_bind scope v) (is_bound scope u) closed in
     inr (begin_passes scope depth begins.ForEvery rest (variable v ∷ kind_word k ∷ codes "before" ∷ variable u ∷ ts)
-    shallow (quantifier_begins scope v begins.ForEvery b.0)
-    ∙ quantified scope (depth + 1) v k rest (codes "before" ∷ variable u ∷ ts) b.0
+    shallow (quantifier_begins scope v begins.ForEvery free)
+    ∙ quantified scope (depth + 1) v k rest (codes "before" ∷ variable u ∷ ts) free
     ∙ step (a_variable scope ∷ formula ((v, k) ∷ scope) (depth + 1) ∷ close ∷ rest)
     (formula ((v, k) ∷ scope) (depth + 1) ∷ close ∷ rest)
-    (variable u) ts (variable_passes scope u (formula ((v, k) ∷ scope) (depth + 1) ∷ close ∷ rest) b.1)
-    ∙ one_passes parts ((v, k) ∷ scope) (depth + 1) rest after row one good.2)
-enclosed_passes (form.SomeBefore v k u) parts row members scope depth rest after shallow good =
+    (variable u) ts (variable_passes scope u (formula ((v, k) ∷ scope) (depth + 1) ∷ close ∷ rest) bound)
+    ∙ one_passes parts ((v, k) ∷ scope) (depth + 1) rest after row one formulas)
+enclosed_passes (form.SomeBefore v k u) parts row members scope depth rest after shallow (closed, arity, formulas) =
     let ts = tokens_then parts (right ∷ after) in
-    let one : count_of parts ≡ 1 = eqb-true (count_of parts) 1 good.1 in
-    let b = both_true (can_bind scope v) (is_bound scope u) good.0 in
+    let one : count_of parts ≡ 1 = eqb-true (count_of parts) 1 arity in
+    let (free, bound) = both_true (can_bind scope v) (is_bound scope u) closed in
     inr (begin_passes scope depth begins.ForSome rest (variable v ∷ kind_word k ∷ codes "before" ∷ variable u ∷ ts)
-    shallow (quantifier_begins scope v begins.ForSome b.0)
-    ∙ quantified scope (depth + 1) v k rest (codes "before" ∷ variable u ∷ ts) b.0
+    shallow (quantifier_begins scope v begins.ForSome free)
+    ∙ quantified scope (depth + 1) v k rest (codes "before" ∷ variable u ∷ ts) free
     ∙ step (a_variable scope ∷ formula ((v, k) ∷ scope) (depth + 1) ∷ close ∷ rest)
     (formula ((v, k) ∷ scope) (depth + 1) ∷ close ∷ rest)
-    (variable u) ts (variable_passes scope u (formula ((v, k) ∷ scope) (depth + 1) ∷ close ∷ rest) b.1)
-    ∙ one_passes parts ((v, k) ∷ scope) (depth + 1) rest after row one good.2)
-enclosed_passes form.And parts row members scope depth rest after shallow good =
+    (variable u) ts (variable_passes scope u (formula ((v, k) ∷ scope) (depth + 1) ∷ close ∷ rest) bound)
+    ∙ one_passes parts ((v, k) ∷ scope) (depth + 1) rest after row one formulas)
+enclosed_passes form.And parts row members scope depth rest after shallow (_, arity, formulas) =
     inr (begin_passes scope depth begins.And rest (tokens_then parts (right ∷ after)) shallow refl
-    ∙ several_pass parts scope (depth + 1) rest after members good.1 good.2)
-enclosed_passes form.Or parts row members scope depth rest after shallow good =
+    ∙ several_pass parts scope (depth + 1) rest after members arity formulas)
+enclosed_passes form.Or parts row members scope depth rest after shallow (_, arity, formulas) =
     inr (begin_passes scope depth begins.Or rest (tokens_then parts (right ∷ after)) shallow refl
-    ∙ several_pass parts scope (depth + 1) rest after members good.1 good.2)
-enclosed_passes form.Not parts row members scope depth rest after shallow good =
+    ∙ several_pass parts scope (depth + 1) rest after members arity formulas)
+enclosed_passes form.Not parts row members scope depth rest after shallow (_, arity, formulas) =
     inr (begin_passes scope depth begins.Not rest (tokens_then parts (right ∷ after)) shallow refl
-    ∙ one_passes parts scope (depth + 1) rest after row (eqb-true (count_of parts) 1 good.1) good.2)
-enclosed_passes form.Implies parts row members scope depth rest after shallow good =
+    ∙ one_passes parts scope (depth + 1) rest after row (eqb-true (count_of parts) 1 arity) formulas)
+enclosed_passes form.Implies parts row members scope depth rest after shallow (_, arity, formulas) =
     inr (begin_passes scope depth begins.Implies rest (tokens_then parts (right ∷ after)) shallow refl
-    ∙ two_pass parts scope (depth + 1) rest after row (eqb-true (count_of parts) 2 good.1) good.2)
-enclosed_passes (form.Same v u) parts row members scope depth rest after shallow good =
+    ∙ two_pass parts scope (depth + 1) rest after row (eqb-true (count_of parts) 2 arity) formulas)
+enclosed_passes (form.Same v u) parts row members scope depth rest after shallow (closed, arity, _) =
     inr (begin_passes scope depth begins.Same rest (variable v ∷ variable u ∷ tokens_then parts (right ∷ after))
     shallow refl
     ∙ atom_passes parts (variable v ∷ variable u ∷ []) (a_variable scope ∷ a_variable scope ∷ close ∷ rest) rest
-    after good.1
-    (pair_passes scope v u rest after good.0))
-enclosed_passes (form.Before v u) parts row members scope depth rest after shallow good =
+    after arity
+    (pair_passes scope v u rest after closed))
+enclosed_passes (form.Before v u) parts row members scope depth rest after shallow (closed, arity, _) =
     inr (begin_passes scope depth begins.Before rest (variable v ∷ variable u ∷ tokens_then parts (right ∷ after))
     shallow refl
     ∙ atom_passes parts (variable v ∷ variable u ∷ []) (a_variable scope ∷ a_variable scope ∷ close ∷ rest) rest
-    after good.1
-    (pair_passes scope v u rest after good.0))
-enclosed_passes (form.Next v u) parts row members scope depth rest after shallow good =
+    after arity
+    (pair_passes scope v u rest after closed))
+enclosed_passes (form.Next v u) parts row members scope depth rest after shallow (closed, arity, _) =
     inr (begin_passes scope depth begins.Next rest (variable v ∷ variable u ∷ tokens_then parts (right ∷ after))
     shallow refl
     ∙ atom_passes parts (variable v ∷ variable u ∷ []) (a_variable scope ∷ a_variable scope ∷ close ∷ rest) rest
-    after good.1
-    (pair_passes scope v u rest after good.0))
-enclosed_passes (form.Is v r) parts row members scope depth rest after shallow good =
+    after arity
+    (pair_passes scope v u rest after closed))
+enclosed_passes (form.Is v r) parts row members scope depth rest after shallow (closed, arity, _) =
     inr (begin_passes scope depth begins.Is rest (variable v ∷ role_word r ∷ tokens_then parts (right ∷ after))
     shallow refl
-    ∙ atom_passes parts (variable v ∷ role_word r ∷ []) (a_variable scope ∷ a_role ∷ close ∷ rest) rest after good.1
+    ∙ atom_passes parts (variable v ∷ role_word r ∷ []) (a_variable scope ∷ a_role ∷ close ∷ rest) rest after arity
     (step (a_variable scope ∷ a_role ∷ close ∷ rest) (a_role ∷ close ∷ rest) (variable v) (role_word r ∷ right ∷ after)
-    (variable_passes scope v (a_role ∷ close ∷ rest) good.0)
+    (variable_passes scope v (a_role ∷ close ∷ rest) closed)
     ∙ step (a_role ∷ close ∷ rest) (close ∷ rest) (role_word r) (right ∷ after) (role_passes r (close ∷ rest))))
-enclosed_passes (form.OfKind v k) parts row members scope depth rest after shallow good =
+enclosed_passes (form.OfKind v k) parts row members scope depth rest after shallow (closed, arity, _) =
     inr (begin_passes scope depth begins.OfKind rest (variable v ∷ kind_word k ∷ tokens_then parts (right ∷ after))
     shallow refl
-    ∙ atom_passes parts (variable v ∷ kind_word k ∷ []) (a_variable scope ∷ a_kind ∷ close ∷ rest) rest after good.1
+    ∙ atom_passes parts (variable v ∷ kind_word k ∷ []) (a_variable scope ∷ a_kind ∷ close ∷ rest) rest after arity
     (step (a_variable scope ∷ a_kind ∷ close ∷ rest) (a_kind ∷ close ∷ rest) (variable v) (kind_word k ∷ right ∷ after)
-    (variable_passes scope v (a_kind ∷ close ∷ rest) good.0)
+    (variable_passes scope v (a_kind ∷ close ∷ rest) closed)
     ∙ step (a_kind ∷ close ∷ rest) (close ∷ rest) (kind_word k) (right ∷ after) (kind_passes k (close ∷ rest))))
-enclosed_passes (form.Equal t u) parts row members scope depth rest after shallow good =
+enclosed_passes (form.Equal t u) parts row members scope depth rest after shallow (closed, arity, _) =
     inr (begin_passes scope depth begins.Equal rest (term_word t ∷ term_word u ∷ tokens_then parts (right ∷ after))
     shallow refl
-    ∙ atom_passes parts (term_word t ∷ term_word u ∷ []) (first_term false scope ∷ close ∷ rest) rest after good.1
-    (terms_pass scope false t u rest after good.0 (λ s is. refl)))
-enclosed_passes (form.Less t u) parts row members scope depth rest after shallow good =
-    let b = both_true (has_order (sort_of scope t)) (are_of_one_sort (sort_of scope t) (sort_of scope u)) good.0 in
+    ∙ atom_passes parts (term_word t ∷ term_word u ∷ []) (first_term false scope ∷ close ∷ rest) rest after arity
+    (terms_pass scope false t u rest after closed (λ s is. refl)))
+enclosed_passes (form.Less t u) parts row members scope depth rest after shallow (closed, arity, _) =
+    let b = both_true (has_order (sort_of scope t)) (are_of_one_sort (sort_of scope t) (sort_of scope u)) closed in
     inr (begin_passes scope depth begins.Less rest (term_word t ∷ term_word u ∷ tokens_then parts (right ∷ after))
     shallow refl
-    ∙ atom_passes parts (term_word t ∷ term_word u ∷ []) (first_term true scope ∷ close ∷ rest) rest after good.1
+    ∙ atom_passes parts (term_word t ∷ term_word u ∷ []) (first_term true scope ∷ close ∷ rest) rest after arity
     (terms_pass scope true t u rest after b.1 (order_begins scope t b.0)))
 
 -- a form passes where a formula is wanted
