@@ -117,12 +117,12 @@ formula_back scope depth wants next t ts met fills = by (bytes_eq t (codes "true
     by false true false ia ib id e =
         let same : t ≡ left = bytes_same t left ib in
         let lt : depth < 32 = leb-false 32 depth id in
-        let inside = moved next (head scope (depth + 1) ∷ wants) ts (met_same (head scope (depth + 1) ∷ wants) next e)
-        fills in (
-          inside.0,
-          subst (λ (w : Token). FillsFormula scope depth (w ∷ ts) inside.0) (sym same)
-              (head_fills scope depth ts inside.0 (lt-ltb depth 32 lt) inside.1),
-          inside.2,
+        let (rest, form, filled) = moved next (head scope (depth + 1) ∷ wants) ts
+        (met_same (head scope (depth + 1) ∷ wants) next e) fills in (
+          rest,
+          subst (λ (w : Token). FillsFormula scope depth (w ∷ ts) rest) (sym same)
+              (head_fills scope depth ts rest (lt-ltb depth 32 lt) form),
+          filled,
         )
     by false false d ia ib id e = absurd (cc)
 
@@ -132,9 +132,8 @@ pub one_closed : (scope : Scope) (depth : ℕ) (wants : List Want) (ts : List To
     → (tree : Trees) × (rest : List Token) × (count_of tree ≡ 1) × (are_formulas scope depth tree ≡ true)
     × (ts ≡ tokens_then tree (right ∷ rest)) × Completes wants rest
 one_closed scope depth wants ts fills =
-    let f = fills.1 in
-    let behind_it = fills.2 in
-    (f.tree, behind_it.0, f.one, f.good, f.is ∙ ap (tokens_then f.tree) behind_it.1, behind_it.2)
+    let (_, f, (rest, shut, filled)) = fills in
+    (f.tree, rest, f.one, f.good, f.is ∙ ap (tokens_then f.tree) shut, filled)
 
 -- what stands behind the kind of a quantifier
 pub body_back : (v : ℕ) (k : Kind) (scope : Scope) (depth : ℕ) (wants next : List Want) (t : Token) (ts : List Token)
@@ -153,26 +152,25 @@ body_back v k scope depth wants next t ts met fills = by (bytes_eq t (codes "bef
         → Completes (before_or_body v k scope depth ∷ wants) (t ∷ ts)
     by true ia e =
         let same : t ≡ codes "before" = bytes_same t (codes "before") ia in
-        let inside = moved next (a_variable scope ∷ formula ((v, k) ∷ scope) depth ∷ close ∷ wants) ts
+        let (after, u, others) = moved next (a_variable scope ∷ formula ((v, k) ∷ scope) depth ∷ close ∷ wants) ts
         (met_same (a_variable scope ∷ formula ((v, k) ∷ scope) depth ∷ close ∷ wants) next e) fills in
-        let u = inside.1 in
-        let body = one_closed ((v, k) ∷ scope) depth wants inside.0 inside.2 in (
-          body.1,
+        let (parts, rest, one, good, is, filled) = one_closed ((v, k) ∷ scope) depth wants after others in (
+          rest,
           record {
             u = Some u.v;
-            parts = body.0;
+            parts = parts;
             range = u.bound;
-            one = body.2;
-            good = body.3;
+            one = one;
+            good = good;
             is = ap (λ (w : Token). w ∷ ts) same
-                ∙ ap (λ xs. codes "before" ∷ xs) (u.is ∙ ap (λ xs. variable u.v ∷ xs) body.4);
+                ∙ ap (λ xs. codes "before" ∷ xs) (u.is ∙ ap (λ xs. variable u.v ∷ xs) is);
           },
-          body.5,
+          filled,
         )
     by false ia e =
-        let body = one_closed ((v, k) ∷ scope) depth wants (t ∷ ts)
+        let (parts, rest, one, good, is, filled) = one_closed ((v, k) ∷ scope) depth wants (t ∷ ts)
         (formula_back ((v, k) ∷ scope) depth (close ∷ wants) next t ts e fills) in
-        (body.1, record { u = None; parts = body.0; range = tt; one = body.2; good = body.3; is = body.4 }, body.5)
+        (rest, record { u = None; parts = parts; range = tt; one = one; good = good; is = is }, filled)
 
 -- a further formula, or the parenthesis
 pub more_back : (n : ℕ) (scope : Scope) (depth : ℕ) (wants next : List Want) (t : Token) (ts : List Token)

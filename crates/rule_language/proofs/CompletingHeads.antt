@@ -76,14 +76,14 @@ quantifier_back : (scope : Scope) (depth : ℕ) (wants : List Want) (every : Boo
     → nested scope (Some (quantifier_head every)) ≡ Ok (quantifier_head every)
     → Completes (new_variable scope depth ∷ wants) ts → HeadFills scope depth wants (quantifier_head every) ts
 quantifier_back scope depth wants every ts few fills =
-    let b = fills.1 in
+    let (rest, b, filled) = fills in
     let k = b.rest_of in
     let body = k.body in (
-      fills.0,
-      range_closed scope every b.v k.kind body.u body.parts depth fills.0 ts (may_bind scope b.v every b.fresh few)
+      rest,
+      range_closed scope every b.v k.kind body.u body.parts depth rest ts (may_bind scope b.v every b.fresh few)
           body.range body.one body.good
           (b.is ∙ ap (λ xs. variable b.v ∷ xs) (k.is ∙ ap (λ xs. kind_word k.kind ∷ xs) body.is)),
-      fills.2,
+      filled,
     )
 
 -- an `and` or an `or`
@@ -125,16 +125,14 @@ record FillsPair (scope : Scope) (wants : List Want) (ts : List Token) : Type 0 
 pair_fills : (scope : Scope) (wants : List Want) (ts : List Token)
     → Completes (a_variable scope ∷ a_variable scope ∷ close ∷ wants) ts → FillsPair scope wants ts
 pair_fills scope wants ts fills =
-    let a = fills.1 in
-    let b = fills.2.1 in
-    let d = fills.2.2 in
+    let (_, a, (_, b, (rest, shut, filled))) = fills in
     record {
       v = a.v;
       u = b.v;
-      rest = d.0;
+      rest = rest;
       bound = rw a.bound (rw b.bound refl);
-      is = a.is ∙ ap (λ xs. variable a.v ∷ xs) (b.is ∙ ap (λ xs. variable b.v ∷ xs) d.1);
-      fills = d.2;
+      is = a.is ∙ ap (λ xs. variable a.v ∷ xs) (b.is ∙ ap (λ xs. variable b.v ∷ xs) shut);
+      fills = filled;
     }
 
 -- two terms of one sort, the parenthesis and the rest
@@ -158,19 +156,18 @@ record FillsTerms (scope : Scope) (ordered : Bool) (wants : List Want) (ts : Lis
 terms_fill : (scope : Scope) (ordered : Bool) (wants : List Want) (ts : List Token)
     → Completes (first_term ordered scope ∷ close ∷ wants) ts → FillsTerms scope ordered wants ts
 terms_fill scope ordered wants ts fills =
-    let a = fills.1 in
+    let (_, a, (rest, shut, filled)) = fills in
     let b = a.second in
-    let d = fills.2 in
     record {
       t = a.t;
       u = b.t;
-      rest = d.0;
+      rest = rest;
       same = rw a.sorted (rw b.sorted b.same);
       sort = a.sort;
       sorted = a.sorted;
       may = a.may;
-      is = a.is ∙ ap (λ xs. term_word a.t ∷ xs) (b.is ∙ ap (λ xs. term_word b.t ∷ xs) d.1);
-      fills = d.2;
+      is = a.is ∙ ap (λ xs. term_word a.t ∷ xs) (b.is ∙ ap (λ xs. term_word b.t ∷ xs) shut);
+      fills = filled;
     }
 
 -- two terms of one sort that has an order are what `<` asks for
