@@ -221,15 +221,16 @@ module _ (rows : List Row) (order order' : ℕ → ℕ → Three) (wholes wholes
   -- so the answers are one
   pub same_answer : (rule : Trees) (result : Result Verdict JudgeFault) → IsJudgeAnswer rows order wholes rule result →
       IsJudgeAnswer rows order' wholes' rule result
-  same_answer rule (Ok Kept) a = (a.0, sym (ap first_value (same_values rule unbound (λ v. tt))) ∙ a.1)
-  same_answer rule (Ok (Broken found)) a = (
-    a.0,
+  same_answer rule (Ok Kept) (fits, says) = (fits, sym (ap first_value (same_values rule unbound (λ v. tt))) ∙ says)
+  same_answer rule (Ok (Broken found)) (fits, (says, broken)) = (
+    fits,
     (
-      sym (ap first_value (same_values rule unbound (λ v. tt))) ∙ a.1.0,
-      a.1.1 ∙ same_broken rule unbound (λ v. tt),
+      sym (ap first_value (same_values rule unbound (λ v. tt))) ∙ says,
+      broken ∙ same_broken rule unbound (λ v. tt),
     ),
   )
-  same_answer rule (Ok Unsettled) a = (a.0, sym (ap first_value (same_values rule unbound (λ v. tt))) ∙ a.1)
+  same_answer rule (Ok Unsettled) (fits, says) =
+      (fits, sym (ap first_value (same_values rule unbound (λ v. tt))) ∙ says)
   same_answer rule (Err TooWide) a = a
   same_answer rule (Err Memory) a = a
 

@@ -67,11 +67,11 @@ second_agrees (x ∷ xs) [] a = absurd a
 -- the least of values is right of all the sentences, and the greatest of some
 least_agrees : (xs : List Three) (Ps : List (Type 0)) → AllAgree xs Ps → Agrees (least xs) (EachHolds Ps)
 least_agrees [] [] a = record { yes = λ e. tt; no = λ e. cc }
-least_agrees (x ∷ xs) (P ∷ Ps) a =
-    let rest = least_agrees xs Ps a.1 in
+least_agrees (x ∷ xs) (P ∷ Ps) (first, others) =
+    let rest = least_agrees xs Ps others in
     record {
-      yes = λ e. let b = both_true x (least xs) e in (a.0.yes b.0, rest.yes b.1);
-      no = λ e h. elim (both_false x (least xs) e) [ inl f ↦ a.0.no f h.0 | inr f ↦ rest.no f h.1 ];
+      yes = λ e. let b = both_true x (least xs) e in (first.yes b.0, rest.yes b.1);
+      no = λ e h. elim (both_false x (least xs) e) [ inl f ↦ first.no f h.0 | inr f ↦ rest.no f h.1 ];
     }
 least_agrees [] (P ∷ Ps) a = absurd a
 least_agrees (x ∷ xs) [] a = absurd a
@@ -79,12 +79,12 @@ least_agrees (x ∷ xs) [] a = absurd a
 -- the greatest is right of this, that some sentence holds
 greatest_agrees : (xs : List Three) (Ps : List (Type 0)) → AllAgree xs Ps → Agrees (greatest xs) (SomeHolds Ps)
 greatest_agrees [] [] a = record { yes = λ e. cc; no = λ e h. h }
-greatest_agrees (x ∷ xs) (P ∷ Ps) a =
-    let rest = greatest_agrees xs Ps a.1 in
+greatest_agrees (x ∷ xs) (P ∷ Ps) (first, others) =
+    let rest = greatest_agrees xs Ps others in
     record {
-      yes = λ e. elim (either_true x (greatest xs) e) [ inl t ↦ inl (a.0.yes t) | inr t ↦ inr (rest.yes t) ];
+      yes = λ e. elim (either_true x (greatest xs) e) [ inl t ↦ inl (first.yes t) | inr t ↦ inr (rest.yes t) ];
       no = λ e h. let b = either_false x (greatest xs) e in
-          elim h [ inl p ↦ a.0.no b.0 p | inr q ↦ rest.no b.1 q ];
+          elim h [ inl p ↦ first.no b.0 p | inr q ↦ rest.no b.1 q ];
     }
 greatest_agrees [] (P ∷ Ps) a = absurd a
 greatest_agrees (x ∷ xs) [] a = absurd a
@@ -162,14 +162,14 @@ module _ {T : Type 0} (f : ℕ → Three) (xs : List ℕ) (b : Bool) (IsMeant P 
     yes = λ t e m.
         let each = least_true known t in
         let whole = no_unknown b (λ x c u. unknown≢true (sym u ∙ each x (Contains-append_right (map f xs) us x c))) in
-        let i = all whole e m in
-        i.2.yes (each (f i.0) (Contains-append_left (map f xs) us (f i.0) (Contains-map f xs i.0 i.1)));
+        let (i, placed, agrees) = all whole e m in
+        agrees.yes (each (f i) (Contains-append_left (map f xs) us (f i) (Contains-map f xs i placed)));
     no = λ t h.
         elim (Contains-append_cases (map f xs) us False (least_false known t)) [
           | inl c ↦
-              let i = Contains-map_cases f xs False c in
-              let e = meant i.0 i.1 in
-              e.2.no i.2 (h e.0 e.1)
+              let (i, placed, is) = Contains-map_cases f xs False c in
+              let (e, is_meant, agrees) = meant i placed in
+              agrees.no is (h e is_meant)
           | inr c ↦ unknown≢false (sym (unknown_of b False c))
         ];
   }
@@ -180,16 +180,16 @@ module _ {T : Type 0} (f : ℕ → Three) (xs : List ℕ) (b : Bool) (IsMeant P 
     yes = λ t.
         elim (Contains-append_cases (map f xs) us True (greatest_true known t)) [
           | inl c ↦
-              let i = Contains-map_cases f xs True c in
-              let e = meant i.0 i.1 in
-              (e.0, e.1, e.2.yes i.2)
+              let (i, placed, is) = Contains-map_cases f xs True c in
+              let (e, is_meant, agrees) = meant i placed in
+              (e, is_meant, agrees.yes is)
           | inr c ↦ absurd (unknown≢true (sym (unknown_of b True c)))
         ];
-    no = λ t h.
+    no = λ t (e, is_meant, says).
         let each = greatest_false known t in
         let whole = no_unknown b (λ x c u. unknown≢false (sym u ∙ each x (Contains-append_right (map f xs) us x c))) in
-        let i = all whole h.0 h.1 in
-        i.2.no (each (f i.0) (Contains-append_left (map f xs) us (f i.0) (Contains-map f xs i.0 i.1))) h.2;
+        let (i, placed, agrees) = all whole e is_meant in
+        agrees.no (each (f i) (Contains-append_left (map f xs) us (f i) (Contains-map f xs i placed))) says;
   }
 
 module _ {T : Type 0} (node : T → Node) (row : T → Row) (machines : ℕ) (S G : List T) (parents : ℕ → List ℕ)
@@ -261,12 +261,12 @@ module _ {T : Type 0} (node : T → Node) (row : T → Row) (machines : ℕ) (S 
   place_of_kind : (kind : Kind) (e : T) → Contains S e → IsOfKind node row S G kind e →
       (i : ℕ) × (slice_get S i ≡ Some e) × Contains (places rows comes_before whole_at_place kind) i
   place_of_kind kind e c k =
-      let at = place_of S e c in (
-        at.0,
-        at.1,
-        Contains-filter (λ j. has_kind kind (slice_get rows j)) (range_with_len 0 (length rows)) at.0
-            (in_range (length rows) at.0 (slice_get_within rows at.0 (row e) (row_of at.0 e at.1)))
-            (ap (has_kind kind) (row_of at.0 e at.1) ∙ k),
+      let (i, there) = place_of S e c in (
+        i,
+        there,
+        Contains-filter (λ j. has_kind kind (slice_get rows j)) (range_with_len 0 (length rows)) i
+            (in_range (length rows) i (slice_get_within rows i (row e) (row_of i e there)))
+            (ap (has_kind kind) (row_of i e there) ∙ k),
       )
 
   -- the two ways in which the parts of a formula are read
@@ -327,12 +327,12 @@ module _ {T : Type 0} (node : T → Node) (row : T → Row) (machines : ℕ) (S 
     survivors_meant : (i : ℕ) → Contains (places rows comes_before whole_at_place kind) i →
         (e : T) × Survives e × Agrees (value_at i) (SaysAt e)
     survivors_meant i c =
-        let m = place_meant kind i c in (m.0, (at_place S i m.0 m.1, m.2), body i m.0 m.1)
+        let (e, there, such) = place_meant kind i c in (e, (at_place S i e there, such), body i e there)
 
     -- and each survivor of the kind has a place
     survivors_all : true ≡ true → (e : T) → Survives e →
         (i : ℕ) × Contains (places rows comes_before whole_at_place kind) i × Agrees (value_at i) (SaysAt e)
-    survivors_all _ e m = let p = place_of_kind kind e m.0 m.1 in (p.0, p.2, body p.0 e p.1)
+    survivors_all _ e m = let (i, there, placed) = place_of_kind kind e m.0 m.1 in (i, placed, body i e there)
 
     -- the least over the places is right of what `every` says of survivors
     for_every : Agrees (least (map value_at (places rows comes_before whole_at_place kind)))
@@ -355,8 +355,8 @@ module _ {T : Type 0} (node : T → Node) (row : T → Row) (machines : ℕ) (S 
         survivors_all in
         let same = append-nil (map value_at (places rows comes_before whole_at_place kind)) in
         record {
-          yes = λ t. let r = a.yes (ap greatest same ∙ t) in (r.0, r.1.0, r.1.1, r.2);
-          no = λ t h. a.no (ap greatest same ∙ t) (h.0, (h.1, h.2), h.3);
+          yes = λ t. let (x, (survives, such), says) = a.yes (ap greatest same ∙ t) in (x, survives, such, says);
+          no = λ t (x, survives, such, says). a.no (ap greatest same ∙ t) (x, (survives, such), says);
         }
 
     -- over what comes before one of them
@@ -371,10 +371,10 @@ module _ {T : Type 0} (node : T → Node) (row : T → Row) (machines : ℕ) (S 
       earlier_meant i c =
           let kept = Contains-filter_cases (λ j. is_true (comes_before j u))
           (places rows comes_before whole_at_place kind) i c in
-          let m = place_meant kind i kept.0 in
-          let path = precedes_from_reaches node machines S parents ragged graph i u m.0 last m.1 at
+          let (e, there, such) = place_meant kind i kept.0 in
+          let path = precedes_from_reaches node machines S parents ragged graph i u e last there at
           (sym (is_true_before (reaches parents u i u) (is_whole parents ragged u u)) ∙ kept.1) in
-          (m.0, (m.2, before_in_completion node S machines G completion m.0 last path), body i m.0 m.1)
+          (e, (such, before_in_completion node S machines G completion e last path), body i e there)
 
       -- where the place is whole, each entry that precedes it has such a place
       earlier_all : is_whole parents ragged u u ≡ true → (e : T) → IsEarlier e →
@@ -382,13 +382,13 @@ module _ {T : Type 0} (node : T → Node) (row : T → Row) (machines : ℕ) (S 
       earlier_all whole e m =
           let path = before_among_survivors node S machines G completion e last (at_place S u last at)
           (whole_from_test node machines S parents ragged graph u u last last at at whole) m.1 in
-          let p = place_of_kind kind e path.0 m.0 in
-          let near = is_true_before (reaches parents u p.0 u) (is_whole parents ragged u u)
-          ∙ reaches_from_precedes node machines S parents ragged graph p.0 u e last p.1 at path in (
-            p.0,
-            Contains-filter (λ j. is_true (comes_before j u)) (places rows comes_before whole_at_place kind) p.0 p.2
+          let (i, there, placed) = place_of_kind kind e path.0 m.0 in
+          let near = is_true_before (reaches parents u i u) (is_whole parents ragged u u)
+          ∙ reaches_from_precedes node machines S parents ragged graph i u e last there at path in (
+            i,
+            Contains-filter (λ j. is_true (comes_before j u)) (places rows comes_before whole_at_place kind) i placed
                 near,
-            body p.0 e p.1,
+            body i e there,
           )
 
       -- the least over these, and unknown where the place isn't whole, is right of every entry that precedes
@@ -411,8 +411,8 @@ module _ {T : Type 0} (node : T → Node) (row : T → Row) (machines : ℕ) (S 
           let a = some_agrees value_at (ancestors rows comes_before whole_at_place kind u) (is_whole parents ragged u u)
           IsEarlier SaysAt earlier_meant earlier_all in
           record {
-            yes = λ t. let r = a.yes t in (r.0, r.1.0, r.1.1, r.2);
-            no = λ t h. a.no t (h.0, (h.1, h.2), h.3);
+            yes = λ t. let (x, (such, earlier), says) = a.yes t in (x, such, earlier, says);
+            no = λ t (x, such, earlier, says). a.no t (x, (such, earlier), says);
           }
 
     -- the same of what a variable stands for, if it is bound
