@@ -88,16 +88,16 @@ module _ (script : Script) (ms ns : List MachineState) (of : AreMachinesOf scrip
     scripted_before : (l : Loss) → IsLicensed script.loses ns l → is_of from number to l ≡ true → (why : LossWhy) →
         IsLossCause script.loses ns l why → is_before_link why ≡ true → is_kept_off before from number to ≡ true
     scripted_before l is of_this Scripted cause off =
-        let parts = is_of_parts l from number to of_this in
-        let many = ap (count_sent ms) parts.0 in
-        let n = parts.1 in
+        let (from_is, number_is, to_is) = is_of_parts l from number to of_this in
+        let many = ap (count_sent ms) from_is in
+        let n = number_is in
         let count = grown.count in
         let a = is.from in
         let b = is.to in
         let this : Loss = record { from = l.from; number = l.number; to = l.to; why = Scripted } in
         list_any_of is_off before this
         (scripted l.from l.number l.to (omega arith) (omega arith) is.other (omega arith) cause)
-        (and_from (is_of from number to this) true (itself this from number to parts.0 parts.1 parts.2) refl)
+        (and_from (is_of from number to this) true (itself this from number to from_is number_is to_is) refl)
     scripted_before l is of_this LinkFull cause off = absurd cause
     scripted_before l is of_this ToStopped cause off = cc
     scripted_before l is of_this LogFull cause off = cc
@@ -107,15 +107,15 @@ module _ (script : Script) (ms ns : List MachineState) (of : AreMachinesOf scrip
     kept_off_same : is_kept_off told from number to ≡ is_kept_off before from number to
     kept_off_same =
         elim (cases_Bool (is_kept_off before from number to)) [
-          | inl off ↦ (let some = list_any_some is_off before off in
-              list_any_of is_off told some.0 (told_before some.0 some.1) some.2 ∙ sym off)
+          | inl off ↦ (let (loss, there, off_by) = list_any_some is_off before off in
+              list_any_of is_off told loss (told_before loss there) off_by ∙ sym off)
           | inr on ↦ elim (cases_Bool (is_kept_off told from number to)) [
-            | inl off ↦ (let some = list_any_some is_off told off in
-                let parts = and_parts (is_of from number to some.0) (is_before_link some.0.why) some.2 in
-                absurd (true≢false (sym (elim (told_cases some.0 some.1) [
-                  | inl old ↦ list_any_of is_off before some.0 old some.2
-                  | inr new ↦ (let is = All-contains (IsLicensed script.loses ns) lost some.0 licensed new in
-                      scripted_before some.0 is parts.0 some.0.why is.cause parts.1)
+            | inl off ↦ (let (loss, there, off_by) = list_any_some is_off told off in
+                let parts = and_parts (is_of from number to loss) (is_before_link loss.why) off_by in
+                absurd (true≢false (sym (elim (told_cases loss there) [
+                  | inl old ↦ list_any_of is_off before loss old off_by
+                  | inr new ↦ (let is = All-contains (IsLicensed script.loses ns) lost loss licensed new in
+                      scripted_before loss is parts.0 loss.why is.cause parts.1)
                 ]) ∙ on)))
             | inr still ↦ still ∙ sym on
           ]
@@ -127,7 +127,7 @@ module _ (script : Script) (ms ns : List MachineState) (of : AreMachinesOf scrip
   put_more from number to lf =
       let legal = legal_at ms (are_placed script ms of) from lf in
       let es : List SealedEntry = sent (history (world_of ms) from) in
-      let more = sent_more ms ns grown from in
+      let (later, grows) = sent_more ms ns grown from in
       let p : SealedEntry → Bool =
       λ e. nat_lt e.entry.number number && not (is_kept_off before from e.entry.number to) in
       let q : SealedEntry → Bool =
@@ -136,10 +136,10 @@ module _ (script : Script) (ms ns : List MachineState) (of : AreMachinesOf scrip
       filter_same q p es
       (λ e c. ap (λ b. nat_lt e.entry.number number && not b)
       (kept_off_same from e.entry.number to (numbers_below from (history (world_of ms) from) legal e c).0)) in
-      let all : put_before ns told from number to ≡ filter p es ++ filter q more.0 =
-      ap (filter q) more.1 ∙ filter-append q es more.0 ∙ ap (λ l. l ++ filter q more.0) same in
+      let all : put_before ns told from number to ≡ filter p es ++ filter q later =
+      ap (filter q) grows ∙ filter-append q es later ∙ ap (λ l. l ++ filter q later) same in
       let k = ap length all in
-      let both = length-append (filter p es) (filter q more.0) in
+      let both = length-append (filter p es) (filter q later) in
       omega arith
 
   -- a machine that has as many events as it stops at stays so
@@ -154,38 +154,32 @@ module _ (script : Script) (ms ns : List MachineState) (of : AreMachinesOf scrip
   cause_still : (l : Loss) → IsOnWay ms l → (why : LossWhy) → IsCauseOf script ms before l why →
       IsCauseOf script ns told l why
   cause_still l way Scripted cause = cause
-  cause_still l way LinkFull cause =
+  cause_still l way LinkFull (named, was) =
       let more = put_more l.from l.number l.to way.from in
-      let was = cause.1 in
-      (cause.0, omega arith)
-  cause_still l way ToStopped cause =
-      let n = now_at ms ns grown l.to cause.0 cause.1 in (
-        n.0,
-        n.1,
-        stop_still cause.0 n.0 cause.2 n.2.stop (longer cause.0 n.0 n.2) (placed l.to n.0 n.1).machine.stop,
+      (named, omega arith)
+  cause_still l way ToStopped (m, is, stopped) =
+      let (n, there, grows) = now_at ms ns grown l.to m is in (
+        n,
+        there,
+        stop_still m n stopped grows.stop (longer m n grows) (placed l.to n there).machine.stop,
       )
-  cause_still l way LogFull cause =
-      let n = now_at ms ns grown l.to cause.0 cause.1 in
-      let low = longer cause.0 n.0 n.2 in
-      let within = (placed l.to n.0 n.1).machine.within in
-      let log = log_is script l.to n.0 (now_of.each l.to n.0 n.1) in
-      let full = cause.2 in
-      (n.0, n.1, omega arith)
-  cause_still l way SameDigest cause =
-      let n = now_at ms ns grown l.to cause.0 cause.1 in
-      let same = cause.2 in (
-        n.0,
-        n.1,
-        (same.0, sent_still ms ns grown l.from same.0 same.1, same.2, held_still cause.0 n.0 _ n.2 same.3),
-      )
+  cause_still l way LogFull (m, is, full) =
+      let (n, there, grows) = now_at ms ns grown l.to m is in
+      let low = longer m n grows in
+      let within = (placed l.to n there).machine.within in
+      let log = log_is script l.to n (now_of.each l.to n there) in
+      (n, there, omega arith)
+  cause_still l way SameDigest (m, is, (entry, was_sent, numbered, borne)) =
+      let (n, there, grows) = now_at ms ns grown l.to m is in
+      (n, there, (entry, sent_still ms ns grown l.from entry was_sent, numbered, held_still m n _ grows borne))
 
   -- and what is lost in the sweep has one
   cause_new : (l : Loss) (why : LossWhy) → IsLossCause script.loses ns l why → IsCauseOf script ns told l why
   cause_new l Scripted cause = cause
   cause_new l LinkFull cause = absurd cause
   cause_new l ToStopped cause = cause
-  cause_new l LogFull cause =
-      (cause.0, cause.1, cause.2 ∙ log_is script l.to cause.0 (now_of.each l.to cause.0 cause.1))
+  cause_new l LogFull (m, is, full) =
+      (m, is, full ∙ log_is script l.to m (now_of.each l.to m is))
   cause_new l SameDigest cause = cause
 
   -- so each loss that is told has its cause

@@ -24,20 +24,20 @@ module _ {X : Type 0} where
       length xs ≤ length ys
   different_few [] ys differ all = omega arith
   different_few (x ∷ xs) ys differ all =
-      let split = member_split ys x (all x (Contains-head x xs)) in
-      let rest : List X = split.0 ++ split.1 in
+      let (front, back, parts) = member_split ys x (all x (Contains-head x xs)) in
+      let rest : List X = front ++ back in
       let others : (y : X) → Contains xs y → Contains rest y =
       λ y c.
-      elim (Contains-append_cases split.0 (x ∷ split.1) y
-      (subst (λ (l : List X). Contains l y) split.2 (all y (Contains-later x xs y c)))) [
-        | inl h ↦ Contains-append_left split.0 split.1 y h
-        | inr h ↦ elim (Contains-cons_cases x split.1 y h) [
+      elim (Contains-append_cases front (x ∷ back) y
+      (subst (λ (l : List X). Contains l y) parts (all y (Contains-later x xs y c)))) [
+        | inl h ↦ Contains-append_left front back y h
+        | inr h ↦ elim (Contains-cons_cases x back y h) [
           | inl same ↦ absurd (differ.0 (subst (λ (z : X). Contains xs z) (sym same) c))
-          | inr k ↦ Contains-append_right split.0 split.1 y k
+          | inr k ↦ Contains-append_right front back y k
         ]
       ] in
       let fewer = different_few xs rest differ.1 others in
-      omega (arith, ap length split.2, length-append split.0 (x ∷ split.1), length-append split.0 split.1)
+      omega (arith, ap length parts, length-append front (x ∷ back), length-append front back)
 
   -- where numbers rise from k on, fewer than n - k of them are below n
   pub rising_few : (number : X → ℕ) (test : X → Bool) (n k : ℕ) (xs : List X) →
@@ -69,16 +69,16 @@ module _ {T : Type 0} (node : T → Node) where
   different_from owner h p [] is legal = tt
   different_from owner h p (x ∷ q) is legal = (
     (λ c.
-        let at = Contains-map_cases entry_of q (entry_of x) c in
-        let split = member_split q at.0 at.1 in
-        let before : List (Event T) = p ++ x ∷ split.0 in
-        let there : h ≡ before ++ at.0 ∷ split.1 =
-        is ∙ ap (λ (l : List (Event T)). p ++ x ∷ l) split.2
-        ∙ sym (append_assoc p (x ∷ split.0) (at.0 ∷ split.1)) in
-        let new = new_from_may node owner before at.0 (legal before at.0 split.1 there) in
+        let (event, there, same) = Contains-map_cases entry_of q (entry_of x) c in
+        let (front, back, parts) = member_split q event there in
+        let before : List (Event T) = p ++ x ∷ front in
+        let there : h ≡ before ++ event ∷ back =
+        is ∙ ap (λ (l : List (Event T)). p ++ x ∷ l) parts
+        ∙ sym (append_assoc p (x ∷ front) (event ∷ back)) in
+        let new = new_from_may node owner before event (legal before event back there) in
         new (entry_of x)
-        (Contains-map entry_of before x (Contains-append_right p (x ∷ split.0) x (Contains-head x split.0)))
-        (ap (λ (e : T). (node e).digest) (sym at.2))),
+        (Contains-map entry_of before x (Contains-append_right p (x ∷ front) x (Contains-head x front)))
+        (ap (λ (e : T). (node e).digest) (sym same))),
     different_from owner h (p ++ x ∷ []) q (is ∙ sym (append_assoc p (x ∷ []) q)) legal,
   )
 

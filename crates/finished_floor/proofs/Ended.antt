@@ -27,22 +27,21 @@ module _ (script : Script) (lawful : IsLawful script) (ms : List MachineState) (
   few_sent =
       sent_in_few (world_of ms)
       (λ k a is.
-      let m = get-map_from machine_of ms k a is in
-      let within = (are_placed script ms of k m.0 m.1).machine.within in
-      let log = log_is script k m.0 (of.each k m.0 m.1) in
+      let (m, there, made) = get-map_from machine_of ms k a is in
+      let within = (are_placed script ms of k m there).machine.within in
+      let log = log_is script k m (of.each k m there) in
       let most = lawful.log.1 in
-      let same = ap (λ (b : Machine SealedEntry). length b.history) m.2 in
+      let same = ap (λ (b : Machine SealedEntry). length b.history) made in
       omega arith)
 
   -- a stamp is at most how many entries were sent, and so none is spent
   not_spent : (k : ℕ) (m : MachineState) → slice_get ms k ≡ Some m → IsStampSpent m → ⊥
-  not_spent k m is spent =
-      let low = law (world_of ms) orderly spent.0 (held_sent ms orderly k m is spent.0 spent.1) in
+  not_spent k m is (e, there, stamp) =
+      let low = law (world_of ms) orderly e (held_sent ms orderly k m is e there) in
       let few = few_sent in
       let world = length_world ms in
       let count = of.count in
       let most = lawful.machines.few.1 in
-      let stamp = spent.2 in
       omega arith
 
   -- nothing that a machine could do was left

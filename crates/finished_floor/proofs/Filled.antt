@@ -62,29 +62,27 @@ module _ {A B C : Type 0} (R : A → C → Type 0) (f : B → C) where
 -- what the workers did is told, and that none did the rest
 by_filled : (events : List (Event SealedEntry)) (row filled : List (Option ℕ)) → IsBegunBy events row →
     filled ≡ row ++ replicate (length events - length row) None → IsBy events filled
-by_filled events row filled begun is =
-    let first = begun.0 in
-    let later = begun.1 in
-    let all = ap length begun.2 in
+by_filled events row filled (first, later, whole, row_is) is =
+    let all = ap length whole in
     let both = length-append first later in
-    let told = ap length begun.3 in
+    let told = ap length row_is in
     let many = length-map first (λ x. Some (pass_of x)) in
     let rest : length events - length row ≡ length later = omega arith in (
       first,
       later,
-      begun.2,
-      is ∙ ap (λ (l : List (Option ℕ)). l ++ replicate (length events - length row) None) begun.3
+      whole,
+      is ∙ ap (λ (l : List (Option ℕ)). l ++ replicate (length events - length row) None) row_is
           ∙ ap (λ n. passes_of first ++ replicate n None) rest,
     )
 
 -- it tells of no more events than there are
 pub begun_few : (events : List (Event SealedEntry)) (row : List (Option ℕ)) → IsBegunBy events row →
     length row ≤ length events
-begun_few events row begun =
-    let all = ap length begun.2 in
-    let both = length-append begun.0 begun.1 in
-    let told = ap length begun.3 in
-    let many = length-map begun.0 (λ x. Some (pass_of x)) in
+begun_few events row (first, later, whole, row_is) =
+    let all = ap length whole in
+    let both = length-append first later in
+    let told = ap length row_is in
+    let many = length-map first (λ x. Some (pass_of x)) in
     omega arith
 
 module _ {B : Type 0} (f : B → List (Option ℕ)) (ms : List MachineState) where

@@ -41,11 +41,11 @@ rows_begun f ms ns rows grown all =
     zip_from (λ (n : MachineState) row. IsBegunBy n.events row) f ns rows
     (zip_many (λ (m : MachineState) row. row ≡ passes_of m.events) f ms rows all ∙ sym grown.count)
     (λ k n row is there.
-    let m = was_at ms ns grown k n is in (
-      m.0.events,
-      m.2.later,
-      m.2.events,
-      zip_at (λ (m : MachineState) row. row ≡ passes_of m.events) f ms rows all k m.0 row m.1 there,
+    let (m, was, grows) = was_at ms ns grown k n is in (
+      m.events,
+      grows.later,
+      grows.events,
+      zip_at (λ (m : MachineState) row. row ≡ passes_of m.events) f ms rows all k m row was there,
     ))
 
 -- what the sweep leaves
@@ -74,12 +74,13 @@ module _ (script : Script) (lawful : IsLawful script) (roster : List Post) (ms n
   -- it is what a run comes to
   pub floor_of : IsFloorOf script roster ns told by
   floor_of =
+      let (lost, split, licensed) = losses in
       let each = got_or_lost ns told (each_is_heard_or_lost node_of_sealed) once
       (balanced_moved node_of_sealed (length ns) (history (world_of ns)) after told (λ a b. []) moved balanced) in
-      let only = all_on_way script ms ns left.machines grown placed before losses.0 after told losses.1 moved left.only
-      left.causes left.scripted losses.2 in
-      let causes = all_caused script ms ns left.machines grown placed before losses.0 after told losses.1 moved
-      left.only left.causes left.scripted losses.2 in
+      let only = all_on_way script ms ns left.machines grown placed before lost after told split moved left.only
+      left.causes left.scripted licensed in
+      let causes = all_caused script ms ns left.machines grown placed before lost after told split moved
+      left.only left.causes left.scripted licensed in
       let others = all_others ns placed told once each only script causes in
       record {
         roster = left.roster;
@@ -92,8 +93,8 @@ module _ (script : Script) (lawful : IsLawful script) (roster : List Post) (ms n
           only = only;
           causes = causes;
           others = others;
-          scripted = all_scripted script ms ns left.machines grown placed before losses.0 after told losses.1 moved
-              left.only left.causes left.scripted losses.2 scripted;
+          scripted = all_scripted script ms ns left.machines grown placed before lost after told split moved
+              left.only left.causes left.scripted licensed scripted;
         };
         roomy = loses_nothing script ns now_of orderly told once each only causes others;
         at_end = all_at_end script lawful ns now_of orderly (stamps_are_few node_of_sealed) whole;

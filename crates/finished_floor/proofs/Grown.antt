@@ -74,12 +74,12 @@ are_placed script ms of place m is = is_at script place m (of.each place m is)
 -- what was held is still held
 pub held_still : (m n : MachineState) (d : List ℕ) → HasGrown m n → IsBorneIn node_of_sealed (held m.events) d →
     IsBorneIn node_of_sealed (held n.events) d
-held_still m n d grown borne = (
-  borne.0,
-  subst (λ (l : List SealedEntry). Contains l borne.0)
+held_still m n d grown (entry, there, same) = (
+  entry,
+  subst (λ (l : List SealedEntry). Contains l entry)
       (sym (ap held grown.events ∙ map-append entry_of m.events grown.later))
-      (Contains-append_left (held m.events) (held grown.later) borne.0 borne.1),
-  borne.2,
+      (Contains-append_left (held m.events) (held grown.later) entry there),
+  same,
 )
 
 -- there are at least as many events
@@ -93,21 +93,21 @@ module _ (ms ns : List MachineState) (grown : HaveGrown ms ns) where
       (n : MachineState) × (slice_get ns k ≡ Some n) × HasGrown m n
   now_at k m is =
       let lt = slice_get_within ms k m is in
-      let n = get_within ns k (let c = grown.count in omega arith) in (n.0, n.1, grown.each k m n.0 is n.1)
+      let (n, there) = get_within ns k (let c = grown.count in omega arith) in (n, there, grown.each k m n is there)
 
   -- and the one that it was
   pub was_at : (k : ℕ) (n : MachineState) → slice_get ns k ≡ Some n →
       (m : MachineState) × (slice_get ms k ≡ Some m) × HasGrown m n
   was_at k n is =
       let lt = slice_get_within ns k n is in
-      let m = get_within ms k (let c = grown.count in omega arith) in (m.0, m.1, grown.each k m.0 n m.1 is)
+      let (m, there) = get_within ms k (let c = grown.count in omega arith) in (m, there, grown.each k m n there is)
 
   -- they are the script's still
   pub machines_still : (script : Script) → AreMachinesOf script ms → ArePlaced ns → AreMachinesOf script ns
   machines_still script of placed = record {
     count = grown.count ∙ of.count;
-    each = λ k n is. let m = was_at k n is in
-        grown_of script k m.0 (of.each k m.0 m.1) n m.2 (placed k n is);
+    each = λ k n is. let (m, there, grows) = was_at k n is in
+        grown_of script k m (of.each k m there) n grows (placed k n is);
   }
 
   -- each history has what it had
@@ -115,10 +115,10 @@ module _ (ms ns : List MachineState) (grown : HaveGrown ms ns) where
       (later : List (Event SealedEntry)) × (history (world_of ns) k ≡ history (world_of ms) k ++ later)
   history_more k =
       elim ((slice_get_cases ms k).1) [
-        | inl found ↦ (let n = now_at k found.0 found.2 in (
-          n.2.later,
-          history_there ns k n.0 n.1 ∙ n.2.events
-              ∙ ap (λ (h : List (Event SealedEntry)). h ++ n.2.later) (sym (history_there ms k found.0 found.2)),
+        | inl (m, _, is, _) ↦ (let (n, there, grows) = now_at k m is in (
+          grows.later,
+          history_there ns k n there ∙ grows.events
+              ∙ ap (λ (h : List (Event SealedEntry)). h ++ grows.later) (sym (history_there ms k m is)),
         ))
         | inr none ↦ (
           [],
@@ -132,16 +132,16 @@ module _ (ms ns : List MachineState) (grown : HaveGrown ms ns) where
   pub sent_more : (k : ℕ) →
       (more : List SealedEntry) × (sent (history (world_of ns) k) ≡ sent (history (world_of ms) k) ++ more)
   sent_more k =
-      let more = history_more k in
-      (sent more.0, ap sent more.1 ∙ sent-append (history (world_of ms) k) more.0)
+      let (later, grows) = history_more k in
+      (sent later, ap sent grows ∙ sent-append (history (world_of ms) k) later)
 
   -- so what was sent is still among it
   pub sent_still : (k : ℕ) (e : SealedEntry) → Contains (sent (history (world_of ms) k)) e →
       Contains (sent (history (world_of ns) k)) e
   sent_still k e c =
-      let more = sent_more k in
-      subst (λ (l : List SealedEntry). Contains l e) (sym more.1)
-      (Contains-append_left (sent (history (world_of ms) k)) more.0 e c)
+      let (later, grows) = sent_more k in
+      subst (λ (l : List SealedEntry). Contains l e) (sym grows)
+      (Contains-append_left (sent (history (world_of ms) k)) later e c)
 
   -- and no fewer entries were sent
   pub count_more : (k : ℕ) → count_sent ms k ≤ count_sent ns k

@@ -100,7 +100,7 @@ module _ (ms : List MachineState) (placed : ArePlaced ms) (told : List Loss) (on
     -- so it doesn't hold it
     pub not_held : Contains (held m.events) e → ⊥
     not_held there =
-        let at = Contains-map_cases entry_of m.events e there in by at.0 at.1 at.2
+        let (event, inside, same) = Contains-map_cases entry_of m.events e there in by event inside same
       where
         -- no event of the receiver is of this entry
         by : (x : Event SealedEntry) → Contains m.events x → entry_of x ≡ e → ⊥
@@ -118,18 +118,17 @@ module _ (ms : List MachineState) (placed : ArePlaced ms) (told : List Loss) (on
       let cause : IsCauseOf script ms told l SameDigest =
       subst (IsCauseOf script ms told l) why
       (All-contains (λ (loss : Loss). IsCauseOf script ms told loss loss.why) told l causes c) in
-      let same = cause.2 in
-      let borne = same.3 in (
-        cause.0,
-        cause.1,
+      let (m, at, (entry, was_sent, numbered, (other, is_held, same))) = cause in (
+        m,
+        at,
         record {
-          entry = same.0;
-          was_sent = same.1;
-          numbered = same.2;
-          other = borne.0;
-          is_held = borne.1;
-          differs = λ one. not_held l c cause.0 cause.1 same.0 same.1 same.2
-              (subst (λ (g : SealedEntry). Contains (held cause.0.events) g) one borne.1);
-          same = borne.2;
+          entry = entry;
+          was_sent = was_sent;
+          numbered = numbered;
+          other = other;
+          is_held = is_held;
+          differs = λ one. not_held l c m at entry was_sent numbered
+              (subst (λ (g : SealedEntry). Contains (held m.events) g) one is_held);
+          same = same;
         },
       ))

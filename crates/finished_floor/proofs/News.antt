@@ -28,10 +28,10 @@ use Rattle.finished_floor.proofs.Grown.{nothing_at}
 -- a fresh machine is the script's
 pub new_of : (script : Script) (at : ℕ) (stop : Option ℕ) (m : MachineState) → IsStopOf script.stops at stop →
     IsFresh script at stop m → IsMachine m → IsMachineOf script at m
-new_of script at stop m stops fresh machine = record {
-  stop = subst (IsStopOf script.stops at) (sym (ap (λ (u : MachineState). u.stop) fresh.2)) stops;
-  made = subst (λ (u : MachineState). IsFresh script at u.stop (record u { events = [] })) (sym fresh.2)
-      (fresh.0, fresh.1, refl);
+new_of script at stop m stops (cast, is, made) machine = record {
+  stop = subst (IsStopOf script.stops at) (sym (ap (λ (u : MachineState). u.stop) made)) stops;
+  made = subst (λ (u : MachineState). IsFresh script at u.stop (record u { events = [] })) (sym made)
+      (cast, is, refl);
   machine = machine;
 }
 
@@ -103,7 +103,7 @@ module _ {B : Type 0} (f : B → List (Option ℕ)) (script : Script) where
       none_sent : (k : ℕ) → count_sent ms k ≡ 0
       none_sent k =
           elim ((slice_get_cases ms k).1) [
-            | inl found ↦ ap (λ h. length (sent h))
-                (history_there ms k found.0 found.2 ∙ (is.each k found.0 found.2).1)
+            | inl (m, _, there, _) ↦ ap (λ h. length (sent h))
+                (history_there ms k m there ∙ (is.each k m there).1)
             | inr nothing ↦ ap (λ h. length (sent h)) (nothing_at ms k nothing.1)
           ]

@@ -65,10 +65,10 @@ pub event_at : (ms : List MachineState) (k : ℕ) (x : Event SealedEntry) → Co
     (m : MachineState) × (slice_get ms k ≡ Some m) × Contains m.events x
 event_at ms k x c =
     elim ((slice_get_cases ms k).1) [
-      | inl found ↦ (
-        found.0,
-        found.2,
-        subst (λ (h : List (Event SealedEntry)). Contains h x) (history_there ms k found.0 found.2) c,
+      | inl (m, _, is, _) ↦ (
+        m,
+        is,
+        subst (λ (h : List (Event SealedEntry)). Contains h x) (history_there ms k m is) c,
       )
       | inr none ↦ (let n = subst (λ (h : List (Event SealedEntry)). Contains h x) (nothing_at ms k none.1) c in
           absurd (let l = n.1 in omega arith))
@@ -91,12 +91,12 @@ configs_are script ms of =
     ∙ fresh_configs script (map made ms) (record {
       count = length-map ms made ∙ of.count;
       each = λ place m is.
-          let u = get-map_from made ms place m is in
-          let config = config_is script place u.0 (of.each place u.0 u.1) in (
-            config.0,
-            config.1,
-            sym u.2
-                ∙ ap (λ (c : Config). record { config = c; stop = None; marked = false; events = [] }) config.2,
+          let (u, there, same) = get-map_from made ms place m is in
+          let (cast, cast_is, made_of) = config_is script place u (of.each place u there) in (
+            cast,
+            cast_is,
+            sym same
+                ∙ ap (λ (c : Config). record { config = c; stop = None; marked = false; events = [] }) made_of,
           );
     })
 
@@ -107,19 +107,19 @@ module _ (ms : List MachineState) (placed : ArePlaced ms) where
   made_by next tells k before e later is =
       let lt = in_world (world_of ms) k before (Sent e) later is in
       let world = length_world ms in
-      let m = get_within ms k (omega arith) in
-      let may = (placed k m.0 m.1).machine.sent before e later (sym (history_there ms k m.0 m.1) ∙ is) in
-      at_place m.0.config before e (slice_get (configs_of ms) k) (next k before)
-      (get-map (λ (x : MachineState). x.config) ms k m.0 m.1) may (tells k before)
+      let (m, there) = get_within ms k (omega arith) in
+      let may = (placed k m there).machine.sent before e later (sym (history_there ms k m there) ∙ is) in
+      at_place m.config before e (slice_get (configs_of ms) k) (next k before)
+      (get-map (λ (x : MachineState). x.config) ms k m there) may (tells k before)
 
   -- the history at each place is legal, be there a machine or none
   all_legal : (k : ℕ) → IsLegal node_of_sealed k (history (world_of ms) k)
   all_legal k =
       elim ((slice_get_cases ms k).1) [
-        | inl found ↦ (let at = placed k found.0 found.2 in
+        | inl (m, _, is, _) ↦ (let at = placed k m is in
             subst (λ (h : List (Event SealedEntry)). IsLegal node_of_sealed k h)
-            (sym (history_there ms k found.0 found.2))
-            (subst (λ n. IsLegal node_of_sealed n found.0.events) at.number at.machine.legal))
+            (sym (history_there ms k m is))
+            (subst (λ n. IsLegal node_of_sealed n m.events) at.number at.machine.legal))
         | inr none ↦ (λ before x later e. absurd (no_event before x later (sym (nothing_at ms k none.1) ∙ e)))
       ]
 
@@ -130,7 +130,7 @@ module _ (ms : List MachineState) (placed : ArePlaced ms) where
   are_orderly losses waits makers balanced =
       let world = length_world ms in
       IsOrderly-balanced node_of_sealed (world_of ms) losses waits all_legal
-      (λ b e c. let m = event_at ms b (Got e) c in let lt = makers b m.0 e m.1 m.2 in omega arith)
+      (λ b e c. let (m, at, inside) = event_at ms b (Got e) c in let lt = makers b m e at inside in omega arith)
       (balance_same (length ms) (length (world_of ms)) (history (world_of ms)) (history (world_of ms)) losses waits
       (sym world) (λ i. refl) balanced)
 
@@ -139,22 +139,21 @@ module _ (ms : List MachineState) (placed : ArePlaced ms) where
     all_within : (k : ℕ) → length (history (world_of ms) k) ≤ script.log
     all_within k =
         elim ((slice_get_cases ms k).1) [
-          | inl found ↦ (let at = placed k found.0 found.2 in
-              let l = log_is script k found.0 (of.each k found.0 found.2) in
+          | inl (m, _, is, _) ↦ (let at = placed k m is in
+              let l = log_is script k m (of.each k m is) in
               let n = at.machine.within in
-              let same = ap length (history_there ms k found.0 found.2) in omega arith)
+              let same = ap length (history_there ms k m is) in omega arith)
           | inr none ↦ (let same = ap length (nothing_at ms k none.1) in omega arith)
         ]
 
     -- playing the merged events of an orderly world of the script's machines gives their histories again
     pub played_again : IsOrderly node_of_sealed (world_of ms) → ArePlayedAgain script ms
-    played_again orderly xs merged w comes k =
+    played_again orderly xs merged w (next, told, same) k =
         let steps : List Step = map (λ (x : PlacedEvent SealedEntry). step_of node_of_sealed x.machine x.event) xs in
-        let next = comes.0 in
         let tells : TellsNext (configs_of ms) next =
-        subst (λ (cs : List Config). TellsNext cs next) (sym (configs_are script ms of)) comes.1 in
+        subst (λ (cs : List Config). TellsNext cs next) (sym (configs_are script ms of)) told in
         let many : length script.machines ≡ length (world_of ms) = sym (length_world ms ∙ of.count) in
-        ap (λ (v : World SealedEntry). history v k) comes.2
+        ap (λ (v : World SealedEntry). history v k) same
         ∙ ap (λ n. history (play node_of_sealed next script.log (start n) steps) k) many
         ∙ merged_is_played_again node_of_sealed next script.log (world_of ms) orderly (made_by next tells) all_within
         xs merged k

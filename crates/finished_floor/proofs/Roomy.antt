@@ -47,10 +47,10 @@ pub number_below : (m : MachineState) → IsMachine m → (i : ℕ) → i < leng
     i < length m.config.actions
 number_below m machine i lt =
     elim ((slice_get_cases (sent m.events) i).1) [
-      | inl found ↦ (let split = nth_split m.events i found.0 found.2 in
-          let may = machine.sent split.0 found.0 split.1 split.2 in
-          let k = slice_get_within m.config.actions (length (sent split.0)) may.deed may.action in
-          let n = split.3 in omega arith)
+      | inl (e, _, is, _) ↦ (let (front, back, parts, count) = nth_split m.events i e is in
+          let may = machine.sent front e back parts in
+          let k = slice_get_within m.config.actions (length (sent front)) may.deed may.action in
+          omega (arith, count))
       | inr none ↦ (let n = none.0 in absurd (omega arith))
     ]
 
@@ -66,8 +66,8 @@ sent_at_most m machine =
 sent_number : (ms : List MachineState) → ArePlaced ms → (k : ℕ) → k < length ms → (i : ℕ) (e : SealedEntry) →
     slice_get (sent (history (world_of ms) k)) i ≡ Some e → e.entry.number ≡ i
 sent_number ms placed k lt i e is =
-    let split = nth_split (history (world_of ms) k) i e is in
-    (legal_at ms placed k lt split.0 (Sent e) split.1 split.2).1.number ∙ split.3
+    let (front, back, parts, count) = nth_split (history (world_of ms) k) i e is in
+    (legal_at ms placed k lt front (Sent e) back parts).1.number ∙ count
 
 -- no more entries were sent than there are actions in all
 sent_in_most : (ms : List MachineState) (casts : List Cast0) → length ms ≡ length casts →
@@ -88,8 +88,8 @@ sent_in_most (m ∷ ms) (cast ∷ casts) many each =
 pub held_sent : (ms : List MachineState) → IsOrderly node_of_sealed (world_of ms) → (k : ℕ) (m : MachineState) →
     slice_get ms k ≡ Some m → (e : SealedEntry) → Contains (held m.events) e → Contains (sent_in (world_of ms)) e
 held_sent ms orderly k m is e c =
-    let at = Contains-map_cases entry_of m.events e c in
-    subst (λ (f : SealedEntry). Contains (sent_in (world_of ms)) f) at.2 (by at.0 at.1)
+    let (event, inside, same) = Contains-map_cases entry_of m.events e c in
+    subst (λ (f : SealedEntry). Contains (sent_in (world_of ms)) f) same (by event inside)
   where
     -- the machine's events are those of its history in the world
     there : (x : Event SealedEntry) → Contains m.events x → Contains (history (world_of ms) k) x
@@ -115,10 +115,10 @@ module _ (script : Script) (ms : List MachineState) (of : AreMachinesOf script m
   in_all =
       sent_in_most ms script.machines of.count
       (λ k m cast is at.
-      let config = config_is script k m (of.each k m is) in
-      let same : config.0 ≡ cast = let a = config.1 in cc in
+      let (own, own_is, made) = config_is script k m (of.each k m is) in
+      let same : own ≡ cast = let a = own_is in cc in
       let n = sent_at_most m (placed k m is).machine in
-      let acts = ap (λ (c : Config). length c.actions) config.2 in
+      let acts = ap (λ (c : Config). length c.actions) made in
       let then = ap (λ (c : Cast0). length c.actions) same in
       omega arith)
 
@@ -126,16 +126,16 @@ module _ (script : Script) (ms : List MachineState) (of : AreMachinesOf script m
   not_full : All (λ (cast : Cast0). length cast.actions ≤ script.link) script.machines → (l : Loss) → IsOnWay ms l →
       script.link ≤ length (put_before ms told l.from l.number l.to) → ⊥
   not_full links l way full =
-      let m = get_within ms l.from way.from in
-      let config = config_is script l.from m.0 (of.each l.from m.0 m.1) in
-      let acts = ap (λ (c : Config). length c.actions) config.2 in
-      let count = ap (λ h. length (sent h)) (history_there ms l.from m.0 m.1) in
+      let (m, there) = get_within ms l.from way.from in
+      let (cast, is, made) = config_is script l.from m (of.each l.from m there) in
+      let acts = ap (λ (c : Config). length c.actions) made in
+      let count = ap (λ h. length (sent h)) (history_there ms l.from m there) in
       let n = way.number in
-      let below = number_below m.0 (placed l.from m.0 m.1).machine l.number (omega arith) in
-      let room = All-contains (λ (cast : Cast0). length cast.actions ≤ script.link) script.machines config.0 links (
+      let below = number_below m (placed l.from m there).machine l.number (omega arith) in
+      let room = All-contains (λ (cast : Cast0). length cast.actions ≤ script.link) script.machines cast links (
         l.from,
-        slice_get_within script.machines l.from config.0 config.1,
-        get_or_from_slice_get script.machines l.from config.0 config.0 config.1,
+        slice_get_within script.machines l.from cast is,
+        get_or_from_slice_get script.machines l.from cast cast is,
       ) in
       let legal = legal_at ms placed l.from way.from in
       let few = rising_few (λ (e : SealedEntry). e.entry.number)
@@ -152,10 +152,9 @@ module _ (script : Script) (ms : List MachineState) (of : AreMachinesOf script m
       let es = sent (history (world_of ms) l.from) in
       let n = way.number in
       elim ((slice_get_cases es l.number).1) [
-        | inl found ↦ (let e : SealedEntry = found.0 in
-            let was_sent : Contains es e =
-            (l.number, found.1, get_or_from_slice_get es l.number e e found.2) in
-            let numbered = sent_number ms placed l.from way.from l.number e found.2 in
+        | inl (e, within, is_e, _) ↦ (let was_sent : Contains es e =
+            (l.number, within, get_or_from_slice_get es l.number e e is_e) in
+            let numbered = sent_number ms placed l.from way.from l.number e is_e in
             let missing = not_held ms placed told once each only l c m is e was_sent numbered in
             let few = different_few (e ∷ held m.events) (sent_in (world_of ms))
             (missing, held_different node_of_sealed m.config.number m.events (placed l.to m is).machine.legal)
@@ -188,16 +187,15 @@ module _ (script : Script) (ms : List MachineState) (of : AreMachinesOf script m
       by Scripted is cause =
           true≢false (sym cause ∙ ap (λ (loses : List Lose). is_scripted loses l.from l.number l.to) no_loses)
       by LinkFull is cause = not_full links l (All-contains (IsOnWay ms) told l only c) cause.1
-      by ToStopped is cause =
-          no_stop l.to cause.0.stop (length cause.0.events)
-          (subst (λ (stops : List StopAt). IsStopOf stops l.to cause.0.stop) no_stops
-          (of.each l.to cause.0 cause.1).stop) cause.2
-      by LogFull is cause = not_all logs l c cause.0 cause.1 cause.2
+      by ToStopped is (m, there, stopped) =
+          no_stop l.to m.stop (length m.events)
+          (subst (λ (stops : List StopAt). IsStopOf stops l.to m.stop) no_stops
+          (of.each l.to m there).stop) stopped
+      by LogFull is (m, there, full) = not_all logs l c m there full
       by SameDigest is cause =
-          let held_one = All-contains (λ (loss : Loss). loss.why ≡ SameDigest → (m : MachineState)
+          let (m, there, h) = All-contains (λ (loss : Loss). loss.why ≡ SameDigest → (m : MachineState)
           × (slice_get ms loss.to ≡ Some m) × HoldsAnother ms loss.from loss.number m) told l others c is in
-          let h = held_one.2 in
-          h.differs (distinct h.other h.entry (held_sent ms orderly l.to held_one.0 held_one.1 h.other h.is_held)
+          h.differs (distinct h.other h.entry (held_sent ms orderly l.to m there h.other h.is_held)
           (sent_in_from (world_of ms) l.from h.entry
           (Contains-sent_cases (history (world_of ms) l.from) h.entry h.was_sent)) h.same)
 

@@ -97,10 +97,10 @@ told_once xs told i j d lt within = by (get_or xs i d) (get_or xs j d) (told i j
     by : (a b : Loss) → IsToldBefore a b → Differ a b
     by a b before =
         elim (cases_Bool (is_of a.from a.number a.to b)) [
-          | inl is ↦ (let p = is_of_parts b a.from a.number a.to is in absurd (elim before [
-            | inl lower ↦ (let q = p.0 in omega arith)
-            | inr (f, inl lower) ↦ (let q = p.2 in omega arith)
-            | inr (f, inr (t, lower)) ↦ (let q = p.1 in omega arith)
+          | inl is ↦ (let (from_is, number_is, to_is) = is_of_parts b a.from a.number a.to is in absurd (elim before [
+            | inl lower ↦ omega (arith, from_is, lower)
+            | inr (f, inl lower) ↦ omega (arith, to_is, lower)
+            | inr (f, inr (t, lower)) ↦ omega (arith, number_is, lower)
           ]))
           | inr isnt ↦ isnt
         ]
@@ -113,8 +113,8 @@ same_way a b = is_of a.from a.number a.to b
 flips : (a b : Loss) → same_way a b ≡ same_way b a
 flips a b =
     elim (cases_Bool (same_way a b)) [
-      | inl is ↦ (let p = is_of_parts b a.from a.number a.to is in
-          is ∙ sym (itself a b.from b.number b.to (sym p.0) (sym p.1) (sym p.2)))
+      | inl is ↦ (let (from_is, number_is, to_is) = is_of_parts b a.from a.number a.to is in
+          is ∙ sym (itself a b.from b.number b.to (sym from_is) (sym number_is) (sym to_is)))
       | inr isnt ↦ isnt ∙ sym (differ_sym a b isnt)
     ]
 
