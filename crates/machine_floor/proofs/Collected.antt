@@ -59,8 +59,8 @@ same_test false false to from = refl
 -- a member stands at a place
 place_of : {X : Type 0} (xs : List X) (x : X) → Contains xs x → (k : ℕ) × (slice_get xs k ≡ Some x)
 place_of xs x c =
-    let p = at_from_Contains xs x c in
-    (p.0, slice_get-get_or xs p.0 x p.1 ∙ ap Some (p.2 x))
+    let (k, within, is) = at_from_Contains xs x c in
+    (k, slice_get-get_or xs k x within ∙ ap Some (is x))
 
 -- and what stands at a place is a member
 member_at : {X : Type 0} (xs : List X) (k : ℕ) (x : X) → slice_get xs k ≡ Some x → Contains xs x
@@ -90,10 +90,10 @@ once_all f (x ∷ xs) each across =
     (λ k j y z differs s t. across (suc k) (suc j) y z (λ e. differs (omega arith)) s t))
     (λ i j d li lj.
     let b = get_or (flat_map f xs) j d in
-    let c = Contains-flat_map_cases f xs b (Contains-get_or (flat_map f xs) j d lj) in
-    let p = place_of xs c.0 c.1 in
-    across 0 (suc p.0) x c.0 (λ e. absurd (omega arith)) refl p.1 (get_or (f x) i d) b (Contains-get_or (f x) i d li)
-    c.2)
+    let (y, in_xs, in_y) = Contains-flat_map_cases f xs b (Contains-get_or (flat_map f xs) j d lj) in
+    let (k, stands) = place_of xs y in_xs in
+    across 0 (suc k) x y (λ e. absurd (omega arith)) refl stands (get_or (f x) i d) b (Contains-get_or (f x) i d li)
+    in_y)
 
 -- the lines on one machine name its losses as all lines do
 lines_name : (own : ℕ) (loses : List Lose) (number to : ℕ) →
@@ -134,8 +134,8 @@ fewer_pass {X} p q (x ∷ xs) weaker =
 makers_sent : (owner : ℕ) (h : List (Event SealedEntry)) → IsLegal node_of_sealed owner h → (x : SealedEntry) →
     Contains (sent h) x → x.entry.maker ≡ owner
 makers_sent owner h legal x c =
-    let split = member_split h (Sent x) (Contains-sent_cases h x c) in
-    (legal split.0 (Sent x) split.1 split.2).1.maker
+    let (before, after, is) = member_split h (Sent x) (Contains-sent_cases h x c) in
+    (legal before (Sent x) after is).1.maker
 
 -- the ticks tell who did the events
 by_ticks : (place : ℕ) (h : List (Event SealedEntry)) → by_of (ticks_from place h) ≡ passes_of h
@@ -266,9 +266,9 @@ module _ (script : Script) (links : List (List LinkView)) (ss : List StationStat
   loser : (x : Loss) → Contains lost x →
       (a : ℕ) × (s : StationState) × (slice_get ss a ≡ Some s) × Contains s.losses x
   loser x c =
-      let p = Contains-flat_map_cases (λ (s : StationState). s.losses) ss x c in
-      let q = place_of ss p.0 p.1 in
-      (q.0, p.0, q.1, p.2)
+      let (s, in_all, in_s) = Contains-flat_map_cases (λ (s : StationState). s.losses) ss x c in
+      let q = place_of ss s in_all in
+      (q.0, s, q.1, in_s)
 
   -- so what is lost between two machines is what one of the two lost
   either : (a b : ℕ) (s t : StationState) → slice_get ss a ≡ Some s → slice_get ss b ≡ Some t → (k : ℕ) →
@@ -276,25 +276,25 @@ module _ (script : Script) (links : List (List LinkView)) (ss : List StationStat
   either a b s t p q k =
       same_test (is_lost lost a k b) (is_lost s.losses a k b || is_lost t.losses a k b)
       (λ is.
-      let x = list_any_some (is_of a k b) lost is in
-      let l = loser x.0 x.1 in
-      let of = is_of_parts x.0 a k b x.2 in
-      let number = number_is l.0 l.1 l.2 in
-      elim (whose l.0 l.1 l.2 x.0 l.3) [
-        | inl hand ↦ (let same : l.1 ≡ s = same_station l.0 a l.1 s l.2 p (sym number ∙ sym hand.0 ∙ of.0) in
+      let (x, in_lost, so) = list_any_some (is_of a k b) lost is in
+      let (owner, u, stands, in_u) = loser x in_lost in
+      let (from, _, to) = is_of_parts x a k b so in
+      let number = number_is owner u stands in
+      elim (whose owner u stands x in_u) [
+        | inl hand ↦ (let same : u ≡ s = same_station owner a u s stands p (sym number ∙ sym hand.0 ∙ from) in
             or_left (is_lost s.losses a k b) (is_lost t.losses a k b)
-            (list_any_of (is_of a k b) s.losses x.0
-            (subst (λ (u : StationState). Contains u.losses x.0) same l.3) x.2))
-        | inr ear ↦ (let same : l.1 ≡ t = same_station l.0 b l.1 t l.2 q (sym number ∙ sym ear.0 ∙ of.2) in
+            (list_any_of (is_of a k b) s.losses x
+            (subst (λ (u : StationState). Contains u.losses x) same in_u) so))
+        | inr ear ↦ (let same : u ≡ t = same_station owner b u t stands q (sym number ∙ sym ear.0 ∙ to) in
             or_right (is_lost s.losses a k b) (is_lost t.losses a k b)
-            (list_any_of (is_of a k b) t.losses x.0
-            (subst (λ (u : StationState). Contains u.losses x.0) same l.3) x.2))
+            (list_any_of (is_of a k b) t.losses x
+            (subst (λ (u : StationState). Contains u.losses x) same in_u) so))
       ])
       (λ is. elim (or_cases (is_lost s.losses a k b) (is_lost t.losses a k b) is) [
-        | inl mine ↦ (let x = list_any_some (is_of a k b) s.losses mine in
-            list_any_of (is_of a k b) lost x.0 (lost_too a s p x.0 x.1) x.2)
-        | inr theirs ↦ (let x = list_any_some (is_of a k b) t.losses theirs in
-            list_any_of (is_of a k b) lost x.0 (lost_too b t q x.0 x.1) x.2)
+        | inl mine ↦ (let (x, in_s, so) = list_any_some (is_of a k b) s.losses mine in
+            list_any_of (is_of a k b) lost x (lost_too a s p x in_s) so)
+        | inr theirs ↦ (let (x, in_t, so) = list_any_some (is_of a k b) t.losses theirs in
+            list_any_of (is_of a k b) lost x (lost_too b t q x in_t) so)
       ])
 
   -- a station has at most 16 ends that put, and there are as many rows of links
@@ -313,42 +313,42 @@ module _ (script : Script) (links : List (List LinkView)) (ss : List StationStat
     senders = length-map ss (λ (s : StationState). s.outs) ∙ sym rows;
     receivers = length-map ss (λ (s : StationState). s.inns) ∙ sym rows;
     row = λ a lt.
-        let s = element ss a (omega (arith, rows)) in
-        let long = outs_long a s.0 s.1 in
-        row_is links s.0 (made a s.0 s.1).ends (there a s.0 s.1) a (omega (arith, rows)) ∙ long ∙ sym rows;
+        let (s, stands) = element ss a (omega (arith, rows)) in
+        let long = outs_long a s stands in
+        row_is links s (made a s stands).ends (there a s stands) a (omega (arith, rows)) ∙ long ∙ sym rows;
     outs_row = λ a lt.
-        let s = element ss a (omega (arith, rows)) in
-        ap length (outs_at a s.0 s.1) ∙ outs_long a s.0 s.1 ∙ sym rows;
+        let (s, stands) = element ss a (omega (arith, rows)) in
+        ap length (outs_at a s stands) ∙ outs_long a s stands ∙ sym rows;
     inns_row = λ b lt.
-        let s = element ss b (omega (arith, rows)) in
-        ap length (inns_at b s.0 s.1) ∙ inns_long b s.0 s.1 ∙ sym rows;
+        let (s, stands) = element ss b (omega (arith, rows)) in
+        ap length (inns_at b s stands) ∙ inns_long b s stands ∙ sym rows;
     puts = λ a b l d la lb.
-        let s = element ss a (omega (arith, rows)) in
-        let long = outs_long a s.0 s.1 in
-        let h = ends_out links s.0 (made a s.0 s.1).ends (there a s.0 s.1) b l d (omega (arith, rows)) in
+        let (s, stands) = element ss a (omega (arith, rows)) in
+        let long = outs_long a s stands in
+        let h = ends_out links s (made a s stands).ends (there a s stands) b l d (omega (arith, rows)) in
         subst (λ (o : List (OutView SealedEntry)). IsOutOf (link_at links a b l) (get_or o b d))
-        (sym (outs_at a s.0 s.1))
-        (subst (λ n. IsOutOf (link_at links n b l) (get_or s.0.outs b d)) (number_is a s.0 s.1) h);
+        (sym (outs_at a s stands))
+        (subst (λ n. IsOutOf (link_at links n b l) (get_or s.outs b d)) (number_is a s stands) h);
     takes = λ a b l e la lb.
-        let t = element ss b (omega (arith, rows)) in
-        let long = inns_long b t.0 t.1 in
-        let h = ends_in links t.0 (made b t.0 t.1).ends (there b t.0 t.1) a l e (omega (arith, rows)) in
-        subst (λ (i : List (InView SealedEntry)). IsInOf (link_at links a b l) (get_or i a e)) (sym (inns_at b t.0 t.1))
-        (subst (λ n. IsInOf (link_at links a n l) (get_or t.0.inns a e)) (number_is b t.0 t.1) h);
+        let (t, at_b) = element ss b (omega (arith, rows)) in
+        let long = inns_long b t at_b in
+        let h = ends_in links t (made b t at_b).ends (there b t at_b) a l e (omega (arith, rows)) in
+        subst (λ (i : List (InView SealedEntry)). IsInOf (link_at links a b l) (get_or i a e)) (sym (inns_at b t at_b))
+        (subst (λ n. IsInOf (link_at links a n l) (get_or t.inns a e)) (number_is b t at_b) h);
     makers = λ a b d la lb differs.
-        let s = element ss a (omega (arith, rows)) in
-        let long = outs_long a s.0 s.1 in
-        let number = number_is a s.0 s.1 in
-        let is = there a s.0 s.1 in
-        subst (λ (o : List (OutView SealedEntry)). AreMadeBy a (get_or o b d).put) (sym (outs_at a s.0 s.1))
+        let (s, stands) = element ss a (omega (arith, rows)) in
+        let long = outs_long a s stands in
+        let number = number_is a s stands in
+        let is = there a s stands in
+        subst (λ (o : List (OutView SealedEntry)). AreMadeBy a (get_or o b d).put) (sym (outs_at a s stands))
         (subst (AreMadeBy a)
         (sym (is.puts b d (omega (arith, rows)) (λ e. differs (sym (e ∙ number)))))
         (all_by (λ (x : SealedEntry). x.entry.maker ≡ a)
-        (arriving node_of_sealed s.0.losses s.0.machine.config.number b (sent s.0.machine.events))
-        (λ x c. makers_sent s.0.machine.config.number s.0.machine.events is.machine.legal x
+        (arriving node_of_sealed s.losses s.machine.config.number b (sent s.machine.events))
+        (λ x c. makers_sent s.machine.config.number s.machine.events is.machine.legal x
         (Contains-filter_cases
-        (λ (e : SealedEntry). not (is_lost s.0.losses s.0.machine.config.number e.entry.number b))
-        (sent s.0.machine.events) x c).0 ∙ number)));
+        (λ (e : SealedEntry). not (is_lost s.losses s.machine.config.number e.entry.number b))
+        (sent s.machine.events) x c).0 ∙ number)));
   }
 
   module _ (waits : List Waiting) (rests : AreRests (length ss) outs inns waits) where
@@ -368,14 +368,14 @@ module _ (script : Script) (links : List (List LinkView)) (ss : List StationStat
     taken_sent a b s t p q differs i x c =
         let is = there a s p in
         let number = number_is a s p in
-        let out = element s.outs b (let l = outs_long a s p in let w = slice_get_within ss b t q in omega arith) in
-        let put : Contains (get_or s.outs b out.0).put x =
-        subst (λ (l : List SealedEntry). Contains l x) (sym (finished a b s t p q differs out.0 i))
+        let (out, _) = element s.outs b (let l = outs_long a s p in let w = slice_get_within ss b t q in omega arith) in
+        let put : Contains (get_or s.outs b out).put x =
+        subst (λ (l : List SealedEntry). Contains l x) (sym (finished a b s t p q differs out i))
         (Contains-append_left (get_or t.inns a i).taken (waits_of waits a b) x c) in
         let kept = Contains-filter_cases
         (λ (e : SealedEntry). not (is_lost s.losses s.machine.config.number e.entry.number b)) (sent s.machine.events) x
         (subst (λ (l : List SealedEntry). Contains l x)
-        (is.puts b out.0 (let l = outs_long a s p in let w = slice_get_within ss b t q in omega arith)
+        (is.puts b out (let l = outs_long a s p in let w = slice_get_within ss b t q in omega arith)
         (λ e. differs (sym (e ∙ number)))) put) in (
           kept.0,
           ap (λ n. is_lost s.losses n x.entry.number b) (sym number)
@@ -404,58 +404,58 @@ module _ (script : Script) (links : List (List LinkView)) (ss : List StationStat
 
     -- each loss of an ear has such an entry
     heard_off : (b : ℕ) (t : StationState) → slice_get ss b ≡ Some t → (x : Loss) → IsOfEar t x → HeardOff x b t
-    heard_off b t q x ear =
+    heard_off b t q x (hearer, below, other, taken) =
         let number = number_is b t q in
-        let s = element ss x.from (let l = outs_long b t q in let f = ear.1 in omega arith) in
-        let apart : x.from ≢ b = λ e. ear.2 (e ∙ sym number) in
-        let inn = element t.inns x.from (let l = inns_long b t q in let o = outs_long b t q in
-        let f = ear.1 in omega arith) in
-        let y = ear.3 inn.0 in
-        let c = taken_sent x.from b s.0 t s.1 q apart inn.0 y.0 y.1 in
+        let (s, stands) = element ss x.from (let l = outs_long b t q in omega arith) in
+        let apart : x.from ≢ b = λ e. other (e ∙ sym number) in
+        let (inn, _) = element t.inns x.from
+        (let l = inns_long b t q in let o = outs_long b t q in omega arith) in
+        let (entry, was_taken, tells, cause) = taken inn in
+        let c = taken_sent x.from b s t stands q apart inn entry was_taken in
         record {
-          sender = s.0;
-          sends = s.1;
-          to = ear.0 ∙ number;
+          sender = s;
+          sends = stands;
+          to = hearer ∙ number;
           apart = apart;
-          entry = y.0;
+          entry = entry;
           was_sent = c.0;
           kept = c.1;
-          number = y.2;
-          cause = y.3;
+          number = tells;
+          cause = cause;
         }
 
     -- what a machine got of another, and what waits for it, are what the other sent and isn't lost, in order
     balanced : IsBalanced node_of_sealed (length machines) (history (world_of machines)) lost (waits_of waits)
     balanced a b la lb apart =
-        let s = element ss a (omega (arith, count)) in
-        let t = element ss b (omega (arith, count)) in
-        let out = element s.0.outs b (let l = outs_long a s.0 s.1 in omega (arith, count)) in
-        let inn = element t.0.inns a (let l = inns_long b t.0 t.1 in omega (arith, count)) in
-        let out_is = get_or_from_slice_get s.0.outs b out.0 out.0 out.1 in
-        let inn_is = get_or_from_slice_get t.0.inns a inn.0 inn.0 inn.1 in
-        let whole = gather_pair s.0 t.0 lost a b (waits_of waits a b) (there a s.0 s.1) (there b t.0 t.1)
-        (number_is a s.0 s.1) (number_is b t.0 t.1) apart (slice_get_within s.0.outs b out.0 out.1)
-        (slice_get_within t.0.inns a inn.0 inn.1) out.0 inn.0 out_is inn_is
-        (ap (λ (o : OutView SealedEntry). o.put) (sym out_is) ∙ finished a b s.0 t.0 s.1 t.1 apart out.0 inn.0
+        let (s, at_a) = element ss a (omega (arith, count)) in
+        let (t, at_b) = element ss b (omega (arith, count)) in
+        let (out, at_out) = element s.outs b (let l = outs_long a s at_a in omega (arith, count)) in
+        let (inn, at_inn) = element t.inns a (let l = inns_long b t at_b in omega (arith, count)) in
+        let out_is = get_or_from_slice_get s.outs b out out at_out in
+        let inn_is = get_or_from_slice_get t.inns a inn inn at_inn in
+        let whole = gather_pair s t lost a b (waits_of waits a b) (there a s at_a) (there b t at_b)
+        (number_is a s at_a) (number_is b t at_b) apart (slice_get_within s.outs b out at_out)
+        (slice_get_within t.inns a inn at_inn) out inn out_is inn_is
+        (ap (λ (o : OutView SealedEntry). o.put) (sym out_is) ∙ finished a b s t at_a at_b apart out inn
         ∙ ap (λ (i : InView SealedEntry). i.taken ++ waits_of waits a b) inn_is)
-        (either a b s.0 t.0 s.1 t.1) in
+        (either a b s t at_a at_b) in
         ap (λ (h : List (Event SealedEntry)). got_from node_of_sealed a h ++ waits_of waits a b)
-        (history_at b t.0 t.1) ∙ whole
-        ∙ ap (arriving node_of_sealed lost a b) (sym (sent_at a s.0 s.1))
+        (history_at b t at_b) ∙ whole
+        ∙ ap (arriving node_of_sealed lost a b) (sym (sent_at a s at_a))
 
     -- a loss of a hand and one of an ear are of different entries
     hand_ear : (a b : ℕ) (s t : StationState) → slice_get ss a ≡ Some s → slice_get ss b ≡ Some t → (x y : Loss) →
         Contains s.losses x → IsOfHand s x → IsOfEar t y → Differ x y
     hand_ear a b s t p q x y c hand ear =
         elim (cases_Bool (is_of x.from x.number x.to y)) [
-          | inl is ↦ (let of = is_of_parts y x.from x.number x.to is in
+          | inl is ↦ (let (maker, number, to) = is_of_parts y x.from x.number x.to is in
               let off = heard_off b t q y ear in
-              let from : y.from ≡ a = of.0 ∙ hand.0 ∙ number_is a s p in
+              let from : y.from ≡ a = maker ∙ hand.0 ∙ number_is a s p in
               let sender : off.sender ≡ s = same_station y.from a off.sender s off.sends p from in
               let lost_there : is_lost off.sender.losses y.from off.entry.entry.number b ≡ true =
               list_any_of (is_of y.from off.entry.entry.number b) off.sender.losses x
               (subst (λ (u : StationState). Contains u.losses x) (sym sender) c)
-              (itself x y.from off.entry.entry.number b (sym of.0) (sym (off.number ∙ of.1)) (sym of.2 ∙ off.to)) in
+              (itself x y.from off.entry.entry.number b (sym maker) (sym (off.number ∙ number)) (sym to ∙ off.to)) in
               absurd (true≢false (sym lost_there ∙ off.kept)))
           | inr isnt ↦ isnt
         ]
@@ -485,16 +485,16 @@ module _ (script : Script) (links : List (List LinkView)) (ss : List StationStat
 
     -- a loss of a hand is of an entry that one machine sent, on its way to another
     on_way_hand : (a : ℕ) (s : StationState) → slice_get ss a ≡ Some s → (x : Loss) → IsOfHand s x → IsOnWay machines x
-    on_way_hand a s p x hand =
+    on_way_hand a s p x (maker, below, to_one, apart, _) =
         let number = number_is a s p in
-        let from : x.from ≡ a = hand.0 ∙ number in
+        let from : x.from ≡ a = maker ∙ number in
         let n = count_at a s p in
         let sends : count_sent machines x.from ≡ length (sent s.machine.events) = ap (count_sent machines) from ∙ n in
         record {
           from = let w = slice_get_within ss a s p in omega (arith, count);
-          to = let w = hand.2 in let l = outs_long a s p in omega (arith, count);
-          other = λ e. hand.3 (sym e ∙ hand.0);
-          number = let w = hand.1 in omega arith;
+          to = let l = outs_long a s p in omega (arith, count);
+          other = λ e. apart (sym e ∙ maker);
+          number = omega arith;
         }
 
     -- and so is a loss of an ear
@@ -518,17 +518,17 @@ module _ (script : Script) (links : List (List LinkView)) (ss : List StationStat
         is_lost s.losses a number b ≡ true
     kept_off a b number s p is =
         let test : Loss → Bool = λ loss. is_of a number b loss && is_before_link loss.why in
-        let x = list_any_some test lost is in
-        let parts = and_parts (is_of a number b x.0) (is_before_link x.0.why) x.2 in
-        let of = is_of_parts x.0 a number b parts.0 in
-        let l = loser x.0 x.1 in
-        let at = number_is l.0 l.1 l.2 in
-        elim (whose l.0 l.1 l.2 x.0 l.3) [
-          | inl hand ↦ (let same : l.1 ≡ s = same_station l.0 a l.1 s l.2 p (sym at ∙ sym hand.0 ∙ of.0) in
-              list_any_of (is_of a number b) s.losses x.0
-              (subst (λ (u : StationState). Contains u.losses x.0) same l.3) parts.0)
-          | inr ear ↦ (let off = heard_off l.0 l.1 l.2 x.0 ear in
-              absurd (not_before l.1.machine off.entry x.0.why off.cause parts.1))
+        let (x, in_lost, so) = list_any_some test lost is in
+        let (on_way, before) = and_parts (is_of a number b x) (is_before_link x.why) so in
+        let of = is_of_parts x a number b on_way in
+        let (owner, u, stands, in_u) = loser x in_lost in
+        let at = number_is owner u stands in
+        elim (whose owner u stands x in_u) [
+          | inl hand ↦ (let same : u ≡ s = same_station owner a u s stands p (sym at ∙ sym hand.0 ∙ of.0) in
+              list_any_of (is_of a number b) s.losses x
+              (subst (λ (u : StationState). Contains u.losses x) same in_u) on_way)
+          | inr ear ↦ (let off = heard_off owner u stands x ear in
+              absurd (not_before u.machine off.entry x.why off.cause before))
         ]
 
     -- so what was put on the link before counts as put
@@ -604,35 +604,35 @@ module _ (script : Script) (links : List (List LinkView)) (ss : List StationStat
     -- so each loss is of an entry that one machine sent, on its way to another
     only : (x : Loss) → Contains lost x → IsOnWay machines x
     only x c =
-        let l = loser x c in
-        elim (whose l.0 l.1 l.2 x l.3) [
-          | inl hand ↦ on_way_hand l.0 l.1 l.2 x hand
-          | inr ear ↦ on_way_ear l.0 l.1 l.2 x ear
+        let (a, s, stands, in_s) = loser x c in
+        elim (whose a s stands x in_s) [
+          | inl hand ↦ on_way_hand a s stands x hand
+          | inr ear ↦ on_way_ear a s stands x ear
         ]
 
     -- and has its cause between the machines of the script
     caused : (x : Loss) → Contains lost x → IsCauseOf script machines lost x x.why
     caused x c =
-        let l = loser x c in
-        let number = number_is l.0 l.1 l.2 in
-        elim (whose l.0 l.1 l.2 x l.3) [
-          | inl hand ↦ hand_cause l.0 l.1 l.2 x x.why (hand.0 ∙ number)
-              (let w = hand.2 in let o = outs_long l.0 l.1 l.2 in omega arith) (λ e. hand.3 (e ∙ sym number)) hand.4
-          | inr ear ↦ (let off = heard_off l.0 l.1 l.2 x ear in ear_cause l.0 l.1 l.2 x x.why off off.cause)
+        let (a, s, stands, in_s) = loser x c in
+        let number = number_is a s stands in
+        elim (whose a s stands x in_s) [
+          | inl (maker, _, to_one, apart, cause) ↦ hand_cause a s stands x x.why (maker ∙ number)
+              (let o = outs_long a s stands in omega arith) (λ e. apart (e ∙ sym number)) cause
+          | inr ear ↦ (let off = heard_off a s stands x ear in ear_cause a s stands x x.why off off.cause)
         ]
 
     -- each entry that was sent and that a line of the script names is lost so
     scripted : AreLostAsScripted script machines lost
     scripted from number to lf lt apart low named_there =
-        let s = element ss from (omega (arith, count)) in
-        let is = there from s.0 s.1 in
-        let at = number_is from s.0 s.1 in
-        let n = count_at from s.0 s.1 in
-        let c = is.scripted number to (omega arith) (let l = outs_long from s.0 s.1 in omega (arith, count))
+        let (s, stands) = element ss from (omega (arith, count)) in
+        let is = there from s stands in
+        let at = number_is from s stands in
+        let n = count_at from s stands in
+        let c = is.scripted number to (omega arith) (let l = outs_long from s stands in omega (arith, count))
         (λ e. apart (sym (e ∙ at)))
-        (ap (λ m. is_scripted s.0.loses m number to) at ∙ named from s.0 s.1 number to ∙ named_there) in
-        lost_too from s.0 s.1 (record { from = from; number = number; to = to; why = Scripted })
-        (subst (λ m. Contains s.0.losses (record { from = m; number = number; to = to; why = Scripted })) at c)
+        (ap (λ m. is_scripted s.loses m number to) at ∙ named from s stands number to ∙ named_there) in
+        lost_too from s stands (record { from = from; number = number; to = to; why = Scripted })
+        (subst (λ m. Contains s.losses (record { from = m; number = number; to = to; why = Scripted })) at c)
 
     -- all that threads leave
     pub collected : (posts : List Post) → posts ≡ roster_of script →
@@ -642,14 +642,14 @@ module _ (script : Script) (links : List (List LinkView)) (ss : List StationStat
       machines = record {
         count = count ∙ sym (length-map ss made_of) ∙ new.count;
         each = λ place m stands.
-            let s = get-map_from (λ (s : StationState). s.machine) ss place m stands in
-            subst (IsMachineOf script place) s.2 (machine_of_script place s.0 s.1);
+            let (s, at, same) = get-map_from (λ (s : StationState). s.machine) ss place m stands in
+            subst (IsMachineOf script place) same (machine_of_script place s at);
       };
       makers = λ place m e stands c.
-          let s = get-map_from (λ (s : StationState). s.machine) ss place m stands in
-          let low = (there place s.0 s.1).makers e (subst (λ (u : MachineState). Contains u.events (Got e))
-          (sym s.2) c) in
-          let l = outs_long place s.0 s.1 in omega (arith, count);
+          let (s, at, same) = get-map_from (λ (s : StationState). s.machine) ss place m stands in
+          let low = (there place s at).makers e (subst (λ (u : MachineState). Contains u.events (Got e))
+          (sym same) c) in
+          let l = outs_long place s at in omega (arith, count);
       on_way = subst (λ n. AreOnWay n waits) (sym count) rests.on_way;
       balanced = balanced;
       once = once;

@@ -267,16 +267,16 @@ module _ (old : StationState) (from : ℕ) (end : Inn) (is : IsStation old) (wit
     makers = is.makers;
     fits = λ j loss lt. elim (is.fits j loss lt) [
       | inl hand ↦ inl hand
-      | inr ear ↦ inr (
-        ear.0,
-        ear.1,
-        ear.2,
-        λ d. let y = ear.3 d in (
-          y.0,
-          subst (λ (l : List SealedEntry). Contains l y.0) (sym (same_taken (get_or old.losses j loss).from d))
-              y.1,
-          y.2,
-          y.3,
+      | inr (to, below, apart, taken) ↦ inr (
+        to,
+        below,
+        apart,
+        λ d. let (z, in_taken, number, cause) = taken d in (
+          z,
+          subst (λ (l : List SealedEntry). Contains l z) (sym (same_taken (get_or old.losses j loss).from d))
+              in_taken,
+          number,
+          cause,
         ),
       )
     ];

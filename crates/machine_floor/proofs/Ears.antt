@@ -145,12 +145,12 @@ module _ (old : StationState) (from : ℕ) (end : Inn) (x : SealedEntry) (is : I
       elim (is.fits j loss lt) [
         | inl hand ↦ other_from one from x.entry.number old.machine.config.number (λ s. other (sym s ∙ hand.0))
         | inr ear ↦ elim (cases_eq one.from from) [
-          | inl s ↦ (let y = ear.3 end in
-              let there : Contains (get_or old.inns from end).taken y.0 =
-              subst (λ n. Contains (get_or old.inns n end).taken y.0) s y.1 in
+          | inl s ↦ (let (z, taken, number, _) = ear.3 end in
+              let there : Contains (get_or old.inns from end).taken z =
+              subst (λ n. Contains (get_or old.inns n end).taken z) s taken in
               let less = All-contains (λ (z : SealedEntry). z.entry.number < x.entry.number)
-              (get_or old.inns from end).taken y.0 (took end).number there in
-              other_number one from x.entry.number old.machine.config.number (λ n. let e = y.2 in absurd (omega arith)))
+              (get_or old.inns from end).taken z (took end).number there in
+              other_number one from x.entry.number old.machine.config.number (λ n. absurd (omega (arith, number))))
           | inr n ↦ other_from one from x.entry.number old.machine.config.number n
         ]
       ]
@@ -205,16 +205,16 @@ module _ (old : StationState) (from : ℕ) (end : Inn) (x : SealedEntry) (is : I
               let n = ap (λ (z : SealedEntry). z.entry.maker) e in omega (arith, is.as_many))
         ];
         fits = λ j loss lt. elim (is.fits j loss lt) [
-          | inl hand ↦ inl (hand.0, (let n = hand.1 in omega (arith, ap length same)), hand.2, hand.3, hand.4)
-          | inr ear ↦ inr (
-            ear.0,
-            ear.1,
-            ear.2,
-            λ d. let y = ear.3 d in (
-              y.0,
-              still_taken (get_or old.losses j loss).from d y.0 y.1,
-              y.2,
-              in_stays old.machine (Got x) y.0 (get_or old.losses j loss).why goes room y.3,
+          | inl (maker, low, to, apart, cause) ↦ inl (maker, omega (arith, low, ap length same), to, apart, cause)
+          | inr (to, below, apart, taken) ↦ inr (
+            to,
+            below,
+            apart,
+            λ d. let (z, in_taken, number, cause) = taken d in (
+              z,
+              still_taken (get_or old.losses j loss).from d z in_taken,
+              number,
+              in_stays old.machine (Got x) z (get_or old.losses j loss).why goes room cause,
             ),
           )
         ];
@@ -278,12 +278,12 @@ module _ (old : StationState) (from : ℕ) (end : Inn) (x : SealedEntry) (is : I
               IsOfEar after_lost loss) old.losses (the_loss ∷ [])
               (λ j loss lt. elim (is.fits j loss lt) [
                 | inl hand ↦ inl hand
-                | inr ear ↦ inr (
-                  ear.0,
-                  ear.1,
-                  ear.2,
-                  λ d. let y = ear.3 d in
-                      (y.0, still_taken (get_or old.losses j loss).from d y.0 y.1, y.2, y.3),
+                | inr (to, below, apart, taken) ↦ inr (
+                  to,
+                  below,
+                  apart,
+                  λ d. let (z, in_taken, number, its_cause) = taken d in
+                      (z, still_taken (get_or old.losses j loss).from d z in_taken, number, its_cause),
                 )
               ])
               (alone (λ (loss : Loss). IsOfHand after_lost loss ⊎ IsOfEar after_lost loss)

@@ -26,11 +26,11 @@ Rising es = AllPairs (λ (x y : SealedEntry). x.entry.number < y.entry.number) e
 lower : (xs ys : List SealedEntry) → Rising (xs ++ ys) → (x y : SealedEntry) → Contains xs x → Contains ys y →
     x.entry.number < y.entry.number
 lower xs ys rises x y c d =
-    let p = at_from_Contains xs x c in
-    let q = at_from_Contains ys y d in
-    let lt = rises p.0 (length xs + q.0) x (omega (arith, p.1)) (omega (arith, q.1, length-append xs ys)) in
-    let here : get_or (xs ++ ys) p.0 x ≡ x = get_or_append_left xs ys x p.0 p.1 ∙ p.2 x in
-    let there : get_or (xs ++ ys) (length xs + q.0) x ≡ y = get_or-append-add xs ys q.0 x ∙ q.2 x in
+    let (i, below_i, is_x) = at_from_Contains xs x c in
+    let (j, below_j, is_y) = at_from_Contains ys y d in
+    let lt = rises i (length xs + j) x (omega (arith, below_i)) (omega (arith, below_j, length-append xs ys)) in
+    let here : get_or (xs ++ ys) i x ≡ x = get_or_append_left xs ys x i below_i ∙ is_x x in
+    let there : get_or (xs ++ ys) (length xs + j) x ≡ y = get_or-append-add xs ys j x ∙ is_y x in
     let n = ap (λ (z : SealedEntry). z.entry.number) here in
     let m = ap (λ (z : SealedEntry). z.entry.number) there in
     omega arith
@@ -66,12 +66,12 @@ gather_pair sender hearer total a b rest s h sa hb apart lb la out inn out_is in
     elim (h.fits j loss lt) [
       | inl hand ↦ other_from one a e.entry.number b (λ f. apart (sym f ∙ hand.0 ∙ hb))
       | inr ear ↦ elim (cases_eq one.from a) [
-        | inl f ↦ (let y = ear.3 inn in
-            let there : Contains inn.taken y.0 =
-            subst (λ (i : InView SealedEntry). Contains i.taken y.0) inn_is
-            (subst (λ n. Contains (get_or hearer.inns n inn).taken y.0) f y.1) in
-            let less = lower inn.taken rest rises y.0 e there c in
-            other_number one a e.entry.number b (λ n. let k = y.2 in absurd (omega arith)))
+        | inl f ↦ (let (z, taken, number, _) = ear.3 inn in
+            let there : Contains inn.taken z =
+            subst (λ (i : InView SealedEntry). Contains i.taken z) inn_is
+            (subst (λ n. Contains (get_or hearer.inns n inn).taken z) f taken) in
+            let less = lower inn.taken rest rises z e there c in
+            other_number one a e.entry.number b (λ n. absurd (omega (arith, number))))
         | inr f ↦ other_from one a e.entry.number b f
       ]
     ]))

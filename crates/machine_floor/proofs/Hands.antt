@@ -83,10 +83,10 @@ module _ (old : StationState) (e : SealedEntry) (outs : List (OutView SealedEntr
         (get_or outs one.to d) (Some one.why)
     way_to j loss below d =
         let one : Loss = get_or lost j loss in
-        let l = sends.losses j loss below in
+        let (from, number, to, apart) = sends.losses j loss below in
         way_of_loss (is_scripted old.loses e.entry.maker e.entry.number one.to) old.link one.to e
         (get_or old.outs one.to d) (get_or outs one.to d) lost sends.rising one (Contains-get_or lost j loss below)
-        l.0 l.1 refl (sends.done one.to d l.2 l.3)
+        from number refl (sends.done one.to d to apart)
 
     -- what is true of every station is true after the sending
     pub IsStation-hand : IsStation after_hand
@@ -135,30 +135,30 @@ module _ (old : StationState) (e : SealedEntry) (outs : List (OutView SealedEntr
               ];
           fits = All-append (λ (loss : Loss). IsOfHand after_hand loss ⊎ IsOfEar after_hand loss) old.losses lost
               (λ j loss below. let one = get_or old.losses j loss in elim (is.fits j loss below) [
-                | inl hand ↦ inl (
-                  hand.0,
-                  (let n = hand.1 in omega (arith, count)),
-                  (let n = hand.2 in omega (arith, sends.count)),
-                  hand.3,
-                  out_stays old.loses old.link old.outs outs one one.why (grows one.to hand.2 hand.3) hand.4,
+                | inl (from, low, to, apart, cause) ↦ inl (
+                  from,
+                  omega (arith, low, count),
+                  omega (arith, to, sends.count),
+                  apart,
+                  out_stays old.loses old.link old.outs outs one one.why (grows one.to to apart) cause,
                 )
-                | inr ear ↦ inr (
-                  ear.0,
-                  (let n = ear.1 in omega (arith, sends.count)),
-                  ear.2,
-                  λ d. let y = ear.3 d in
-                      (y.0, y.1, y.2, in_stays old.machine (Sent e) y.0 one.why goes room y.3),
+                | inr (to, within, apart, taken) ↦ inr (
+                  to,
+                  omega (arith, within, sends.count),
+                  apart,
+                  λ d. let (y, in_taken, named, cause) = taken d in
+                      (y, in_taken, named, in_stays old.machine (Sent e) y one.why goes room cause),
                 )
               ])
-              (λ j loss below. let l = sends.losses j loss below in let one = get_or lost j loss in
-              let apart : one.to ≢ own = λ s. l.3 (s ∙ sym maker) in
+              (λ j loss below. let (from, same, to, other) = sends.losses j loss below in
+              let one = get_or lost j loss in let apart : one.to ≢ own = λ s. other (s ∙ sym maker) in
               inl (
-                l.0 ∙ maker,
-                (let n = l.1 in omega (arith, count, number)),
-                (let n = l.2 in omega (arith, sends.count)),
+                from ∙ maker,
+                omega (arith, same, count, number),
+                omega (arith, to, sends.count),
                 apart,
-                out_new old.loses old.link e old.outs outs one one.why some l.0 l.1 (way_to j loss below)
-                    (lower one.to l.2 apart),
+                out_new old.loses old.link e old.outs outs one one.why some from same (way_to j loss below)
+                    (lower one.to to apart),
               ));
           once = once_append old.losses lost is.once
               (λ i j d lt within. let a = get_or lost i d in let b = get_or lost j d in

@@ -17,10 +17,10 @@ still_made script links before after new count same = record {
   count = length-map after made_of ∙ count ∙ new.count;
   rows = new.rows ∙ sym count ∙ sym (length-map after made_of);
   each = λ at s stands.
-      let u = get-map_from made_of after at s stands in
-      let inside : at < length before = (let w = slice_get_within after at u.0 u.1 in omega arith) in
-      let one = new.each at (get_or before at u.0) (slice_get-get_or before at u.0 inside) in
-      let is : get_or before at u.0 ≡ s =
-      sym one.fresh ∙ sym (same at u.0 inside) ∙ ap made_of (get_or_from_slice_get after at u.0 u.0 u.1) ∙ u.2 in
+      let (u, stands_u, is_made) = get-map_from made_of after at s stands in
+      let inside : at < length before = (let w = slice_get_within after at u stands_u in omega arith) in
+      let one = new.each at (get_or before at u) (slice_get-get_or before at u inside) in
+      let is : get_or before at u ≡ s =
+      sym one.fresh ∙ sym (same at u inside) ∙ ap made_of (get_or_from_slice_get after at u u stands_u) ∙ is_made in
       subst (IsNewStation script links at) is one;
 }
