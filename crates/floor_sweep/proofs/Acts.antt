@@ -181,14 +181,14 @@ module _ (ms : List MachineState) (at : ℕ) (m : MachineState) (stood : slice_g
 pub not_done : (m n : MachineState) (receivers : ℕ) (answer : Acted) → IsActed m receivers answer n →
     did answer ≡ false → n ≡ m
 not_done m n receivers (acted.Did number copies) is none = absurd (true≢false none)
-not_done m n receivers acted.Stopped is none = is.1
-not_done m n receivers acted.NoMore is none = is.2
-not_done m n receivers (acted.SupervisorNot cause) is none = is.1
-not_done m n receivers (acted.BoothNot cause) is none = is.1
-not_done m n receivers acted.Full is none = is.1
-not_done m n receivers acted.StampSpent is none = is.1
-not_done m n receivers acted.Spent is none = is.1
-not_done m n receivers acted.SameDigest is none = is.1
+not_done m n receivers acted.Stopped (_, same) none = same
+not_done m n receivers acted.NoMore (_, _, same) none = same
+not_done m n receivers (acted.SupervisorNot cause) (_, same) none = same
+not_done m n receivers (acted.BoothNot cause) (_, same) none = same
+not_done m n receivers acted.Full (_, same) none = same
+not_done m n receivers acted.StampSpent (_, same) none = same
+not_done m n receivers acted.Spent (_, same) none = same
+not_done m n receivers acted.SameDigest (_, same) none = same
 
 -- and so are the machines
 pub still_at : (ms : List MachineState) (at : ℕ) (m n : MachineState) (receivers : ℕ) (answer : Acted) →

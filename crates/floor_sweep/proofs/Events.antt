@@ -39,7 +39,7 @@ held_more h x g c =
 -- and a digest that was borne is still borne
 borne_more : (h : List (Event SealedEntry)) (x : Event SealedEntry) (d : List ℕ) →
     IsBorneIn node_of_sealed (held h) d → IsBorneIn node_of_sealed (held (h ++ x ∷ [])) d
-borne_more h x d borne = (borne.0, held_more h x borne.0 borne.1, borne.2)
+borne_more h x d (g, in_h, is) = (g, held_more h x g in_h, is)
 
 -- a machine that goes on isn't where it is to stop
 pub going_on : (m : MachineState) → IsGoing m → m.stop ≢ Some (length m.events)
@@ -111,17 +111,17 @@ module _ (ms : List MachineState) (at : ℕ) (m : MachineState) (x : Event Seale
   pub sent_event : (k : ℕ) (e : SealedEntry) → Contains (sent (history (world_of ms) k)) e →
       Contains (sent (history (world_of after) k)) e
   sent_event k e c =
-      let more = history_more ms at m x stood k in
+      let (more, is) = history_more ms at m x stood k in
       subst (λ (l : List SealedEntry). Contains l e)
-      (sym (ap sent more.1 ∙ sent-append (history (world_of ms) k) more.0))
-      (Contains-append_left (sent (history (world_of ms) k)) (sent more.0) e c)
+      (sym (ap sent is ∙ sent-append (history (world_of ms) k) more))
+      (Contains-append_left (sent (history (world_of ms) k)) (sent more) e c)
 
   -- so no machine has sent fewer entries
   pub count_event : (k : ℕ) → count_sent ms k ≤ count_sent after k
   count_event k =
-      let more = history_more ms at m x stood k in
-      let n = ap length (ap sent more.1 ∙ sent-append (history (world_of ms) k) more.0) in
-      let l = length-append (sent (history (world_of ms) k)) (sent more.0) in
+      let (more, is) = history_more ms at m x stood k in
+      let n = ap length (ap sent is ∙ sent-append (history (world_of ms) k) more) in
+      let l = length-append (sent (history (world_of ms) k)) (sent more) in
       omega arith
 
   -- and what was lost is still of entries that were sent
@@ -138,39 +138,39 @@ module _ (ms : List MachineState) (at : ℕ) (m : MachineState) (x : Event Seale
   same_event : (from number : ℕ) (n u : MachineState) →
       ((d : List ℕ) → IsBorneIn node_of_sealed (held n.events) d → IsBorneIn node_of_sealed (held u.events) d) →
       HoldsSame ms from number n → HoldsSame after from number u
-  same_event from number n u holds same =
-      (same.0, sent_event from same.0 same.1, same.2, holds (node_of_sealed same.0).digest same.3)
+  same_event from number n u holds (e, was_sent, numbered, borne) =
+      (e, sent_event from e was_sent, numbered, holds (node_of_sealed e).digest borne)
 
   -- a cause stays
   cause_event : (loses : List Lose) (loss : Loss) (why : LossWhy) → IsLossCause loses ms loss why →
       IsLossCause loses after loss why
   cause_event loses loss Scripted cause = cause
   cause_event loses loss LinkFull cause = cause
-  cause_event loses loss ToStopped cause =
+  cause_event loses loss ToStopped (to, stands, stops) =
       elim (cases_eq loss.to at) [
-        | inl s ↦ (let one = one_there ms at cause.0 m (ap (slice_get ms) (sym s) ∙ cause.1) stood in
-            absurd (going_on m going (subst (λ (u : MachineState). u.stop ≡ Some (length u.events)) one cause.2)))
-        | inr n ↦ (cause.0, there loss.to cause.0 cause.1 n, cause.2)
+        | inl s ↦ (let one = one_there ms at to m (ap (slice_get ms) (sym s) ∙ stands) stood in
+            absurd (going_on m going (subst (λ (u : MachineState). u.stop ≡ Some (length u.events)) one stops)))
+        | inr n ↦ (to, there loss.to to stands n, stops)
       ]
-  cause_event loses loss LogFull cause =
+  cause_event loses loss LogFull (to, stands, fills) =
       elim (cases_eq loss.to at) [
-        | inl s ↦ (let one = one_there ms at cause.0 m (ap (slice_get ms) (sym s) ∙ cause.1) stood in
-            let full = subst (λ (u : MachineState). length u.events ≡ u.config.log) one cause.2 in
+        | inl s ↦ (let one = one_there ms at to m (ap (slice_get ms) (sym s) ∙ stands) stood in
+            let full = subst (λ (u : MachineState). length u.events ≡ u.config.log) one fills in
             absurd (omega arith))
-        | inr n ↦ (cause.0, there loss.to cause.0 cause.1 n, cause.2)
+        | inr n ↦ (to, there loss.to to stands n, fills)
       ]
-  cause_event loses loss SameDigest cause =
+  cause_event loses loss SameDigest (to, stands, holds) =
       elim (cases_eq loss.to at) [
-        | inl s ↦ (let one = one_there ms at cause.0 m (ap (slice_get ms) (sym s) ∙ cause.1) stood in (
+        | inl s ↦ (let one = one_there ms at to m (ap (slice_get ms) (sym s) ∙ stands) stood in (
           with_event x m,
           ap (slice_get after) s ∙ set_get ms at m (with_event x m) stood,
           same_event loss.from loss.number m (with_event x m) (λ d b. borne_more m.events x d b)
-              (subst (λ (u : MachineState). HoldsSame ms loss.from loss.number u) one cause.2),
+              (subst (λ (u : MachineState). HoldsSame ms loss.from loss.number u) one holds),
         ))
         | inr n ↦ (
-          cause.0,
-          there loss.to cause.0 cause.1 n,
-          same_event loss.from loss.number cause.0 cause.0 (λ d b. b) cause.2,
+          to,
+          there loss.to to stands n,
+          same_event loss.from loss.number to to (λ d b. b) holds,
         )
       ]
 

@@ -97,10 +97,10 @@ module _ (ms : List MachineState) (placed : ArePlaced ms) where
   -- a machine's history is legal
   pub legal_at : (k : ℕ) → k < length ms → IsLegal node_of_sealed k (history (world_of ms) k)
   legal_at k lt =
-      let m = get_within ms k lt in
-      let at = placed k m.0 m.1 in
+      let (m, stands) = get_within ms k lt in
+      let at = placed k m stands in
       let P : ℕ → List (Event SealedEntry) → Type 0 = λ n h. IsLegal node_of_sealed n h in
-      subst (P k) (sym (history_there ms k m.0 m.1)) (subst (λ n. P n m.0.events) at.number at.machine.legal)
+      subst (P k) (sym (history_there ms k m stands)) (subst (λ n. P n m.events) at.number at.machine.legal)
 
   -- and its number is its place
   pub numbered : AreNumbered ms
@@ -142,17 +142,17 @@ module _ (loses : List Lose) (old : List MachineState) (before : List Loss) (wai
   -- what waited still waits, or it is this entry
   waits_on : (c number d : ℕ) → IsWaiting waits c number d →
       IsWaiting later c number d ⊎ ((c ≡ from) × (number ≡ e.entry.number) × (d ≡ to))
-  waits_on c number d w =
+  waits_on c number d (x, waits_x, is_number) =
       let elsewhere : ((c ≡ from) × (d ≡ to) → ⊥) → IsWaiting later c number d =
-      λ no. (w.0, subst (λ (l : List SealedEntry). Contains l w.0) (sym (others c d no)) w.1, w.2) in
+      λ no. (x, subst (λ (l : List SealedEntry). Contains l x) (sym (others c d no)) waits_x, is_number) in
       elim (cases_eq c from) [
         | inl s ↦ elim (cases_eq d to) [
           | inl t ↦ (let there : waits c d ≡ e ∷ later c d = ap (λ n. waits n d) s ∙ ap (waits from) t ∙ waiting
               ∙ ap (λ n. e ∷ later n to) (sym s) ∙ ap (λ n. e ∷ later c n) (sym t) in
-              elim (Contains-cons_cases e (later c d) w.0
-              (subst (λ (l : List SealedEntry). Contains l w.0) there w.1)) [
-                | inl same ↦ inr (s, sym w.2 ∙ ap (λ (x : SealedEntry). x.entry.number) (sym same), t)
-                | inr more ↦ inl (w.0, more, w.2)
+              elim (Contains-cons_cases e (later c d) x
+              (subst (λ (l : List SealedEntry). Contains l x) there waits_x)) [
+                | inl same ↦ inr (s, sym is_number ∙ ap (λ (x : SealedEntry). x.entry.number) (sym same), t)
+                | inr more ↦ inl (x, more, is_number)
               ])
           | inr t ↦ inl (elsewhere (λ p. t p.1))
         ]
@@ -166,12 +166,12 @@ module _ (loses : List Lose) (old : List MachineState) (before : List Loss) (wai
   heard_now m stood hears unscripted =
       let after : List MachineState = slice_set ms to (with_event (Got e) m) in
       let going = hears.0 in
-      let answer = hears.1 in
+      let (maker, fresh, room) = hears.1 in
       let world = length_world ms in
       let len = length_set ms to (with_event (Got e) m) in
       record {
-        grown = event.grown_event ms to m (Got e) stood going answer.2 old is.grown;
-        placed = event.placed_event ms to m (Got e) stood going answer.2 (answer.1, answer.0) (λ f s. cc) is.placed;
+        grown = event.grown_event ms to m (Got e) stood going room old is.grown;
+        placed = event.placed_event ms to m (Got e) stood going room (fresh, maker) (λ f s. cc) is.placed;
         makers = λ had. event.makers_event ms to m (Got e) stood
             (λ f s. let same : e ≡ f = cc in subst (λ (g : SealedEntry). g.entry.maker < length ms) same lf)
             (is.makers had);
@@ -184,18 +184,18 @@ module _ (loses : List Lose) (old : List MachineState) (before : List Loss) (wai
             waits (sym world) (λ i. refl) is.balanced));
         lost = is.lost;
         losses = is.losses;
-        licensed = event.licensed_event ms to m (Got e) stood going answer.2 loses is.lost is.licensed;
+        licensed = event.licensed_event ms to m (Got e) stood going room loses is.lost is.licensed;
         once = is.once;
-        of_sent = event.of_sent_event ms to m (Got e) stood going answer.2 losses is.of_sent;
+        of_sent = event.of_sent_event ms to m (Got e) stood going room losses is.of_sent;
         scripted = λ c number d lc ld differs low high named.
             let many = count_got ms to m e stood c in
             elim (is.scripted c number d (omega arith) (omega arith) differs low (omega arith) named) [
               | inl there ↦ inl there
               | inr w ↦ elim (waits_on c number d w) [
                 | inl more ↦ inr more
-                | inr this ↦ absurd (true≢false (sym named ∙ ap (λ a. is_scripted loses a number d) this.0
-                    ∙ ap (λ a. is_scripted loses from a d) this.1
-                    ∙ ap (λ a. is_scripted loses from e.entry.number a) this.2 ∙ unscripted))
+                | inr (its_maker, its_number, its_hearer) ↦ absurd (true≢false (sym named
+                    ∙ ap (λ a. is_scripted loses a number d) its_maker ∙ ap (λ a. is_scripted loses from a d) its_number
+                    ∙ ap (λ a. is_scripted loses from e.entry.number a) its_hearer ∙ unscripted))
               ]
             ];
       }
@@ -237,12 +237,12 @@ module _ (loses : List Lose) (old : List MachineState) (before : List Loss) (wai
                   (record { from = c; number = number; to = d; why = Scripted }) there)
               | inr w ↦ elim (waits_on c number d w) [
                 | inl more ↦ inr more
-                | inr this ↦ inl (Contains-append_right losses (loss ∷ [])
+                | inr (its_maker, its_number, its_hearer) ↦ inl (Contains-append_right losses (loss ∷ [])
                     (record { from = c; number = number; to = d; why = Scripted })
-                    (this_loss c number d this.0 this.1 this.2
-                    (named_so (sym (ap (λ a. is_scripted loses a number d) this.0
-                    ∙ ap (λ a. is_scripted loses from a d) this.1
-                    ∙ ap (λ a. is_scripted loses from e.entry.number a) this.2) ∙ named))))
+                    (this_loss c number d its_maker its_number its_hearer
+                    (named_so (sym (ap (λ a. is_scripted loses a number d) its_maker
+                    ∙ ap (λ a. is_scripted loses from a d) its_number
+                    ∙ ap (λ a. is_scripted loses from e.entry.number a) its_hearer) ∙ named))))
               ]
             ];
       }
@@ -290,30 +290,30 @@ module _ (loses : List Lose) (old : List MachineState) (before : List Loss) (wai
       by : (cause : Option LossWhy) →
           IsFate (is_scripted loses from e.entry.number to) m e cause hands.then_machine →
           more ≡ losses ++ lost_by e to cause → IsSwept loses old before later new more
-      by None fate l =
+      by None (isnt, hears, then_is) l =
           subst (λ (n : List MachineState). IsSwept loses old before later n more)
-          (sym (hands.changed ∙ ap (slice_set ms to) fate.2))
+          (sym (hands.changed ∙ ap (slice_set ms to) then_is))
           (subst (λ (x : List Loss). IsSwept loses old before later (slice_set ms to (with_event (Got e) m)) x)
-          (sym (l ∙ append-nil losses)) (heard_now m hands.stood fate.1 fate.0))
-      by (Some Scripted) fate l = stays Scripted fate.1 fate.0 (λ named. refl) l
+          (sym (l ∙ append-nil losses)) (heard_now m hands.stood hears isnt))
+      by (Some Scripted) (scripted, same) l = stays Scripted same scripted (λ named. refl) l
       by (Some LinkFull) fate l = absurd fate
-      by (Some ToStopped) fate l =
+      by (Some ToStopped) (isnt, has, same) l =
           let at = is.placed to m hands.stood in
-          stays ToStopped fate.2 (m, hands.stood, stopped_there m at.machine at.unmarked fate.1)
-          (not_named ToStopped fate.0) l
-      by (Some LogFull) fate l = stays LogFull fate.2 (m, hands.stood, fate.1) (not_named LogFull fate.0) l
-      by (Some SameDigest) fate l =
-          stays SameDigest fate.2 (m, hands.stood, (e, sent_before.0, refl, fate.1)) (not_named SameDigest fate.0) l
+          stays ToStopped same (m, hands.stood, stopped_there m at.machine at.unmarked has)
+          (not_named ToStopped isnt) l
+      by (Some LogFull) (isnt, full, same) l = stays LogFull same (m, hands.stood, full) (not_named LogFull isnt) l
+      by (Some SameDigest) (isnt, borne, same) l =
+          stays SameDigest same (m, hands.stood, (e, sent_before.0, refl, borne)) (not_named SameDigest isnt) l
 
 -- the numbers of machines stay, and as many machines
 pub handed_config : (scripted : Bool) (m n : MachineState) (e : SealedEntry) (cause : Option LossWhy) →
     IsFate scripted m e cause n → n.config ≡ m.config
-handed_config scripted m n e None fate = ap (λ (u : MachineState). u.config) fate.2
-handed_config scripted m n e (Some Scripted) fate = ap (λ (u : MachineState). u.config) fate.1
+handed_config scripted m n e None (_, _, same) = ap (λ (u : MachineState). u.config) same
+handed_config scripted m n e (Some Scripted) (_, same) = ap (λ (u : MachineState). u.config) same
 handed_config scripted m n e (Some LinkFull) fate = absurd fate
-handed_config scripted m n e (Some ToStopped) fate = ap (λ (u : MachineState). u.config) fate.2
-handed_config scripted m n e (Some LogFull) fate = ap (λ (u : MachineState). u.config) fate.2
-handed_config scripted m n e (Some SameDigest) fate = ap (λ (u : MachineState). u.config) fate.2
+handed_config scripted m n e (Some ToStopped) (_, _, same) = ap (λ (u : MachineState). u.config) same
+handed_config scripted m n e (Some LogFull) (_, _, same) = ap (λ (u : MachineState). u.config) same
+handed_config scripted m n e (Some SameDigest) (_, _, same) = ap (λ (u : MachineState). u.config) same
 
 -- numbers are still places where the machine put in a place has the configuration of the one before
 pub numbered_set : (ms : List MachineState) (at : ℕ) (m n : MachineState) → slice_get ms at ≡ Some m →

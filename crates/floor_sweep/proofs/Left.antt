@@ -39,13 +39,13 @@ left_done ms at m e stood may =
 -- where a machine hears an entry, or loses it, as many of its actions are left
 fate_left : (scripted : Bool) (m n : MachineState) (e : SealedEntry) (cause : Option LossWhy) →
     IsFate scripted m e cause n → left_of n ≡ left_of m
-fate_left scripted m n e None fate =
-    ap left_of fate.2 ∙ ap (λ k. length m.config.actions - k) (sent_as_many m.events e)
-fate_left scripted m n e (Some Scripted) fate = ap left_of fate.1
+fate_left scripted m n e None (_, _, same) =
+    ap left_of same ∙ ap (λ k. length m.config.actions - k) (sent_as_many m.events e)
+fate_left scripted m n e (Some Scripted) (_, same) = ap left_of same
 fate_left scripted m n e (Some LinkFull) fate = absurd fate
-fate_left scripted m n e (Some ToStopped) fate = ap left_of fate.2
-fate_left scripted m n e (Some LogFull) fate = ap left_of fate.2
-fate_left scripted m n e (Some SameDigest) fate = ap left_of fate.2
+fate_left scripted m n e (Some ToStopped) (_, _, same) = ap left_of same
+fate_left scripted m n e (Some LogFull) (_, _, same) = ap left_of same
+fate_left scripted m n e (Some SameDigest) (_, _, same) = ap left_of same
 
 -- none is done where an entry is handed to a machine
 pub handed_left : (loses : List Lose) (to : ℕ) (e : SealedEntry) (ms new : List MachineState)

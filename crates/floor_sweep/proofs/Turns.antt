@@ -107,13 +107,13 @@ module _ (loses : List Lose) (count : ℕ) (ms0 : List MachineState) (losses0 : 
             ]
           ];
       none = λ neither.
-          let both = either_false some now neither in
-          let same = (none both.1).1 in
-          let was = is.none both.0 in (
+          let (not_before, not_now) = either_false some now neither in
+          let same = (none not_now).1 in
+          let was = is.none not_before in (
             (λ place lt. subst (λ (l : List MachineState). IsStillAt l place) (sym same)
                 (elim (cases_lt place at) [
                   | inl low ↦ was.0 place low
-                  | inr high ↦ (let here : at ≡ place = omega arith in subst (IsStillAt ms) here (none both.1).0)
+                  | inr high ↦ (let here : at ≡ place = omega arith in subst (IsStillAt ms) here (none not_now).0)
                 ])),
             same ∙ was.1,
           );
@@ -123,23 +123,23 @@ module _ (loses : List Lose) (count : ℕ) (ms0 : List MachineState) (losses0 : 
 still_whole : (place : ℕ) (m : MachineState) (receivers : ℕ) (answer : Acted) → IsAt place m →
     IsActed m receivers answer m → did answer ≡ false → IsWholeRun m
 still_whole place m receivers (acted.Did number copies) at is isnt = absurd (true≢false isnt)
-still_whole place m receivers acted.Stopped at is isnt = inr (inl (stopped_there m at.machine at.unmarked is.0))
-still_whole place m receivers acted.NoMore at is isnt = inl is.1
-still_whole place m receivers (acted.SupervisorNot cause) at is isnt =
-    inr (inr (inl (is.0.0, is.0.1, (why.SupervisorNot cause, is.0.2.refused))))
-still_whole place m receivers (acted.BoothNot cause) at is isnt =
-    inr (inr (inl (is.0.0, is.0.1, (why.BoothNot cause, is.0.2.refused))))
-still_whole place m receivers acted.Full at is isnt = inr (inr (inr (inl is.0.2.full)))
-still_whole place m receivers acted.StampSpent at is isnt = inr (inr (inr (inr (inl is.0.2.stamp))))
-still_whole place m receivers acted.Spent at is isnt = inr (inr (inr (inr (inr (inl is.0.2.spent)))))
-still_whole place m receivers acted.SameDigest at is isnt =
-    inr (inr (inr (inr (inr (inr (is.0.deed, is.0.action, is.0.held))))))
+still_whole place m receivers acted.Stopped at (has, _) isnt = inr (inl (stopped_there m at.machine at.unmarked has))
+still_whole place m receivers acted.NoMore at (_, no_more, _) isnt = inl no_more
+still_whole place m receivers (acted.SupervisorNot cause) at ((deed, next, why_not), _) isnt =
+    inr (inr (inl (deed, next, (why.SupervisorNot cause, why_not.refused))))
+still_whole place m receivers (acted.BoothNot cause) at ((deed, next, why_not), _) isnt =
+    inr (inr (inl (deed, next, (why.BoothNot cause, why_not.refused))))
+still_whole place m receivers acted.Full at ((_, _, why_not), _) isnt = inr (inr (inr (inl why_not.full)))
+still_whole place m receivers acted.StampSpent at ((_, _, why_not), _) isnt = inr (inr (inr (inr (inl why_not.stamp))))
+still_whole place m receivers acted.Spent at ((_, _, why_not), _) isnt = inr (inr (inr (inr (inr (inl why_not.spent)))))
+still_whole place m receivers acted.SameDigest at (already, _) isnt =
+    inr (inr (inr (inr (inr (inr (already.deed, already.action, already.held))))))
 
 -- so where each machine was to act and none did, the run of each is whole
 pub all_whole : (ms : List MachineState) → ArePlaced ms → AreStillBelow (length ms) ms →
     (place : ℕ) (m : MachineState) → place < length ms → slice_get ms place ≡ Some m → IsWholeRun m
 all_whole ms placed still place m lt is =
-    let s = still place lt m is in still_whole place m s.0 s.1 (placed place m is) s.2 s.3
+    let (k, answer, acts, isnt) = still place lt m is in still_whole place m k answer (placed place m is) acts isnt
 
 -- before anything is done
 pub swept_none : (loses : List Lose) (ms : List MachineState) (losses : List Loss) (waits : Waits) → ArePlaced ms →
