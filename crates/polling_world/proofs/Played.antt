@@ -73,31 +73,31 @@ pub are_of : (script : Script) (first now : List MachineState) → Stays script 
 are_of script first now stays = record {
   count = count_stays script first now stays;
   number = λ k m at.
-      let was = made_at script first now k m stays at in
-      let fresh = stays.fresh.each k was.0 was.1 in
-      ap (λ (c : Config). c.number) was.2 ∙ ap (λ (f : MachineState). f.config.number) fresh.2;
+      let (u, stood, same) = made_at script first now k m stays at in
+      let fresh = stays.fresh.each k u stood in
+      ap (λ (c : Config). c.number) same ∙ ap (λ (f : MachineState). f.config.number) fresh.2;
   config = λ k m at.
-      let was = made_at script first now k m stays at in
-      let fresh = stays.fresh.each k was.0 was.1 in
-      let made = was.2 ∙ ap (λ (f : MachineState). f.config) fresh.2 in
+      let (u, stood, same) = made_at script first now k m stays at in
+      let (cast, listed, is_fresh) = stays.fresh.each k u stood in
+      let made = same ∙ ap (λ (f : MachineState). f.config) is_fresh in
       let number : m.config.number ≡ k = ap (λ (c : Config). c.number) made in (
-        fresh.0,
-        ap (λ (n : ℕ). slice_get script.machines n) number ∙ fresh.1,
-        made ∙ ap (λ (n : ℕ). config_of script n fresh.0) (sym number),
+        cast,
+        ap (λ (n : ℕ). slice_get script.machines n) number ∙ listed,
+        made ∙ ap (λ (n : ℕ). config_of script n cast) (sym number),
       );
   no_stop = λ k m at.
-      let was = same_at (λ (u : MachineState). u.stop) now first k m stays.stops at in
-      let fresh = stays.fresh.each k was.0 was.1 in
-      was.2 ∙ ap (λ (f : MachineState). f.stop) fresh.2;
+      let (u, stood, same) = same_at (λ (u : MachineState). u.stop) now first k m stays.stops at in
+      let fresh = stays.fresh.each k u stood in
+      same ∙ ap (λ (f : MachineState). f.stop) fresh.2;
 }
 
 -- each has a log of the script's size
 pub have_log : (script : Script) (first now : List MachineState) → Stays script first now → HaveLog script.log now
 have_log script first now stays = λ k d within.
     let at = slice_get-get_or now k d within in
-    let was = made_at script first now k (get_or now k d) stays at in
-    let fresh = stays.fresh.each k was.0 was.1 in
-    ap (λ (c : Config). c.log) was.2 ∙ ap (λ (f : MachineState). f.config.log) fresh.2
+    let (u, stood, same) = made_at script first now k (get_or now k d) stays at in
+    let fresh = stays.fresh.each k u stood in
+    ap (λ (c : Config). c.log) same ∙ ap (λ (f : MachineState). f.config.log) fresh.2
 
 -- a step of the script is one of the machines
 step_in : (machines : List Cast0) (count : ℕ) (step : Step) → count ≡ length machines → IsStep machines step

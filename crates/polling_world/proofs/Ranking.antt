@@ -72,10 +72,10 @@ module _ {T : Type 0} (node : T → Node) where
   placed_once m before [] = tt
   placed_once m before (x ∷ h) = (
     λ y c same.
-        let r = placed_cases node m (before ++ x ∷ []) h y c in
-        let place : y.place ≡ length ((before ++ x ∷ []) ++ r.0) = ap (λ u. u.place) r.3 in
+        let (earlier, _, _, is) = placed_cases node m (before ++ x ∷ []) h y c in
+        let place : y.place ≡ length ((before ++ x ∷ []) ++ earlier) = ap (λ u. u.place) is in
         let one : length before ≡ y.place = cc in
-        absurd (omega (arith, length-append (before ++ x ∷ []) r.0, length-append before (x ∷ []))),
+        absurd (omega (arith, length-append (before ++ x ∷ []) earlier, length-append before (x ∷ []))),
     placed_once m (before ++ x ∷ []) h,
   )
 
@@ -155,9 +155,9 @@ module _ {T : Type 0} (node : T → Node) where
         elim (Contains-append_cases (events_to m) (placed_of node m [] (history w m)) x c) [
           | inl h ↦ let r = events_to_cases m x h in (r.0, (let l = r.1 in omega arith))
           | inr h ↦
-              let r = placed_cases node m [] (history w m) x h in
-              let mine : x.machine ≡ m = ap (λ u. u.machine) r.3 in
-              ((r.0, r.1, ap (history w) mine ∙ r.2, r.3 ∙ ap (λ k. placed node k r.0 x.event) (sym mine)), omega arith)
+              let (b, l, split, is) = placed_cases node m [] (history w m) x h in
+              let mine : x.machine ≡ m = ap (λ u. u.machine) is in
+              ((b, l, ap (history w) mine ∙ split, is ∙ ap (λ k. placed node k b x.event) (sym mine)), omega arith)
         ]
 
     -- no two have one rank

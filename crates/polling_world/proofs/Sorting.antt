@@ -43,12 +43,12 @@ module _ {X Y : Type 0} (f : X → Y) where
   moved_behind xs ys moved =
       IsPermutation-keeps (map f xs) (λ l. (zs : List X) × IsPermutation xs zs × (map f zs ≡ l))
       (xs, IsPermutation-refl xs, refl)
-      (λ l i j il jl r.
-      let long : length r.0 ≡ length l = sym (length-map r.0 f) ∙ ap length r.2 in (
-        swap r.0 i j,
-        IsPermutation-trans xs r.0 (swap r.0 i j) r.1
-            (IsPermutation-swap r.0 (swap r.0 i j) i j (omega arith) (omega arith) refl),
-        map-swap r.0 i j ∙ ap (λ k. swap k i j) r.2,
+      (λ l i j il jl (zs, permuted, are).
+      let long : length zs ≡ length l = sym (length-map zs f) ∙ ap length are in (
+        swap zs i j,
+        IsPermutation-trans xs zs (swap zs i j) permuted
+            (IsPermutation-swap zs (swap zs i j) i j (omega arith) (omega arith) refl),
+        map-swap zs i j ∙ ap (λ k. swap k i j) are,
       ))
       ys moved
 
@@ -121,18 +121,18 @@ module _ {T : Type 0} (node : T → Node) where
       (xs : List (PlacedEvent T)) × IsMergedOf node w xs
       × (map (λ (r : RankedStep). r.step) sorted ≡ map (λ x. step_of node x.machine x.event) xs)
   merged_from w ranked sorted of moved rising =
-      let r = moved_behind (ranked_step node) of.xs sorted
+      let (xs, permuted, are) = moved_behind (ranked_step node) of.xs sorted
       (subst (λ (l : List RankedStep). IsPermutation l sorted) of.are moved) in (
-        r.0,
+        xs,
         record {
-          sorted = rises r.0
-              (IsDistinct-IsPermutation bytes_eq nat_list_eq_equiv.symm (map sort_key of.xs) (map sort_key r.0)
-              (IsPermutation-map sort_key of.xs r.0 r.1) of.once)
-              (subst (IsSortedBy lower) (sym r.2) rising);
+          sorted = rises xs
+              (IsDistinct-IsPermutation bytes_eq nat_list_eq_equiv.symm (map sort_key of.xs) (map sort_key xs)
+              (IsPermutation-map sort_key of.xs xs permuted) of.once)
+              (subst (IsSortedBy lower) (sym are) rising);
           events = λ x. (
-            λ c. (of.events x).0 (Contains-permutation r.0 of.xs x (IsPermutation-sym of.xs r.0 r.1) c),
-            λ e. Contains-permutation of.xs r.0 x r.1 ((of.events x).1 e),
+            λ c. (of.events x).0 (Contains-permutation xs of.xs x (IsPermutation-sym of.xs xs permuted) c),
+            λ e. Contains-permutation of.xs xs x permuted ((of.events x).1 e),
           );
         },
-        ap (map (λ (s : RankedStep). s.step)) (sym r.2) ∙ steps_behind r.0,
+        ap (map (λ (s : RankedStep). s.step)) (sym are) ∙ steps_behind xs,
       )

@@ -155,9 +155,9 @@ configs_from script n (cast ∷ casts) (m ∷ ms) count each =
     let rest : configs_of ms ≡ map (λ at. config_of script at.0 at.1) (enumerate_from (n + 1) casts) =
     configs_from script (n + 1) casts ms (omega arith)
     (λ k u stands.
-    let later = each (suc k) u stands in
+    let (its_cast, listed, made) = each (suc k) u stands in
     let further : n + suc k ≡ (n + 1) + k = omega arith in
-    (later.0, later.1, later.2 ∙ ap (λ (j : ℕ). config_of script j later.0) further)) in
+    (its_cast, listed, made ∙ ap (λ (j : ℕ). config_of script j its_cast) further)) in
     ap (λ (c : Config). c ∷ configs_of ms) here ∙ ap (λ (cs : List Config). config_of script n cast ∷ cs) rest
 
 -- they are made of what the script says
@@ -166,10 +166,10 @@ pub fresh_configs : (script : Script) (ms : List MachineState) → AreFresh scri
 fresh_configs script ms fresh =
     configs_from script 0 script.machines ms fresh.count
     (λ k m stands.
-    let made = fresh.each k m stands in
+    let (cast, listed, made) = fresh.each k m stands in
     let place : k ≡ 0 + k = omega arith in (
-      made.0,
-      made.1,
-      ap (λ (u : MachineState). u.config) made.2
-          ∙ ap (λ (j : ℕ). config_of script j made.0) place,
+      cast,
+      listed,
+      ap (λ (u : MachineState). u.config) made
+          ∙ ap (λ (j : ℕ). config_of script j cast) place,
     ))

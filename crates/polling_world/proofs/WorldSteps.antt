@@ -80,14 +80,14 @@ acted_cases : (m : MachineState) (answer : Acted) (after : MachineState) → IsA
     ⊎ ((stepped_by answer ≡ Did)
     × ((e : SealedEntry) × MaySend m.config m.events e × (after ≡ with_event (Sent e) m)))
 acted_cases m (acted.Did number copies) after done = inr (refl, (done.entry, done.may, done.changed))
-acted_cases m acted.Stopped after h = inl (refl, h.1)
-acted_cases m acted.NoMore after h = inl (refl, h.2)
-acted_cases m (acted.SupervisorNot why) after h = inl (refl, h.1)
-acted_cases m (acted.BoothNot why) after h = inl (refl, h.1)
-acted_cases m acted.Full after h = inl (refl, h.1)
-acted_cases m acted.StampSpent after h = inl (refl, h.1)
-acted_cases m acted.Spent after h = inl (refl, h.1)
-acted_cases m acted.SameDigest after h = inl (refl, h.1)
+acted_cases m acted.Stopped after (_, same) = inl (refl, same)
+acted_cases m acted.NoMore after (_, _, same) = inl (refl, same)
+acted_cases m (acted.SupervisorNot why) after (_, same) = inl (refl, same)
+acted_cases m (acted.BoothNot why) after (_, same) = inl (refl, same)
+acted_cases m acted.Full after (_, same) = inl (refl, same)
+acted_cases m acted.StampSpent after (_, same) = inl (refl, same)
+acted_cases m acted.Spent after (_, same) = inl (refl, same)
+acted_cases m acted.SameDigest after (_, same) = inl (refl, same)
 
 -- what hearing leaves: the machine as it was, or with the entry, for which there was room
 heard_cases : (m : MachineState) (e : SealedEntry) (answer : MachineHeard) → IsHeard m e answer →
@@ -112,11 +112,11 @@ module _ (posts : List Post) (ms : List MachineState) (world : IsWorld posts ms)
       -- the log of each has room for at most 4,096 events
       small : (n : ℕ) (a : Machine SealedEntry) → slice_get (world_of ms) n ≡ Some a → length a.history ≤ 4096
       small n a is =
-          let r = get-map_from machine_of ms n a is in
-          let within = (world.placed n r.0 r.1).within in
+          let (m, stands, is_a) = get-map_from machine_of ms n a is in
+          let within = (world.placed n m stands).within in
           let least = world.small in
-          let same : length r.0.events ≡ length a.history =
-          ap (λ (u : Machine SealedEntry). length u.history) r.2 in
+          let same : length m.events ≡ length a.history =
+          ap (λ (u : Machine SealedEntry). length u.history) is_a in
           omega (arith, within, least, same)
 
   -- nothing changed
@@ -284,13 +284,13 @@ module _ (posts : List Post) (ms : List MachineState) (world : IsWorld posts ms)
       KeepsWorld posts ms stepped new
   acts_kept at stepped new h =
       elim (acted_cases h.before h.answer h.after h.acted) [
-        | inl r ↦ stays_kept stepped new (h.told ∙ r.0)
-            (h.changed ∙ ap (slice_set ms at) r.1 ∙ set_same ms at h.before h.stood)
-        | inr r ↦ event_kept at h.before h.stood (Sent r.1.0)
-            (subst (λ (i : ℕ). MayFollow node_of_sealed i h.before.events (Sent r.1.0))
-            (placed at h.before h.stood).number (may_follow h.before.config h.before.events r.1.0 r.1.1))
-            (λ e is. (let no : Sent r.1.0 ≡ Got e = is in cc)) r.1.1.room stepped new (h.told ∙ r.0)
-            (h.changed ∙ ap (slice_set ms at) r.1.2)
+        | inl (told, same) ↦ stays_kept stepped new (h.told ∙ told)
+            (h.changed ∙ ap (slice_set ms at) same ∙ set_same ms at h.before h.stood)
+        | inr (told, (e, may, grown)) ↦ event_kept at h.before h.stood (Sent e)
+            (subst (λ (i : ℕ). MayFollow node_of_sealed i h.before.events (Sent e))
+            (placed at h.before h.stood).number (may_follow h.before.config h.before.events e may))
+            (λ f is. (let no : Sent e ≡ Got f = is in cc)) may.room stepped new (h.told ∙ told)
+            (h.changed ∙ ap (slice_set ms at) grown)
       ]
 
   -- and does what the world's machine does
@@ -315,9 +315,9 @@ module _ (posts : List Post) (ms : List MachineState) (world : IsWorld posts ms)
         slice_get_within (sent (history (world_of ms) from)) number e is,
         get_or_from_slice_get (sent (history (world_of ms) from)) number e e is,
       ) in
-      let s = member_split (history (world_of ms) from) (Sent e)
+      let (before, after, split) = member_split (history (world_of ms) from) (Sent e)
       (Contains-sent_cases (history (world_of ms) from) e c) in
-      (world.orderly.legal from s.0 (Sent e) s.1 s.2).1.maker
+      (world.orderly.legal from before (Sent e) after split).1.maker
 
   -- an entry that is given to another machine keeps the world
   given_kept : (at from number : ℕ) (e : SealedEntry) (stepped : Stepped) (new : List MachineState) → at ≢ from →
@@ -325,14 +325,14 @@ module _ (posts : List Post) (ms : List MachineState) (world : IsWorld posts ms)
       KeepsWorld posts ms stepped new
   given_kept at from number e stepped new other is h =
       elim (heard_cases h.before e h.answer h.heard) [
-        | inl r ↦ stays_kept stepped new (h.told ∙ r.0)
-            (h.changed ∙ ap (slice_set ms at) r.1 ∙ set_same ms at h.before h.stood)
-        | inr r ↦ event_kept at h.before h.stood (Got e)
-            (r.2, λ maker. other (sym maker ∙ made_by from number e is))
+        | inl (told, same) ↦ stays_kept stepped new (h.told ∙ told)
+            (h.changed ∙ ap (slice_set ms at) same ∙ set_same ms at h.before h.stood)
+        | inr (told, grown, fresh, room) ↦ event_kept at h.before h.stood (Got e)
+            (fresh, λ maker. other (sym maker ∙ made_by from number e is))
             (λ f same. (let one : e ≡ f = cc in
             subst (λ (g : SealedEntry). Contains (sent_in (world_of ms)) g) one
-            (sent_at_sent (world_of ms) from number e is))) r.3 stepped new (h.told ∙ r.0)
-            (h.changed ∙ ap (slice_set ms at) r.1)
+            (sent_at_sent (world_of ms) from number e is))) room stepped new (h.told ∙ told)
+            (h.changed ∙ ap (slice_set ms at) grown)
       ]
 
   -- a machine that hears keeps the world
@@ -388,8 +388,8 @@ module _ (posts : List Post) (ms : List MachineState) (world : IsWorld posts ms)
       KeepsWorld posts ms stepped new
   stops_kept at stepped new h =
       elim h.changed [
-        | inl r ↦ stop_kept at h.before h.stood stepped new r.0 r.1 r.2
-        | inr r ↦ stays_kept stepped new r.1.0 r.1.1
+        | inl (going, told, changed) ↦ stop_kept at h.before h.stood stepped new going told changed
+        | inr (_, (told, same)) ↦ stays_kept stepped new told same
       ]
 
   -- and does what the world's machine does
@@ -397,10 +397,10 @@ module _ (posts : List Post) (ms : List MachineState) (world : IsWorld posts ms)
       Happens ms (Stop at) new
   stop_happens at stepped new h next log tells size =
       elim h.changed [
-        | inl r ↦ ap world_of r.2 ∙ halted at h.before h.stood
-        | inr r ↦ ap world_of (r.1.1 ∙ sym (set_same ms at h.before h.stood))
+        | inl (_, _, changed) ↦ ap world_of changed ∙ halted at h.before h.stood
+        | inr (stopped, (_, same)) ↦ ap world_of (same ∙ sym (set_same ms at h.before h.stood))
             ∙ world_of-set ms at h.before h.before stop h.stood
-            (ap (λ (b : Bool). record { history = h.before.events; stopped = b }) r.0)
+            (ap (λ (b : Bool). record { history = h.before.events; stopped = b }) stopped)
       ]
 
   -- ---- any step
