@@ -99,16 +99,16 @@ in_stays m x y Scripted going room cause = cause
 in_stays m x y LinkFull going room cause = cause
 in_stays m x y ToStopped going room cause = absurd (going_on m going cause)
 in_stays m x y LogFull going room cause = absurd (omega arith)
-in_stays m x y SameDigest going room cause = (cause.0, held_more m.events x cause.0 cause.1, cause.2)
+in_stays m x y SameDigest going room (g, in_h, same) = (g, held_more m.events x g in_h, same)
 
 -- what isn't heard has its cause
 pub in_new : (m : MachineState) (x : SealedEntry) (answer : MachineHeard) (why : LossWhy) → IsMachine m →
     m.marked ≡ false → IsHeard m x answer → cause_of answer ≡ Some why → IsInCause m x why
 in_new m x heard.Taken why is marked h some = cc
-in_new m x (heard.Stopped back) why is marked h some =
-    subst (λ (w : LossWhy). IsInCause m x w) (same_Some ToStopped why some) (stopped_there m is marked h.0)
+in_new m x (heard.Stopped back) why is marked (has, _) some =
+    subst (λ (w : LossWhy). IsInCause m x w) (same_Some ToStopped why some) (stopped_there m is marked has)
 in_new m x (heard.Own back) why is marked h some = cc
-in_new m x (heard.Already back) why is marked h some =
-    subst (λ (w : LossWhy). IsInCause m x w) (same_Some SameDigest why some) h.1.2
-in_new m x (heard.Full back) why is marked h some =
-    subst (λ (w : LossWhy). IsInCause m x w) (same_Some LogFull why some) h.1.3
+in_new m x (heard.Already back) why is marked (_, (_, _, borne)) some =
+    subst (λ (w : LossWhy). IsInCause m x w) (same_Some SameDigest why some) borne
+in_new m x (heard.Full back) why is marked (_, (_, _, _, full)) some =
+    subst (λ (w : LossWhy). IsInCause m x w) (same_Some LogFull why some) full

@@ -39,10 +39,10 @@ module _ (old : StationState) (from : ℕ) (end : Inn) (x : SealedEntry) (is : I
       new ≡ machine_after answer x old.machine → cause_of answer ≡ None →
       (new ≡ with_event (Got x) old.machine) × (length old.machine.events < old.machine.config.log) ×
       IsGoing old.machine
-  heard_done heard.Taken new h e none = (e, h.1.2, h.0)
+  heard_done heard.Taken new (going, (_, _, room)) e none = (e, room, going)
   heard_done (heard.Stopped back) new h e none = cc
-  heard_done (heard.Own back) new h e none =
-      absurd (other (sym (maker_is old from end x is within other took small of same_from) ∙ h.1.1))
+  heard_done (heard.Own back) new (_, (_, own)) e none =
+      absurd (other (sym (maker_is old from end x is within other took small of same_from) ∙ own))
   heard_done (heard.Already back) new h e none = cc
   heard_done (heard.Full back) new h e none = cc
 

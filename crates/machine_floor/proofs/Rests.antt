@@ -266,16 +266,16 @@ pub rowing_all : (from to : ℕ) (row0 : List LinkView) (outs0 : Outs) (inns0 : 
 rowing_all from to row0 outs0 inns0 before row outs inns waits is ends end = record {
   count = is.count;
   left = λ b lt.
-      let p = is.popped b (omega arith) in
+      let (last, split) = is.popped b (omega arith) in
       let n = ends.left b lt in
-      let l = ap length p.1 ∙ length-append (get_or inns b []) (p.0 ∷ []) in
+      let l = ap length split ∙ length-append (get_or inns b []) (last ∷ []) in
       omega arith;
   same = λ a b e low lt.
-      let p = is.popped b (omega arith) in
+      let (last, split) = is.popped b (omega arith) in
       let n = ends.left b lt in
-      let l = ap length p.1 ∙ length-append (get_or inns b []) (p.0 ∷ []) in
-      sym (ap (λ (i : Inns). get_or i a e) p.1
-      ∙ get_or_append_left (get_or inns b []) (p.0 ∷ []) e a (omega arith));
+      let l = ap length split ∙ length-append (get_or inns b []) (last ∷ []) in
+      sym (ap (λ (i : Inns). get_or i a e) split
+      ∙ get_or_append_left (get_or inns b []) (last ∷ []) e a (omega arith));
   rest = λ b d e lt differs. is.rest b d e (omega arith) differs;
   others = is.others;
   on_way = is.on_way;
