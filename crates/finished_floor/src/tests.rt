@@ -8,6 +8,7 @@ ghost use Rattle.finished_floor.specs.Places.{IsMachineOf, IsStopOf};
 
 use super::*;
 use election_script::{Script, StopAt, read};
+use floor_losses::Loss;
 use polling_world::{Machine, key_of, keys_of, roster_of};
 use roster::Roster;
 use std::alloc::{AllocError, Global};
@@ -91,34 +92,59 @@ fn gathered(alloc: Global, script: &Script) -> Result<Gathered, AllocError>
     })
 }
 
+/// Appends how many entries each machine sent and holds.
+fn push_machines(text: &mut String, machines: &[Machine]) -> Result<(), Fail> {
+    for machine in machines {
+        let held = machine.log().events().len();
+        write!(text, "{} {held};", machine.sent_count())?;
+    }
+    Ok(())
+}
+
+/// Appends how many events of each machine no worker did.
+fn push_swept(text: &mut String, by: &[Vec<Option<u32>>]) -> Result<(), Fail> {
+    for row in by {
+        write!(
+            text,
+            " {}",
+            row.iter().filter(|pass| pass.is_none()).count()
+        )?;
+    }
+    Ok(())
+}
+
+/// Appends the losses.
+fn push_losses(text: &mut String, losses: &[Loss]) -> Result<(), Fail> {
+    for loss in losses {
+        let word = loss.why.word();
+        write!(text, "; {} {} {} {word}", loss.from, loss.to, loss.number)?;
+    }
+    Ok(())
+}
+
 /// How many entries each machine sent and holds, and how many of them no worker sent or heard; and
 /// the losses.
-fn outcome(alloc: Global, floor: &Floor) -> Result<String, AllocError> {
+fn outcome(alloc: Global, floor: &Floor) -> Result<String, Fail> {
     let mut text = String::new(alloc);
-    for machine in &floor.machines {
-        let sent = machine.sent_count();
-        let held = machine.log().events().len();
-        text.push_str(&format!(in alloc; "{sent} {held};")?)?;
-    }
-    for row in &floor.by {
-        let swept = row.iter().filter(|pass| pass.is_none()).count();
-        text.push_str(&format!(in alloc; " {swept}")?)?;
-    }
-    for loss in &floor.losses {
-        let (from, number, to) = (loss.from, loss.number, loss.to);
-        let word = loss.why.word();
-        text.push_str(&format!(in alloc; "; {from} {to} {number} {word}")?)?;
-    }
+    push_machines(&mut text, &floor.machines)?;
+    push_swept(&mut text, &floor.by)?;
+    push_losses(&mut text, &floor.losses)?;
     Ok(text)
 }
 
 /// What the script's machines come to.
-fn finished(alloc: Global, script: &Script) -> Result<String, AllocError>
+fn finished(alloc: Global, script: &Script) -> Result<String, Fail>
     requires { IsLawful script.now }
 {
     let left = gathered(alloc, script)?;
     let floor = finish_floor(alloc, script, left)?;
     outcome(alloc, &floor)
+}
+
+/// Whether the script with logs of so many events and these lines more comes to this.
+fn comes_to(alloc: Global, log: u32, lines: &str, want: &str) -> Result<bool, Fail> {
+    let script = script_of(alloc, log, lines)?;
+    Ok(finished(alloc, &script)?.as_str() == want)
 }
 
 /// The room in each log and the script's lines on losses and stops; for each machine how many
@@ -154,12 +180,7 @@ const FLOORS: &[(u32, &str, &str)] = &[
 #[test]
 fn a_floor_is_finished(rt: HostRuntime) -> Result<(), Fail> {
     for &(log, lines, want) in FLOORS {
-        let script = script_of(rt.alloc(), log, lines)?;
-        assert_eq!(rt;
-            finished(rt.alloc(), &script)?.as_str(),
-            want,
-            "{log} {lines}"
-        );
+        assert!(rt; comes_to(rt.alloc(), log, lines, want)?, "{log} {lines}");
     }
     Ok(())
 }

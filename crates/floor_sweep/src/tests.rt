@@ -88,20 +88,30 @@ fn left_word(left: Option<Left>) -> &'static str {
     }
 }
 
-/// How many entries each machine sent and holds, why its next action isn't done, and the losses.
-fn outcome(alloc: Global, machines: &[Machine], losses: &[Loss]) -> Result<String, AllocError> {
-    let mut text = String::new(alloc);
+/// Appends how many entries each machine sent and holds, and why its next action isn't done.
+fn push_machines(text: &mut String, machines: &[Machine]) -> Result<(), Fail> {
     for machine in machines {
-        let sent = machine.sent_count();
         let held = machine.log().events().len();
         let word = left_word(machine.left());
-        text.push_str(&format!(in alloc; "{sent} {held} {word};")?)?;
+        write!(text, "{} {held} {word};", machine.sent_count())?;
     }
+    Ok(())
+}
+
+/// Appends the losses.
+fn push_losses(text: &mut String, losses: &[Loss]) -> Result<(), Fail> {
     for loss in losses {
-        let (from, number, to) = (loss.from, loss.number, loss.to);
         let word = loss.why.word();
-        text.push_str(&format!(in alloc; " {from}.{number} {to} {word}")?)?;
+        write!(text, " {}.{} {} {word}", loss.from, loss.number, loss.to)?;
     }
+    Ok(())
+}
+
+/// How many entries each machine sent and holds, why its next action isn't done, and the losses.
+fn outcome(alloc: Global, machines: &[Machine], losses: &[Loss]) -> Result<String, Fail> {
+    let mut text = String::new(alloc);
+    push_machines(&mut text, machines)?;
+    push_losses(&mut text, losses)?;
     Ok(text)
 }
 
@@ -122,7 +132,13 @@ fn swept(alloc: Global, script: &Script) -> Result<String, Fail>
         script.loses.as_slice(),
         &mut losses,
     )?;
-    Ok(outcome(alloc, &machines, &losses)?)
+    outcome(alloc, &machines, &losses)
+}
+
+/// Whether the script with logs of so many events and these lines more comes to this.
+fn comes_to(alloc: Global, log: u32, lines: &str, want: &str) -> Result<bool, Fail> {
+    let script = script_of(alloc, log, lines)?;
+    Ok(swept(alloc, &script)?.as_str() == want)
 }
 
 /// The room in each log and the script's lines on losses and stops; for each machine how many
@@ -166,8 +182,7 @@ const SWEEPS: &[(u32, &str, &str)] = &[
 #[test]
 fn a_sweep_does_what_can_be_done(rt: HostRuntime) -> Result<(), Fail> {
     for &(log, lines, want) in SWEEPS {
-        let script = script_of(rt.alloc(), log, lines)?;
-        assert_eq!(rt; swept(rt.alloc(), &script)?.as_str(), want, "{log} {lines}");
+        assert!(rt; comes_to(rt.alloc(), log, lines, want)?, "{log} {lines}");
     }
     Ok(())
 }

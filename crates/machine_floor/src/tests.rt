@@ -8,6 +8,7 @@ use super::*;
 use election_script::{Script, read};
 use finished_floor::Floor;
 use hall_outside::{MeetGate, OpenGate};
+use polling_world::Machine;
 use std::alloc::{AllocError, Global};
 use std::sync::Wait;
 use std::test::Fail;
@@ -32,16 +33,20 @@ fn session(alloc: Global) -> Result<Script, Fail>
     }
 }
 
-/// The counts of a run.
-fn counts(alloc: Global, floor: &Floor) -> Result<String, AllocError> {
-    let mut text = String::new(alloc);
-    for machine in floor.machines.as_slice() {
-        let sent = machine.sent_count();
+/// Appends how many entries each machine sent and holds.
+fn push_machines(text: &mut String, machines: &[Machine]) -> Result<(), Fail> {
+    for machine in machines {
         let held = machine.log().events().len();
-        text.push_str(&format!(in alloc; "{sent} {held};")?)?;
+        write!(text, "{} {held};", machine.sent_count())?;
     }
-    let lost = floor.losses.len();
-    text.push_str(&format!(in alloc; " {lost}")?)?;
+    Ok(())
+}
+
+/// The counts of a run.
+fn counts(alloc: Global, floor: &Floor) -> Result<String, Fail> {
+    let mut text = String::new(alloc);
+    push_machines(&mut text, &floor.machines)?;
+    write!(text, " {}", floor.losses.len())?;
     Ok(text)
 }
 
