@@ -4,7 +4,6 @@ use Rattle.std.specs.Prelude.{Result, Err, IfSome, IsErrOf, IsErrAnd, ⊤}
 use Rattle.hall_outside.specs.Counts.{HasRisen, ComesExactly}
 use Rattle.hall_outside.specs.Files.{Files}
 use Rattle.hall_outside.specs.declared.reading.FileFault.{FileFault}
-use Rattle.hall_outside.specs.declared.reading.FileFault.TheVariants as file
 use Rattle.evidence.specs.declared.fault.AuditFault.{AuditFault}
 use Rattle.evidence.specs.declared.fault.AuditFault.TheVariants.{Absent, Refused, ReadFault, Memory}
 use Rattle.evidence.specs.Refusal.{Refusal, absent, refused, refusal_of, IsAbsent, IsFaultOf}

@@ -7,7 +7,6 @@ use Rattle.election_script.specs.declared.script.Script.{Script}
 use Rattle.entry_format.specs.SealedEntry.{SealedEntry}
 use Rattle.floor_links.specs.Fresh.{AreNewLinks}
 use Rattle.floor_links.proofs.Makings.{lists_of}
-use Rattle.finished_floor.specs.Places.{IsStopOf}
 use Rattle.machine_floor.proofs.Rests.{none_in}
 use Rattle.machine_floor.proofs.FirstStations.{AreFirst, first_none, next_key, next_within, outs_there, inns_there}
 use Rattle.machine_floor.proofs.FirstStations.{may_begin, one_more, all_new, all_workable}
