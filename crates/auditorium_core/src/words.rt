@@ -20,6 +20,9 @@ ghost use Rattle.auditorium_core.specs.inside.Meaning.{Asks};
 use crate::entry_word::is_entry_word;
 use hall_text::decimal;
 
+/// The most logs of a command.
+const MAX_LOGS: usize = 16;
+
 /// What the words ask for.
 #[derive(Clone, Copy)]
 pub(crate) enum Request<'a> {
