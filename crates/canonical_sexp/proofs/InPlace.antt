@@ -45,13 +45,9 @@ row_spelt bytes row fits e =
 -- what is within the limits at a depth is so at a greater one
 more_deep : (d e : ℕ) (row : Forest) → d ≤ e → AreWithin d row → AreWithin e row
 more_deep d e no_trees le h = tt
-more_deep d e (atom_then octets rest) le h = (h.0, more_deep d e rest le h.1)
-more_deep d e (list_then inner rest) le h = (
-  omega (arith, h.0),
-  h.1,
-  more_deep (d - 1) (e - 1) inner (omega arith) h.2,
-  more_deep d e rest le h.3,
-)
+more_deep d e (atom_then octets rest) le (small, within) = (small, more_deep d e rest le within)
+more_deep d e (list_then inner rest) le (nests, few, members, within) =
+    (omega arith, few, more_deep (d - 1) (e - 1) inner (omega arith) members, more_deep d e rest le within)
 
 -- a row with a member: its first, and the others
 pub record HasFirst (row : Forest) : Type 0 where
@@ -69,23 +65,23 @@ pub record HasFirst (row : Forest) : Type 0 where
 -- a row with a text has a first member
 pub has_first : (row : Forest) → Fits (Branch row) → 0 < length (texts_of row) → HasFirst row
 has_first no_trees fits some = absurd (omega arith)
-has_first (atom_then octets rest) fits some =
+has_first (atom_then octets rest) (nests, few, (small, within)) some =
     record {
       tree = Atom octets;
       rest = rest;
       is = refl;
       text = refl;
-      fits = fits.2.0;
-      rest_fits = (fits.0, omega (arith, fits.1), fits.2.1);
+      fits = small;
+      rest_fits = (nests, omega arith, within);
     }
-has_first (list_then inner rest) fits some =
+has_first (list_then inner rest) (nests, few, (_, members_few, members, within)) some =
     record {
       tree = Branch inner;
       rest = rest;
       is = refl;
       text = ap (λ bs. 40 ∷ bs) (sym (append_assoc (texts_of inner) (41 ∷ []) (texts_of rest)));
-      fits = (omega arith, fits.2.1, more_deep 6 7 inner (omega arith) fits.2.2);
-      rest_fits = (fits.0, omega (arith, fits.1), fits.2.3);
+      fits = (omega arith, members_few, more_deep 6 7 inner (omega arith) members);
+      rest_fits = (nests, omega arith, within);
     }
 
 -- a text isn't empty

@@ -8,12 +8,13 @@ returns-then-bytes-eq40-clause-none c = λ octets small e.
     begins_low c.args.bytes.now octets small e c.if-bytes-eq40.true
 
 pub read_length-requires-clause-digit : goal.read_length-requires-clause-digit
-read_length-requires-clause-digit c =
-    (is_atom c.args.bytes.now c.requires.0 c.requires.1.0 c.requires.1.1 c.if-bytes-eq40.false).digit
+read_length-requires-clause-digit c = let (tree, (fits, text)) = c.requires in
+    (is_atom c.args.bytes.now tree fits text c.if-bytes-eq40.false).digit
 
 pub returns-in-Whole-clause-found : goal.returns-in-Whole-clause-found
 returns-in-Whole-clause-found c =
-    let atom = is_atom c.args.bytes.now c.requires.0 c.requires.1.0 c.requires.1.1 c.if-bytes-eq40.false in
+    let (tree, (fits, text)) = c.requires in
+    let atom = is_atom c.args.bytes.now tree fits text c.if-bytes-eq40.false in
     let same = behind_length c.args.bytes.now atom.octets c.in-Whole.octets c.in-Whole.used atom.few atom.spelt
     c.in-Whole.ensures.few c.in-Whole.ensures.spelt in
     (omega (arith, ap length same, atom.few), atom.spelt ∙ ap atom_text (sym same))

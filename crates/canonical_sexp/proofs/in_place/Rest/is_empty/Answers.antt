@@ -5,11 +5,11 @@ use Rattle.canonical_sexp.proofs.InPlace.{no_bytes_left}
 use Rattle.canonical_sexp.proofs.in_place.Rest.is_empty.Goals as goal
 
 pub returns : goal.returns
-returns c = (
+returns c = let (fits, text) = c.bytes.ensures in (
   λ empty.
       let none : length c.bytes.result.now ≡ 0 = grind (arith, nat_tests) in
-      no_bytes_left c.args.self.now c.bytes.ensures.0 (sym (ap length c.bytes.ensures.1) ∙ none),
+      no_bytes_left c.args.self.now fits (sym (ap length text) ∙ none),
   λ is.
-      let none : length c.bytes.result.now ≡ 0 = ap length (c.bytes.ensures.1 ∙ ap texts_of is) in
+      let none : length c.bytes.result.now ≡ 0 = ap length (text ∙ ap texts_of is) in
       grind (arith, nat_tests),
 )
