@@ -106,10 +106,10 @@ module _ (text : List ℕ) where
       let is_line : IsLine text new = ends_at start at o within newline in
       one_span_more (IsLineBefore start) (IsLineBefore (at + 1)) spans new all (λ s is. is.1)
       (λ s. (
-        (λ (is : IsLineBefore (at + 1) s).
-            ⊎_elim (λ (lt : s.start < start). inl (is.0, lt))
-            (λ (ge : start ≤ s.start). let before : s.start < at + 1 = is.1 in
-            inr (same_end s start at is.0 (begins_there start at s o is.0 ge (omega arith)) is_line))
+        (λ (line, before).
+            ⊎_elim (λ (lt : s.start < start). inl (line, lt))
+            (λ (ge : start ≤ s.start).
+            inr (same_end s start at line (begins_there start at s o line ge (omega (arith, before))) is_line))
             (cases_lt s.start start)),
         (λ (is : IsLineBefore start s ⊎ (new ≡ s)).
             ⊎_elim (λ (old : IsLineBefore start s).

@@ -1,5 +1,5 @@
 -- Spans that are all of a kind are one list.
-use Rattle.std.proofs.Common.{◌≡◌, ◌⊎◌, inl, inr, suc, zero, ◌<◌, List, [], ◌∷◌, length, get_or, refl, sym}
+use Rattle.std.proofs.Common.{◌≡◌, ◌⊎◌, inl, inr, suc, zero, ◌<◌, List, [], ◌∷◌, get_or, refl, sym}
 use Rattle.std.proofs.Common.{subst, ⊎_elim, ap, ◌∙◌, arith}
 use Rattle.std.specs.Prelude.{Contains, AllPairs}
 use Rattle.std.proofs.lemmas.List.Elements.{Contains-push, Contains-push_cases, Contains-append_left}
@@ -31,10 +31,9 @@ tail_ordered a spans ordered i j d lt within = ordered (suc i) (suc j) d (omega 
 -- the first of spans in order begins before the others
 pub first_is_before : (a s : Span) (spans : List Span) → AllPairs StandsBefore (a ∷ spans) → Contains spans s
     → a.start < s.start
-first_is_before a s spans ordered among =
-    let at : a.start < (get_or spans among.0 s).start = ordered zero (suc among.0) s (omega arith)
-    (let lt : among.0 < length spans = among.1 in omega arith) in
-    subst (λ (x : Span). a.start < x.start) among.2 at
+first_is_before a s spans ordered (i, inside, is) =
+    let at : a.start < (get_or spans i s).start = ordered zero (suc i) s (omega arith) (omega arith) in
+    subst (λ (x : Span). a.start < x.start) is at
 
 -- two lists in order that have the same spans are one
 pub one_list : (xs ys : List Span) → AllPairs StandsBefore xs → AllPairs StandsBefore ys

@@ -72,10 +72,11 @@ module _ (text : List ℕ) where
       let new : Span = record { start = at; end = end } in
       one_span_more (IsTokenBefore at) (IsTokenBefore end) spans new all (λ s is. is.1)
       (λ s. (
-        (λ (is : IsTokenBefore end s).
-            ⊎_elim (λ (lt : s.start < at). inl (is.0, lt))
-            (λ (ge : at ≤ s.start). ⊎_elim (λ (gt : at < s.start). absurd (none_inside at end s new_token is.0 gt is.1))
-            (λ (le : s.start ≤ at). inr (same_end s at end is.0 (omega arith) new_token)) (cases_lt at s.start))
+        (λ (token, before).
+            ⊎_elim (λ (lt : s.start < at). inl (token, lt))
+            (λ (ge : at ≤ s.start).
+            ⊎_elim (λ (gt : at < s.start). absurd (none_inside at end s new_token token gt before))
+            (λ (le : s.start ≤ at). inr (same_end s at end token (omega arith) new_token)) (cases_lt at s.start))
             (cases_lt s.start at)),
         (λ (is : IsTokenBefore at s ⊎ (new ≡ s)).
             ⊎_elim (λ (old : IsTokenBefore at s). (old.0, (let lt : s.start < at = old.1 in omega arith)))
@@ -88,14 +89,13 @@ module _ (text : List ℕ) where
   none_there spans at all none =
       same_spans (IsTokenBefore at) (IsTokenBefore (at + 1)) spans
       (λ s. (
-        (λ (is : IsTokenBefore at s). (is.0, (let lt : s.start < at = is.1 in omega arith))),
-        (λ (is : IsTokenBefore (at + 1) s). (
-          is.0,
+        (λ (token, before). (token, omega (arith, before))),
+        (λ (token, before). (
+          token,
           ⊎_elim (λ (lt : s.start < at). lt)
               (λ (ge : at ≤ s.start).
-              let lt : s.start < at + 1 = is.1 in
-              let there : s.start ≡ at = omega arith in
-              absurd (none (subst (λ k. BeginsToken text k) there (begins s is.0))))
+              let there : s.start ≡ at = omega (arith, before) in
+              absurd (none (subst (λ k. BeginsToken text k) there (begins s token))))
               (cases_lt s.start at),
         )),
       ))
