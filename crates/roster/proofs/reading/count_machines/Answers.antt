@@ -9,8 +9,8 @@ pub returns-in_default-clause-none : goal.returns-in_default-clause-none
 returns-in_default-clause-none c = λ machines whole.
     let so_far : List Post = c.loop-member.invariant.0 in
     let at = subst (λ left. IsWalked c.args.text.now so_far left) c.in-Some.ensures.steps c.loop-member.invariant.1 in
-    let machine = next_machine c.args.text.now c.in-Some.member so_far machines _ at whole in
-    c.in_default.ensures.none machine.0 machine.1 machine.2
+    let (post, keyed, is) = next_machine c.args.text.now c.in-Some.member so_far machines _ at whole in
+    c.in_default.ensures.none post keyed is
 
 -- one machine more
 pub loop-member-preserved : goal.loop-member-preserved

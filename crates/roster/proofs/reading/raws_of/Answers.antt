@@ -12,8 +12,8 @@ pub unwrap-requires : goal.unwrap-requires
 unwrap-requires c =
     let so_far : List Post = map post_of c.loop-member.raws.items in
     let at = subst (λ left. IsWalked c.args.text.now so_far left) c.in-Some.ensures.steps c.loop-member.invariant in
-    let machine = next_machine c.args.text.now c.in-Some.member so_far c.requires.0 _ at c.requires.1 in
-    some_unless c.raw_of.result _ c.raw_of.ensures.none (λ none. none machine.0 machine.1 machine.2)
+    let (post, keyed, is) = next_machine c.args.text.now c.in-Some.member so_far c.requires.0 _ at c.requires.1 in
+    some_unless c.raw_of.result _ c.raw_of.ensures.none (λ none. none post keyed is)
 
 -- one machine more
 pub loop-member-preserved : goal.loop-member-preserved

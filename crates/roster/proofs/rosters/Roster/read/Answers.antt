@@ -9,28 +9,28 @@ use Rattle.roster.proofs.rosters.Roster.read.Goals as goal
 -- it isn't the text of machines
 pub returns-in_default : goal.returns-in_default
 returns-in_default c = λ wanted.
-    let is = c.in-Ok.ensures.ok in
-    ((c.in-Ok.text, is.0, is.1), no_machines c.args.bytes.now c.in-Ok.text is.0 is.1 c.in_default.ensures.none)
+    let (fits, spelt) = c.in-Ok.ensures.ok in
+    ((c.in-Ok.text, fits, spelt), no_machines c.args.bytes.now c.in-Ok.text fits spelt c.in_default.ensures.none)
 
 -- they are no more than were counted
 pub fault_of-requires : goal.fault_of-requires
 fault_of-requires c =
-    let counted = c.in-Some.ensures.found in
-    let same = same_count c.in-Ok.text counted.0 (map post_of c.in_ok-raws.raws.items) counted.1 c.in_ok-raws.ensures in
+    let (machines, tree, count) = c.in-Some.ensures.found in
+    let same = same_count c.in-Ok.text machines (map post_of c.in_ok-raws.raws.items) tree c.in_ok-raws.ensures in
     omega (
       arith,
       ap length c.as_slice.ensures.value,
       length-map c.in_ok-raws.raws.items post_of,
       same,
-      counted.2,
+      count,
       c.if-count-gt-MAX_MACHINES.false,
     )
 
 -- they make no roster
 pub returns-in-Some-fault_of : goal.returns-in-Some-fault_of
 returns-in-Some-fault_of c = λ wanted.
-    let is = c.in-Ok.ensures.ok in
-    let form = form_of c.args.bytes.now c.in-Ok.text (map post_of c.in_ok-raws.raws.items) is.0 is.1
+    let (fits, spelt) = c.in-Ok.ensures.ok in
+    let form = form_of c.args.bytes.now c.in-Ok.text (map post_of c.in_ok-raws.raws.items) fits spelt
     c.in_ok-raws.ensures in
     fault_of_text c.args.bytes.now _ c.in-Some-fault_of.fault form
     (rw c.as_slice.ensures.value at c.in-Some-fault_of.ensures)
