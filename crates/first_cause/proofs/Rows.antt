@@ -26,10 +26,9 @@ decided_more {Cause} row i test within is untrue before = λ answer after.
 -- a test that holds behind such ones tells the first cause
 pub decided_here : {Cause : Type 0} (row : List (Bool × Cause)) (i : ℕ) (test : Bool × Cause) → i < length row →
     test ≡ get_or row i test → test.0 ≡ true → IsDecidedFrom row i → IsFirstOf (tests_of row) (Err test.1)
-decided_here {Cause} row i test within is holds before =
-    let answer : Result (Unit {0}) Cause = Err test.1 in
-    let P : List (Bool × Cause) → Type 0 = λ rest. IsFirstOf (tests_of rest) answer in
-    before answer (subst P (rest_from row i test within is) (inl (holds, refl)))
+decided_here {Cause} row i (passes, cause) within is holds before =
+    let P : List (Bool × Cause) → Type 0 = λ rest. IsFirstOf (tests_of rest) (Err cause) in
+    before (Err cause) (subst P (rest_from row i (passes, cause) within is) (inl (holds, refl)))
 
 -- where no test of the row holds there is no cause
 pub decided_whole : {Cause : Type 0} (row : List (Bool × Cause)) (i : ℕ) → length row ≤ i → IsDecidedFrom row i →
@@ -52,9 +51,10 @@ pub first_by_tests : {Cause : Type 0} (tests : List (Bool × Cause)) (row : List
 first_by_tests [] [] answer same first = first
 first_by_tests [] (cause ∷ row) answer same first = absurd same
 first_by_tests (test ∷ tests) [] answer same first = absurd same
-first_by_tests (test ∷ tests) (cause ∷ row) answer same (inl first) = inl (same.0.0 first.0, first.1 ∙ ap Err same.1)
-first_by_tests (test ∷ tests) (cause ∷ row) answer same (inr later) =
-    inr (λ applies. later.0 (same.0.1 applies), first_by_tests tests row answer same.2 later.1)
+first_by_tests (test ∷ tests) (cause ∷ row) answer (tells, same, _) (inl (holds, is)) =
+    inl (tells.0 holds, is ∙ ap Err same)
+first_by_tests (test ∷ tests) (cause ∷ row) answer (tells, same, rest) (inr (fails, later)) =
+    inr (λ applies. fails (tells.1 applies), first_by_tests tests row answer rest later)
 
 -- two facts that hold alike with a third
 pub iff_trans : {A B C : Type 0} → A ↔ B → B ↔ C → A ↔ C
@@ -69,7 +69,7 @@ is_not false same = (λ always. λ holds. let untrue : false ≡ true = same.1 h
 pub one_first : {Cause : Type 0} (row : List (Type 0 × Cause)) (answer other : Result (Unit {0}) Cause) →
     IsFirstOf row answer → IsFirstOf row other → answer ≡ other
 one_first [] answer other first second = cc
-one_first (cause ∷ row) answer other (inl here) (inl there) = cc (here.1, there.1)
-one_first (cause ∷ row) answer other (inl here) (inr later) = absurd (later.0 here.0)
-one_first (cause ∷ row) answer other (inr later) (inl there) = absurd (later.0 there.0)
-one_first (cause ∷ row) answer other (inr later) (inr after) = one_first row answer other later.1 after.1
+one_first (cause ∷ row) answer other (inl (_, is)) (inl (_, also)) = cc (is, also)
+one_first (cause ∷ row) answer other (inl (applies, _)) (inr (never, _)) = absurd (never applies)
+one_first (cause ∷ row) answer other (inr (never, _)) (inl (applies, _)) = absurd (never applies)
+one_first (cause ∷ row) answer other (inr (_, later)) (inr (_, after)) = one_first row answer other later after
