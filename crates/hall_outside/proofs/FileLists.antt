@@ -101,18 +101,18 @@ set_at : (files : List (List ℕ × List ℕ)) (name bytes : List ℕ) (i : ℕ)
     → IsPlaceOf files name i → bytes_eq pair.0 name ≡ true → pair.1 ≡ bytes
     → content_of (set files i pair) name ≡ Some bytes
 set_at [] name bytes i pair h n e = absurd h
-set_at (file ∷ files) name bytes zero pair h n e = ap (λ b. cond b (Some pair.1) (content_of files name)) n ∙ ap Some e
-set_at (file ∷ files) name bytes (suc i) pair h n e = ap
-    (λ b. cond b (Some file.1) (content_of (set files i pair) name)) h.0 ∙ set_at files name bytes i pair h.1 n e
+set_at (file ∷ files) name bytes zero (_, new) h n e = ap (λ b. cond b (Some new) (content_of files name)) n ∙ ap Some e
+set_at (file ∷ files) name bytes (suc i) pair h n e =
+    ap (λ b. cond b (Some file.1) (content_of (set files i pair) name)) h.0 ∙ set_at files name bytes i pair h.1 n e
 
 -- the other files stay as they are
 others_at : (files : List (List ℕ × List ℕ)) (name other : List ℕ) (i : ℕ) (pair : List ℕ × List ℕ)
     → IsPlaceOf files name i → bytes_eq pair.0 name ≡ true → other ≢ name
     → content_of (set files i pair) other ≡ content_of files other
 others_at [] name other i pair h n ne = absurd h
-others_at (file ∷ files) name other zero pair h n ne =
-    ap (λ b. cond b (Some pair.1) (content_of files other)) (other_name pair.0 other name n ne)
-    ∙ sym (ap (λ b. cond b (Some file.1) (content_of files other)) (other_name file.0 other name h ne))
+others_at ((old_name, old) ∷ files) name other zero (new_name, new) h n ne =
+    ap (λ b. cond b (Some new) (content_of files other)) (other_name new_name other name n ne)
+    ∙ sym (ap (λ b. cond b (Some old) (content_of files other)) (other_name old_name other name h ne))
 others_at (file ∷ files) name other (suc i) pair h n ne = ap (cond (bytes_eq file.0 other) (Some file.1))
     (others_at files name other i pair h.1 n ne)
 
@@ -128,9 +128,9 @@ sets_at files name bytes i pair h n e =
 added_at : (files : List (List ℕ × List ℕ)) (name bytes : List ℕ) → content_of files name ≡ None
     → content_of (files ++ (name, bytes) ∷ []) name ≡ Some bytes
 added_at [] name bytes h = ap (λ b. cond b (Some bytes) None) (eq_self name)
-added_at (file ∷ files) name bytes h = elim (bytes_eq file.0 name) as
-    (λ b. cond b (Some file.1) (content_of files name) ≡ None
-    → cond b (Some file.1) (content_of (files ++ (name, bytes) ∷ []) name) ≡ Some bytes) [
+added_at ((named, content) ∷ files) name bytes h = elim (bytes_eq named name) as
+    (λ b. cond b (Some content) (content_of files name) ≡ None
+    → cond b (Some content) (content_of (files ++ (name, bytes) ∷ []) name) ≡ Some bytes) [
       | true ↦ λ e. cc
       | false ↦ λ e. added_at files name bytes e
     ] h
