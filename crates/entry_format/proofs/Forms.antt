@@ -106,8 +106,8 @@ only_not_rising text Memory h form = absurd h
 pub one_fault : (text : List ℕ) (fault other : EntryFault) → IsFormFault text fault → IsFormFault text other →
     fault ≡ other
 one_fault text fault NotCanonical h k = only_not_canonical text fault h k
-one_fault text fault WrongShape h k = only_wrong_shape text fault h k.0 k.1
-one_fault text fault NamesNotRising h k = only_not_rising text fault h k.0
+one_fault text fault WrongShape h (is, not) = only_wrong_shape text fault h is not
+one_fault text fault NamesNotRising h (form, falls) = only_not_rising text fault h form
 one_fault text fault OtherElection h k = absurd k
 one_fault text fault UnknownMaker h k = absurd k
 one_fault text fault WrongIndex h k = absurd k
@@ -121,11 +121,12 @@ plain_with entry digest = record { entry = entry; digest = digest }
 -- at most one reading is right
 pub one_reading : (text : List ℕ) (reading other : Result Plain EntryFault) → Reads text reading → Reads text other →
     reading ≡ other
-one_reading text (Ok plain) (Ok other) h k =
-    let one : (plain.entry ≡ other.entry) × (h.0.0 ≡ k.0.0) =
-    one_entry text plain.entry other.entry h.0.0 k.0.0 h.0.1 k.0.1 in
-    let digest : plain.digest ≡ other.digest = h.2 ∙ sym k.2 in
-    ap (λ e. Ok (plain_with e plain.digest)) one.0 ∙ ap (λ d. Ok (plain_with other.entry d)) digest
-one_reading text (Ok plain) (Err fault) h k = absurd (no_fault text fault k (plain.entry, h.0.0, h.0.1, h.1))
-one_reading text (Err fault) (Ok plain) h k = absurd (no_fault text fault h (plain.entry, k.0.0, k.0.1, k.1))
+one_reading text (Ok plain) (Ok other) ((signature, form), _, hashed) ((another, also), _, hashed_also) =
+    let (entries, _) = one_entry text plain.entry other.entry signature another form also in
+    let digest : plain.digest ≡ other.digest = hashed ∙ sym hashed_also in
+    ap (λ e. Ok (plain_with e plain.digest)) entries ∙ ap (λ d. Ok (plain_with other.entry d)) digest
+one_reading text (Ok plain) (Err fault) ((signature, form), rises, _) k =
+    absurd (no_fault text fault k (plain.entry, signature, form, rises))
+one_reading text (Err fault) (Ok plain) h ((signature, form), rises, _) =
+    absurd (no_fault text fault h (plain.entry, signature, form, rises))
 one_reading text (Err fault) (Err other) h k = ap Err (one_fault text fault other h k)

@@ -30,9 +30,9 @@ members_in (Branch members) = members
 -- what is within a depth is within a greater one
 deeper : (d e : ℕ) (f : Forest) → d ≤ e → AreWithin d f → AreWithin e f
 deeper d e no_trees le h = tt
-deeper d e (atom_then octets rest) le h = (h.0, deeper d e rest le h.1)
-deeper d e (list_then inner rest) le h =
-    (omega arith, h.1, deeper (d - 1) (e - 1) inner (omega arith) h.2, deeper d e rest le h.3)
+deeper d e (atom_then octets rest) le (fits, behind) = (fits, deeper d e rest le behind)
+deeper d e (list_then inner rest) le (deep, few, within, behind) =
+    (omega (arith, deep), few, deeper (d - 1) (e - 1) inner (omega arith) within, deeper d e rest le behind)
 
 -- the body of a signed entry within the limits
 pub body_fits : (entry : Entry) (signature : List ℕ) → Fits (signed_tree entry signature) → Fits (body_tree entry)
@@ -59,18 +59,18 @@ override_within false session how.Cast h =
 -- the tree of any deed is within the limits
 deed_within : (version : ℕ) (deed : Deed) → IsDeed deed → IsWithin 6 (deed_tree version deed)
 deed_within version Opened h = (omega arith, omega arith, (omega arith, tt))
-deed_within version (Authorise booth session) h =
-    (omega arith, omega arith, (omega arith, (short booth h.0, (short session h.1, tt))))
+deed_within version (Authorise booth session) (booth_small, small) =
+    (omega arith, omega arith, (omega arith, (short booth booth_small, (short session small, tt))))
 deed_within version (Override session how) h = override_within (version == 1) session how h
 deed_within version Closed h = (omega arith, omega arith, (omega arith, tt))
 deed_within version (Activate session) h = (omega arith, omega arith, (omega arith, (short session h, tt)))
-deed_within version (Commit session ballot) h =
-    (omega arith, omega arith, (omega arith, (short session h.0, (octets_short ballot h.1, tt))))
-deed_within version (Cast session ballot) h =
-    (omega arith, omega arith, (omega arith, (short session h.0, (octets_short ballot h.1, tt))))
+deed_within version (Commit session ballot) (small, is_digest) =
+    (omega arith, omega arith, (omega arith, (short session small, (octets_short ballot is_digest, tt))))
+deed_within version (Cast session ballot) (small, is_digest) =
+    (omega arith, omega arith, (omega arith, (short session small, (octets_short ballot is_digest, tt))))
 deed_within version (Cancel session) h = (omega arith, omega arith, (omega arith, (short session h, tt)))
-deed_within version (Challenge session ballot) h =
-    (omega arith, omega arith, (omega arith, (short session h.0, (octets_short ballot h.1, tt))))
+deed_within version (Challenge session ballot) (small, is_digest) =
+    (omega arith, omega arith, (omega arith, (short session small, (octets_short ballot is_digest, tt))))
 
 -- the list of an entry's names is within the limits
 names_within : (names : List (List ℕ)) → All IsDigest names → AreWithin 5 (forest_of (map Atom names))

@@ -106,17 +106,17 @@ is_later version session how.Cast has is = ap (λ v. v == 1) has
 deed_back : (version : ℕ) (deed : Deed) → IsDeed deed → IsDeedIn version deed
     → deed_from (deed_tree version deed) ≡ deed
 deed_back version Opened h has = refl
-deed_back version (Authorise booth session) h has =
-    ap (λ b. Authorise b (number_from 0 (decimal session))) (number_back booth h.0)
-    ∙ ap (Authorise booth) (number_back session h.1)
+deed_back version (Authorise booth session) (booth_small, small) has =
+    ap (λ b. Authorise b (number_from 0 (decimal session))) (number_back booth booth_small)
+    ∙ ap (Authorise booth) (number_back session small)
 deed_back version (Override session how) h has =
     override_back (version == 1) session how h (is_later version session how has)
 deed_back version Closed h has = refl
 deed_back version (Activate session) h has = ap Activate (number_back session h)
-deed_back version (Commit session ballot) h has = ap (λ s. Commit s ballot) (number_back session h.0)
-deed_back version (Cast session ballot) h has = ap (λ s. Cast s ballot) (number_back session h.0)
+deed_back version (Commit session ballot) (small, _) has = ap (λ s. Commit s ballot) (number_back session small)
+deed_back version (Cast session ballot) (small, _) has = ap (λ s. Cast s ballot) (number_back session small)
 deed_back version (Cancel session) h has = ap Cancel (number_back session h)
-deed_back version (Challenge session ballot) h has = ap (λ s. Challenge s ballot) (number_back session h.0)
+deed_back version (Challenge session ballot) (small, _) has = ap (λ s. Challenge s ballot) (number_back session small)
 
 -- a deed has one tree
 one_deed : (v w : ℕ) (deed other : Deed) → IsDeed deed → IsDeedIn v deed → IsDeed other → IsDeedIn w other →

@@ -84,13 +84,13 @@ numbers_authorise version word second first number (Override session part) h sma
     absurd (override_no_number (version == 1) part word second first session number small is e)
 numbers_authorise version word second first number Closed h small is e = absurd cc
 numbers_authorise version word second first number (Activate session) h small is e = absurd cc
-numbers_authorise version word second first number (Commit session ballot) h small is e =
-    let same : second ≡ ballot = cc in absurd (no_number number ballot small h.0.1 (sym is ∙ same))
-numbers_authorise version word second first number (Cast session ballot) h small is e =
-    let same : second ≡ ballot = cc in absurd (no_number number ballot small h.0.1 (sym is ∙ same))
+numbers_authorise version word second first number (Commit session ballot) ((_, is_digest), _) small is e =
+    let same : second ≡ ballot = cc in absurd (no_number number ballot small is_digest (sym is ∙ same))
+numbers_authorise version word second first number (Cast session ballot) ((_, is_digest), _) small is e =
+    let same : second ≡ ballot = cc in absurd (no_number number ballot small is_digest (sym is ∙ same))
 numbers_authorise version word second first number (Cancel session) h small is e = absurd cc
-numbers_authorise version word second first number (Challenge session ballot) h small is e =
-    let same : second ≡ ballot = cc in absurd (no_number number ballot small h.0.1 (sym is ∙ same))
+numbers_authorise version word second first number (Challenge session ballot) ((_, is_digest), _) small is e =
+    let same : second ≡ ballot = cc in absurd (no_number number ballot small is_digest (sym is ∙ same))
 
 -- some digests of a list were taken; the member behind them, if it is a list of digests
 pub next_is_digest : (digests all : List (List ℕ)) (tree member : Sexp) (members left : Forest) →
@@ -186,12 +186,12 @@ pub no_last_deed : (tree names : Sexp) (row behind left : Forest) (head : Head) 
     ((deed : Deed) → IsVersionDeed head.version deed → left ≢ in_front (deed_tree head.version deed) no_trees) →
     IsEntry entry → tree ≡ body_tree entry → ⊥
 no_last_deed tree names row behind left head entry list is_head found after none lawful is =
-    let split : (head.version ≡ entry.version) × (behind ≡ behind_head entry) =
+    let (version_is, behind_is) =
     behind_same head entry behind is_head lawful (sym found ∙ body_row entry tree row list is) in
-    let last : in_front names left ≡ behind_head entry = sym after ∙ split.1 in
+    let last : in_front names left ≡ behind_head entry = sym after ∙ behind_is in
     let P : ℕ → Type 0 = λ v. left ≢ in_front (deed_tree v entry.deed) no_trees in
     let lacks : left ≢ in_front (deed_tree head.version entry.deed) no_trees =
-    none entry.deed (lawful.deed, subst (λ v. IsDeedIn v entry.deed) (sym split.0) lawful.of_version) in
-    let lacks_there : left ≢ in_front (deed_tree entry.version entry.deed) no_trees = subst P split.0 lacks in
+    none entry.deed (lawful.deed, subst (λ v. IsDeedIn v entry.deed) (sym version_is) lawful.of_version) in
+    let lacks_there : left ≢ in_front (deed_tree entry.version entry.deed) no_trees = subst P version_is lacks in
     lacks_there (rest_of_two names (list_of (map Atom entry.names)) left
     (in_front (deed_tree entry.version entry.deed) no_trees) last)

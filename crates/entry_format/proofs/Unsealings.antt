@@ -30,9 +30,9 @@ module _ (machines : List Post) (election : List ℕ) (entry : Entry) (signature
   only_other_election WrongShape h other = absurd h
   only_other_election NamesNotRising h other = absurd h
   only_other_election OtherElection h other = refl
-  only_other_election UnknownMaker h other = absurd (other h.0)
-  only_other_election WrongIndex h other = absurd (other h.0)
-  only_other_election BadSignature h other = absurd (other h.0)
+  only_other_election UnknownMaker (same, _) other = absurd (other same)
+  only_other_election WrongIndex (same, _, _) other = absurd (other same)
+  only_other_election BadSignature (same, _, _, _) other = absurd (other same)
   only_other_election Memory h other = absurd h
 
   -- one of this election whose maker isn't in the roster has that fault alone
@@ -80,9 +80,9 @@ module _ (machines : List Post) (election : List ℕ) (entry : Entry) (signature
   one_entry_fault fault WrongShape h k = absurd k
   one_entry_fault fault NamesNotRising h k = absurd k
   one_entry_fault fault OtherElection h k = only_other_election fault h k
-  one_entry_fault fault UnknownMaker h k = only_unknown_maker fault h k.0 k.1
-  one_entry_fault fault WrongIndex h k = only_wrong_index fault h k.0 k.1 k.2
-  one_entry_fault fault BadSignature h k = only_bad_signature fault h k.0 k.1 k.2
+  one_entry_fault fault UnknownMaker h (same, unknown) = only_unknown_maker fault h same unknown
+  one_entry_fault fault WrongIndex h (same, known, wrong) = only_wrong_index fault h same known wrong
+  one_entry_fault fault BadSignature h (same, known, right, _) = only_bad_signature fault h same known right
   one_entry_fault fault Memory h k = absurd k
 
 -- a valid entry has none of these faults
@@ -92,10 +92,10 @@ not_valid machines election text sealed NotCanonical h bad = bad
 not_valid machines election text sealed WrongShape h bad = bad
 not_valid machines election text sealed NamesNotRising h bad = bad
 not_valid machines election text sealed OtherElection h bad = bad h.of_election
-not_valid machines election text sealed UnknownMaker h bad = below bad.1 h.maker
-not_valid machines election text sealed WrongIndex h bad = bad.2 h.kept.index
-not_valid machines election text sealed BadSignature h bad =
-    bad.3 (signs_same sealed.key (key_at machines sealed.entry.maker) (text_of (body_tree sealed.entry))
+not_valid machines election text sealed UnknownMaker h (_, unknown) = below unknown h.maker
+not_valid machines election text sealed WrongIndex h (_, _, wrong) = wrong h.kept.index
+not_valid machines election text sealed BadSignature h (_, _, _, unsigned) =
+    unsigned (signs_same sealed.key (key_at machines sealed.entry.maker) (text_of (body_tree sealed.entry))
     (text_of (body_tree sealed.entry)) sealed.signature h.key refl h.kept.signs)
 not_valid machines election text sealed Memory h bad = bad
 
@@ -164,12 +164,11 @@ same_sealed a b e s t d k =
 one_sealed : (machines : List Post) (election text : List ℕ) (sealed other : SealedEntry) →
     IsValid machines election text sealed → IsValid machines election text other → sealed ≡ other
 one_sealed machines election text sealed other h k =
-    let same : (sealed.entry ≡ other.entry) × (sealed.signature ≡ other.signature) =
-    one_entry text sealed.entry other.entry sealed.signature other.signature
+    let (entries, signatures) = one_entry text sealed.entry other.entry sealed.signature other.signature
     (form_of_valid machines election text sealed h) (form_of_valid machines election text other k) in
     let texts : sealed.text ≡ other.text = h.of_text ∙ sym k.of_text in
-    same_sealed sealed other same.0 same.1 texts (h.kept.hashed ∙ ap sha256 texts ∙ sym k.kept.hashed)
-    (h.key ∙ ap (λ (e : Entry). key_at machines e.maker) same.0 ∙ sym k.key)
+    same_sealed sealed other entries signatures texts (h.kept.hashed ∙ ap sha256 texts ∙ sym k.kept.hashed)
+    (h.key ∙ ap (λ (e : Entry). key_at machines e.maker) entries ∙ sym k.key)
 
 -- at most one answer is right
 pub one_unsealing : (machines : List Post) (election text : List ℕ) (answer other : Result SealedEntry EntryFault) →

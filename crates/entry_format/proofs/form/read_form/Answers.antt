@@ -3,7 +3,6 @@ use Rattle.canonical_sexp.specs.Forms.{Finds}
 use Rattle.canonical_sexp.specs.Text.{text_of}
 use Rattle.entry_format.specs.declared.entry.Entry.{Entry}
 use Rattle.entry_order.specs.Ascending.{IsAscending}
-use Rattle.entry_format.specs.Reading.{HasForm}
 use Rattle.entry_format.specs.EntryText.{IsEntry, body_tree, IsSignedText}
 use Rattle.entry_format.proofs.Forms.{tree_of_form, body_of_form, form_of, not_rising}
 use Rattle.entry_format.proofs.form.read_form.Goals as goal
@@ -11,9 +10,9 @@ use Rattle.entry_format.proofs.form.read_form.Goals as goal
 pub returns-in_default-clause-err : goal.returns-in_default-clause-err
 returns-in_default-clause-err c = λ wanted. (
   (c.args.tree.now, c.requires, refl),
-  λ (form : HasForm (text_of c.args.tree.now)).
-      c.in_default.ensures.none (body_tree form.0) form.1
-      (tree_of_form (text_of c.args.tree.now) c.args.tree.now form.0 form.1 c.requires refl form.2),
+  λ (entry, signature, form).
+      c.in_default.ensures.none (body_tree entry) signature
+      (tree_of_form (text_of c.args.tree.now) c.args.tree.now entry signature c.requires refl form),
 )
 
 pub returns-in_default-2-clause-err : goal.returns-in_default-2-clause-err
@@ -22,11 +21,11 @@ returns-in_default-2-clause-err c = λ wanted.
     × (c.in-Some.parts.body ≡ body_tree entry)) found in
     let none : P None = subst P c.in_default-2.is c.in_ok-entry.ensures in (
       (c.args.tree.now, c.requires, refl),
-      λ (form : HasForm (text_of c.args.tree.now)).
-          none form.0 (
-            form.2.lawful,
-            body_of_form (text_of c.args.tree.now) c.args.tree.now c.in-Some.parts.body form.0 form.1
-                c.in-Some.parts.signature.now c.requires refl c.in-Some.ensures.found form.2,
+      λ (entry, signature, form).
+          none entry (
+            form.lawful,
+            body_of_form (text_of c.args.tree.now) c.args.tree.now c.in-Some.parts.body entry signature
+                c.in-Some.parts.signature.now c.requires refl c.in-Some.ensures.found form,
           ),
     )
 

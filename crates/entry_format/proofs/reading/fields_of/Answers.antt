@@ -8,6 +8,7 @@ returns-in_default-clause-none c = λ entry lawful is.
 
 pub returns-in_default-last_deed-clause-none : goal.returns-in_default-last_deed-clause-none
 returns-in_default-last_deed-clause-none c = λ entry lawful is.
+    let (is_head, stands) = c.in-Some.ensures.found in
     no_last_deed c.args.tree.now c.in_ok-names.names c.in_ok-members.members c.take_head.new.members
-    c.take_names.new.members c.in-Some.head entry c.in_ok-members.ensures.found c.in-Some.ensures.found.0
-    c.in-Some.ensures.found.1 c.in_ok-names.ensures.found.1 c.in_default-last_deed.ensures.none lawful is
+    c.take_names.new.members c.in-Some.head entry c.in_ok-members.ensures.found is_head stands
+    c.in_ok-names.ensures.found.1 c.in_default-last_deed.ensures.none lawful is

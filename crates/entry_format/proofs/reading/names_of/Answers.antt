@@ -9,10 +9,10 @@ use Rattle.entry_format.proofs.reading.names_of.Goals as goal
 -- the member is a digest
 pub unwrap-requires : goal.unwrap-requires
 unwrap-requires c =
-    let are = c.requires in
+    let (digests, (are, is)) = c.requires in
     digest_found c.digest_of.result c.in-Some.member c.digest_of.ensures
-    (next_is_digest c.loop-member.digests.items are.0 c.args.tree.now c.in-Some.member c.loop-member.members
-    c.take_next.new.self c.loop-member.invariant.members c.in-Some.ensures.found are.1.0 are.1.1)
+    (next_is_digest c.loop-member.digests.items digests c.args.tree.now c.in-Some.member c.loop-member.members
+    c.take_next.new.self c.loop-member.invariant.members c.in-Some.ensures.found are is)
 
 pub loop-member-preserved : goal.loop-member-preserved
 loop-member-preserved c =
