@@ -181,21 +181,21 @@ ends session _ = false
 -- it is so exactly for a Cast, a Cancel and a Challenge of the session
 pub ends_decides : (session : ℕ) (deed : Deed) → Decides (ends session deed) (Ends session deed)
 ends_decides session (Cast s ballot) =
-    let same = Decides-eqb s session in (
-      λ yes. inl (ballot, ap (λ n. Cast n ballot) (same.0 yes)),
-      λ is. same.1
+    let (same, passes) = Decides-eqb s session in (
+      λ yes. inl (ballot, ap (λ n. Cast n ballot) (same yes)),
+      λ is. passes
           (elim is [ inl (_, cast) ↦ cc cast | inr (inl cancel) ↦ cc | inr (inr (_, challenge)) ↦ cc challenge ]),
     )
 ends_decides session (Cancel s) =
-    let same = Decides-eqb s session in (
-      λ yes. inr (inl (ap Cancel (same.0 yes))),
-      λ is. same.1
+    let (same, passes) = Decides-eqb s session in (
+      λ yes. inr (inl (ap Cancel (same yes))),
+      λ is. passes
           (elim is [ inl (_, cast) ↦ cc cast | inr (inl cancel) ↦ cc | inr (inr (_, challenge)) ↦ cc challenge ]),
     )
 ends_decides session (Challenge s ballot) =
-    let same = Decides-eqb s session in (
-      λ yes. inr (inr (ballot, ap (λ n. Challenge n ballot) (same.0 yes))),
-      λ is. same.1
+    let (same, passes) = Decides-eqb s session in (
+      λ yes. inr (inr (ballot, ap (λ n. Challenge n ballot) (same yes))),
+      λ is. passes
           (elim is [ inl (_, cast) ↦ cc cast | inr (inl cancel) ↦ cc | inr (inr (_, challenge)) ↦ cc challenge ]),
     )
 ends_decides session _ = (

@@ -34,19 +34,19 @@ in_cons y xs x at = elim (Contains-append_cases (y ∷ []) xs x at) [
 is_kept_by : {X : Type 0} (p : X → Bool) (y : X) (xs : List X) (x : X) (passes : Bool) → p y ≡ passes →
     Contains (filter p xs) x ↔ (Contains xs x × (p x ≡ true)) →
     Contains (cond passes (y ∷ filter p xs) (filter p xs)) x ↔ (Contains (y ∷ xs) x × (p x ≡ true))
-is_kept_by p y xs x true is rest = (
+is_kept_by p y xs x true is (kept, keeps) = (
   λ at. elim (in_cons y (filter p xs) x at) [
     | inl same ↦ (subst (Contains (y ∷ xs)) same (first_in y xs), cc)
-    | inr later ↦ (Contains-append_right (y ∷ []) xs x (rest.0 later).0, (rest.0 later).1)
+    | inr later ↦ let (among, passes) = kept later in (Contains-append_right (y ∷ []) xs x among, passes)
   ],
   λ (at, passes). elim (in_cons y xs x at) [
     | inl same ↦ subst (Contains (y ∷ filter p xs)) same (first_in y (filter p xs))
-    | inr later ↦ Contains-append_right (y ∷ []) (filter p xs) x (rest.1 (later, passes))
+    | inr later ↦ Contains-append_right (y ∷ []) (filter p xs) x (keeps (later, passes))
   ],
 )
-is_kept_by p y xs x false is rest = (
-  λ at. (Contains-append_right (y ∷ []) xs x (rest.0 at).0, (rest.0 at).1),
-  λ (at, passes). elim (in_cons y xs x at) [ inl same ↦ absurd (cc passes) | inr later ↦ rest.1 (later, passes) ],
+is_kept_by p y xs x false is (kept, keeps) = (
+  λ at. let (among, passes) = kept at in (Contains-append_right (y ∷ []) xs x among, passes),
+  λ (at, passes). elim (in_cons y xs x at) [ inl same ↦ absurd (cc passes) | inr later ↦ keeps (later, passes) ],
 )
 
 -- a member of the filtered list is one of the list that passes

@@ -59,20 +59,20 @@ overrides_alike deed session in_version =
 abbrev pub IsAlike : {Cause : Type 0} → List (Type 0 × Cause) → List (Type 0 × Cause) → Type 0
 IsAlike [] [] = Unit {0}
 IsAlike [] (other ∷ others) = ⊥
-IsAlike (cause ∷ row) [] = (cause.0 → ⊥) × IsAlike row []
-IsAlike (cause ∷ row) (other ∷ others) = (cause.0 ↔ other.0) × (cause.1 ≡ other.1) × IsAlike row others
+IsAlike ((applies, cause) ∷ row) [] = (applies → ⊥) × IsAlike row []
+IsAlike ((applies, cause) ∷ row) ((holds, other) ∷ others) = (applies ↔ holds) × (cause ≡ other) × IsAlike row others
 
 -- the first cause of the one row is the first of the other
 first_to : {Cause : Type 0} (row others : List (Type 0 × Cause)) (answer : Result (Unit {0}) Cause) →
     IsAlike row others → IsFirstOf row answer → IsFirstOf others answer
 first_to [] [] answer alike first = first
 first_to [] (other ∷ others) answer alike first = absurd alike
-first_to (cause ∷ row) [] answer (never, rest) (inl here) = absurd (never here.0)
-first_to (cause ∷ row) [] answer (never, rest) (inr later) = first_to row [] answer rest later.1
-first_to (cause ∷ row) (other ∷ others) answer (both, same, rest) (inl here) =
-    inl (both.0 here.0, here.1 ∙ ap Err same)
-first_to (cause ∷ row) (other ∷ others) answer (both, same, rest) (inr later) =
-    inr (λ applies. later.0 (both.1 applies), first_to row others answer rest later.1)
+first_to (cause ∷ row) [] answer (never, rest) (inl (applies, told)) = absurd (never applies)
+first_to (cause ∷ row) [] answer (never, rest) (inr (not, later)) = first_to row [] answer rest later
+first_to (cause ∷ row) (other ∷ others) answer (both, same, rest) (inl (applies, told)) =
+    inl (both.0 applies, told ∙ ap Err same)
+first_to (cause ∷ row) (other ∷ others) answer (both, same, rest) (inr (not, later)) =
+    inr (λ applies. not (both.1 applies), first_to row others answer rest later)
 
 -- and the other way round
 first_from : {Cause : Type 0} (row others : List (Type 0 × Cause)) (answer : Result (Unit {0}) Cause) →
@@ -80,10 +80,10 @@ first_from : {Cause : Type 0} (row others : List (Type 0 × Cause)) (answer : Re
 first_from [] [] answer alike first = first
 first_from [] (other ∷ others) answer alike first = absurd alike
 first_from (cause ∷ row) [] answer (never, rest) first = inr (never, first_from row [] answer rest first)
-first_from (cause ∷ row) (other ∷ others) answer (both, same, rest) (inl here) =
-    inl (both.1 here.0, here.1 ∙ ap Err (sym same))
-first_from (cause ∷ row) (other ∷ others) answer (both, same, rest) (inr later) =
-    inr (λ applies. later.0 (both.0 applies), first_from row others answer rest later.1)
+first_from (cause ∷ row) (other ∷ others) answer (both, same, rest) (inl (applies, told)) =
+    inl (both.1 applies, told ∙ ap Err (sym same))
+first_from (cause ∷ row) (other ∷ others) answer (both, same, rest) (inr (not, later)) =
+    inr (λ applies. not (both.0 applies), first_from row others answer rest later)
 
 -- so both rows have the same first cause
 pub first_alike : {Cause : Type 0} (row others : List (Type 0 × Cause)) (answer : Result (Unit {0}) Cause) →
