@@ -1,6 +1,6 @@
 -- The state after one entry more.
 use Rattle.std.proofs.Common.{◌≡◌, ℕ, true, not, ◌||◌, List, [], ◌∷◌, ◌++◌, inl, inr, nat_eq}
-use Rattle.std.proofs.Common.{refl, sym, subst, ap, ◌∙◌}
+use Rattle.std.proofs.Common.{refl, sym, subst, ap, ◌∙◌, ⊎_elim}
 use Rattle.std.specs.Prelude.{Contains, IsTrue, ◌↔◌, ◌==◌, filter}
 use Rattle.std.proofs.lemmas.Bool.{eqb-true, eq-eqb}
 use Rattle.std.proofs.lemmas.Bool.Decides.{eqb_tells}
@@ -48,16 +48,14 @@ OwnAuthorise owner booth session = IsOwnSuch owner (λ deed. deed ≡ Authorise 
 running_stays : (A : Type 0) (owner : ℕ) (entries : List Entry) (entry : Entry) (booth session : ℕ) →
     A ↔ IsRunning owner entries booth session → (OwnAuthorise owner booth session entry → ⊥) →
     (Ends session entry.deed → ⊥) → A ↔ IsRunning owner (entries ++ entry ∷ []) booth session
-running_stays A owner entries entry booth session before none lasts = (
-  λ a. (
-    any_kept (OwnAuthorise owner booth session) entries entry (before.0 a).0,
-    λ ended. elim (any_cases (IsSuchEntry (Ends session)) entries entry ended) [
-      | inl old ↦ (before.0 a).1 old
-      | inr new ↦ lasts new
-    ],
-  ),
+running_stays A owner entries entry booth session (ran, noted) none lasts = (
+  λ a.
+      let (authorised, lasted) = ran a in (
+        any_kept (OwnAuthorise owner booth session) entries entry authorised,
+        λ ended. ⊎_elim lasted lasts (any_cases (IsSuchEntry (Ends session)) entries entry ended),
+      ),
   λ (runs, not_ended). elim (any_cases (OwnAuthorise owner booth session) entries entry runs) [
-    | inl old ↦ before.1 (old, λ ended. not_ended (any_kept (IsSuchEntry (Ends session)) entries entry ended))
+    | inl old ↦ noted (old, λ ended. not_ended (any_kept (IsSuchEntry (Ends session)) entries entry ended))
     | inr new ↦ absurd (none new)
   ],
 )
@@ -223,17 +221,18 @@ running_ended : (notes : Notes) (owner : ℕ) (entries : List Entry) (entry : En
     Contains (filter (λ one. not (one.session == session)) notes.running) (run b s)
     ↔ IsRunning owner (entries ++ entry ∷ []) b s
 running_ended notes owner entries entry session b s stands ends none =
-    let kept = is_kept (λ one. not (one.session == session)) notes.running (run b s) in (
+    let (kept, keeps) = is_kept (λ one. not (one.session == session)) notes.running (run b s) in (
       λ at.
-          let (runs, not_ended) = (stands.running b s).0 (kept.0 at).0 in (
+          let (among, passes) = kept at in
+          let (runs, not_ended) = (stands.running b s).0 among in (
             any_kept (OwnAuthorise owner b s) entries entry runs,
-            lasts_after entries entry s not_ended (λ new. other_session s session (kept.0 at).1 (sym (ends.1 new))),
+            lasts_after entries entry s not_ended (λ new. other_session s session passes (sym (ends.1 new))),
           ),
       λ (runs, not_ended).
           let other : s ≡ session → ⊥ = λ same. not_ended (Any-push (IsSuchEntry (Ends s)) entries entry
           (ends.0 (sym same))) in
           elim (any_cases (OwnAuthorise owner b s) entries entry runs) [
-            | inl old ↦ kept.1 (
+            | inl old ↦ keeps (
               (stands.running b s).1 (old, lasts_before entries entry s not_ended),
               is_other_session s session other,
             )
@@ -328,17 +327,16 @@ noted_to_cancel notes spare owner entries entry session stands is own = record {
   opened = stays (IsOwnSuch owner (λ deed. deed ≡ Opened)) entries entry stands.opened (λ such. cc);
   closed = stays (IsOwnSuch owner (λ deed. deed ≡ Closed)) entries entry stands.closed (λ such. cc);
   authorised = λ session. stays (IsOwnSuch owner (Authorises session)) entries entry (stands.authorised session)
-      (λ such. cc (such.1.1));
+      (λ (_, (_, authorise)). cc authorise);
   running = λ booth session. running_stays (Contains notes.running (record { booth = booth; session = session })) owner
       entries entry booth session (stands.running booth session) (λ such. cc)
       (no_end entry.deed session (λ ballot e. cc) (λ e. cc) (λ ballot e. cc));
   ended = λ session. stays (IsSuchEntry (Ends session)) entries entry (stands.ended session)
       (no_end entry.deed session (λ ballot e. cc) (λ e. cc) (λ ballot e. cc));
   to_cancel = λ s. is_added (OwnOverride owner s word.Cancel) entries entry notes.to_cancel session s
-      (stands.to_cancel s)
-      (λ same. (own, cc), λ such. cc (such.1));
+      (stands.to_cancel s) (λ same. (own, cc), λ (_, override). cc override);
   to_cast = λ s. stays (OwnOverride owner s word.Cast) entries entry (stands.to_cast s) (λ such. cc);
-  committed = λ s. stays (IsSuchEntry (Commits s)) entries entry (stands.committed s) (λ such. cc (such.1));
+  committed = λ s. stays (IsSuchEntry (Commits s)) entries entry (stands.committed s) (λ (_, commit). cc commit);
 }
 
 -- the supervisor overrides a session by casting
@@ -350,7 +348,7 @@ noted_to_cast notes spare owner entries entry session stands is own = record {
   opened = stays (IsOwnSuch owner (λ deed. deed ≡ Opened)) entries entry stands.opened (λ such. cc);
   closed = stays (IsOwnSuch owner (λ deed. deed ≡ Closed)) entries entry stands.closed (λ such. cc);
   authorised = λ session. stays (IsOwnSuch owner (Authorises session)) entries entry (stands.authorised session)
-      (λ such. cc (such.1.1));
+      (λ (_, (_, authorise)). cc authorise);
   running = λ booth session. running_stays (Contains notes.running (record { booth = booth; session = session })) owner
       entries entry booth session (stands.running booth session) (λ such. cc)
       (no_end entry.deed session (λ ballot e. cc) (λ e. cc) (λ ballot e. cc));
@@ -358,8 +356,8 @@ noted_to_cast notes spare owner entries entry session stands is own = record {
       (no_end entry.deed session (λ ballot e. cc) (λ e. cc) (λ ballot e. cc));
   to_cancel = λ s. stays (OwnOverride owner s word.Cancel) entries entry (stands.to_cancel s) (λ such. cc);
   to_cast = λ s. is_added (OwnOverride owner s word.Cast) entries entry notes.to_cast session s (stands.to_cast s)
-      (λ same. (own, cc), λ such. cc (such.1));
-  committed = λ s. stays (IsSuchEntry (Commits s)) entries entry (stands.committed s) (λ such. cc (such.1));
+      (λ same. (own, cc), λ (_, override). cc override);
+  committed = λ s. stays (IsSuchEntry (Commits s)) entries entry (stands.committed s) (λ (_, commit). cc commit);
 }
 
 -- a booth commits to a ballot
@@ -399,11 +397,11 @@ other_activate owner entry session is = record {
 pub other_authorise : (owner : ℕ) (entry : Entry) (booth session : ℕ) → entry.deed ≡ Authorise booth session →
     (entry.maker ≡ owner → ⊥) → IsOther owner entry
 other_authorise owner entry booth session is other = record {
-  opened = λ such. other such.0;
-  closed = λ such. other such.0;
-  authorised = λ b s such. other such.0;
-  overridden = λ s how such. other such.0;
-  committed = λ s such. cc (such.1);
+  opened = λ (own, _). other own;
+  closed = λ (own, _). other own;
+  authorised = λ b s (own, _). other own;
+  overridden = λ s how (own, _). other own;
+  committed = λ s (_, commit). cc commit;
   ended = λ s. no_end entry.deed s (λ ballot e. cc) (λ e. cc) (λ ballot e. cc);
 }
 
@@ -411,10 +409,10 @@ other_authorise owner entry booth session is other = record {
 pub other_override : (owner : ℕ) (entry : Entry) (session : ℕ) (how : How) → entry.deed ≡ Override session how →
     (entry.maker ≡ owner → ⊥) → IsOther owner entry
 other_override owner entry session how is other = record {
-  opened = λ such. other such.0;
-  closed = λ such. other such.0;
-  authorised = λ b s such. other such.0;
-  overridden = λ s how such. other such.0;
-  committed = λ s such. cc (such.1);
+  opened = λ (own, _). other own;
+  closed = λ (own, _). other own;
+  authorised = λ b s (own, _). other own;
+  overridden = λ s how (own, _). other own;
+  committed = λ s (_, commit). cc commit;
   ended = λ s. no_end entry.deed s (λ ballot e. cc) (λ e. cc) (λ ballot e. cc);
 }
