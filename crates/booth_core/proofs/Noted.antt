@@ -227,11 +227,11 @@ noted_ended notes spare owner entries entry session stands ends own =
           (λ such. no_end (Override s word.Cast) session (λ ballot e. cc) (λ e. cc) (λ ballot e. cc)
           (only (Override s word.Cast) such));
       activated = λ s. stays (IsOwnSuch owner (λ deed. deed ≡ Activate s)) entries entry (stands.activated s)
-          (λ such. no_end (Activate s) session (λ ballot e. cc) (λ e. cc) (λ ballot e. cc) (only (Activate s) such.1));
+          (λ (_, is). no_end (Activate s) session (λ ballot e. cc) (λ e. cc) (λ ballot e. cc) (only (Activate s) is));
       committed = λ s x. stays (IsOwnSuch owner (λ deed. deed ≡ Commit s x)) entries entry (stands.committed s x)
-          (λ such. no_end (Commit s x) session (λ ballot e. cc) (λ e. cc) (λ ballot e. cc) (only (Commit s x) such.1));
+          (λ (_, is). no_end (Commit s x) session (λ ballot e. cc) (λ e. cc) (λ ballot e. cc) (only (Commit s x) is));
       ended = λ s. is_added (IsOwnSuch owner (Ends s)) entries entry notes.ended session s (stands.ended s)
-          (λ same. (own, (ends s).0 same), λ such. (ends s).1 such.1);
+          (λ same. (own, (ends s).0 same), λ (_, is). (ends s).1 is);
     }
 
 -- the deeds that count only where they are the booth's own, and the one that never counts
@@ -253,9 +253,9 @@ other_of_another owner entry deed is counts other = record {
   closed = λ e. subst CountsIfOwn (sym is ∙ e) counts;
   authorised = λ session e. subst CountsIfOwn (sym is ∙ e) counts;
   overridden = λ session how e. subst CountsIfOwn (sym is ∙ e) counts;
-  activated = λ session such. other such.0;
-  committed = λ session ballot such. other such.0;
-  ended = λ session such. other such.0;
+  activated = λ session (own, _). other own;
+  committed = λ session ballot (own, _). other own;
+  ended = λ session (own, _). other own;
 }
 
 -- an opening changes nothing
