@@ -45,7 +45,7 @@ module _ {T : Type 0} where
   grown (b ∷ w) zero (suc n) x a e = inl refl
   grown (b ∷ w) (suc at) zero x a e = inl refl
   grown (b ∷ w) (suc at) (suc n) x a e =
-      elim (grown w at n x a e) [ inl s ↦ inl s | inr r ↦ inr (ap suc r.0, r.1, r.2) ]
+      elim (grown w at n x a e) [ inl s ↦ inl s | inr (here, was, now) ↦ inr (ap suc here, was, now) ]
 
   -- what was in a history still is
   Contains-grown : (w : World T) (at n : ℕ) (x y : Event T) (a : Machine T) → slice_get w at ≡ Some a →
@@ -74,15 +74,15 @@ module _ {T : Type 0} where
   pub sent_in-grown : (w : World T) (at : ℕ) (x : Event T) (a : Machine T) → slice_get w at ≡ Some a → (e : T) →
       Contains (sent_in w) e → Contains (sent_in (with_machine at (append x) w)) e
   sent_in-grown w at x a is e c =
-      let r = sent_in_cases w e c in
-      sent_in_from (with_machine at (append x) w) r.0 e (Contains-grown w at r.0 x (Sent e) a is r.1)
+      let (n, sends) = sent_in_cases w e c in
+      sent_in_from (with_machine at (append x) w) n e (Contains-grown w at n x (Sent e) a is sends)
 
   -- and what is sent with it was sent before, or is that event
   pub sent_in-grown_cases : (w : World T) (at : ℕ) (x : Event T) (a : Machine T) → slice_get w at ≡ Some a → (e : T) →
       Contains (sent_in (with_machine at (append x) w)) e → Contains (sent_in w) e ⊎ (x ≡ Sent e)
   sent_in-grown_cases w at x a is e c =
-      let r = sent_in_cases (with_machine at (append x) w) e c in
-      elim (Contains-grown_cases w at r.0 x (Sent e) a is r.1) [ inl h ↦ inl (sent_in_from w r.0 e h) | inr s ↦ inr s ]
+      let (n, sends) = sent_in_cases (with_machine at (append x) w) e c in
+      elim (Contains-grown_cases w at n x (Sent e) a is sends) [ inl h ↦ inl (sent_in_from w n e h) | inr s ↦ inr s ]
 
   -- one entry more where it was sent, and no more where it was got
   pub sent_in-count : (w : World T) (at : ℕ) (x : Event T) (a : Machine T) → slice_get w at ≡ Some a →
@@ -128,8 +128,8 @@ module _ {T : Type 0} (node : T → Node) where
     pub held_stamps : (most n : ℕ) → ((e : T) → Contains (sent_in w) e → (node e).stamp ≤ most) → (e : T) →
         Contains (held (history w n)) e → (node e).stamp ≤ most
     held_stamps most n all e c =
-        let r = Contains-map_cases entry_of (history w n) e c in
-        subst (λ (f : T). (node f).stamp ≤ most) r.2 (by r.0 r.1)
+        let (event, there, same) = Contains-map_cases entry_of (history w n) e c in
+        subst (λ (f : T). (node f).stamp ≤ most) same (by event there)
       where
         -- the same of each event that is held
         by : (y : Event T) → Contains (history w n) y → (node (entry_of y)).stamp ≤ most
@@ -160,10 +160,10 @@ module _ {T : Type 0} (node : T → Node) where
           legal n =
               elim (grown w at n x a is) [
                 | inl s ↦ subst (λ (h : List (Event T)). IsLegal node n h) (sym s) (orderly.legal n)
-                | inr r ↦ subst (λ (h : List (Event T)). IsLegal node n h) (sym r.2)
+                | inr (here, was, now) ↦ subst (λ (h : List (Event T)). IsLegal node n h) (sym now)
                     (IsLegal-push node n a.history x
-                    (subst (λ (h : List (Event T)). IsLegal node n h) r.1 (orderly.legal n))
-                    (subst (λ (i : ℕ). MayFollow node i a.history x) (sym r.0) may))
+                    (subst (λ (h : List (Event T)). IsLegal node n h) was (orderly.legal n))
+                    (subst (λ (i : ℕ). MayFollow node i a.history x) (sym here) may))
               ]
 
           -- what is got in it was sent

@@ -27,9 +27,10 @@ use Rattle.polling_world.specs.Sending.{AreMade, MaySend}
 pub AreMade-push : (config : Config) (h : List (Event SealedEntry)) (x : Event SealedEntry) → AreMade config h →
     ((e : SealedEntry) → x ≡ Sent e → MaySend config h e) → AreMade config (h ++ x ∷ [])
 AreMade-push config h x made now before e later is =
-    let last : (h ≡ before) × (x ≡ Sent e) → MaySend config before e =
-    λ r. subst (λ (p : List (Event SealedEntry)). MaySend config p e) r.0 (now e r.1) in
-    elim (last_or_earlier h x before (Sent e) later is) [ inl r ↦ made before e r.0 r.1 | inr r ↦ last r ]
+    elim (last_or_earlier h x before (Sent e) later is) [
+      | inl (behind, stands) ↦ made before e behind stands
+      | inr (same, sends) ↦ subst (λ (p : List (Event SealedEntry)). MaySend config p e) same (now e sends)
+    ]
 
 -- nothing was made yet
 pub AreMade-none : (config : Config) → AreMade config []

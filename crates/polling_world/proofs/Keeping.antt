@@ -222,8 +222,8 @@ module _ (m : MachineState) (election : List ℕ) (next capacity : ℕ) (before 
       StandFor after m.config.role m.config.number (entries_in (log_after heard e (log_of m)).events) →
       m.config.log ≤ length (log_after heard e (log_of m)).events + spare_of after →
       IsKept (with_log (log_after heard e (log_of m)) m) election next capacity after
-  heard_kept going e Taken answer noted spare =
-      IsKept-got m election next capacity before after kept going answer.2 e (answer.1, answer.0) noted spare
+  heard_kept going e Taken (other, new, room) noted spare =
+      IsKept-got m election next capacity before after kept going room e (new, other) noted spare
   heard_kept going e (Own back) answer noted spare = IsKept-same noted spare
   heard_kept going e (Already back) answer noted spare = IsKept-same noted spare
   heard_kept going e (Full back) answer noted spare = IsKept-same noted spare

@@ -130,9 +130,9 @@ may_send m deed e digest told action ready made tells free same = record {
 pub held_already : (m : MachineState) (deed : Deed) (e : SealedEntry) (digest : List ℕ) →
     next_action m.config m.events ≡ Some deed → IsReady m deed → e ≡ next_entry m.config m.events deed →
     IsBorneIn node_of_sealed (held m.events) digest → digest ≡ e.digest → IsHeldAlready m
-held_already m deed e digest action ready made borne same = record {
+held_already m deed e digest action ready made (other, there, bears) same = record {
   deed = deed;
   action = action;
   ready = ready;
-  held = (borne.0, borne.1, borne.2 ∙ same ∙ ap (λ (s : SealedEntry). s.digest) made);
+  held = (other, there, bears ∙ same ∙ ap (λ (s : SealedEntry). s.digest) made);
 }

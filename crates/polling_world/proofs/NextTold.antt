@@ -56,12 +56,12 @@ booth_by owner entries IsWhole deed (Err why) is = inr
 role_either : (role : Role) (owner : ℕ) (h : List (Event SealedEntry)) (deed : Deed)
     → Either (RoleRefuses role owner h deed (Ok tt))
 role_either Supervisor owner h deed =
-    let first = supervisor_answer.answered owner (entries_in h) deed in
-    supervisor_by owner (entries_in h) deed first.0 first.1
+    let (answer, first) = supervisor_answer.answered owner (entries_in h) deed in
+    supervisor_by owner (entries_in h) deed answer first
 role_either Booth owner h deed =
-    let whole = whole_or_not node_of_sealed (held h) in
-    let first = booth_answer.answered owner (entries_in h) (IsWholeHistory h) whole.0 deed whole.1 in
-    booth_by owner (entries_in h) (IsWholeHistory h) deed first.0 first.1
+    let (whole, tells) = whole_or_not node_of_sealed (held h) in
+    let (answer, first) = booth_answer.answered owner (entries_in h) (IsWholeHistory h) whole deed tells in
+    booth_by owner (entries_in h) (IsWholeHistory h) deed answer first
 
 -- an entry's digest is new among those held or it isn't
 new_either : (h : List (Event SealedEntry)) (e : SealedEntry) → Either (IsNew node_of_sealed (held h) e)
@@ -72,7 +72,7 @@ new_either h e = new_by h e (has_digest node_of_sealed (held h) e.digest) refl
         → has_digest node_of_sealed (held h) e.digest ≡ b → Either (IsNew node_of_sealed (held h) e)
     new_by h e false is = inl (IsNew-from_test node_of_sealed (held h) e is)
     new_by h e true is = inr
-        (λ new. let found = has_digest_from node_of_sealed (held h) e.digest is in new found.0 found.1 found.2)
+        (λ new. let (g, there, bears) = has_digest_from node_of_sealed (held h) e.digest is in new g there bears)
 
 -- what is sent, or that nothing may be
 abbrev Told : Config → List (Event SealedEntry) → Type 0

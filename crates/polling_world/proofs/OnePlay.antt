@@ -20,11 +20,9 @@ use Rattle.polling_world.proofs.NextTold.{tells_same}
 
 -- a script gives each machine one configuration
 same_config : (script : Script) (a b : Config) → a.number ≡ b.number → IsOf script a → IsOf script b → a ≡ b
-same_config script a b number x y =
-    let at = x.1 in
-    let there = y.1 in
-    let cast : x.0 ≡ y.0 = cc in
-    x.2 ∙ ap (λ n. config_of script n x.0) number ∙ ap (λ (c : Cast0). config_of script b.number c) cast ∙ sym y.2
+same_config script a b number (own, at, made) (other, there, remade) =
+    let cast : own ≡ other = cc (number, at, there) in
+    made ∙ ap (λ n. config_of script n own) number ∙ ap (λ (c : Cast0). config_of script b.number c) cast ∙ sym remade
 
 -- a machine is told by what it is made of and what is seen of it
 same_machine : (m n : MachineState) → m.config ≡ n.config → m.stop ≡ None → n.stop ≡ None →

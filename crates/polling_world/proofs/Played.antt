@@ -121,9 +121,8 @@ starts : (script : Script) (first : List MachineState) (k : ℕ) (d : Machine Se
     → k < length first → get_or (world_of first) k d ≡ record { history = []; stopped = false }
 starts script first k d fresh within =
     elim (slice_get_cases first k).1 [
-      | inl there ↦
-          get_or-map machine_of first k there.0 d within ∙ ap machine_of there.3
-          ∙ ap machine_of (fresh.each k there.0 there.2).2
+      | inl (m, _, stands, read) ↦
+          get_or-map machine_of first k m d within ∙ ap machine_of read ∙ ap machine_of (fresh.each k m stands).2
       | inr past ↦ absurd (omega arith)
     ]
 

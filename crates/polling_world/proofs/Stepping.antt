@@ -40,9 +40,9 @@ use Rattle.polling_world.proofs.Placing.{machine_of-event}
 one_first : {Cause : Type 0} (row : List (Type 0 × Cause)) (cause : Cause) → IsFirstOf row (Ok tt) →
     IsFirstOf row (Err cause) → ⊥
 one_first [] cause h k = cc
-one_first (c ∷ row) cause (inl h) k = let no : Ok tt ≡ Err c.1 = h.1 in cc
-one_first (c ∷ row) cause (inr h) (inl k) = h.0 k.0
-one_first (c ∷ row) cause (inr h) (inr k) = one_first row cause h.1 k.1
+one_first (c ∷ row) cause (inl (_, told)) k = let no : Ok tt ≡ Err c.1 = told in cc
+one_first (c ∷ row) cause (inr (not, _)) (inl (applies, _)) = not applies
+one_first (c ∷ row) cause (inr (_, first)) (inr (_, other)) = one_first row cause first other
 
 -- where the rules give no cause they don't give one
 refuses_one : (role : Role) (owner : ℕ) (h : List (Event SealedEntry)) (deed : Deed) (why : LeftWhy) →
@@ -112,11 +112,12 @@ act_is m new (acted.Did number copies) o alone spent told done =
     ap machine_of done.changed ∙ machine_of-event m (Sent done.entry) alone
     ∙ sym (send_going o (machine_of m) done.entry (next_is m.config m.events o done.entry told done.may)
     (not_true (has_stopped m) done.going))
-act_is m new acted.Stopped o alone spent told h = ap machine_of h.1 ∙ sym (send_stopped o (machine_of m) h.0)
-act_is m new acted.NoMore o alone spent told h =
-    ap machine_of h.2
+act_is m new acted.Stopped o alone spent told (stopped, same) =
+    ap machine_of same ∙ sym (send_stopped o (machine_of m) stopped)
+act_is m new acted.NoMore o alone spent told (_, none, same) =
+    ap machine_of same
     ∙ sym (next_not m.config m.events o (machine_of m) told
-    (λ e may. let no : None ≡ Some may.deed = sym h.1 ∙ may.action in cc))
+    (λ e may. let no : None ≡ Some may.deed = sym none ∙ may.action in cc))
 act_is m new (acted.SupervisorNot why) o alone spent told ((deed, action, first), same) =
     ap machine_of same
     ∙ sym (next_not m.config m.events o (machine_of m) told

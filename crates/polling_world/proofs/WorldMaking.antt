@@ -108,18 +108,18 @@ module _ (script : Script) (ms : List MachineState) (left more : List Secret) (k
   -- the next key is that of the next machine
   pub next_key : IsKeyOf script at key
   next_key =
-      let r = rest_step (key_of script) script.machines (length ms) key more (first.rest ∙ next) in
-      (r.0, ap (slice_get script.machines) here ∙ r.1, r.2)
+      let (cast, read, keyed, _) = rest_step (key_of script) script.machines (length ms) key more (first.rest ∙ next) in
+      (cast, ap (slice_get script.machines) here ∙ read, keyed)
 
   -- with the next machine they are the first ones
   pub one_more : (m : MachineState) (new : List MachineState) → IsFresh script at None m → new ≡ ms ++ m ∷ [] →
       AreFirst script new more
   one_more m new fresh is =
-      let r = rest_step (key_of script) script.machines (length ms) key more (first.rest ∙ next) in
+      let (cast, read, _, rest) = rest_step (key_of script) script.machines (length ms) key more (first.rest ∙ next) in
       let count : length new ≡ suc (length ms) = ap length is ∙ length-append ms (m ∷ []) ∙ add-one (length ms) in
       record {
-        within = let inside = slice_get_within script.machines (length ms) r.0 r.1 in omega (arith, inside, count);
-        rest = ap (λ (n : ℕ). map (key_of script) (drop n script.machines)) count ∙ r.3;
+        within = let inside = slice_get_within script.machines (length ms) cast read in omega (arith, inside, count);
+        rest = ap (λ (n : ℕ). map (key_of script) (drop n script.machines)) count ∙ rest;
         each = λ place u stands. elim (push_cases ms m u place
             (ap (λ (us : List MachineState). slice_get us place) (sym is) ∙ stands)) [
               | inl s ↦ first.each place u s
@@ -142,17 +142,17 @@ all_fresh script ms [] first none = record {
 configs_from : (script : Script) (n : ℕ) (casts : List Cast0) (ms : List MachineState) → length ms ≡ length casts →
     ((k : ℕ) (m : MachineState) → slice_get ms k ≡ Some m →
     (cast : Cast0) × (slice_get casts k ≡ Some cast) × (m.config ≡ config_of script (n + k) cast)) →
-    configs_of ms ≡ map (λ at. config_of script at.0 at.1) (enumerate_from n casts)
+    configs_of ms ≡ map (λ (at, one). config_of script at one) (enumerate_from n casts)
 configs_from script n [] [] count each = refl
 configs_from script n [] (m ∷ ms) count each = absurd (omega arith)
 configs_from script n (cast ∷ casts) [] count each = absurd (omega arith)
 configs_from script n (cast ∷ casts) (m ∷ ms) count each =
-    let first = each zero m refl in
-    let same : cast ≡ first.0 = let at = first.1 in cc in
+    let (own, listed_first, made_first) = each zero m refl in
+    let same : cast ≡ own = cc listed_first in
     let place : n + zero ≡ n = omega arith in
     let here : m.config ≡ config_of script n cast =
-    first.2 ∙ ap (λ (k : ℕ). config_of script k first.0) place ∙ ap (config_of script n) (sym same) in
-    let rest : configs_of ms ≡ map (λ at. config_of script at.0 at.1) (enumerate_from (n + 1) casts) =
+    made_first ∙ ap (λ (k : ℕ). config_of script k own) place ∙ ap (config_of script n) (sym same) in
+    let rest : configs_of ms ≡ map (λ (at, one). config_of script at one) (enumerate_from (n + 1) casts) =
     configs_from script (n + 1) casts ms (omega arith)
     (λ k u stands.
     let (its_cast, listed, made) = each (suc k) u stands in

@@ -17,9 +17,7 @@ copy_roster-requires c = subst HaveText (sym c.requires.roster) (roster_has_text
 pub invariant_of-result : goal.invariant_of-result
 invariant_of-result c =
     let script = c.args.script.now in
-    let cast = c.requires.key.0 in
-    let is = c.requires.key.1 in
-    let keys = c.requires.key.2 in
+    let (cast, is, keys) = c.requires.key in
     let posts = c.in_ok-roster.ensures.copy ∙ c.requires.roster in
     let reads : c.index-machines-at.result ≡ cast =
     c.index-machines-at.is
@@ -39,15 +37,15 @@ invariant_of-result c =
 pub returns : goal.returns
 returns c =
     let script = c.args.script.now in
-    let cast = c.requires.key.0 in
+    let (cast, is, keys) = c.requires.key in
     let reads : c.index-machines-at.result ≡ cast =
     c.index-machines-at.is
     ∙ ap (λ (casts : List Cast0). get_or casts c.args.at c.index-machines-at.result) c.as_slice-machines.ensures
-    ∙ get_or_from_slice_get script.machines c.args.at cast c.index-machines-at.result c.requires.key.1 in (
+    ∙ get_or_from_slice_get script.machines c.args.at cast c.index-machines-at.result is in (
       cast,
-      c.requires.key.1,
+      is,
       is_fresh script c.args.at cast c.index-machines-at.result c.args.stop_at c.in_ok-name.name
           c.in_ok-name.actions.items c.args.key c.in_ok-roster.roster.machines c.in_ok-log.log reads
-          c.in_ok-name.ensures.name c.in_ok-name.ensures.actions c.requires.key.2
-          (c.in_ok-roster.ensures.copy ∙ c.requires.roster) c.in_ok-log.ensures,
+          c.in_ok-name.ensures.name c.in_ok-name.ensures.actions keys (c.in_ok-roster.ensures.copy ∙ c.requires.roster)
+          c.in_ok-log.ensures,
     )

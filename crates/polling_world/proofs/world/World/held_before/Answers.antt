@@ -28,7 +28,7 @@ returns-clause-names c =
     let counted : Q yes machines = subst (Q yes) lent held in
     let said = counted first second f e in
     let order = one_order node_of_sealed (world_of machines) orderly distinct first second
-    (sent_at_sent (world_of machines) c.args.f.0 c.args.f.1 first f)
-    (sent_at_sent (world_of machines) c.args.e.0 c.args.e.1 second e) in
+    (sent_at_sent (world_of machines) _ _ first f)
+    (sent_at_sent (world_of machines) _ _ second e) in
     (λ t. order.1 (said.0 t), λ p. said.1 (order.0 p)))
     c.held_before.ensures
