@@ -82,7 +82,7 @@ pub same_ascending : (xs ys : List (List ℕ)) → IsAscending xs → IsAscendin
 same_ascending [] [] a b to from = refl
 same_ascending [] (y ∷ ys) a b to from = absurd (Contains-none y (from y (Contains-head y ys)))
 same_ascending (x ∷ xs) [] a b to from = absurd (Contains-none x (to x (Contains-head x xs)))
-same_ascending (x ∷ xs) (y ∷ ys) a b to from =
+same_ascending (x ∷ xs) (y ∷ ys) (x_is_first, xs_rise) (y_is_first, ys_rise) to from =
     let heads : x ≡ y =
     elim (Contains-cons_cases y ys x (to x (Contains-head x xs))) [
       | inl e ↦ sym e
@@ -90,14 +90,14 @@ same_ascending (x ∷ xs) (y ∷ ys) a b to from =
           (Contains-cons_cases x xs y (from y (Contains-head y ys))) [
             | inl e ↦ e
             | inr v ↦ absurd
-                (not_both x y (a.0 y v) (b.0 x u))
+                (not_both x y (x_is_first y v) (y_is_first x u))
           ]
     ] in
     let forth : (d : List ℕ) → Contains xs d → Contains ys d =
     λ d c. elim
     (Contains-cons_cases y ys d (to d (Contains-later x xs d c))) [
       | inl e ↦ absurd
-          (let l = a.0 d c in let m : IsBelow x x = subst (λ u. IsBelow x u) (sym (heads ∙ e)) l in
+          (let m : IsBelow x x = subst (λ u. IsBelow x u) (sym (heads ∙ e)) (x_is_first d c) in
           not_both x x m m)
       | inr u ↦ u
     ] in
@@ -105,11 +105,10 @@ same_ascending (x ∷ xs) (y ∷ ys) a b to from =
     λ d c. elim
     (Contains-cons_cases x xs d (from d (Contains-later y ys d c))) [
       | inl e ↦ absurd
-          (let l = b.0 d c in let m : IsBelow y y = subst (λ u. IsBelow y u) (sym e ∙ heads) l in
-          not_both y y m m)
+          (let m : IsBelow y y = subst (λ u. IsBelow y u) (sym e ∙ heads) (y_is_first d c) in not_both y y m m)
       | inr u ↦ u
     ] in
-    let tails : xs ≡ ys = same_ascending xs ys a.1 b.1 forth back in
+    let tails : xs ≡ ys = same_ascending xs ys xs_rise ys_rise forth back in
     λ i. heads i ∷ tails i
 
 -- putting a digest beside the first keeps the order, where the rest keeps it
@@ -157,12 +156,12 @@ ascending_is_unique ds ordered = (
 -- a part of an ascending list is ascending
 pub filter_ascending : (p : List ℕ → Bool) (ds : List (List ℕ)) → IsAscending ds → IsAscending (filter p ds)
 filter_ascending p [] a = tt
-filter_ascending p (d ∷ ds) a =
+filter_ascending p (d ∷ ds) (d_is_first, ds_rise) =
     elim (p d) as (λ b. IsAscending (cond b (d ∷ filter p ds) (filter p ds))) [
       | true ↦ (
-        λ c h. a.0 c
+        λ c h. d_is_first c
             (Contains-filter_cases p ds c h).0,
-        filter_ascending p ds a.1,
+        filter_ascending p ds ds_rise,
       )
-      | false ↦ filter_ascending p ds a.1
+      | false ↦ filter_ascending p ds ds_rise
     ]

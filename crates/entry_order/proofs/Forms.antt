@@ -17,13 +17,13 @@ module _ {T : Type 0} (w : World T) where
   -- what is held by a list was held before
   from_chain : (f : T) (gs : List T) (e : T) → IsChain w f gs e → HeldBefore w f e
   from_chain f [] e (past, s, c) = itself past s c
-  from_chain f (g ∷ gs) e (h, rest) = along w f g e (itself h.0 h.1 h.2) (from_chain g gs e rest)
+  from_chain f (g ∷ gs) e ((past, s, c), rest) = along w f g e (itself past s c) (from_chain g gs e rest)
 
   -- what was held before is so by a list
   pub to_chain : (f e : T) → HeldBefore w f e → HeldByChain w f e
   to_chain f e (itself past s c) = ([], (past, s, c))
   to_chain f e (descendant {g = g} past s c h) =
-      let r = to_chain f g h in (r.0 ++ g ∷ [], chain_on f r.0 g e r.1 (past, s, c))
+      let (between, chain) = to_chain f g h in (between ++ g ∷ [], chain_on f between g e chain (past, s, c))
 
   -- what is held within a bound was held before
   from_within : (n : ℕ) (f e : T) → HeldWithin w n f e → HeldBefore w f e

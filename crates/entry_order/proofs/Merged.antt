@@ -50,7 +50,7 @@ module _ {T : Type 0} where
   same_sorted [] [] a b to from = refl
   same_sorted [] (y ∷ ys) a b to from = absurd (Contains-none y (from y (Contains-head y ys)))
   same_sorted (x ∷ xs) [] a b to from = absurd (Contains-none x (to x (Contains-head x xs)))
-  same_sorted (x ∷ xs) (y ∷ ys) a b to from =
+  same_sorted (x ∷ xs) (y ∷ ys) (x_is_first, xs_rise) (y_is_first, ys_rise) to from =
       let heads : x ≡ y =
       elim (Contains-cons_cases y ys x (to x (Contains-head x xs))) [
         | inl e ↦ sym e
@@ -58,35 +58,35 @@ module _ {T : Type 0} where
             (Contains-cons_cases x xs y (from y (Contains-head y ys))) [
               | inl e ↦ e
               | inr v ↦ absurd
-                  (not_both x y (a.0 y v) (b.0 x u))
+                  (not_both x y (x_is_first y v) (y_is_first x u))
             ]
       ] in
       let forth : (d : PlacedEvent T) → Contains xs d → Contains ys d =
       λ d c. elim
       (Contains-cons_cases y ys d (to d (Contains-later x xs d c))) [
         | inl e ↦ absurd
-            (let m : Lower x x = subst (λ u. Lower x u) (sym (heads ∙ e)) (a.0 d c) in not_both x x m m)
+            (let m : Lower x x = subst (λ u. Lower x u) (sym (heads ∙ e)) (x_is_first d c) in not_both x x m m)
         | inr u ↦ u
       ] in
       let back : (d : PlacedEvent T) → Contains ys d → Contains xs d =
       λ d c. elim
       (Contains-cons_cases x xs d (from d (Contains-later y ys d c))) [
         | inl e ↦ absurd
-            (let m : Lower y y = subst (λ u. Lower y u) (sym e ∙ heads) (b.0 d c) in not_both y y m m)
+            (let m : Lower y y = subst (λ u. Lower y u) (sym e ∙ heads) (y_is_first d c) in not_both y y m m)
         | inr u ↦ u
       ] in
-      let tails : xs ≡ ys = same_sorted xs ys a.1 b.1 forth back in
+      let tails : xs ≡ ys = same_sorted xs ys xs_rise ys_rise forth back in
       λ i. heads i ∷ tails i
 
   -- a part of a sorted list is sorted
   filter_sorted : (p : PlacedEvent T → Bool) (xs : List (PlacedEvent T)) → IsInSortOrder xs →
       IsInSortOrder (filter p xs)
   filter_sorted p [] a = tt
-  filter_sorted p (x ∷ xs) a =
+  filter_sorted p (x ∷ xs) (x_is_first, xs_rise) =
       elim (p x) as (λ b. IsInSortOrder (cond b (x ∷ filter p xs) (filter p xs))) [
         | true ↦
-            (λ y h. a.0 y (Contains-filter_cases p xs y h).0, filter_sorted p xs a.1)
-        | false ↦ filter_sorted p xs a.1
+            (λ y h. x_is_first y (Contains-filter_cases p xs y h).0, filter_sorted p xs xs_rise)
+        | false ↦ filter_sorted p xs xs_rise
       ]
 
   -- what is lower than a member stands before it

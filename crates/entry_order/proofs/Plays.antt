@@ -150,14 +150,15 @@ module _ {T : Type 0} (node : T → Node) (w : World T) where
     Contains-step s m x c =
         elim (Grows-step s m) [
           | inl e ↦ subst (λ (h : List (Event T)). Contains h x) (sym e) c
-          | inr r ↦ subst (λ (h : List (Event T)). Contains h x) (sym r.1)
-              (Contains-append_left (history w m) (r.0 ∷ []) x c)
+          | inr (added, is, _, _) ↦ subst (λ (h : List (Event T)). Contains h x) (sym is)
+              (Contains-append_left (history w m) (added ∷ []) x c)
         ]
 
     -- what was sent in the world still is
     sent_in-step : (s : Step) (e : T) → Contains (sent_in w) e → Contains (sent_in (happens node next log w s)) e
     sent_in-step s e c =
-        let r = sent_in_cases w e c in sent_in_from (happens node next log w s) r.0 e (Contains-step s r.0 (Sent e) r.1)
+        let (m, there) = sent_in_cases w e c in
+        sent_in_from (happens node next log w s) m e (Contains-step s m (Sent e) there)
 
     -- a step keeps the world orderly
     IsOrderly-step : (s : Step) → IsOrderly node (happens node next log w s)
@@ -167,8 +168,8 @@ module _ {T : Type 0} (node : T → Node) (w : World T) where
         legal m =
             elim (Grows-step s m) [
               | inl e ↦ subst (λ (h : List (Event T)). IsLegal node m h) (sym e) (orderly.legal m)
-              | inr r ↦ subst (λ (h : List (Event T)). IsLegal node m h) (sym r.1)
-                  (IsLegal-push node m (history w m) r.0 (orderly.legal m) r.2)
+              | inr (added, is, may, _) ↦ subst (λ (h : List (Event T)). IsLegal node m h) (sym is)
+                  (IsLegal-push node m (history w m) added (orderly.legal m) may)
             ]
 
         got_before : (m : ℕ) (e : T) → Grows m (history w m) (history (happens node next log w s) m) →

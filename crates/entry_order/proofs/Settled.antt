@@ -88,12 +88,12 @@ module _ (parents : ℕ → List ℕ) where
 
       -- and where none is, the place is whole
       is_whole_from_clean : (n x : ℕ) → IsClean x → is_whole parents ragged n x ≡ true
-      is_whole_from_clean zero x clean = not_from_false (ragged x) clean.0
-      is_whole_from_clean (suc n) x clean =
+      is_whole_from_clean zero x (not_ragged, _) = not_from_false (ragged x) not_ragged
+      is_whole_from_clean (suc n) x (not_ragged, none_above) =
           and_from (not (ragged x)) (list_all (λ z. is_whole parents ragged n z) (parents x))
-          (not_from_false (ragged x) clean.0)
+          (not_from_false (ragged x) not_ragged)
           (list_all_from_each (λ z. is_whole parents ragged n z) (parents x)
-          (λ z c. is_whole_from_clean n z (clean.1 z ([], c), λ y a. clean.1 y (z ∷ a.0, (c, a.1)))))
+          (λ z c. is_whole_from_clean n z (none_above z ([], c), λ y (zs, walk). none_above y (z ∷ zs, (c, walk)))))
 
 -- ---- places and entries
 
