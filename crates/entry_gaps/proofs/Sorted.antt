@@ -163,23 +163,22 @@ skips named borne found i d within is why so_far = record {
 lower : (named : List (List ℕ)) (i : ℕ) (d c : List ℕ) → IsSorted compare named → i < length named
     → d ≡ get_or named i d → (0 < i → get_or named (i - 1) d ≢ d) → Contains (take i named) c → compare c d ≡ Less
 lower named i d c sorted within is new h =
-    let at = taken_at named i c (omega arith) h in
-    let k : ℕ = at.0 in
+    let (k, before, at_k) = taken_at named i c (omega arith) h in
     let prev : List ℕ = get_or named (i - 1) d in
     let L : List ℕ → List ℕ → Type 0 = λ x y. is_lt (compare x y) ≡ false in
-    let here : get_or named k d ≡ c = get_or_default named k d c (omega (arith, at.1)) ∙ at.2 in
+    let here : get_or named k d ≡ c = get_or_default named k d c (omega (arith, before)) ∙ at_k in
     let c_first : L d c =
     (let P : List ℕ → Type 0 = λ x. L d x in let Q : List ℕ → Type 0 = λ x. L x (get_or named k d) in
-    subst P here (subst Q (sym is) (not_below named sorted k i d (omega (arith, at.1)) within))) in
+    subst P here (subst Q (sym is) (not_below named sorted k i d (omega (arith, before)) within))) in
     let c_before_prev : L prev c =
     (let P : List ℕ → Type 0 = λ x. L prev x in
-    subst P here (not_below named sorted k (i - 1) d (omega (arith, at.1)) (omega arith))) in
+    subst P here (not_below named sorted k (i - 1) d (omega (arith, before)) (omega arith))) in
     let prev_first : L d prev =
     (let Q : List ℕ → Type 0 = λ x. L x prev in
     subst Q (sym is) (not_below named sorted (i - 1) i d (omega arith) within)) in
     below c d c_first (λ same.
     let P : List ℕ → Type 0 = λ x. L prev x in
-    new (omega (arith, at.1)) (same_level prev d prev_first (subst P same c_before_prev)))
+    new (omega (arith, before)) (same_level prev d prev_first (subst P same c_before_prev)))
 
 -- a digest that is taken up
 pub takes_up : (named borne found : List (List ℕ)) (i : ℕ) (d : List ℕ) → IsSorted compare named
