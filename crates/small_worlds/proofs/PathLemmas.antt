@@ -58,12 +58,12 @@ module _ {T : Type 0} (node : T → Node) (given : List T) where
       let on : list_any (λ g. is_next node given f g && leads node given n g e) given ≡ true →
       (between : List T) × IsPath node (survivors node given) f between e =
       λ t.
-      let r = list_any_some (λ g. is_next node given f g && leads node given n g e) given t in
-      let both = and_parts (is_next node given f r.0) (leads node given n r.0 e) r.2 in
-      let next = and_parts (not (is_stray node given r.0)) (names_entry node r.0 f) both.0 in
-      let rest = from_leads n r.0 e both.1 in
-      let here = Contains-filter (λ e. not (is_stray node given e)) given r.0 r.1 next.0 in
-      (r.0 ∷ rest.0, (here, names_digest_from node r.0 (node f).digest next.1, rest.1)) in
+      let (g, is_given, found) = list_any_some (λ g. is_next node given f g && leads node given n g e) given t in
+      let (next, leads_on) = and_parts (is_next node given f g) (leads node given n g e) found in
+      let (no_stray, names_f) = and_parts (not (is_stray node given g)) (names_entry node g f) next in
+      let (gs, path) = from_leads n g e leads_on in
+      let here = Contains-filter (λ e. not (is_stray node given e)) given g is_given no_stray in
+      (g ∷ gs, (here, names_digest_from node g (node f).digest names_f, path)) in
       elim (or_cases (names_entry node e f)
       (list_any (λ g. is_next node given f g && leads node given n g e) given) t) [
         | inl t ↦ ([], names_digest_from node e (node f).digest t)
@@ -78,13 +78,13 @@ module _ {T : Type 0} (node : T → Node) (given : List T) where
   to_leads (suc n) f [] e l p =
       or_left (names_entry node e f) (list_any (λ g. is_next node given f g && leads node given n g e) given)
       (names_digest_of node e (node f).digest p)
-  to_leads (suc n) f (g ∷ gs) e l p =
-      let c = Contains-filter_cases (λ e. not (is_stray node given e)) given g p.0 in
+  to_leads (suc n) f (g ∷ gs) e l (there, names_f, path) =
+      let ((i, inside, at), free) = Contains-filter_cases (λ e. not (is_stray node given e)) given g there in
       let next =
-      and_from (not (is_stray node given g)) (names_entry node g f) c.1 (names_digest_of node g (node f).digest p.1) in
-      let rest = to_leads n g gs e (omega arith) p.2 in
-      let both = and_from (is_next node given f g) (leads node given n g e) next rest in
-      let (i, inside, at) = c.0 in
+      and_from (not (is_stray node given g)) (names_entry node g f) free
+      (names_digest_of node g (node f).digest names_f) in
+      let both = and_from (is_next node given f g) (leads node given n g e) next
+      (to_leads n g gs e (omega arith) path) in
       let test = λ (g : T). is_next node given f g && leads node given n g e in
       or_right (names_entry node e f) (list_any test given) (list_any_at test given i g inside (ap test at ∙ both))
 
@@ -92,17 +92,17 @@ module _ {T : Type 0} (node : T → Node) (given : List T) where
   long : (f : T) (between : List T) (e : T) → Contains (survivors node given) f → Contains (survivors node given) e →
       IsPath node (survivors node given) f between e → length between + (node f).stamp < (node e).stamp
   long f [] e cf ce p = let rise = rises_along node given f [] e cf ce p in omega arith
-  long f (g ∷ gs) e cf ce p =
-      let first = rises_along node given f [] g cf p.0 p.1 in
-      let rest = long g gs e p.0 ce p.2 in
+  long f (g ∷ gs) e cf ce (there, names_f, path) =
+      let first = rises_along node given f [] g cf there names_f in
+      let rest = long g gs e there ce path in
       omega arith
 
   -- the search of as many steps as the end's stamp finds a path exactly where there is one
   leads_is_path : (f e : T) → Contains (survivors node given) f → Contains (survivors node given) e →
       (leads node given (node e).stamp f e ≡ true) ↔ Precedes node (survivors node given) f e
   leads_is_path f e cf ce = (
-    λ t. let r = from_leads (node e).stamp f e t in (cf, ce, r.0, r.1),
-    λ p. let l = long f p.2 e cf ce p.3 in to_leads (node e).stamp f p.2 e (omega arith) p.3,
+    λ t. let (between, path) = from_leads (node e).stamp f e t in (cf, ce, between, path),
+    λ (_, _, between, path). to_leads (node e).stamp f between e (omega (arith, long f between e cf ce path)) path,
   )
 
   -- the search finds a path exactly where there is one
@@ -117,12 +117,12 @@ module _ {T : Type 0} (node : T → Node) (given : List T) where
         let sf = Contains-filter (λ e. not (is_stray node given e)) given f cf first.0 in
         let se = Contains-filter (λ e. not (is_stray node given e)) given e ce second.0 in
         (leads_is_path f e sf se).0 second.1,
-    λ p.
-        let kf = Contains-filter_cases (λ e. not (is_stray node given e)) given f p.0 in
-        let ke = Contains-filter_cases (λ e. not (is_stray node given e)) given e p.1 in
-        and_from (not (is_stray node given f)) (not (is_stray node given e) && leads node given (node e).stamp f e) kf.1
-        (and_from (not (is_stray node given e)) (leads node given (node e).stamp f e) ke.1
-        ((leads_is_path f e p.0 p.1).1 p)),
+    λ (f_survives, e_survives, between, path).
+        let (_, f_free) = Contains-filter_cases (λ e. not (is_stray node given e)) given f f_survives in
+        let (_, e_free) = Contains-filter_cases (λ e. not (is_stray node given e)) given e e_survives in
+        and_from (not (is_stray node given f)) (not (is_stray node given e) && leads node given (node e).stamp f e)
+        f_free (and_from (not (is_stray node given e)) (leads node given (node e).stamp f e) e_free
+        ((leads_is_path f e f_survives e_survives).1 (f_survives, e_survives, between, path))),
   )
 
   -- so it is for entries at places, as the code reads them
