@@ -20,11 +20,11 @@ fewer (Got f ∷ before) e later = fewer before e later
 pub numbers_below : (owner : ℕ) (h : List (Event SealedEntry)) → IsLegal node_of_sealed owner h → (x : SealedEntry) →
     Contains (sent h) x → (x.entry.number < length (sent h)) × (x.entry.maker ≡ owner)
 numbers_below owner h legal x c =
-    let split = member_split h (Sent x) (Contains-sent_cases h x c) in
-    let next = (legal split.0 (Sent x) split.1 split.2).1 in
-    let more = fewer split.0 x split.1 in
-    let there : length (sent (split.0 ++ Sent x ∷ split.1)) ≡ length (sent h) =
-    ap (λ (l : List (Event SealedEntry)). length (sent l)) (sym split.2) in (
+    let (before, later, is) = member_split h (Sent x) (Contains-sent_cases h x c) in
+    let next = (legal before (Sent x) later is).1 in
+    let more = fewer before x later in
+    let there : length (sent (before ++ Sent x ∷ later)) ≡ length (sent h) =
+    ap (λ (l : List (Event SealedEntry)). length (sent l)) (sym is) in (
       omega (arith, next.number),
       next.maker,
     )

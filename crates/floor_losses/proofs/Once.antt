@@ -18,8 +18,8 @@ use Rattle.floor_losses.specs.Losses.{got_from}
 pub differ_sym : (a b : Loss) → Differ a b → Differ b a
 differ_sym a b apart =
     elim (cases_Bool (is_of b.from b.number b.to a)) [
-      | inl is ↦ (let p = is_of_parts a b.from b.number b.to is in
-          absurd (true≢false (sym (itself b a.from a.number a.to (sym p.0) (sym p.1) (sym p.2)) ∙ apart)))
+      | inl is ↦ (let (from, number, to) = is_of_parts a b.from b.number b.to is in
+          absurd (true≢false (sym (itself b a.from a.number a.to (sym from) (sym number) (sym to)) ∙ apart)))
       | inr isnt ↦ isnt
     ]
 
@@ -52,11 +52,11 @@ none_left : (x : Loss) (xs : List Loss) (from number to : ℕ) → is_of from nu
     ((j : ℕ) (d : Loss) → j < length xs → Differ x (get_or xs j d)) → times_lost xs from number to ≡ 0
 none_left x [] from number to is apart = refl
 none_left x (y ∷ xs) from number to is apart =
-    let p = is_of_parts x from number to is in
+    let (from_is, number_is, to_is) = is_of_parts x from number to is in
     let first : Differ x y = apart 0 y (omega arith) in
     let isnt : is_of from number to y ≡ false =
-    ap (λ n. is_of n number to y) (sym p.0) ∙ ap (λ n. is_of x.from n to y) (sym p.1)
-    ∙ ap (λ n. is_of x.from x.number n y) (sym p.2) ∙ first in
+    ap (λ n. is_of n number to y) (sym from_is) ∙ ap (λ n. is_of x.from n to y) (sym number_is)
+    ∙ ap (λ n. is_of x.from x.number n y) (sym to_is) ∙ first in
     ap (λ b. cond b 1 0 + times_lost xs from number to) isnt
     ∙ (let rest = none_left x xs from number to is (λ j d lt. apart (suc j) d (omega arith)) in omega arith)
 
@@ -84,6 +84,6 @@ each_is_heard_or_lost node w losses once balanced a b e la lb apart c =
     let is = sym (append-nil heard) ∙ balanced a b la lb apart in
     let times = lost_once losses a (node e).number b once in
     elim (heard_or_lost node losses a b (sent (history w a)) heard e is c) [
-      | inl h ↦ inl (h.0, times ∙ ap (λ x. cond x 1 0) h.1)
-      | inr h ↦ inr (h.0, times ∙ ap (λ x. cond x 1 0) h.1)
+      | inl (was_heard, not_lost) ↦ inl (was_heard, times ∙ ap (λ x. cond x 1 0) not_lost)
+      | inr (unheard, lost) ↦ inr (unheard, times ∙ ap (λ x. cond x 1 0) lost)
     ]

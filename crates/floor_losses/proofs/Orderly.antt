@@ -1,5 +1,5 @@
 -- Where each entry is heard, lost or waiting, what was heard was sent; so the merged order can be played again.
-use Rattle.std.proofs.Common.{◌≡◌, ◌≢◌, ℕ, ◌<◌, ◌≤◌, List, [], ◌∷◌, ◌++◌, length, map, refl}
+use Rattle.std.proofs.Common.{◌≡◌, ℕ, ◌<◌, ◌≤◌, List, [], ◌∷◌, ◌++◌, length, map, refl}
 use Rattle.std.proofs.Common.{inl, inr, Option}
 use Rattle.std.specs.Prelude.{◌==◌}
 use Rattle.std.specs.List.{Contains}
@@ -47,10 +47,9 @@ module _ {T : Type 0} (node : T → Node) where
       legal = legal;
       heard = λ b e c.
           let a : ℕ = (node e).maker in
-          let split = member_split (history w b) (Got e) c in
-          let follows = legal b split.0 (Got e) split.1 split.2 in
-          let differs : a ≢ b = follows.1 in
-          let there : b < length w = in_world w b split.0 (Got e) split.1 split.2 in
+          let (before, later, is) = member_split (history w b) (Got e) c in
+          let (_, differs) = legal b before (Got e) later is in
+          let there : b < length w = in_world w b before (Got e) later is in
           let mine : Contains (got_from node a (history w b)) e =
           Contains-filter (λ x. (node x).maker == a) (got (history w b)) e (Contains-got (history w b) e c)
           (eq-eqb a a refl) in

@@ -38,10 +38,10 @@ module _ {T : Type 0} (node : T → Node) where
   pub before_lower : (heard rest : List T) (e : T) → AreRising (heard ++ e ∷ rest) → (x : T) → Contains heard x →
       (node x).number ≢ (node e).number
   before_lower heard rest e rises x c s =
-      let at = at_from_Contains heard x c in
-      let lt = rises at.0 (length heard + 0) x (omega (arith, at.1)) (omega (arith, length-append heard (e ∷ rest))) in
-      let first : get_or (heard ++ e ∷ rest) at.0 x ≡ x = get_or_append_left heard (e ∷ rest) x at.0 at.1
-      ∙ holds_read heard at.0 x at.2 in
+      let (k, inside, at) = at_from_Contains heard x c in
+      let lt = rises k (length heard + 0) x (omega (arith, inside)) (omega (arith, length-append heard (e ∷ rest))) in
+      let first : get_or (heard ++ e ∷ rest) k x ≡ x = get_or_append_left heard (e ∷ rest) x k inside
+      ∙ holds_read heard k x at in
       let here : get_or (heard ++ e ∷ rest) (length heard + 0) x ≡ e = get_or-append-add heard (e ∷ rest) 0 x in
       let n = ap (λ (y : T). (node y).number) first in
       let m = ap (λ (y : T). (node y).number) here in
@@ -51,13 +51,13 @@ module _ {T : Type 0} (node : T → Node) where
   pub behind_greater : (heard rest : List T) (e : T) → AreRising (heard ++ e ∷ rest) → (x : T) → Contains rest x →
       (node x).number ≢ (node e).number
   behind_greater heard rest e rises x c s =
-      let at = at_from_Contains rest x c in
-      let lt = rises (length heard + 0) (length heard + (1 + at.0)) x (omega arith)
-      (omega (arith, at.1, length-append heard (e ∷ rest))) in
+      let (k, inside, at) = at_from_Contains rest x c in
+      let lt = rises (length heard + 0) (length heard + (1 + k)) x (omega arith)
+      (omega (arith, inside, length-append heard (e ∷ rest))) in
       let here : get_or (heard ++ e ∷ rest) (length heard + 0) x ≡ e = get_or-append-add heard (e ∷ rest) 0 x in
-      let there : get_or (heard ++ e ∷ rest) (length heard + (1 + at.0)) x ≡ x =
-      get_or-append-add heard (e ∷ rest) (1 + at.0) x ∙ ap (λ k. get_or (e ∷ rest) k x) (one_plus at.0)
-      ∙ holds_read rest at.0 x at.2 in
+      let there : get_or (heard ++ e ∷ rest) (length heard + (1 + k)) x ≡ x =
+      get_or-append-add heard (e ∷ rest) (1 + k) x ∙ ap (λ n. get_or (e ∷ rest) n x) (one_plus k)
+      ∙ holds_read rest k x at in
       let n = ap (λ (y : T). (node y).number) here in
       let m = ap (λ (y : T). (node y).number) there in
       absurd (omega arith)
@@ -67,8 +67,8 @@ module _ {T : Type 0} (node : T → Node) where
       history (with_machine m (append x) w) m ≡ history w m ++ x ∷ []
   history_here w m x lt =
       elim ((slice_get_cases w m).1) [
-        | inl found ↦ ap history_of (get_same m (append x) w found.0 found.2)
-            ∙ ap (λ o. history_of o ++ x ∷ []) (sym found.2)
+        | inl (machine, _, there, _) ↦ ap history_of (get_same m (append x) w machine there)
+            ∙ ap (λ o. history_of o ++ x ∷ []) (sym there)
         | inr none ↦ (let n = none.0 in absurd (omega arith))
       ]
 
