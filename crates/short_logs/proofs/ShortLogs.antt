@@ -9,6 +9,8 @@ use Rattle.canonical_sexp.specs.declared.sexp.Sexp.TheVariants.{Atom}
 use Rattle.canonical_sexp.specs.Forms.{number_atom}
 use Rattle.canonical_sexp.specs.Text.{text_of}
 use Rattle.roster.specs.declared.post.Post.{Post}
+use Rattle.roster.specs.Machines.{max_machines}
+use Rattle.election_script.specs.Lawful.{max_actions}
 use Rattle.entry_format.specs.EntryText.{body_tree}
 use Rattle.entry_format.specs.Nodes.{node_of_sealed}
 use Rattle.entry_format.specs.SealedEntry.{SealedEntry}
@@ -26,7 +28,7 @@ use Rattle.short_logs.proofs.HeldSums.{few_held, few_named, held_was_sent}
 use Rattle.short_logs.proofs.TextSizes.{around, atom, front, number, signed_size}
 
 module _ (posts : List Post) (election : List ℕ) (w : World SealedEntry) (orderly : IsOrderly node_of_sealed w)
-    (few_machines : length w ≤ 16) (few_sent : length (sent_in w) ≤ 4096)
+    (few_machines : length w ≤ max_machines) (few_sent : length (sent_in w) ≤ max_actions)
     (valid : (e : SealedEntry) → Contains (sent_in w) e → Unseals posts election e.text (Ok e)) where
   -- how much an entry names
   abbrev names : SealedEntry → ℕ
@@ -92,8 +94,8 @@ module _ (posts : List Post) (election : List ℕ) (w : World SealedEntry) (orde
   pub logs_are_short : (m : ℕ) → m < 2 ^ 32 → length (log_text m (history w m)) ≤ max_bytes
   logs_are_short m small =
       let h = history w m in
-      let width : length (sent_in w) * length w ≤ 4096 * 16 =
-      mul-le (length (sent_in w)) (length w) 4096 16 few_sent few_machines in
+      let width : length (sent_in w) * length w ≤ max_actions * max_machines =
+      mul-le (length (sent_in w)) (length w) max_actions max_machines few_sent few_machines in
       omega (
         arith,
         width,

@@ -3,6 +3,7 @@ ghost use Rattle.std.specs.Prelude.{ℕ, ◌<◌, ◌≤◌, ◌^◌, List, Ok, 
 ghost use Rattle.std.specs.List.{Contains};
 ghost use Rattle.roster.specs.declared.post.Post.{Post};
 ghost use Rattle.roster.specs.Machines.{max_machines};
+ghost use Rattle.election_script.specs.Lawful.{max_actions};
 ghost use Rattle.entry_format.specs.Nodes.{node_of_sealed};
 ghost use Rattle.entry_format.specs.SealedEntry.{SealedEntry};
 ghost use Rattle.entry_format.specs.Unsealing.{Unseals};
@@ -27,7 +28,7 @@ pub fn a_machine_names_each_digest_once<T: Knot>()
 /// each log is within the limit of its file.
 pub fn honest_logs_are_within_their_limit()
     ensures { (posts : List Post) (election : List ℕ) (w : World SealedEntry) →
-        IsOrderly node_of_sealed w → length w ≤ max_machines → length (sent_in w) ≤ 4096 →
+        IsOrderly node_of_sealed w → length w ≤ max_machines → length (sent_in w) ≤ max_actions →
         ((e : SealedEntry) → Contains (sent_in w) e → Unseals posts election e.text (Ok e)) →
         (m : ℕ) → m < 2 ^ 32 → length (log_text m (history w m)) ≤ max_bytes }
 {}
