@@ -4,9 +4,10 @@
 Run from anywhere: python3 bench/architecture.py
 
 The picture has a row for each layer: a crate lies one above the highest crate that it uses. Crates of the
-document's second table, the programs for measuring and comparing, are grey. Printed is what the tables say of
-a crate's libraries and crates.txt doesn't, or the other way round, each crate that only one of the two has, and
-each that crates.txt has before a crate that it uses; the exit status is 1 if there is any such line.
+document's second table, the programs for measuring and comparing, are grey; those of the third, which have tests
+alone, aren't drawn. Printed is what the tables say of a crate's libraries and crates.txt doesn't, or the other way
+round, each crate that only one of the two has, and each that crates.txt has before a crate that it uses; the exit
+status is 1 if there is any such line.
 """
 import pathlib
 import re
@@ -186,9 +187,9 @@ def drawn(libraries, measuring):
 
 def main():
     libraries = workspace()
-    product, measuring = tables()
-    PICTURE.write_text(drawn(libraries, measuring))
-    faults = list(disagreements(libraries, {**product, **measuring}))
+    product, measuring, testing = tables()
+    PICTURE.write_text(drawn({name: libraries[name] for name in libraries if name not in testing}, measuring))
+    faults = list(disagreements(libraries, {**product, **measuring, **testing}))
     print("\n".join(faults) or f"the tables agree with crates.txt; drawn: {len(libraries)} crates")
     return 1 if faults else 0
 

@@ -4,7 +4,7 @@
 usage: python3 bench/peaks.py PROGRAM
 
 It is a script and no test, since it weighs the built program over files of the system, and each run apart: a test sees
-the memory of its own process alone, with the files in it (`peak_tests.rt` of `auditorium_core` does that for some).
+the memory of its own process alone, with the files in it (`peak_tests.rt` of `command_tests` does that for some).
 A command takes all its memory before it writes. So its output goes to a pipe that is full, and once the program waits
 there, Linux tells its peak. The peak of a small run is taken off; what is left may be so many times the file, and
 1,000,000 bytes. Each case prints a line; the exit status is 1 where an answer is wrong or a peak is over its bound."""

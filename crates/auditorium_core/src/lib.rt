@@ -28,30 +28,3 @@ pub use laws::{
 };
 pub use program::{auditorium, auditorium_still};
 pub use status::Status;
-
-#[cfg(test)]
-mod audit_tests;
-#[cfg(test)]
-mod damage_tests;
-#[cfg(test)]
-mod demonstrating_tests;
-#[cfg(test)]
-mod fault_tests;
-#[cfg(test)]
-mod honest_tests;
-#[cfg(test)]
-mod hostile_tests;
-#[cfg(test)]
-mod limit_tests;
-#[cfg(test)]
-mod make_tests;
-#[cfg(test)]
-mod order_tests;
-#[cfg(test)]
-mod peak_tests;
-#[cfg(test)]
-mod play_tests;
-#[cfg(test)]
-mod run_tests;
-#[cfg(test)]
-mod tests;

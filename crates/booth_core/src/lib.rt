@@ -8,6 +8,3 @@ mod state;
 
 pub use laws::{each_deed_has_one_answer, version_1_has_its_own_answers};
 pub use state::{BoothNot, BoothState, Memory};
-
-#[cfg(test)]
-mod tests;

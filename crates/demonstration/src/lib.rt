@@ -10,6 +10,3 @@ mod shown;
 pub use laws::scripts_are_shown_in_one_way;
 pub use lines::write_demonstration;
 pub use shown::{Demonstration, demonstrate};
-
-#[cfg(test)]
-mod tests;

@@ -20,11 +20,7 @@ pub use deed::{Deed, How};
 pub use entry::{Entry, Names};
 pub use laws::{one_reading_is_right, one_unsealing_is_right, texts_have_one_entry};
 pub use plain::{EntryFault, Plain, read_unsigned, read_unsigned_text};
+pub use reading::is_rising;
 pub use sealed::{Memory, Sealed};
 pub use sealing::{SealFault, seal};
 pub use unsealing::{unseal, unseal_text};
-
-#[cfg(test)]
-mod sealed_tests;
-#[cfg(test)]
-mod tests;

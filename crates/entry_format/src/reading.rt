@@ -84,8 +84,8 @@ fn is_below(digest: &[u8; 32], other: &[u8; 32]) -> bool
     digest.as_slice().cmp(other.as_slice()) == Ordering::Less
 }
 
-/// Whether each digest is below the next in the order of bytes.
-pub(crate) fn is_rising(digests: &[[u8; 32]]) -> bool
+/// Whether each digest is below the next in the order of bytes, as the names of an entry are.
+pub fn is_rising(digests: &[[u8; 32]]) -> bool
     ensures { IsTrue result ↔ IsAscending digests.now }
 {
     for i in 1..digests.len() {

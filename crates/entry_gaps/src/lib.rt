@@ -4,6 +4,3 @@
 mod gaps_of_entries;
 
 pub use gaps_of_entries::{Digests, Memory, gaps};
-
-#[cfg(test)]
-mod tests;

@@ -19,6 +19,3 @@ pub use fault::GraphFault;
 pub use graph::Graph;
 pub use links::Links;
 pub use signed_text::SignedText;
-
-#[cfg(test)]
-mod tests;

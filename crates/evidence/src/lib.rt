@@ -17,6 +17,3 @@ pub use laws::{
 };
 pub use logs::read_logs;
 pub use roster_file::{RosterRead, read_roster};
-
-#[cfg(test)]
-mod tests;

@@ -9,6 +9,3 @@ mod sorting;
 
 pub use finishing::finish_floor;
 pub use floor::{Floor, Gathered};
-
-#[cfg(test)]
-mod tests;

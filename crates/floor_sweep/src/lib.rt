@@ -7,6 +7,3 @@ mod rounds;
 mod sweeping;
 
 pub use sweeping::{Memory, Waiting, sweep};
-
-#[cfg(test)]
-mod tests;

@@ -7,6 +7,3 @@ mod words;
 
 pub use spans::{Memory, Span, lines, token_end, tokens};
 pub use words::{decimal, digest_hex};
-
-#[cfg(test)]
-mod tests;

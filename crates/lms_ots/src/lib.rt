@@ -16,6 +16,3 @@ pub use kind::OtsKind;
 pub use laws::signed_gives_public;
 pub use octets::{hasher, u16_bytes, u32_bytes, write_at};
 pub use sign::{Memory, OtsFault, ots_candidate, ots_public, ots_sign, ots_sign_into};
-
-#[cfg(test)]
-mod tests;

@@ -16,6 +16,3 @@ pub use public::{KeyFault, LmsPublic};
 pub use secret::{LmsSecret, Memory, SignFault};
 pub use verifying::verify;
 pub use words::{height_of_word, height_word};
-
-#[cfg(test)]
-mod tests;

@@ -19,8 +19,3 @@ pub use laws::{
 pub use plain_log::{End, LogFault, PlainLog, read_plain_log};
 pub use sealed_log::{Kept, LogRead, read_log, read_log_after, sealed_log_of};
 pub use written::log_text;
-
-#[cfg(test)]
-mod sealed_tests;
-#[cfg(test)]
-mod tests;

@@ -21,6 +21,3 @@ pub use making::stations;
 pub use running::run_floor;
 pub use station::Station;
 pub use work::work_all;
-
-#[cfg(test)]
-mod tests;

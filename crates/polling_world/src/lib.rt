@@ -28,10 +28,3 @@ pub use merging::merge;
 pub use playing::play;
 pub use stepped::Stepped;
 pub use world::World;
-
-#[cfg(test)]
-mod merge_tests;
-#[cfg(test)]
-mod tests;
-#[cfg(test)]
-mod world_tests;

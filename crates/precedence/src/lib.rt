@@ -13,6 +13,3 @@ pub use arrows::Arrows;
 pub use entry_order::Three;
 pub use lanes::unite;
 pub use table::{Memory, Rows};
-
-#[cfg(test)]
-mod tests;

@@ -13,6 +13,3 @@ pub use faults::RosterFault;
 pub use laws::{one_reading_is_right, texts_have_one_roster};
 pub use post::{Name, Post, Role, is_name};
 pub use rosters::{MAX_MACHINES, Memory, Posts, Roster, election};
-
-#[cfg(test)]
-mod tests;

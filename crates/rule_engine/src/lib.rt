@@ -17,6 +17,3 @@ mod width;
 
 pub use laws::rules_are_settled;
 pub use verdict::{JudgeFault, Verdict, judge};
-
-#[cfg(test)]
-mod tests;

@@ -34,6 +34,3 @@ pub use rules::read;
 pub use standard_text::{STANDARD, standard, the_standard_text_is_written};
 pub use term::Term;
 pub use writing::{Memory, write};
-
-#[cfg(test)]
-mod reading_tests;

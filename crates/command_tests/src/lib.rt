@@ -1,0 +1,30 @@
+//! Tests of the public calls of `auditorium_core`.
+//! They stand in a crate of their own, so that what they test isn't proved once more with them.
+#![tactic(auto)]
+
+#[cfg(test)]
+mod audit_tests;
+#[cfg(test)]
+mod damage_tests;
+#[cfg(test)]
+mod demonstrating_tests;
+#[cfg(test)]
+mod fault_tests;
+#[cfg(test)]
+mod honest_tests;
+#[cfg(test)]
+mod hostile_tests;
+#[cfg(test)]
+mod limit_tests;
+#[cfg(test)]
+mod make_tests;
+#[cfg(test)]
+mod order_tests;
+#[cfg(test)]
+mod peak_tests;
+#[cfg(test)]
+mod play_tests;
+#[cfg(test)]
+mod run_tests;
+#[cfg(test)]
+mod word_tests;

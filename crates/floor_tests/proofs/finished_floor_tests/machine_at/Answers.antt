@@ -1,0 +1,15 @@
+use Rattle.std.proofs.Common.{subst}
+use Rattle.floor_sweep.proofs.News.{fresh_events}
+use Rattle.finished_floor.specs.Places.{IsStopOf}
+use Rattle.finished_floor.proofs.News.{new_of}
+use Rattle.floor_tests.proofs.finished_floor_tests.machine_at.Goals as goal
+
+pub returns-clause-of : goal.returns-clause-of
+returns-clause-of c =
+    new_of c.args.script.now c.args.at c.stop_of-stop_at.result c.in_ok-machine.machine
+    (subst (λ l. IsStopOf l c.args.at c.stop_of-stop_at.result) c.as_slice.ensures c.stop_of-stop_at.ensures)
+    c.in_ok-machine.ensures c.log-log.ensures.machine
+
+pub returns-clause-events : goal.returns-clause-events
+returns-clause-events c =
+    fresh_events c.args.script.now c.args.at c.stop_of-stop_at.result c.in_ok-machine.machine c.in_ok-machine.ensures

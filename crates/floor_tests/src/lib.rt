@@ -1,0 +1,16 @@
+//! Tests of the public calls of `polling_world`, `floor_sweep`, `finished_floor` and `machine_floor`.
+//! They stand in a crate of their own, so that what they test isn't proved once more with them.
+#![tactic(auto)]
+
+#[cfg(test)]
+mod finished_floor_tests;
+#[cfg(test)]
+mod floor_sweep_tests;
+#[cfg(test)]
+mod machine_floor_tests;
+#[cfg(test)]
+mod merge_tests;
+#[cfg(test)]
+mod polling_world_tests;
+#[cfg(test)]
+mod world_tests;

@@ -1,0 +1,12 @@
+//! Tests of the public calls of `lms_ots`, `lms_sign` and `entry_format`.
+//! They stand in a crate of their own, so that what they test isn't proved once more with them.
+#![tactic(auto)]
+
+#[cfg(test)]
+mod entry_format_tests;
+#[cfg(test)]
+mod lms_ots_tests;
+#[cfg(test)]
+mod lms_sign_tests;
+#[cfg(test)]
+mod sealed_tests;

@@ -1,5 +1,0 @@
-use Rattle.std.proofs.Common.{◌≡◌, ◌≤◌}
-use Rattle.log_lock.proofs.tests.add_all.Given as goal
-
-abbrev pub invariant-loop-what : goal.invariant-loop-what
-invariant-loop-what g l = (l.pass.lock ≡ l.lock) × (l.pass.number ≡ l.fn.pass.number) × (l.refused ≤ l.what)

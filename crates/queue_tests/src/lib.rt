@@ -1,0 +1,8 @@
+//! Tests of the public calls of `broadcast_queues` and `log_lock`.
+//! They stand in a crate of their own, so that what they test isn't proved once more with them.
+#![tactic(auto)]
+
+#[cfg(test)]
+mod broadcast_queues_tests;
+#[cfg(test)]
+mod log_lock_tests;

@@ -1,0 +1,311 @@
+ghost use Rattle.std.specs.Prelude.{◌<◌, length};
+
+use hall_outside::{
+    Failure, FileFault, FolderStore, MemorySink, MemoryStore, OutputSink, Store, Taken, put_file,
+    read_file, write_all,
+};
+use std::alloc::Global;
+use std::fs;
+use std::os::unix::fs::symlink;
+use std::rt::Files;
+use std::test::Fail;
+
+const LIMIT: usize = 200_000;
+
+/// A store whose file `a` has these bytes, and whose calls with these numbers fail.
+fn store_of(
+    alloc: Global,
+    bytes: &[u8],
+    reads: Vec<u64>,
+    writes: Vec<u64>,
+) -> Result<MemoryStore, Fail> {
+    let mut store = MemoryStore::make(alloc, reads, writes);
+    store.place(alloc, "a", bytes)?;
+    Ok(store)
+}
+
+// No clause, so that no check computes the bytes. No two neighbours are equal, nor two bytes that
+// stand a piece apart.
+fn distinct_bytes(alloc: Global, len: usize) -> Result<Vec<u8>, Fail> {
+    let mut bytes = Vec::new(alloc);
+    for at in 0..len {
+        bytes.push((at % 251) as u8)?;
+    }
+    Ok(bytes)
+}
+
+/// The file, its limit, the number of the read that fails, and the answer. The file has 65,536 and
+/// then 4,464 bytes to be read.
+const READS: &[(&str, usize, u64, Option<FileFault>)] = &[
+    ("a", 70_000, 4, None),
+    ("a", 69_999, 3, Some(FileFault::TooLong)),
+    ("a", 0, 2, Some(FileFault::TooLong)),
+    ("a", LIMIT, 1, Some(FileFault::ReadFault)),
+    ("a", LIMIT, 2, Some(FileFault::ReadFault)),
+    ("a", LIMIT, 3, Some(FileFault::ReadFault)),
+    ("b", LIMIT, 2, Some(FileFault::Absent)),
+];
+
+/// Whether the file of 70,000 bytes is read so, where the read with this number fails.
+fn is_read_so(
+    alloc: Global,
+    name: &str,
+    limit: usize,
+    failing: u64,
+    want: Option<FileFault>,
+) -> Result<bool, Fail> {
+    let bytes = distinct_bytes(alloc, 70_000)?;
+    let failing = vec![in alloc; failing]?;
+    let mut store = store_of(alloc, bytes.as_slice(), failing, Vec::new(alloc))?;
+    Ok(match read_file(alloc, &mut store, name, limit) {
+        Ok(read) => want.is_none() && read.as_slice() == bytes.as_slice(),
+        Err(fault) => Some(fault) == want,
+    })
+}
+
+#[test]
+fn read_file_answers_what_the_store_said(rt: HostRuntime) -> Result<(), Fail> {
+    for &(name, limit, failing, want) in READS {
+        let is_so = is_read_so(rt.alloc(), name, limit, failing, want)?;
+        assert!(rt; is_so, "{name} within {limit}, read {failing} failing");
+    }
+    Ok(())
+}
+
+/// The most bytes that a read gives, where the next read begins in a file of ten letters, how many
+/// it gives, and a buffer of four hyphens then.
+const GREATEST: &[(usize, u64, usize, &str)] = &[
+    (1, 0, 1, "a---"),
+    (3, 2, 3, "cde-"),
+    (3, 8, 2, "ij--"),
+    (4, 4, 4, "efgh"),
+    (5, 4, 4, "efgh"),
+    (3, 10, 0, "----"),
+];
+
+/// Whether a read gives this, where reads give at most so many bytes.
+fn is_given(alloc: Global, most: usize, at: u64, count: usize, want: &str) -> Result<bool, Fail>
+    requires { 0 < most }
+{
+    let letters = "abcdefghij".as_bytes();
+    let mut store = store_of(alloc, letters, Vec::new(alloc), Vec::new(alloc))?;
+    store.greatest_read(most);
+    let mut into = [b'-'; 4];
+    let taken = store.read_at("a", at, &mut into);
+    Ok(taken == Ok(Taken::Bytes(count)) && into.as_slice() == want.as_bytes())
+}
+
+#[test]
+fn greatest_read_bounds_what_a_read_gives(rt: HostRuntime) -> Result<(), Fail> {
+    for &(most, at, count, want) in GREATEST {
+        if most > 0 {
+            let is_so = is_given(rt.alloc(), most, at, count, want)?;
+            assert!(rt; is_so, "{most} from {at}");
+        }
+    }
+    Ok(())
+}
+
+/// The number of the write that fails, and what went out. Ten bytes at three a write are four.
+const WRITES: &[(u64, &str)] = &[
+    (1, ""),
+    (2, "abc"),
+    (3, "abcdef"),
+    (4, "abcdefghi"),
+    (5, "abcdefghij"),
+];
+
+/// Whether so much of ten letters goes out, where the write with this number fails.
+fn is_written_so(alloc: Global, failing: u64, want: &str) -> Result<bool, Fail> {
+    let mut sink = MemorySink::make(alloc, 3, vec![in alloc; failing]?);
+    let written = write_all(&mut sink, "abcdefghij".as_bytes());
+    Ok(written.is_ok() == (failing == 5) && sink.bytes() == want.as_bytes())
+}
+
+#[test]
+fn a_failing_write_leaves_a_prefix(rt: HostRuntime) -> Result<(), Fail> {
+    for &(failing, want) in WRITES {
+        assert!(rt;
+            is_written_so(rt.alloc(), failing, want)?,
+            "write {failing}"
+        );
+    }
+    Ok(())
+}
+
+/// The number of the call that fails, and the file then. A file is a create and one append.
+const PUTS: &[(u64, &str)] = &[(1, "old"), (2, ""), (3, "new")];
+
+/// Whether the file is so after it was put, where the call with this number failed.
+fn is_put_so(alloc: Global, failing: u64, want: &str) -> Result<bool, Fail> {
+    let failing_calls = vec![in alloc; failing]?;
+    let mut store = store_of(alloc, "old".as_bytes(), Vec::new(alloc), failing_calls)?;
+    let put = put_file(&mut store, "a", "new".as_bytes());
+    Ok(put.is_ok() == (failing == 3) && store.file("a") == Some(want.as_bytes()))
+}
+
+#[test]
+fn a_failing_put_leaves_the_file_or_a_prefix(rt: HostRuntime) -> Result<(), Fail> {
+    for &(failing, want) in PUTS {
+        assert!(rt; is_put_so(rt.alloc(), failing, want)?, "call {failing}");
+    }
+    Ok(())
+}
+
+/// Where a read of eight bytes begins in a file of 29, and what it finds: first on from where the
+/// last one ended, up to the end, then back in the middle, and past the end.
+const PARTS: &[(u64, &[u8])] = &[
+    (4, &[4, 5, 6, 7, 8, 9, 10, 11]),
+    (12, &[12, 13, 14, 15, 16, 17, 18, 19]),
+    (20, &[20, 21, 22, 23, 24, 25, 26, 27]),
+    (28, &[28]),
+    (29, &[]),
+    (7, &[7, 8, 9, 10, 11, 12, 13, 14]),
+    (1_000, &[]),
+];
+
+/// Whether the system's file has these bytes.
+fn has_bytes(rt: &HostRuntime, name: &str, bytes: &[u8]) -> Result<bool, Fail> {
+    Ok(fs::read(rt, name)?.as_slice() == bytes)
+}
+
+/// Whether the store has these bytes as the file.
+fn is_read_back<S: Store>(alloc: Global, store: &mut S, name: &str, bytes: &[u8]) -> bool {
+    match read_file(alloc, store, name, bytes.len()) {
+        Ok(read) => read.as_slice() == bytes,
+        Err(_) => false,
+    }
+}
+
+/// Whether one store puts the bytes as the file and reads them back.
+fn is_put_and_read(rt: &HostRuntime, name: &str, bytes: &[u8]) -> bool {
+    let mut store = FolderStore::make(rt);
+    put_file(&mut store, name, bytes).is_ok() && is_read_back(rt.alloc(), &mut store, name, bytes)
+}
+
+/// Whether a file of so many bytes is put, and read back by the store and by the system.
+fn is_moved(rt: &HostRuntime, name: &str, len: usize) -> Result<bool, Fail> {
+    let bytes = distinct_bytes(rt.alloc(), len)?;
+    Ok(is_put_and_read(rt, name, bytes.as_slice()) && has_bytes(rt, name, bytes.as_slice())?)
+}
+
+/// Whether a read there finds these bytes.
+fn is_found<R: Files + AllocGlobal>(store: &mut FolderStore<'_, R>, at: u64, want: &[u8]) -> bool {
+    let mut into = [0; 8];
+    let taken = store.read_at("outside-test", at, &mut into);
+    matches!(taken, Ok(Taken::Bytes(count)) if count == want.len()) && into.starts_with(want)
+}
+
+/// Where the first read begins that doesn't find its part.
+fn first_unfound(rt: &HostRuntime) -> Option<u64> {
+    let mut store = FolderStore::make(rt);
+    for &(at, want) in PARTS {
+        if !is_found(&mut store, at, want) {
+            return Some(at);
+        }
+    }
+    None
+}
+
+#[test]
+fn folder_store_moves_the_bytes_of_files(rt: HostRuntime) -> Result<(), Fail> {
+    assert!(rt; is_moved(&rt, "outside-test", 70_000)?);
+    // A shorter file over a longer one.
+    assert!(rt; is_moved(&rt, "outside-test", 29)?);
+    assert_eq!(rt; first_unfound(&rt), None);
+    fs::remove_file(&rt, "outside-test")?;
+    Ok(())
+}
+
+/// Whether the store says that there is no such file.
+fn is_absent(rt: &HostRuntime, name: &str) -> bool {
+    FolderStore::make(rt).read_at(name, 0, &mut [0; 8]) == Ok(Taken::Absent)
+}
+
+/// The line of a failure.
+fn line_of(alloc: Global, failure: Option<&Failure>) -> Result<String, Fail> {
+    match failure {
+        Some(failure) => Ok(format!(in alloc; "{failure}")?),
+        None => Ok(String::new(alloc)),
+    }
+}
+
+/// The line that the store keeps of the last read that failed.
+fn failure_of(rt: &HostRuntime, name: &str) -> Result<String, Fail> {
+    let mut store = FolderStore::make(rt);
+    let _ = store.read_at(name, 0, &mut [0; 8]);
+    line_of(rt.alloc(), store.failure())
+}
+
+#[test]
+fn folder_store_refuses_by_name(rt: HostRuntime) -> Result<(), Fail> {
+    assert!(rt; is_absent(&rt, "outside-none"));
+    let line = failure_of(&rt, ".")?;
+    assert!(rt; line.as_str() == "reading . failed: Is a directory (os error 21)");
+    Ok(())
+}
+
+#[test]
+fn a_folder_is_not_replaced(rt: HostRuntime) {
+    assert!(rt; !is_put(&rt, ".", "text"));
+    // What was made beside it is gone.
+    assert!(rt; fs::metadata(&rt, ".auditorium-0").is_err());
+}
+
+/// Whether the text is put as the file.
+fn is_put(rt: &HostRuntime, name: &str, text: &str) -> bool {
+    put_file(&mut FolderStore::make(rt), name, text.as_bytes()).is_ok()
+}
+
+/// Whether the file has this text, which is then removed.
+fn had_text(rt: &HostRuntime, name: &str, text: &str) -> Result<bool, Fail> {
+    let had = has_bytes(rt, name, text.as_bytes())?;
+    fs::remove_file(rt, name)?;
+    Ok(had)
+}
+
+#[test]
+fn a_link_is_replaced_and_not_followed(rt: HostRuntime) -> Result<(), Fail> {
+    assert!(rt; is_put(&rt, "outside-target", "target"));
+    symlink(&rt, "outside-target", "outside-link")?;
+    assert!(rt; is_put(&rt, "outside-link", "link"));
+    assert!(rt; had_text(&rt, "outside-target", "target")?);
+    assert!(rt; had_text(&rt, "outside-link", "link")?);
+    Ok(())
+}
+
+fn is_appended<R: Files + AllocGlobal>(store: &mut FolderStore<'_, R>, text: &str) -> bool
+    requires { 0 < length text.now }
+{
+    store.append("outside-both", text.as_bytes()).is_ok()
+}
+
+/// Whether both stores create the file and then each appends to it.
+fn both_append<R: Files + AllocGlobal>(
+    first: &mut FolderStore<'_, R>,
+    second: &mut FolderStore<'_, R>,
+) -> bool {
+    first.create("outside-both").is_ok()
+        && second.create("outside-both").is_ok()
+        && is_appended(first, "first")
+        && is_appended(second, "second")
+}
+
+/// Whether two new stores do so.
+fn is_written_by_two(rt: &HostRuntime) -> bool {
+    both_append(&mut FolderStore::make(rt), &mut FolderStore::make(rt))
+}
+
+#[test]
+fn two_that_write_one_name_never_write_into_one_file(rt: HostRuntime) -> Result<(), Fail> {
+    assert!(rt; is_written_by_two(&rt));
+    assert!(rt; had_text(&rt, "outside-both", "second")?);
+    Ok(())
+}
+
+#[test]
+fn output_sink_writes_to_standard_output(rt: HostRuntime) {
+    let mut sink = OutputSink::make(&rt);
+    let written = write_all(&mut sink, "the standard output\n".as_bytes()).is_ok();
+    assert!(rt; written && sink.failure().is_none());
+}
