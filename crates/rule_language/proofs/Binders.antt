@@ -18,7 +18,7 @@ use Rattle.rule_language.specs.Wants.{Want, formula, close, new_variable, kind_o
 use Rattle.rule_language.specs.Wants.{meets_formula, unbound_in, letter_in, nested, then_want, Met}
 use Rattle.rule_language.specs.inside.Reader.{IsNext, Takes, FailsAt}
 use Rattle.rule_language.specs.inside.Quantifiers.{IsRange, IsBinder, range_words, quantifier_head}
-use Rattle.rule_language.proofs.Refusals.{Passed, spell_more, transfer, fails_behind}
+use Rattle.rule_language.proofs.Refusals.{Passed, takes_more, transfer, fails_behind}
 use Rattle.rule_language.proofs.Passing.{step, kind_of_passes, variable_passes}
 use Rattle.rule_language.proofs.Found.{if_second, bytes_same}
 
@@ -31,20 +31,17 @@ pub binder_read : (text : List ℕ) (a b d e : Span) (scope : Scope) (v : ℕ) (
     → Takes text a b (variable v ∷ [])
     → unbound_in scope (letter_in (variable v)) ≡ Ok v → Takes text b d (kind_word k ∷ []) → IsRange text d e scope u
     → IsBinder text a e scope (made v k u)
-binder_read text a b d e scope v k None one fresh two range = record {
-  taken = subst (λ (s : Span). Takes text a s (variable v ∷ kind_word k ∷ [])) (sym range.0)
-      (spell_more text a.start b.start d.start (variable v ∷ []) (kind_word k ∷ []) one.0 two.0, range.1);
+binder_read text a b d e scope v k None one fresh two (same, _, other) = record {
+  taken = subst (λ (s : Span). Takes text a s (variable v ∷ kind_word k ∷ [])) (sym same)
+      (takes_more text a b d (variable v ∷ []) (kind_word k ∷ []) one two);
   fresh = fresh;
-  range = subst (λ (s : Span). piece text s ≢ codes "before") (sym range.0) range.2;
+  range = subst (λ (s : Span). piece text s ≢ codes "before") (sym same) other;
 }
-binder_read text a b d e scope v k (Some u) one fresh two range = record {
-  taken = (
-    spell_more text a.start b.start e.start (variable v ∷ []) (kind_word k ∷ codes "before" ∷ variable u ∷ []) one.0
-        (spell_more text b.start d.start e.start (kind_word k ∷ []) (codes "before" ∷ variable u ∷ []) two.0 range.0.0),
-    range.0.1,
-  );
+binder_read text a b d e scope v k (Some u) one fresh two (range, bound) = record {
+  taken = takes_more text a b e (variable v ∷ []) (kind_word k ∷ codes "before" ∷ variable u ∷ []) one
+      (takes_more text b d e (kind_word k ∷ []) (codes "before" ∷ variable u ∷ []) two range);
   fresh = fresh;
-  range = range.1;
+  range = bound;
 }
 
 -- the variable may be bound where a quantifier may begin

@@ -19,7 +19,7 @@ use Rattle.hall_text.specs.Spans.{piece}
 use Rattle.rule_language.specs.Spelling.{Token, left, right, form_words, spelt, tokens_then}
 use Rattle.rule_language.specs.Wants.{Want, Met, formula, head, more, new_variable, meets_formula, behind_head, nested}
 use Rattle.rule_language.specs.inside.Reader.{IsNext, Takes, FailsAt, IfFault, IsRead, IsBody, told}
-use Rattle.rule_language.proofs.Refusals.{Passed, one_passed, spell_more, fails_there, cause_there, transfer}
+use Rattle.rule_language.proofs.Refusals.{Passed, one_passed, takes_more, fails_there, cause_there, transfer}
 use Rattle.rule_language.proofs.Found.{bytes_same}
 use Rattle.rule_language.proofs.Passing.{open_passes, head_passes, tokens_append, spelt_cases, more_wanted}
 use Rattle.rule_language.proofs.Parts.{formula_passes, count-front, good-front, tokens-front, members_left}
@@ -92,8 +92,8 @@ some_spelt f inside after none =
 -- a formula has a token at least
 pub some_tokens : (p : Formula) (after : List Token) → tokens_then (tree_of p) after ≢ []
 some_tokens p after none =
-    let s = shape p in
-    some_spelt s.0 (tokens_then s.1 []) after (sym (ap (λ t. tokens_then t after) (s.2 no_trees)) ∙ none)
+    let (outer, parts, view) = shape p in
+    some_spelt outer (tokens_then parts []) after (sym (ap (λ t. tokens_then t after) (view no_trees)) ∙ none)
 
 -- a formula that was read was passed
 pub formula_passed : (text : List ℕ) (a b : Span) (scope : Scope) (depth : ℕ) (p : Formula)
@@ -111,11 +111,8 @@ pub body_read : (text : List ℕ) (a b e : Span) (scope : Scope) (depth : ℕ) (
     → IsRead text a b scope depth [] p
     → Takes text b e (right ∷ []) → IsBody text a e scope depth p
 body_read text a b e scope depth p read closed = record {
-  taken = (
-    rw (tokens_append (tree_of p) [] (right ∷ []))
-        (rw read.spelt (spell_more text a.start b.start e.start read.tokens (right ∷ []) read.taken.0 closed.0)),
-    closed.1,
-  );
+  taken = rw (tokens_append (tree_of p) [] (right ∷ []))
+      (rw read.spelt (takes_more text a b e read.tokens (right ∷ []) read.taken closed));
   lawful = read.lawful;
   one = read.one;
 }
@@ -127,7 +124,7 @@ pub read_more : (text : List ℕ) (a b e : Span) (scope : Scope) (depth : ℕ) (
     → IsRead text a e scope depth front p
 read_more text a b e scope depth front token p first read = record {
   tokens = token ∷ read.tokens;
-  taken = (spell_more text a.start b.start e.start (token ∷ []) read.tokens first.0 read.taken.0, read.taken.1);
+  taken = takes_more text a b e (token ∷ []) read.tokens first read.taken;
   spelt = read.spelt ∙ append_assoc front (token ∷ []) read.tokens;
   lawful = read.lawful;
   one = read.one;
@@ -236,11 +233,9 @@ implied text a b e scope depth p first second boxed read body shallow =
     form_read text a e scope depth (Implies first second) form.Implies parts begins.Implies []
     (view-Implies first second) refl (λ x y. refl)
     (lt-ltb depth 32 shallow) refl (rw two refl)
-    (good-front scope (depth + 1) first.value (tree_of second.value) good body.lawful) (
-      rw front (rw read.spelt (spell_more text a.start b.start e.start read.tokens
-          (tokens_then (tree_of second.value) (right ∷ [])) read.taken.0 body.taken.0)),
-      body.taken.1,
-    )
+    (good-front scope (depth + 1) first.value (tree_of second.value) good body.lawful)
+    (rw front (rw read.spelt (takes_more text a b e read.tokens
+    (tokens_then (tree_of second.value) (right ∷ [])) read.taken body.taken)))
 
 -- both quantifiers want the same
 pub quantifier_err : {A : Type 0} (scope : Scope) (depth : ℕ) (every : Bool) (answer : Result A RuleFault)

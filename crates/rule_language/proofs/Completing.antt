@@ -195,22 +195,20 @@ more_back n scope depth wants next t ts met fills = by (bytes_eq t right) (n == 
         )
     by false true ia iz e = absurd (cc)
     by false false ia iz e =
-        let inside = formula_back scope depth (more (n - 1) scope depth ∷ wants) next t ts e fills in
-        let f = inside.1 in
-        let others = inside.2 in
-        let m = others.1 in
+        let (_, f, (rest, m, filled)) =
+        formula_back scope depth (more (n - 1) scope depth ∷ wants) next t ts e fills in
         let some : n ≢ 0 = eqb-false n 0 iz in
         let count : count_of (in_row f.tree m.parts) ≡ count_of f.tree + count_of m.parts = row-count f.tree m.parts in
         let one : count_of f.tree ≡ 1 = f.one in
         let few : count_of m.parts ≤ n - 1 = m.few in (
-          others.0,
+          rest,
           record {
             parts = in_row f.tree m.parts;
             few = omega arith;
             good = row-good scope depth f.tree m.parts f.good m.good;
-            is = f.is ∙ ap (tokens_then f.tree) m.is ∙ sym (row-tokens f.tree m.parts (right ∷ others.0));
+            is = f.is ∙ ap (tokens_then f.tree) m.is ∙ sym (row-tokens f.tree m.parts (right ∷ rest));
           },
-          others.2,
+          filled,
         )
 
 -- a number up to another passes the test of order

@@ -16,6 +16,7 @@ use Rattle.rule_language.specs.declared.kind.Kind.TheVariants as kind
 use Rattle.rule_language.specs.declared.kind.Field.{Field}
 use Rattle.rule_language.specs.declared.kind.Sort.{Sort}
 use Rattle.rule_language.specs.declared.kind.Sort.TheVariants as sort
+use Rattle.rule_language.specs.declared.term.Term.{Term}
 use Rattle.rule_language.specs.declared.term.Term.TheVariants.{Of, Number}
 use Rattle.rule_language.specs.declared.form.Head.{Head}
 use Rattle.rule_language.specs.declared.form.Head.TheVariants as head
@@ -99,8 +100,8 @@ named_found {A = A} word_of (thing ∷ things) word a e =
 pub letter_found : (word : Token) (v : ℕ) → letter_in word ≡ Some v → (word ≡ variable v) × (is_letter v ≡ true)
 letter_found [] v e = absurd (cc)
 letter_found (w ∷ []) v e =
-    let is = if_some (is_letter w) w v e in
-    (ap (λ x. x ∷ []) is.1, ap is_letter (sym is.1) ∙ is.0)
+    let (letter, same) = if_some (is_letter w) w v e in
+    (ap (λ x. x ∷ []) same, ap is_letter (sym same) ∙ letter)
 letter_found (w ∷ x ∷ word) v e = absurd (cc)
 
 -- the token of a variable isn't empty
@@ -217,15 +218,15 @@ only_found wanted word it some e =
 -- a number, or a field of what a variable stands for
 pub number_spelt : (word : Token) (n : ℕ) → number_in word ≡ Some n → (word ≡ decimal n) × (n < 2 ^ 32)
 number_spelt word n e =
-    let is = if_some (nat_lt (value_from 0 word) (2 ^ 32) && bytes_eq word (decimal (value_from 0 word)))
+    let (both, same) = if_some (nat_lt (value_from 0 word) (2 ^ 32) && bytes_eq word (decimal (value_from 0 word)))
     (value_from 0 word) n e in
-    let b = both_true (nat_lt (value_from 0 word) (2 ^ 32)) (bytes_eq word (decimal (value_from 0 word))) is.0 in
+    let b = both_true (nat_lt (value_from 0 word) (2 ^ 32)) (bytes_eq word (decimal (value_from 0 word))) both in
     let small : value_from 0 word < 2 ^ 32 = ltb-true (value_from 0 word) (2 ^ 32) b.0 in
-    (bytes_same word (decimal (value_from 0 word)) b.1 ∙ ap decimal is.1, (let same = is.1 in omega arith))
+    (bytes_same word (decimal (value_from 0 word)) b.1 ∙ ap decimal same, omega (arith, same))
 
 -- a term is spelt so, and has its sort
 abbrev pub IsTermOf : Scope → Token → Typed → Type 0
-IsTermOf scope word typed = (word ≡ term_word typed.0) × (sort_of scope typed.0 ≡ Some typed.1)
+IsTermOf scope word (term, of_sort) = (word ≡ term_word term) × (sort_of scope term ≡ Some of_sort)
 
 -- a bound letter, a dot and a field that its kind has are a term of that field's sort
 of_field_found : (scope : Scope) (v : ℕ) (k : Kind) (word name : Token) (o : Option Field) (typed : Typed)
@@ -275,9 +276,9 @@ term_spelt scope word typed e = found (number_in word) refl e
         subst (IsTermOf scope word) same here
 
 -- the word of a term that has a sort isn't empty
-term_some : (scope : Scope) (typed : Typed) → sort_of scope typed.0 ≡ Some typed.1 → term_word typed.0 ≢ []
-term_some scope (Of v f, s) sorted e = cc
-term_some scope (Number n, s) sorted e =
+term_some : (scope : Scope) (t : Term) (s : Sort) → sort_of scope t ≡ Some s → term_word t ≢ []
+term_some scope (Of v f) s sorted e = cc
+term_some scope (Number n) s sorted e =
     let small = if_some (nat_lt n (2 ^ 32)) sort.Count s sorted in
     let lt : n < 2 ^ 32 = ltb-true n (2 ^ 32) small.0 in
     let some : 0 < length (decimal n) = decimal_nonempty n (omega arith) in
@@ -288,14 +289,14 @@ term_some scope (Number n, s) sorted e =
 pub term_found : (scope : Scope) (test : Sort → Bool) (word : Token) (typed : Typed)
     → whose_sort test (term_in scope word) ≡ Ok typed
     → (word ≡ term_word typed.0) × (term_word typed.0 ≢ []) × IsTyped scope test typed
-term_found scope test word typed e = found (term_in scope word) refl e
+term_found scope test word (term, of_sort) e = found (term_in scope word) refl e
   where
     -- the same by what the word was read as
-    found : (r : Result Typed RuleWhy) → term_in scope word ≡ r → whose_sort test r ≡ Ok typed
-        → (word ≡ term_word typed.0) × (term_word typed.0 ≢ []) × IsTyped scope test typed
+    found : (r : Result Typed RuleWhy) → term_in scope word ≡ r → whose_sort test r ≡ Ok (term, of_sort)
+        → (word ≡ term_word term) × (term_word term ≢ []) × IsTyped scope test (term, of_sort)
     found (Err cause) is e = absurd (cc)
-    found (Ok term) is e =
-        let b = if_first (test term.1) (Ok term) WrongField typed e in
-        let same : term ≡ typed = ok_same term typed b.1 in
-        let of = term_spelt scope word typed (is ∙ b.1) in
-        (of.0, term_some scope typed of.1, (of.1, rw same at b.0))
+    found (Ok read) is e =
+        let (fits, ok) = if_first (test read.1) (Ok read) WrongField (term, of_sort) e in
+        let same : read ≡ (term, of_sort) = ok_same read (term, of_sort) ok in
+        let (spelt, sorted) = term_spelt scope word (term, of_sort) (is ∙ ok) in
+        (spelt, term_some scope term of_sort sorted, (sorted, rw same at fits))

@@ -77,10 +77,10 @@ want_back : (want : Want) (wants next : List Want) (t : Token) (ts : List Token)
 want_back (more_rules names) wants next t ts met fills =
     let (it, found, same) = then_found (opening (length names) t) (λ it. rule_word names ∷ wants) next met in
     let (is, _, follows) = opening_found (length names) t it found in
-    let (rest, w, filled) = moved next (rule_word names ∷ wants) ts same fills in (
+    let (rest, (behind_it, begins, named), filled) = moved next (rule_word names ∷ wants) ts same fills in (
       rest,
       subst (λ (x : Token). FillsRules names (x ∷ ts) rest) (sym is)
-          (rule_fills names ts rest follows w.0 w.1 w.2),
+          (rule_fills names ts rest follows behind_it begins named),
       filled,
     )
 want_back (rule_word names) wants next t ts met fills =

@@ -56,20 +56,20 @@ IsNoBefore tokens = (t : Token) × (ts : List Token) × (tokens ≡ t ∷ ts) ×
 row_first : (trees : Trees) (after : List Token) → IsNoBefore (tokens_then trees (right ∷ after))
 row_first no_trees after = (right, after, refl, refl)
 row_first (tree_then f parts trees) after =
-    let first = spelt_first f (tokens_then parts []) (tokens_then trees (right ∷ after)) in
-    (first.0, first.1, first.2, first.3)
+    let (token, behind_it, is, other, _) = spelt_first f (tokens_then parts []) (tokens_then trees (right ∷ after)) in
+    (token, behind_it, is, other)
 
 -- words and what stands behind them are those of one form
 words_same : (scope : Scope) (f g : Form) (xs ys : List Token) → is_closed scope f ≡ true → is_closed scope g ≡ true
     → f ≢ form.True → g ≢ form.True
     → IsNoBefore xs → IsNoBefore ys → form_words f ++ xs ≡ form_words g ++ ys → (f ≡ g) × (xs ≡ ys)
-words_same scope f g xs ys cf cg nf ng fx fy e =
+words_same scope f g xs ys cf cg nf ng (first_x, rest_x, xs_are, other_x) (first_y, rest_y, ys_are, other_y) e =
     let a : decoded (form_words f ++ xs) ≡ decoded_as f xs =
-    ap (λ zs. decoded (form_words f ++ zs)) fx.2 ∙ form_back scope f fx.0 fx.1 cf nf fx.3
-    ∙ ap (decoded_as f) (sym fx.2) in
+    ap (λ zs. decoded (form_words f ++ zs)) xs_are ∙ form_back scope f first_x rest_x cf nf other_x
+    ∙ ap (decoded_as f) (sym xs_are) in
     let b : decoded (form_words g ++ ys) ≡ decoded_as g ys =
-    ap (λ zs. decoded (form_words g ++ zs)) fy.2 ∙ form_back scope g fy.0 fy.1 cg ng fy.3
-    ∙ ap (decoded_as g) (sym fy.2) in
+    ap (λ zs. decoded (form_words g ++ zs)) ys_are ∙ form_back scope g first_y rest_y cg ng other_y
+    ∙ ap (decoded_as g) (sym ys_are) in
     let same : decoded_as f xs ≡ decoded_as g ys = sym a ∙ ap decoded e ∙ b in
     (ap (λ (d : Form × List Token). d.0) same, ap (λ (d : Form × List Token). d.1) same)
 
@@ -137,20 +137,20 @@ module _ (f g : Form) (pa pb ra rb : Trees) (scope : Scope) (depth : ℕ) (r s :
   enclosures : IsEnclosed f → IsEnclosed g → f ≢ form.True → g ≢ form.True
       → AreSame (tree_then f pa ra) (tree_then g pb rb) r s
   enclosures fe ge nf ng =
-      let ma = may_stand scope depth f pa ra ga in
-      let mb = may_stand scope depth g pb rb gb in
+      let ((_, closed_f, _, good_pa), good_ra) = may_stand scope depth f pa ra ga in
+      let ((_, closed_g, _, good_pb), good_rb) = may_stand scope depth g pb rb gb in
       let xa = tokens_then ra (right ∷ r) in
       let xb = tokens_then rb (right ∷ s) in
       let words : form_words f ++ tokens_then pa (right ∷ xa) ≡ form_words g ++ tokens_then pb (right ∷ xb) =
       rest_same left left (form_words f ++ tokens_then pa (right ∷ xa)) (form_words g ++ tokens_then pb (right ∷ xb))
       (sym (enclosed_tokens f pa xa fe) ∙ e ∙ enclosed_tokens g pb xb ge) in
-      let same = words_same scope f g (tokens_then pa (right ∷ xa)) (tokens_then pb (right ∷ xb)) ma.0.1 mb.0.1 nf ng
-      (row_first pa xa) (row_first pb xb) words in
-      let good_pb : are_formulas (scope_in f scope) (depth + 1) pb ≡ true =
-      ap (λ h. are_formulas (scope_in h scope) (depth + 1) pb) same.0 ∙ mb.0.3 in
-      let inside = parts pb (scope_in f scope) (depth + 1) xa xb ma.0.3 good_pb same.1 in
-      let tails = rest rb scope depth r s ma.1 mb.1 inside.1 in
-      (tree_same f g pa pb ra rb same.0 inside.0 tails.0, tails.1)
+      let (form_is, tokens_are) = words_same scope f g (tokens_then pa (right ∷ xa)) (tokens_then pb (right ∷ xb))
+      closed_f closed_g nf ng (row_first pa xa) (row_first pb xb) words in
+      let good_here : are_formulas (scope_in f scope) (depth + 1) pb ≡ true =
+      ap (λ h. are_formulas (scope_in h scope) (depth + 1) pb) form_is ∙ good_pb in
+      let inside = parts pb (scope_in f scope) (depth + 1) xa xb good_pa good_here tokens_are in
+      let tails = rest rb scope depth r s good_ra good_rb inside.1 in
+      (tree_same f g pa pb ra rb form_is inside.0 tails.0, tails.1)
 
   -- a row that begins with `true` isn't spelt as one that begins with a parenthesis
   left_true : f ≡ form.True → IsEnclosed g → ⊥
@@ -176,10 +176,10 @@ module _ (f g : Form) (pa pb ra rb : Trees) (scope : Scope) (depth : ℕ) (r s :
   node_same : AreSame (tree_then f pa ra) (tree_then g pb rb) r s
   node_same =
       elim (spelt_cases f) [
-        | inl ft ↦ elim (spelt_cases g) [ inl gt ↦ truths ft gt | inr ge ↦ absurd (left_true ft ge.0) ]
-        | inr fe ↦ elim (spelt_cases g) [
-          | inl gt ↦ absurd (right_true gt fe.0)
-          | inr ge ↦ enclosures fe.0 ge.0 (not_true_form f fe.1) (not_true_form g ge.1)
+        | inl ft ↦ elim (spelt_cases g) [ inl gt ↦ truths ft gt | inr (ge, _) ↦ absurd (left_true ft ge) ]
+        | inr (fe, deep_f) ↦ elim (spelt_cases g) [
+          | inl gt ↦ absurd (right_true gt fe)
+          | inr (ge, deep_g) ↦ enclosures fe ge (not_true_form f deep_f) (not_true_form g deep_g)
         ]
       ]
 
@@ -187,11 +187,11 @@ module _ (f g : Form) (pa pb ra rb : Trees) (scope : Scope) (depth : ℕ) (r s :
 pub row_same : (a : Trees) → IsOne a
 row_same no_trees no_trees scope depth r s ga gb e = (refl, rest_same right right r s e)
 row_same no_trees (tree_then g pb rb) scope depth r s ga gb e =
-    let first = spelt_first g (tokens_then pb []) (tokens_then rb (right ∷ s)) in
-    absurd (first.4 (sym (first_same right first.0 r first.1 (e ∙ first.2))))
+    let (token, behind_it, is, _, differs) = spelt_first g (tokens_then pb []) (tokens_then rb (right ∷ s)) in
+    absurd (differs (sym (first_same right token r behind_it (e ∙ is))))
 row_same (tree_then f pa ra) no_trees scope depth r s ga gb e =
-    let first = spelt_first f (tokens_then pa []) (tokens_then ra (right ∷ r)) in
-    absurd (first.4 (first_same first.0 right first.1 s (sym first.2 ∙ e)))
+    let (token, behind_it, is, _, differs) = spelt_first f (tokens_then pa []) (tokens_then ra (right ∷ r)) in
+    absurd (differs (first_same token right behind_it s (sym is ∙ e)))
 row_same (tree_then f pa ra) (tree_then g pb rb) scope depth r s ga gb e =
     node_same f g pa pb ra rb scope depth r s (row_same pa) (row_same ra) ga gb e
 

@@ -39,11 +39,11 @@ all_and false y z a b = absurd (cc)
 pub good-front : (scope : Scope) (depth : ℕ) (p : Formula) (rest : Trees) → are_formulas scope depth (tree_of p) ≡ true
     → are_formulas scope depth rest ≡ true → are_formulas scope depth (in_front p rest) ≡ true
 good-front scope depth p rest one others =
-    let s = shape p in
-    ap (are_formulas scope depth) (s.2 rest)
-    ∙ all_and (is_shallow depth s.0 && (is_closed scope s.0 && has_arity s.0 (count_of s.1)))
-    (are_formulas (scope_in s.0 scope) (depth + 1) s.1) (are_formulas scope depth rest)
-    (sym (ap (are_formulas scope depth) (s.2 no_trees)) ∙ one) others
+    let (outer, parts, view) = shape p in
+    ap (are_formulas scope depth) (view rest)
+    ∙ all_and (is_shallow depth outer && (is_closed scope outer && has_arity outer (count_of parts)))
+    (are_formulas (scope_in outer scope) (depth + 1) parts) (are_formulas scope depth rest)
+    (sym (ap (are_formulas scope depth) (view no_trees)) ∙ one) others
 
 -- one more behind others
 pub tokens-push : (ps : List Formula) (p : Formula) (after : List Token)
@@ -68,12 +68,12 @@ good-parts : (scope : Scope) (depth : ℕ) (q : Formula) (rest : Trees)
     → are_formulas scope depth (in_front q rest) ≡ true
     → (are_formulas scope depth (tree_of q) ≡ true) × (are_formulas scope depth rest ≡ true)
 good-parts scope depth q rest good =
-    let s = shape q in
-    let open_good = sym (ap (are_formulas scope depth) (s.2 rest)) ∙ good in
-    let may = may_stand scope depth s.0 s.1 rest open_good in
-    let b = both_true (is_shallow depth s.0 && (is_closed scope s.0 && has_arity s.0 (count_of s.1)))
-    (are_formulas (scope_in s.0 scope) (depth + 1) s.1 && are_formulas scope depth rest) open_good in
-    (ap (are_formulas scope depth) (s.2 no_trees) ∙ rw b.0 (rw may.0.3 refl), may.1)
+    let (outer, parts, view) = shape q in
+    let open_good = sym (ap (are_formulas scope depth) (view rest)) ∙ good in
+    let ((_, _, _, inner), others) = may_stand scope depth outer parts rest open_good in
+    let (stands, _) = both_true (is_shallow depth outer && (is_closed scope outer && has_arity outer (count_of parts)))
+    (are_formulas (scope_in outer scope) (depth + 1) parts && are_formulas scope depth rest) open_good in
+    (ap (are_formulas scope depth) (view no_trees) ∙ rw stands (rw inner refl), others)
 
 -- a lawful formula behind lawful ones makes a lawful row
 pub good-push : (scope : Scope) (depth : ℕ) (ps : List Formula) (p : Formula)
@@ -89,10 +89,10 @@ pub formula_passes : (p : Formula) (scope : Scope) (depth : ℕ) (rest : List Wa
     → are_formulas scope depth (tree_of p) ≡ true
     → behind (Ok (formula scope depth ∷ rest)) (tokens_then (tree_of p) after) ≡ behind (Ok rest) after
 formula_passes p scope depth rest after good =
-    let s = shape p in
-    ap (λ t. behind (Ok (formula scope depth ∷ rest)) (tokens_then t after)) (s.2 no_trees)
-    ∙ (passes (tree_then s.0 s.1 no_trees)).0 scope depth rest after
-    (sym (ap (are_formulas scope depth) (s.2 no_trees)) ∙ good)
+    let (outer, parts, view) = shape p in
+    ap (λ t. behind (Ok (formula scope depth ∷ rest)) (tokens_then t after)) (view no_trees)
+    ∙ (passes (tree_then outer parts no_trees)).0 scope depth rest after
+    (sym (ap (are_formulas scope depth) (view no_trees)) ∙ good)
 
 -- further formulas leave room for fewer
 pub members_left : (trees : Trees) (n : ℕ) (scope : Scope) (depth : ℕ) (rest : List Want) (after : List Token)

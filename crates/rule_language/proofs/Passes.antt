@@ -161,14 +161,14 @@ form_passes : (f : Form) (parts : Trees) → RowPasses parts → MembersPass par
     → (scope : Scope) (depth : ℕ) (rest : List Want) (after : List Token)
     → MayStand scope depth f parts
     → behind (Ok (formula scope depth ∷ rest)) (spelt f (tokens_then parts []) after) ≡ behind (Ok rest) after
-form_passes f parts row members scope depth rest after may =
+form_passes f parts row members scope depth rest after (shallow, closed, arity, inner) =
     elim (spelt_cases f) [
       | inl is ↦ rw is refl
-      | inr other ↦
-          ap (λ ts. behind (Ok (formula scope depth ∷ rest)) ts) (other.0 (tokens_then parts []) after
+      | inr (spells, deep) ↦
+          ap (λ ts. behind (Ok (formula scope depth ∷ rest)) ts) (spells (tokens_then parts []) after
           ∙ ap (λ ts. left ∷ (form_words f ++ ts)) (sym (tokens_append parts [] (right ∷ after))))
-          ∙ enclosed (other.1 32) (enclosed_passes f parts row members scope depth rest after
-          (sym (other.1 depth) ∙ may.0) (may.1, may.2, may.3))
+          ∙ enclosed (deep 32) (enclosed_passes f parts row members scope depth rest after
+          (sym (deep depth) ∙ shallow) (closed, arity, inner))
     ]
   where
     -- a form that has to be shallow isn't `true`, so it passes in its parentheses
@@ -184,20 +184,19 @@ form_passes f parts row members scope depth rest after may =
 pub passes : (trees : Trees) → RowPasses trees × MembersPass trees
 passes no_trees = ((λ scope depth rest after good. refl), (λ n scope depth rest after few good. refl))
 passes (tree_then f parts trees) =
-    let inside = passes parts in
-    let behind_it = passes trees in (
+    let (row, members) = passes parts in
+    let (rest_row, rest_members) = passes trees in (
       λ scope depth rest after good.
-          let may = may_stand scope depth f parts trees good in
-          form_passes f parts inside.0 inside.1 scope depth (wants_for trees scope depth rest)
-          (tokens_then trees after) may.0
-          ∙ behind_it.0 scope depth rest after may.1,
+          let (may, others) = may_stand scope depth f parts trees good in
+          form_passes f parts row members scope depth (wants_for trees scope depth rest) (tokens_then trees after) may
+          ∙ rest_row scope depth rest after others,
       λ n scope depth rest after few good.
-          let may = may_stand scope depth f parts trees good in
+          let (may, others) = may_stand scope depth f parts trees good in
           more_wanted f (tokens_then parts []) (tokens_then trees (right ∷ after)) n scope depth rest
           (some n (count_of trees) few)
-          ∙ form_passes f parts inside.0 inside.1 scope depth (more (n - 1) scope depth ∷ rest)
-          (tokens_then trees (right ∷ after)) may.0
-          ∙ behind_it.1 (n - 1) scope depth rest after (omega arith) may.1,
+          ∙ form_passes f parts row members scope depth (more (n - 1) scope depth ∷ rest)
+          (tokens_then trees (right ∷ after)) may
+          ∙ rest_members (n - 1) scope depth rest after (omega arith) others,
     )
   where
     -- where one more fits there is room

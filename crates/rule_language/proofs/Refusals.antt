@@ -95,9 +95,9 @@ pub taken : {A : Type 0} (text : List ℕ) (old new : Span) (found : Result A Ru
     → ((value : A) → found ≡ Ok value → (piece text old ≡ word value) × (word value ≢ []) × Good value)
     → IfOk answer (λ value. Takes text old new (word value ∷ []) × Good value)
 taken text old new found (Ok value) word Good ok sound =
-    let facts = sound value ok.0 in
-    let some : piece text old ≢ [] = λ none. facts.1 (sym facts.0 ∙ none) in
-    (rw (← facts.0) (ok.1 some), facts.2)
+    let (is, some_word, good) = sound value ok.0 in
+    let some : piece text old ≢ [] = λ none. some_word (sym is ∙ none) in
+    (rw (← is) (ok.1 some), good)
 taken text old new found (Err fault) word Good ok sound = tt
 
 -- places one behind another
@@ -105,6 +105,12 @@ pub spell_more : (text : List ℕ) (a b c : ℕ) (first second : List Token) →
     → Spell text a c (first ++ second)
 spell_more text a b c first second to on before stand =
     subst (StandBefore text c) (append_assoc before first second) (on (before ++ first) (to before stand))
+
+-- tokens that are read one behind another are read together
+pub takes_more : (text : List ℕ) (old middle new : Span) (first second : List Token) → Takes text old middle first
+    → Takes text middle new second → Takes text old new (first ++ second)
+takes_more text old middle new first second (spell, _) (spell_behind, next) =
+    (spell_more text old.start middle.start new.start first second spell spell_behind, next)
 
 -- wants as the answer to a token
 abbrev pub met_of : List Want → Met
@@ -252,11 +258,11 @@ same_cause : (text : List ℕ) (token : Span) (wants other : List Want) (why : R
     → meets other (piece text token) ≡ meets wants (piece text token) → is_end wants ≡ false
     → IsRuleCause text token.start other why → IsRuleCause text token.start wants why
 same_cause text token wants other why next here going (inl bad) = inl bad
-same_cause text token wants other why next here going (inr (inl stands)) =
-    let one : piece text (record { start = token.start; end = stands.0 }) ≡ piece text token =
-    ap (piece text) (next_is text token stands.0 next stands.1) in
-    inr (inl (stands.0, stands.1, ap (meets wants) one ∙ sym here ∙ sym (ap (meets other) one) ∙ stands.2))
-same_cause text token wants other why next here going (inr (inr ended)) = inr (inr (ended.0, going, ended.2))
+same_cause text token wants other why next here going (inr (inl (end, begins, against))) =
+    let one : piece text (record { start = token.start; end = end }) ≡ piece text token =
+    ap (piece text) (next_is text token end next begins) in
+    inr (inl (end, begins, ap (meets wants) one ∙ sym here ∙ sym (ap (meets other) one) ∙ against))
+same_cause text token wants other why next here going (inr (inr (ended, _, shape))) = inr (inr (ended, going, shape))
 
 -- answers that are the same leave the same wants
 pub ok_wants : (x y : List Want) → met_of x ≡ met_of y → x ≡ y
@@ -293,13 +299,13 @@ transfer text token wants other at why next here agree going f = by f.tokens f.s
         let cause : IsRuleCause text token.start other why = rw place at (rw (← left) at f.cause) in
         rw place (fails_there text token wants why (same_cause text token wants other why next here going cause))
     by (t ∷ ts) spell there met =
-        let first = first_met other t ts f.left met in
+        let (further, first, others) = first_met other t ts f.left met in
         record {
           tokens = t ∷ ts;
           left = f.left;
           spell = spell;
           there = there;
-          met = ap (λ m. behind m ts) (agree t first.0 first.1) ∙ first.2;
+          met = ap (λ m. behind m ts) (agree t further first) ∙ others;
           cause = f.cause;
         }
 

@@ -19,7 +19,7 @@ use Rattle.rule_language.specs.Spelling.{left, right, variable, tokens_then}
 use Rattle.rule_language.specs.Wants.{formula, more, nested}
 use Rattle.rule_language.specs.inside.Reader.{Takes, FailsAt, IsRead, IsBody, IsSeveral, told}
 use Rattle.rule_language.specs.inside.Quantifiers.{form_of, quantifier_head, IsBinder}
-use Rattle.rule_language.proofs.Refusals.{spell_more, fails_behind}
+use Rattle.rule_language.proofs.Refusals.{takes_more, fails_behind}
 use Rattle.rule_language.proofs.Passing.{tokens_append}
 use Rattle.rule_language.proofs.Parts.{tokens-push}
 use Rattle.rule_language.proofs.Bodies.{parts_passed, more_fails, one_too_many}
@@ -30,11 +30,9 @@ use Rattle.rule_language.proofs.FormsRead.{form_read}
 pub parts_more : (text : List ℕ) (a b e : Span) (scope : Scope) (depth : ℕ) (ps : List Formula) (p : Formula)
     → Takes text a b (tokens_then (trees_of ps) [])
     → IsRead text b e scope depth [] p → Takes text a e (tokens_then (trees_of (ps ++ p ∷ [])) [])
-parts_more text a b e scope depth ps p before read = (
-  rw (tokens-push ps p []) (rw (tokens_append (trees_of ps) [] (tokens_then (tree_of p) [])) (rw read.spelt
-      (spell_more text a.start b.start e.start (tokens_then (trees_of ps) []) read.tokens before.0 read.taken.0))),
-  read.taken.1,
-)
+parts_more text a b e scope depth ps p before read =
+    rw (tokens-push ps p []) (rw (tokens_append (trees_of ps) [] (tokens_then (tree_of p) [])) (rw read.spelt
+    (takes_more text a b e (tokens_then (trees_of ps) []) read.tokens before read.taken)))
 
 -- the parenthesis is next
 pub parts_closed : (text : List ℕ) (a b e : Span) (scope : Scope) (depth : ℕ) (ps : List Formula) (n : ℕ)
@@ -43,11 +41,8 @@ pub parts_closed : (text : List ℕ) (a b e : Span) (scope : Scope) (depth : ℕ
     → 0 < n → n ≤ 64
     → IsSeveral text a e scope depth ps
 parts_closed text a b e scope depth ps n before closed good count some few = record {
-  taken = (
-    rw (tokens_append (trees_of ps) [] (right ∷ []))
-        (spell_more text a.start b.start e.start (tokens_then (trees_of ps) []) (right ∷ []) before.0 closed.0),
-    closed.1,
-  );
+  taken = rw (tokens_append (trees_of ps) [] (right ∷ []))
+      (takes_more text a b e (tokens_then (trees_of ps) []) (right ∷ []) before closed);
   lawful = good;
   count = rw count (rw (lt-ltb 0 n some) (within n few));
 }
@@ -95,34 +90,26 @@ pub quantified_read : (text : List ℕ) (a e z : Span) (scope : Scope) (depth : 
 quantified_read text a e z scope depth true v k None p whole tree binder few shallow body =
     form_read text a z scope depth whole (form.ForEvery v k) (tree_of p) (quantifier_head true)
     (variable v ∷ kind_word k ∷ []) tree refl (λ x y. refl)
-    (lt-ltb depth 32 shallow) (may_bind scope v true binder.fresh few) (rw body.one refl) body.lawful (
-      spell_more text a.start e.start z.start (variable v ∷ kind_word k ∷ []) (tokens_then (tree_of p) (right ∷ []))
-          binder.taken.0 body.taken.0,
-      body.taken.1,
-    )
+    (lt-ltb depth 32 shallow) (may_bind scope v true binder.fresh few) (rw body.one refl) body.lawful
+    (takes_more text a e z (variable v ∷ kind_word k ∷ []) (tokens_then (tree_of p) (right ∷ [])) binder.taken
+    body.taken)
 quantified_read text a e z scope depth false v k None p whole tree binder few shallow body =
     form_read text a z scope depth whole (form.ForSome v k) (tree_of p) (quantifier_head false)
     (variable v ∷ kind_word k ∷ []) tree refl (λ x y. refl)
-    (lt-ltb depth 32 shallow) (may_bind scope v false binder.fresh few) (rw body.one refl) body.lawful (
-      spell_more text a.start e.start z.start (variable v ∷ kind_word k ∷ []) (tokens_then (tree_of p) (right ∷ []))
-          binder.taken.0 body.taken.0,
-      body.taken.1,
-    )
+    (lt-ltb depth 32 shallow) (may_bind scope v false binder.fresh few) (rw body.one refl) body.lawful
+    (takes_more text a e z (variable v ∷ kind_word k ∷ []) (tokens_then (tree_of p) (right ∷ [])) binder.taken
+    body.taken)
 quantified_read text a e z scope depth true v k (Some u) p whole tree binder few shallow body =
     form_read text a z scope depth whole (form.EveryBefore v k u) (tree_of p) (quantifier_head true)
     (variable v ∷ kind_word k ∷ codes "before" ∷ variable u ∷ []) tree refl (λ x y. refl)
     (lt-ltb depth 32 shallow) (rw (may_bind scope v true binder.fresh few) binder.range)
-    (rw body.one refl) body.lawful (
-      spell_more text a.start e.start z.start (variable v ∷ kind_word k ∷ codes "before" ∷ variable u ∷ [])
-          (tokens_then (tree_of p) (right ∷ [])) binder.taken.0 body.taken.0,
-      body.taken.1,
-    )
+    (rw body.one refl) body.lawful
+    (takes_more text a e z (variable v ∷ kind_word k ∷ codes "before" ∷ variable u ∷ [])
+    (tokens_then (tree_of p) (right ∷ [])) binder.taken body.taken)
 quantified_read text a e z scope depth false v k (Some u) p whole tree binder few shallow body =
     form_read text a z scope depth whole (form.SomeBefore v k u) (tree_of p) (quantifier_head false)
     (variable v ∷ kind_word k ∷ codes "before" ∷ variable u ∷ []) tree refl (λ x y. refl)
     (lt-ltb depth 32 shallow) (rw (may_bind scope v false binder.fresh few) binder.range)
-    (rw body.one refl) body.lawful (
-      spell_more text a.start e.start z.start (variable v ∷ kind_word k ∷ codes "before" ∷ variable u ∷ [])
-          (tokens_then (tree_of p) (right ∷ [])) binder.taken.0 body.taken.0,
-      body.taken.1,
-    )
+    (rw body.one refl) body.lawful
+    (takes_more text a e z (variable v ∷ kind_word k ∷ codes "before" ∷ variable u ∷ [])
+    (tokens_then (tree_of p) (right ∷ [])) binder.taken body.taken)

@@ -107,5 +107,8 @@ shape_step (Formula-F.Less t s) = (form.Less t s, no_trees, λ rest. refl)
 -- each formula puts one form with its parts in front
 pub shape : (f : Formula) → (form : Form) × (parts : Trees) × IsInFront (in_front f) form parts
 shape f =
-    let s = shape_step (map-Formula Formula (Trees → Trees) in_front (out-Formula f)) in
-    (s.0, s.1, λ rest. ap (λ (put : Trees → Trees). put rest) (fold_out-Formula (Trees → Trees) tree_step f) ∙ s.2 rest)
+    let (outer, parts, is) = shape_step (map-Formula Formula (Trees → Trees) in_front (out-Formula f)) in (
+      outer,
+      parts,
+      λ rest. ap (λ (put : Trees → Trees). put rest) (fold_out-Formula (Trees → Trees) tree_step f) ∙ is rest,
+    )

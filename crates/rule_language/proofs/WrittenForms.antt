@@ -56,7 +56,7 @@ written_pieces tree f parts old opened headed filled closed is other opens heads
 -- a row is written formula by formula
 pub row_front : (p : Formula) (rest : Trees) → row_text (in_front p rest) ≡ row_text (tree_of p) ++ row_text rest
 row_front p rest =
-    let s = shape p in
-    ap row_text (s.2 rest)
-    ∙ ap (λ xs. 32 ∷ (xs ++ row_text rest)) (sym (append-nil (form_text s.0 (row_text s.1))))
-    ∙ sym (ap (λ t. row_text t ++ row_text rest) (s.2 no_trees))
+    let (outer, parts, view) = shape p in
+    ap row_text (view rest)
+    ∙ ap (λ xs. 32 ∷ (xs ++ row_text rest)) (sym (append-nil (form_text outer (row_text parts))))
+    ∙ sym (ap (λ t. row_text t ++ row_text rest) (view no_trees))

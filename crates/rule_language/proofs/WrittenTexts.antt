@@ -113,8 +113,8 @@ can_spelt scope v can = variable_spelt v
 -- digits belong to words
 digits_bytes : (ds : List ℕ) → AreDigits ds → are_word_bytes ds ≡ true
 digits_bytes [] digits = refl
-digits_bytes (d ∷ ds) digits = rw (in_range 48 57 d (omega arith) (omega arith) digits.0 (omega (arith, digits.1)))
-    (digits_bytes ds digits.2)
+digits_bytes (d ∷ ds) (low, high, others) =
+    rw (in_range 48 57 d (omega arith) (omega arith) low (omega (arith, high))) (digits_bytes ds others)
 
 -- the word of a term that has a sort is spelt
 term_spelt : (scope : Scope) (t : Term) (o : Option Sort) → sort_of scope t ≡ o → is_some o ≡ true
@@ -144,38 +144,41 @@ sorts_some (Some s) (Some o) e = (refl, refl)
 
 -- the words of two terms of one sort are spelt
 terms_spelt : (scope : Scope) (t u : Term) → are_of_one_sort (sort_of scope t) (sort_of scope u) ≡ true
-    → IsSpelt (term_word t) × IsSpelt (term_word u)
+    → AreSpelt (term_word t ∷ term_word u ∷ [])
 terms_spelt scope t u same =
     let s = sorts_some (sort_of scope t) (sort_of scope u) same in
-    (term_spelt scope t (sort_of scope t) refl s.0, term_spelt scope u (sort_of scope u) refl s.1)
+    (term_spelt scope t (sort_of scope t) refl s.0, (term_spelt scope u (sort_of scope u) refl s.1, tt))
+
+-- what stands behind the first word of a quantifier with `before` is spelt
+before_spelt : (scope : Scope) (v : ℕ) (k : Kind) (u : ℕ) → (can_bind scope v && is_bound scope u) ≡ true
+    → AreSpelt (variable v ∷ kind_word k ∷ codes "before" ∷ variable u ∷ [])
+before_spelt scope v k u good =
+    let (can, bound) = both_true (can_bind scope v) (is_bound scope u) good in
+    (can_spelt scope v can, (kind_spelt k, ((omega arith, refl), (bound_spelt scope u bound, tt))))
 
 -- the words of a form that may stand are spelt
 form_spelt : (scope : Scope) (f : Form) → is_closed scope f ≡ true → AreSpelt (form_words f)
 form_spelt scope form.True good = ((omega arith, refl), tt)
 form_spelt scope (form.ForEvery v k) good = ((omega arith, refl), (can_spelt scope v good, (kind_spelt k, tt)))
 form_spelt scope (form.ForSome v k) good = ((omega arith, refl), (can_spelt scope v good, (kind_spelt k, tt)))
-form_spelt scope (form.EveryBefore v k u) good =
-    let b = both_true (can_bind scope v) (is_bound scope u) good in
-    ((omega arith, refl), (can_spelt scope v b.0, (kind_spelt k, ((omega arith, refl), (bound_spelt scope u b.1, tt)))))
-form_spelt scope (form.SomeBefore v k u) good =
-    let b = both_true (can_bind scope v) (is_bound scope u) good in
-    ((omega arith, refl), (can_spelt scope v b.0, (kind_spelt k, ((omega arith, refl), (bound_spelt scope u b.1, tt)))))
+form_spelt scope (form.EveryBefore v k u) good = ((omega arith, refl), before_spelt scope v k u good)
+form_spelt scope (form.SomeBefore v k u) good = ((omega arith, refl), before_spelt scope v k u good)
 form_spelt scope form.And good = ((omega arith, refl), tt)
 form_spelt scope form.Or good = ((omega arith, refl), tt)
 form_spelt scope form.Not good = ((omega arith, refl), tt)
 form_spelt scope form.Implies good = ((omega arith, refl), tt)
-form_spelt scope (form.Same v u) good = let b = both_true (is_bound scope v) (is_bound scope u) good in
-    ((omega arith, refl), (bound_spelt scope v b.0, (bound_spelt scope u b.1, tt)))
-form_spelt scope (form.Before v u) good = let b = both_true (is_bound scope v) (is_bound scope u) good in
-    ((omega arith, refl), (bound_spelt scope v b.0, (bound_spelt scope u b.1, tt)))
-form_spelt scope (form.Next v u) good = let b = both_true (is_bound scope v) (is_bound scope u) good in
-    ((omega arith, refl), (bound_spelt scope v b.0, (bound_spelt scope u b.1, tt)))
+form_spelt scope (form.Same v u) good = let (first, second) = both_true (is_bound scope v) (is_bound scope u) good in
+    ((omega arith, refl), (bound_spelt scope v first, (bound_spelt scope u second, tt)))
+form_spelt scope (form.Before v u) good = let (first, second) = both_true (is_bound scope v) (is_bound scope u) good in
+    ((omega arith, refl), (bound_spelt scope v first, (bound_spelt scope u second, tt)))
+form_spelt scope (form.Next v u) good = let (first, second) = both_true (is_bound scope v) (is_bound scope u) good in
+    ((omega arith, refl), (bound_spelt scope v first, (bound_spelt scope u second, tt)))
 form_spelt scope (form.Is v r) good = ((omega arith, refl), (bound_spelt scope v good, (role_spelt r, tt)))
 form_spelt scope (form.OfKind v k) good = ((omega arith, refl), (bound_spelt scope v good, (kind_spelt k, tt)))
-form_spelt scope (form.Equal t u) good = let s = terms_spelt scope t u good in ((omega arith, refl), (s.0, (s.1, tt)))
+form_spelt scope (form.Equal t u) good = ((omega arith, refl), terms_spelt scope t u good)
 form_spelt scope (form.Less t u) good =
     let b = both_true (has_order (sort_of scope t)) (are_of_one_sort (sort_of scope t) (sort_of scope u)) good in
-    let s = terms_spelt scope t u b.1 in ((omega arith, refl), (s.0, (s.1, tt)))
+    ((omega arith, refl), terms_spelt scope t u b.1)
 
 -- no word begins with a space or a parenthesis
 space_breaks : ¬ (IsWordByte 32)
@@ -197,16 +200,15 @@ spaced_breaks (w ∷ ws) = breaks_first 32 (w ++ spaced ws) space_breaks
 -- words with a space before each spell themselves
 spaced_spells : (ws : List Token) → AreSpelt ws → Spells (spaced ws) ws
 spaced_spells [] good = spells_none
-spaced_spells (w ∷ ws) good =
+spaced_spells (w ∷ ws) ((some, bytes), others) =
     opens_more (32 ∷ []) (w ++ spaced ws) [] (w ∷ ws) (opens_separator 32 (inl refl))
-    (spells_more w (spaced ws) (w ∷ []) ws (spells_word w good.0.0 good.0.1) (spaced_spells ws good.1)
-    (spaced_breaks ws))
+    (spells_more w (spaced ws) (w ∷ []) ws (spells_word w some bytes) (spaced_spells ws others) (spaced_breaks ws))
 
 -- words with a space between each two spell themselves
 joined_spells : (ws : List Token) → AreSpelt ws → Spells (with_spaces ws) ws
 joined_spells [] good = spells_none
-joined_spells (w ∷ ws) good = spells_more w (spaced ws) (w ∷ []) ws (spells_word w good.0.0 good.0.1)
-    (spaced_spells ws good.1) (spaced_breaks ws)
+joined_spells (w ∷ ws) ((some, bytes), others) =
+    spells_more w (spaced ws) (w ∷ []) ws (spells_word w some bytes) (spaced_spells ws others) (spaced_breaks ws)
 
 -- no word goes on where a row of formulas begins
 row_breaks : (trees : Trees) → BreaksBehind (row_text trees)
@@ -261,9 +263,9 @@ pub row_spells : (trees : Trees) (scope : Scope) (depth : ℕ) → are_formulas 
     → Spells (row_text trees) (tokens_then trees [])
 row_spells no_trees scope depth good = spells_none
 row_spells (tree_then f parts trees) scope depth good =
-    let may = may_stand scope depth f parts trees good in
-    let first = form_spells scope f parts may.0.1 (row_spells parts (scope_in f scope) (depth + 1) may.0.3) in
-    let rest = row_spells trees scope depth may.1 in
+    let ((_, closed, _, inner), others) = may_stand scope depth f parts trees good in
+    let first = form_spells scope f parts closed (row_spells parts (scope_in f scope) (depth + 1) inner) in
+    let rest = row_spells trees scope depth others in
     let both = spells_more (form_text f (row_text parts)) (row_text trees) (spelt f (tokens_then parts []) [])
     (tokens_then trees []) first rest (row_breaks trees) in
     let whole = opens_more (32 ∷ []) (form_text f (row_text parts) ++ row_text trees) []

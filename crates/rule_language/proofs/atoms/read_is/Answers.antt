@@ -6,7 +6,7 @@ use Rattle.roster.specs.RosterText.{role_word}
 use Rattle.rule_language.specs.Wants.{a_variable, a_role, close}
 use Rattle.rule_language.specs.Spelling.{variable, right}
 use Rattle.rule_language.specs.inside.Reader.{bindings}
-use Rattle.rule_language.proofs.Refusals.{exit_behind, passed_more, spell_more}
+use Rattle.rule_language.proofs.Refusals.{exit_behind, passed_more, takes_more}
 use Rattle.rule_language.proofs.Steps.{variable_step, role_step, close_asks}
 use Rattle.rule_language.proofs.FormsRead.{atom_read}
 use Rattle.rule_language.specs.declared.form.Form.TheVariants as form
@@ -29,6 +29,7 @@ pub returns-in_err-read_only-clause-err : goal.returns-in_err-read_only-clause-e
 returns-in_err-read_only-clause-err c = λ depth.
     let text = c.args.text.now in
     let scope = bindings c.args.scope.now in
+    let (taken, bound) = c.in_ok-v.ensures.ok in
     exit_behind c.read_only.result c.in_err-read_only.field-0.0 c.from_residual-in_err-read_only.result text
     c.args.token.now.start
     c.read_role.new.token.start ((variable c.in_ok-v.v ∷ []) ++ (role_word c.in_ok-role.role ∷ []))
@@ -38,7 +39,7 @@ returns-in_err-read_only-clause-err c = λ depth.
     (variable c.in_ok-v.v ∷ []) (role_word c.in_ok-role.role ∷ [])
     (λ rest. a_variable scope ∷ a_role ∷ close ∷ rest) (λ rest. a_role ∷ close ∷ rest) (λ rest. close ∷ rest)
     (variable_step text c.args.token.now c.read_variable.new.token (λ rest. a_role ∷ close ∷ rest) scope c.in_ok-v.v
-    c.in_ok-v.ensures.ok.0 c.in_ok-v.ensures.ok.1)
+    taken bound)
     (role_step text c.read_variable.new.token c.read_role.new.token (λ rest. close ∷ rest) c.in_ok-role.role
     c.in_ok-role.ensures.ok.0))
     (c.read_only.ensures.err (λ rest. close ∷ rest) close_asks)
@@ -53,11 +54,8 @@ returns-clause-ok c = λ depth shallow.
     let b = c.read_variable.new.token in
     let d = c.read_role.new.token in
     let e = c.read_only.new.token in
-    let one = c.in_ok-v.ensures.ok in
+    let (taken, bound) = c.in_ok-v.ensures.ok in
     atom_read text a e scope depth (Is c.in_ok-v.v c.in_ok-role.role) (form.Is c.in_ok-v.v c.in_ok-role.role) head.Is
-    (v ∷ u ∷ []) (view-Is c.in_ok-v.v c.in_ok-role.role) refl (λ x y. refl) (lt-ltb depth 32 shallow) one.1 refl (
-      spell_more text a.start b.start e.start (v ∷ []) (u ∷ right ∷ []) one.0.0
-          (spell_more text b.start d.start e.start (u ∷ []) (right ∷ []) c.in_ok-role.ensures.ok.0.0
-          c.in_ok-read_only.ensures.ok.0.0),
-      c.in_ok-read_only.ensures.ok.0.1,
-    )
+    (v ∷ u ∷ []) (view-Is c.in_ok-v.v c.in_ok-role.role) refl (λ x y. refl) (lt-ltb depth 32 shallow) bound refl
+    (takes_more text a b e (v ∷ []) (u ∷ right ∷ []) taken
+    (takes_more text b d e (u ∷ []) (right ∷ []) c.in_ok-role.ensures.ok.0 c.in_ok-read_only.ensures.ok.0))

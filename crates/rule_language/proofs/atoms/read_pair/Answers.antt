@@ -2,7 +2,7 @@ use Rattle.std.proofs.Common.{◌∷◌, [], refl}
 use Rattle.rule_language.specs.Wants.{a_variable, close}
 use Rattle.rule_language.specs.Spelling.{variable, right}
 use Rattle.rule_language.specs.inside.Reader.{bindings}
-use Rattle.rule_language.proofs.Refusals.{exit_behind, passed_more, spell_more}
+use Rattle.rule_language.proofs.Refusals.{exit_behind, passed_more, takes_more}
 use Rattle.rule_language.proofs.Steps.{variable_step, close_asks}
 use Rattle.rule_language.proofs.atoms.read_pair.Goals as goal
 
@@ -46,16 +46,12 @@ returns-clause-ok c =
     let text = c.args.text.now in
     let one = c.in_ok-v.ensures.ok in
     let two = c.in_ok-u.ensures.ok in
-    let three = c.in_ok-read_only.ensures.ok in
     let a = c.args.token.now in
     let b = c.read_variable.new.token in
     let d = c.read_variable-2.new.token in
     let e = c.read_only.new.token in
     record {
-      taken = (
-        spell_more text a.start b.start e.start (variable c.in_ok-v.v ∷ []) (variable c.in_ok-u.u ∷ right ∷ []) one.0.0
-            (spell_more text b.start d.start e.start (variable c.in_ok-u.u ∷ []) (right ∷ []) two.0.0 three.0.0),
-        three.0.1,
-      );
+      taken = takes_more text a b e (variable c.in_ok-v.v ∷ []) (variable c.in_ok-u.u ∷ right ∷ []) one.0
+          (takes_more text b d e (variable c.in_ok-u.u ∷ []) (right ∷ []) two.0 c.in_ok-read_only.ensures.ok.0);
       bound = rw one.1 (rw two.1 refl);
     }

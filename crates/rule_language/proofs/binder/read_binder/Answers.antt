@@ -33,6 +33,7 @@ pub returns-in_err-u-clause-err : goal.returns-in_err-u-clause-err
 returns-in_err-u-clause-err c = λ depth.
     let text = c.args.text.now in
     let scope = bindings c.args.scope.now in
+    let (taken, fresh) = c.in_ok-v.ensures.ok in
     exit_behind c.read_range.result c.in_err-u.field-0.0 c.from_residual-in_err-u.result text c.args.token.now.start
     c.read_kind.new.token.start ((variable c.in_ok-v.v ∷ []) ++ (kind_word c.in_ok-kind.kind ∷ []))
     (λ rest. new_variable scope depth ∷ rest)
@@ -42,15 +43,15 @@ returns-in_err-u-clause-err c = λ depth.
     (variable c.in_ok-v.v ∷ []) (kind_word c.in_ok-kind.kind ∷ [])
     (λ rest. new_variable scope depth ∷ rest) (λ rest. kind_of c.in_ok-v.v scope depth ∷ rest)
     (λ rest. before_or_body c.in_ok-v.v c.in_ok-kind.kind scope depth ∷ rest)
-    (new_step text c.args.token.now c.read_new_variable.new.token (λ rest. rest) scope depth c.in_ok-v.v
-    c.in_ok-v.ensures.ok.0 c.in_ok-v.ensures.ok.1)
+    (new_step text c.args.token.now c.read_new_variable.new.token (λ rest. rest) scope depth c.in_ok-v.v taken fresh)
     (kind_of_step text c.read_new_variable.new.token c.read_kind.new.token (λ rest. rest) c.in_ok-v.v scope depth
     c.in_ok-kind.kind c.in_ok-kind.ensures.ok.0))
     (c.read_range.ensures.err c.in_ok-v.v c.in_ok-kind.kind depth)
 
 pub returns-clause-ok : goal.returns-clause-ok
 returns-clause-ok c =
+    let (taken, fresh) = c.in_ok-v.ensures.ok in
     binder_read c.args.text.now c.args.token.now c.read_new_variable.new.token c.read_kind.new.token
     c.read_range.new.token
-    (bindings c.args.scope.now) c.in_ok-v.v c.in_ok-kind.kind c.in_ok-u.u c.in_ok-v.ensures.ok.0 c.in_ok-v.ensures.ok.1
-    c.in_ok-kind.ensures.ok.0 c.in_ok-u.ensures.ok
+    (bindings c.args.scope.now) c.in_ok-v.v c.in_ok-kind.kind c.in_ok-u.u taken fresh c.in_ok-kind.ensures.ok.0
+    c.in_ok-u.ensures.ok

@@ -4,7 +4,7 @@ use Rattle.rule_language.specs.Wants.{a_variable, before_or_body, formula, close
 use Rattle.hall_text.specs.Spans.{piece}
 use Rattle.rule_language.specs.Spelling.{Token, variable}
 use Rattle.rule_language.specs.inside.Reader.{bindings, Takes}
-use Rattle.rule_language.proofs.Refusals.{exit_behind, one_passed, spell_more}
+use Rattle.rule_language.proofs.Refusals.{exit_behind, one_passed, takes_more}
 use Rattle.rule_language.proofs.binder.read_range.Goals as goal
 
 -- the word `before` was taken
@@ -33,12 +33,8 @@ returns-clause-ok c =
     let is = c.is_word.ensures.0 c.if-not-is_word.false in
     let taken : Takes text c.args.token.now c.advance.new.token (codes "before" ∷ []) =
     rw is at (c.advance.ensures (is_some (piece text c.args.token.now) is)) in
-    let u = c.in_ok-u.ensures.ok in (
-      (
-        spell_more text c.args.token.now.start c.advance.new.token.start c.read_variable.new.token.start
-            (codes "before" ∷ [])
-            (variable c.in_ok-u.u ∷ []) taken.0 u.0.0,
-        u.0.1,
-      ),
-      u.1,
+    let (variable_taken, bound) = c.in_ok-u.ensures.ok in (
+      takes_more text c.args.token.now c.advance.new.token c.read_variable.new.token (codes "before" ∷ [])
+          (variable c.in_ok-u.u ∷ []) taken variable_taken,
+      bound,
     )

@@ -22,12 +22,12 @@ pub rules-preserved : goal.rules-preserved
 rules-preserved c =
     let rule = c.in_ok-rule.rule in
     let before = c.rules.rules.items in
-    let read = rw c.as_slice.ensures.value at c.in_ok-rule.ensures.ok in
+    let (taken, good) = rw c.as_slice.ensures.value at c.in_ok-rule.ensures.ok in
     record {
-      next = read.0.1;
+      next = taken.1;
       stand = rw c.in_ok-push.ensures.items
-          (stand_more c.args.text.now c.rules.token c.read_rule.new.token before rule c.rules.invariant.stand read.0);
-      good = rw c.in_ok-push.ensures.items (good_more_rules before rule c.rules.invariant.good read.1);
+          (stand_more c.args.text.now c.rules.token c.read_rule.new.token before rule c.rules.invariant.stand taken);
+      good = rw c.in_ok-push.ensures.items (good_more_rules before rule c.rules.invariant.good good);
       few = omega (
         arith,
         few_rules c.as_slice.result.now rule c.in_ok-rule.ensures.ok.1,
