@@ -22,10 +22,10 @@ module _ (rows : List Row) (width : ℕ) where
   -- a row is too wide where its first formula is or the others are
   pub wide-in_front : (f : Formula) (rest : Trees) → wide (in_front f rest) ≡ (wide (tree_of f) || wide rest)
   wide-in_front f rest =
-      let s = shape f in
-      let inside = widens_by rows (quantified_kind s.0) (is_too_wide rows s.1) width in
-      ap wide (s.2 rest)
-      ∙ ap (λ (b : Bool). b || wide rest) (sym (ap wide (s.2 no_trees) ∙ or-false inside))
+      let (outer, parts, view) = shape f in
+      let inside = widens_by rows (quantified_kind outer) (is_too_wide rows parts) width in
+      ap wide (view rest)
+      ∙ ap (λ (b : Bool). b || wide rest) (sym (ap wide (view no_trees) ∙ or-false inside))
 
   -- an `implies` is too wide where one of its formulas is
   pub wide-Implies : (f g : Box Formula Global) →
