@@ -44,9 +44,9 @@ pub there_are_files : (told : Option Files) (names : List (List ℕ)) →
     (files : List (Option (List ℕ))) × AreFiles told names files
 there_are_files told [] = ([], tt)
 there_are_files None (name ∷ names) =
-    let rest = there_are_files None names in (None ∷ rest.0, (tt, rest.1))
+    let (files, are) = there_are_files None names in (None ∷ files, (tt, are))
 there_are_files (Some at) (name ∷ names) =
-    let rest = there_are_files (Some at) names in (at name ∷ rest.0, (refl, rest.1))
+    let (files, are) = there_are_files (Some at) names in (at name ∷ files, (refl, are))
 
 -- a rule that is too wide is told by its place
 pub too_wide_gives : (machines : List Post) (source : RuleSource) (trees given : List RuleTree) (names : List (List ℕ))

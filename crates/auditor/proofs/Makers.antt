@@ -32,13 +32,12 @@ pub forks_have_makers : (machines : List Post) (survivors : List SealedEntry) (f
     HaveMakers machines survivors → AreForks node_of_sealed survivors forks → told ≡ forks →
     All (λ (fork : ℕ × ℕ). fork.0 < length machines) told
 forks_have_makers machines survivors forks told makers are same =
-    let P : List (ℕ × ℕ) → Type 0 = λ fs. All (λ (fork : ℕ × ℕ). fork.0 < length machines) fs in
-    subst P (sym same) (λ k d within. of_fork (get_or forks k d) (Contains-get_or forks k d within))
+    rw same (λ k d within. of_fork (get_or forks k d) (Contains-get_or forks k d within))
   where
     -- a fork's maker is the maker of a survivor
     of_fork : (fork : ℕ × ℕ) → Rattle.std.specs.List.Contains forks fork → fork.0 < length machines
-    of_fork fork member =
-        let (e, f, has, also, differ, maker, number, other, twice) = (are.members fork.0 fork.1).0 member in
+    of_fork (fork_maker, fork_number) member =
+        let (e, f, has, also, differ, maker, number, other, twice) = (are.members fork_maker fork_number).0 member in
         subst (λ (m : ℕ). m < length machines) maker
         (All-contains (λ (sealed : SealedEntry). sealed.entry.maker < length machines) survivors e makers has)
 
@@ -97,10 +96,10 @@ kept_each : (machines : List Post) (election : List ℕ) (place : ℕ) (trees : 
 kept_each machines election place [] [] gives = tt
 kept_each machines election place [] (r ∷ readings) gives = absurd gives
 kept_each machines election place (t ∷ trees) [] gives = absurd gives
-kept_each machines election place (t ∷ trees) (Err fault ∷ readings) gives =
-    kept_each machines election (place + 1) trees readings gives.1
-kept_each machines election place (t ∷ trees) (Ok kept ∷ readings) gives =
-    (valid gives.0, kept_each machines election (place + 1) trees readings gives.1)
+kept_each machines election place (t ∷ trees) (Err fault ∷ readings) (_, rest) =
+    kept_each machines election (place + 1) trees readings rest
+kept_each machines election place (t ∷ trees) (Ok kept ∷ readings) (gives, rest) =
+    (valid gives, kept_each machines election (place + 1) trees readings rest)
   where
     -- the maker in a record that was read is in the roster
     valid : Gives (IsReadSealed machines election) place t (Ok kept) → kept.entry.entry.maker < length machines

@@ -273,17 +273,17 @@ pub record Ones : Type 0 where
 one_rules : Ones → (name : List ℕ) (file : Option (List ℕ)) (a b : Result (List RuleTree) Refusal) →
     GivesRules name file a → GivesRules name file b → Agree (λ x y. x ≡ y) a b
 one_rules ones name None a b x y = agree_same a b (x ∙ sym y)
-one_rules ones name (Some bytes) (Ok rules) (Ok others) x y =
-    let same : Ok rules ≡ Ok others = ones.readings bytes (Ok rules) (Ok others) x.1 y.1 in cc
-one_rules ones name (Some bytes) (Ok rules) (Err s) x (inl y) = absurd (omega (arith, x.0, y.0))
-one_rules ones name (Some bytes) (Ok rules) (Err s) x (inr (fits, (at, why, first, e))) =
-    let same : Ok rules ≡ Err (At at why) = ones.readings bytes (Ok rules) (Err (At at why)) x.1 first in cc
-one_rules ones name (Some bytes) (Err r) (Ok others) (inl x) y = absurd (omega (arith, x.0, y.0))
-one_rules ones name (Some bytes) (Err r) (Ok others) (inr (fits, (at, why, first, e))) y =
-    let same : Ok others ≡ Err (At at why) = ones.readings bytes (Ok others) (Err (At at why)) y.1 first in cc
-one_rules ones name (Some bytes) (Err r) (Err s) (inl x) (inl y) = x.1 ∙ sym y.1
-one_rules ones name (Some bytes) (Err r) (Err s) (inl x) (inr y) = absurd (omega (arith, x.0, y.0))
-one_rules ones name (Some bytes) (Err r) (Err s) (inr x) (inl y) = absurd (omega (arith, x.0, y.0))
+one_rules ones name (Some bytes) (Ok rules) (Ok others) (_, read) (_, also) =
+    let same : Ok rules ≡ Ok others = ones.readings bytes (Ok rules) (Ok others) read also in cc
+one_rules ones name (Some bytes) (Ok rules) (Err s) (fits, _) (inl (long, _)) = absurd (omega (arith, fits, long))
+one_rules ones name (Some bytes) (Ok rules) (Err s) (_, read) (inr (fits, (at, why, first, e))) =
+    let same : Ok rules ≡ Err (At at why) = ones.readings bytes (Ok rules) (Err (At at why)) read first in cc
+one_rules ones name (Some bytes) (Err r) (Ok others) (inl (long, _)) (fits, _) = absurd (omega (arith, long, fits))
+one_rules ones name (Some bytes) (Err r) (Ok others) (inr (fits, (at, why, first, e))) (_, read) =
+    let same : Ok others ≡ Err (At at why) = ones.readings bytes (Ok others) (Err (At at why)) read first in cc
+one_rules ones name (Some bytes) (Err r) (Err s) (inl (_, is)) (inl (_, also)) = is ∙ sym also
+one_rules ones name (Some bytes) (Err r) (Err s) (inl (long, _)) (inr (fits, _)) = absurd (omega (arith, long, fits))
+one_rules ones name (Some bytes) (Err r) (Err s) (inr (fits, _)) (inl (long, _)) = absurd (omega (arith, fits, long))
 one_rules ones name (Some bytes) (Err r) (Err s) (inr (fits, (at, why, first, e)))
     (inr (fits', (at', why', first', e'))) =
     let same : Err (At at why) ≡ Err (At at' why') =

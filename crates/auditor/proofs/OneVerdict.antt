@@ -79,13 +79,13 @@ SameVerdict verdict other = ⊥
 one_verdict : (rows : List Row) (order : ℕ → ℕ → Three) (wholes : ℕ → Bool) (tree : Trees) (v w : Verdict) →
     IsVerdict rows order wholes tree v → IsVerdict rows order wholes tree w → SameVerdict v w
 one_verdict rows order wholes tree Kept Kept a b = tt
-one_verdict rows order wholes tree Kept (Broken q) a b = let no : True ≡ False = sym a ∙ b.0 in cc
+one_verdict rows order wholes tree Kept (Broken q) a (fails, _) = let no : True ≡ False = sym a ∙ fails in cc
 one_verdict rows order wholes tree Kept Unsettled a b = let no : True ≡ Unknown = sym a ∙ b in cc
-one_verdict rows order wholes tree (Broken p) Kept a b = let no : False ≡ True = sym a.0 ∙ b in cc
-one_verdict rows order wholes tree (Broken p) (Broken q) a b = a.1 ∙ sym b.1
-one_verdict rows order wholes tree (Broken p) Unsettled a b = let no : False ≡ Unknown = sym a.0 ∙ b in cc
+one_verdict rows order wholes tree (Broken p) Kept (fails, _) b = let no : False ≡ True = sym fails ∙ b in cc
+one_verdict rows order wholes tree (Broken p) (Broken q) (_, places) (_, also) = places ∙ sym also
+one_verdict rows order wholes tree (Broken p) Unsettled (fails, _) b = let no : False ≡ Unknown = sym fails ∙ b in cc
 one_verdict rows order wholes tree Unsettled Kept a b = let no : Unknown ≡ True = sym a ∙ b in cc
-one_verdict rows order wholes tree Unsettled (Broken q) a b = let no : Unknown ≡ False = sym a ∙ b.0 in cc
+one_verdict rows order wholes tree Unsettled (Broken q) a (fails, _) = let no : Unknown ≡ False = sym a ∙ fails in cc
 one_verdict rows order wholes tree Unsettled Unsettled a b = tt
 
 -- two places at which a rule is the first that is too wide are one
