@@ -178,10 +178,9 @@ module _ {T : Type 0} (node : T → Node) (es : List T) (e : T) where
         -- e's digest is none of those that are kept
         apart : (c : List ℕ) → Contains kept c → c ≢ (node e).digest
         apart c h s =
-            let f = Contains-filter_cases (λ d. not (names_digest node e d)) (frontier node es) c h in
-            let r = frontier_cases node es c f.0 in
-            let m = Contains-map_cases (λ e. (node e).digest) es c r.0 in
-            new m.0 m.1 (m.2 ∙ s)
+            let (listed, _) = Contains-filter_cases (λ d. not (names_digest node e d)) (frontier node es) c h in
+            let (borne, _) = frontier_cases node es c listed in
+            let (bearer, held, is) = Contains-map_cases (λ e. (node e).digest) es c borne in new bearer held (is ∙ s)
 
         -- as many of the digests that are kept are below e's as are counted at their places
         counts : low (node e).digest kept ≡ count_below node (es ++ e ∷ []) (node e).digest (left ps)

@@ -23,32 +23,30 @@ module _ {T : Type 0} (node : T → Node) where
   lacks_if_wanted : (es : List T) (d : List ℕ) → (is_named node es d && not (has_digest node es d)) ≡ true →
       lacks_some node es ≡ true
   lacks_if_wanted es d t =
-      let parts = and_parts (is_named node es d) (not (has_digest node es d)) t in
-      let by = list_any_some (λ e. names_digest node e d) es parts.0 in
-      list_any_of (λ e. lacks node es (node e).names) es by.0 by.1
-      (list_any_of (λ d. not (has_digest node es d)) (node by.0).names d (names_digest_from node by.0 d by.2) parts.1)
+      let (named, unborne) = and_parts (is_named node es d) (not (has_digest node es d)) t in
+      let (e, held, names) = list_any_some (λ e. names_digest node e d) es named in
+      list_any_of (λ e. lacks node es (node e).names) es e held
+      (list_any_of (λ d. not (has_digest node es d)) (node e).names d (names_digest_from node e d names) unborne)
 
   -- and where one is so, the table isn't empty
   wanted_if_lacks : (es : List T) → lacks_some node es ≡ true →
       (d : List ℕ) × ((is_named node es d && not (has_digest node es d)) ≡ true)
   wanted_if_lacks es t =
-      let by = list_any_some (λ e. lacks node es (node e).names) es t in
-      let what = list_any_some (λ d. not (has_digest node es d)) (node by.0).names by.2 in (
-        what.0,
-        and_from (is_named node es what.0) (not (has_digest node es what.0))
-            (list_any_of (λ e. names_digest node e what.0) es by.0 by.1 (names_digest_of node by.0 what.0 what.1))
-            what.2,
+      let (e, held, names_one) = list_any_some (λ e. lacks node es (node e).names) es t in
+      let (d, named, unborne) = list_any_some (λ d. not (has_digest node es d)) (node e).names names_one in (
+        d,
+        and_from (is_named node es d) (not (has_digest node es d))
+            (list_any_of (λ e. names_digest node e d) es e held (names_digest_of node e d named)) unborne,
       )
 
   -- the scan finds exactly what there is
   pub lacks_decides : (es : List T) → (lacks_some node es ≡ true) ↔ NamesUnborne node es
   lacks_decides es = (
-    λ t. let w = wanted_if_lacks es t in
-        let parts = and_parts (is_named node es w.0) (not (has_digest node es w.0)) w.1 in (
-          w.0,
-          is_named_from node es w.0 parts.0,
-          λ borne. true≢false
-              (sym (has_digest_of node es w.0 borne) ∙ not-true (has_digest node es w.0) parts.1),
+    λ t. let (d, both) = wanted_if_lacks es t in
+        let (named, unborne) = and_parts (is_named node es d) (not (has_digest node es d)) both in (
+          d,
+          is_named_from node es d named,
+          λ borne. true≢false (sym (has_digest_of node es d borne) ∙ not-true (has_digest node es d) unborne),
         ),
     λ (d, named, lost). lacks_if_wanted es d
         (and_from (is_named node es d) (not (has_digest node es d)) (is_named_of node es d named)
@@ -93,8 +91,8 @@ module _ {T : Type 0} (node : T → Node) where
         let new : IsNew node es e = distinct es e [] split in
         let free : has_digest node es d ≡ false =
         false_from_ne_true (has_digest node es d)
-        (λ t. let f = list_any_some (λ g. bytes_eq (node g).digest d) es t in
-        new f.0 f.1 ((bytes_eq-Decides (node f.0).digest d).0 f.2)) in
+        (λ t. let (f, held, same) = list_any_some (λ g. bytes_eq (node g).digest d) es t in
+        new f held ((bytes_eq-Decides (node f).digest d).0 same)) in
         ap (λ b. b || names_digest node e d)
         (are scans d ∙ ap (λ b. is_named node es d && not b) free ∙ and_true (is_named node es d))
         ∙ ap (λ b. is_named node es d || b) (or_false (names_digest node e d))
