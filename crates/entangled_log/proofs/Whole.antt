@@ -22,7 +22,7 @@ module _ {T : Type 0} (node : T → Node) where
   names_only_held es b finds = (
     λ t e d c n. by t e d c n (has_digest node es d) refl,
     λ whole. not_from_false b (false_from_ne_true b
-        (λ t. let w = finds.0 t in w.2 (whole w.1.0 w.0 w.1.1 w.1.2))),
+        (λ t. let (d, (e, held, named), unborne) = finds.0 t in unborne (whole e d held named))),
   )
     where
       by : IsTrue (not b) → (e : T) (d : List ℕ) → Contains es e → Contains (node e).names d → (held : Bool) →
@@ -42,7 +42,7 @@ module _ {T : Type 0} (node : T → Node) (h : List (Event T)) where
   borne_held d = (
     λ (x, c, is). (entry_of x, Contains-map entry_of h x c, is),
     λ (e, c, is).
-        let r = Contains-map_cases entry_of h e c in (r.0, r.1, ap (λ (u : T). (node u).digest) r.2 ∙ is),
+        let (x, at, same) = Contains-map_cases entry_of h e c in (x, at, ap (λ (u : T). (node u).digest) same ∙ is),
   )
 
   -- what the table of digests answers of the events
@@ -58,8 +58,7 @@ module _ {T : Type 0} (node : T → Node) (h : List (Event T)) where
   whole_entries b finds =
       let events = names_only_held (λ x. node (entry_of x)) h b finds in (
         λ t e d c n.
-            let r = Contains-map_cases entry_of h e c in
-            (borne_held d).0 (events.0 t r.0 d r.1
-            (subst (λ (u : T). Contains (node u).names d) (sym r.2) n)),
+            let (x, there, same) = Contains-map_cases entry_of h e c in
+            (borne_held d).0 (events.0 t x d there (subst (λ (u : T). Contains (node u).names d) (sym same) n)),
         λ whole. events.1 (λ x d c n. (borne_held d).1 (whole (entry_of x) d (Contains-map entry_of h x c) n)),
       )
