@@ -82,20 +82,19 @@ module _ {T : Type 0} (node : T → Node) where
   fork_more es e m n f g new before is = (
     λ t. elim (or_cases (has_pair es (pair_of e) && is_at (pair_cmp (pair_of e)) (m, n)) f (sym is ∙ t)) [
       | inl both ↦
-          (let parts = and_parts (has_pair es (pair_of e)) (is_at (pair_cmp (pair_of e)) (m, n)) both in
-          let (a, there, test) = list_any_some (λ x. is_at (pair_cmp (pair_of x)) (pair_of e)) es parts.0 in
-          let first : pair_of a ≡ (m, n) =
-          same_pair (pair_of a) (pair_of e) test ∙ same_pair (pair_of e) (m, n) parts.1 in
-          let last : pair_of e ≡ (m, n) = same_pair (pair_of e) (m, n) parts.1 in (
+          (let (seen, at_pair) = and_parts (has_pair es (pair_of e)) (is_at (pair_cmp (pair_of e)) (m, n)) both in
+          let (a, there, test) = list_any_some (λ x. is_at (pair_cmp (pair_of x)) (pair_of e)) es seen in
+          let last : pair_of e ≡ (m, n) = same_pair (pair_of e) (m, n) at_pair in
+          let first : pair_of a ≡ (m, n) = same_pair (pair_of a) (pair_of e) test ∙ last in (
             a,
             e,
             Contains-append_left es (e ∷ []) a there,
             Contains-push es e,
             (λ same. new (subst (λ x. Contains es x) same there)),
-            ap (λ (p : ℕ × ℕ). p.0) first,
-            ap (λ (p : ℕ × ℕ). p.1) first,
-            ap (λ (p : ℕ × ℕ). p.0) last,
-            ap (λ (p : ℕ × ℕ). p.1) last,
+            ap (λ (maker, _). maker) first,
+            ap (λ (_, number). number) first,
+            ap (λ (maker, _). maker) last,
+            ap (λ (_, number). number) last,
           ))
       | inr old ↦
           (let (a, b, in_a, in_b, ne, am, an, bm, bn) = before.0 old in
