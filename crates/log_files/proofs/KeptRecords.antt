@@ -101,10 +101,10 @@ pub not_new : (owner : ℕ) (before : List Kept) (next : Kept) →
     has_digest node_of_kept before next.entry.digest ≡ true →
     MayFollow node_of_sealed owner (map event_of before) (event_of next) → ⊥
 not_new owner before next borne may =
-    let found = has_digest_from node_of_sealed (held (map event_of before)) next.entry.digest
+    let (bearer, there, same) = has_digest_from node_of_sealed (held (map event_of before)) next.entry.digest
     (sym (borne_kept before next.entry.digest) ∙ borne) in
-    new_from_may node_of_sealed owner (map event_of before) (event_of next) may found.0 found.1
-    (found.2 ∙ ap (λ (e : SealedEntry). e.digest) (sym (entry_of_event next)))
+    new_from_may node_of_sealed owner (map event_of before) (event_of next) may bearer there
+    (same ∙ ap (λ (e : SealedEntry). e.digest) (sym (entry_of_event next)))
 
 -- one whose digest isn't borne is new
 new_here : (before : List Kept) (e : SealedEntry) → has_digest node_of_kept before e.digest ≡ false →

@@ -43,15 +43,14 @@ pub end_has_none : (offset : ℕ) (bytes : List ℕ) (end : End) → IsEnd offse
 end_has_none offset bytes Clean h tree more fits e =
     let none : 0 ≡ length (text_of tree ++ more) = ap length (sym h ∙ e) in
     omega (arith, none, length-append (text_of tree) more, some_text tree)
-end_has_none offset bytes (Torn at) h tree more fits e =
+end_has_none offset bytes (Torn at) (_, _, cut) tree more fits e =
     let same : read.Cut ≡ read.Whole tree (length (text_of tree)) =
-    one_answer bytes read.Cut (read.Whole tree (length (text_of tree))) h.2 (whole_there bytes tree more fits e) in
+    one_answer bytes read.Cut (read.Whole tree (length (text_of tree))) cut (whole_there bytes tree more fits e) in
     cc
-end_has_none offset bytes (Malformed at why) h tree more fits e =
-    let same : read.Bad h.0 why ≡ read.Whole tree (length (text_of tree)) =
-    one_answer bytes (read.Bad h.0 why) (read.Whole tree (length (text_of tree))) h.2
-    (whole_there bytes tree more fits e) in
-    cc
+end_has_none offset bytes (Malformed at why) (bad, _, wrong) tree more fits e =
+    let same : read.Bad bad why ≡ read.Whole tree (length (text_of tree)) =
+    one_answer bytes (read.Bad bad why) (read.Whole tree (length (text_of tree))) wrong
+    (whole_there bytes tree more fits e) in cc
 
 -- bytes are one row of trees and one rest that no text begins
 pub one_row : (trees others : List Sexp) (rest other : List ℕ) → All Fits trees → All Fits others → HasNone rest →
@@ -80,22 +79,22 @@ pub one_end : (offset : ℕ) (bytes : List ℕ) (end other : End) → IsEnd offs
     end ≡ other
 one_end offset bytes Clean Clean h k = refl
 one_end offset bytes Clean (Torn at) h k = let none : length bytes ≡ 0 = ap length h in absurd (omega arith)
-one_end offset bytes Clean (Malformed at why) h k =
-    let none : length bytes ≡ 0 = ap length h in absurd (omega (arith, none, k.2.0.inside))
+one_end offset bytes Clean (Malformed at why) h (_, _, (first, _)) =
+    let none : length bytes ≡ 0 = ap length h in absurd (omega (arith, none, first.inside))
 one_end offset bytes (Torn at) Clean h k = let none : length bytes ≡ 0 = ap length k in absurd (omega arith)
-one_end offset bytes (Torn at) (Torn place) h k = ap Torn (h.0 ∙ sym k.0)
-one_end offset bytes (Torn at) (Malformed place why) h k =
-    let same : read.Cut ≡ read.Bad k.0 why = one_answer bytes read.Cut (read.Bad k.0 why) h.2 k.2 in cc
-one_end offset bytes (Malformed at why) Clean h k =
-    let none : length bytes ≡ 0 = ap length k in absurd (omega (arith, none, h.2.0.inside))
-one_end offset bytes (Malformed at why) (Torn place) h k =
-    let same : read.Bad h.0 why ≡ read.Cut = one_answer bytes (read.Bad h.0 why) read.Cut h.2 k.2 in cc
-one_end offset bytes (Malformed at why) (Malformed place cause) h k =
-    let same : read.Bad h.0 why ≡ read.Bad k.0 cause =
-    one_answer bytes (read.Bad h.0 why) (read.Bad k.0 cause) h.2 k.2 in
-    let places : h.0 ≡ k.0 = cc in
+one_end offset bytes (Torn at) (Torn place) (at_is, _, _) (place_is, _, _) = ap Torn (at_is ∙ sym place_is)
+one_end offset bytes (Torn at) (Malformed place why) (_, _, cut) (bad, _, wrong) =
+    let same : read.Cut ≡ read.Bad bad why = one_answer bytes read.Cut (read.Bad bad why) cut wrong in cc
+one_end offset bytes (Malformed at why) Clean (_, _, (first, _)) k =
+    let none : length bytes ≡ 0 = ap length k in absurd (omega (arith, none, first.inside))
+one_end offset bytes (Malformed at why) (Torn place) (bad, _, wrong) (_, _, cut) =
+    let same : read.Bad bad why ≡ read.Cut = one_answer bytes (read.Bad bad why) read.Cut wrong cut in cc
+one_end offset bytes (Malformed at why) (Malformed place cause) (bad, at_is, wrong) (other, place_is, also) =
+    let same : read.Bad bad why ≡ read.Bad other cause =
+    one_answer bytes (read.Bad bad why) (read.Bad other cause) wrong also in
+    let places : bad ≡ other = cc in
     let causes : why ≡ cause = cc in
-    let ats : at ≡ place = h.1 ∙ ap (λ n. offset + n) places ∙ sym k.1 in
+    let ats : at ≡ place = at_is ∙ ap (λ n. offset + n) places ∙ sym place_is in
     ap (λ n. Malformed n why) ats ∙ ap (Malformed place) causes
 
 -- one header is of one owner
@@ -109,15 +108,14 @@ one_owner owner other small small' e =
 pub one_records : (offset : ℕ) (bytes : List ℕ) (trees others : List Sexp) (end other : End) →
     AreRecords offset bytes trees end → AreRecords offset bytes others other → (trees ≡ others) × (end ≡ other)
 one_records offset bytes trees others end other h k =
-    let row : (trees ≡ others) × (h.rest ≡ k.rest) =
-    one_row trees others h.rest k.rest h.within k.within
+    let (same_trees, same_rest) = one_row trees others h.rest k.rest h.within k.within
     (end_has_none (offset + length (flat_map text_of trees)) h.rest end h.ends)
     (end_has_none (offset + length (flat_map text_of others)) k.rest other k.ends) (sym h.spelt ∙ k.spelt) in
     let Q : List Sexp → Type 0 = λ ts. IsEnd (offset + length (flat_map text_of ts)) h.rest end in
     let R : List ℕ → Type 0 = λ bs. IsEnd (offset + length (flat_map text_of others)) bs end in (
-      row.0,
-      one_end (offset + length (flat_map text_of others)) k.rest end other (subst R row.1 (subst Q row.0 h.ends))
-          k.ends,
+      same_trees,
+      one_end (offset + length (flat_map text_of others)) k.rest end other
+          (subst R same_rest (subst Q same_trees h.ends)) k.ends,
     )
 
 -- a tree is a record of one list, by one word
@@ -193,19 +191,18 @@ module _ {T U : Type 0} (IsReadAs : ℕ → Bool → List ℕ → Result T Entry
       (h : AreLog IsReadAs bytes owner kept refused end) → (k : AreLog IsAlsoReadAs bytes owner' kept' refused' end') →
       SayAlike Agree owner h.readings end owner' k.readings end'
   say_alike bytes owner owner' kept kept' refused refused' end end' h k =
-      let one : (header_tree owner ≡ header_tree owner') × (h.behind ≡ k.behind) =
-      one_tree 8 (header_tree owner) (header_tree owner') h.behind k.behind (header_fits owner h.number)
-      (header_fits owner' k.number) (sym h.header ∙ k.header) in
+      let (same_header, same_behind) = one_tree 8 (header_tree owner) (header_tree owner') h.behind k.behind
+      (header_fits owner h.number) (header_fits owner' k.number) (sym h.header ∙ k.header) in
       let P : Sexp → Type 0 = λ t. AreRecords (length (text_of t)) h.behind h.trees end in
       let Q : List ℕ → Type 0 = λ bs. AreRecords (length (text_of (header_tree owner'))) bs h.trees end in
-      let same : (h.trees ≡ k.trees) × (end ≡ end') =
+      let (same_trees, same_end) =
       one_records (length (text_of (header_tree owner'))) k.behind h.trees k.trees end end'
-      (subst Q one.1 (subst P one.0 h.records)) k.records in
+      (subst Q same_behind (subst P same_header h.records)) k.records in
       record {
-        owners = one_owner owner owner' h.number k.number one.0;
+        owners = one_owner owner owner' h.number k.number same_header;
         alike = each_agrees 0 k.trees h.readings k.readings
-            (subst (λ ts. EachGives IsReadAs 0 ts h.readings) same.0 h.gives) k.gives;
-        ends = same.1;
+            (subst (λ ts. EachGives IsReadAs 0 ts h.readings) same_trees h.gives) k.gives;
+        ends = same_end;
       }
 
 -- where readings are the same, the lists of them are
@@ -258,6 +255,6 @@ one_plain place sent text reading other h k = one_reading text reading other h k
 -- bytes say one plain log
 pub one_plain_log : (bytes : List ℕ) (log other : PlainLog) → (h : Says bytes log) → (k : Says bytes other) →
     SameSaid h.0 k.0 log.kept.items other.kept.items log.refused.items other.refused.items log.end other.end
-one_plain_log bytes log other h k =
-    one_said IsReadPlain one_plain bytes h.0 k.0 log.kept.items other.kept.items log.refused.items other.refused.items
-    log.end other.end h.1 k.1
+one_plain_log bytes log other (owner, says) (owner', also) =
+    one_said IsReadPlain one_plain bytes owner owner' log.kept.items other.kept.items log.refused.items
+    other.refused.items log.end other.end says also

@@ -46,21 +46,21 @@ override_at : (is_first : Bool) (session : ℕ) (how : How) (d c : ℕ) → 0 < 
     ∷ (if is_first then [] else Atom (how_word how) ∷ [])) ∷ [])) →
     AreWithin c (forest_of (list_of (Atom (codes "override") ∷ number_atom session
     ∷ (if is_first then [] else Atom (how_word how) ∷ [])) ∷ []))
-override_at true session how d c some h = (some, h.1, h.2, tt)
-override_at false session how d c some h = (some, h.1, h.2, tt)
+override_at true session how d c some (_, few, fields, _) = (some, few, fields, tt)
+override_at false session how d c some (_, few, fields, _) = (some, few, fields, tt)
 
 -- the fields of any deed lie within any depth
 deed_at : (version : ℕ) (deed : Deed) (d c : ℕ) → 0 < c → AreWithin d (forest_of (deed_tree version deed ∷ [])) →
     AreWithin c (forest_of (deed_tree version deed ∷ []))
-deed_at version Opened d c some h = (some, h.1, h.2, tt)
-deed_at version (Authorise booth session) d c some h = (some, h.1, h.2, tt)
+deed_at version Opened d c some (_, few, fields, _) = (some, few, fields, tt)
+deed_at version (Authorise booth session) d c some (_, few, fields, _) = (some, few, fields, tt)
 deed_at version (Override session how) d c some h = override_at (version == 1) session how d c some h
-deed_at version Closed d c some h = (some, h.1, h.2, tt)
-deed_at version (Activate session) d c some h = (some, h.1, h.2, tt)
-deed_at version (Commit session ballot) d c some h = (some, h.1, h.2, tt)
-deed_at version (Cast session ballot) d c some h = (some, h.1, h.2, tt)
-deed_at version (Cancel session) d c some h = (some, h.1, h.2, tt)
-deed_at version (Challenge session ballot) d c some h = (some, h.1, h.2, tt)
+deed_at version Closed d c some (_, few, fields, _) = (some, few, fields, tt)
+deed_at version (Activate session) d c some (_, few, fields, _) = (some, few, fields, tt)
+deed_at version (Commit session ballot) d c some (_, few, fields, _) = (some, few, fields, tt)
+deed_at version (Cast session ballot) d c some (_, few, fields, _) = (some, few, fields, tt)
+deed_at version (Cancel session) d c some (_, few, fields, _) = (some, few, fields, tt)
+deed_at version (Challenge session ballot) d c some (_, few, fields, _) = (some, few, fields, tt)
 
 -- an entry's fields lie within one depth less than they may
 body_at : (entry : Entry) → AreWithin 6 (members_in (body_tree entry)) → AreWithin 5 (members_in (body_tree entry))

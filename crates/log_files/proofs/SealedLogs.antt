@@ -27,21 +27,19 @@ module _ (machines : List Post) (election : List ℕ) where
   one_sealed : (place : ℕ) (sent : Bool) (text : List ℕ) (reading other : Result Kept EntryFault) →
       IsReadSealed machines election place sent text reading → IsReadSealed machines election place sent text other →
       reading ≡ other
-  one_sealed place sent text (Ok kept) (Ok other) h k =
+  one_sealed place sent text (Ok kept) (Ok other) (place_is, sent_is, opens) (other_place, other_sent, also) =
       let same : Ok kept.entry ≡ Ok other.entry =
-      one_unsealing machines election text (Ok kept.entry) (Ok other.entry) h.2 k.2 in
+      one_unsealing machines election text (Ok kept.entry) (Ok other.entry) opens also in
       let entries : kept.entry ≡ other.entry = cc in
-      ap (λ n. Ok (kept_with n kept.sent kept.entry)) (h.0 ∙ sym k.0)
-      ∙ ap (λ b. Ok (kept_with other.place b kept.entry)) (h.1 ∙ sym k.1)
+      ap (λ n. Ok (kept_with n kept.sent kept.entry)) (place_is ∙ sym other_place)
+      ∙ ap (λ b. Ok (kept_with other.place b kept.entry)) (sent_is ∙ sym other_sent)
       ∙ ap (λ e. Ok (kept_with other.place other.sent e)) entries
-  one_sealed place sent text (Ok kept) (Err fault) h k =
+  one_sealed place sent text (Ok kept) (Err fault) (_, _, opens) refuses =
       let same : Ok kept.entry ≡ Err fault =
-      one_unsealing machines election text (Ok kept.entry) (Err fault) h.2 k in
-      cc
-  one_sealed place sent text (Err fault) (Ok other) h k =
+      one_unsealing machines election text (Ok kept.entry) (Err fault) opens refuses in cc
+  one_sealed place sent text (Err fault) (Ok other) refuses (_, _, opens) =
       let same : Err fault ≡ Ok other.entry =
-      one_unsealing machines election text (Err fault) (Ok other.entry) h k.2 in
-      cc
+      one_unsealing machines election text (Err fault) (Ok other.entry) refuses opens in cc
   one_sealed place sent text (Err fault) (Err other) h k =
       let same : Err fault ≡ Err other = one_unsealing machines election text (Err fault) (Err other) h k in
       let faults : fault ≡ other = cc in
@@ -94,18 +92,18 @@ module _ (machines : List Post) (election : List ℕ) where
       Contains (kept_of others) (plain_of kept.entry)
   kept_alike place [] others h kept c = absurd (Contains-none kept c)
   kept_alike place (r ∷ readings) [] h kept c = absurd h
-  kept_alike place (Ok k ∷ readings) (Ok p ∷ others) h kept c =
+  kept_alike place (Ok k ∷ readings) (Ok p ∷ others) (agree, rest) kept c =
       elim (Contains-cons_cases k (kept_of readings) kept c) [
         | inl same ↦ Contains-at p (kept_of others) (plain_of kept.entry)
-            (sym h.0 ∙ ap (λ (x : Kept). plain_of x.entry) same)
+            (sym agree ∙ ap (λ (x : Kept). plain_of x.entry) same)
         | inr later ↦ Contains-later p (kept_of others) (plain_of kept.entry)
-            (kept_alike (place + 1) readings others h.1 kept later)
+            (kept_alike (place + 1) readings others rest kept later)
       ]
-  kept_alike place (Ok k ∷ readings) (Err f ∷ others) h kept c = absurd h.0
-  kept_alike place (Err f ∷ readings) (Ok p ∷ others) h kept c =
-      Contains-later p (kept_of others) (plain_of kept.entry) (kept_alike (place + 1) readings others h.1 kept c)
-  kept_alike place (Err f ∷ readings) (Err g ∷ others) h kept c =
-      kept_alike (place + 1) readings others h.1 kept c
+  kept_alike place (Ok k ∷ readings) (Err f ∷ others) (never, _) kept c = absurd never
+  kept_alike place (Err f ∷ readings) (Ok p ∷ others) (_, rest) kept c =
+      Contains-later p (kept_of others) (plain_of kept.entry) (kept_alike (place + 1) readings others rest kept c)
+  kept_alike place (Err f ∷ readings) (Err g ∷ others) (_, rest) kept c =
+      kept_alike (place + 1) readings others rest kept c
 
   -- and the sealed ones refuse what the plain ones refuse
   refused_alike : (place : ℕ) (readings : List (Result Kept EntryFault)) (others : List (Result Plain EntryFault)) →
@@ -114,33 +112,34 @@ module _ (machines : List Post) (election : List ℕ) where
   refused_alike place [] [] h at fault c = c
   refused_alike place [] (o ∷ others) h at fault c = absurd h
   refused_alike place (r ∷ readings) [] h at fault c = absurd h
-  refused_alike place (Ok k ∷ readings) (Ok p ∷ others) h at fault c =
-      refused_alike (place + 1) readings others h.1 at fault c
-  refused_alike place (Ok k ∷ readings) (Err f ∷ others) h at fault c = absurd h.0
-  refused_alike place (Err f ∷ readings) (Ok p ∷ others) h at fault c =
+  refused_alike place (Ok k ∷ readings) (Ok p ∷ others) (_, rest) at fault c =
+      refused_alike (place + 1) readings others rest at fault c
+  refused_alike place (Ok k ∷ readings) (Err f ∷ others) (never, _) at fault c = absurd never
+  refused_alike place (Err f ∷ readings) (Ok p ∷ others) (_, rest) at fault c =
       Contains-later (place, f) (refused_of (place + 1) readings) (at, fault)
-      (refused_alike (place + 1) readings others h.1 at fault c)
-  refused_alike place (Err f ∷ readings) (Err g ∷ others) h at fault c =
+      (refused_alike (place + 1) readings others rest at fault c)
+  refused_alike place (Err f ∷ readings) (Err g ∷ others) (agree, rest) at fault c =
       elim (Contains-cons_cases (place, g) (refused_of (place + 1) others) (at, fault) c) [
         | inl same ↦ Contains-at (place, f) (refused_of (place + 1) readings) (at, fault)
-            (ap (λ (x : EntryFault). (place, x)) h.0 ∙ same)
+            (ap (λ (x : EntryFault). (place, x)) agree ∙ same)
         | inr later ↦ Contains-later (place, f) (refused_of (place + 1) readings) (at, fault)
-            (refused_alike (place + 1) readings others h.1 at fault later)
+            (refused_alike (place + 1) readings others rest at fault later)
       ]
+
+  -- the sealed and the plain log of the same bytes agree
+  alike : (bytes : List ℕ) (log : LogRead) (plain : PlainLog) → (h : SaysSealed machines election bytes log) →
+      (k : Says bytes plain) → SayAlike Agree log.owner h.says.readings log.end k.0 k.1.readings plain.end
+  alike bytes log plain h (owner, says) =
+      say_alike (IsReadSealed machines election) IsReadPlain Agree agrees (λ place. refl) bytes log.owner owner
+      log.kept.items plain.kept.items log.refused.items plain.refused.items log.end plain.end h.says says
 
   module _ (bytes : List ℕ) (log : LogRead) (plain : PlainLog) (h : SaysSealed machines election bytes log)
       (k : Says bytes plain) where
-    -- the sealed and the plain log of the same bytes agree
-    alike : SayAlike Agree log.owner h.says.readings log.end k.0 k.1.readings plain.end
-    alike =
-        say_alike (IsReadSealed machines election) IsReadPlain Agree agrees (λ place. refl) bytes log.owner k.0
-        log.kept.items plain.kept.items log.refused.items plain.refused.items log.end plain.end h.says k.1
-
     -- what is kept under the roster is kept as a plain entry
     pub agree_kept : (kept : Kept) → Contains log.kept.items kept → Contains plain.kept.items (plain_of kept.entry)
     agree_kept kept c =
         subst (λ (ps : List Plain). Contains ps (plain_of kept.entry)) (sym k.1.keeps)
-        (kept_alike 0 h.says.readings k.1.readings alike.alike kept
+        (kept_alike 0 h.says.readings k.1.readings (alike bytes log plain h k).alike kept
         (subst (λ (ks : List Kept). Contains ks kept) h.says.keeps c))
 
     -- what is refused as a plain entry is refused under the roster
@@ -148,9 +147,9 @@ module _ (machines : List Post) (election : List ℕ) where
         Contains log.refused.items (at, fault)
     agree_refused at fault c =
         subst (λ (fs : List (ℕ × EntryFault)). Contains fs (at, fault)) (sym h.says.refuses)
-        (refused_alike 0 h.says.readings k.1.readings alike.alike at fault
+        (refused_alike 0 h.says.readings k.1.readings (alike bytes log plain h k).alike at fault
         (subst (λ (fs : List (ℕ × EntryFault)). Contains fs (at, fault)) k.1.refuses c))
 
     -- both logs have one end
     pub agree_end : log.end ≡ plain.end
-    agree_end = alike.ends
+    agree_end = (alike bytes log plain h k).ends

@@ -167,16 +167,17 @@ module _ {T : Type 0} (IsReadAs : ℕ → Bool → List ℕ → Result T EntryFa
       (end : End) → AreReadTo IsReadAs bytes owner header at place kept refused → IsEnd at (drop at bytes) end →
       AreLog IsReadAs bytes owner kept refused end
   read_all bytes owner header at place kept refused end h ends =
+      let (small, whole) = h.is_header in
       let long : header ≡ length (text_of (header_tree owner)) =
-      sym (length-take-le header bytes h.is_header.1.within) ∙ ap length h.is_header.1.spelt in
+      sym (length-take-le header bytes whole.within) ∙ ap length whole.spelt in
       let at_is : at ≡ length (text_of (header_tree owner)) + length (flat_map text_of h.trees) =
       h.so_far ∙ ap (λ n. n + length (flat_map text_of h.trees)) long in
       record {
         behind = drop header bytes;
         trees = h.trees;
         readings = h.readings;
-        number = h.is_header.0;
-        header = sym (take-append-drop header bytes) ∙ ap (λ bs. bs ++ drop header bytes) h.is_header.1.spelt;
+        number = small;
+        header = sym (take-append-drop header bytes) ∙ ap (λ bs. bs ++ drop header bytes) whole.spelt;
         records = record {
           rest = drop at bytes;
           within = h.within;

@@ -117,20 +117,20 @@ module _ {T : Type 0} (IsReadAs : ℕ → Bool → List ℕ → Result T EntryFa
       let wrong : Header ≡ NoLog = (none (λ is. cc)).0 in cc
   at_header (Malformed bad why) bytes rest owner at at' place used kept refused tree found none h e whole =
       let wrong : Malformed bad why ≡ NoLog = (none (λ is. cc)).0 in cc
-  at_header NoLog bytes rest owner at at' place used kept refused tree found none h e whole =
-      let P : List ℕ → Type 0 = λ bs. Answers bs (read.Whole tree used) in
-      never_whole bytes tree used (subst P h.0 whole) (none (λ is. cc)).1
+  at_header NoLog bytes rest owner at at' place used kept refused tree found none (unread, _, _, _, _) e whole =
+      never_whole bytes tree used (subst (λ bs. Answers bs (read.Whole tree used)) unread whole) (none (λ is. cc)).1
   at_header Records bytes rest owner at at' place used kept refused tree found none h e whole =
       let P : List ℕ → Type 0 = λ bs. Answers bs (read.Whole tree used) in
+      let (unread, at_start, no_record, no_kept, no_refused) = h in
       let header : Answers bytes (read.Whole (header_tree owner) used) =
-      subst (λ t. Answers bytes (read.Whole t used)) (found refl).1 (subst P h.0 whole) in
-      let there : used ≡ at' = omega (arith, e, h.1) in
+      subst (λ t. Answers bytes (read.Whole t used)) (found refl).1 (subst P unread whole) in
+      let there : used ≡ at' = omega (arith, e, at_start) in
       let begun : AreReadTo IsReadAs bytes owner used used 0 kept refused =
-      read_none IsReadAs bytes owner used kept refused ((found refl).0, header) h.3 h.4 in (
+      read_none IsReadAs bytes owner used kept refused ((found refl).0, header) no_kept no_refused in (
         used,
         subst (λ n. AreReadTo IsReadAs bytes owner used n place kept refused) there
-            (subst (λ p. AreReadTo IsReadAs bytes owner used used p kept refused) (sym h.2) begun),
-        ap (drop used) h.0 ∙ ap (λ n. drop n bytes) there,
+            (subst (λ p. AreReadTo IsReadAs bytes owner used used p kept refused) (sym no_record) begun),
+        ap (drop used) unread ∙ ap (λ n. drop n bytes) there,
       )
 
   -- so the progress of the reader stands for what was read
@@ -141,16 +141,16 @@ module _ {T : Type 0} (IsReadAs : ℕ → Bool → List ℕ → Result T EntryFa
       StandsFor IsReadAs bytes old rest → Answers rest (read.Whole tree used) →
       StandsFor IsReadAs bytes new (drop used rest)
   took_header bytes rest old new tree used is found none same stands whole =
-      let h : IsAtStage IsReadAs Header bytes old.owner old.at old.place old.kept.items old.refused.items rest =
+      let (unread, at_start, no_record, no_kept, no_refused) =
       subst (λ (s : Stage). IsAtStage IsReadAs s bytes old.owner old.at old.place old.kept.items old.refused.items rest)
       is stands in
       at_header new.stage bytes rest new.owner old.at new.at new.place used new.kept.items new.refused.items tree found
       none (
-        h.0,
-        h.1,
-        ap (λ (p : Progress T). p.place) same ∙ h.2,
-        ap (λ (p : Progress T). p.kept.items) same ∙ h.3,
-        ap (λ (p : Progress T). p.refused.items) same ∙ h.4,
+        unread,
+        at_start,
+        ap (λ (p : Progress T). p.place) same ∙ no_record,
+        ap (λ (p : Progress T). p.kept.items) same ∙ no_kept,
+        ap (λ (p : Progress T). p.refused.items) same ∙ no_refused,
       )
       (ap (λ (p : Progress T). p.at) same) whole
 
@@ -208,29 +208,30 @@ module _ {T : Type 0} (IsReadAs : ℕ → Bool → List ℕ → Result T EntryFa
   read_to_more : (bytes more : List ℕ) (owner header at place : ℕ) (kept : List T) (refused : List (ℕ × EntryFault)) →
       AreReadTo IsReadAs bytes owner header at place kept refused →
       AreReadTo IsReadAs (bytes ++ more) owner header at place kept refused
-  read_to_more bytes more owner header at place kept refused h = record {
-    is_header = (h.is_header.0, whole_more bytes more (header_tree owner) header h.is_header.1);
-    trees = h.trees;
-    readings = h.readings;
-    within = h.within;
-    spelt = drop-append-le header bytes more h.is_header.1.within ∙ ap (λ bs. bs ++ more) h.spelt
-        ∙ append_assoc (flat_map text_of h.trees) (drop at bytes) more
-        ∙ ap (λ bs. flat_map text_of h.trees ++ bs) (sym (drop-append-le at bytes more h.inside));
-    so_far = h.so_far;
-    inside = omega (arith, h.inside, length-append bytes more);
-    gives = h.gives;
-    kept_so_far = h.kept_so_far;
-    refused_so_far = h.refused_so_far;
-    counted = h.counted;
-    few = h.few;
-  }
+  read_to_more bytes more owner header at place kept refused h =
+      let (small, whole) = h.is_header in record {
+        is_header = (small, whole_more bytes more (header_tree owner) header whole);
+        trees = h.trees;
+        readings = h.readings;
+        within = h.within;
+        spelt = drop-append-le header bytes more whole.within ∙ ap (λ bs. bs ++ more) h.spelt
+            ∙ append_assoc (flat_map text_of h.trees) (drop at bytes) more
+            ∙ ap (λ bs. flat_map text_of h.trees ++ bs) (sym (drop-append-le at bytes more h.inside));
+        so_far = h.so_far;
+        inside = omega (arith, h.inside, length-append bytes more);
+        gives = h.gives;
+        kept_so_far = h.kept_so_far;
+        refused_so_far = h.refused_so_far;
+        counted = h.counted;
+        few = h.few;
+      }
 
   -- at each stage what was read stays so with more bytes behind it
   at_stage_more : (stage : Stage) (bytes more rest : List ℕ) (owner at place : ℕ) (kept : List T)
       (refused : List (ℕ × EntryFault)) → IsAtStage IsReadAs stage bytes owner at place kept refused rest →
       IsAtStage IsReadAs stage (bytes ++ more) owner at place kept refused (rest ++ more)
-  at_stage_more Header bytes more rest owner at place kept refused h =
-      (ap (λ bs. bs ++ more) h.0, h.1, h.2, h.3, h.4)
+  at_stage_more Header bytes more rest owner at place kept refused (unread, at_start, no_record, no_kept, no_refused) =
+      (ap (λ bs. bs ++ more) unread, at_start, no_record, no_kept, no_refused)
   at_stage_more Records bytes more rest owner at place kept refused (header, h, e) = (
     header,
     read_to_more bytes more owner header at place kept refused h,
@@ -256,8 +257,8 @@ module _ {T : Type 0} (IsReadAs : ℕ → Bool → List ℕ → Result T EntryFa
       (refused : List (ℕ × EntryFault)) → IsTrue (is_open stage) →
       IsAtStage IsReadAs stage bytes owner at place kept refused rest →
       (place ≤ at) × (at + length rest ≡ length bytes)
-  bounds_at Header bytes rest owner at place kept refused e h =
-      (omega (arith, h.1, h.2), omega (arith, h.1, ap length h.0))
+  bounds_at Header bytes rest owner at place kept refused e (unread, at_start, no_record, _, _) =
+      (omega (arith, at_start, no_record), omega (arith, at_start, ap length unread))
   bounds_at Records bytes rest owner at place kept refused e (header, h, is) =
       (h.few, omega (arith, h.inside, ap length is, length-drop at bytes))
   bounds_at (Malformed bad why) bytes rest owner at place kept refused e h = absurd (false≢true e)
