@@ -49,27 +49,26 @@ module _ {T : Type 0} (Below : T → T → Type 0) where
     same_members [] [] a b to from = refl
     same_members [] (y ∷ ys) a b to from = absurd (Contains-none y (from y (Contains-head y ys)))
     same_members (x ∷ xs) [] a b to from = absurd (Contains-none x (to x (Contains-head x xs)))
-    same_members (x ∷ xs) (y ∷ ys) a b to from =
+    same_members (x ∷ xs) (y ∷ ys) (x_below, xs_rise) (y_below, ys_rise) to from =
         let heads : x ≡ y =
         elim (Contains-cons_cases y ys x (to x (Contains-head x xs))) [
           | inl e ↦ sym e
-          | inr u ↦ elim
-              (Contains-cons_cases x xs y (from y (Contains-head y ys))) [
-                | inl e ↦ e
-                | inr v ↦ absurd (not_both x y (a.0 y v) (b.0 x u))
-              ]
+          | inr u ↦ elim (Contains-cons_cases x xs y (from y (Contains-head y ys))) [
+            | inl e ↦ e
+            | inr v ↦ absurd (not_both x y (x_below y v) (y_below x u))
+          ]
         ] in
         let forth : (d : T) → Contains xs d → Contains ys d =
         λ d c. elim (Contains-cons_cases y ys d (to d (Contains-later x xs d c))) [
-          | inl e ↦ absurd (let m : Below x x = subst (λ u. Below x u) (sym (heads ∙ e)) (a.0 d c) in not_both x x m m)
+          | inl e ↦ absurd (let m : Below x x = subst (Below x) (sym (heads ∙ e)) (x_below d c) in not_both x x m m)
           | inr u ↦ u
         ] in
         let back : (d : T) → Contains ys d → Contains xs d =
         λ d c. elim (Contains-cons_cases x xs d (from d (Contains-later y ys d c))) [
-          | inl e ↦ absurd (let m : Below y y = subst (λ u. Below y u) (sym e ∙ heads) (b.0 d c) in not_both y y m m)
+          | inl e ↦ absurd (let m : Below y y = subst (Below y) (sym e ∙ heads) (y_below d c) in not_both y y m m)
           | inr u ↦ u
         ] in
-        let tails : xs ≡ ys = same_members xs ys a.1 b.1 forth back in
+        let tails : xs ≡ ys = same_members xs ys xs_rise ys_rise forth back in
         λ i. heads i ∷ tails i
 
 -- an order that goes one way
@@ -120,19 +119,20 @@ module _ {T : Type 0} (node : T → Node) (exact : GraphsAreExact node) (S : Lis
   -- by both graphs a survivor's place is reached from another's, or by neither
   same_reach : (y x : ℕ) → y < length S → x < length S → reaches parents x y x ≡ reaches others x y x
   same_reach y x low high =
-      let f = at_place S y low in
-      let e = at_place S x high in
-      let a = exact S parents ragged one y x f.0 e.0 f.1 e.1 in
-      let b = exact S others torn two y x f.0 e.0 f.1 e.1 in
-      same_bool (reaches parents x y x) (reaches others x y x) (λ t. b.0.1 (a.0.0 t)) (λ t. a.0.1 (b.0.0 t))
+      let (f, at_y) = at_place S y low in
+      let (e, at_x) = at_place S x high in
+      let (first, _) = exact S parents ragged one y x f e at_y at_x in
+      let (other, _) = exact S others torn two y x f e at_y at_x in
+      same_bool (reaches parents x y x) (reaches others x y x) (λ t. other.1 (first.0 t)) (λ t. first.1 (other.0 t))
 
   -- by both the survivor at a place is whole, or by neither
   same_whole : (x : ℕ) → x < length S → is_whole parents ragged x x ≡ is_whole others torn x x
   same_whole x high =
-      let e = at_place S x high in
-      let a = exact S parents ragged one x x e.0 e.0 e.1 e.1 in
-      let b = exact S others torn two x x e.0 e.0 e.1 e.1 in
-      same_bool (is_whole parents ragged x x) (is_whole others torn x x) (λ t. b.1.1 (a.1.0 t)) (λ t. a.1.1 (b.1.0 t))
+      let (e, at_x) = at_place S x high in
+      let (_, first) = exact S parents ragged one x x e e at_x at_x in
+      let (_, other) = exact S others torn two x x e e at_x at_x in
+      same_bool (is_whole parents ragged x x) (is_whole others torn x x) (λ t. other.1 (first.0 t))
+      (λ t. first.1 (other.0 t))
 
   -- so both say the same of the order of any two
   same_before : (y x : ℕ) → y < length S → x < length S → before parents ragged y x ≡ before others torn y x
