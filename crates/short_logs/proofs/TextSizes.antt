@@ -78,40 +78,40 @@ names (d ∷ ds) all =
 -- what follows the word of a deed
 rest : (version : ℕ) (deed : Deed) → IsVersion version → IsDeed deed → sizes (deed_rest version deed) ≤ 60
 rest version Opened is small = omega arith
-rest version (Authorise booth session) is small =
+rest version (Authorise booth session) is (small_booth, small) =
     omega (
       arith,
       front (number_atom booth) (number_atom session ∷ []),
       front (number_atom session) [],
-      number booth small.0,
-      number session small.1,
+      number booth small_booth,
+      number session small,
     )
 rest version Closed is small = omega arith
 rest version (Activate session) is small = omega (arith, front (number_atom session) [], number session small)
-rest version (Commit session ballot) is small =
+rest version (Commit session ballot) is (small, hashed) =
     omega (
       arith,
       front (number_atom session) (Atom ballot ∷ []),
       front (Atom ballot) [],
-      number session small.0,
-      digest ballot small.1,
+      number session small,
+      digest ballot hashed,
     )
-rest version (Cast session ballot) is small =
+rest version (Cast session ballot) is (small, hashed) =
     omega (
       arith,
       front (number_atom session) (Atom ballot ∷ []),
       front (Atom ballot) [],
-      number session small.0,
-      digest ballot small.1,
+      number session small,
+      digest ballot hashed,
     )
 rest version (Cancel session) is small = omega (arith, front (number_atom session) [], number session small)
-rest version (Challenge session ballot) is small =
+rest version (Challenge session ballot) is (small, hashed) =
     omega (
       arith,
       front (number_atom session) (Atom ballot ∷ []),
       front (Atom ballot) [],
-      number session small.0,
-      digest ballot small.1,
+      number session small,
+      digest ballot hashed,
     )
 rest version (Override session way) is small =
     omega (arith, front (number_atom session) (how_rest version way), number session small, how_size version way is)
