@@ -358,6 +358,7 @@ swept_waits loses old before waits others ms losses same is = record {
   scripted = λ c number d lc ld differs low high named.
       elim (is.scripted c number d lc ld differs low high named) [
         | inl there ↦ inl there
-        | inr w ↦ inr (w.0, subst (λ (l : List SealedEntry). Contains l w.0) (sym (same c d lc ld differs)) w.1, w.2)
+        | inr (entry, waiting, number_is) ↦
+            inr (entry, subst (λ l. Contains l entry) (sym (same c d lc ld differs)) waiting, number_is)
       ];
 }

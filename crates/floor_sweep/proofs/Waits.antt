@@ -46,11 +46,11 @@ pub swept_first : (loses : List Lose) (old : List MachineState) (before : List L
     IsHanded loses w.to w.entry ms losses new more → IsSwept loses old before (waits_of rest) ms losses →
     IsSwept loses old before (waits_of ws) new more
 swept_first loses old before ms new losses more rest ws w is on hands swept =
-    let way = All-head (λ (x : Waiting). (x.entry.entry.maker < length ms) × (x.to < length ms)
-    × (x.entry.entry.maker ≢ x.to)) w ws (subst (AreOnWay (length ms)) is on) in
+    let (maker_within, to_within, apart) = All-head (λ (x : Waiting). (x.entry.entry.maker < length ms)
+    × (x.to < length ms) × (x.entry.entry.maker ≢ x.to)) w ws (subst (AreOnWay (length ms)) is on) in
     swept_handed loses old before (waits_of (w ∷ ws)) (waits_of ws) ms losses
     (subst (λ (l : List Waiting). IsSwept loses old before (waits_of l) ms losses) is swept)
-    w.to w.entry way.0 way.1 way.2 (first_waits w ws) (elsewhere w ws) new more hands
+    w.to w.entry maker_within to_within apart (first_waits w ws) (elsewhere w ws) new more hands
 
 -- where none is left, nothing waits
 pub none_waits : (loses : List Lose) (old : List MachineState) (before : List Loss) (ms : List MachineState)

@@ -50,14 +50,14 @@ returns-in_default c =
     let ms = c.args.machines.now.items in
     let m = c.index_mut.result.now in
     let stood = stands_at ms c.args.at m c.requires.at c.index_mut.ensures.value in
-    let none = still_at ms c.args.at m c.act.new.self (c.len-receivers.result - 1) c.in_ok-copies.field-0 stood
-    c.in_ok-copies.ensures.ok (not_did c.in_ok-copies.field-0 c.in_default.not-Did) in
+    let (still, stays) = still_at ms c.args.at m c.act.new.self (c.len-receivers.result - 1) c.in_ok-copies.field-0
+    stood c.in_ok-copies.ensures.ok (not_did c.in_ok-copies.field-0 c.in_default.not-Did) in
     record {
       swept = λ old before s.
           subst (λ (l : List MachineState). IsSwept c.args.loses.now old before no_waits l c.args.losses.now.items)
-          (sym none.1) s;
+          (sym stays) s;
       did = λ is. absurd (true≢false (sym is));
-      none = λ isnt. none;
-      count = ap length none.1;
-      numbers = subst AreNumbered (sym none.1) c.requires.numbers;
+      none = λ isnt. (still, stays);
+      count = ap length stays;
+      numbers = subst AreNumbered (sym stays) c.requires.numbers;
     }
