@@ -49,9 +49,9 @@ module _ {X : Type 0} where
       let first = above x (Contains-head x xs) in
       let rest : length (filter p xs) ≤ n - (k + 1) =
       rising_few number test n (k + 1) xs (λ i j d lt within. rises (suc i) (suc j) d (omega arith) (omega arith))
-      (λ y c.
-      let at : number x < number (get_or xs c.0 y) = rises 0 (suc c.0) y (omega arith) (let l = c.1 in omega arith) in
-      let is = ap number c.2 in omega arith) in
+      (λ y (i, inside, at).
+      let above_x : number x < number (get_or xs i y) = rises 0 (suc i) y (omega arith) (omega (arith, inside)) in
+      let is = ap number at in omega arith) in
       elim (cases_lt (number x) n) [
         | inl low ↦ (let most = at_most_one (p x) x (filter p xs) in omega arith)
         | inr high ↦ (let none : p x ≡ false = and_left (nat_lt (number x) n) (test x) (le-ltb (number x) n high) in

@@ -33,7 +33,7 @@ module _ (script : Script) (place : ℕ) (m : MachineState) (of : IsMachineOf sc
   -- what the script's machine is made of
   pub config_is :
       (cast : Cast0) × (slice_get script.machines place ≡ Some cast) × (m.config ≡ config_of script place cast)
-  config_is = (of.made.0, of.made.1, ap (λ (u : MachineState). u.config) of.made.2)
+  config_is = let (cast, named, is) = of.made in (cast, named, ap (λ (u : MachineState). u.config) is)
 
   -- its log holds as many events as the script says
   pub log_is : m.config.log ≡ script.log
@@ -56,13 +56,13 @@ module _ (script : Script) (place : ℕ) (m : MachineState) (of : IsMachineOf sc
   grown_of n grown at =
       let fresh : Config → Bool → MachineState =
       λ config marked. record { config = config; stop = n.stop; marked = marked; events = [] } in
-      record {
+      let (cast, named, of_cast) = config_is in record {
         stop = subst (IsStopOf script.stops place) (sym grown.stop) of.stop;
         made = (
-          config_is.0,
-          config_is.1,
-          ap (λ (c : Config). fresh c n.marked) (grown.config ∙ config_is.2)
-              ∙ ap (fresh (config_of script place config_is.0)) at.unmarked,
+          cast,
+          named,
+          ap (λ (c : Config). fresh c n.marked) (grown.config ∙ of_cast)
+              ∙ ap (fresh (config_of script place cast)) at.unmarked,
         );
         machine = at.machine;
       }

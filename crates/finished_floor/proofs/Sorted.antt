@@ -26,7 +26,8 @@ Key = ℕ × ℕ × ℕ
 
 -- by sender, then by receiver, then by number
 abbrev pub compare : Key → Key → Ordering
-compare p q = ordering_then (ordering_then (nat_cmp p.0 q.0) (nat_cmp p.1 q.1)) (nat_cmp p.2 q.2)
+compare (from_p, to_p, number_p) (from_q, to_q, number_q) =
+    ordering_then (ordering_then (nat_cmp from_p from_q) (nat_cmp to_p to_q)) (nat_cmp number_p number_q)
 
 -- this is a total order
 compare_total : IsTotalOrder compare
