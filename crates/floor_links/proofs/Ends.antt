@@ -56,9 +56,10 @@ puts_more losses lost own to k es e old new number below older now was fate =
     ap (λ n. is_lost (losses ++ lost) own n to) number ∙ lost_either losses lost own k to
     ∙ ap (λ b. b || is_lost lost own k to) fresh in
     elim fate [
-      | inl f ↦ f.0 ∙ ap (λ l. l ++ e ∷ []) (sym arrived)
-          ∙ sym (arriving_kept node_of_sealed (losses ++ lost) own to es e (here ∙ f.1))
-      | inr f ↦ f.0 ∙ sym arrived ∙ sym (arriving_lost node_of_sealed (losses ++ lost) own to es e (here ∙ f.1))
+      | inl (put, kept) ↦ put ∙ ap (λ l. l ++ e ∷ []) (sym arrived)
+          ∙ sym (arriving_kept node_of_sealed (losses ++ lost) own to es e (here ∙ kept))
+      | inr (stays, gone) ↦
+          stays ∙ sym arrived ∙ sym (arriving_lost node_of_sealed (losses ++ lost) own to es e (here ∙ gone))
     ]
 
 -- what one side loses on other ways changes nothing

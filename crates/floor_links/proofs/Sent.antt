@@ -105,7 +105,8 @@ module _ (loses : List Lose) (capacity : ℕ) where
     count = is.count;
     few = let h = is.few in omega arith;
     rising = is.rising;
-    losses = λ k d lt. let h = is.losses k d lt in (h.0, h.1, (let g = h.2 in omega arith), h.3);
+    losses = λ k d lt.
+        let (maker, number, below, apart) = is.losses k d lt in (maker, number, omega (arith, below), apart);
     queues = is.queues;
     done = λ to d lt differs. is.done to d (let n : to ≢ most = λ s. differs (s ∙ own) in omega arith) differs;
     left = λ to d above lt. is.left to d (omega arith) lt;
@@ -138,9 +139,10 @@ module _ (loses : List Lose) (capacity : ℕ) where
           rising = adds.rising;
           losses = All-append (λ (loss : Loss). (loss.from ≡ e.entry.maker) × (loss.number ≡ e.entry.number) ×
               (loss.to < most + 1) × (loss.to ≢ e.entry.maker)) lost more
-              (λ k d lt. let h = is.losses k d lt in (h.0, h.1, (let g = h.2 in omega arith), h.3))
-              (λ k d lt. let h = adds.are k d lt in
-              (h.0, h.1, (let g = h.2 in omega arith), λ s. differs (sym h.2 ∙ s)));
+              (λ k d lt. let (maker, number, lower, apart) = is.losses k d lt in
+              (maker, number, omega (arith, lower), apart))
+              (λ k d lt. let (maker, number, to_most) = adds.are k d lt in
+              (maker, number, omega (arith, to_most), λ s. differs (sym to_most ∙ s)));
           queues = λ to d lt.
               elim (cases_eq to most) [
                 | inl s ↦ (let now : get_or (set new most end) to d ≡ end =
@@ -151,8 +153,8 @@ module _ (loses : List Lose) (capacity : ℕ) where
                     ))
                 | inr n ↦ (let there : get_or (set new most end) to d ≡ get_or new to d =
                     get_or-set_other new most to end d n in
-                    let h = is.queues to d lt in
-                    (ap (λ (x : End). x.queue) there ∙ h.0, ap (λ (x : End). x.from) there ∙ h.1))
+                    let (queue, from) = is.queues to d lt in
+                    (ap (λ (x : End). x.queue) there ∙ queue, ap (λ (x : End). x.from) there ∙ from))
               ];
           done = λ to d lt apart.
               elim (cases_eq to most) [
@@ -232,10 +234,8 @@ module _ (links : List (List LinkView)) (loses : List Lose) (own number count : 
     left = λ k d above lt. is.left k d (omega arith) lt;
     room = let r = is.room in omega arith;
     sent = λ e capacity maker number all holds.
-        let was = is.sent e capacity maker number all holds in (
-          was.0,
-          (was.1.0, was.1.1, passed_over loses capacity to e outs0 outs was.1.0 (here ∙ sym maker) was.1.2),
-        );
+        let (copies_are, (lost, losses_are, below)) = is.sent e capacity maker number all holds in
+        (copies_are, (lost, losses_are, passed_over loses capacity to e outs0 outs lost (here ∙ sym maker) below));
   }
 
   -- one copy more is sent, to the next machine
@@ -263,9 +263,8 @@ module _ (links : List (List LinkView)) (loses : List Lose) (own number count : 
         left = λ k d above lt. get_or-set_other outs to k end d (omega arith) ∙ is.left k d (omega arith) lt;
         room = let r = is.room in omega arith;
         sent = λ e capacity by at all holds.
-            let was = is.sent e capacity by at all holds in
-            let popped = All-pop (λ (x : SealedEntry). x ≡ e) copies rest (Some copy) split was.0 in
-            let same : copy ≡ e = popped.1 in
+            let (copies_are, (lost, losses_are, below)) = is.sent e capacity by at all holds in
+            let (rest_are, same) = All-pop (λ (x : SealedEntry). x ≡ e) copies rest (Some copy) split copies_are in
             let of : ℕ → ℕ → Bool = λ m n. is_scripted loses m n to in
             let named : scripted ≡ is_scripted loses e.entry.maker e.entry.number to =
             names ∙ ap (λ m. of m number) (sym by) ∙ ap (λ n. of e.entry.maker n) (sym at) in
@@ -275,9 +274,9 @@ module _ (links : List (List LinkView)) (loses : List Lose) (own number count : 
             let one : To (is_scripted loses e.entry.maker e.entry.number to) capacity e =
             subst (λ b. To b capacity e) named
             (subst (λ n. To scripted n e) holding (subst (λ x. To scripted link.capacity x) same sends)) in
-            let more = sent_to_one_more loses capacity to e outs0 outs was.1.0 losses after old end
-            (omega (arith, is.in_all)) (λ s. differs (s ∙ by)) was.1.2 stood one in (
-              popped.0,
-              (was.1.0 ++ more.0, more.1 ∙ ap (λ l. l ++ more.0) was.1.1 ∙ append_assoc losses0 was.1.0 more.0, more.3),
+            let (more, after_is, _, below_next) = sent_to_one_more loses capacity to e outs0 outs lost losses after old
+            end (omega (arith, is.in_all)) (λ s. differs (s ∙ by)) below stood one in (
+              rest_are,
+              (lost ++ more, after_is ∙ ap (λ l. l ++ more) losses_are ∙ append_assoc losses0 lost more, below_next),
             );
       }

@@ -21,17 +21,17 @@ use Rattle.floor_links.specs.Sendings.{IsWay, IsTold, IsSentOn}
 pub once_there : (xs : List Loss) → AllPairs (λ (a b : Loss). a.to < b.to) xs → (x y : Loss) → Contains xs x →
     Contains xs y → x.to ≡ y.to → x ≡ y
 once_there xs rises x y c d s =
-    let p = at_from_Contains xs x c in
-    let q = at_from_Contains xs y d in
-    let here : get_or xs p.0 x ≡ x = p.2 x in
-    let there : get_or xs q.0 x ≡ y = q.2 x in
+    let (i, i_inside, x_at) = at_from_Contains xs x c in
+    let (j, j_inside, y_at) = at_from_Contains xs y d in
+    let here : get_or xs i x ≡ x = x_at x in
+    let there : get_or xs j x ≡ y = y_at x in
     let n = ap (λ (z : Loss). z.to) here in
     let m = ap (λ (z : Loss). z.to) there in
-    elim (cases_lt p.0 q.0) [
-      | inl lt ↦ (let r = rises p.0 q.0 x lt q.1 in absurd (omega arith))
-      | inr le ↦ elim (cases_lt q.0 p.0) [
-        | inl lt ↦ (let r = rises q.0 p.0 x lt p.1 in absurd (omega arith))
-        | inr above ↦ (let e : p.0 ≡ q.0 = omega arith in sym here ∙ ap (λ k. get_or xs k x) e ∙ there)
+    elim (cases_lt i j) [
+      | inl lt ↦ (let r = rises i j x lt j_inside in absurd (omega arith))
+      | inr le ↦ elim (cases_lt j i) [
+        | inl lt ↦ (let r = rises j i x lt i_inside in absurd (omega arith))
+        | inr above ↦ (let e : i ≡ j = omega arith in sym here ∙ ap (λ k. get_or xs k x) e ∙ there)
       ]
     ]
 
@@ -52,10 +52,10 @@ module _ (scripted : Bool) (capacity to : ℕ) (e : SealedEntry) (old new : OutV
   -- the same by the cause for which it was lost, if there is one
   by_cause : (lost : List Loss) (cause : Option LossWhy) → IsWay scripted capacity e old new cause →
       IsTold lost e to cause → PutOrLost lost
-  by_cause lost None way told = inl (way.1.put, told)
-  by_cause lost (Some Scripted) way told =
-      inr (ap (λ (x : OutView SealedEntry). x.put) way.1, told_lost lost e to Scripted told)
-  by_cause lost (Some LinkFull) way told = inr (way.1.put, told_lost lost e to LinkFull told)
+  by_cause lost None (_, item) told = inl (item.put, told)
+  by_cause lost (Some Scripted) (_, stays) told =
+      inr (ap (λ (x : OutView SealedEntry). x.put) stays, told_lost lost e to Scripted told)
+  by_cause lost (Some LinkFull) (_, full) told = inr (full.put, told_lost lost e to LinkFull told)
   by_cause lost (Some ToStopped) way told = absurd way
   by_cause lost (Some LogFull) way told = absurd way
   by_cause lost (Some SameDigest) way told = absurd way
@@ -67,9 +67,9 @@ module _ (scripted : Bool) (capacity to : ℕ) (e : SealedEntry) (old new : OutV
   -- the same by the cause for which the entry was lost, if there is one
   grows_by : (cause : Option LossWhy) → IsWay scripted capacity e old new cause →
       (more : List SealedEntry) × (new.put ≡ old.put ++ more)
-  grows_by None way = (e ∷ [], way.1.put)
-  grows_by (Some Scripted) way = ([], ap (λ (x : OutView SealedEntry). x.put) way.1 ∙ sym (append-nil old.put))
-  grows_by (Some LinkFull) way = ([], way.1.put ∙ sym (append-nil old.put))
+  grows_by None (_, item) = (e ∷ [], item.put)
+  grows_by (Some Scripted) (_, stays) = ([], ap (λ (x : OutView SealedEntry). x.put) stays ∙ sym (append-nil old.put))
+  grows_by (Some LinkFull) (_, full) = ([], full.put ∙ sym (append-nil old.put))
   grows_by (Some ToStopped) way = absurd way
   grows_by (Some LogFull) way = absurd way
   grows_by (Some SameDigest) way = absurd way

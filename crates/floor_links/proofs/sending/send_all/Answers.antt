@@ -157,10 +157,10 @@ returns-clause-sent g c =
     let ok = c.args.outs.now.ok.0 in
     let n = is.in_all in
     let count : vec_len c.args.outs.now ≡ c.len-count.result = omega arith in
-    let h = is.sent e capacity maker number all (λ to l lt. holds to l (omega arith)) in
+    let (_, (lost, losses_are, below)) =
+    is.sent e capacity maker number all (λ to l lt. holds to l (omega arith)) in
     let end : c.loop-to.to ≡ vec_len c.args.outs.now = omega arith in (
-      h.1.0,
-      h.1.1,
-      subst (λ k. IsSentBelow c.args.loses.now capacity k e c.args.outs.now.items c.loop-to.outs.items h.1.0)
-          end h.1.2,
+      lost,
+      losses_are,
+      subst (λ k. IsSentBelow c.args.loses.now capacity k e c.args.outs.now.items c.loop-to.outs.items lost) end below,
     )
