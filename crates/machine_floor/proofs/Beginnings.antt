@@ -131,11 +131,11 @@ module _ (script : Script) (lawful : IsLawful script) (links : List (List LinkVi
 
   -- nothing happened to the machine, and these ends lead to and from each machine, with nothing put or taken
   pub beginning : IsBeginning script m the_outs the_inns
-  beginning = record {
-    log = ap (λ (x : MachineState). x.config.log) fresh.2;
+  beginning = let (_, _, is) = fresh in record {
+    log = ap (λ (x : MachineState). x.config.log) is;
     small = lawful.log.1;
-    events = ap (λ (x : MachineState). x.events) fresh.2;
-    going = ap (λ (x : MachineState). x.marked) fresh.2;
+    events = ap (λ (x : MachineState). x.events) is;
+    going = ap (λ (x : MachineState). x.marked) is;
     place = (let k = inside in let n = number in let c = outs_count in omega arith);
     few = (let k = lawful.machines.few.1 in let c = outs_count in omega arith);
     as_many = inns_count ∙ sym outs_count;

@@ -104,10 +104,9 @@ module _ (old : StationState) (from : ℕ) (end : Inn) (x : SealedEntry) (is : I
       -- it keeps what is true of every station
       pub station_heard : IsStation heard_one
       station_heard =
-          let done = heard_done answer new answers after none in
-          let is_new = done.0 in
+          let (is_new, room, going) = heard_done answer new answers after none in
           let base = IsStation-heard old from end x is within other took small of same_from
-          (subst IsMachine is_new kept) done.2 done.1 in
+          (subst IsMachine is_new kept) going room in
           let P : MachineState → List Tick →
           Type 0 = λ m t. IsStation (record {
             machine = m;

@@ -40,8 +40,9 @@ module _ (script : Script) (links : List (List LinkView)) (outs : List Outs) (in
   -- the next key is that of the next machine
   pub next_key : IsKeyOf script at key
   next_key =
-      let r = rest_step (key_of script) script.machines (length stations) key more (first.rest ∙ next) in
-      (r.0, ap (slice_get script.machines) here ∙ r.1, r.2)
+      let (cast, there, key_is, _) =
+      rest_step (key_of script) script.machines (length stations) key more (first.rest ∙ next) in
+      (cast, ap (slice_get script.machines) here ∙ there, key_is)
 
   -- so there is such a machine
   pub next_within : at < length script.machines

@@ -230,8 +230,8 @@ module _ (from to : ℕ) (row0 : List LinkView) (outs0 : Outs) (inns0 : List Inn
           count = pops.count ∙ is.count;
           popped = λ b lt. elim (cases_eq b to) [
             | inl s ↦ (inn, subst (λ n. get_or inns0 n [] ≡ get_or inns_now n [] ++ inn ∷ []) (sym s) front)
-            | inr n ↦ (let was = is.popped b (omega arith) in
-                (was.0, was.1 ∙ ap (λ (l : Inns). l ++ was.0 ∷ []) (sym (pops.others b n))))
+            | inr n ↦ (let (last, split) = is.popped b (omega arith) in
+                (last, split ∙ ap (λ (l : Inns). l ++ last ∷ []) (sym (pops.others b n))))
           ];
           left = λ b le. pops.others b (omega arith) ∙ is.left b (omega arith);
           rest = λ b d e lt differs. elim (cases_eq b to) [

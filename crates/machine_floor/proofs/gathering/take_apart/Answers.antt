@@ -6,18 +6,18 @@ use Rattle.machine_floor.proofs.gathering.take_apart.Goals as goal
 
 pub loop-station-preserved : goal.loop-station-preserved
 loop-station-preserved c =
-    let was = c.loop-station.invariant in
+    let (taken, in_all, parted) = c.loop-station.invariant in
     let parts = c.into_parts-parts.result in
     let is = c.into_parts-parts.ensures in
     let s = c.in-Some.station in (
-      was.0 ++ s ∷ [],
-      append_assoc was.0 (s ∷ []) (into_iter_items c.next.new.self)
-          ∙ ap (λ l. was.0 ++ l) (sym c.in-Some.ensures.steps.0) ∙ was.1,
-      parts_push was.0 c.loop-station.machines.items c.push.new.self.items (lists_of c.loop-station.outs.items)
+      taken ++ s ∷ [],
+      append_assoc taken (s ∷ []) (into_iter_items c.next.new.self)
+          ∙ ap (λ l. taken ++ l) (sym c.in-Some.ensures.steps.0) ∙ in_all,
+      parts_push taken c.loop-station.machines.items c.push.new.self.items (lists_of c.loop-station.outs.items)
           (lists_of c.push-in-loop-station.new.self.items) (lists_of c.loop-station.inns.items)
           (lists_of c.push-in-loop-station-2.new.self.items) c.loop-station.losses.items c.add_all.new.losses.items
           (lists_of c.loop-station.by.items) (lists_of c.push-in-loop-station-3.new.self.items) s parts.machine
-          parts.outs.items parts.inns.items parts.losses.items parts.ticks.items c.in_ok-passes_of.field-0.items was.2
+          parts.outs.items parts.inns.items parts.losses.items parts.ticks.items c.in_ok-passes_of.field-0.items parted
           is.is is.machine is.outs is.inns is.losses is.ticks c.in_ok-passes_of.ensures c.in_ok-push.ensures.items
           (lists_push c.loop-station.outs.items c.push-in-loop-station.new.self.items parts.outs
           c.in_ok-push-2.ensures.items)

@@ -11,11 +11,11 @@ ear_turn-heard-requires g c =
 
 pub release-pass-requires-clause-ticks : goal.release-pass-requires-clause-ticks
 release-pass-requires-clause-ticks g c =
-    let d = c.ear_turn-heard.ensures.ticks in
+    let (more, ticks, passes) = c.ear_turn-heard.ensures.ticks in
     own_ticks 1 c.hold-guard.result.number c.hold-guard.result.held c.value.result.now.ticks
     c.ear_turn-heard.new.self.ticks
     c.ear_turn-heard.new.self.ticks
-    (record { more = d.0; ticks = d.1; passes = d.2 })
+    (record { more = more; ticks = ticks; passes = passes })
     (ap (λ (s : StationState). s.ticks) c.value.ensures.value ∙ c.hold-guard.ensures.held)
     refl
     (c.hold-guard.ensures.guard.number ∙ c.loop-turn.invariant.1)

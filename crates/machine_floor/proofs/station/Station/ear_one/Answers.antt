@@ -20,15 +20,11 @@ invariant_of-self g c =
     let old = state_of c.self.inside in
     let within : c.args.from < length old.inns =
     subst (λ (s : StationState). c.args.from < length s.inns) (sym c.self.view_is) c.requires.from in
-    let ends = subst (λ (s : StationState). (d : InView SealedEntry) →
-    IsInOf c.args.link.now (get_or s.inns c.args.from d)) (sym c.self.view_is) c.requires.end in
     let empty : (d : InView SealedEntry) → FoundLinkEmpty (get_or old.inns c.args.from d) c.take.new.inn =
     λ d. subst (λ (i : InView SealedEntry). FoundLinkEmpty i c.take.new.inn) (c.index_mut.ensures.value
-    ∙ get_or_default old.inns c.args.from c.index_mut.result.now d within) c.in_default.ensures.none in (
-      station_bare old c.args.from c.take.new.inn c.self.invariant.0 within empty,
-      c.self.invariant.1,
-      c.self.invariant.2,
-    )
+    ∙ get_or_default old.inns c.args.from c.index_mut.result.now d within) c.in_default.ensures.none in
+    let (is, losses_fit, ticks_fit) = c.self.invariant in
+    (station_bare old c.args.from c.take.new.inn is within empty, losses_fit, ticks_fit)
 
 pub returns-in_default : goal.returns-in_default
 returns-in_default g c =
@@ -65,8 +61,9 @@ push_reserved-requires g c =
 
 pub invariant_of-self-in-None : goal.invariant_of-self-in-None
 invariant_of-self-in-None g c =
+    let (is, losses_fit, ticks_fit) = c.self.invariant in
     let l = look c.args.self.now (state_of c.self.inside) c.args.from c.args.link.now c.index_mut.result.now
-    c.take.new.inn c.in-Some.parcel c.self.view_is c.self.invariant.0 c.requires.from c.requires.other
+    c.take.new.inn c.in-Some.parcel c.self.view_is is c.requires.from c.requires.other
     c.requires.end c.requires.sender c.index_mut.ensures.value c.in-Some.ensures.some c.take.ensures.end
     c.«open».ensures.small in
     let old = state_of c.self.inside in
@@ -78,18 +75,14 @@ invariant_of-self-in-None g c =
     c.«open».ensures.value c.hear-answer.ensures.machine in
     let ticked = c.push_reserved.ensures.items
     ∙ ap (λ n. c.self.inside.ticks.items ++ record { pass = 1; what = n } ∷ []) (let k =
-    c.self.inside.ticks.ok.0 in omega arith) in (
+    c.self.inside.ticks.ok.0 in omega arith) in
+    let log = ap (λ (k : Config). k.log)
+    (same_config c.hear-answer.result c.in-Some.parcel old.machine c.hear-answer.new.self after) in (
       station_heard (state_of c.self.inside) c.args.from c.take.new.inn c.in-Some.parcel l.is l.within l.other l.took
           l.small l.of l.same_from l.queue c.hear-answer.result c.hear-answer.new.self answers after
           c.log.ensures.machine (sym c.in-None.ensures) c.push_reserved.new.self.items ticked,
-      c.self.invariant.1,
-      omega (
-        arith,
-        c.push_reserved.ensures.capacity,
-        c.self.invariant.2,
-        ap (λ (k : Config). k.log)
-            (same_config c.hear-answer.result c.in-Some.parcel old.machine c.hear-answer.new.self after),
-      ),
+      losses_fit,
+      omega (arith, c.push_reserved.ensures.capacity, ticks_fit, log),
     )
 
 pub push_reserved-requires-in-Some-cause_of : goal.push_reserved-requires-in-Some-cause_of
@@ -111,8 +104,9 @@ push_reserved-requires-in-Some-cause_of g c =
 
 pub invariant_of-self-in-Some-cause_of : goal.invariant_of-self-in-Some-cause_of
 invariant_of-self-in-Some-cause_of g c =
+    let (is, losses_fit, ticks_fit) = c.self.invariant in
     let l = look c.args.self.now (state_of c.self.inside) c.args.from c.args.link.now c.index_mut.result.now
-    c.take.new.inn c.in-Some.parcel c.self.view_is c.self.invariant.0 c.requires.from c.requires.other
+    c.take.new.inn c.in-Some.parcel c.self.view_is is c.requires.from c.requires.other
     c.requires.end c.requires.sender c.index_mut.ensures.value c.in-Some.ensures.some c.take.ensures.end
     c.«open».ensures.small in
     let old = state_of c.self.inside in
@@ -133,8 +127,8 @@ invariant_of-self-in-Some-cause_of g c =
           l.small l.of l.same_from l.queue c.hear-answer.result c.hear-answer.new.self answers after
           c.log.ensures.machine c.in-Some-cause_of.why (sym c.in-Some-cause_of.ensures)
           c.push_reserved-in-Some-cause_of.new.self.items added,
-      omega (arith, c.push_reserved-in-Some-cause_of.ensures.capacity, c.self.invariant.1),
-      omega (arith, c.self.invariant.2, ap (λ (k : Config). k.log) config),
+      omega (arith, c.push_reserved-in-Some-cause_of.ensures.capacity, losses_fit),
+      omega (arith, ticks_fit, ap (λ (k : Config). k.log) config),
     )
 
 pub returns-in-None : goal.returns-in-None

@@ -60,27 +60,27 @@ pub invariant_of-self-in-Did : goal.invariant_of-self-in-Did
 invariant_of-self-in-Did g c =
     let done = rw c.in-Did.is at c.in_ok-number.ensures.ok in
     let old = state_of c.self.inside in
-    let is = c.self.invariant.0 in
+    let (is, losses_fit, ticks_fit) = c.self.invariant in
     let of = subst (λ (s : StationState). IsOfLinks c.args.links.now (made_of s)) (sym c.self.view_is) c.requires in
     let own = owner_is c.self.inside.machine c.act.new.self c.log.result.now c.owner-own.result c.owner-own.ensures
     c.log.ensures.log (ap (λ (m : MachineState). m.config.number) done.changed) in
-    let sends = c.send_all.ensures.sent done.entry old.link (maker_is old is _ _ _ _ done ∙ sym own)
+    let ok = c.self.inside.outs.ok.0 in
+    let (lost, losses_are, below) = c.send_all.ensures.sent done.entry old.link (maker_is old is _ _ _ _ done ∙ sym own)
     (number_is old is _ _ _ _ done ∙ sym done.counted) (copies_same old is _ _ _ _ done)
     (subst (λ n. HaveCapacity c.args.links.now n (vec_len c.self.inside.outs) old.link) (sym own)
-    (λ to l lt. capacity_is c.args.links.now old of is to l (let k = c.self.inside.outs.ok.0 in omega arith))) in
-    let ok = c.self.inside.outs.ok.0 in
+    (λ to l lt. capacity_is c.args.links.now old of is to l (omega arith))) in
     let log = ap (λ (m : MachineState). m.config.log) done.changed in (
       station_turned old is _ _ _ _ done c.send_all.new.outs.items c.send_all.new.losses.items
           c.push_reserved.new.self.items c.log.ensures.machine
           (c.push_reserved.ensures.items
           ∙ ap (λ n. c.self.inside.ticks.items ++ record { pass = 0; what = n } ∷ []) (let k =
           c.self.inside.ticks.ok.0 in omega arith))
-          sends.0 sends.1 (subst (λ (l : List Lose). IsSentBelow l old.link (length c.self.inside.outs.items) done.entry
-          c.self.inside.outs.items c.send_all.new.outs.items sends.0) c.as_slice.ensures.value (subst
+          lost losses_are (subst (λ (l : List Lose). IsSentBelow l old.link (length c.self.inside.outs.items) done.entry
+          c.self.inside.outs.items c.send_all.new.outs.items lost) c.as_slice.ensures.value (subst
           (λ n. IsSentBelow c.as_slice.result.now old.link n done.entry c.self.inside.outs.items
-          c.send_all.new.outs.items sends.0) ok sends.2)),
-      omega (arith, c.send_all.ensures.capacity, c.self.invariant.1),
-      omega (arith, c.push_reserved.ensures.capacity, c.self.invariant.2, log),
+          c.send_all.new.outs.items lost) ok below)),
+      omega (arith, c.send_all.ensures.capacity, losses_fit),
+      omega (arith, c.push_reserved.ensures.capacity, ticks_fit, log),
     )
 
 pub returns-in-Did-clause-did : goal.returns-in-Did-clause-did
@@ -91,11 +91,11 @@ returns-in-Did-clause-did g c = λ yes.
     let of = subst (λ (s : StationState). IsOfLinks c.args.links.now (made_of s)) (sym c.self.view_is) c.requires in
     let own = owner_is c.self.inside.machine c.act.new.self c.log.result.now c.owner-own.result c.owner-own.ensures
     c.log.ensures.log (ap (λ (m : MachineState). m.config.number) done.changed) in
-    let sends = c.send_all.ensures.sent done.entry old.link (maker_is old is _ _ _ _ done ∙ sym own)
+    let ok = c.self.inside.outs.ok.0 in
+    let (lost, losses_are, below) = c.send_all.ensures.sent done.entry old.link (maker_is old is _ _ _ _ done ∙ sym own)
     (number_is old is _ _ _ _ done ∙ sym done.counted) (copies_same old is _ _ _ _ done)
     (subst (λ n. HaveCapacity c.args.links.now n (vec_len c.self.inside.outs) old.link) (sym own)
-    (λ to l lt. capacity_is c.args.links.now old of is to l (let k = c.self.inside.outs.ok.0 in omega arith))) in
-    let ok = c.self.inside.outs.ok.0 in
+    (λ to l lt. capacity_is c.args.links.now old of is to l (omega arith))) in
     subst (λ (s : StationState). HandDid s
     (state_of (record {
       machine = c.act.new.self;
@@ -111,7 +111,7 @@ returns-in-Did-clause-did g c = λ yes.
     (c.push_reserved.ensures.items
     ∙ ap (λ n. c.self.inside.ticks.items ++ record { pass = 0; what = n } ∷ []) (let k =
     c.self.inside.ticks.ok.0 in omega arith))
-    sends.0 sends.1 (subst (λ (l : List Lose). IsSentBelow l old.link (length c.self.inside.outs.items) done.entry
-    c.self.inside.outs.items c.send_all.new.outs.items sends.0) c.as_slice.ensures.value (subst
+    lost losses_are (subst (λ (l : List Lose). IsSentBelow l old.link (length c.self.inside.outs.items) done.entry
+    c.self.inside.outs.items c.send_all.new.outs.items lost) c.as_slice.ensures.value (subst
     (λ n. IsSentBelow c.as_slice.result.now old.link n done.entry c.self.inside.outs.items
-    c.send_all.new.outs.items sends.0) ok sends.2)))
+    c.send_all.new.outs.items lost) ok below)))
