@@ -70,10 +70,10 @@ read_of_read : (w : World SealedEntry) (files : List (Option (List ℕ))) (logs 
 read_of_read w [] [] read = All-nil (IsReadIn w)
 read_of_read w [] (log ∷ logs) read = absurd read
 read_of_read w (file ∷ files) [] read = absurd read
-read_of_read w (file ∷ files) (log ∷ logs) read =
+read_of_read w (file ∷ files) (log ∷ logs) (first, rest) =
     All-cons (IsReadIn w) log logs
-    (record { machine = read.0.machine; bytes = read.0.bytes; there = read.0.there; read = read.0.read })
-    (read_of_read w files logs read.1)
+    (record { machine = first.machine; bytes = first.bytes; there = first.there; read = first.read })
+    (read_of_read w files logs rest)
 
 module _ (posts : List Post) (w : World SealedEntry) (honest : IsHonestWorld posts w) where
   -- each file is read as the events that stand whole in it

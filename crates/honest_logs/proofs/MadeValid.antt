@@ -25,15 +25,15 @@ use Rattle.polling_world.specs.Making.{election_of, entry_with, made}
 -- a script's deed can be written
 pub deed_lawful : (machines : List Cast0) (deed : Deed) → length machines ≤ 16 → IsDeedAmong machines deed → IsDeed deed
 deed_lawful machines Opened few is = tt
-deed_lawful machines (Authorise booth session) few ((cast, at, role), is) =
-    (omega (arith, few, slice_get_within machines booth cast at), omega (arith, is.1))
-deed_lawful machines (Override session how) few is = omega (arith, is.1)
+deed_lawful machines (Authorise booth session) few ((cast, at, role), (least, most)) =
+    (omega (arith, few, slice_get_within machines booth cast at), omega (arith, most))
+deed_lawful machines (Override session how) few (least, most) = omega (arith, most)
 deed_lawful machines Closed few is = tt
-deed_lawful machines (Activate session) few is = omega (arith, is.1)
-deed_lawful machines (Commit session ballot) few is = (omega (arith, is.0.1), is.1)
-deed_lawful machines (Cast session ballot) few is = (omega (arith, is.0.1), is.1)
-deed_lawful machines (Cancel session) few is = omega (arith, is.1)
-deed_lawful machines (Challenge session ballot) few is = (omega (arith, is.0.1), is.1)
+deed_lawful machines (Activate session) few (least, most) = omega (arith, most)
+deed_lawful machines (Commit session ballot) few ((least, most), digest, bytes) = (omega (arith, most), digest)
+deed_lawful machines (Cast session ballot) few ((least, most), digest, bytes) = (omega (arith, most), digest)
+deed_lawful machines (Cancel session) few (least, most) = omega (arith, most)
+deed_lawful machines (Challenge session ballot) few ((least, most), digest, bytes) = (omega (arith, most), digest)
 
 -- the lengths of digests and of identifiers
 pub length-election : (posts : List Post) → length (election_of posts) ≡ 32

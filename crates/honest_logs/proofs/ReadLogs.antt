@@ -183,20 +183,20 @@ module _ (posts : List Post) (election : List ℕ) where
   one_sealed : (place : ℕ) (sent : Bool) (text : List ℕ) (reading other : Result Kept EntryFault) →
       IsReadSealed posts election place sent text reading → IsReadSealed posts election place sent text other →
       reading ≡ other
-  one_sealed place sent text (Ok kept) (Ok other) h k =
+  one_sealed place sent text (Ok kept) (Ok other) (there, way, unseals) (there', way', unseals') =
       let same : Ok kept.entry ≡ Ok other.entry =
-      one_unsealing posts election text (Ok kept.entry) (Ok other.entry) h.2 k.2 in
+      one_unsealing posts election text (Ok kept.entry) (Ok other.entry) unseals unseals' in
       let entries : kept.entry ≡ other.entry = cc in
-      ap (λ n. Ok (kept_with n kept.sent kept.entry)) (h.0 ∙ sym k.0)
-      ∙ ap (λ b. Ok (kept_with other.place b kept.entry)) (h.1 ∙ sym k.1)
+      ap (λ n. Ok (kept_with n kept.sent kept.entry)) (there ∙ sym there')
+      ∙ ap (λ b. Ok (kept_with other.place b kept.entry)) (way ∙ sym way')
       ∙ ap (λ e. Ok (kept_with other.place other.sent e)) entries
-  one_sealed place sent text (Ok kept) (Err fault) h k =
+  one_sealed place sent text (Ok kept) (Err fault) (there, way, unseals) told =
       let same : Ok kept.entry ≡ Err fault =
-      one_unsealing posts election text (Ok kept.entry) (Err fault) h.2 k in
+      one_unsealing posts election text (Ok kept.entry) (Err fault) unseals told in
       cc
-  one_sealed place sent text (Err fault) (Ok other) h k =
+  one_sealed place sent text (Err fault) (Ok other) told (there, way, unseals) =
       let same : Err fault ≡ Ok other.entry =
-      one_unsealing posts election text (Err fault) (Ok other.entry) h k.2 in
+      one_unsealing posts election text (Err fault) (Ok other.entry) told unseals in
       cc
   one_sealed place sent text (Err fault) (Err other) h k =
       let same : Err fault ≡ Err other = one_unsealing posts election text (Err fault) (Err other) h k in

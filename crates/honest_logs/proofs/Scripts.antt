@@ -137,9 +137,9 @@ module _ (script : Script) (lawful : IsLawful script) (next : ℕ → List (Even
     -- who sent an entry could send it then
     sent_by : (e : SealedEntry) (past : List (Event SealedEntry)) → (s : WasSentAfter world past e) →
         MaySendAt s.0 past e
-    sent_by e past s =
-        may_at s.0 past e
-        (plays_are_made node_of_sealed next script.log (length script.machines) steps s.0 past e s.1 s.2)
+    sent_by e past (machine, later, is) =
+        may_at machine past e
+        (plays_are_made node_of_sealed next script.log (length script.machines) steps machine past e later is)
 
     -- a machine sent no more entries than it has actions
     few_by_one : (m : ℕ) (a : Machine SealedEntry) (cast : Cast0) → slice_get world m ≡ Some a →
