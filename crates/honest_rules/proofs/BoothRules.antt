@@ -81,12 +81,12 @@ module _ {posts : List Post} {w : World SealedEntry} (honest : IsHonest posts w)
 
   -- so it was where it committed to a ballot
   commitment_authorised : (e : SealedEntry) (n : ℕ) (x : List ℕ) → CommittedBefore e n x → WasAuthorised e n
-  commitment_authorised e n x c =
-      let a = activated c.0 c.1.0 n x c.3 in
-      let s = sent_by honest a.0 a.1.0 in
-      let (named, _) = booth_row honest a.0 s (deed.Activate n) a.3 tt in
-      let f = authorised a.0 s a.1.0 n named in
-      (f.0, f.1.0, f.2 ∙ ap (λ m. deed.Authorise m n) (a.2 ∙ c.2))
+  commitment_authorised e n x (commitment, before, of_maker, commits) =
+      let (activation, earlier, of_same, does) = activated commitment before.0 n x commits in
+      let s = sent_by honest activation earlier.0 in
+      let (named, _) = booth_row honest activation s (deed.Activate n) does tt in
+      let (authorising, first, names) = authorised activation s earlier.0 n named in
+      (authorising, first.0, names ∙ ap (λ m. deed.Authorise m n) (of_same ∙ of_maker))
 
   -- and where it ended the session, which it had not ended before
   end_authorised : (e : SealedEntry) (s : SentBy w e) → Contains (sent_in w) e → (n : ℕ) → Ends n e.entry.deed →
@@ -96,7 +96,7 @@ module _ {posts : List Post} {w : World SealedEntry} (honest : IsHonest posts w)
       (unended, commitment_authorised e n x (committed e s ce n x bound))
   end_authorised e s ce n (inr (inl de)) =
       let (named, (unended, _)) = booth_row honest e s (deed.Cancel n) de tt in
-      let f = authorised e s ce n named in (unended, (f.0, f.1.0, f.2))
+      let (authorising, before, names) = authorised e s ce n named in (unended, (authorising, before.0, names))
   end_authorised e s ce n (inr (inr (x, de))) =
       let (bound, (unended, _)) = booth_row honest e s (deed.Challenge n x) de tt in
       (unended, commitment_authorised e n x (committed e s ce n x bound))
@@ -107,11 +107,11 @@ module _ {posts : List Post} {w : World SealedEntry} (honest : IsHonest posts w)
   one_end e f ce cf n ends ends' =
       let s = sent_by honest e ce in
       let t = sent_by honest f cf in
-      let (unended, a) = end_authorised e s ce n ends in
-      let (unended', b) = end_authorised f t cf n ends' in
-      let same = one_authorisation honest a.0 b.0 a.1 b.1 e.entry.maker f.entry.maker n a.2 b.2 in
+      let (unended, (first, sent, names)) = end_authorised e s ce n ends in
+      let (unended', (second, sent', names')) = end_authorised f t cf n ends' in
+      let same = one_authorisation honest first second sent sent' e.entry.maker f.entry.maker n names names' in
       let maker : e.entry.maker ≡ f.entry.maker =
-      sym (ap booth_of a.2) ∙ ap (λ (u : SealedEntry). booth_of u.entry.deed) same ∙ ap booth_of b.2 in
+      sym (ap booth_of names) ∙ ap (λ (u : SealedEntry). booth_of u.entry.deed) same ∙ ap booth_of names' in
       one_alone honest (Ends n) e f s t maker ends ends' unended unended'
 
   -- the same of entries whose sessions are found equal
@@ -200,15 +200,12 @@ module _ {posts : List Post} {w : World SealedEntry} (honest : IsHonest posts w)
   pub rule_c1 : Rule c1_body
   rule_c1 e ce ke =
       let n = session_of e.entry.deed in
-      let f = activated honest distinct e (were_sent e ce) n (ballot_of e.entry.deed)
+      let (f, before, maker, is) = activated honest distinct e (were_sent e ce) n (ballot_of e.entry.deed)
       (of_kind kind.Commit e.entry.deed ke) in (
-        f.0,
-        ap (λ d. is_kind kind.Activate (kind_of d)) f.3,
-        f.1,
-        (
-          eq-eqb f.0.entry.maker e.entry.maker f.2,
-          (eq-eqb (session_of f.0.entry.deed) n (ap session_of f.3), tt),
-        ),
+        f,
+        ap (λ d. is_kind kind.Activate (kind_of d)) is,
+        before,
+        (eq-eqb f.entry.maker e.entry.maker maker, (eq-eqb (session_of f.entry.deed) n (ap session_of is), tt)),
       )
 
   -- ---- rules on what ends a session

@@ -108,12 +108,12 @@ before = ((1, omega arith, refl), (2, omega arith, refl), [], (0, omega arith, r
 fails : ¬ (Holds node_of_sealed (row_of posts) (sent_in w) (sent_in w) p3_body)
 fails holds =
     elim (holds authorised (1, omega arith, refl) refl closed (2, omega arith, refl) refl before) [
-      | inl cast ↦ none_such (λ e. is_kind kind.Cast (kind_of e.entry.deed)) (sent_in w) refl cast.0 cast.2.0 cast.1
-      | inr (inl cancel) ↦
-          none_such (λ e. is_kind kind.Cancel (kind_of e.entry.deed)) (sent_in w) refl cancel.0 cancel.2.0 cancel.1
-      | inr (inr (inl challenge)) ↦
-          none_such (λ e. is_kind kind.Challenge (kind_of e.entry.deed)) (sent_in w) refl challenge.0 challenge.2.0
-          challenge.1
+      | inl (cast, is, (sent, _, _, _), _) ↦
+          none_such (λ e. is_kind kind.Cast (kind_of e.entry.deed)) (sent_in w) refl cast sent is
+      | inr (inl (cancel, is, (sent, _, _, _), _)) ↦
+          none_such (λ e. is_kind kind.Cancel (kind_of e.entry.deed)) (sent_in w) refl cancel sent is
+      | inr (inr (inl (challenge, is, (sent, _, _, _), _))) ↦
+          none_such (λ e. is_kind kind.Challenge (kind_of e.entry.deed)) (sent_in w) refl challenge sent is
       | inr (inr (inr none)) ↦ none
     ]
 

@@ -111,15 +111,15 @@ module _ {posts : List Post} {w : World SealedEntry} (honest : IsHonest posts w)
   sent_before e s n is =
       let within : n < length (sent s.past) = let next = (next_by honest e s).number in omega (arith, next, is) in
       let f : SealedEntry = get_or (sent s.past) n e in
-      let r = nth_split s.past n f (slice_get-get_or (sent s.past) n e within) in
-      let here : history w e.entry.maker ≡ r.0 ++ Sent f ∷ (r.1 ++ Sent e ∷ s.later) =
-      s.is ∙ ap (λ (p : List (Event SealedEntry)). p ++ Sent e ∷ s.later) r.2
-      ∙ append_assoc r.0 (Sent f ∷ r.1) (Sent e ∷ s.later) in
-      let next = next_of node_of_sealed w honest.orderly r.0 f (e.entry.maker, r.1 ++ Sent e ∷ s.later, here) in
+      let (first, rest, split, count) = nth_split s.past n f (slice_get-get_or (sent s.past) n e within) in
+      let here : history w e.entry.maker ≡ first ++ Sent f ∷ (rest ++ Sent e ∷ s.later) =
+      s.is ∙ ap (λ (p : List (Event SealedEntry)). p ++ Sent e ∷ s.later) split
+      ∙ append_assoc first (Sent f ∷ rest) (Sent e ∷ s.later) in
+      let next = next_of node_of_sealed w honest.orderly first f (e.entry.maker, rest ++ Sent e ∷ s.later, here) in
       let c : Contains s.past (Sent f) =
-      subst (λ (p : List (Event SealedEntry)). Contains p (Sent f)) (sym r.2)
-      (Contains-append_right r.0 (Sent f ∷ r.1) (Sent f) (Contains-head (Sent f) r.1)) in
-      (f, Contains-map entry_of s.past (Sent f) c, next.maker, next.number ∙ r.3)
+      subst (λ (p : List (Event SealedEntry)). Contains p (Sent f)) (sym split)
+      (Contains-append_right first (Sent f ∷ rest) (Sent f) (Contains-head (Sent f) rest)) in
+      (f, Contains-map entry_of s.past (Sent f) c, next.maker, next.number ∙ count)
 
   -- each entry but the first comes after the one before
   pub rule_k2 : Rule k2_body
@@ -133,12 +133,12 @@ module _ {posts : List Post} {w : World SealedEntry} (honest : IsHonest posts w)
       by zero is = inl (eq-eqb e.entry.number 0 is)
       by (suc n) is =
           let s = sent_by honest e (were_sent e ce) in
-          let f = sent_before e s n is in
+          let (f, was_held, maker, number) = sent_before e s n is in
           inr (inl (
-            f.0,
+            f,
             refl,
-            held_precedes honest distinct e s f.0 (were_sent e ce) f.1,
-            and_from (f.0.entry.maker == e.entry.maker) (f.0.entry.number + 1 == e.entry.number)
-                (eq-eqb f.0.entry.maker e.entry.maker f.2)
-                (eq-eqb (f.0.entry.number + 1) e.entry.number (omega (arith, f.3, is))),
+            held_precedes honest distinct e s f (were_sent e ce) was_held,
+            and_from (f.entry.maker == e.entry.maker) (f.entry.number + 1 == e.entry.number)
+                (eq-eqb f.entry.maker e.entry.maker maker)
+                (eq-eqb (f.entry.number + 1) e.entry.number (omega (arith, number, is))),
           ))

@@ -32,9 +32,9 @@ module _ {posts : List Post} {w : World SealedEntry} (honest : IsHonest posts w)
   -- each entry was sent by its maker
   pub sent_by : (e : SealedEntry) → Contains (sent_in w) e → SentBy w e
   sent_by e c =
-      let r = was_sent w e c in
-      let maker : e.entry.maker ≡ r.1.0 = (next_of node_of_sealed w honest.orderly r.0 e r.1).maker in
-      record { past = r.0; later = r.1.1; is = ap (history w) maker ∙ r.1.2 }
+      let (past, (m, later, is)) = was_sent w e c in
+      let maker : e.entry.maker ≡ m = (next_of node_of_sealed w honest.orderly past e (m, later, is)).maker in
+      record { past = past; later = later; is = ap (history w) maker ∙ is }
 
   -- what a legal history asks of it
   pub next_by : (e : SealedEntry) (s : SentBy w e) → IsNext node_of_sealed e.entry.maker s.past e
@@ -88,12 +88,12 @@ module _ {posts : List Post} {w : World SealedEntry} (honest : IsHonest posts w)
         (between : List SealedEntry) → IsPath node_of_sealed (sent_in w) f between e → Contains (held s.past) f
     path_held e s whole f c [] path =
         named_held node_of_sealed w honest.orderly distinct s.past e (after e s) f c path
-    path_held e s whole f c (g ∷ gs) path =
-        let last = path_held e s whole g path.0 gs path.2 in
-        let r = whole g (node_of_sealed f).digest last path.1 in
-        subst (λ (u : SealedEntry). Contains (held s.past) u) (distinct r.0 f (held_too e s r.0 r.1) c r.2) r.1
+    path_held e s whole f c (g ∷ gs) (sent, names, rest) =
+        let last = path_held e s whole g sent gs rest in
+        let (named, was_held, same) = whole g (node_of_sealed f).digest last names in
+        subst (Contains (held s.past)) (distinct named f (held_too e s named was_held) c same) was_held
 
     -- and so each that precedes it
     pub whole_held : (e : SealedEntry) (s : SentBy w e) → IsWholeHistory s.past → (f : SealedEntry) →
         Precedes node_of_sealed (sent_in w) f e → Contains (held s.past) f
-    whole_held e s whole f p = path_held e s whole f p.0 p.2 p.3
+    whole_held e s whole f (sent, _, between, path) = path_held e s whole f sent between path

@@ -15,8 +15,8 @@ module _ (v w : World SealedEntry) (same : (m : ℕ) → history w m ≡ history
   -- what was sent in the one was sent in the other
   sent_too : (e : SealedEntry) → Contains (sent_in v) e → Contains (sent_in w) e
   sent_too e c =
-      let r = sent_in_cases v e c in
-      sent_in_from w r.0 e (subst (λ (h : List (Event SealedEntry)). Contains h (Sent e)) (sym (same r.0)) r.1)
+      let (m, there) = sent_in_cases v e c in
+      sent_in_from w m e (subst (λ (h : List (Event SealedEntry)). Contains h (Sent e)) (sym (same m)) there)
 
   -- where the histories are the same, the one is orderly if the other is
   orderly_too : IsOrderly node_of_sealed v → IsOrderly node_of_sealed w

@@ -57,17 +57,17 @@ config_from script n (cast ∷ casts) zero config is =
     let place : n ≡ n + zero = omega arith in
     (cast, refl, sym same ∙ ap (λ (j : ℕ). config_of script j cast) place)
 config_from script n (cast ∷ casts) (suc k) config is =
-    let r = config_from script (n + 1) casts k config is in
+    let (line, at, of_line) = config_from script (n + 1) casts k config is in
     let place : (n + 1) + k ≡ n + suc k = omega arith in
-    (r.0, r.1, r.2 ∙ ap (λ (j : ℕ). config_of script j r.0) place)
+    (line, at, of_line ∙ ap (λ (j : ℕ). config_of script j line) place)
 
 -- the machine at a place is configured by the script's line there
 config_at : (script : Script) (m : ℕ) (config : Config) → slice_get (script_configs script) m ≡ Some config →
     IsConfigAt script m config
 config_at script m config is =
-    let r = config_from script 0 script.machines m config is in
+    let (line, at, of_line) = config_from script 0 script.machines m config is in
     let place : 0 + m ≡ m = omega arith in
-    (r.0, r.1, r.2 ∙ ap (λ (j : ℕ). config_of script j r.0) place)
+    (line, at, of_line ∙ ap (λ (j : ℕ). config_of script j line) place)
 
 module _ (script : Script) (lawful : IsLawful script) where
   -- the role of a machine in the script's roster is the script's
@@ -154,11 +154,11 @@ module _ (script : Script) (lawful : IsLawful script) where
       by None at is = absurd (none past is)
       by (Some u) at is =
           let number = are.number m u at in
-          let of = are.config m u at in
+          let (line, stands, of_line) = are.config m u at in
           may_as m u.config (
-            of.0,
-            ap (slice_get script.machines) (sym number) ∙ of.1,
-            of.2 ∙ ap (λ (n : ℕ). config_of script n of.0) number,
+            line,
+            ap (slice_get script.machines) (sym number) ∙ stands,
+            of_line ∙ ap (λ (n : ℕ). config_of script n line) number,
           ) past e (are.made m u at past e later is)
 
 -- the laws

@@ -25,14 +25,14 @@ use Rattle.honest_rules.proofs.Pasts.{SentBy, two_of_one, held_precedes, own_hel
 any_held : (P : Entry → Type 0) (h : List (Event SealedEntry)) → Any P (entries_in h) →
     (f : SealedEntry) × Contains (held h) f × P f.entry
 any_held P h (k, x, within, is, p) =
-    let m = Contains-map_cases (λ (s : SealedEntry). s.entry) (held h) x (k, within, is) in
-    (m.0, m.1, subst P (sym m.2) p)
+    let (f, was_held, same) = Contains-map_cases (λ (s : SealedEntry). s.entry) (held h) x (k, within, is) in
+    (f, was_held, subst P (sym same) p)
 
 -- an entry that was sent or got is one of those that are held
 held_any : (P : Entry → Type 0) (h : List (Event SealedEntry)) (f : SealedEntry) → Contains (held h) f → P f.entry →
     Any P (entries_in h)
 held_any P h f c p =
-    let at = Contains-map (λ (s : SealedEntry). s.entry) (held h) f c in (at.0, f.entry, at.1, at.2, p)
+    let (k, within, is) = Contains-map (λ (s : SealedEntry). s.entry) (held h) f c in (k, f.entry, within, is, p)
 
 -- an own entry with such a deed that is held
 own_in : (IsSuch : Deed → Type 0) (h : List (Event SealedEntry)) (owner : ℕ) (f : SealedEntry) → Contains (held h) f →
@@ -59,8 +59,8 @@ module _ {posts : List Post} {w : World SealedEntry} (honest : IsHonest posts w)
         HoldsSome (entries_in s.past) IsSuch →
         (f : SealedEntry) × Precedes node_of_sealed (sent_in w) f e × IsSuch f.entry.deed
     any_before IsSuch e s ce has =
-        let f = any_held (λ (n : Entry). IsSuch n.deed) s.past has in
-        (f.0, held_precedes honest distinct e s f.0 ce f.1, f.2)
+        let (f, was_held, such) = any_held (λ (n : Entry). IsSuch n.deed) s.past has in
+        (f, held_precedes honest distinct e s f ce was_held, such)
 
     -- where it is asked for that one is held
     pub any_asked : (test : Deed → Bool) (IsSuch : Deed → Type 0) → ((d : Deed) → Decides (test d) (IsSuch d)) →
@@ -78,8 +78,9 @@ module _ {posts : List Post} {w : World SealedEntry} (honest : IsHonest posts w)
         × IsSuch f.entry.deed
     own_asked test IsSuch decides e s ce deny =
         let has = own_for_sure test IsSuch decides e.entry.maker (entries_in s.past) deny in
-        let f = any_held (λ (n : Entry). (n.maker ≡ e.entry.maker) × IsSuch n.deed) s.past has in
-        (f.0, held_precedes honest distinct e s f.0 ce f.1, f.2.0, f.2.1)
+        let (f, was_held, (own, such)) =
+        any_held (λ (n : Entry). (n.maker ≡ e.entry.maker) × IsSuch n.deed) s.past has in
+        (f, held_precedes honest distinct e s f ce was_held, own, such)
 
     -- no entry with such a deed precedes what is sent over a whole log that holds none
     pub none_before_whole : (IsSuch : Deed → Type 0) (e : SealedEntry) (s : SentBy w e) → IsWholeHistory s.past →

@@ -77,9 +77,9 @@ module _ {posts : List Post} {w : World SealedEntry} (honest : IsHonest posts w)
   -- two machines with the supervisor's role are one
   one_supervisor : (m n : ℕ) → role_at posts m ≡ Supervisor → role_at posts n ≡ Supervisor → m ≡ n
   one_supervisor m n a b =
-      let p = supervisor_there (slice_get posts m) a in
-      let q = supervisor_there (slice_get posts n) b in
-      one_meets (λ (post : Post). is_supervisor post.role) posts honest.supervisor m n p.0 q.0 p.1 q.1 p.2 q.2
+      let (first, at, leads) = supervisor_there (slice_get posts m) a in
+      let (other, at', leads') = supervisor_there (slice_get posts n) b in
+      one_meets (λ (p : Post). is_supervisor p.role) posts honest.supervisor m n first other at at' leads leads'
 
   -- two authorisations of a session are one
   pub one_authorisation : (e f : SealedEntry) → Contains (sent_in w) e → Contains (sent_in w) f → (b c n : ℕ) →
@@ -136,10 +136,10 @@ module _ {posts : List Post} {w : World SealedEntry} (honest : IsHonest posts w)
   pub rule_o2 : Rule o2_body
   rule_o2 e ce ke =
       let s = sent_by honest e (were_sent e ce) in
-      let de = of_kind kind.Authorise e.entry.deed ke in
-      let (_, (opened, _)) = supervisor_row honest e s _ de tt in
-      let f = own_asked honest distinct is_opened (λ d. d ≡ deed.Opened) opened_decides e s (were_sent e ce) opened in
-      (f.0, ap (λ d. is_kind kind.Opened (kind_of d)) f.3, f.1, tt)
+      let (_, (opened, _)) = supervisor_row honest e s _ (of_kind kind.Authorise e.entry.deed ke) tt in
+      let (f, before, _, is) = own_asked honest distinct is_opened (λ d. d ≡ deed.Opened) opened_decides e s
+      (were_sent e ce) opened in
+      (f, ap (λ d. is_kind kind.Opened (kind_of d)) is, before, tt)
 
   -- an authorising of the session precedes an override of it
   authorised_before : (e : SealedEntry) → Contains S e → (h : How) →
@@ -150,12 +150,12 @@ module _ {posts : List Post} {w : World SealedEntry} (honest : IsHonest posts w)
       let s = sent_by honest e (were_sent e ce) in
       let (_, (authorised, _)) = supervisor_row honest e s _ de tt in
       let n = session_of e.entry.deed in
-      let f = own_asked honest distinct (authorises n) (Authorises n) (authorises_decides n) e s (were_sent e ce)
-      authorised in (
-        f.0,
-        ap (λ d. is_kind kind.Authorise (kind_of d)) f.3.1,
-        f.1,
-        eq-eqb (session_of f.0.entry.deed) n (ap session_of f.3.1),
+      let (f, before, _, (booth, is)) = own_asked honest distinct (authorises n) (Authorises n)
+      (authorises_decides n) e s (were_sent e ce) authorised in (
+        f,
+        ap (λ d. is_kind kind.Authorise (kind_of d)) is,
+        before,
+        eq-eqb (session_of f.entry.deed) n (ap session_of is),
       )
 
   -- an override that cancels is of an authorised session
@@ -169,15 +169,15 @@ module _ {posts : List Post} {w : World SealedEntry} (honest : IsHonest posts w)
       let de = of_kind kind.Forced e.entry.deed ke in
       let (_, (_, (_, (_, (committed, _))))) = supervisor_row honest e s _ de tt in
       let n = session_of e.entry.deed in
-      let f = any_asked honest distinct (commits n) (Commits n) (commits_decides n) e s (were_sent e ce)
-      (λ none. committed (refl, none)) in (
+      let (f, before, (ballot, is)) = any_asked honest distinct (commits n) (Commits n) (commits_decides n) e s
+      (were_sent e ce) (λ none. committed (refl, none)) in (
         authorised_before e ce how.Cast de,
         (
           (
-            f.0,
-            ap (λ d. is_kind kind.Commit (kind_of d)) f.2.1,
-            f.1,
-            eq-eqb (session_of f.0.entry.deed) n (ap session_of f.2.1),
+            f,
+            ap (λ d. is_kind kind.Commit (kind_of d)) is,
+            before,
+            eq-eqb (session_of f.entry.deed) n (ap session_of is),
           ),
           tt,
         ),
@@ -221,25 +221,25 @@ module _ {posts : List Post} {w : World SealedEntry} (honest : IsHonest posts w)
   -- a session that was authorised before a closing has ended before it
   pub rule_p3 : Rule p3_body
   rule_p3 e ce ke f cf kf before =
-      let g = ended_before e f ce cf ke kf before in
+      let (g, earlier, is_end) = ended_before e f ce cf ke kf before in
       let n = session_of e.entry.deed in
-      elim g.2 [
-        | inl cast ↦ inl (
-          g.0,
-          ap (λ d. is_kind kind.Cast (kind_of d)) cast.1,
-          g.1,
-          eq-eqb (session_of g.0.entry.deed) n (ap session_of cast.1),
+      elim is_end [
+        | inl (ballot, cast) ↦ inl (
+          g,
+          ap (λ d. is_kind kind.Cast (kind_of d)) cast,
+          earlier,
+          eq-eqb (session_of g.entry.deed) n (ap session_of cast),
         )
         | inr (inl cancel) ↦ inr (inl (
-          g.0,
+          g,
           ap (λ d. is_kind kind.Cancel (kind_of d)) cancel,
-          g.1,
-          eq-eqb (session_of g.0.entry.deed) n (ap session_of cancel),
+          earlier,
+          eq-eqb (session_of g.entry.deed) n (ap session_of cancel),
         ))
-        | inr (inr challenge) ↦ inr (inr (inl (
-          g.0,
-          ap (λ d. is_kind kind.Challenge (kind_of d)) challenge.1,
-          g.1,
-          eq-eqb (session_of g.0.entry.deed) n (ap session_of challenge.1),
+        | inr (inr (ballot, challenge)) ↦ inr (inr (inl (
+          g,
+          ap (λ d. is_kind kind.Challenge (kind_of d)) challenge,
+          earlier,
+          eq-eqb (session_of g.entry.deed) n (ap session_of challenge),
         )))
       ]
