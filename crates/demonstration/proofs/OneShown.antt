@@ -70,16 +70,18 @@ module _ (session : ℕ) (events : List (Event SealedEntry)) where
   one_kept owner bytes others (inr (none, e)) (inl (q, b, f)) = absurd (none_is_last q none b)
   one_kept owner bytes others (inr (none, e)) (inr (also, f)) = e ∙ sym f
 
--- what is counted of a verdict
-abbrev counted : Verdict → Bool × Bool × Bool
-counted verdict = (is_kept verdict, is_broken verdict, is_unsettled verdict)
+-- what is counted of two verdicts is one
+record AreCountedAlike (v w : Verdict) : Type 0 where
+  pub kept : is_kept v ≡ is_kept w
+  pub broken : is_broken v ≡ is_broken w
+  pub unsettled : is_unsettled v ≡ is_unsettled w
 
--- it is one for verdicts that are the same
-same_counted : (v w : Verdict) → SameVerdict v w → counted v ≡ counted w
-same_counted Kept Kept same = refl
-same_counted (Broken places) (Broken others) same = refl
-same_counted Unsettled Unsettled same = refl
-same_counted v w same = absurd same
+-- so it is for verdicts that are the same
+one_count : (v w : Verdict) → SameVerdict v w → AreCountedAlike v w
+one_count Kept Kept same = record { kept = refl; broken = refl; unsettled = refl }
+one_count (Broken places) (Broken others) same = record { kept = refl; broken = refl; unsettled = refl }
+one_count Unsettled Unsettled same = record { kept = refl; broken = refl; unsettled = refl }
+one_count v w same = absurd same
 
 -- so their counts are
 same_count : (p : Verdict → Bool) → ((v w : Verdict) → SameVerdict v w → p v ≡ p w) → (vs ws : List Verdict) →
@@ -179,12 +181,9 @@ counts_alike ones posts bytes report other x y =
     (sym y.told) (record {
       survivors = ap length graph.survivors;
       gaps = ap length graph.gaps;
-      kept = same_count is_kept (λ v w same. ap (λ (c : Bool × Bool × Bool). c.0) (same_counted v w same))
-          x.verdicts y.verdicts verdicts;
-      broken = same_count is_broken (λ v w same. ap (λ (c : Bool × Bool × Bool). c.1) (same_counted v w same))
-          x.verdicts y.verdicts verdicts;
-      unsettled = same_count is_unsettled (λ v w same. ap (λ (c : Bool × Bool × Bool). c.2) (same_counted v w same))
-          x.verdicts y.verdicts verdicts;
+      kept = same_count is_kept (λ v w same. (one_count v w same).kept) x.verdicts y.verdicts verdicts;
+      broken = same_count is_broken (λ v w same. (one_count v w same).broken) x.verdicts y.verdicts verdicts;
+      unsettled = same_count is_unsettled (λ v w same. (one_count v w same).unsettled) x.verdicts y.verdicts verdicts;
     }))
   where
     -- the roster is read in one way
