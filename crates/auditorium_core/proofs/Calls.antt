@@ -18,10 +18,10 @@ pub as_put : {S : Type 0} (create : List ℕ → S → Bool → S → Type 0)
     (append : List ℕ → S → List ℕ → Result ℕ Failed → S → Type 0) (old mid : S) (file : List ℕ × List ℕ)
     (name bytes : List ℕ) (done ok : Bool) → name ≡ file.0 → bytes ≡ file.1 → done ≡ ok →
     PutsFile (create name) (append name) old bytes done mid → PutsFile (create file.0) (append file.0) old file.1 ok mid
-as_put {S} create append old mid file name bytes done ok same_name same_bytes same put =
+as_put {S} create append old mid (its_name, its_bytes) name bytes done ok same_name same_bytes same put =
     let P : List ℕ → Type 0 = λ n. PutsFile (create n) (append n) old bytes done mid in
-    let Q : List ℕ → Type 0 = λ bs. PutsFile (create file.0) (append file.0) old bs done mid in
-    let R : Bool → Type 0 = λ b. PutsFile (create file.0) (append file.0) old file.1 b mid in
+    let Q : List ℕ → Type 0 = λ bs. PutsFile (create its_name) (append its_name) old bs done mid in
+    let R : Bool → Type 0 = λ b. PutsFile (create its_name) (append its_name) old its_bytes b mid in
     subst R same (subst Q same_bytes (subst P same_name put))
 
 -- the file at this place is put, and then the rest

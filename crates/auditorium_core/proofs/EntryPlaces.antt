@@ -177,5 +177,5 @@ pub number_found : (machines : List Post) (machine : List ℕ) (number : ℕ) (S
 number_found machines machine number S at None past before =
     λ f has (also, numbered, low). none_at_all (IsNumbered machines machine number) S at past before f has numbered
 number_found machines machine number S at (Some place) past before =
-    let found = least_of_all (IsNumbered machines machine number) S at place past before in
-    (found.0, found.1, (place_has S place found.0 found.1, found.2, found.3))
+    let (e, is, numbered, least) = least_of_all (IsNumbered machines machine number) S at place past before in
+    (e, is, (place_has S place e is, numbered, least))

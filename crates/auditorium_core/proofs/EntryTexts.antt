@@ -83,15 +83,15 @@ pub one_name : (word : List ℕ) (name other : EntryName) → IsSpelt name word 
 one_name word (by_digest d) (by_digest c) x y =
     ap by_digest (decode_of-same (encode_lower d) d c (decode_of-encode_lower d x.bytes)
     (ap decode_of (sym x.digits ∙ y.digits) ∙ decode_of-encode_lower c y.bytes))
-one_name word (by_digest d) (by_number m n) x y = absurd (digest_is_no_number word d m (decimal n) x y.2)
-one_name word (by_number m n) (by_digest d) x y = absurd (digest_is_no_number word d m (decimal n) y x.2)
-one_name word (by_number m n) (by_number k l) x y =
-    let same = one_split m (decimal n) k (decimal l) (name_has_no_dot m x.0) (name_has_no_dot k y.0)
-    (sym (append_assoc m (46 ∷ []) (decimal n)) ∙ sym x.2 ∙ y.2 ∙ append_assoc k (46 ∷ []) (decimal l)) in
-    let small = x.1 in
-    let low = y.1 in
+one_name word (by_digest d) (by_number m n) x (is, small, spelt) =
+    absurd (digest_is_no_number word d m (decimal n) x spelt)
+one_name word (by_number m n) (by_digest d) (is, small, spelt) y =
+    absurd (digest_is_no_number word d m (decimal n) y spelt)
+one_name word (by_number m n) (by_number k l) (is, small, spelt) (is', small', spelt') =
+    let same = one_split m (decimal n) k (decimal l) (name_has_no_dot m is) (name_has_no_dot k is')
+    (sym (append_assoc m (46 ∷ []) (decimal n)) ∙ sym spelt ∙ spelt' ∙ append_assoc k (46 ∷ []) (decimal l)) in
     ap (λ t. by_number t n) same.0
-    ∙ ap (by_number k) (decimal_injective n l (omega arith) (omega arith) same.1)
+    ∙ ap (by_number k) (decimal_injective n l (omega (arith, small)) (omega (arith, small')) same.1)
 
 -- what a name says is of the list
 pub named_has : (machines : List Post) (S : List SealedEntry) (name : EntryName) (e : SealedEntry) →

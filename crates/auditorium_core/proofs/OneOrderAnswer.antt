@@ -55,7 +55,7 @@ path_on : (S : List SealedEntry) (f : SealedEntry) (bs : List SealedEntry) (g : 
     (e : SealedEntry) → IsPath node_of_sealed S f bs g → Contains S g → IsPath node_of_sealed S g cs e →
     IsPath node_of_sealed S f (bs ++ g ∷ cs) e
 path_on S f [] g cs e names has rest = (has, names, rest)
-path_on S f (b ∷ bs) g cs e path has rest = (path.0, path.1, path_on S b bs g cs e path.2 has rest)
+path_on S f (b ∷ bs) g cs e (there, named, path) has rest = (there, named, path_on S b bs g cs e path has rest)
 
 -- neither of two digests is lower only where they are one
 same_digest : (d c : List ℕ) → slice_cmp nat_cmp d c ≢ Less → slice_cmp nat_cmp c d ≢ Less → d ≡ c
@@ -71,9 +71,9 @@ module _ (machines : List Post) (S : List SealedEntry) (digests : Distinct node_
   -- a name is of one entry
   same_named : (name : EntryName) (e f : SealedEntry) → IsNamedBy machines S name e →
       IsNamedBy machines S name f → e ≡ f
-  same_named (by_digest d) e f x y = digests e f x.0 y.0 (x.1 ∙ sym y.1)
-  same_named (by_number m n) e f x y =
-      digests e f x.0 y.0 (same_digest e.digest f.digest (y.2 e x.0 x.1) (x.2 f y.0 y.1))
+  same_named (by_digest d) e f (has, is) (has', is') = digests e f has has' (is ∙ sym is')
+  same_named (by_number m n) e f (has, numbered, least) (has', numbered', least') =
+      digests e f has has' (same_digest e.digest f.digest (least' e has numbered) (least f has' numbered'))
 
   -- a word means one entry
   same_meant : (word : List ℕ) (e f : SealedEntry) → MeansEntry machines S word e → MeansEntry machines S word f → e ≡ f
@@ -100,27 +100,27 @@ module _ (S : List SealedEntry) (no_cycle : (e : SealedEntry) → ¬ Precedes no
   same_word e f says.Same says.Same x y = refl
   same_word e f says.Same says.Before x y = absurd (not_itself e f x y)
   same_word e f says.Same says.After x y = absurd (not_itself_after e f x y)
-  same_word e f says.Same says.Apart x y = absurd (y.0.differ x)
-  same_word e f says.Same says.Unknown x y = absurd (y.0.differ x)
+  same_word e f says.Same says.Apart x (apart, _) = absurd (apart.differ x)
+  same_word e f says.Same says.Unknown x (apart, _) = absurd (apart.differ x)
   same_word e f says.Before says.Same x y = absurd (not_itself e f y x)
   same_word e f says.Before says.Before x y = refl
   same_word e f says.Before says.After x y = absurd (not_both e f x y)
-  same_word e f says.Before says.Apart x y = absurd (y.0.not_before x)
-  same_word e f says.Before says.Unknown x y = absurd (y.0.not_before x)
+  same_word e f says.Before says.Apart x (apart, _) = absurd (apart.not_before x)
+  same_word e f says.Before says.Unknown x (apart, _) = absurd (apart.not_before x)
   same_word e f says.After says.Same x y = absurd (not_itself_after e f y x)
   same_word e f says.After says.Before x y = absurd (not_both e f y x)
   same_word e f says.After says.After x y = refl
-  same_word e f says.After says.Apart x y = absurd (y.0.not_after x)
-  same_word e f says.After says.Unknown x y = absurd (y.0.not_after x)
-  same_word e f says.Apart says.Same x y = absurd (x.0.differ y)
-  same_word e f says.Apart says.Before x y = absurd (x.0.not_before y)
-  same_word e f says.Apart says.After x y = absurd (x.0.not_after y)
+  same_word e f says.After says.Apart x (apart, _) = absurd (apart.not_after x)
+  same_word e f says.After says.Unknown x (apart, _) = absurd (apart.not_after x)
+  same_word e f says.Apart says.Same (apart, _) y = absurd (apart.differ y)
+  same_word e f says.Apart says.Before (apart, _) y = absurd (apart.not_before y)
+  same_word e f says.Apart says.After (apart, _) y = absurd (apart.not_after y)
   same_word e f says.Apart says.Apart x y = refl
-  same_word e f says.Apart says.Unknown x y = absurd (y.1 x.1)
-  same_word e f says.Unknown says.Same x y = absurd (x.0.differ y)
-  same_word e f says.Unknown says.Before x y = absurd (x.0.not_before y)
-  same_word e f says.Unknown says.After x y = absurd (x.0.not_after y)
-  same_word e f says.Unknown says.Apart x y = absurd (x.1 y.1)
+  same_word e f says.Apart says.Unknown (_, whole) (_, not_whole) = absurd (not_whole whole)
+  same_word e f says.Unknown says.Same (apart, _) y = absurd (apart.differ y)
+  same_word e f says.Unknown says.Before (apart, _) y = absurd (apart.not_before y)
+  same_word e f says.Unknown says.After (apart, _) y = absurd (apart.not_after y)
+  same_word e f says.Unknown says.Apart (_, not_whole) (_, whole) = absurd (not_whole whole)
   same_word e f says.Unknown says.Unknown x y = refl
 
   -- so of two words for entries one answer is right

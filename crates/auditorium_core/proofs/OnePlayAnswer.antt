@@ -34,11 +34,11 @@ pub record PlayOne : Type 0 where
 same_undone : PlayOne → (machines : List MachineState) (lines others : List ℕ) → SayUndone machines lines
     → SayUndone machines others → lines ≡ others
 same_undone one [] lines others p q = p ∙ sym q
-same_undone one (m ∷ machines) lines others p q =
-    let left : p.0 ≡ q.0 = one.left m p.0 q.0 p.2 q.2 in
-    let rest : p.1 ≡ q.1 = same_undone one machines p.1 q.1 p.3 q.3 in
-    p.4 ∙ ap (λ (l : Option Left). undone_line m.config.name l ++ p.1) left
-    ∙ ap (λ (r : List ℕ). undone_line m.config.name q.0 ++ r) rest ∙ sym q.4
+same_undone one (m ∷ machines) lines others (left, rest, waits, says, told) (left', rest', waits', says', told') =
+    let here : left ≡ left' = one.left m left left' waits waits' in
+    let later : rest ≡ rest' = same_undone one machines rest rest' says says' in
+    told ∙ ap (λ (l : Option Left). undone_line m.config.name l ++ rest) here
+    ∙ ap (λ (r : List ℕ). undone_line m.config.name left' ++ r) later ∙ sym told'
 
 -- machines that have played have one answer
 same_play_of : PlayOne → (prefix : List ℕ) (script : Script) (a b : Answer) → IsPlayOf prefix script a

@@ -1,7 +1,8 @@
 -- What the word says of two survivors, and what it promises.
-use Rattle.std.proofs.Common.{◌≡◌, ◌≢◌, ◌∙◌, ℕ, List, Some, refl, sym, Bool, true, false}
+use Rattle.std.proofs.Common.{◌≡◌, ◌≢◌, ℕ, List, Some, refl, Bool, true, false}
 use Rattle.std.specs.Prelude.{slice_get, if◌then◌else◌, ◌↔◌}
 use Rattle.std.specs.List.{Contains}
+use Rattle.std.proofs.lemmas.Bool.{false≢true}
 use Rattle.entry_order.specs.declared.three.Three.{Three}
 use Rattle.entry_order.specs.declared.three.Three.TheVariants.{False, Unknown, True}
 use Rattle.entry_order.specs.Ancestors.{reaches, is_whole, before}
@@ -24,22 +25,14 @@ pub graph_says : GraphsAreExact node_of_sealed → (S : List SealedEntry) (paren
     IsGraphOf node_of_sealed S parents ragged → (y x : ℕ) (e f : SealedEntry) → slice_get S y ≡ Some e →
     slice_get S x ≡ Some f → SaysBefore S e f (before parents ragged y x)
 graph_says exact S parents ragged graph y x e f at_y at_x =
-    by (reaches parents x y x) (is_whole parents ragged x x) refl refl
+    by (reaches parents x y x) (is_whole parents ragged x x) (exact S parents ragged graph y x e f at_y at_x)
   where
-    -- the graph tells exactly whether e is before f, and whether f is whole
-    known : ((reaches parents x y x ≡ true) ↔ IsBefore S e f)
-        × ((is_whole parents ragged x x ≡ true) ↔ IsWhole node_of_sealed S f)
-    known = exact S parents ragged graph y x e f at_y at_x
-
-    -- by what it tells: whether f is whole counts only where e isn't before it
-    by : (r w : Bool) → reaches parents x y x ≡ r → is_whole parents ragged x x ≡ w →
+    -- by what it tells, which is exact: whether f is whole counts only where e isn't before it
+    by : (r w : Bool) → ((r ≡ true) ↔ IsBefore S e f) × ((w ≡ true) ↔ IsWhole node_of_sealed S f) →
         SaysBefore S e f (if r then True else if w then False else Unknown)
-    by true w p q = known.0.0 p
-    by false true p q = (λ path. let no : true ≡ false = sym (known.0.1 path) ∙ p in cc, known.1.0 q)
-    by false false p q = (
-      λ path. let no : true ≡ false = sym (known.0.1 path) ∙ p in cc,
-      λ whole. let no : true ≡ false = sym (known.1.1 whole) ∙ q in cc,
-    )
+    by true w ((is_before, _), _) = is_before refl
+    by false true ((_, reached), (whole, _)) = (λ path. false≢true (reached path), whole refl)
+    by false false ((_, reached), (_, seen)) = (λ path. false≢true (reached path), λ whole. false≢true (seen whole))
 
 -- the word by what is said this way and that way
 pub word_is_right : (S : List SealedEntry) (e f : SealedEntry) (this that : Three) → e ≢ f → SaysBefore S e f this →
@@ -47,14 +40,14 @@ pub word_is_right : (S : List SealedEntry) (e f : SealedEntry) (this that : Thre
 word_is_right S e f True that differ here there = here
 word_is_right S e f False True differ here there = there
 word_is_right S e f Unknown True differ here there = there
-word_is_right S e f False False differ here there =
-    (record { differ = differ; not_before = here.0; not_after = there.0 }, (there.1, here.1))
-word_is_right S e f False Unknown differ here there =
-    (record { differ = differ; not_before = here.0; not_after = there.0 }, λ whole. there.1 whole.0)
-word_is_right S e f Unknown False differ here there =
-    (record { differ = differ; not_before = here.0; not_after = there.0 }, λ whole. here.1 whole.1)
-word_is_right S e f Unknown Unknown differ here there =
-    (record { differ = differ; not_before = here.0; not_after = there.0 }, λ whole. here.1 whole.1)
+word_is_right S e f False False differ (not_before, f_whole) (not_after, e_whole) =
+    (record { differ = differ; not_before = not_before; not_after = not_after }, (e_whole, f_whole))
+word_is_right S e f False Unknown differ (not_before, _) (not_after, e_lacks) =
+    (record { differ = differ; not_before = not_before; not_after = not_after }, λ (e_whole, _). e_lacks e_whole)
+word_is_right S e f Unknown False differ (not_before, f_lacks) (not_after, _) =
+    (record { differ = differ; not_before = not_before; not_after = not_after }, λ (_, f_whole). f_lacks f_whole)
+word_is_right S e f Unknown Unknown differ (not_before, f_lacks) (not_after, _) =
+    (record { differ = differ; not_before = not_before; not_after = not_after }, λ (_, f_whole). f_lacks f_whole)
 
 -- a right word promises what it says of every completion
 pub word_is_settled : PathsAreSettled node_of_sealed → (machines : ℕ) (S : List SealedEntry) (e f : SealedEntry)
@@ -62,9 +55,9 @@ pub word_is_settled : PathsAreSettled node_of_sealed → (machines : ℕ) (S : L
 word_is_settled paths machines S e f says.Same has_e has_f right = right
 word_is_settled paths machines S e f says.Before has_e has_f right = λ G all. (paths machines S G all e f).0 right
 word_is_settled paths machines S e f says.After has_e has_f right = λ G all. (paths machines S G all f e).0 right
-word_is_settled paths machines S e f says.Apart has_e has_f right = λ G all. record {
-  differ = right.0.differ;
-  not_before = λ path. right.0.not_before ((paths machines S G all e f).1 has_f right.1.1 path);
-  not_after = λ path. right.0.not_after ((paths machines S G all f e).1 has_e right.1.0 path);
+word_is_settled paths machines S e f says.Apart has_e has_f (apart, (e_whole, f_whole)) = λ G all. record {
+  differ = apart.differ;
+  not_before = λ path. apart.not_before ((paths machines S G all e f).1 has_f f_whole path);
+  not_after = λ path. apart.not_after ((paths machines S G all f e).1 has_e e_whole path);
 }
-word_is_settled paths machines S e f says.Unknown has_e has_f right = right.1
+word_is_settled paths machines S e f says.Unknown has_e has_f (_, not_whole) = not_whole

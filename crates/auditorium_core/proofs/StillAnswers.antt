@@ -1,7 +1,7 @@
 -- Where the words aren't those of a run, one answer is right without threads and with them.
 use Rattle.std.proofs.Common.{ℕ, List, Option, inl, inr}
 use Rattle.hall_outside.specs.Files.{Files}
-use Rattle.auditorium_core.specs.Words.{Command, run, IsAny, IsStill, Means, AreGood}
+use Rattle.auditorium_core.specs.Words.{Command, run, IsAny, IsStill, Means}
 use Rattle.auditorium_core.specs.Lines.{Answer}
 use Rattle.auditorium_core.specs.Answer.{AnswersWords}
 
@@ -15,13 +15,10 @@ module _ (words : List (List ℕ)) (no_run : (script prefix : List ℕ) → ¬ M
   pub any_of_still : (told : Option Files) (answer : Answer) → AnswersWords IsStill words told answer →
       AnswersWords IsAny words told answer
   any_of_still told answer (inl (command, still, means, is)) = inl (command, tt, means, is)
-  any_of_still told answer (inr (bad, e)) = inr (
-    λ (good : AreGood IsAny words). bad (good.0, is_still good.0 good.2, good.2),
-    e,
-  )
+  any_of_still told answer (inr (bad, e)) = inr (λ (command, _, means). bad (command, is_still command means, means), e)
 
   -- and the other way round
   pub still_of_any : (told : Option Files) (answer : Answer) → AnswersWords IsAny words told answer →
       AnswersWords IsStill words told answer
   still_of_any told answer (inl (command, any, means, is)) = inl (command, is_still command means, means, is)
-  still_of_any told answer (inr (bad, e)) = inr (λ (good : AreGood IsStill words). bad (good.0, tt, good.2), e)
+  still_of_any told answer (inr (bad, e)) = inr (λ (command, _, means). bad (command, tt, means), e)

@@ -14,13 +14,13 @@ undone_push : (machines : List MachineState) (m : MachineState) (left : Option L
 undone_push [] m left lines says here =
     let own : List ℕ = undone_line m.config.name left in
     (left, [], here, refl, ap (λ (t : List ℕ). t ++ own) says ∙ sym (append-nil own))
-undone_push (x ∷ machines) m left lines says here = (
-  says.0,
-  says.1 ++ undone_line m.config.name left,
-  says.2,
-  undone_push machines m left says.1 says.3 here,
-  ap (λ (t : List ℕ). t ++ undone_line m.config.name left) says.4
-      ∙ append_assoc (undone_line x.config.name says.0) says.1 (undone_line m.config.name left),
+undone_push (x ∷ machines) m left lines (own, rest, waits, says, told) here = (
+  own,
+  rest ++ undone_line m.config.name left,
+  waits,
+  undone_push machines m left rest says here,
+  ap (λ (t : List ℕ). t ++ undone_line m.config.name left) told
+      ∙ append_assoc (undone_line x.config.name own) rest (undone_line m.config.name left),
 )
 
 -- the lines of the first machines, one more of them

@@ -1,4 +1,4 @@
-use Rattle.std.proofs.Common.{◌∙◌, ◌+◌, Option, ℕ, sym, subst, arith}
+use Rattle.std.proofs.Common.{◌∙◌, ◌+◌, sym, subst, arith}
 use Rattle.std.proofs.lemmas.Bool.{true≢false}
 use Rattle.auditorium_core.specs.EntryWords.{IsNumbered}
 use Rattle.auditorium_core.proofs.EntryPlaces.{LeastBefore, least_here, least_passes, least_stays, number_found}
@@ -13,17 +13,17 @@ loop-at-preserved c =
     let P = IsNumbered c.args.roster.now.machines c.args.machine.now c.args.number in
     let at = c.loop-at.at in
     let e = c.node.result.now in
-    let Q : Option ℕ → Type 0 = λ o. LeastBefore P S (at + 1) o in
+    let (sound, complete) = c.is_numbered.ensures in
     elim c.if-is_numbered.branch [
-      | then-is_numbered+then-is_lower w ↦ subst Q (sym w.least-is)
-          (least_here P S at c.loop-at.least e c.node.ensures.value (c.is_numbered.ensures.0 w.if-is_numbered.true)
+      | then-is_numbered+then-is_lower w ↦ subst (LeastBefore P S (at + 1)) (sym w.least-is)
+          (least_here P S at c.loop-at.least e c.node.ensures.value (sound w.if-is_numbered.true)
           (w.is_lower.ensures.0 w.if-is_lower.true) c.loop-at.invariant)
-      | else-is_numbered w ↦ subst Q (sym w.least-is) (elim w.else-is_numbered.branch [
+      | else-is_numbered w ↦ subst (LeastBefore P S (at + 1)) (sym w.least-is) (elim w.else-is_numbered.branch [
         | else-is_numbered-via-then-is_numbered+else-is_lower v ↦ least_stays P S at c.loop-at.least e
             c.node.ensures.value (λ lower. true≢false (sym (v.is_lower.ensures.1 lower) ∙ v.if-is_lower.false))
             c.loop-at.invariant
         | else-is_numbered-via-else-is_numbered v ↦ least_passes P S at c.loop-at.least e c.node.ensures.value
-            (λ holds. true≢false (sym (c.is_numbered.ensures.1 holds) ∙ v.if-is_numbered.false)) c.loop-at.invariant
+            (λ holds. true≢false (sym (complete holds) ∙ v.if-is_numbered.false)) c.loop-at.invariant
       ])
     ]
 

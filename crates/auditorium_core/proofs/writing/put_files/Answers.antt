@@ -26,8 +26,7 @@ loop-file-preserved g c =
     let mid = c.put_file.new.store in
     let put = as_put store.creates store.appends c.loop-file.store mid file c.name.result.now c.bytes.result.now
     (is_ok c.put_file.result) true c.name.ensures c.bytes.ensures (search rules) c.put_file.ensures.offers in
-    let set : store.files mid ≡ with_file (store.files c.loop-file.store) file.0 file.1 =
-    c.in_ok-put_file.ensures.ok
+    let set = c.in_ok-put_file.ensures.ok
     ∙ ap (λ n. with_file (store.files c.loop-file.store) n c.bytes.result.now) c.name.ensures
     ∙ ap (with_file (store.files c.loop-file.store) file.0) c.bytes.ensures in
     record {
