@@ -1,5 +1,6 @@
-//! Tests of the public calls of `polling_world`, `floor_sweep`, `finished_floor` and `machine_floor`.
-//! They stand in a crate of their own, so that what they test isn't proved once more with them.
+//! Tests of the public calls of `polling_world`, `floor_sweep`, `finished_floor` and
+//! `machine_floor`. They stand in a crate of their own, so that what they test isn't proved once
+//! more with them.
 #![tactic(auto)]
 
 #[cfg(test)]

@@ -1,5 +1,5 @@
-//! Tests of the public calls of `lms_ots`, `lms_sign` and `entry_format`.
-//! They stand in a crate of their own, so that what they test isn't proved once more with them.
+//! Tests of the public calls of `lms_ots`, `lms_sign` and `entry_format`. They stand in a crate of
+//! their own, so that what they test isn't proved once more with them.
 #![tactic(auto)]
 
 #[cfg(test)]

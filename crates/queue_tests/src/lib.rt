@@ -1,5 +1,5 @@
-//! Tests of the public calls of `broadcast_queues` and `log_lock`.
-//! They stand in a crate of their own, so that what they test isn't proved once more with them.
+//! Tests of the public calls of `broadcast_queues` and `log_lock`. They stand in a crate of their
+//! own, so that what they test isn't proved once more with them.
 #![tactic(auto)]
 
 #[cfg(test)]

@@ -1,5 +1,5 @@
-//! Tests of the public calls of `rule_language` and `rule_engine`.
-//! They stand in a crate of their own, so that what they test isn't proved once more with them.
+//! Tests of the public calls of `rule_language` and `rule_engine`. They stand in a crate of their
+//! own, so that what they test isn't proved once more with them.
 #![tactic(auto)]
 
 #[cfg(test)]
