@@ -3,8 +3,9 @@
 ghost use Rattle.entry_format.specs.Deeds.{IsDeedOf};
 ghost use Rattle.roster.specs.declared.post.Role.TheVariants.{Booth};
 
+use crate::histories::{authorise, entries_in, entry_of, override_by};
 use booth_core::BoothState;
-use entry_format::{Deed, Entry, How, Names};
+use entry_format::{Deed, How};
 use std::alloc::{AllocError, Global};
 use std::test::Fail;
 
@@ -47,42 +48,13 @@ fn other_commit() -> Deed {
     Deed::Commit { session: 7, ballot }
 }
 
-fn authorise(booth: u32, session: u32) -> Deed {
-    Deed::Authorise { booth, session }
-}
-
-fn override_by(session: u32, how: How) -> Deed {
-    Deed::Override { session, how }
-}
-
-fn entry_of(alloc: Global, words: &str) -> Entry {
-    let (maker, deed) = event(words);
-    Entry {
-        version: 2,
-        election: [0; 32],
-        maker,
-        number: 0,
-        stamp: 1,
-        names: Names::new(alloc),
-        deed,
-    }
-}
-
 /// The state of the history that has these entries, in their order.
 fn state_of(alloc: Global, history: &[&str]) -> Result<BoothState, AllocError> {
     let mut state = BoothState::make(alloc, OWNER, history.len())?;
     for words in history {
-        state.note(&entry_of(alloc, words));
+        state.note(&entry_of(alloc, event(words)));
     }
     Ok(state)
-}
-
-/// The entries of a history, which are separated by commas.
-fn entries_in<'a>(alloc: Global, history: &'a str) -> Result<Vec<&'a str>, AllocError> {
-    if history.is_empty() {
-        return Ok(Vec::new(alloc));
-    }
-    history.split(',').collect(alloc)
 }
 
 /// The answer for the deed after the history, where the log is complete or isn't, in words.

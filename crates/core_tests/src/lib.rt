@@ -5,4 +5,6 @@
 #[cfg(test)]
 mod booth_core_tests;
 #[cfg(test)]
+mod histories;
+#[cfg(test)]
 mod supervisor_core_tests;

@@ -3,7 +3,8 @@
 ghost use Rattle.entry_format.specs.Deeds.{IsDeedOf};
 ghost use Rattle.roster.specs.declared.post.Role.TheVariants.{Supervisor};
 
-use entry_format::{Deed, Entry, How, Names};
+use crate::histories::{authorise, entries_in, entry_of, override_by};
+use entry_format::{Deed, How};
 use std::alloc::{AllocError, Global};
 use std::test::Fail;
 use supervisor_core::SupervisorState;
@@ -39,46 +40,13 @@ fn event(words: &str) -> (u32, Deed) {
     }
 }
 
-fn authorise(booth: u32, session: u32) -> Deed
-    ensures { IsDeedOf Supervisor result }
-{
-    Deed::Authorise { booth, session }
-}
-
-fn override_by(session: u32, how: How) -> Deed
-    ensures { IsDeedOf Supervisor result }
-{
-    Deed::Override { session, how }
-}
-
-fn entry_of(alloc: Global, words: &str) -> Entry {
-    let (maker, deed) = event(words);
-    Entry {
-        version: 2,
-        election: [0; 32],
-        maker,
-        number: 0,
-        stamp: 1,
-        names: Names::new(alloc),
-        deed,
-    }
-}
-
 /// The state of the history that has these entries, in their order.
 fn state_of(alloc: Global, history: &[&str]) -> Result<SupervisorState, AllocError> {
     let mut state = SupervisorState::make(alloc, OWNER, history.len())?;
     for words in history {
-        state.note(&entry_of(alloc, words));
+        state.note(&entry_of(alloc, event(words)));
     }
     Ok(state)
-}
-
-/// The entries of a history, which are separated by commas.
-fn entries_in<'a>(alloc: Global, history: &'a str) -> Result<Vec<&'a str>, AllocError> {
-    if history.is_empty() {
-        return Ok(Vec::new(alloc));
-    }
-    history.split(',').collect(alloc)
 }
 
 /// The answer for the deed after the history, in words.

@@ -1,68 +1,17 @@
 //! Sweeps over the machines of small scripts, before anything happened. What they come to was
 //! computed by another program.
-ghost use Rattle.std.specs.Prelude.{◌≡◌, ◌<◌, ℕ, [], Some, IfOk, length, slice_get};
+ghost use Rattle.std.specs.Prelude.{◌≡◌, ℕ, [], Some, IfOk, slice_get};
 ghost use Rattle.election_script.specs.Lawful.{IsLawful};
-ghost use Rattle.polling_world.specs.Keys.{roster_of};
 ghost use Rattle.polling_world.specs.Machines.{MachineState};
 ghost use Rattle.floor_sweep.specs.Places.{IsAt};
 
-use election_script::{Script, StopAt, read};
+use crate::sessions::{machine_at, script_of};
+use election_script::Script;
 use floor_losses::Loss;
 use floor_sweep::sweep;
-use polling_world::{Left, Machine, key_of, keys_of, roster_of};
-use roster::Roster;
+use polling_world::{Left, Machine, keys_of, roster_of};
 use std::alloc::{AllocError, Global};
 use std::test::Fail;
-
-/// A session at each of two booths.
-const SESSIONS: &str = "machine sv supervisor\nmachine b1 booth\nmachine b2 booth\n\
-    do sv open\ndo sv authorise b1 1\ndo sv authorise b2 2\ndo sv close\ndo b1 activate 1\n\
-    do b1 commit 1 0707070707070707070707070707070707070707070707070707070707070707\n\
-    do b1 cast 1 0707070707070707070707070707070707070707070707070707070707070707\n\
-    do b2 activate 2\n\
-    do b2 commit 2 0707070707070707070707070707070707070707070707070707070707070707\n\
-    do b2 cast 2 0707070707070707070707070707070707070707070707070707070707070707\n";
-
-/// The sessions' script with logs of so many events and these lines more.
-fn script_of(alloc: Global, log: u32, lines: &str) -> Result<Script, Fail>
-    ensures { IfOk result IsLawful }
-{
-    let text = format!(in alloc;
-        "version 1\nseed 0102\nkey w2 h5\nlog {log}\nlink 64\n{SESSIONS}{lines}"
-    )?;
-    match read(alloc, text.as_bytes()) {
-        Ok(script) => Ok(script),
-        Err(_) => Err(Fail::from("the script is read")),
-    }
-}
-
-/// Where the machine stops, by the script's lines.
-fn stop_of(stops: &[StopAt], at: u32) -> Option<u32> {
-    stops
-        .iter()
-        .find(|stop| stop.machine == at)
-        .map(|stop| stop.events)
-}
-
-/// The script's machine at the place, before anything happened.
-fn machine_at(
-    alloc: Global,
-    script: &Script,
-    roster: &Roster,
-    at: u32,
-) -> Result<Machine, AllocError>
-    requires lawful { IsLawful script.now }
-    requires at { at < length script.now.machines }
-    requires roster { roster.now.machines ≡ roster_of script.now }
-    ensures at { IfOk result (λ machine. IsAt at machine) }
-    ensures events { IfOk result (λ machine. machine.events ≡ []) }
-{
-    let key = key_of(alloc, script, at)?;
-    let stop_at = stop_of(script.stops.as_slice(), at);
-    let machine = Machine::make(alloc, script, roster, at, key, stop_at)?;
-    let _log = machine.log();
-    Ok(machine)
-}
 
 /// The machines of the script, before anything happened.
 fn machines_of(alloc: Global, script: &Script) -> Result<Vec<Machine>, AllocError>

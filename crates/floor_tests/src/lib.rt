@@ -14,4 +14,6 @@ mod merge_tests;
 #[cfg(test)]
 mod polling_world_tests;
 #[cfg(test)]
+mod sessions;
+#[cfg(test)]
 mod world_tests;

@@ -5,6 +5,8 @@
 #[cfg(test)]
 mod entry_format_tests;
 #[cfg(test)]
+mod key_rows;
+#[cfg(test)]
 mod lms_ots_tests;
 #[cfg(test)]
 mod lms_sign_tests;

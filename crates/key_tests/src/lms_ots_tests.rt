@@ -1,12 +1,9 @@
+use crate::key_rows::{ID, SEED, kind_in, number_in, push_hex};
 use lms_ots::{OtsFault, OtsKind, checksum, digit, ots_candidate, ots_public, ots_sign};
 use sha2::{Digest, Sha256};
 use std::alloc::{AllocError, Global};
 use std::fmt::Write;
 use std::test::Fail;
-
-const ID: [u8; 16] = [0, 1, 2, 3, 4, 5, 6, 7, 8, 9, 10, 11, 12, 13, 14, 15];
-
-const SEED: [u8; 32] = [7; 32];
 
 const INDEX: u32 = 5;
 
@@ -22,27 +19,6 @@ fn digits_and_checksums_are_the_worked_values(rt: HostRuntime) {
     for &(kind, sum) in SUMS {
         assert!(rt; checksum(&[0; 32], kind) == sum && checksum(&[0xff; 32], kind) == 0);
     }
-}
-
-// The parameter set of a row's first word.
-fn kind_in(row: &str) -> OtsKind {
-    let word = row.split(' ').next().unwrap_or("");
-    OtsKind::of_word(word.as_bytes()).unwrap_or(OtsKind::W1)
-}
-
-fn number_in(row: &str, place: usize) -> usize {
-    match row.split(' ').nth(place) {
-        Some(word) => word.parse().unwrap_or(0),
-        None => 0,
-    }
-}
-
-fn push_hex(row: &mut String, bytes: &[u8]) -> Result<(), AllocError> {
-    write!(row, " ")?;
-    for byte in bytes {
-        write!(row, "{byte:02x}")?;
-    }
-    Ok(())
 }
 
 fn push_signature(

@@ -1,34 +1,10 @@
+use crate::key_rows::{ID, SEED, kind_in, number_in, push_hex};
 use lms_ots::OtsKind;
 use lms_sign::{LmsPublic, LmsSecret, Memory, SignFault, sign_each, verify};
 use sha2::{Digest, Sha256};
 use std::alloc::{AllocError, Global};
 use std::fmt::Write;
 use std::test::Fail;
-
-const ID: [u8; 16] = [0, 1, 2, 3, 4, 5, 6, 7, 8, 9, 10, 11, 12, 13, 14, 15];
-
-const SEED: [u8; 32] = [7; 32];
-
-// The parameter set of a row's first word.
-fn kind_in(row: &str) -> OtsKind {
-    let word = row.split(' ').next().unwrap_or("");
-    OtsKind::of_word(word.as_bytes()).unwrap_or(OtsKind::W1)
-}
-
-fn number_in(row: &str, place: usize) -> usize {
-    match row.split(' ').nth(place) {
-        Some(word) => word.parse().unwrap_or(0),
-        None => 0,
-    }
-}
-
-fn push_hex(row: &mut String, bytes: &[u8]) -> Result<(), AllocError> {
-    write!(row, " ")?;
-    for byte in bytes {
-        write!(row, "{byte:02x}")?;
-    }
-    Ok(())
-}
 
 // Appends a signature's length and its digest, and whether it is one of the text and of no other.
 fn push_signature(

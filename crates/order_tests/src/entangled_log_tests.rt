@@ -1,49 +1,8 @@
+use crate::shown::Shown;
 use entangled_log::{Heard, Log, Memory, NextFault};
 use entry_order::Knot;
 use std::alloc::Global;
 use std::test::Fail;
-
-/// An entry with what it shows of others.
-#[derive(Drop)]
-struct Shown {
-    digest: [u8; 32],
-    names: Vec<[u8; 32]>,
-    maker: u32,
-    number: u32,
-    stamp: u32,
-}
-
-impl Knot for Shown {
-    ghost use Rattle.entry_order.specs.Node.{Node};
-
-    ghost node = { λ e. record {
-      digest = e.digest;
-      names = e.names.items;
-      maker = e.maker;
-      number = e.number;
-      stamp = e.stamp;
-    } };
-
-    fn digest(&self) -> &[u8; 32] {
-        &self.digest
-    }
-
-    fn names(&self) -> &[[u8; 32]] {
-        &self.names
-    }
-
-    fn maker(&self) -> u32 {
-        self.maker
-    }
-
-    fn number(&self) -> u32 {
-        self.number
-    }
-
-    fn stamp(&self) -> u32 {
-        self.stamp
-    }
-}
 
 /// An entry of a machine that names nothing.
 fn first_of(alloc: Global, maker: u32, digest: [u8; 32]) -> Shown {

@@ -10,3 +10,5 @@ mod entry_gaps_tests;
 mod log_frontier_tests;
 #[cfg(test)]
 mod precedence_tests;
+#[cfg(test)]
+mod shown;

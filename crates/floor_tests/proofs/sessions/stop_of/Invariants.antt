@@ -1,6 +1,6 @@
 use Rattle.std.proofs.Common.{◌≢◌, ℕ, ◌<◌, get_or}
 use Rattle.election_script.specs.declared.script.StopAt.{StopAt}
-use Rattle.floor_tests.proofs.finished_floor_tests.stop_of.Given as goal
+use Rattle.floor_tests.proofs.sessions.stop_of.Given as goal
 
 -- none of the lines that were read is the machine's
 abbrev pub invariant-loop-stop : goal.invariant-loop-stop

@@ -1,8 +1,8 @@
 use Rattle.std.proofs.Common.{subst}
-use Rattle.floor_sweep.proofs.News.{fresh_events}
+use Rattle.floor_sweep.proofs.News.{fresh_at, fresh_events}
 use Rattle.finished_floor.specs.Places.{IsStopOf}
 use Rattle.finished_floor.proofs.News.{new_of}
-use Rattle.floor_tests.proofs.finished_floor_tests.machine_at.Goals as goal
+use Rattle.floor_tests.proofs.sessions.machine_at.Goals as goal
 
 pub returns-clause-of : goal.returns-clause-of
 returns-clause-of c =
@@ -13,3 +13,8 @@ returns-clause-of c =
 pub returns-clause-events : goal.returns-clause-events
 returns-clause-events c =
     fresh_events c.args.script.now c.args.at c.stop_of-stop_at.result c.in_ok-machine.machine c.in_ok-machine.ensures
+
+pub returns-clause-at : goal.returns-clause-at
+returns-clause-at c =
+    fresh_at c.args.script.now c.args.at c.stop_of-stop_at.result c.in_ok-machine.machine c.in_ok-machine.ensures
+    c.log-log.ensures.machine
