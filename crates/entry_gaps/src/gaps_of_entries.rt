@@ -7,34 +7,14 @@ ghost use Rattle.entry_order.specs.Survivors.{gaps as gaps_of};
 ghost use Rattle.entry_gaps.specs.inside.Without.{IsWithout};
 
 use entry_order::{Knot, gaps_are_unique};
+use item_list::Items;
 use std::alloc::{AllocError, Global};
-use std::marker::Model;
 
 /// Want of memory.
 pub type Memory = AllocError;
 
 /// Digests of 32 bytes each. A contract sees them as a list.
-#[derive(Drop)]
-pub struct Digests {
-    digests: Vec<[u8; 32]>,
-}
-
-impl Model for Digests {
-    ghost use Rattle.std.specs.Prelude.{List, ℕ};
-
-    ghost Value = { List (List ℕ) };
-
-    ghost view = { λ d. d.digests.items };
-}
-
-impl Digests {
-    /// Lends the digests.
-    pub fn as_slice(&self) -> &[[u8; 32]]
-        ensures { result.now ≡ self.now }
-    {
-        self.digests.as_slice()
-    }
-}
+pub type Digests = Items<[u8; 32]>;
 
 /// The digests that one of the entries names and none of them bears, each once, ascending in the
 /// order of their bytes. It takes time for n entries and names as sorting them, n log n.
@@ -47,7 +27,7 @@ pub fn gaps<T: Knot>(alloc: Global, entries: &[T]) -> Result<Digests, Memory>
     let mut named = names_of(alloc, entries)?;
     named.sort_unstable();
     let digests = without(alloc, named.as_slice(), borne.as_slice())?;
-    Ok(Digests { digests })
+    Ok(Items::from_vec(digests))
 }
 
 /// The digests that the entries bear, in their order.
