@@ -1,5 +1,5 @@
 //! The supervisor's log of the worked play, cut at many places and changed at many.
-use crate::audit_tests::{TWO, answer, empty, flipped, is_answered, play, wide};
+use crate::auditing_tests::{TWO, answer, empty, flipped, is_answered, play, wide};
 use auditorium_core::Status;
 use hall_outside::MemoryStore;
 use std::alloc::Global;

@@ -1,5 +1,5 @@
 //! The command `demo`. The numbers were computed by a separate plain program.
-use crate::audit_tests::{empty, is_answered};
+use crate::auditing_tests::{empty, is_answered};
 use auditorium_core::Status;
 use std::test::Fail;
 

@@ -1,7 +1,7 @@
 //! Calls of the store and of the sink that fail, or that give and take little, under each command.
 ghost use Rattle.std.specs.Prelude.{◌<◌};
 
-use crate::audit_tests::{TWO, empty, front_of, play, wide, words_of};
+use crate::auditing_tests::{TWO, empty, front_of, play, wide, words_of};
 use crate::demonstrating_tests::ONE;
 use crate::make_tests::ONE as DAY;
 use auditorium_core::{Status, auditorium};

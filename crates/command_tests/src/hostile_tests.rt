@@ -1,6 +1,6 @@
 //! Files that were made to harm their reader. Each is refused at the first byte, or on the first line,
 //! that can't stand.
-use crate::audit_tests::{empty, place_parts, play, told};
+use crate::auditing_tests::{empty, place_parts, play, told};
 use crate::play_tests::Parts;
 use hall_outside::MemoryStore;
 use std::alloc::Global;

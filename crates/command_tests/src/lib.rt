@@ -3,7 +3,7 @@
 #![tactic(auto)]
 
 #[cfg(test)]
-mod audit_tests;
+mod auditing_tests;
 #[cfg(test)]
 mod damage_tests;
 #[cfg(test)]
@@ -19,7 +19,7 @@ mod limit_tests;
 #[cfg(test)]
 mod make_tests;
 #[cfg(test)]
-mod order_tests;
+mod ordering_tests;
 #[cfg(test)]
 mod peak_tests;
 #[cfg(test)]

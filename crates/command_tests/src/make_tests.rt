@@ -1,5 +1,5 @@
 //! The command `make`. The texts and lengths were computed by a separate plain program.
-use crate::audit_tests::{answer, empty, is_answered};
+use crate::auditing_tests::{answer, empty, is_answered};
 use auditorium_core::Status;
 use hall_outside::MemorySink;
 use hall_text::digest_hex;

@@ -1,5 +1,5 @@
 //! The command `play`. The sizes of the files and the lines are those of the worked scripts.
-use crate::audit_tests::{empty, words_of};
+use crate::auditing_tests::{empty, words_of};
 use auditorium_core::{Status, auditorium_still};
 use entry_format::Sealed;
 use entry_order::{Event, Knot};

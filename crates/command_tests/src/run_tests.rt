@@ -1,5 +1,5 @@
 //! The command `run`. The lines are those to which every interleaving of the scripts comes.
-use crate::audit_tests::{answer, empty, play, wide, words_of};
+use crate::auditing_tests::{answer, empty, play, wide, words_of};
 use crate::play_tests::{Parts, SESSION, STEPS, TWO, joined};
 use auditorium_core::{Status, auditorium};
 use hall_outside::{Gate, MeetGate, MemorySink, MemoryStore, OpenGate};

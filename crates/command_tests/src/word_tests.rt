@@ -1,4 +1,4 @@
-use crate::audit_tests::{all_of, octets_of, words_of};
+use crate::auditing_tests::{all_of, octets_of, words_of};
 use auditorium_core::{Status, auditorium_still};
 use hall_outside::{MemorySink, MemoryStore};
 use std::alloc::Global;

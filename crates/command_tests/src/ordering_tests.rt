@@ -1,6 +1,6 @@
 //! The command `order`. The words and lines are those of the worked script of two sessions, and of
 //! two other scripts of the same machines.
-use crate::audit_tests::{empty, front_of, play, told};
+use crate::auditing_tests::{empty, front_of, play, told};
 use hall_outside::MemoryStore;
 use std::alloc::Global;
 use std::test::Fail;
