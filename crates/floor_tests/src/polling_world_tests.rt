@@ -98,9 +98,9 @@ fn act_word(alloc: Global, machine: &mut Machine) -> Result<&'static str, AllocE
 }
 
 /// How many actions the machine does before it is refused one, and the cause.
-fn acts(alloc: Global, mut machine: Machine) -> Result<(u32, &'static str), AllocError> {
+fn acts(alloc: Global, machine: &mut Machine) -> Result<(u32, &'static str), AllocError> {
     for done in 0..6 {
-        let word = act_word(alloc, &mut machine)?;
+        let word = act_word(alloc, machine)?;
         if word != "Ready" {
             return Ok((done, word));
         }
@@ -125,7 +125,8 @@ fn does(
     stop_at: Option<u32>,
     want: (u32, &str),
 ) -> Result<bool, Fail> {
-    let (done, why) = acts(alloc, machine_of(alloc, log, at, stop_at)?)?;
+    let mut machine = machine_of(alloc, log, at, stop_at)?;
+    let (done, why) = acts(alloc, &mut machine)?;
     Ok(done == want.0 && why == want.1)
 }
 
