@@ -5,11 +5,11 @@
 //! nodes.
 #![tactic(auto)]
 
-ghost use Rattle.std.specs.Prelude.{◌≡◌, ◌<◌, IfOk, [], if◌then◌else◌, length, nat_lt};
-ghost use Rattle.std.specs.List.{All, list_all};
+ghost use Rattle.std.specs.Prelude.{◌≡◌, ◌<◌, IfOk, length};
 ghost use Rattle.precedence.specs.Known.{known_count};
 
 use anyhow::{Result, ensure};
+use listed_graphs::those_below;
 use precedence::{Arrows, Rows, Three};
 use std::alloc::{AllocError, Global};
 use std::env;
@@ -48,25 +48,6 @@ impl Arrows for Random {
     fn ragged(&self, _node: usize) -> bool {
         false
     }
-}
-
-// The parents, where each is below the node, as in a graph that was made here.
-fn those_below(parents: &[u32], node: usize) -> &[u32]
-    ensures are { result.now
-        ≡ (if list_all (λ p. nat_lt p node) parents.now then parents.now else []) }
-    ensures below { All (λ p. p < node) result.now }
-{
-    if are_below(parents, node) {
-        parents
-    } else {
-        &[]
-    }
-}
-
-fn are_below(parents: &[u32], node: usize) -> bool
-    ensures { result ≡ list_all (λ p. nat_lt p node) parents.now }
-{
-    parents.iter().all(|p| (*p as usize) < node)
 }
 
 // The next state of a linear congruential generator, with Knuth's constants for MMIX.

@@ -1,78 +1,10 @@
-ghost use Rattle.std.specs.Prelude.{◌≡◌, ◌<◌, ◌≤◌, IfOk, [], if◌then◌else◌, nat_lt};
-ghost use Rattle.std.specs.List.{All, list_all};
+ghost use Rattle.std.specs.Prelude.{◌≡◌, ◌<◌, ◌≤◌, IfOk};
 ghost use Rattle.entry_order.specs.Ancestors.{before};
 
+use listed_graphs::{Listed, ListedGraph};
 use precedence::{Arrows, Memory, Rows, Three, unite};
 use std::alloc::Global;
-use std::marker::Model;
 use std::test::Fail;
-
-/// What a node lists as its parents.
-#[derive(Drop)]
-struct Listed {
-    parents: Vec<u32>,
-}
-
-impl Model for Listed {
-    ghost use Rattle.std.specs.Prelude.{ℕ, List};
-
-    ghost Value = { List ℕ };
-
-    ghost view = { λ node. node.parents.items };
-}
-
-/// A graph as a list of nodes, one of which is ragged. A node that lists one that isn't below it
-/// has no parents.
-#[derive(Drop)]
-struct Nodes {
-    nodes: Vec<Listed>,
-    ragged: usize,
-}
-
-impl Arrows for Nodes {
-    ghost use Rattle.std.specs.Prelude.{[], ◌==◌, vec_len, slice_index_or};
-    ghost use Rattle.std.specs.Prelude.{nat_lt, if◌then◌else◌};
-    ghost use Rattle.std.specs.List.{list_all};
-
-    ghost graph = { λ g. record {
-      count = vec_len g.nodes;
-      parents = λ i.
-          if list_all (λ p. nat_lt p i) (slice_index_or g.nodes.items i [])
-          then slice_index_or g.nodes.items i [] else [];
-      ragged = λ i. i == g.ragged;
-    } };
-
-    fn count(&self) -> usize {
-        self.nodes.len()
-    }
-
-    fn parents(&self, node: usize) -> &[u32] {
-        those_below(&self.nodes[node].parents, node)
-    }
-
-    fn ragged(&self, node: usize) -> bool {
-        node == self.ragged
-    }
-}
-
-/// The parents, where each is below the node.
-fn those_below(parents: &[u32], node: usize) -> &[u32]
-    ensures are { result.now
-        ≡ (if list_all (λ p. nat_lt p node) parents.now then parents.now else []) }
-    ensures below { All (λ p. p < node) result.now }
-{
-    if are_below(parents, node) {
-        parents
-    } else {
-        &[]
-    }
-}
-
-fn are_below(parents: &[u32], node: usize) -> bool
-    ensures { result ≡ list_all (λ p. nat_lt p node) parents.now }
-{
-    parents.iter().all(|parent| (*parent as usize) < node)
-}
 
 fn node_of(alloc: Global, word: &str) -> Result<Listed, Memory> {
     let mut parents = Vec::new(alloc);
@@ -84,13 +16,15 @@ fn node_of(alloc: Global, word: &str) -> Result<Listed, Memory> {
     Ok(Listed { parents })
 }
 
-/// A word a node: its parents, or `.` for none.
-fn graph_of(alloc: Global, text: &str, ragged: usize) -> Result<Nodes, Memory> {
+/// A word a node: its parents, or `.` for none. One node is ragged, if there is one at that place.
+fn graph_of(alloc: Global, text: &str, ragged_one: usize) -> Result<ListedGraph, Memory> {
     let mut nodes = Vec::new(alloc);
-    for word in text.split_whitespace() {
+    let mut ragged = Vec::new(alloc);
+    for (node, word) in text.split_whitespace().enumerate() {
         nodes.push(node_of(alloc, word)?)?;
+        ragged.push(node == ragged_one)?;
     }
-    Ok(Nodes { nodes, ragged })
+    Ok(ListedGraph { nodes, ragged })
 }
 
 fn letter_of(three: Three) -> u8 {
@@ -102,7 +36,7 @@ fn letter_of(three: Three) -> u8 {
 }
 
 /// The rows of a graph, where it hasn't too many nodes.
-fn rows_of(alloc: Global, graph: &Nodes) -> Result<Option<Rows>, Memory> {
+fn rows_of(alloc: Global, graph: &ListedGraph) -> Result<Option<Rows>, Memory> {
     if graph.count() > 16384 {
         return Ok(None);
     }
@@ -110,7 +44,7 @@ fn rows_of(alloc: Global, graph: &Nodes) -> Result<Option<Rows>, Memory> {
 }
 
 /// For each node `x` a word: a letter for each `y`, and `w` where `x` is whole.
-fn answers_of(alloc: Global, graph: &Nodes) -> Result<Vec<u8>, Memory> {
+fn answers_of(alloc: Global, graph: &ListedGraph) -> Result<Vec<u8>, Memory> {
     let mut answers = Vec::new(alloc);
     let Some(rows) = rows_of(alloc, graph)? else {
         return Ok(answers);
@@ -144,7 +78,7 @@ fn small_graphs_have_their_orders(rt: HostRuntime) -> Result<(), Fail> {
     Ok(())
 }
 
-fn chain_of(alloc: Global, count: u32) -> Result<Nodes, Memory> {
+fn chain_of(alloc: Global, count: u32) -> Result<ListedGraph, Memory> {
     let mut nodes = Vec::new(alloc);
     for node in 0..count {
         let mut parents = Vec::new(alloc);
@@ -153,14 +87,14 @@ fn chain_of(alloc: Global, count: u32) -> Result<Nodes, Memory> {
         }
         nodes.push(Listed { parents })?;
     }
-    Ok(Nodes {
+    Ok(ListedGraph {
         nodes,
-        ragged: usize::MAX,
+        ragged: Vec::new(alloc),
     })
 }
 
 /// Whether there is a row for each node, and each node is before those above it and no other.
-fn is_in_order(alloc: Global, chain: &Nodes) -> Result<bool, Memory> {
+fn is_in_order(alloc: Global, chain: &ListedGraph) -> Result<bool, Memory> {
     let Some(rows) = rows_of(alloc, chain)? else {
         return Ok(false);
     };

@@ -1,79 +1,16 @@
-ghost use Rattle.std.specs.Prelude.{◌≡◌, ◌<◌, [], if◌then◌else◌, nat_lt};
-ghost use Rattle.std.specs.List.{All, list_all};
-
+use listed_graphs::{Listed, ListedGraph};
 use precedence::{Arrows, Rows};
 use roster::Role;
 use rule_engine::{JudgeFault, Verdict, judge};
 use rule_language::{Kind, Row, Rule, read, standard};
 use std::alloc::{AllocError, Global};
-use std::marker::Model;
 use std::test::Fail;
 
-/// What a node lists as its parents.
-#[derive(Drop)]
-struct Listed {
-    parents: Vec<u32>,
-}
-
-impl Model for Listed {
-    ghost use Rattle.std.specs.Prelude.{ℕ, List};
-
-    ghost Value = { List ℕ };
-
-    ghost view = { λ node. node.parents.items };
-}
-
-/// A graph as a list of nodes, one of which is ragged, and the rows of its nodes.
+/// A graph and the rows of its nodes.
 #[derive(Drop)]
 struct Place {
-    nodes: Vec<Listed>,
-    ragged: usize,
+    graph: ListedGraph,
     rows: Vec<Row>,
-}
-
-impl Arrows for Place {
-    ghost use Rattle.std.specs.Prelude.{[], ◌==◌, vec_len, slice_index_or};
-    ghost use Rattle.std.specs.Prelude.{nat_lt, if◌then◌else◌};
-    ghost use Rattle.std.specs.List.{list_all};
-
-    ghost graph = { λ g. record {
-      count = vec_len g.nodes;
-      parents = λ i.
-          if list_all (λ p. nat_lt p i) (slice_index_or g.nodes.items i [])
-          then slice_index_or g.nodes.items i [] else [];
-      ragged = λ i. i == g.ragged;
-    } };
-
-    fn count(&self) -> usize {
-        self.nodes.len()
-    }
-
-    fn parents(&self, node: usize) -> &[u32] {
-        those_below(&self.nodes[node].parents, node)
-    }
-
-    fn ragged(&self, node: usize) -> bool {
-        node == self.ragged
-    }
-}
-
-/// The parents, where each is below the node.
-fn those_below(parents: &[u32], node: usize) -> &[u32]
-    ensures are { result.now
-        ≡ (if list_all (λ p. nat_lt p node) parents.now then parents.now else []) }
-    ensures below { All (λ p. p < node) result.now }
-{
-    if are_below(parents, node) {
-        parents
-    } else {
-        &[]
-    }
-}
-
-fn are_below(parents: &[u32], node: usize) -> bool
-    ensures { result ≡ list_all (λ p. nat_lt p node) parents.now }
-{
-    parents.iter().all(|parent| (*parent as usize) < node)
 }
 
 fn number_in(words: &str, place: usize) -> u32 {
@@ -103,11 +40,13 @@ fn row_of(words: &str) -> Row {
     }
 }
 
-/// A place of no entries, at which this node would be ragged.
-fn empty_of(alloc: Global, ragged: usize) -> Place {
+/// A place of no entries.
+fn empty(alloc: Global) -> Place {
     Place {
-        nodes: Vec::new(alloc),
-        ragged,
+        graph: ListedGraph {
+            nodes: Vec::new(alloc),
+            ragged: Vec::new(alloc),
+        },
         rows: Vec::new(alloc),
     }
 }
@@ -122,18 +61,21 @@ fn behind(alloc: Global, count: u32) -> Result<Listed, AllocError> {
 }
 
 /// Adds an entry to a place.
-fn add(place: &mut Place, node: Listed, words: &str) -> Result<(), AllocError> {
-    place.nodes.push(node)?;
+fn add(place: &mut Place, node: Listed, is_ragged: bool, words: &str) -> Result<(), AllocError> {
+    place.graph.nodes.push(node)?;
+    place.graph.ragged.push(is_ragged)?;
     place.rows.push(row_of(words))?;
     Ok(())
 }
 
-/// Entries in a chain, each of which names the one before it.
+/// Entries in a chain, each of which names the one before it. One is ragged, if there is one at that
+/// place.
 fn chain_of(alloc: Global, entries: &str, ragged: usize) -> Result<Place, AllocError> {
-    let mut place = empty_of(alloc, ragged);
+    let mut place = empty(alloc);
     let mut count = 0u32;
     for words in entries.split(", ") {
-        add(&mut place, behind(alloc, count)?, words)?;
+        let is_ragged = count as usize == ragged;
+        add(&mut place, behind(alloc, count)?, is_ragged, words)?;
         count = count.saturating_add(1);
     }
     Ok(place)
@@ -141,9 +83,9 @@ fn chain_of(alloc: Global, entries: &str, ragged: usize) -> Result<Place, AllocE
 
 /// So many entries that name nothing.
 fn crowd_of(alloc: Global, count: u32) -> Result<Place, AllocError> {
-    let mut place = empty_of(alloc, usize::MAX);
+    let mut place = empty(alloc);
     for _ in 0..count {
-        add(&mut place, behind(alloc, 0)?, "opened 0 0 0")?;
+        add(&mut place, behind(alloc, 0)?, false, "opened 0 0 0")?;
     }
     Ok(place)
 }
@@ -162,10 +104,10 @@ fn word_of(alloc: Global, verdict: Result<Verdict, JudgeFault>) -> Result<String
 
 /// The answer on a rule, or nothing where there are too many entries.
 fn answer_of(alloc: Global, rule: &Rule, place: &Place) -> Result<String, Fail> {
-    if place.count() > 16384 {
+    if place.graph.count() > 16384 {
         return Ok(String::new(alloc));
     }
-    let order = Rows::make(alloc, place)?;
+    let order = Rows::make(alloc, &place.graph)?;
     if place.rows.len() != order.count() {
         return Ok(String::new(alloc));
     }
