@@ -1,7 +1,7 @@
 -- The steps of an audit, joined.
-use Rattle.std.proofs.Common.{◌≡◌, ℕ, List, [], ◌∷◌, ◌++◌, map, Option, Some, None, inl, inr, refl, sym, ap, subst}
+use Rattle.std.proofs.Common.{◌≡◌, ℕ, List, ◌∷◌, ◌++◌, map, Option, Some, None, inl, inr, refl, sym, ap, subst}
 use Rattle.std.specs.Prelude.{Result, Ok, Err, IfOk, IfErr, IfSome, codes}
-use Rattle.hall_outside.specs.Files.{Files, OnSomeFile}
+use Rattle.hall_outside.specs.Files.{OnSomeFile}
 use Rattle.hall_outside.specs.ReadFile.{IsFileRefused}
 use Rattle.hall_outside.specs.declared.reading.FileFault.TheVariants as file
 use Rattle.roster.specs.declared.post.Post.{Post}
@@ -15,7 +15,6 @@ use Rattle.evidence.specs.declared.fault.AuditFault.{AuditFault}
 use Rattle.evidence.specs.declared.roster_file.RosterRead.{RosterRead}
 use Rattle.evidence.specs.Refusal.{Refusal, refused, too_long, refusal_of, IsFaultOf}
 use Rattle.evidence.specs.Reading.{StoreSeen, IsReadFrom}
-use Rattle.evidence.specs.NamedFiles.{AreFiles}
 use Rattle.evidence.specs.RosterFile.{GivesRosterIn}
 use Rattle.evidence.proofs.Readings.{of_refusal}
 use Rattle.auditor.specs.declared.judging.Unjudged.{Unjudged}
@@ -26,6 +25,7 @@ use Rattle.auditor.specs.Report.{ReportParts, report_of}
 use Rattle.auditor.specs.Sources.{RuleSource, standard, in_file, source_word, rule_files, max_rules, GivesRules}
 use Rattle.auditor.specs.Audits.{WithGraph, WithRules, WithRoster, OnFiles, GivesReportIn}
 use Rattle.evidence.proofs.Steps.{on_refusal, read_then, read_ends}
+use Rattle.evidence.proofs.LogLists.{some_files}
 
 -- an answer's promise, by another one
 pub ok_by : {T E : Type 0} (result : Result T E) (P Q : T → Type 0) → ((found : T) → P found → Q found) →
@@ -38,15 +38,6 @@ pub err_by : {T : Type 0} (result : Result T AuditFault) (P Q : Refusal → Type
     IfErr result (λ fault. IfSome (refusal_of fault) P) → IfErr result (λ fault. IfSome (refusal_of fault) Q)
 err_by (Ok found) P Q step is = tt
 err_by (Err fault) P Q step is = on_refusal P Q (refusal_of fault) step is
-
--- named files, whichever are told
-pub there_are_files : (told : Option Files) (names : List (List ℕ)) →
-    (files : List (Option (List ℕ))) × AreFiles told names files
-there_are_files told [] = ([], tt)
-there_are_files None (name ∷ names) =
-    let (files, are) = there_are_files None names in (None ∷ files, (tt, are))
-there_are_files (Some at) (name ∷ names) =
-    let (files, are) = there_are_files (Some at) names in (at name ∷ files, (refl, are))
 
 -- a rule that is too wide is told by its place
 pub too_wide_gives : (machines : List Post) (source : RuleSource) (trees given : List RuleTree) (names : List (List ℕ))
@@ -127,7 +118,7 @@ rules_end value source name read names old new fault is first =
     let P : RuleSource → Type 0 = λ s. IsReadFrom report_of
     (λ told answer. OnFiles (rule_files s ++ names) (λ files. WithRoster read s names files answer) told)
     old (Err fault) new in
-    let rest = there_are_files old.files names in
+    let rest = some_files old.files names in
     subst P (sym is)
     (read_ends value (λ told answer. OnSomeFile told name (λ file. GivesRules name file answer)) report_of
     (λ told answer. OnFiles (name ∷ names) (λ files. WithRoster read (in_file name) names files answer) told)
@@ -152,6 +143,6 @@ pub roster_ends : (roster : List ℕ) (source : RuleSource) (names : List (List 
     (fault : AuditFault) → IsReadFrom (λ (r : RosterRead). r) (GivesRosterIn roster) old (Err fault) new →
     IsReadFrom report_of (GivesReportIn roster source names) old (Err fault) new
 roster_ends roster source names old new fault first =
-    let rest = there_are_files old.files (rule_files source ++ names) in
+    let rest = some_files old.files (rule_files source ++ names) in
     read_ends (λ (r : RosterRead). r) (GivesRosterIn roster) report_of (GivesReportIn roster source names) old new fault
     first (λ refusal (this, at, gives). (this ∷ rest.0, (at, rest.1), inr (refusal, gives, refl)))

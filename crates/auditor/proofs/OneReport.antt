@@ -29,6 +29,8 @@ use Rattle.evidence.specs.RosterFile.{GivesRoster}
 use Rattle.evidence.specs.Logs.{GivesLogs}
 use Rattle.evidence.specs.Graphs.{entries_of, GivesGraph}
 use Rattle.evidence.specs.Same.{Agree, SameLog, SameLogs, SameGraph}
+use Rattle.evidence.specs.OneAnswer.{RosterFilesGiveOneAnswer, LogFilesGiveOneAnswer}
+use Rattle.evidence.specs.OneAnswer.{SameLogsKeepTheSameEntries, EntriesGiveOneGraph}
 use Rattle.auditor.specs.declared.outcome.Outcome.{Outcome}
 use Rattle.auditor.specs.Rows.{row_of}
 use Rattle.auditor.specs.Judged.{nodes_of}
@@ -254,20 +256,16 @@ agree_same {A} a b e = subst (λ o. Agree (λ x y. x ≡ y) a o) e (itself a)
 -- what files give is one
 pub record Ones : Type 0 where
   -- a roster's file gives one answer
-  pub rosters : (name : List ℕ) (file : Option (List ℕ)) (answer other : Result RosterRead Refusal) →
-      GivesRoster name file answer → GivesRoster name file other → answer ≡ other
+  pub rosters : RosterFilesGiveOneAnswer
   -- a text of rules is read in one way
   pub readings : (text : List ℕ) (answer other : Result (List RuleTree) RuleFault) → Reads text answer →
       Reads text other → answer ≡ other
   -- the files of logs give logs that tell the same, or one refusal
-  pub logs : (machines : List Post) (election : List ℕ) (names : List (List ℕ)) (files : List (Option (List ℕ)))
-      (answer other : Result (List LogRead) Refusal) → GivesLogs machines election names files answer →
-      GivesLogs machines election names files other → Agree SameLogs answer other
+  pub logs : LogFilesGiveOneAnswer
   -- and such logs keep the same entries
-  pub entries : (logs others : List LogRead) → SameLogs logs others → entries_of logs ≡ entries_of others
+  pub entries : SameLogsKeepTheSameEntries
   -- given entries have graphs that tell the same, or one refusal
-  pub graphs : (given : List SealedEntry) (answer other : Result (EntryGraph SealedEntry) Refusal) →
-      GivesGraph given answer → GivesGraph given other → Agree SameGraph answer other
+  pub graphs : EntriesGiveOneGraph
 
 -- a file of rules gives one answer
 one_rules : Ones → (name : List ℕ) (file : Option (List ℕ)) (a b : Result (List RuleTree) Refusal) →

@@ -1,9 +1,9 @@
 -- Rules have one verdict by graphs that tell the same.
-use Rattle.std.proofs.Common.{◌≡◌, ◌∙◌, ℕ, zero, suc, ◌<◌, ◌≤◌, Bool, true, false, cond, List, [], ◌∷◌, length, inl}
+use Rattle.std.proofs.Common.{◌≡◌, ◌∙◌, ℕ, zero, suc, ◌<◌, ◌≤◌, Bool, false, cond, List, [], ◌∷◌, length, inl}
 use Rattle.std.proofs.Common.{inr, refl, sym, ap, subst, arith}
 use Rattle.std.specs.Prelude.{◌==◌, ◌||◌, ◌⊎◌, Result, Ok, Err, codes}
 use Rattle.std.specs.List.{AllZip, Contains, list_any}
-use Rattle.std.proofs.lemmas.Bool.{false≢true, cases_lt, cases_order}
+use Rattle.std.proofs.lemmas.Bool.{false≢true, cases_lt, cases_order, or_from}
 use Rattle.entry_format.specs.SealedEntry.{SealedEntry}
 use Rattle.entry_order.specs.declared.three.Three.{Three}
 use Rattle.entry_order.specs.declared.three.Three.TheVariants.{False, Unknown, True}
@@ -26,13 +26,8 @@ use Rattle.auditor.proofs.OneByOne.{judged_is_narrow}
 -- where each member fails a test, none of the list passes it
 none_of : (p : ℕ → Bool) (xs : List ℕ) → ((x : ℕ) → Contains xs x → p x ≡ false) → list_any p xs ≡ false
 none_of p [] none = refl
-none_of p (x ∷ xs) none = neither (p x) (list_any p xs) (none x (Contains-head x xs))
+none_of p (x ∷ xs) none = or_from (p x) (list_any p xs) (none x (Contains-head x xs))
     (none_of p xs (λ y member. none y (Contains-later x xs y member)))
-  where
-    -- of two tests that fail neither passes
-    neither : (a b : Bool) → a ≡ false → b ≡ false → (a || b) ≡ false
-    neither true b e f = absurd (false≢true (sym e))
-    neither false b e f = f
 
 -- a place isn't reached from one that isn't above it
 not_reached : (parents : ℕ → List ℕ) → Descends parents → (n y x : ℕ) → x ≤ y → reaches parents n y x ≡ false

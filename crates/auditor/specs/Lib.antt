@@ -6,4 +6,5 @@ pub mod ReportText
 pub mod Sources
 pub mod Audits
 pub mod Same
+pub mod OneReport
 pub mod inside

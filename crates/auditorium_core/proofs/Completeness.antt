@@ -16,6 +16,7 @@ use Rattle.auditor.specs.declared.outcome.Outcome.TheVariants as outcome
 use Rattle.auditor.specs.Report.{AuditReport}
 use Rattle.auditor.specs.Outcomes.{outcome_of}
 use Rattle.auditor.specs.Audits.{GivesReport}
+use Rattle.auditor.specs.OneReport.{FilesGiveOneReport}
 use Rattle.auditorium_core.specs.declared.status.Status.{Status}
 use Rattle.auditorium_core.specs.declared.status.Status.TheVariants as status
 use Rattle.demonstration.specs.Shown.{IsRefusedSo}
@@ -38,7 +39,7 @@ use Rattle.auditorium_core.specs.Complete.{IsComplete}
 use Rattle.auditorium_core.proofs.OnePlayAnswer.{PlayOne, one_script}
 use Rattle.auditorium_core.proofs.OneOrderAnswer.{OrderOne}
 use Rattle.auditorium_core.proofs.OneDemonstrationAnswer.{ShowOne, same_half}
-use Rattle.auditorium_core.proofs.OneAnswer.{SayOne, ReportOne, Cases, cases, same_command}
+use Rattle.auditorium_core.proofs.OneAnswer.{SayOne, Cases, cases, same_command}
 
 -- an answer with such a status is carried out
 with_status : (answer : Answer) (how : Status) → answer.status ≡ how → IsCarriedOut how → IsCarriedOut answer.status
@@ -137,7 +138,7 @@ module _ (one : OrderOne) (x y : List ℕ) (answer : Answer) where
           over (subst P (same_entries found given.found same) is)
 
 -- `audit` is carried out over what gives a report
-audit_complete : ReportOne → (roster rules : List ℕ) (logs : List (List ℕ)) (files : List (Option (List ℕ)))
+audit_complete : FilesGiveOneReport → (roster rules : List ℕ) (logs : List (List ℕ)) (files : List (Option (List ℕ)))
     (answer : Answer) (report : AuditReport) → GivesReport roster (source_named rules) logs files (Ok report) →
     IsAuditOver roster rules logs files answer → IsCarriedOut answer.status
 audit_complete one roster rules logs files answer report given (inl (refusal, gives, e)) =
@@ -164,7 +165,7 @@ demonstration_complete one sessions answer (half, is_half, machines, report, aud
         with_status answer _ (status_is answer (demonstration_answer sessions shown) e) (of_outcome shown.outcome)
 
 -- so is each command
-command_complete : SayOne → PlayOne → OrderOne → ReportOne → ShowOne → (command : Command)
+command_complete : SayOne → PlayOne → OrderOne → FilesGiveOneReport → ShowOne → (command : Command)
     (files : List (Option (List ℕ))) (answer : Answer) → IsCommandAnswer command files answer →
     AreAccepted command files →
     IsCarriedOut answer.status
@@ -193,7 +194,7 @@ no_cut old new fault (inl risen) = fault.writes risen
 no_cut old new fault (inr risen) = fault.output risen
 
 -- what was done where no count of faults rose is complete
-pub complete : SayOne → PlayOne → OrderOne → ReportOne → ShowOne → (IsDone : Command → Type 0)
+pub complete : SayOne → PlayOne → OrderOne → FilesGiveOneReport → ShowOne → (IsDone : Command → Type 0)
     (words : List (List ℕ)) (old : Outside) (how : Status) (new : Outside) →
     HasDone (AnswersWords IsDone words) (λ _ _. ⊤) old how new → IsComplete IsDone words old how new
 complete one way orders reports shows IsDone words old how new = by how

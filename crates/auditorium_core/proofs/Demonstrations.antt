@@ -21,7 +21,7 @@ use Rattle.rule_engine.specs.declared.verdict.Verdict.{Verdict}
 use Rattle.rule_engine.specs.declared.verdict.Verdict.TheVariants as verdict
 use Rattle.polling_world.specs.Keys.{roster_of}
 use Rattle.polling_world.specs.Machines.{MachineState}
-use Rattle.polling_world.specs.Playing.{IsPlayed}
+use Rattle.polling_world.specs.Playing.{IsPlayed, ScriptsArePlayedInOneWay}
 use Rattle.polling_world.specs.Worlds.{machine_of, world_of}
 use Rattle.evidence.specs.declared.fault.AuditFault.{AuditFault}
 use Rattle.evidence.specs.Refusal.{Refusal, refusal_of}
@@ -45,19 +45,15 @@ use Rattle.auditorium_core.specs.Demonstrated.{IsAnswerOfShown, IsDemonstrationA
 use Rattle.auditorium_core.specs.Demonstrated.{GivesDemonstration, TellsNoneBroken, demonstration_answer}
 use Rattle.auditorium_core.proofs.AuditAnswers.{not_absent}
 use Rattle.auditorium_core.proofs.Faults.{IsAnswerOfFault, refused_or}
-use Rattle.auditorium_core.proofs.HonestAudits.{only_broken}
+use Rattle.auditorium_core.proofs.HonestAudits.{only_broken, AreNeverBroken}
 use Rattle.auditorium_core.proofs.ShortFiles.{none_over_limit}
 
 -- what is known of plays, and of audits by the standard rules of what is left of honest places
 pub record AreKnown : Type 0 where
   -- a script is played in one way
-  pub one_play : (script : Script) (machines others : List MachineState) → IsPlayed script machines →
-      IsPlayed script others → machines ≡ others
+  pub one_play : ScriptsArePlayedInOneWay
   -- where digests differ, no report by the standard rules on what is left of such a place says that one is broken
-  pub unbroken : (script : Script) (w : World SealedEntry) (roster : Option (List ℕ)) → IsRosterOf script w roster →
-      Distinct node_of_sealed (sent_in w) → (files : List (Option (List ℕ))) → AreFilesOf w files →
-      (name : List ℕ) (names : List (List ℕ)) (report : AuditReport) →
-      GivesReport name standard names (roster ∷ files) (Ok report) → SaysNoneBroken report
+  pub unbroken : AreNeverBroken
   -- and such an audit is refused only for a log over its limit or for a too wide rule
   pub refuses : (script : Script) (w : World SealedEntry) (roster : Option (List ℕ)) → IsRosterOf script w roster →
       Distinct node_of_sealed (sent_in w) → (files : List (Option (List ℕ))) → AreFilesOf w files →

@@ -11,12 +11,13 @@ use Rattle.std.specs.declared.cmp.Ordering.TheVariants.{Less, Equal, Greater}
 use Rattle.std.proofs.lemmas.Bool.{ltb-true}
 use Rattle.std.proofs.lemmas.Slice.Eq.{bytes_eq-Decides}
 use Rattle.std.proofs.lemmas.Cmp.{nat_list_cmp_total}
-use Rattle.std.proofs.lemmas.Option.{slice_get-get_or, slice_get_within, get_or_from_slice_get, same_Some}
+use Rattle.std.proofs.lemmas.Option.{slice_get-get_or, slice_get_within}
 use borrow.Author.Count.{below_more}
 use Rattle.roster.specs.declared.post.Post.{Post}
 use Rattle.entry_format.specs.SealedEntry.{SealedEntry}
 use Rattle.auditorium_core.specs.EntryWords.{IsNumbered, IsNamedBy, by_number}
 use Rattle.auditorium_core.specs.inside.EntryNames.{IsPlaceOf, IsLowerAt}
+use Rattle.entry_order.proofs.Places.{member_at, one_at}
 
 -- e has a lower digest than f
 abbrev pub IsUnder : SealedEntry → SealedEntry → Type 0
@@ -28,14 +29,6 @@ not_under_itself e under =
     let no : Less ≡ Greater = sym under ∙ nat_list_cmp_total.antisymm e.digest e.digest
     ∙ ap ordering_reverse under in cc
 
--- one place has one entry
-pub one_entry : {T : Type 0} (S : List T) (i : ℕ) (e f : T) → slice_get S i ≡ Some e → slice_get S i ≡ Some f → e ≡ f
-one_entry S i e f p q = same_Some e f (sym p ∙ q)
-
--- what stands at a place is in the list
-pub place_has : {T : Type 0} (S : List T) (i : ℕ) (e : T) → slice_get S i ≡ Some e → Contains S e
-place_has S i e is = (i, slice_get_within S i e is, get_or_from_slice_get S i e e is)
-
 module _ (P : SealedEntry → Type 0) (S : List SealedEntry) where
   -- P holds of no entry before this place
   abbrev pub NoneBefore : ℕ → Type 0
@@ -45,7 +38,7 @@ module _ (P : SealedEntry → Type 0) (S : List SealedEntry) where
   pub none_more : (at : ℕ) (e : SealedEntry) → slice_get S at ≡ Some e → ¬ P e → NoneBefore at → NoneBefore (at + 1)
   none_more at e is not_this before =
       below_more (λ i. (f : SealedEntry) → slice_get S i ≡ Some f → ¬ P f) at before
-      (λ f same holds. not_this (subst P (sym (one_entry S at e f is same)) holds))
+      (λ f same holds. not_this (subst P (sym (one_at S at e f is same)) holds))
 
   -- where all places are looked at, it holds of no entry of S
   pub none_at_all : (at : ℕ) → length S ≤ at → NoneBefore at → IsPlaceOf P S None
@@ -73,7 +66,7 @@ module _ (P : SealedEntry → Type 0) (S : List SealedEntry) where
     holds,
     below_more (λ i. (f : SealedEntry) → slice_get S i ≡ Some f → P f → ¬ IsUnder f e) at
         (λ i low f same has. absurd (before i low f same has))
-        (λ f same has under. not_under_itself e (subst (λ g. IsUnder g e) (sym (one_entry S at e f is same)) under)),
+        (λ f same has under. not_under_itself e (subst (λ g. IsUnder g e) (sym (one_at S at e f is same)) under)),
   )
   least_here at (Some place) e is holds (g, h, at_g, at_h, lower) (k, at_k, has_k, least) = (
     e,
@@ -82,9 +75,9 @@ module _ (P : SealedEntry → Type 0) (S : List SealedEntry) where
     below_more (λ i. (f : SealedEntry) → slice_get S i ≡ Some f → P f → ¬ IsUnder f e) at
         (λ i low f same has under. least i low f same has
         (nat_list_cmp_total.trans f.digest e.digest k.digest under
-        (subst (λ u. IsUnder e u) (one_entry S place h k at_h at_k)
-        (subst (λ u. IsUnder u h) (one_entry S at g e at_g is) lower))))
-        (λ f same has under. not_under_itself e (subst (λ u. IsUnder u e) (sym (one_entry S at e f is same)) under)),
+        (subst (λ u. IsUnder e u) (one_at S place h k at_h at_k)
+        (subst (λ u. IsUnder u h) (one_at S at g e at_g is) lower))))
+        (λ f same has under. not_under_itself e (subst (λ u. IsUnder u e) (sym (one_at S at e f is same)) under)),
   )
 
   -- the entry at this place is none of them
@@ -96,7 +89,7 @@ module _ (P : SealedEntry → Type 0) (S : List SealedEntry) where
     at_k,
     has_k,
     below_more (λ i. (f : SealedEntry) → slice_get S i ≡ Some f → P f → ¬ IsUnder f k) at least
-        (λ f same has. absurd (not_this (subst P (sym (one_entry S at e f is same)) has))),
+        (λ f same has. absurd (not_this (subst P (sym (one_at S at e f is same)) has))),
   )
 
   -- or its digest isn't lower
@@ -134,7 +127,7 @@ named_at posts machines place post shown machine answer same within is name told
     let decides = bytes_eq-Decides shown machine in (
       λ yes. (post, at, sym name ∙ decides.0 (sym told ∙ yes)),
       λ (p, at_p, named).
-          let one : post ≡ p = one_entry machines place post p at at_p in
+          let one : post ≡ p = one_at machines place post p at at_p in
           told ∙ decides.1 (name ∙ ap (λ (q : Post). q.name) one ∙ named),
     )
 
@@ -159,8 +152,8 @@ lower_at S at other e f d c answer at_e at_f same_d same_c told =
       λ yes. (e, f, at_e, at_f, less (slice_cmp nat_cmp e.digest f.digest) (sym told' ∙ yes)),
       λ (g, h, at_g, at_h, under).
           told'
-          ∙ ap (λ (u : SealedEntry). is_lt (slice_cmp nat_cmp u.digest f.digest)) (one_entry S at e g at_e at_g)
-          ∙ ap (λ (u : SealedEntry). is_lt (slice_cmp nat_cmp g.digest u.digest)) (one_entry S other f h at_f at_h)
+          ∙ ap (λ (u : SealedEntry). is_lt (slice_cmp nat_cmp u.digest f.digest)) (one_at S at e g at_e at_g)
+          ∙ ap (λ (u : SealedEntry). is_lt (slice_cmp nat_cmp g.digest u.digest)) (one_at S other f h at_f at_h)
           ∙ ap is_lt under,
     )
   where
@@ -178,4 +171,4 @@ number_found machines machine number S at None past before =
     λ f has (also, numbered, low). none_at_all (IsNumbered machines machine number) S at past before f has numbered
 number_found machines machine number S at (Some place) past before =
     let (e, is, numbered, least) = least_of_all (IsNumbered machines machine number) S at place past before in
-    (e, is, (place_has S place e is, numbered, least))
+    (e, is, (member_at S place e is, numbered, least))

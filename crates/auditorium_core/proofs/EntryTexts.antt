@@ -12,9 +12,9 @@ use Rattle.hall_text.specs.Words.{IsDigestText}
 use Rattle.roster.specs.Machines.{IsNameByte, IsName}
 use Rattle.roster.specs.declared.post.Post.{Post}
 use Rattle.entry_format.specs.SealedEntry.{SealedEntry}
-use Rattle.auditorium_core.proofs.EntryPlaces.{place_has}
 use Rattle.auditorium_core.specs.EntryWords.{EntryName, by_digest, by_number, IsSpelt, IsNamedBy, MeansEntry}
 use Rattle.auditorium_core.specs.inside.EntryNames.{IsFirstDot, IsPlaceOf}
+use Rattle.entry_order.proofs.Places.{member_at}
 
 -- in front of the first dot stands one text, and behind it one
 one_split : (a b c d : List ℕ) → All (λ byte. byte ≢ 46) a → All (λ byte. byte ≢ 46) c → a ++ 46 ∷ b ≡ c ++ 46 ∷ d →
@@ -109,4 +109,4 @@ place_means machines S word name P None spelt to from none =
     λ e has (other, said, named). none e has
     (from e (subst (λ n. IsNamedBy machines S n e) (sym (one_name word name other spelt said)) named))
 place_means machines S word name P (Some at) spelt to from (e, is, holds) =
-    (e, is, (name, spelt, to e (place_has S at e is) holds))
+    (e, is, (name, spelt, to e (member_at S at e is) holds))

@@ -26,6 +26,14 @@ use Rattle.auditorium_core.specs.Audit.{IsAuditOver, report_answer, status_by}
 use Rattle.auditorium_core.specs.HonestAudit.{IsAuditAnswer, IsAuditOfPlace, IsOfReport}
 use Rattle.auditorium_core.proofs.ShortFiles.{none_over_limit}
 
+-- where digests differ, a report by the standard rules on what is left of such a place says of none that it is broken
+abbrev pub AreNeverBroken : Type 0
+AreNeverBroken =
+    (script : Script) (w : World SealedEntry) (roster : Option (List ℕ)) → IsRosterOf script w roster →
+    Distinct node_of_sealed (sent_in w) → (files : List (Option (List ℕ))) → AreFilesOf w files →
+    (name : List ℕ) (names : List (List ℕ)) (report : AuditReport) →
+    GivesReport name standard names (roster ∷ files) (Ok report) → SaysNoneBroken report
+
 -- what is known of the audits of what is left of honest places
 pub record AreKnown : Type 0 where
   -- where digests differ, a report on what is left of such a place accuses nobody, whatever the rules are
@@ -35,10 +43,7 @@ pub record AreKnown : Type 0 where
       GivesReport name source names (files_read roster source rules files) (Ok report) →
       IsHonestReport script w names files report
   -- by the standard rules it says of none that it is broken
-  pub unbroken : (script : Script) (w : World SealedEntry) (roster : Option (List ℕ)) → IsRosterOf script w roster →
-      Distinct node_of_sealed (sent_in w) → (files : List (Option (List ℕ))) → AreFilesOf w files →
-      (name : List ℕ) (names : List (List ℕ)) (report : AuditReport) →
-      GivesReport name standard names (roster ∷ files) (Ok report) → SaysNoneBroken report
+  pub unbroken : AreNeverBroken
   -- over files among which is the whole log of each machine, it says of each that it is kept
   pub kept : (script : Script) (w : World SealedEntry) (roster : Option (List ℕ)) → IsRosterOf script w roster →
       (files : List (Option (List ℕ))) → AreFilesOf w files → AreAllFilesOf w files → (name : List ℕ)

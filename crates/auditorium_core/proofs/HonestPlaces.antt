@@ -1,15 +1,14 @@
 -- The logs of machines, as they are written, are the logs of each world with their histories.
-use Rattle.std.proofs.Common.{◌≡◌, ◌∙◌, ℕ, ◌<◌, zero, suc, inl, inr, List, [], ◌∷◌, length, Option, Some, None}
-use Rattle.std.proofs.Common.{refl, ap, sym, subst, arith}
-use Rattle.std.specs.Prelude.{slice_get, All, IsSomeAnd, option_map}
+use Rattle.std.proofs.Common.{◌≡◌, ◌∙◌, ℕ, ◌<◌, inl, inr, List, length, Option, Some, None, refl, ap, sym, subst, arith}
+use Rattle.std.specs.Prelude.{slice_get, IsSomeAnd, option_map}
 use Rattle.std.specs.List.{Contains}
 use Rattle.std.proofs.lemmas.List.{length-map}
-use Rattle.std.proofs.lemmas.List.Elements.{All-nil, All-cons}
 use Rattle.std.proofs.lemmas.Option.{slice_get_cases, slice_get-map}
 use Rattle.entry_order.specs.declared.event.Event.{Event}
 use Rattle.entry_order.specs.declared.step.Step.{Step}
 use Rattle.entry_order.specs.World.{World, history}
 use Rattle.entry_order.proofs.Lists.{Contains-map}
+use Rattle.entry_order.proofs.Places.{all_from_places, member_at}
 use Rattle.entry_format.specs.SealedEntry.{SealedEntry}
 use Rattle.log_files.specs.Written.{log_text}
 use Rattle.election_script.specs.declared.script.Script.{Script}
@@ -19,18 +18,9 @@ use Rattle.polling_world.specs.Playing.{ComesTo, IsPlayed}
 use Rattle.polling_world.specs.Worlds.{machine_of, world_of}
 use Rattle.polling_world.proofs.Placing.{history_there}
 use Rattle.honest_logs.specs.LeftFiles.{AreAllFilesOf, written_logs}
-use Rattle.honest_logs.proofs.ReadLogs.{there_is}
+use Rattle.honest_logs.proofs.PlayedFiles.{file_of}
 use Rattle.honest_reports.specs.Places.{AreWholeFilesOf, IsWholeIn}
 use Rattle.auditorium_core.specs.HonestPlace.{LeaveHonestFiles}
-
--- what holds at each place holds of all
-each_place : {X : Type 0} (P : X → Type 0) (xs : List X) → ((i : ℕ) (x : X) → slice_get xs i ≡ Some x → P x) → All P xs
-each_place P [] each = All-nil P
-each_place P (x ∷ xs) each = All-cons P x xs (each zero x refl) (each_place P xs (λ i y at. each (suc i) y at))
-
--- the file of a machine's whole log
-abbrev file_of : MachineState → Option (List ℕ)
-file_of m = Some (log_text m.config.number m.events)
 
 module _ (machines : List MachineState) (w : World SealedEntry) (many : length w ≡ length machines)
     (numbered : (place : ℕ) (m : MachineState) → slice_get machines place ≡ Some m → m.config.number ≡ place)
@@ -55,7 +45,7 @@ module _ (machines : List MachineState) (w : World SealedEntry) (many : length w
   -- each file is one
   whole_files : AreWholeFilesOf w (written_logs machines)
   whole_files =
-      each_place (λ (file : Option (List ℕ)). IsSomeAnd file (IsWholeIn w)) (written_logs machines) by
+      all_from_places (λ (file : Option (List ℕ)). IsSomeAnd file (IsWholeIn w)) (written_logs machines) by
     where
       -- the file at a place is that of the machine there
       by : (place : ℕ) (file : Option (List ℕ)) → slice_get (written_logs machines) place ≡ Some file →
@@ -76,7 +66,7 @@ module _ (machines : List MachineState) (w : World SealedEntry) (many : length w
       elim (slice_get_cases machines place).1 [
         | inl (m, within, at, e) ↦
             subst (λ (file : Option (List ℕ)). Contains (written_logs machines) file) (file_at place m at)
-            (Contains-map file_of machines m (there_is machines place m at))
+            (Contains-map file_of machines m (member_at machines place m at))
         | inr past ↦ absurd (omega (arith, below, past.0, many))
       ]
 

@@ -1,7 +1,7 @@
 -- Words and files have at most one answer.
 use Rattle.std.proofs.Common.{◌≡◌, ◌∙◌, ℕ, ◌<◌, ◌≤◌, ◌⊎◌, inl, inr, List, ◌++◌, [], ◌∷◌, Option, Some, None, length}
 use Rattle.std.proofs.Common.{get_or, ap, sym, subst, arith}
-use Rattle.std.specs.Prelude.{codes, Result}
+use Rattle.std.specs.Prelude.{codes}
 use Rattle.std.specs.Fmt.{decimal}
 use Rattle.std.proofs.lemmas.Fmt.{decimal_injective}
 use Rattle.entry_order.specs.Survivors.{gaps as gaps_of}
@@ -16,15 +16,13 @@ use Rattle.log_files.specs.LogText.{HasHeader, Says}
 use Rattle.log_files.specs.LogFile.{max_bytes, IsLogRefused}
 use Rattle.hall_outside.specs.Files.{Files}
 use Rattle.report_lines.specs.Lines.{refused_lines, end_line, gap_lines}
-use Rattle.evidence.specs.Refusal.{Refusal}
-use Rattle.evidence.specs.Same.{Agree}
 use Rattle.auditor.specs.declared.outcome.Outcome.{Outcome}
 use Rattle.auditor.specs.Report.{AuditReport}
 use Rattle.auditor.specs.Outcomes.{outcome_of}
 use Rattle.auditor.specs.ReportText.{report_text}
 use Rattle.auditor.specs.Same.{SameReport}
-use Rattle.auditor.specs.Sources.{RuleSource}
 use Rattle.auditor.specs.Audits.{GivesReport}
+use Rattle.auditor.specs.OneReport.{FilesGiveOneReport}
 use Rattle.auditorium_core.specs.Audit.{status_by, report_answer, IsAuditOf, IsAuditOver}
 use Rattle.auditorium_core.specs.Words.{Command, gaps, play, order, audit, generate, demonstrate, run, source_named}
 use Rattle.auditorium_core.specs.Words.{words_of_command}
@@ -162,13 +160,6 @@ same_command words a b m n =
     (sym m.spelt ∙ n.spelt) in
     absurd (omega (arith, first))
 
--- files give at most one report
-abbrev pub ReportOne : Type 0
-ReportOne =
-    (roster : List ℕ) (source : RuleSource) (logs : List (List ℕ)) (files : List (Option (List ℕ)))
-    (answer other : Result AuditReport Refusal) → GivesReport roster source logs files answer →
-    GivesReport roster source logs files other → Agree SameReport answer other
-
 -- a report has one answer
 same_told : (report other : AuditReport) → SameReport report other → report_answer report ≡ report_answer other
 same_told report other same =
@@ -176,7 +167,7 @@ same_told report other same =
     ∙ ap (λ (t : List ℕ). record { status = status_by (outcome_of other); files = []; output = t }) same.text
 
 -- so an audit has
-same_audit : ReportOne → (roster rules : List ℕ) (logs : List (List ℕ)) (files : List (Option (List ℕ)))
+same_audit : FilesGiveOneReport → (roster rules : List ℕ) (logs : List (List ℕ)) (files : List (Option (List ℕ)))
     (a b : Answer) → IsAuditOver roster rules logs files a → IsAuditOver roster rules logs files b → a ≡ b
 same_audit one roster rules logs files a b =
     same_or SameReport (GivesReport roster (source_named rules) logs files) IsAuditOf a b
@@ -184,7 +175,7 @@ same_audit one roster rules logs files a b =
     (λ f g gives same x y. x.told ∙ same_told f g same ∙ sym y.told)
 
 -- without threads a command has one answer over files
-same_answer : SayOne → PlayOne → OrderOne → ReportOne → ShowOne → (command : Command) → IsStill command →
+same_answer : SayOne → PlayOne → OrderOne → FilesGiveOneReport → ShowOne → (command : Command) → IsStill command →
     (files : List (Option (List ℕ))) (a b : Answer) → IsCommandAnswer command files a →
     IsCommandAnswer command files b → a ≡ b
 same_answer one way orders reports shows (gaps log) still (file ∷ []) a b x y = same_gaps one log file a b x y
@@ -201,7 +192,7 @@ same_answer one way orders reports shows (run script prefix) still files a b x y
 same_answer one way orders reports shows command still files a b x y = absurd x
 
 -- and over files that are told
-same_answer_to : SayOne → PlayOne → OrderOne → ReportOne → ShowOne → (command : Command) → IsStill command →
+same_answer_to : SayOne → PlayOne → OrderOne → FilesGiveOneReport → ShowOne → (command : Command) → IsStill command →
     (told : Files) (a b : Answer) → IsAnswerTo command (Some told) a → IsAnswerTo command (Some told) b → a ≡ b
 same_answer_to one way orders reports shows command still told a b (files, are, is) (others, are', is') =
     let P : List (Option (List ℕ)) → Type 0 = λ fs. IsCommandAnswer command fs b in
@@ -209,7 +200,7 @@ same_answer_to one way orders reports shows command still told a b (files, are, 
     (subst P (same_files told (files_of command) others files are' are) is')
 
 -- so have any words
-pub one_answer : SayOne → PlayOne → OrderOne → ReportOne → ShowOne → (words : List (List ℕ)) (files : Files)
+pub one_answer : SayOne → PlayOne → OrderOne → FilesGiveOneReport → ShowOne → (words : List (List ℕ)) (files : Files)
     (a b : Answer) → AnswersWords IsStill words (Some files) a → AnswersWords IsStill words (Some files) b → a ≡ b
 one_answer one way orders reports shows words files a b (inl (command, still, means, is))
     (inl (other, still', means', is')) =

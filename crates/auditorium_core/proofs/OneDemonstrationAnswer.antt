@@ -1,14 +1,12 @@
 -- A number of sessions has at most one answer to `demo`.
-use Rattle.std.proofs.Common.{◌≡◌, ◌∙◌, ℕ, List, inl, inr, ap, sym, subst, arith}
+use Rattle.std.proofs.Common.{◌≡◌, ◌∙◌, ℕ, inl, inr, ap, sym, subst, arith}
 use Rattle.std.specs.Prelude.{Result, Ok, Err}
 use Rattle.election_script.specs.declared.script.Script.{Script}
 use Rattle.election_script.specs.Generated.{generated}
-use Rattle.polling_world.specs.Machines.{MachineState}
 use Rattle.evidence.specs.Refusal.{Refusal}
 use Rattle.evidence.specs.Same.{Agree}
-use Rattle.auditor.specs.Report.{AuditReport}
 use Rattle.demonstration.specs.declared.shown.Demonstration.{Demonstration}
-use Rattle.demonstration.specs.Shown.{IsAudited, IsDemonstrationOf, IsRefusedSo}
+use Rattle.demonstration.specs.OneShown.{ScriptsAreShownInOneWay, ScriptsAreRefusedInOneWay, ScriptsAreShownOrRefused}
 use Rattle.auditorium_core.specs.Lines.{Answer, OrRefused}
 use Rattle.auditorium_core.specs.Demonstrated.{IsHalfOf, GivesDemonstration, demonstration_answer}
 use Rattle.auditorium_core.specs.Demonstrated.{IsDemonstrationAnswer}
@@ -17,14 +15,11 @@ use Rattle.auditorium_core.proofs.SameOr.{same_or}
 -- a script shows one thing or is refused in one way, and not both
 pub record ShowOne : Type 0 where
   -- what any two demonstrations of a script count is the same
-  pub shown : (script : Script) (session : ℕ) (shown other : Demonstration) → IsDemonstrationOf script session shown
-      → IsDemonstrationOf script session other → shown ≡ other
+  pub shown : ScriptsAreShownInOneWay
   -- and any two refusals are one
-  pub refused : (script : Script) (session : ℕ) (refusal other : Refusal) → IsRefusedSo script session refusal
-      → IsRefusedSo script session other → refusal ≡ other
+  pub refused : ScriptsAreRefusedInOneWay
   -- where the audit gives a report, it isn't refused
-  pub either : (script : Script) (session : ℕ) (machines : List MachineState) (report : AuditReport)
-      (refusal : Refusal) → IsAudited script session machines (Ok report) → ¬ IsRefusedSo script session refusal
+  pub either : ScriptsAreShownOrRefused
 
 -- a number has one half, rounded up
 pub same_half : (sessions half other : ℕ) → IsHalfOf sessions half → IsHalfOf sessions other → half ≡ other

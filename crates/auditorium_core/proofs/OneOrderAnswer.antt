@@ -1,6 +1,5 @@
 -- Files have at most one answer to `order`.
 use Rattle.std.proofs.Common.{◌≡◌, ◌≢◌, ◌∙◌, ℕ, inl, inr, List, [], ◌∷◌, ◌++◌, Option, refl, ap, sym, subst}
-use Rattle.std.specs.Prelude.{Result, Ok}
 use Rattle.std.specs.List.{Contains}
 use Rattle.std.specs.Cmp.Lexicographic.{slice_cmp}
 use Rattle.std.specs.Ordering.{nat_cmp, ordering_reverse}
@@ -16,11 +15,12 @@ use Rattle.entry_format.specs.Nodes.{node_of_sealed}
 use Rattle.log_files.specs.declared.sealed_log.LogRead.{LogRead}
 use Rattle.entry_graph.specs.EntryGraph.{EntryGraph}
 use Rattle.evidence.specs.declared.roster_file.RosterRead.{RosterRead}
-use Rattle.evidence.specs.Refusal.{Refusal}
 use Rattle.evidence.specs.RosterFile.{GivesRoster}
 use Rattle.evidence.specs.Logs.{GivesLogs}
 use Rattle.evidence.specs.Graphs.{entries_of, GivesGraph}
-use Rattle.evidence.specs.Same.{Agree, SameLogs, SameGraph}
+use Rattle.evidence.specs.Same.{SameLogs, SameGraph}
+use Rattle.evidence.specs.OneAnswer.{RosterFilesGiveOneAnswer, LogFilesGiveOneAnswer, EntriesGiveOneGraph}
+use Rattle.evidence.specs.OneAnswer.{SurvivorsAreDistinct, NoSurvivorPrecedesItself}
 use Rattle.evidence.proofs.OneLogs.{same_entries}
 use Rattle.auditorium_core.specs.declared.order_word.OrderWord.{OrderWord}
 use Rattle.auditorium_core.specs.declared.order_word.OrderWord.TheVariants as says
@@ -34,21 +34,15 @@ use Rattle.auditorium_core.proofs.SameOr.{same_or, agree_equal}
 -- files give one roster and one list of logs, entries give one graph, and its survivors are sound
 pub record OrderOne : Type 0 where
   -- a roster's file gives one answer
-  pub roster : (name : List ℕ) (file : Option (List ℕ)) (answer other : Result RosterRead Refusal)
-      → GivesRoster name file answer → GivesRoster name file other → answer ≡ other
+  pub roster : RosterFilesGiveOneAnswer
   -- the files of logs give logs that say the same, or one refusal
-  pub logs : (machines : List Post) (election : List ℕ) (names : List (List ℕ)) (files : List (Option (List ℕ)))
-      (answer other : Result (List LogRead) Refusal) → GivesLogs machines election names files answer
-      → GivesLogs machines election names files other → Agree SameLogs answer other
+  pub logs : LogFilesGiveOneAnswer
   -- given entries have graphs that tell the same, or one refusal
-  pub graph : (given : List SealedEntry) (answer other : Result (EntryGraph SealedEntry) Refusal)
-      → GivesGraph given answer → GivesGraph given other → Agree SameGraph answer other
+  pub graph : EntriesGiveOneGraph
   -- no two survivors have one digest
-  pub digests : (given : List SealedEntry) (graph : EntryGraph SealedEntry) → GivesGraph given (Ok graph)
-      → Distinct node_of_sealed graph.survivors
+  pub digests : SurvivorsAreDistinct
   -- and none precedes itself
-  pub no_cycle : (given : List SealedEntry) (graph : EntryGraph SealedEntry) (e : SealedEntry)
-      → GivesGraph given (Ok graph) → ¬ Precedes node_of_sealed graph.survivors e e
+  pub no_cycle : NoSurvivorPrecedesItself
 
 -- a path goes on
 path_on : (S : List SealedEntry) (f : SealedEntry) (bs : List SealedEntry) (g : SealedEntry) (cs : List SealedEntry)

@@ -9,8 +9,8 @@ use Rattle.election_script.specs.Reading.{Reads}
 use Rattle.polling_world.specs.declared.left.Left.{Left}
 use Rattle.polling_world.specs.Keys.{roster_of}
 use Rattle.polling_world.specs.Machines.{MachineState}
-use Rattle.polling_world.specs.Playing.{IsPlayed}
-use Rattle.polling_world.specs.Waiting.{IsLeft}
+use Rattle.polling_world.specs.Playing.{ScriptsArePlayedInOneWay}
+use Rattle.polling_world.specs.Waiting.{WhatIsLeftIsToldInOneWay}
 use Rattle.election_script.specs.CauseWords.{script_why_word}
 use Rattle.evidence.specs.Refusal.{Refusal, refused}
 use Rattle.auditorium_core.specs.Lines.{Answer}
@@ -24,11 +24,9 @@ pub record PlayOne : Type 0 where
   pub reading : (text : List ℕ) (answer other : Result Script ScriptFault) → Reads text answer → Reads text other
       → answer ≡ other
   -- what the script's machines come to is one
-  pub played : (script : Script) (machines others : List MachineState) → IsPlayed script machines
-      → IsPlayed script others → machines ≡ others
+  pub played : ScriptsArePlayedInOneWay
   -- for each machine nothing is left, or one action with one cause
-  pub left : (machine : MachineState) (left other : Option Left) → IsLeft machine left → IsLeft machine other
-      → left ≡ other
+  pub left : WhatIsLeftIsToldInOneWay
 
 -- the lines on what is left are the same
 same_undone : PlayOne → (machines : List MachineState) (lines others : List ℕ) → SayUndone machines lines

@@ -3,6 +3,7 @@ use Rattle.std.proofs.Common.{◌≡◌, ◌∙◌, ℕ, List, ◌∷◌, Option
 use Rattle.std.specs.Prelude.{Result, Ok, Err, IfOk}
 use Rattle.hall_outside.specs.Files.{Files}
 use Rattle.entry_order.specs.Settled.{PathsAreSettled}
+use Rattle.entry_order.proofs.Places.{member_at}
 use Rattle.roster.specs.declared.post.Post.{Post}
 use Rattle.entry_format.specs.SealedEntry.{SealedEntry}
 use Rattle.entry_format.specs.Nodes.{node_of_sealed}
@@ -21,7 +22,6 @@ use Rattle.auditorium_core.specs.Order.{IsOrderAmong, IsOrderOver, IsOrderOverLo
 use Rattle.auditorium_core.specs.Words.{order}
 use Rattle.auditorium_core.specs.Answer.{IsAnswerTo}
 use Rattle.auditorium_core.specs.inside.EntryNames.{IsPlaceOf, IsWordAt}
-use Rattle.auditorium_core.proofs.EntryPlaces.{place_has}
 use Rattle.auditorium_core.proofs.EntryTexts.{named_has}
 use Rattle.auditorium_core.proofs.OrderWords.{word_is_settled}
 
@@ -61,8 +61,8 @@ module _ {E : Type 0} (machines : List Post) (S : List SealedEntry) (x y : List 
           record {
             word = word;
             right = is;
-            settled = word_is_settled paths (length machines) S e f word (place_has S at e at_e)
-                (place_has S other f at_f) is;
+            settled = word_is_settled paths (length machines) S e f word (member_at S at e at_e)
+                (member_at S other f at_f) is;
             told = told ∙ ap (line_answer status.Done) shown;
           },
         ),

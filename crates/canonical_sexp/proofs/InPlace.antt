@@ -9,7 +9,7 @@ use Rattle.canonical_sexp.specs.declared.sexp.Sexp.{Sexp}
 use Rattle.canonical_sexp.specs.declared.sexp.Sexp.TheVariants.{Atom, List as Branch}
 use Rattle.canonical_sexp.specs.Forest.{Forest, no_trees, atom_then, list_then}
 use Rattle.canonical_sexp.specs.Sexp.{in_front, members_of}
-use Rattle.canonical_sexp.specs.Text.{text_of, texts_of, atom_text, AreWithin, Fits, IsProperPrefixOfText}
+use Rattle.canonical_sexp.specs.Text.{text_of, texts_of, atom_text, AreWithin, Fits, IsProperPrefixOfText, max_octets}
 use Rattle.canonical_sexp.specs.declared.read.Why.{Why}
 use Rattle.canonical_sexp.specs.Causes.{is_digit, at_start, length_fault}
 use Rattle.canonical_sexp.specs.Reading.{IsFirstBad}
@@ -43,7 +43,7 @@ row_spelt bytes row fits e =
     (row, (fits, e, λ other other_fits is. same_members other row other_fits fits (sym is ∙ e)))
 
 -- what is within the limits at a depth is so at a greater one
-more_deep : (d e : ℕ) (row : Forest) → d ≤ e → AreWithin d row → AreWithin e row
+pub more_deep : (d e : ℕ) (row : Forest) → d ≤ e → AreWithin d row → AreWithin e row
 more_deep d e no_trees le h = tt
 more_deep d e (atom_then octets rest) le (small, within) = (small, more_deep d e rest le within)
 more_deep d e (list_then inner rest) le (nests, few, members, within) =
@@ -169,7 +169,8 @@ listed bytes (Branch row) fits e begins =
     }
 
 -- an atom's text begins with a digit
-pub begins_low : (bytes octets : List ℕ) → length octets ≤ 262144 → bytes ≡ atom_text octets → get_or bytes 0 0 ≡ 40 → ⊥
+pub begins_low : (bytes octets : List ℕ) → length octets ≤ max_octets → bytes ≡ atom_text octets →
+    get_or bytes 0 0 ≡ 40 → ⊥
 begins_low [] octets small e begins = omega arith
 begins_low (c ∷ bytes) octets small e begins =
     no_atom octets bytes [] c small (omega arith) (e ∙ sym (append-nil (atom_text octets)))
@@ -181,7 +182,7 @@ digit_in c low high = grind (arith, nat_tests)
 -- the bytes are the text of an atom, and begin with a digit
 pub record IsAtomText (bytes : List ℕ) : Type 0 where
   pub octets : List ℕ
-  pub few : length octets ≤ 262144
+  pub few : length octets ≤ max_octets
   pub spelt : bytes ≡ atom_text octets
   pub digit : IsTrue (is_digit (get_or bytes 0 0))
 
@@ -197,8 +198,9 @@ is_atom (c ∷ bytes) (Atom octets) fits e other =
 is_atom bytes (Branch row) fits e other = absurd (other (ap (λ bs. get_or bs 0 0) e))
 
 -- the octets stand behind the length and its colon
-pub behind_length : (bytes octets : List ℕ) (count used : ℕ) → length octets ≤ 262144 → bytes ≡ atom_text octets →
-    count ≤ 262144 → take used bytes ≡ decimal count ++ 58 ∷ [] → take (length bytes - used) (drop used bytes) ≡ octets
+pub behind_length : (bytes octets : List ℕ) (count used : ℕ) → length octets ≤ max_octets → bytes ≡ atom_text octets →
+    count ≤ max_octets → take used bytes ≡ decimal count ++ 58 ∷ [] →
+    take (length bytes - used) (drop used bytes) ≡ octets
 behind_length bytes octets count used small e few front =
     let whole : decimal count ++ 58 ∷ drop used bytes ≡ decimal (length octets) ++ 58 ∷ octets =
     sym (append_assoc (decimal count) (58 ∷ []) (drop used bytes)) ∙ ap (λ bs. bs ++ drop used bytes) (sym front)
@@ -210,15 +212,15 @@ behind_length bytes octets count used small e few front =
     ]
 
 -- a length that is cut short or bad begins no atom's text
-pub not_cut : (bytes octets : List ℕ) (value : ℕ) → length octets ≤ 262144 → bytes ≡ atom_text octets →
-    value ≤ 262144 → bytes ≡ decimal value → ⊥
+pub not_cut : (bytes octets : List ℕ) (value : ℕ) → length octets ≤ max_octets → bytes ≡ atom_text octets →
+    value ≤ max_octets → bytes ≡ decimal value → ⊥
 not_cut bytes octets value small e few digits =
     cut_has_none bytes (Atom octets) [] small (e ∙ sym (append-nil (atom_text octets)))
     (atom_is_cut at_start bytes tt (omega arith) (cut_in_length bytes value few digits))
 
 -- nor does one with a bad byte behind its digits
-pub not_bad : (bytes octets : List ℕ) (at value : ℕ) (why : Why) → length octets ≤ 262144 →
-    bytes ≡ atom_text octets → at < length bytes → value ≤ 262144 → take at bytes ≡ decimal value →
+pub not_bad : (bytes octets : List ℕ) (at value : ℕ) (why : Why) → length octets ≤ max_octets →
+    bytes ≡ atom_text octets → at < length bytes → value ≤ max_octets → take at bytes ≡ decimal value →
     length_fault value (slice_index bytes at) ≡ Some why → ⊥
 not_bad bytes octets at value why small e within few digits fault =
     bad_has_none bytes at (Atom octets) [] small (e ∙ sym (append-nil (atom_text octets)))

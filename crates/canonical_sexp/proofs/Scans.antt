@@ -12,7 +12,7 @@ use Rattle.canonical_sexp.proofs.Places.{atom_is_cut, is_bad_length}
 use Rattle.canonical_sexp.specs.inside.Scanning.{IsAtomScan, Scans}
 use Rattle.canonical_sexp.specs.Forest.{Forest, no_trees, count_of, joined}
 use Rattle.canonical_sexp.specs.Sexp.{in_front}
-use Rattle.canonical_sexp.specs.Text.{atom_text}
+use Rattle.canonical_sexp.specs.Text.{atom_text, max_octets, max_members}
 use Rattle.canonical_sexp.specs.Causes.{token_fault, at_start}
 use Rattle.canonical_sexp.proofs.Rows.{count_of-joined, count_of-one}
 use Rattle.canonical_sexp.proofs.Opened.{AreOpenWithin-pop}
@@ -91,7 +91,7 @@ pub record HasAround (bytes : List ℕ) (at : ℕ) (counts : List ℕ) (depth me
   -- the last count is its own
   pub count_is : get_or counts (depth - 1) 0 ≡ count_of around
   -- it has room for a member more
-  pub room : count_of around < 16384
+  pub room : count_of around < max_members
 
 -- the count that was kept last is that of the list around the innermost
 pub has_around : (bytes : List ℕ) (at : ℕ) (counts : List ℕ) (depth members : ℕ) →
@@ -151,7 +151,7 @@ scan_close bytes at counts depth members h within is some =
 
 -- an atom is one member more
 pub scan_atom_step : (bytes : List ℕ) (at used : ℕ) (counts : List ℕ) (depth members : ℕ) (octets : List ℕ) →
-    AreScanned bytes at counts depth members → members < 16384 → length octets ≤ 262144 →
+    AreScanned bytes at counts depth members → members < max_members → length octets ≤ max_octets →
     used ≤ length (drop at bytes) → take used (drop at bytes) ≡ atom_text octets →
     AreScanned bytes (at + used) counts depth (members + 1)
 scan_atom_step bytes at used counts depth members octets h room small within e =

@@ -7,9 +7,9 @@ use Rattle.std.proofs.lemmas.List.{take_more, length-take-le}
 use Rattle.std.proofs.lemmas.List.Elements.{All-nil, All-cons, All-append}
 use Rattle.std.proofs.lemmas.Option.{slice_get_within, slice_get-get_or, get_or_from_slice_get}
 use Rattle.std.proofs.lemmas.Bool.{cases_lt}
-use Rattle.std.proofs.Math.Seq.{get_or-append_seam}
 use Rattle.std.proofs.lemmas.List.{get_or_append_left}
 use Rattle.entry_order.specs.declared.event.Event.{Event}
+use Rattle.entry_order.proofs.Places.{push_before, last_at}
 use Rattle.entry_format.specs.SealedEntry.{SealedEntry}
 use Rattle.demonstration.specs.Kept.{HasNoEnd, IsLastEnd, ends_session}
 
@@ -20,21 +20,6 @@ in_front events more k e within at =
     slice_get-get_or events k e within
     ∙ ap Some (sym (get_or_append_left events (more ∷ []) e k within)
     ∙ get_or_from_slice_get (events ++ more ∷ []) k e e at)
-
--- what stands at a place stands there with one event more too
-still_there : (events : List (Event SealedEntry)) (more : Event SealedEntry) (k : ℕ) (e : Event SealedEntry) →
-    slice_get events k ≡ Some e → slice_get (events ++ more ∷ []) k ≡ Some e
-still_there events more k e at =
-    let within = slice_get_within events k e at in
-    slice_get-get_or (events ++ more ∷ []) k e (omega (arith, within, length-append events (more ∷ [])))
-    ∙ ap Some (get_or_append_left events (more ∷ []) e k within ∙ get_or_from_slice_get events k e e at)
-
--- and the event that is added stands behind all others
-at_seam : (events : List (Event SealedEntry)) (more : Event SealedEntry) →
-    slice_get (events ++ more ∷ []) (length events) ≡ Some more
-at_seam events more =
-    slice_get-get_or (events ++ more ∷ []) (length events) more (omega (arith, length-append events (more ∷ [])))
-    ∙ ap Some (get_or-append_seam events more [] more)
 
 module _ (session : ℕ) (events : List (Event SealedEntry)) (more : Event SealedEntry) where
   -- one more event that doesn't end the session leaves none
@@ -47,7 +32,7 @@ module _ (session : ℕ) (events : List (Event SealedEntry)) (more : Event Seale
   pub last_is_here : ends_session session more ≡ true → IsLastEnd session (events ++ more ∷ []) (length events)
   last_is_here is_end = record {
     event = more;
-    stands = at_seam events more;
+    stands = last_at events more;
     ends = is_end;
     last = λ later other behind at. absurd (omega (
       arith,
@@ -62,7 +47,7 @@ module _ (session : ℕ) (events : List (Event SealedEntry)) (more : Event Seale
       IsLastEnd session (events ++ more ∷ []) place
   last_stays place is differs = record {
     event = is.event;
-    stands = still_there events more place is.event is.stands;
+    stands = push_before events more place is.event is.stands;
     ends = is.ends;
     last = later_no;
   }
@@ -82,7 +67,7 @@ module _ (session : ℕ) (events : List (Event SealedEntry)) (more : Event Seale
           slice_get (events ++ more ∷ []) later ≡ Some other → more ≡ other
       here later other same at =
           let found : Some more ≡ Some other =
-          sym (at_seam events more) ∙ ap (slice_get (events ++ more ∷ [])) (sym same) ∙ at in cc
+          sym (last_at events more) ∙ ap (slice_get (events ++ more ∷ [])) (sym same) ∙ at in cc
 
       -- so none behind the place ends the session: neither those that stood there nor the one that is added
       later_no : (later : ℕ) (other : Event SealedEntry) → place < later →

@@ -1,6 +1,6 @@
 -- A script and a session show one thing, or are refused in one way.
 use Rattle.std.proofs.Common.{◌≡◌, ◌∙◌, ◌⊎◌, ℕ, ◌+◌, ◌<◌, Bool, cond, List, [], ◌∷◌, map, length, refl, sym, ap, subst}
-use Rattle.std.proofs.Common.{Option, Some, inl, inr}
+use Rattle.std.proofs.Common.{Some, inl, inr}
 use Rattle.std.specs.Prelude.{codes, count_by, take, Result, Ok, Err}
 use Rattle.std.specs.List.{AllZip, fold}
 use Rattle.std.proofs.lemmas.Bool.{false≢true, cases_order}
@@ -19,7 +19,7 @@ use Rattle.log_files.specs.Written.{log_text}
 use Rattle.honest_logs.specs.WhatIsLeft.{end_of}
 use Rattle.polling_world.specs.Keys.{roster_of}
 use Rattle.polling_world.specs.Machines.{MachineState}
-use Rattle.polling_world.specs.Playing.{IsPlayed}
+use Rattle.polling_world.specs.Playing.{ScriptsArePlayedInOneWay}
 use Rattle.polling_world.specs.Worlds.{world_of}
 use Rattle.rule_language.specs.Standard.{standard_rules}
 use Rattle.rule_engine.specs.declared.verdict.Verdict.{Verdict}
@@ -30,6 +30,8 @@ use Rattle.evidence.specs.RosterFile.{GivesRoster}
 use Rattle.evidence.specs.Logs.{GivesLogs}
 use Rattle.evidence.specs.Graphs.{entries_of, GivesGraph}
 use Rattle.evidence.specs.Same.{Agree, SameLogs, SameGraph}
+use Rattle.evidence.specs.OneAnswer.{RosterFilesGiveOneAnswer, LogFilesGiveOneAnswer}
+use Rattle.evidence.specs.OneAnswer.{SameLogsKeepTheSameEntries, EntriesGiveOneGraph}
 use Rattle.auditor.specs.declared.outcome.Outcome.{Outcome}
 use Rattle.auditor.specs.Judged.{nodes_of, AreJudged}
 use Rattle.auditor.specs.Outcomes.{is_broken, is_unsettled}
@@ -101,20 +103,15 @@ same_count p each vs ws same = along 0 vs ws same
 -- what files give is one, and machines are played in one way
 pub record Ones : Type 0 where
   -- a script is played in one way
-  pub played : (script : Script) (machines others : List MachineState) → IsPlayed script machines
-      → IsPlayed script others → machines ≡ others
+  pub played : ScriptsArePlayedInOneWay
   -- a roster's file gives one answer
-  pub rosters : (name : List ℕ) (file : Option (List ℕ)) (answer other : Result RosterRead Refusal)
-      → GivesRoster name file answer → GivesRoster name file other → answer ≡ other
+  pub rosters : RosterFilesGiveOneAnswer
   -- the files of logs give logs that say the same, or one refusal
-  pub logs : (machines : List Post) (election : List ℕ) (names : List (List ℕ)) (files : List (Option (List ℕ)))
-      (answer other : Result (List LogRead) Refusal) → GivesLogs machines election names files answer
-      → GivesLogs machines election names files other → Agree SameLogs answer other
+  pub logs : LogFilesGiveOneAnswer
   -- and such logs keep the same entries
-  pub entries : (logs others : List LogRead) → SameLogs logs others → entries_of logs ≡ entries_of others
+  pub entries : SameLogsKeepTheSameEntries
   -- given entries have graphs that tell the same, or one refusal
-  pub graphs : (given : List SealedEntry) (answer other : Result (EntryGraph SealedEntry) Refusal)
-      → GivesGraph given answer → GivesGraph given other → Agree SameGraph answer other
+  pub graphs : EntriesGiveOneGraph
   -- an audit of one log under one roster gives reports that are the same, or one refusal
   pub reports : (posts : List Post) (bytes : List ℕ) (answer other : Result AuditReport Refusal)
       → GivesAudit posts bytes answer → GivesAudit posts bytes other → Agree SameReport answer other

@@ -5,6 +5,7 @@ use Rattle.std.specs.List.{flat_map}
 use Rattle.std.proofs.lemmas.Bool.{cases_lt}
 use Rattle.canonical_sexp.specs.Text.{text_of}
 use Rattle.roster.specs.RosterText.{roster_tree}
+use Rattle.roster.specs.Machines.{max_machines}
 use Rattle.election_script.specs.declared.script.Script.{Script}
 use Rattle.election_script.specs.Lawful.{IsLawful}
 use Rattle.entry_format.specs.SealedEntry.{SealedEntry}
@@ -29,7 +30,7 @@ use Rattle.demonstration.specs.Shown.{GivesAudit, IsCounted, IsDemonstrationOf, 
 module _ (script : Script) (lawful : IsLawful script) (machines : List MachineState) (played : IsPlayed script machines)
   where
     -- there are 1 to 16 machines
-    pub few : length machines ≤ 16
+    pub few : length machines ≤ max_machines
     few = omega (arith, played.are_of.count, lawful.machines.few.1)
 
     -- so there is a first one, whose log is kept

@@ -1,7 +1,6 @@
 -- The script of a day is within its limits.
 use Rattle.std.proofs.Common.{◌≡◌, ◌≢◌, inl, inr, ℕ, zero, suc, ◌+◌, ◌-◌, ◌*◌, ◌%◌, ◌<◌, ◌≤◌, ◌==◌, Bool, true, false}
-use Rattle.std.proofs.Common.{cond}
-use Rattle.std.proofs.Common.{List, [], ◌∷◌, ◌++◌, length, map, reverse, replicate, get_or}
+use Rattle.std.proofs.Common.{cond, List, [], ◌∷◌, ◌++◌, length, map, reverse, replicate, get_or}
 use Rattle.std.proofs.Common.{refl, sym, ◌∙◌, ap, arith, subst, add-zero}
 use Rattle.std.proofs.lemmas.List.{length-append, length-map, reverse-append}
 use Rattle.std.proofs.lemmas.List.FromFn.{length-range_with_len, get_or-range_with_len}
@@ -21,10 +20,9 @@ use Rattle.roster.specs.declared.post.Role.{Role}
 use Rattle.roster.specs.declared.post.Role.TheVariants.{Supervisor, Booth}
 use Rattle.roster.specs.Machines.{IsName, IsNameByte}
 use Rattle.election_script.specs.declared.script.Cast0.{Cast0}
-use Rattle.election_script.specs.Lawful.{AreCast, IsCast, IsBoothAt, IsDeedAmong, IsSession}
+use Rattle.election_script.specs.Lawful.{AreCast, IsCast, IsBoothAt, IsDeedAmong, IsSession, max_actions}
 use Rattle.election_script.specs.Generated.{sessions, session_booth, session_ballot, deeds_of, authorise_of}
-use Rattle.election_script.specs.Generated.{supervisor_actions, actions_of}
-use Rattle.election_script.specs.Generated.{machines_of, count_actions}
+use Rattle.election_script.specs.Generated.{supervisor_actions, actions_of, machines_of, count_actions}
 use Rattle.election_script.proofs.DayCounts.{booths_few}
 
 -- each number of a range
@@ -186,7 +184,7 @@ count_is n =
     four_long (supervisor_actions n) (actions_of 1 n) (actions_of 2 n) (actions_of 3 n)
     ∙ ap (λ k. k + (length (actions_of 1 n) + (length (actions_of 2 n) + length (actions_of 3 n)))) front
 
-pub count_few : (n : ℕ) → n ≤ 800 → count_actions (machines_of n) ≤ 4096
+pub count_few : (n : ℕ) → n ≤ 800 → count_actions (machines_of n) ≤ max_actions
 count_few n h = omega (arith, count_is n, booths_few n)
 
 -- no two of none

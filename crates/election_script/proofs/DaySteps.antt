@@ -8,10 +8,9 @@ use Rattle.std.specs.Prelude.{All}
 use Rattle.std.specs.List.{flat_map}
 use Rattle.entry_order.specs.declared.step.Step.{Step}
 use Rattle.entry_order.specs.declared.step.Step.TheVariants.{Act, Hear}
-use Rattle.election_script.specs.Lawful.{IsStep}
+use Rattle.election_script.specs.Lawful.{IsStep, max_steps}
 use Rattle.election_script.specs.Generated.{sessions, supervisor, booths, session_booth, deeds_of, first_number}
-use Rattle.election_script.specs.Generated.{numbers_of}
-use Rattle.election_script.specs.Generated.{hears}
+use Rattle.election_script.specs.Generated.{numbers_of, hears}
 use Rattle.election_script.specs.Generated.{supervisor_steps, others, session_steps, day_steps, machines_of}
 use Rattle.election_script.proofs.DayCounts.{deeds_few, first_few}
 use Rattle.election_script.proofs.DayLawful.{all_range, all_sessions, all_pieces, all_back, pieces_few}
@@ -114,7 +113,7 @@ session_few i =
     omega (arith, long, x_long, y_long, z_few, three, deeds_few i)
 
 -- a day has few steps
-pub day_few : (n : ℕ) → n ≤ 800 → length (day_steps n) ≤ 131072
+pub day_few : (n : ℕ) → n ≤ 800 → length (day_steps n) ≤ max_steps
 day_few n h =
     let all : List Step = flat_map session_steps (sessions n) in
     let long : length (supervisor_steps 0 ++ all ++ supervisor_steps (n + 1)) ≡ 4 + length all + 4 =

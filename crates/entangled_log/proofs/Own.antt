@@ -7,6 +7,7 @@ use Rattle.entry_order.specs.declared.event.Event.{Event}
 use Rattle.entry_order.specs.declared.event.Event.TheVariants.{Sent, Got}
 use Rattle.entry_order.specs.History.{sent}
 use Rattle.entry_order.proofs.Histories.{sent-append, sent_few}
+use Rattle.entry_order.proofs.Places.{last_at, push_before}
 use Rattle.entangled_log.specs.inside.Kept.{AreOwn, own_after}
 
 -- where two lists look the same, what stands at a place of the one has its like in the other
@@ -28,18 +29,6 @@ unpaired f g (a ∷ xs) (b ∷ ys) same zero none = cc
 unpaired f g (a ∷ xs) (b ∷ ys) same (suc n) none =
     let rest : map f xs ≡ map g ys = cc in unpaired f g xs ys rest n none
 
--- what stands at a place of a list still does with one more at the end
-get_push : {X : Type 0} (xs : List X) (x : X) (n : ℕ) (y : X) → slice_get xs n ≡ Some y →
-    slice_get (xs ++ x ∷ []) n ≡ Some y
-get_push [] x n y is = cc
-get_push (z ∷ xs) x zero y is = is
-get_push (z ∷ xs) x (suc n) y is = get_push xs x n y is
-
--- and the one more stands after all others
-get_last : {X : Type 0} (xs : List X) (x : X) → slice_get (xs ++ x ∷ []) (length xs) ≡ Some x
-get_last [] x = refl
-get_last (z ∷ xs) x = get_last xs x
-
 module _ {T : Type 0} where
   -- the places of a list of entries are theirs with one event more
   own_grows : (events : List (Event T)) (x : Event T) (own : List ℕ) (es : List T) →
@@ -50,7 +39,7 @@ module _ {T : Type 0} where
   own_grows events x (p ∷ own) (e ∷ es) same =
       let here : slice_get events p ≡ Some (Sent e) = cc in
       let rest : map (λ p. slice_get events p) own ≡ map (λ e. Some (Sent e)) es = cc in
-      let first = get_push events x p (Sent e) here in
+      let first = push_before events x p (Sent e) here in
       let others = own_grows events x own es rest in
       λ i. first i ∷ others i
 
@@ -61,7 +50,7 @@ module _ {T : Type 0} where
       map_push (λ p. slice_get (events ++ Sent e ∷ []) p) own (length events)
       ∙ ap (λ (xs : List (Option (Event T))). xs ++ slice_get (events ++ Sent e ∷ []) (length events) ∷ [])
       (own_grows events (Sent e) own (sent events) are)
-      ∙ ap (λ (o : Option (Event T)). map (λ e. Some (Sent e)) (sent events) ++ o ∷ []) (get_last events (Sent e))
+      ∙ ap (λ (o : Option (Event T)). map (λ e. Some (Sent e)) (sent events) ++ o ∷ []) (last_at events (Sent e))
       ∙ sym (map_push (λ (e : T). Some (Sent e)) (sent events) e)
       ∙ sym (ap (map (λ (e : T). Some (Sent e))) (sent-append events (Sent e ∷ [])))
   AreOwn-push events (Got e) own are =

@@ -1,6 +1,5 @@
 -- Which fault a text has.
-use Rattle.std.proofs.Common.{◌≡◌, ◌∙◌, ℕ, Result, Ok, Err, refl, List, [], ◌∷◌, sym, ap}
-use Rattle.std.proofs.Common.{subst}
+use Rattle.std.proofs.Common.{◌≡◌, ◌∙◌, ℕ, Result, Ok, Err, refl, List, [], ◌∷◌, sym, ap, subst}
 use Rattle.std.specs.Prelude.{codes}
 use Rattle.canonical_sexp.specs.declared.sexp.Sexp.{Sexp}
 use Rattle.canonical_sexp.specs.declared.sexp.Sexp.TheVariants.{Atom}
@@ -17,7 +16,8 @@ use Rattle.entry_format.specs.declared.plain.EntryFault.TheVariants.{OtherElecti
 use Rattle.entry_format.specs.declared.plain.EntryFault.TheVariants.{BadSignature, Memory}
 use Rattle.entry_format.specs.Reading.{HasForm, HasRisingNames, IsFormFault, Reads}
 use Rattle.canonical_sexp.specs.Reading.{IsCanonical}
-use Rattle.entry_format.proofs.OneEntry.{one_text, one_entry, one_signed}
+use Rattle.entry_format.proofs.OneEntry.{one_entry, one_signed}
+use Rattle.roster.proofs.Forms.{one_text}
 
 -- the tree of a text with the form of an entry
 pub tree_of_form : (text : List ℕ) (tree : Sexp) (entry : Entry) (signature : List ℕ) → Fits tree →

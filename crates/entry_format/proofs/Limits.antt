@@ -1,25 +1,24 @@
 -- The texts of entries are within the limits of canonical texts.
-use Rattle.std.proofs.Common.{◌≡◌, ℕ, ◌-◌, ◌^◌, ◌<◌, ◌≤◌, List, [], ◌∷◌, length, map, All, refl}
-use Rattle.std.proofs.Common.{arith}
+use Rattle.std.proofs.Common.{◌≡◌, ℕ, ◌^◌, ◌<◌, ◌≤◌, List, [], ◌∷◌, length, map, All, refl, arith}
 use Rattle.std.specs.Fmt.{decimal}
 use Rattle.std.specs.Prelude.{Bool, true, false, ◌==◌, if◌then◌else◌, codes}
 use Rattle.canonical_sexp.specs.Forms.{list_of, number_atom}
 use Rattle.std.proofs.lemmas.List.Elements.{All-head, All-tail}
 use Rattle.canonical_sexp.specs.declared.sexp.Sexp.{Sexp}
 use Rattle.canonical_sexp.specs.declared.sexp.Sexp.TheVariants.{Atom, List as Branch}
-use Rattle.canonical_sexp.specs.Forest.{Forest, no_trees, atom_then, list_then, count_of}
+use Rattle.canonical_sexp.specs.Forest.{Forest, no_trees, count_of}
 use Rattle.canonical_sexp.specs.Sexp.{forest_of}
-use Rattle.canonical_sexp.specs.Text.{AreWithin, IsWithin, Fits}
+use Rattle.canonical_sexp.specs.Text.{AreWithin, IsWithin, Fits, max_octets, max_members}
 use Rattle.canonical_sexp.proofs.Decimal.{length-decimal-le_20}
 use Rattle.canonical_sexp.proofs.Rows.{AreWithin-one, count_of-one}
+use Rattle.canonical_sexp.proofs.InPlace.{more_deep}
 use Rattle.entry_format.specs.declared.deed.Deed.{Deed}
 use Rattle.entry_format.specs.declared.deed.Deed.TheVariants.{Opened, Authorise, Override, Closed, Activate, Commit}
 use Rattle.entry_format.specs.declared.deed.Deed.TheVariants.{Cast, Cancel, Challenge}
 use Rattle.entry_format.specs.declared.deed.How.{How}
 use Rattle.entry_format.specs.declared.deed.How.TheVariants as how
 use Rattle.entry_format.specs.declared.entry.Entry.{Entry}
-use Rattle.entry_format.specs.EntryText.{IsDigest, IsDeed, IsEntry, how_word, deed_tree}
-use Rattle.entry_format.specs.EntryText.{body_tree, signed_tree}
+use Rattle.entry_format.specs.EntryText.{IsDigest, IsDeed, IsEntry, how_word, deed_tree, body_tree, signed_tree}
 use Rattle.entry_format.proofs.Taken.{version_small}
 
 -- the members of a list
@@ -27,23 +26,16 @@ abbrev pub members_in : Sexp → Forest
 members_in (Atom octets) = no_trees
 members_in (Branch members) = members
 
--- what is within a depth is within a greater one
-deeper : (d e : ℕ) (f : Forest) → d ≤ e → AreWithin d f → AreWithin e f
-deeper d e no_trees le h = tt
-deeper d e (atom_then octets rest) le (fits, behind) = (fits, deeper d e rest le behind)
-deeper d e (list_then inner rest) le (deep, few, within, behind) =
-    (omega (arith, deep), few, deeper (d - 1) (e - 1) inner (omega arith) within, deeper d e rest le behind)
-
 -- the body of a signed entry within the limits
 pub body_fits : (entry : Entry) (signature : List ℕ) → Fits (signed_tree entry signature) → Fits (body_tree entry)
-body_fits entry signature h = (omega arith, h.2.1.1, deeper 6 7 (members_in (body_tree entry)) (omega arith) h.2.1.2)
+body_fits entry signature h = (omega arith, h.2.1.1, more_deep 6 7 (members_in (body_tree entry)) (omega arith) h.2.1.2)
 
 -- the atoms of numbers and of digests are short enough
-short : (n : ℕ) → n < 2 ^ 32 → length (decimal n) ≤ 262144
+short : (n : ℕ) → n < 2 ^ 32 → length (decimal n) ≤ max_octets
 short n small = omega (arith, length-decimal-le_20 n (omega arith))
 
 -- a digest is short enough for an atom
-octets_short : (digest : List ℕ) → IsDigest digest → length digest ≤ 262144
+octets_short : (digest : List ℕ) → IsDigest digest → length digest ≤ max_octets
 octets_short digest is = omega arith
 
 -- a deed and the names are within the limits
@@ -84,10 +76,10 @@ names_counted [] = refl
 names_counted (name ∷ names) = let rest = names_counted names in omega (arith, rest)
 
 -- an entry with at most 16,384 names and a signature of at most 262,144 octets
-pub signed_fits : (entry : Entry) (signature : List ℕ) → IsEntry entry → length entry.names ≤ 16384 →
-    length signature ≤ 262144 → Fits (signed_tree entry signature)
+pub signed_fits : (entry : Entry) (signature : List ℕ) → IsEntry entry → length entry.names ≤ max_members →
+    length signature ≤ max_octets → Fits (signed_tree entry signature)
 signed_fits entry signature h few small =
-    let names : (0 < 6) × (count_of (forest_of (map Atom entry.names)) ≤ 16384)
+    let names : (0 < 6) × (count_of (forest_of (map Atom entry.names)) ≤ max_members)
     × AreWithin 5 (forest_of (map Atom entry.names))
     × AreWithin 6 (forest_of (deed_tree entry.version entry.deed ∷ [])) = (
       omega arith,
@@ -95,7 +87,7 @@ signed_fits entry signature h few small =
       names_within entry.names h.names,
       AreWithin-one 6 (deed_tree entry.version entry.deed) (deed_within entry.version entry.deed h.deed),
     ) in
-    let version : length (decimal entry.version) ≤ 262144 =
+    let version : length (decimal entry.version) ≤ max_octets =
     short entry.version (version_small entry.version h.version) in (
       omega arith,
       omega arith,

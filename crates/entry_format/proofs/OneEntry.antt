@@ -1,16 +1,14 @@
 -- A text has one entry.
 use Rattle.std.proofs.Common.{◌≡◌, ◌∙◌, ℕ, ◌^◌, get_or, if◌then◌else◌, ◌<◌, ◌==◌, Bool, true, false, List, [], ◌∷◌, map}
-use Rattle.std.proofs.Common.{refl, ap, sym}
-use Rattle.std.proofs.Common.{arith, append-nil}
+use Rattle.std.proofs.Common.{refl, ap, sym, arith}
+use Rattle.std.proofs.lemmas.Fmt.{decimal_injective}
 use Rattle.std.specs.Prelude.{codes}
 use Rattle.std.specs.Fmt.{decimal}
 use Rattle.canonical_sexp.specs.declared.sexp.Sexp.{Sexp}
 use Rattle.canonical_sexp.specs.declared.sexp.Sexp.TheVariants.{Atom, List as Branch}
 use Rattle.canonical_sexp.specs.Sexp.{forest_of, members_of}
-use Rattle.canonical_sexp.specs.Text.{text_of, Fits}
 use Rattle.canonical_sexp.specs.Forms.{list_of, number_atom}
-use Rattle.canonical_sexp.proofs.Unique.{one_tree}
-use Rattle.canonical_sexp.proofs.Decimal.{decimal_same, number_from, number_from-decimal}
+use Rattle.canonical_sexp.proofs.Decimal.{number_from, number_from-decimal}
 use Rattle.canonical_sexp.proofs.Rows.{members_of-forest_of}
 use Rattle.std.specs.Str.{bytes_eq}
 use Rattle.entry_format.specs.declared.deed.Deed.{Deed}
@@ -22,18 +20,12 @@ use Rattle.entry_format.specs.declared.entry.Entry.{Entry}
 use Rattle.entry_format.specs.EntryText.{IsDeed, IsDeedIn, IsEntry, how_word, deed_tree}
 use Rattle.entry_format.specs.EntryText.{body_tree, signed_tree, IsSignedText}
 use Rattle.entry_format.proofs.Taken.{atoms_of, version_small}
-
--- one tree has one text, and a text one tree
-pub one_text : (text : List ℕ) (tree other : Sexp) → Fits tree → Fits other → text ≡ text_of tree →
-    text ≡ text_of other → tree ≡ other
-one_text text tree other fits other_fits is also =
-    (one_tree 8 tree other [] [] fits other_fits (append-nil (text_of tree) ∙ sym is ∙ also
-    ∙ sym (append-nil (text_of other)))).0
+use Rattle.roster.proofs.Forms.{one_text}
 
 -- a number has one atom
 one_number : (m n : ℕ) → m < 2 ^ 32 → n < 2 ^ 32 → number_atom m ≡ number_atom n → m ≡ n
 one_number m n small other_small e = let same : decimal m ≡ decimal n = cc in
-    decimal_same m n (omega arith) (omega arith) same
+    decimal_injective m n (omega arith) (omega arith) same
 
 -- the same atoms are of the same digests
 atoms_same : (digests others : List (List ℕ)) → map Atom digests ≡ map Atom others → digests ≡ others
@@ -143,7 +135,7 @@ entry_with version election maker number stamp names deed = record {
 }
 
 -- entries with the same fields are the same
-same_fields : (a b : Entry) → a.version ≡ b.version → a.election ≡ b.election → a.maker ≡ b.maker →
+pub same_fields : (a b : Entry) → a.version ≡ b.version → a.election ≡ b.election → a.maker ≡ b.maker →
     a.number ≡ b.number → a.stamp ≡ b.stamp → a.names ≡ b.names → a.deed ≡ b.deed → a ≡ b
 same_fields a b v e m n s names d =
     ap (λ x. entry_with x a.election a.maker a.number a.stamp a.names a.deed) v

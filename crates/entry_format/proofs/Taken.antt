@@ -4,12 +4,13 @@ use Rattle.std.proofs.Common.{Some, None}
 use Rattle.std.specs.Fmt.{decimal}
 use Rattle.std.specs.Prelude.{length, codes, ◌<◌, ◌^◌, ◌==◌, ◌≢◌, Bool, true, false, if◌then◌else◌}
 use Rattle.std.proofs.lemmas.List.Elements.{All-head, All-tail}
+use Rattle.std.proofs.lemmas.Fmt.{decimal_injective}
 use Rattle.canonical_sexp.specs.declared.sexp.Sexp.{Sexp}
 use Rattle.canonical_sexp.specs.declared.sexp.Sexp.TheVariants.{Atom, List as Branch}
 use Rattle.canonical_sexp.specs.Forest.{Forest, no_trees, atom_then, joined}
 use Rattle.canonical_sexp.specs.Sexp.{in_front, forest_of, members_of}
 use Rattle.canonical_sexp.specs.Forms.{Finds, list_of, number_atom}
-use Rattle.canonical_sexp.proofs.Decimal.{length-decimal-le_20, AreDigits, decimal_digits, decimal_same}
+use Rattle.canonical_sexp.proofs.Decimal.{length-decimal-le_20, AreDigits, decimal_digits}
 use Rattle.canonical_sexp.proofs.Rows.{joined-none}
 use Rattle.std.specs.Option.{IsSome}
 use Rattle.entry_format.specs.EntryText.{IsVersion, IsDigest, IsDeedIn, IsEntry, how_word, deed_tree, body_tree}
@@ -163,7 +164,8 @@ version_small version (inr second) = omega arith
 pub number_is_version : (number version : ℕ) → number < 2 ^ 32 → IsVersion version → decimal number ≡ decimal version →
     number ≡ version
 number_is_version number version small is e =
-    let other : version < 2 ^ 32 = version_small version is in decimal_same number version (omega arith) (omega arith) e
+    let other : version < 2 ^ 32 = version_small version is in
+    decimal_injective number version (omega arith) (omega arith) e
 
 -- equal rows have equal rests
 rest_of_two : (tree other : Sexp) (rest left : Forest) → in_front tree rest ≡ in_front other left → rest ≡ left

@@ -151,7 +151,7 @@ sealed_with entry signature text digest key =
     record { entry = entry; signature = signature; text = text; digest = digest; key = key }
 
 -- sealed entries with the same parts are the same
-same_sealed : (a b : SealedEntry) → a.entry ≡ b.entry → a.signature ≡ b.signature → a.text ≡ b.text →
+pub same_sealed : (a b : SealedEntry) → a.entry ≡ b.entry → a.signature ≡ b.signature → a.text ≡ b.text →
     a.digest ≡ b.digest → a.key ≡ b.key → a ≡ b
 same_sealed a b e s t d k =
     ap (λ x. sealed_with x a.signature a.text a.digest a.key) e

@@ -20,9 +20,10 @@ use Rattle.std.proofs.lemmas.Map.Views.{btree_set_contains_iff}
 use Rattle.std.proofs.lemmas.Option.{slice_get-get_or}
 use Rattle.entry_order.specs.Node.{Node}
 use Rattle.entry_order.proofs.Lists.{Contains-none, list_any_some, list_any_of}
+use Rattle.entry_order.proofs.Places.{taken_more}
 use Rattle.entry_graph.specs.EntryGraph.{pair_cmp, IsFork, AreForks}
 use Rattle.entry_graph.specs.inside.Distinct.{HasNoDigestTwice}
-use Rattle.entry_graph.proofs.Places.{equal_from, one_place, taken_more}
+use Rattle.entry_graph.proofs.Places.{equal_from, one_place}
 
 -- makers and then numbers are a total order of pairs
 pair_total : IsTotalOrder pair_cmp

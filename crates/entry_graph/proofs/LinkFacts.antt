@@ -7,20 +7,18 @@ use Rattle.std.specs.List.{AllPairs, Contains, list_any}
 use Rattle.std.proofs.lemmas.Bool.{cases_lt, cases_order, true≢false, false_from_ne_true, or_right}
 use Rattle.std.proofs.lemmas.List.Elements.{Contains-push, Contains-push_cases, Contains-append_left}
 use Rattle.std.proofs.Math.Bool.{or-false}
-use Rattle.std.proofs.lemmas.Option.{none-some, same_Some, slice_get_within, slice_get_past}
-use Rattle.std.proofs.lemmas.Option.{get_or_from_slice_get}
+use Rattle.std.proofs.lemmas.Option.{none-some, same_Some, slice_get_within, slice_get_past, get_or_from_slice_get}
 use Rattle.entry_order.specs.Node.{Node}
 use Rattle.entry_order.specs.Naming.{Names, IsBorneIn}
 use Rattle.entry_order.specs.Survivors.{gaps}
 use Rattle.entry_order.specs.Settled.{NamesNoGap}
 use Rattle.entry_order.proofs.Completions.{gaps_are_unique}
 use Rattle.entry_order.proofs.Lists.{Contains-none, list_any_some, list_any_of}
-use Rattle.entry_graph.specs.EntryGraph.{Links, IsLower, AreLinks}
-use Rattle.entry_graph.specs.EntryGraph.{parents_of, ragged_of, parents_in, ragged_in}
+use Rattle.entry_order.proofs.Places.{member_at, place_of, taken_more}
+use Rattle.entry_graph.specs.EntryGraph.{Links, IsLower, AreLinks, parents_of, ragged_of, parents_in, ragged_in}
 use Rattle.entry_graph.specs.inside.Distinct.{HasNoDigestTwice, NamesLower}
 use Rattle.entry_graph.specs.inside.Tables.{number_at, ArePlaces, IsLinked, AreLinked}
-use Rattle.entry_graph.proofs.Places.{any_push, at_place, place_of, one_place}
-use Rattle.entry_graph.proofs.Places.{taken_more, zip_at, zip_length, zip_push}
+use Rattle.entry_graph.proofs.Places.{any_push, one_place, zip_at, zip_length, zip_push}
 
 -- what is found at one of the names, with one name more
 pub found_more : (table : List (List ℕ × ℕ)) (names : List (List ℕ)) (name : List ℕ) (parents : List ℕ) (p : ℕ)
@@ -216,7 +214,7 @@ module _ {T : Type 0} (node : T → Node) (S : List T) (table : List (List ℕ �
   descends x z c =
       let (e, f, at_x, at_z, names) = arrow_cases x z c in
       let down : (node f).stamp < (node e).stamp =
-      falling e f (at_place S x e at_x) (at_place S z f at_z) names in
+      falling e f (member_at S x e at_x) (member_at S z f at_z) names in
       elim (cases_order z x) [
         | inl same ↦
             (let one : f ≡ e = same_Some f e (sym at_z ∙ ap (slice_get S) same ∙ at_x) in
@@ -248,7 +246,7 @@ module _ {T : Type 0} (node : T → Node) (S : List T) (table : List (List ℕ �
             (sym (list_any_of lacking (node e).names d named (none_of (number_at table d) none))
             ∙ sym linked_l.ragged ∙ sym (ragged_at i l at_l) ∙ clean)) in
             let (f, at_n, bears) = places.found d n found in
-            known.1 (f, at_place S n f at_n, bears),
+            known.1 (f, member_at S n f at_n, bears),
         λ free.
             ragged_at i l at_l ∙ linked_l.ragged
             ∙ false_from_ne_true (list_any lacking (node e).names) (λ t.
@@ -256,7 +254,7 @@ module _ {T : Type 0} (node : T → Node) (S : List T) (table : List (List ℕ �
             let none = none_from (number_at table d) test in
             free d named
             ((are.members d).1
-            ((e, at_place S i e ie, named), lacks_borne node S table d places none))),
+            ((e, member_at S i e ie, named), lacks_borne node S table d places none))),
       )
 
   -- so the links are those of the names

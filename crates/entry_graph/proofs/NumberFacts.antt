@@ -1,22 +1,19 @@
 -- Entries that are sorted by stamp and then digest.
-use Rattle.std.proofs.Common.{◌≡◌, ◌≢◌, ℕ, ◌<◌, false, List}
-use Rattle.std.proofs.Common.{length, get_or, map, refl, sym, ap, ◌∙◌, inl, inr, arith}
-use Rattle.std.specs.Prelude.{nat_lt, ◌==◌, cond}
+use Rattle.std.proofs.Common.{◌≡◌, ◌≢◌, ℕ, ◌<◌, false, List, length, get_or, map, sym, ap, ◌∙◌, inl, inr, arith}
 use Rattle.std.specs.List.{AllPairs}
 use Rattle.std.specs.List.Sorted.{IsPermutation, IsSortedByKey}
 use Rattle.std.specs.Str.{bytes_eq}
 use Rattle.std.specs.Cmp.{IsTotalOrder, on_total, then_total}
 use Rattle.std.specs.Cmp.Lexicographic.{slice_cmp}
-use Rattle.std.specs.Ordering.{nat_cmp, ordering_then, ordering_reverse, is_lt}
+use Rattle.std.specs.Ordering.{nat_cmp, ordering_then, is_lt}
 use Rattle.std.specs.declared.cmp.Ordering.{Ordering}
-use Rattle.std.specs.declared.cmp.Ordering.TheVariants.{Less, Equal, Greater}
-use Rattle.std.proofs.lemmas.Bool.{cases_order, true≢false, cond-true, cond-false, lt-ltb, le-ltb, eq-eqb}
+use Rattle.std.proofs.lemmas.Bool.{cases_order, true≢false}
 use Rattle.std.proofs.lemmas.Cmp.{nat_cmp_total, nat_list_cmp_total, nat_list_eq_equiv}
 use Rattle.std.proofs.lemmas.List.Sorted.{sorted_far, ranks_by, IsPermutation-map}
 use Rattle.std.proofs.lemmas.Map.Keys.{IsDistinct-IsPermutation}
-use Rattle.std.proofs.lemmas.Map.Lookups.{exact_bytes}
 use Rattle.std.proofs.lemmas.Option.{slice_get-get_or}
 use Rattle.entry_order.specs.Node.{Node}
+use Rattle.entry_order.proofs.Comparisons.{level, less, below}
 use Rattle.entry_graph.specs.EntryGraph.{IsLower}
 use Rattle.entry_graph.specs.inside.Distinct.{HasNoDigestTwice}
 use Rattle.entry_graph.proofs.Places.{one_place}
@@ -32,25 +29,6 @@ compare p q = ordering_then (nat_cmp p.0 q.0) (slice_cmp nat_cmp p.1 q.1)
 -- so any two keys are ordered
 compare_total : IsTotalOrder compare
 compare_total = then_total (on_total (λ (p : Key). p.0) nat_cmp_total) (on_total (λ (p : Key). p.1) nat_list_cmp_total)
-
--- how numbers compare
-level : (m n : ℕ) → m ≡ n → nat_cmp m n ≡ Equal
-level m n same = cond-false (nat_lt m n) Less (cond (m == n) Equal Greater) (le-ltb m n (omega arith))
-    ∙ cond-true (m == n) Equal Greater (eq-eqb m n same)
-
--- a lower number compares as less
-less : (m n : ℕ) → m < n → nat_cmp m n ≡ Less
-less m n lower = cond-true (nat_lt m n) Less (cond (m == n) Equal Greater) (lt-ltb m n lower)
-
--- what isn't below and isn't the same is above
-below : (x y : List ℕ) → is_lt (slice_cmp nat_cmp y x) ≡ false → x ≢ y → slice_cmp nat_cmp x y ≡ Less
-below x y not_lt differ = by (slice_cmp nat_cmp y x) refl not_lt
-  where
-    -- by how the second compares with the first: it isn't less, and equal would make them the same
-    by : (o : Ordering) → slice_cmp nat_cmp y x ≡ o → is_lt o ≡ false → slice_cmp nat_cmp x y ≡ Less
-    by Less e h = absurd (true≢false h)
-    by Equal e h = absurd (differ (sym (exact_bytes y x e)))
-    by Greater e h = nat_list_cmp_total.antisymm x y ∙ ap ordering_reverse e
 
 module _ {T : Type 0} (node : T → Node) where
   -- the key of an entry

@@ -1,7 +1,7 @@
 -- Places of entries, and entries of which no two have one digest.
-use Rattle.std.proofs.Common.{◌≡◌, ℕ, zero, suc, ◌+◌, ◌<◌, Bool, true, false}
-use Rattle.std.proofs.Common.{cond, List, [], ◌∷◌, ◌++◌, length, map, take, get_or}
-use Rattle.std.proofs.Common.{refl, sym, ap, subst, ◌∙◌, ◌⊎◌, inl, inr, Some, arith}
+use Rattle.std.proofs.Common.{◌≡◌, ℕ, zero, suc, Bool, true, false}
+use Rattle.std.proofs.Common.{cond, List, [], ◌∷◌, ◌++◌, length, map, get_or}
+use Rattle.std.proofs.Common.{refl, sym, ap, subst, ◌∙◌, Some, arith}
 use Rattle.std.specs.Prelude.{◌||◌, slice_get, IfOk, Result, Ok, Err}
 use Rattle.std.specs.List.{All, AllZip, Contains, IsDistinct, filter, list_any}
 use Rattle.std.specs.Ordering.{is_eq}
@@ -9,7 +9,7 @@ use Rattle.std.specs.Str.{bytes_eq}
 use Rattle.std.specs.declared.cmp.Ordering.{Ordering}
 use Rattle.std.specs.declared.cmp.Ordering.TheVariants.{Less, Equal, Greater}
 use Rattle.std.proofs.lemmas.Bool.{true≢false, false_from_ne_true}
-use Rattle.std.proofs.lemmas.List.{take_more, map_push}
+use Rattle.std.proofs.lemmas.List.{map_push}
 use Rattle.std.proofs.lemmas.List.Folds.{list_any-append}
 use Rattle.std.proofs.Math.Bool.{or-false}
 use Rattle.std.proofs.lemmas.List.Elements.{All-from_recursion, recursion_from_All, All-contains}
@@ -18,10 +18,10 @@ use Rattle.std.proofs.lemmas.Map.Keys.{IsDistinct-head, IsDistinct-tail, IsDisti
 use Rattle.std.proofs.lemmas.Map.Keys.{IsDistinct-from_apart, IsDistinct-push}
 use Rattle.std.proofs.lemmas.Cmp.{nat_list_eq_equiv}
 use Rattle.std.proofs.lemmas.Option.{none-some, same_Some}
-use Rattle.std.proofs.lemmas.Option.{slice_get-get_or, slice_get_within, get_or_from_slice_get}
 use Rattle.std.proofs.lemmas.Slice.Eq.{bytes_eq-Decides}
 use Rattle.entry_order.specs.Node.{Node}
 use Rattle.entry_order.proofs.Lists.{Contains-map, Contains-map_cases, list_any_some}
+use Rattle.entry_order.proofs.Places.{member_at, place_of}
 use Rattle.entry_order.specs.Naming.{IsBorneIn}
 use Rattle.entry_graph.specs.inside.Distinct.{HasNoDigestTwice}
 
@@ -40,40 +40,6 @@ pub if_ok_both : {A E : Type 0} (r : Result A E) {P Q R : A → Type 0} → IfOk
     → ((x : A) → P x → Q x → R x) → IfOk r R
 if_ok_both (Ok x) p q both = both x p q
 if_ok_both (Err e) p q both = tt
-
-module _ {X : Type 0} where
-  -- the first elements and the one that comes next
-  pub taken_more : (xs : List X) (i : ℕ) (x : X) → i < length xs → x ≡ get_or xs i x
-      → take (i + 1) xs ≡ take i xs ++ x ∷ []
-  taken_more xs i x within is = take_more xs i x within ∙ ap (λ (y : X). take i xs ++ y ∷ []) (sym is)
-
-  -- the element at a place is a member
-  pub at_place : (xs : List X) (i : ℕ) (x : X) → slice_get xs i ≡ Some x → Contains xs x
-  at_place xs i x is = (i, slice_get_within xs i x is, get_or_from_slice_get xs i x x is)
-
-  -- a member has a place
-  pub place_of : (xs : List X) (x : X) → Contains xs x → (i : ℕ) × (slice_get xs i ≡ Some x)
-  place_of xs x (i, l, is) = (i, slice_get-get_or xs i x l ∙ ap (λ (y : X). Some y) is)
-
-  -- one element more at the end
-  pub push_here : (xs : List X) (y : X) → slice_get (xs ++ y ∷ []) (length xs) ≡ Some y
-  push_here [] y = refl
-  push_here (x ∷ xs) y = push_here xs y
-
-  -- the elements before it keep their places
-  pub push_before : (xs : List X) (y : X) (i : ℕ) (x : X) → slice_get xs i ≡ Some x
-      → slice_get (xs ++ y ∷ []) i ≡ Some x
-  push_before [] y i x is = absurd (none-some x is)
-  push_before (z ∷ xs) y zero x is = is
-  push_before (z ∷ xs) y (suc i) x is = push_before xs y i x is
-
-  -- at each place stands what stood there before, or the new element
-  pub push_cases : (xs : List X) (y : X) (i : ℕ) (x : X) → slice_get (xs ++ y ∷ []) i ≡ Some x
-      → (slice_get xs i ≡ Some x) ⊎ (y ≡ x)
-  push_cases [] y zero x is = inr (same_Some y x is)
-  push_cases [] y (suc i) x is = absurd (none-some x is)
-  push_cases (z ∷ xs) y zero x is = inl is
-  push_cases (z ∷ xs) y (suc i) x is = push_cases xs y i x is
 
 -- two lists side by side: one pair more, as many of each, and what stands beside an element
 module _ {X Y : Type 0} (R : X → Y → Type 0) where
@@ -120,9 +86,9 @@ module _ {T : Type 0} (node : T → Node) where
   one_place [] i j e f single ie jf same = absurd (none-some e ie)
   one_place (x ∷ es) zero zero e f single ie jf same = refl
   one_place (x ∷ es) zero (suc j) e f single ie jf same =
-      absurd (head_apart x es f single (at_place es j f jf) (ap (λ z. (node z).digest) (same_Some x e ie) ∙ same))
+      absurd (head_apart x es f single (member_at es j f jf) (ap (λ z. (node z).digest) (same_Some x e ie) ∙ same))
   one_place (x ∷ es) (suc i) zero e f single ie jf same =
-      absurd (head_apart x es e single (at_place es i e ie) (ap (λ z. (node z).digest) (same_Some x f jf) ∙ sym same))
+      absurd (head_apart x es e single (member_at es i e ie) (ap (λ z. (node z).digest) (same_Some x f jf) ∙ sym same))
   one_place (x ∷ es) (suc i) (suc j) e f single ie jf same =
       ap (λ n. suc n)
       (one_place es i j e f (IsDistinct-tail bytes_eq (node x).digest (map (λ e. (node e).digest) es) single) ie jf

@@ -1,8 +1,7 @@
 -- Strays by the table of stamps, and sets of digests as ascending lists.
 use Rattle.std.proofs.Common.{◌≡◌, ℕ, ◌≤◌, Bool, true, false, cond, List, []}
-use Rattle.std.proofs.Common.{◌∷◌, ◌++◌, refl, sym, ap, subst, ◌∙◌, inl, inr}
-use Rattle.std.proofs.Common.{Some, None, Option}
-use Rattle.std.specs.Prelude.{◌&&◌, ◌||◌, nat_le}
+use Rattle.std.proofs.Common.{◌∷◌, ◌++◌, refl, sym, ap, subst, ◌∙◌, inl, inr, Some, None, Option}
+use Rattle.std.specs.Prelude.{◌&&◌, ◌||◌}
 use Rattle.std.specs.List.{All, Contains, list_any}
 use Rattle.std.specs.List.Sorted.{IsStrictlySortedBy, IsPermutation}
 use Rattle.std.specs.Cmp.Lexicographic.{slice_cmp}
@@ -10,8 +9,7 @@ use Rattle.std.specs.Ordering.{nat_cmp}
 use Rattle.std.specs.BTreeMap.{is_at}
 use Rattle.std.specs.BTreeSet.{BTreeSet, contains}
 use Rattle.std.specs.declared.cmp.Ordering.TheVariants.{Less}
-use Rattle.std.proofs.lemmas.Bool.{cases_Bool, true≢false, and_parts}
-use Rattle.std.proofs.lemmas.Bool.{and_from, le-leb, leb-true, false_from_ne_true}
+use Rattle.std.proofs.lemmas.Bool.{cases_Bool, true≢false, and_parts, and_from, le-leb, leb-true, false_from_ne_true}
 use Rattle.std.proofs.lemmas.Cmp.{nat_list_cmp_total, eq_by_cmp_equiv}
 use Rattle.std.proofs.lemmas.Map.Lookups.{exact_bytes}
 use Rattle.std.proofs.lemmas.Map.Views.{btree_set_contains_iff}
@@ -20,12 +18,10 @@ use Rattle.std.proofs.lemmas.List.Sorted.{Contains-permutation, IsPermutation-sy
 use Rattle.std.proofs.lemmas.Map.Keys.{sorted_head, sorted_tail}
 use Rattle.std.proofs.Math.Bool.{or-false}
 use Rattle.entry_order.specs.Node.{Node}
-use Rattle.entry_order.specs.Naming.{names_digest}
 use Rattle.entry_order.specs.Ascending.{IsAscending}
-use Rattle.entry_order.specs.Survivors.{IsStray, is_stray, names_later, survivors}
+use Rattle.entry_order.specs.Survivors.{IsStray, is_stray, survivors}
 use Rattle.entry_order.proofs.Lists.{list_any_some, list_any_of}
-use Rattle.entry_order.proofs.Naming.{names_digest_of, names_digest_from}
-use Rattle.entry_order.proofs.Strays.{survivors_are_no_strays, stamp_rises}
+use Rattle.entry_order.proofs.Strays.{survivors_are_no_strays, stamp_rises, is_stray_of, is_stray_from}
 use Rattle.entry_graph.specs.EntryGraph.{AreStrays}
 use Rattle.entry_graph.specs.inside.Distinct.{HasNoDigestTwice, NamesLower}
 use Rattle.entry_graph.specs.inside.Tables.{is_from, number_at, AreStamps}
@@ -45,20 +41,6 @@ from_parts least None t = absurd (true≢false (sym t))
 from_parts least (Some n) t = (n, refl, leb-true least n t)
 
 module _ {T : Type 0} (node : T → Node) where
-  -- a stray is found
-  pub is_stray_of : (given : List T) (e : T) → IsStray node given e → is_stray node given e ≡ true
-  is_stray_of given e (g, c, names, high) =
-      list_any_of (λ g. names_later node e g) given g c
-      (and_from (names_digest node e (node g).digest) (nat_le (node e).stamp (node g).stamp)
-      (names_digest_of node e (node g).digest names) (le-leb (node e).stamp (node g).stamp high))
-
-  -- what is found is a stray
-  pub is_stray_from : (given : List T) (e : T) → is_stray node given e ≡ true → IsStray node given e
-  is_stray_from given e t =
-      let (g, there, test) = list_any_some (λ g. names_later node e g) given t in
-      let parts = and_parts (names_digest node e (node g).digest) (nat_le (node e).stamp (node g).stamp) test in
-      (g, there, names_digest_from node e (node g).digest parts.0, leb-true (node e).stamp (node g).stamp parts.1)
-
   -- whether the table has a stamp that isn't lower at a digest that the entry names
   abbrev pub names_from : List (List ℕ × ℕ) → T → Bool
   names_from table e = list_any (λ d. is_from (node e).stamp (number_at table d)) (node e).names
@@ -97,10 +79,10 @@ module _ {T : Type 0} (node : T → Node) where
       → AreStamps node given table → names_from table e ≡ is_stray node given e
   stray_is_told given e table single stamps =
       elim (cases_Bool (is_stray node given e)) [
-        | inl t ↦ table_by_stray given e table single stamps (is_stray_from given e t) ∙ sym t
+        | inl t ↦ table_by_stray given e table single stamps (is_stray_from node given e t) ∙ sym t
         | inr t ↦
             false_from_ne_true (names_from table e)
-            (λ u. true≢false (sym (is_stray_of given e (stray_by_table given e table stamps u)) ∙ t))
+            (λ u. true≢false (sym (is_stray_of node given e (stray_by_table given e table stamps u)) ∙ t))
             ∙ sym t
       ]
 

@@ -1,7 +1,6 @@
 -- Tables of numbers by digest, with one number more.
 use Rattle.std.proofs.Common.{◌≡◌, ℕ, true, false, cond, List, [], ◌∷◌, ◌++◌, length, take, get_or}
-use Rattle.std.proofs.Common.{◌+◌, ◌<◌, arith, refl, sym, ap}
-use Rattle.std.proofs.Common.{subst, ◌∙◌, ◌⊎◌, inl, inr, Some, None}
+use Rattle.std.proofs.Common.{◌+◌, ◌<◌, arith, refl, sym, ap, subst, ◌∙◌, ◌⊎◌, inl, inr, Some, None}
 use Rattle.std.specs.Prelude.{slice_get}
 use Rattle.std.specs.List.{Contains}
 use Rattle.std.specs.Str.{bytes_eq}
@@ -12,8 +11,8 @@ use Rattle.std.proofs.lemmas.Option.{none-some, same_Some}
 use Rattle.std.proofs.lemmas.Slice.Eq.{bytes_eq-Decides}
 use Rattle.entry_order.specs.Node.{Node}
 use Rattle.entry_order.proofs.Lists.{Contains-none}
+use Rattle.entry_order.proofs.Places.{last_at, push_before, push_cases, taken_more}
 use Rattle.entry_graph.specs.inside.Tables.{number_at, IsTableOf, AreStamps, ArePlaces}
-use Rattle.entry_graph.proofs.Places.{push_here, push_before, push_cases, taken_more}
 
 -- the table has this number at the digest, and all else as before
 abbrev pub IsSet : List (List ℕ × ℕ) → List (List ℕ × ℕ) → List ℕ → ℕ → Type 0
@@ -82,7 +81,7 @@ module _ {T : Type 0} (node : T → Node) where
       table_more (λ d n. (f : T) × (slice_get es n ≡ Some f) × ((node f).digest ≡ d))
       (λ d n. (f : T) × (slice_get (es ++ e ∷ []) n ≡ Some f) × ((node f).digest ≡ d))
       before after (node e).digest (length es) set table
-      (e, push_here es e, refl)
+      (e, last_at es e, refl)
       (λ d m (f, at, is). (f, push_before es e m f at, is))
       (λ d m (f, at, is). elim (push_cases es e m f at) [
         | inl h ↦ inl (f, h, is)

@@ -1,5 +1,6 @@
 -- Ascending digests: what is in such a list, and that its members say which list it is.
 use Rattle.std.proofs.Common.{◌≡◌, ℕ, Bool, true, false, cond, List, [], ◌∷◌, refl, sym, ap, subst, ◌∙◌, ◌⊎◌, inl, inr}
+use Rattle.std.proofs.Common.{◌+◌, ◌≤◌, length, arith}
 use Rattle.std.specs.List.{Contains, filter}
 use Rattle.std.specs.Cmp.Lexicographic.{slice_cmp}
 use Rattle.std.specs.Ordering.{nat_cmp, ordering_reverse}
@@ -9,8 +10,10 @@ use Rattle.std.proofs.lemmas.Cmp.{nat_list_cmp_total}
 use Rattle.std.proofs.lemmas.Map.Lookups.{exact_bytes}
 use Rattle.entry_order.specs.Ascending.{inserted, insert_digest, ascending, IsAscending, IsAscendingOf}
 use Rattle.entry_order.specs.Ascending.{AscendingIsUnique}
-use Rattle.entry_order.proofs.Lists.{Contains-none, Contains-head, Contains-later, Contains-at, Contains-cons_cases}
+use Rattle.entry_order.proofs.Lists.{Contains-none, Contains-later, Contains-at, Contains-cons_cases}
 use Rattle.entry_order.proofs.Lists.{Contains-filter_cases}
+use Rattle.entry_order.proofs.Rising.{Rises, same_rising}
+use Rattle.entry_order.proofs.Comparisons.{not_both}
 
 -- putting d in its place adds d alone
 added : (o : Ordering) (d c : List ℕ) (cs : List (List ℕ)) (y : List ℕ) → slice_cmp nat_cmp d c ≡ o →
@@ -72,44 +75,15 @@ Contains-ascending_cases (d ∷ ds) y h =
 abbrev pub IsBelow : List ℕ → List ℕ → Type 0
 IsBelow d c = slice_cmp nat_cmp d c ≡ Less
 
--- no two digests are each below the other
-not_both : (x y : List ℕ) → IsBelow x y → IsBelow y x → ⊥
-not_both x y a b = let e : Less ≡ Greater = sym a ∙ nat_list_cmp_total.antisymm x y ∙ ap ordering_reverse b in cc
+-- in an ascending list each digest goes before all later ones
+rising : (ds : List (List ℕ)) → IsAscending ds → Rises IsBelow ds
+rising [] a = tt
+rising (d ∷ ds) (d_is_first, ds_rise) = (d_is_first, rising ds ds_rise)
 
 -- two ascending lists with the same members are equal
 pub same_ascending : (xs ys : List (List ℕ)) → IsAscending xs → IsAscending ys →
     ((d : List ℕ) → Contains xs d → Contains ys d) → ((d : List ℕ) → Contains ys d → Contains xs d) → xs ≡ ys
-same_ascending [] [] a b to from = refl
-same_ascending [] (y ∷ ys) a b to from = absurd (Contains-none y (from y (Contains-head y ys)))
-same_ascending (x ∷ xs) [] a b to from = absurd (Contains-none x (to x (Contains-head x xs)))
-same_ascending (x ∷ xs) (y ∷ ys) (x_is_first, xs_rise) (y_is_first, ys_rise) to from =
-    let heads : x ≡ y =
-    elim (Contains-cons_cases y ys x (to x (Contains-head x xs))) [
-      | inl e ↦ sym e
-      | inr u ↦ elim
-          (Contains-cons_cases x xs y (from y (Contains-head y ys))) [
-            | inl e ↦ e
-            | inr v ↦ absurd
-                (not_both x y (x_is_first y v) (y_is_first x u))
-          ]
-    ] in
-    let forth : (d : List ℕ) → Contains xs d → Contains ys d =
-    λ d c. elim
-    (Contains-cons_cases y ys d (to d (Contains-later x xs d c))) [
-      | inl e ↦ absurd
-          (let m : IsBelow x x = subst (λ u. IsBelow x u) (sym (heads ∙ e)) (x_is_first d c) in
-          not_both x x m m)
-      | inr u ↦ u
-    ] in
-    let back : (d : List ℕ) → Contains ys d → Contains xs d =
-    λ d c. elim
-    (Contains-cons_cases x xs d (from d (Contains-later y ys d c))) [
-      | inl e ↦ absurd
-          (let m : IsBelow y y = subst (λ u. IsBelow y u) (sym e ∙ heads) (y_is_first d c) in not_both y y m m)
-      | inr u ↦ u
-    ] in
-    let tails : xs ≡ ys = same_ascending xs ys xs_rise ys_rise forth back in
-    λ i. heads i ∷ tails i
+same_ascending xs ys a b to from = same_rising IsBelow not_both xs ys (rising xs a) (rising ys b) to from
 
 -- putting a digest beside the first keeps the order, where the rest keeps it
 inserted_ascending : (o : Ordering) (d c : List ℕ) (cs after : List (List ℕ)) → slice_cmp nat_cmp d c ≡ o →
@@ -165,3 +139,15 @@ filter_ascending p (d ∷ ds) (d_is_first, ds_rise) =
       )
       | false ↦ filter_ascending p ds ds_rise
     ]
+
+-- a digest put in its place makes a list longer by at most one
+pub length-insert_digest : (d : List ℕ) (ds : List (List ℕ)) → length (insert_digest d ds) ≤ length ds + 1
+length-insert_digest d [] = omega arith
+length-insert_digest d (c ∷ cs) = by (slice_cmp nat_cmp d c) (length-insert_digest d cs)
+  where
+    -- the same by how it compares with the first
+    by : (o : Ordering) → length (insert_digest d cs) ≤ length cs + 1 →
+        length (inserted o d c cs (insert_digest d cs)) ≤ length (c ∷ cs) + 1
+    by Less rest = omega arith
+    by Equal rest = omega arith
+    by Greater rest = omega (arith, rest)

@@ -6,6 +6,7 @@ use Rattle.std.specs.List.{Contains, filter}
 use Rattle.std.proofs.lemmas.Bool.{not-true, not_from_false, or_parts, or_from, true≢false, false_from_ne_true}
 use Rattle.std.proofs.lemmas.List.Folds.{list_any-append}
 use Rattle.std.proofs.lemmas.List.Elements.{Contains-append_left, Contains-append_cases, Contains-push}
+use Rattle.std.proofs.Math.Bool.{or-false}
 use Rattle.entry_order.specs.Node.{Node}
 use Rattle.entry_order.specs.Naming.{IsNamedIn, IsBorneIn, names_digest, is_named}
 use Rattle.entry_order.specs.Ascending.{insert_digest, IsAscending}
@@ -75,17 +76,12 @@ module _ {T : Type 0} (node : T → Node) where
             (λ d c. (is.members d).1 ((frontier_members es d).0 c)),
       )
 
-  -- false adds nothing
-  or_nothing : (b : Bool) → (b || false) ≡ b
-  or_nothing true = refl
-  or_nothing false = refl
-
   -- a digest is named by one entry more where it was, or where that entry names it
   named_push : (es : List T) (e : T) (d : List ℕ) →
       is_named node (es ++ e ∷ []) d ≡ (is_named node es d || names_digest node e d)
   named_push es e d =
       list_any-append (λ g. names_digest node g d) es (e ∷ [])
-      ∙ ap (λ b. is_named node es d || b) (or_nothing (names_digest node e d))
+      ∙ ap (λ b. is_named node es d || b) (or-false (names_digest node e d))
 
   -- the frontier when e is held too: what e names goes, and e's digest comes in its place unless it is named
   pub frontier_push : (es : List T) (e : T) →

@@ -1,8 +1,7 @@
 -- What is left of an honest place.
-use Rattle.std.proofs.Common.{◌≡◌, ℕ, ◌<◌, Bool, true, false, cond, List, [], ◌∷◌, ◌++◌, length, refl, sym, ap, subst}
-use Rattle.std.proofs.Common.{◌∙◌, arith}
+use Rattle.std.proofs.Common.{◌≡◌, ℕ, ◌<◌, false, List, [], ◌∷◌, ◌++◌, length, refl, sym, ap, subst, ◌∙◌, arith}
 use Rattle.std.specs.Prelude.{not}
-use Rattle.std.specs.List.{Contains, filter}
+use Rattle.std.specs.List.{Contains}
 use Rattle.std.proofs.lemmas.Bool.{not_from_false}
 use Rattle.entry_order.specs.declared.event.Event.{Event}
 use Rattle.entry_order.specs.declared.event.Event.TheVariants.{Sent, Got}
@@ -16,21 +15,15 @@ use Rattle.entry_order.specs.Completion.{Completion}
 use Rattle.entry_order.specs.Honest.{HasNoFork, OrderIsHeld, IsAllKnown, AgreesWith, HonestEntriesAgree}
 use Rattle.entry_order.specs.Honest.{HonestEntriesAgreeInOrderlyWorlds}
 use Rattle.entry_order.specs.Made.{NumberedIsDistinct}
-use Rattle.entry_order.proofs.Lists.{Contains-head, Contains-later}
+use Rattle.entry_order.proofs.Lists.{Contains-head, filter_all}
 use Rattle.entry_order.proofs.Frontiers.{frontier_entry}
 use Rattle.entry_order.proofs.Strays.{no_stray_from}
 use Rattle.entry_order.proofs.Completions.{gap_cases}
 use Rattle.entry_order.proofs.Machines.{in_world, length_start, length_play}
 use Rattle.entry_order.proofs.Orders.{was_sent, held_was_sent, next_of, rises, one_order}
 use Rattle.entry_order.proofs.Plays.{IsOrderly-play, IsOrderly-start}
-use Rattle.entry_order.proofs.Settled.{settled, at_place}
-
--- a filter that all pass keeps all
-filter_all : {X : Type 0} (p : X → Bool) (xs : List X) → ((x : X) → Contains xs x → p x ≡ true) → filter p xs ≡ xs
-filter_all p [] each = refl
-filter_all p (x ∷ xs) each =
-    ap (λ b. cond b (x ∷ filter p xs) (filter p xs)) (each x (Contains-head x xs))
-    ∙ ap (λ ys. x ∷ ys) (filter_all p xs (λ y c. each y (Contains-later x xs y c)))
+use Rattle.entry_order.proofs.Settled.{settled}
+use Rattle.entry_order.proofs.Places.{member_at}
 
 -- in one history, the entry that was sent after so many others is one
 nth_sent : {T : Type 0} (p q : List (Event T)) (e f : T) (l m : List (Event T)) →
@@ -103,8 +96,8 @@ module _ {T : Type 0} (node : T → Node) (w : World T) (orderly : IsOrderly nod
     order parents ragged graph y x f e fy ex =
         let s = settled node machines given parents ragged graph y x f e fy ex in
         let same =
-        one_order node w orderly distinct f e (were_sent f (at_place given y f fy))
-        (were_sent e (at_place given x e ex)) in
+        one_order node w orderly distinct f e (were_sent f (member_at given y f fy))
+        (were_sent e (member_at given x e ex)) in
         (λ t. same.0 (s.0 t (sent_in w) completed), λ t h. s.1 t (sent_in w) completed (same.1 h))
 
     module _ (all : (e : T) → Contains (sent_in w) e → Contains given e) where

@@ -1,4 +1,7 @@
 pub mod Lists
+pub mod Places
+pub mod Comparisons
+pub mod Rising
 pub mod Naming
 pub mod Stamps
 pub mod Ascending
@@ -6,6 +9,7 @@ pub mod Frontiers
 pub mod Held
 pub mod Histories
 pub mod Orders
+pub mod Apart
 pub mod FewStamps
 pub mod Plays
 pub mod MadePlays

@@ -7,9 +7,8 @@ use Rattle.std.proofs.lemmas.Option.{slice_get_past}
 use Rattle.std.proofs.lemmas.List.{append-nil}
 use Rattle.entry_order.proofs.Naming.{has_digest_from}
 use Rattle.std.specs.Cmp.Lexicographic.{slice_cmp}
-use Rattle.std.specs.Ordering.{nat_cmp, ordering_reverse}
-use Rattle.std.specs.declared.cmp.Ordering.TheVariants.{Less, Greater}
-use Rattle.std.proofs.lemmas.Cmp.{nat_list_cmp_total}
+use Rattle.std.specs.Ordering.{nat_cmp}
+use Rattle.std.specs.declared.cmp.Ordering.TheVariants.{Less}
 use Rattle.std.proofs.lemmas.Bool.{cases_eq, cases_lt, eq-eqb, ne_eqb, eqb-true, false_from_ne_true, or_from, lt-leb}
 use Rattle.entry_order.specs.declared.event.Event.{Event}
 use Rattle.entry_order.specs.declared.event.Event.TheVariants.{Sent, Got}
@@ -29,6 +28,8 @@ use Rattle.entry_order.proofs.Machines.{length_start, get_same, get_other, get_s
 use Rattle.entry_order.proofs.Machines.{length_play}
 use Rattle.entry_order.proofs.Ranks.{later_rank, receipt_rank}
 use Rattle.entry_order.proofs.Orders.{member_split, was_sent}
+use Rattle.entry_order.proofs.Rising.{Rises, same_rising}
+use Rattle.entry_order.proofs.Comparisons.{not_both}
 
 -- ---- sorted lists
 
@@ -37,46 +38,17 @@ module _ {T : Type 0} where
   abbrev pub Lower : PlacedEvent T → PlacedEvent T → Type 0
   Lower x y = slice_cmp nat_cmp (sort_key x) (sort_key y) ≡ Less
 
-  -- no two events each go before the other
-  not_both : (x y : PlacedEvent T) → Lower x y → Lower y x → ⊥
-  not_both x y a b =
-      let e : Less ≡ Greater = sym a ∙ nat_list_cmp_total.antisymm (sort_key x) (sort_key y)
-      ∙ ap ordering_reverse b in cc
+  -- in a sorted list each event goes before all later ones
+  rising : (xs : List (PlacedEvent T)) → IsInSortOrder xs → Rises Lower xs
+  rising [] a = tt
+  rising (x ∷ xs) (x_is_first, xs_rise) = (x_is_first, rising xs xs_rise)
 
   -- two sorted lists with the same members are equal
   pub same_sorted : (xs ys : List (PlacedEvent T)) → IsInSortOrder xs → IsInSortOrder ys →
       ((d : PlacedEvent T) → Contains xs d → Contains ys d) →
       ((d : PlacedEvent T) → Contains ys d → Contains xs d) → xs ≡ ys
-  same_sorted [] [] a b to from = refl
-  same_sorted [] (y ∷ ys) a b to from = absurd (Contains-none y (from y (Contains-head y ys)))
-  same_sorted (x ∷ xs) [] a b to from = absurd (Contains-none x (to x (Contains-head x xs)))
-  same_sorted (x ∷ xs) (y ∷ ys) (x_is_first, xs_rise) (y_is_first, ys_rise) to from =
-      let heads : x ≡ y =
-      elim (Contains-cons_cases y ys x (to x (Contains-head x xs))) [
-        | inl e ↦ sym e
-        | inr u ↦ elim
-            (Contains-cons_cases x xs y (from y (Contains-head y ys))) [
-              | inl e ↦ e
-              | inr v ↦ absurd
-                  (not_both x y (x_is_first y v) (y_is_first x u))
-            ]
-      ] in
-      let forth : (d : PlacedEvent T) → Contains xs d → Contains ys d =
-      λ d c. elim
-      (Contains-cons_cases y ys d (to d (Contains-later x xs d c))) [
-        | inl e ↦ absurd
-            (let m : Lower x x = subst (λ u. Lower x u) (sym (heads ∙ e)) (x_is_first d c) in not_both x x m m)
-        | inr u ↦ u
-      ] in
-      let back : (d : PlacedEvent T) → Contains ys d → Contains xs d =
-      λ d c. elim
-      (Contains-cons_cases x xs d (from d (Contains-later y ys d c))) [
-        | inl e ↦ absurd
-            (let m : Lower y y = subst (λ u. Lower y u) (sym e ∙ heads) (y_is_first d c) in not_both y y m m)
-        | inr u ↦ u
-      ] in
-      let tails : xs ≡ ys = same_sorted xs ys xs_rise ys_rise forth back in
-      λ i. heads i ∷ tails i
+  same_sorted xs ys a b to from =
+      same_rising Lower (λ x y. not_both (sort_key x) (sort_key y)) xs ys (rising xs a) (rising ys b) to from
 
   -- a part of a sorted list is sorted
   filter_sorted : (p : PlacedEvent T → Bool) (xs : List (PlacedEvent T)) → IsInSortOrder xs →
@@ -95,9 +67,9 @@ module _ {T : Type 0} where
   lower_is_before [] x r y a c l =
       elim (Contains-cons_cases x r y c) [
         | inl e ↦ absurd
-            (let m : Lower y y = subst (λ u. Lower y u) e l in not_both y y m m)
+            (let m : Lower y y = subst (λ u. Lower y u) e l in not_both (sort_key y) (sort_key y) m m)
         | inr h ↦ absurd
-            (not_both x y (a.0 y h) l)
+            (not_both (sort_key x) (sort_key y) (a.0 y h) l)
       ]
   lower_is_before (z ∷ d) x r y a c l =
       elim (Contains-cons_cases z (d ++ x ∷ r) y c) [

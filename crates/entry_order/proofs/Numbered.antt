@@ -10,7 +10,7 @@ use Rattle.entry_order.specs.Naming.{Names}
 use Rattle.entry_order.specs.Survivors.{IsStray}
 use Rattle.entry_order.specs.Ancestors.{Descends}
 use Rattle.entry_order.proofs.Strays.{stamp_rises}
-use Rattle.entry_order.proofs.Settled.{at_place}
+use Rattle.entry_order.proofs.Places.{member_at}
 
 module _ {T : Type 0} (node : T → Node) where
   -- where places go by stamps, what an entry names stands below it
@@ -20,7 +20,7 @@ module _ {T : Type 0} (node : T → Node) where
       (e : T) × (f : T) × (slice_get S i ≡ Some e) × (slice_get S p ≡ Some f) × Names node e f) → Descends parents
   descends_by_stamp S parents sorted sound arrows i p c =
       let (e, f, at_i, at_p, names) = arrows i p c in
-      let up = stamp_rises node S e f (sound e (at_place S i e at_i)) (at_place S p f at_p) names in
+      let up = stamp_rises node S e f (sound e (member_at S i e at_i)) (member_at S p f at_p) names in
       let high : i ≤ p → ⊥ =
       λ le.
       let s = sorted i p e le (slice_get_within S p f at_p) in

@@ -3,9 +3,8 @@ use Rattle.std.proofs.Common.{◌≡◌, ℕ, ◌+◌, ◌<◌, ◌≤◌, max, 
 use Rattle.std.proofs.Common.{inl, inr, append_assoc, length-append, arith}
 use Rattle.std.specs.Cmp.Lexicographic.{slice_cmp}
 use Rattle.std.specs.Ordering.{nat_cmp, ordering_then}
-use Rattle.std.specs.declared.cmp.Ordering.TheVariants.{Less, Equal}
+use Rattle.std.specs.declared.cmp.Ordering.TheVariants.{Less}
 use Rattle.std.proofs.lemmas.Bool.{cases_order}
-use Rattle.std.proofs.lemmas.Bool.Decides.{nat_tests}
 use Rattle.std.proofs.lemmas.List.Elements.{Contains-append_right}
 use Rattle.std.proofs.lemmas.List.{map-append}
 use Rattle.std.proofs.lemmas.List.Sums.{fold-append}
@@ -17,14 +16,7 @@ use Rattle.entry_order.specs.Merged.{kind, sort_key, placed}
 use Rattle.entry_order.proofs.Lists.{Contains-head, Contains-map}
 use Rattle.entry_order.proofs.Histories.{greatest_push}
 use Rattle.entry_order.proofs.Stamps.{stamp_below, top_at_least}
-
--- the order of numbers says less
-less : (a b : ℕ) → a < b → nat_cmp a b ≡ Less
-less a b l = grind (arith, nat_tests)
-
--- or equal
-tied : (a b : ℕ) → a ≡ b → nat_cmp a b ≡ Equal
-tied a b e = grind (arith, nat_tests)
+use Rattle.entry_order.proofs.Comparisons.{less, level}
 
 -- a list whose first number is lower is lower
 first_less : (a b : ℕ) (xs ys : List ℕ) → a < b → slice_cmp nat_cmp (a ∷ xs) (b ∷ ys) ≡ Less
@@ -33,7 +25,7 @@ first_less a b xs ys l = ap (λ o. ordering_then o (slice_cmp nat_cmp xs ys)) (l
 -- where the first numbers are equal the rest decides
 first_tied : (a b : ℕ) (xs ys : List ℕ) → a ≡ b → slice_cmp nat_cmp xs ys ≡ Less →
     slice_cmp nat_cmp (a ∷ xs) (b ∷ ys) ≡ Less
-first_tied a b xs ys e l = ap (λ o. ordering_then o (slice_cmp nat_cmp xs ys)) (tied a b e) ∙ l
+first_tied a b xs ys e l = ap (λ o. ordering_then o (slice_cmp nat_cmp xs ys)) (level a b e) ∙ l
 
 module _ {T : Type 0} (node : T → Node) where
   -- what is held more doesn't lower the greatest stamp

@@ -1,11 +1,10 @@
 -- The three values are the ancestors by walks, and so what holds in every completion.
-use Rattle.std.proofs.Common.{◌≡◌, ℕ, zero, suc, ◌≤◌, Bool, true, false, cond, List, [], ◌∷◌, ◌++◌, length, refl, sym}
+use Rattle.std.proofs.Common.{◌≡◌, ℕ, zero, suc, ◌≤◌, Bool, true, false, cond, List, [], ◌∷◌, ◌++◌, refl, sym}
 use Rattle.std.proofs.Common.{subst, ◌∙◌, inl, inr, Some, arith}
 use Rattle.std.specs.Prelude.{slice_get, not, ◌||◌, ◌==◌}
 use Rattle.std.specs.List.{Contains, list_all}
 use Rattle.std.proofs.lemmas.Bool.{or_cases, or_left, or_right, and_parts, and_from, eqb-true, eq-eqb, not-true}
 use Rattle.std.proofs.lemmas.Bool.{not_from_false, true≢false, false≢true}
-use Rattle.std.proofs.lemmas.Option.{slice_get_within, get_or_from_slice_get, slice_get_read}
 use Rattle.entry_order.specs.declared.three.Three.TheVariants.{False, Unknown, True}
 use Rattle.entry_order.specs.Node.{Node}
 use Rattle.entry_order.specs.Naming.{Names}
@@ -16,6 +15,7 @@ use Rattle.entry_order.specs.Settled.{IsWhole, IsGraphOf, GraphsAreExact, OrderI
 use Rattle.entry_order.proofs.Lists.{Contains-none, Contains-head, Contains-later, Contains-cons_cases, list_any_some}
 use Rattle.entry_order.proofs.Lists.{list_any_of}
 use Rattle.entry_order.proofs.Completions.{before_in_completion, before_among_survivors}
+use Rattle.entry_order.proofs.Places.{member_at, place_of}
 
 -- each passes, and the other way round
 list_all_each : {X : Type 0} (p : X → Bool) (xs : List X) → list_all p xs ≡ true → (x : X) → Contains xs x → p x ≡ true
@@ -97,14 +97,6 @@ module _ (parents : ℕ → List ℕ) where
 
 -- ---- places and entries
 
--- what stands at a place is a member
-pub at_place : {T : Type 0} (S : List T) (i : ℕ) (e : T) → slice_get S i ≡ Some e → Contains S e
-at_place S i e s = (i, slice_get_within S i e s, get_or_from_slice_get S i e e s)
-
--- a survivor has a place
-pub place_of : {T : Type 0} (S : List T) (e : T) → Contains S e → (i : ℕ) × (slice_get S i ≡ Some e)
-place_of S e (i, l, s) = (i, slice_get_read S (length S) i e refl l (sym s))
-
 -- a walk with one arrow more at its far end
 walk_on : (parents : ℕ → List ℕ) (x : ℕ) (zs : List ℕ) (y z : ℕ) → IsWalk parents x zs y → Contains (parents y) z →
     IsWalk parents x (zs ++ y ∷ []) z
@@ -127,7 +119,7 @@ module _ {T : Type 0} (node : T → Node) (machines : ℕ) (S : List T) (parents
       let (g, gz) = graph.inside x z arrow in
       let (gs, path) = path_from_walk z y zs g f gz fy walk in (
         gs ++ g ∷ [],
-        path_on node S f gs g e path (at_place S z g gz) ((graph.arrows x z e g ex gz).0 arrow),
+        path_on node S f gs g e path (member_at S z g gz) ((graph.arrows x z e g ex gz).0 arrow),
       )
 
   -- and a path is a walk
@@ -160,7 +152,7 @@ module _ {T : Type 0} (node : T → Node) (machines : ℕ) (S : List T) (parents
       (graph.gaps_shown x e ex).1 whole.itself,
       λ z (zs, walk). let (g, gz) = is_inside z zs x walk in
           let (gs, path) = path_from_walk x z zs e g ex gz walk in
-          (graph.gaps_shown z g gz).1 (whole.ancestors g (at_place S z g gz, at_place S x e ex, gs, path)),
+          (graph.gaps_shown z g gz).1 (whole.ancestors g (member_at S z g gz, member_at S x e ex, gs, path)),
     )
 
     -- a place that is reached is that of an entry that precedes
@@ -168,7 +160,7 @@ module _ {T : Type 0} (node : T → Node) (machines : ℕ) (S : List T) (parents
     precedes_from_reaches r =
         let (zs, walk) = ancestor_from_reaches parents x y x r in
         let (gs, path) = path_from_walk x y zs e f ex fy walk in
-        (at_place S y f fy, at_place S x e ex, gs, path)
+        (member_at S y f fy, member_at S x e ex, gs, path)
 
     -- the place of an entry that precedes is reached
     pub reaches_from_precedes : Precedes node S f e → reaches parents x y x ≡ true
@@ -205,7 +197,7 @@ module _ {T : Type 0} (node : T → Node) (machines : ℕ) (S : List T) (parents
           λ o. cc,
           λ _ G h p. false≢true
               (sym er ∙ reaches_from_precedes
-              (before_among_survivors node S machines G h f e (at_place S x e ex) (whole_from_test ec) p)),
+              (before_among_survivors node S machines G h f e (member_at S x e ex) (whole_from_test ec) p)),
           λ o. cc,
         )
         by false er false ec = (

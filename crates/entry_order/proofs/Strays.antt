@@ -14,7 +14,7 @@ use Rattle.entry_order.proofs.Naming.{names_digest_of, names_digest_from}
 
 module _ {T : Type 0} (node : T → Node) where
   -- a stray is found
-  is_stray_of : (given : List T) (e : T) → IsStray node given e → is_stray node given e ≡ true
+  pub is_stray_of : (given : List T) (e : T) → IsStray node given e → is_stray node given e ≡ true
   is_stray_of given e (g, (i, l, at), names, high) =
       let test = λ (g : T). names_digest node e (node g).digest && nat_le (node e).stamp (node g).stamp in
       let named = names_digest_of node e (node g).digest names in
@@ -24,7 +24,7 @@ module _ {T : Type 0} (node : T → Node) where
       list_any_at test given i g l (ap test at ∙ both)
 
   -- what is found is a stray
-  is_stray_from : (given : List T) (e : T) → is_stray node given e ≡ true → IsStray node given e
+  pub is_stray_from : (given : List T) (e : T) → is_stray node given e ≡ true → IsStray node given e
   is_stray_from given e t =
       let (g, there, test) = list_any_some
       (λ g. names_digest node e (node g).digest && nat_le (node e).stamp (node g).stamp) given t in

@@ -8,7 +8,7 @@ use Rattle.entry_format.specs.SealedEntry.{SealedEntry}
 use Rattle.entry_order.specs.Receipt.{IsOrderly, StampsAreFew}
 use Rattle.entry_order.specs.World.{Machine, sent_in}
 use Rattle.election_script.specs.declared.script.Script.{Script}
-use Rattle.election_script.specs.Lawful.{IsLawful}
+use Rattle.election_script.specs.Lawful.{IsLawful, max_events}
 use Rattle.floor_sweep.specs.Wholes.{IsWholeRun}
 use Rattle.floor_sweep.proofs.Places.{length_world}
 use Rattle.polling_world.specs.Machines.{MachineState}
@@ -23,7 +23,7 @@ use Rattle.finished_floor.proofs.Roomy.{held_sent}
 module _ (script : Script) (lawful : IsLawful script) (ms : List MachineState) (of : AreMachinesOf script ms)
     (orderly : IsOrderly node_of_sealed (world_of ms)) (law : StampsAreFew node_of_sealed) where
   -- there are at most 16 machines, and each has at most 4,096 events
-  few_sent : length (sent_in (world_of ms)) ≤ 4096 * length (world_of ms)
+  few_sent : length (sent_in (world_of ms)) ≤ max_events * length (world_of ms)
   few_sent =
       sent_in_few (world_of ms)
       (λ k a is.

@@ -8,10 +8,12 @@ use Rattle.std.proofs.lemmas.List.{append_assoc, length-map, replicate-append-re
 use Rattle.std.proofs.lemmas.Option.{slice_get_within, slice_get-get_or}
 use Rattle.entry_format.specs.SealedEntry.{SealedEntry}
 use Rattle.entry_order.specs.declared.event.Event.{Event}
+use Rattle.entry_order.proofs.Places.{one_at}
 use Rattle.polling_world.specs.Machines.{MachineState}
-use Rattle.polling_world.proofs.Placing.{one_there, set_cases, set_get}
+use Rattle.polling_world.proofs.Placing.{set_cases, set_get}
 use Rattle.finished_floor.specs.Floors.{IsBy, pass_of, passes_of}
 use Rattle.finished_floor.specs.inside.Begun.{IsBegunBy}
+use Rattle.floor_sweep.proofs.Places.{length_set}
 
 module _ {X : Type 0} (row : List X) (x : X) where
   -- one more is added
@@ -111,11 +113,11 @@ module _ {B : Type 0} (f : B → List (Option ℕ)) (ms : List MachineState) whe
       slice_get ms at ≡ Some m → slice_get by at ≡ Some row →
       f new ≡ f row ++ replicate (length m.events - length (f row)) None → Filling (at + 1) (slice_set by at new)
   filling_more at by m row new filling stood there is = record {
-    many = set_many by at new ∙ filling.many;
+    many = length_set by at new ∙ filling.many;
     done = λ k u z here has lt.
         elim (cases_eq k at) [
-          | inl s ↦ (let a : m ≡ u = one_there ms at m u stood (ap (slice_get ms) (sym s) ∙ here) in
-              let b : new ≡ z = one_there (slice_set by at new) at new z (set_get by at row new there)
+          | inl s ↦ (let a : m ≡ u = one_at ms at m u stood (ap (slice_get ms) (sym s) ∙ here) in
+              let b : new ≡ z = one_at (slice_set by at new) at new z (set_get by at row new there)
               (ap (slice_get (slice_set by at new)) (sym s) ∙ has) in
               subst (λ (v : MachineState). IsBy v.events (f z)) a
               (subst (λ (v : B). IsBy m.events (f v)) b
@@ -127,12 +129,6 @@ module _ {B : Type 0} (f : B → List (Option ℕ)) (ms : List MachineState) whe
         filling.rest k u z here (others k z (λ s. absurd (omega arith)) has) (omega arith);
   }
     where
-      -- putting a list in a place leaves as many
-      set_many : (xs : List B) (i : ℕ) (y : B) → length (slice_set xs i y) ≡ length xs
-      set_many [] i y = refl
-      set_many (x ∷ xs) zero y = refl
-      set_many (x ∷ xs) (suc i) y = ap suc (set_many xs i y)
-
       -- the list at another place is as it was
       others : (k : ℕ) (z : B) → k ≢ at → slice_get (slice_set by at new) k ≡ Some z → slice_get by k ≡ Some z
       others k z differs has =

@@ -1,14 +1,12 @@
 -- Losses that are sorted.
-use Rattle.std.proofs.Common.{◌≡◌, ◌∙◌, ℕ, suc, ◌<◌, inl, inr, Bool, false, List, [], ◌∷◌}
-use Rattle.std.proofs.Common.{get_or, refl, sym, ap, arith}
-use Rattle.std.specs.Prelude.{nat_lt, ◌==◌, cond}
+use Rattle.std.proofs.Common.{◌≡◌, ◌∙◌, ℕ, suc, inl, inr, Bool, false, List, [], ◌∷◌, get_or, refl, sym, ap, arith}
 use Rattle.std.specs.List.{AllPairs, IsDistinct}
 use Rattle.std.specs.List.Sorted.{IsPermutation, IsSortedByKey}
 use Rattle.std.specs.Cmp.{IsTotalOrder, on_total, then_total}
 use Rattle.std.specs.Ordering.{nat_cmp, ordering_then, is_lt}
 use Rattle.std.specs.declared.cmp.Ordering.{Ordering}
 use Rattle.std.specs.declared.cmp.Ordering.TheVariants.{Less, Equal, Greater}
-use Rattle.std.proofs.lemmas.Bool.{cases_Bool, cases_order, true≢false, cond-true, cond-false, lt-ltb, le-ltb, eq-eqb}
+use Rattle.std.proofs.lemmas.Bool.{cases_Bool, cases_order, true≢false}
 use Rattle.std.proofs.lemmas.Cmp.{nat_cmp_total}
 use Rattle.std.proofs.lemmas.List.Elements.{All-from_recursion, recursion_from_All}
 use Rattle.std.proofs.lemmas.List.Kept.{AllPairs-cons}
@@ -19,6 +17,7 @@ use Rattle.floor_losses.specs.Losses.{is_of, Differ, AreOnce}
 use Rattle.floor_losses.proofs.Arriving.{is_of_parts, itself}
 use Rattle.floor_losses.proofs.Once.{differ_sym}
 use Rattle.finished_floor.specs.Losses.{IsToldBefore}
+use Rattle.entry_order.proofs.Comparisons.{level, less}
 
 -- a sender, a receiver and a number, and their order
 abbrev pub Key : Type 0
@@ -44,15 +43,6 @@ regroup : (a b c : Ordering) → ordering_then (ordering_then a b) c ≡ orderin
 regroup Less b c = refl
 regroup Equal b c = refl
 regroup Greater b c = refl
-
--- how numbers compare
-level : (m n : ℕ) → m ≡ n → nat_cmp m n ≡ Equal
-level m n same = cond-false (nat_lt m n) Less (cond (m == n) Equal Greater) (le-ltb m n (omega arith))
-    ∙ cond-true (m == n) Equal Greater (eq-eqb m n same)
-
--- a lower number compares as less
-less : (m n : ℕ) → m < n → nat_cmp m n ≡ Less
-less m n lower = cond-true (nat_lt m n) Less (cond (m == n) Equal Greater) (lt-ltb m n lower)
 
 -- of two losses on different ways or of different entries, the one that isn't above is told first
 told_from : (a b : Loss) → is_lt (compare (key_of b) (key_of a)) ≡ false → Differ a b → IsToldBefore a b

@@ -1,5 +1,5 @@
 -- What a turn does to what was put, and to what was taken.
-use Rattle.std.proofs.Common.{◌≡◌, ◌≢◌, ℕ, ◌<◌, Bool, true, false, cond, List, [], ◌∷◌, ◌++◌, refl}
+use Rattle.std.proofs.Common.{◌≡◌, ◌≢◌, ℕ, ◌<◌, true, false, cond, List, [], ◌∷◌, ◌++◌}
 use Rattle.std.proofs.Common.{sym, ap, ◌∙◌, arith, ◌⊎◌, inl, inr, get_or}
 use Rattle.std.specs.Prelude.{All, ◌==◌, ◌||◌}
 use Rattle.std.specs.List.{Contains, filter}
@@ -7,6 +7,7 @@ use Rattle.std.proofs.lemmas.Bool.{cases_eq, eq-eqb, ne_eqb}
 use Rattle.std.proofs.lemmas.List.{append-nil}
 use Rattle.std.proofs.lemmas.List.Elements.{All-contains, filter-append}
 use Rattle.std.proofs.lemmas.List.Folds.{list_any_none}
+use Rattle.std.proofs.Math.Bool.{or-false}
 use Rattle.entry_format.specs.Nodes.{node_of_sealed}
 use Rattle.entry_format.specs.SealedEntry.{SealedEntry}
 use Rattle.entry_order.specs.declared.event.Event.{Event}
@@ -21,11 +22,6 @@ use Rattle.floor_losses.proofs.Arriving.{arriving_same, arriving_kept, arriving_
 pub none_of : (losses : List Loss) (from number to : ℕ) →
     All (λ (loss : Loss). is_of from number to loss ≡ false) losses → is_lost losses from number to ≡ false
 none_of losses from number to none = list_any_none (is_of from number to) losses none
-
--- with a test that fails the other decides
-pub or_false : (b : Bool) → (b || false) ≡ b
-or_false true = refl
-or_false false = refl
 
 -- the entry was put, or lost on the way
 pub puts_more : (losses lost : List Loss) (own to k : ℕ) (es : List SealedEntry) (e : SealedEntry)
@@ -44,7 +40,7 @@ puts_more losses lost own to k es e old new number below older now was fate =
     (none_of lost own x.entry.number to
     (λ j d lt. other_number (get_or lost j d) own x.entry.number to (λ s. let h = now j d lt in
     let b = below x c in absurd (omega arith))))
-    ∙ or_false (is_lost losses own x.entry.number to) in
+    ∙ or-false (is_lost losses own x.entry.number to) in
     let arrived : arriving node_of_sealed (losses ++ lost) own to es ≡ old =
     arriving_same node_of_sealed losses (losses ++ lost) own to es same ∙ sym was in
     let fresh : is_lost losses own k to ≡ false =
@@ -74,7 +70,7 @@ other_way losses lost from to es other =
       | inl n ↦ other_from (get_or lost j d) from x.entry.number to n
       | inr n ↦ other_to (get_or lost j d) from x.entry.number to n
     ]))
-    ∙ or_false (is_lost losses from x.entry.number to))
+    ∙ or-false (is_lost losses from x.entry.number to))
 
 -- of its maker, and of others
 pub got_from-here : (h : List (Event SealedEntry)) (x : SealedEntry) (from : ℕ) → x.entry.maker ≡ from →

@@ -6,13 +6,13 @@ use Rattle.std.specs.Prelude.{All, AllPairs}
 use Rattle.std.proofs.lemmas.List.Quantifiers.{all_pairs_push}
 use Rattle.std.proofs.lemmas.Bool.{cases_eq}
 use Rattle.std.proofs.lemmas.List.{append_assoc, append-nil}
-use Rattle.std.proofs.lemmas.List.Elements.{All-append, All-push, All-nil, All-pop, Contains-append_left}
-use Rattle.std.proofs.lemmas.List.Elements.{Contains-push}
+use Rattle.std.proofs.lemmas.List.Elements.{All-append, All-push, All-nil, All-pop, Contains-append_left, Contains-push}
 use Rattle.std.proofs.lemmas.List.Folds.{list_any_none}
 use Rattle.std.proofs.Math.ListN.{length-set}
 use Rattle.entry_format.specs.SealedEntry.{SealedEntry}
 use Rattle.broadcast_queues.specs.Ends.{OutView, LinkView}
 use Rattle.election_script.specs.declared.script.Lose.{Lose}
+use Rattle.election_script.specs.Lawful.{max_actions}
 use Rattle.floor_losses.specs.declared.loss.Loss.{Loss}
 use Rattle.floor_losses.specs.declared.loss.LossWhy.{LossWhy}
 use Rattle.floor_losses.specs.Losses.{is_lost, is_of}
@@ -20,8 +20,7 @@ use Rattle.floor_losses.proofs.Arriving.{lost_push, other_to}
 use Rattle.floor_links.specs.Rows.{HaveCapacity, link_at}
 use Rattle.floor_losses.specs.OfEntries.{loss_of, lost_by}
 use Rattle.floor_losses.specs.Scripted.{is_scripted}
-use Rattle.floor_links.specs.Sendings.{IsWay, IsSentTo, IsTold, IsSentOn, IsSentBelow}
-use Rattle.floor_links.specs.Sendings.{AreCopies}
+use Rattle.floor_links.specs.Sendings.{IsWay, IsSentTo, IsTold, IsSentOn, IsSentBelow, AreCopies}
 
 -- the end of a link that puts
 abbrev End : Type 0
@@ -257,7 +256,7 @@ module _ (links : List (List LinkView)) (loses : List Lose) (own number count : 
         as_many = length-set outs to end ∙ is.as_many;
         in_all = is.in_all;
         are_copies = (All-pop (λ (x : SealedEntry). (x.entry.maker ≡ own) × (x.entry.number ≡ number) ×
-            (x.entry.number < 4096)) copies rest (Some copy) split is.are_copies).0;
+            (x.entry.number < max_actions)) copies rest (Some copy) split is.are_copies).0;
         before = λ h. let b = is.before (omega arith) in omega arith;
         behind = λ h. let b = is.behind (omega arith) in omega arith;
         left = λ k d above lt. get_or-set_other outs to k end d (omega arith) ∙ is.left k d (omega arith) lt;

@@ -9,10 +9,10 @@ use Rattle.std.proofs.lemmas.List.Elements.{filter-append}
 use Rattle.std.proofs.lemmas.List.Folds.{list_any-append}
 use Rattle.std.proofs.lemmas.List.{append-nil}
 use Rattle.entry_order.specs.Node.{Node}
-use Rattle.entry_order.proofs.Lists.{Contains-filter, Contains-filter_cases}
+use Rattle.entry_order.proofs.Lists.{Contains-filter, Contains-filter_cases, filter_all}
 use Rattle.floor_losses.specs.declared.loss.Loss.{Loss}
 use Rattle.floor_losses.specs.Losses.{is_of, is_lost, arriving}
-use Rattle.floor_losses.proofs.Lists.{filter_same, filter_twice, filter_all, not_or}
+use Rattle.floor_losses.proofs.Lists.{filter_same, filter_twice, not_or}
 
 -- the loss is of another entry, or of another way
 pub other_number : (loss : Loss) (from number to : ℕ) → loss.number ≢ number → is_of from number to loss ≡ false

@@ -23,13 +23,6 @@ module _ {X : Type 0} where
         | false ↦ filter_twice p q xs
       ]
 
-  -- a test that all members pass keeps them all
-  pub filter_all : (p : X → Bool) (xs : List X) → ((x : X) → Contains xs x → p x ≡ true) → filter p xs ≡ xs
-  filter_all p [] all = refl
-  filter_all p (x ∷ xs) all =
-      ap (λ b. cond b (x ∷ filter p xs) (filter p xs)) (all x (Contains-head x xs))
-      ∙ ap (λ l. x ∷ l) (filter_all p xs (λ y c. all y (Contains-later x xs y c)))
-
 -- neither
 pub not_or : (a b : Bool) → not (a || b) ≡ (not a && not b)
 not_or true b = refl

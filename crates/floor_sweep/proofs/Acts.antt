@@ -13,6 +13,7 @@ use Rattle.entry_order.specs.History.{MayFollow, sent}
 use Rattle.entry_order.specs.World.{history, with_machine, append}
 use Rattle.entry_order.proofs.Histories.{sent_one_more}
 use Rattle.entry_order.proofs.Lists.{Contains-head, Contains-none}
+use Rattle.entry_order.proofs.Places.{one_at}
 use Rattle.election_script.specs.declared.script.Lose.{Lose}
 use Rattle.floor_losses.specs.declared.loss.Loss.{Loss}
 use Rattle.floor_losses.specs.Losses.{is_of, is_lost}
@@ -25,7 +26,7 @@ use Rattle.polling_world.specs.Machines.{MachineState, with_event}
 use Rattle.polling_world.specs.Sending.{MaySend}
 use Rattle.polling_world.specs.Worlds.{world_of}
 use Rattle.polling_world.proofs.MadeEntries.{may_follow}
-use Rattle.polling_world.proofs.Placing.{history_there, one_there, set_same}
+use Rattle.polling_world.proofs.Placing.{history_there, set_same}
 use Rattle.floor_sweep.specs.Places.{AreOfSent, count_sent}
 use Rattle.floor_sweep.specs.inside.Fates.{AreNumbered}
 use Rattle.floor_sweep.specs.Done.{did}
@@ -196,7 +197,7 @@ pub still_at : (ms : List MachineState) (at : ℕ) (m n : MachineState) (receive
     IsStillAt ms at × (slice_set ms at n ≡ ms)
 still_at ms at m n receivers answer stood is none =
     let same = not_done m n receivers answer is none in (
-      (λ u there. subst IsStill (one_there ms at m u stood there)
+      (λ u there. subst IsStill (one_at ms at m u stood there)
           (receivers, answer, subst (λ (v : MachineState). IsActed m receivers answer v) same is, none)),
       ap (slice_set ms at) same ∙ set_same ms at m stood,
     )

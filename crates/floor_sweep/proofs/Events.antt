@@ -15,6 +15,7 @@ use Rattle.entry_order.specs.Naming.{IsBorneIn}
 use Rattle.entry_order.specs.World.{history}
 use Rattle.entry_order.proofs.Histories.{sent-append}
 use Rattle.entry_order.proofs.Lists.{Contains-none, Contains-cons_cases}
+use Rattle.entry_order.proofs.Places.{one_at}
 use Rattle.election_script.specs.declared.script.Lose.{Lose}
 use Rattle.floor_losses.specs.declared.loss.Loss.{Loss}
 use Rattle.floor_losses.specs.declared.loss.LossWhy.{LossWhy}
@@ -23,7 +24,7 @@ use Rattle.polling_world.specs.Machines.{MachineState, has_stopped, is_reached, 
 use Rattle.polling_world.specs.Sending.{MaySend}
 use Rattle.polling_world.specs.Waiting.{IsGoing}
 use Rattle.polling_world.specs.Worlds.{world_of}
-use Rattle.polling_world.proofs.Placing.{set_cases, set_get, one_there}
+use Rattle.polling_world.proofs.Placing.{set_cases, set_get}
 use Rattle.floor_sweep.specs.Places.{IsAt, ArePlaced, AreMadeByThese, AreOfSent, HasGrown, HaveGrown, count_sent}
 use Rattle.floor_sweep.specs.Swept.{HoldsSame, IsLossCause, IsLicensed}
 use Rattle.polling_world.proofs.Keeping.{IsMachine-event}
@@ -148,20 +149,20 @@ module _ (ms : List MachineState) (at : ℕ) (m : MachineState) (x : Event Seale
   cause_event loses loss LinkFull cause = cause
   cause_event loses loss ToStopped (to, stands, stops) =
       elim (cases_eq loss.to at) [
-        | inl s ↦ (let one = one_there ms at to m (ap (slice_get ms) (sym s) ∙ stands) stood in
+        | inl s ↦ (let one = one_at ms at to m (ap (slice_get ms) (sym s) ∙ stands) stood in
             absurd (going_on m going (subst (λ (u : MachineState). u.stop ≡ Some (length u.events)) one stops)))
         | inr n ↦ (to, there loss.to to stands n, stops)
       ]
   cause_event loses loss LogFull (to, stands, fills) =
       elim (cases_eq loss.to at) [
-        | inl s ↦ (let one = one_there ms at to m (ap (slice_get ms) (sym s) ∙ stands) stood in
+        | inl s ↦ (let one = one_at ms at to m (ap (slice_get ms) (sym s) ∙ stands) stood in
             let full = subst (λ (u : MachineState). length u.events ≡ u.config.log) one fills in
             absurd (omega arith))
         | inr n ↦ (to, there loss.to to stands n, fills)
       ]
   cause_event loses loss SameDigest (to, stands, holds) =
       elim (cases_eq loss.to at) [
-        | inl s ↦ (let one = one_there ms at to m (ap (slice_get ms) (sym s) ∙ stands) stood in (
+        | inl s ↦ (let one = one_at ms at to m (ap (slice_get ms) (sym s) ∙ stands) stood in (
           with_event x m,
           ap (slice_get after) s ∙ set_get ms at m (with_event x m) stood,
           same_event loss.from loss.number m (with_event x m) (λ d b. borne_more m.events x d b)

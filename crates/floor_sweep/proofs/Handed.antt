@@ -3,7 +3,7 @@ use Rattle.std.proofs.Common.{◌≡◌, ◌≢◌, ◌⊎◌, ◌∙◌, ℕ, z
 use Rattle.std.proofs.Common.{◌++◌, length, Some, None, Option, refl, sym, ap, subst, arith, get_or}
 use Rattle.std.specs.Prelude.{slice_get, slice_set, ◌||◌, IsTrue, not}
 use Rattle.std.specs.List.{Contains}
-use Rattle.std.proofs.lemmas.Bool.{cases_eq, leb-true, true≢false, not-true}
+use Rattle.std.proofs.lemmas.Bool.{cases_eq, leb-true, true≢false, not-true, or_parts}
 use Rattle.std.proofs.lemmas.List.{append_assoc, append-nil}
 use Rattle.std.proofs.lemmas.List.Elements.{All-push, Contains-append_left, Contains-append_right}
 use Rattle.entry_format.specs.Nodes.{node_of_sealed}
@@ -49,19 +49,14 @@ balance_same n k h g losses waits len same balanced a b la lb apart =
     ≡ arriving node_of_sealed losses a b (sent x) in
     subst (λ x. P x (g b)) (sym (same a)) (subst (λ y. P (h a) y) (sym (same b)) was)
 
--- neither
-neither : (a b : Bool) → (a || b) ≡ false → (a ≡ false) × (b ≡ false)
-neither true b none = cc
-neither false b none = (refl, none)
-
 -- where an entry isn't lost on a way, none of the losses is of it there
 none_of : (losses : List Loss) (from number to i : ℕ) (d : Loss) → is_lost losses from number to ≡ false →
     i < length losses → is_of from number to (get_or losses i d) ≡ false
 none_of [] from number to i d none lt = absurd (omega arith)
 none_of (l ∷ losses) from number to zero d none lt =
-    (neither (is_of from number to l) (is_lost losses from number to) none).0
+    (or_parts (is_of from number to l) (is_lost losses from number to) none).0
 none_of (l ∷ losses) from number to (suc i) d none lt =
-    none_of losses from number to i d (neither (is_of from number to l) (is_lost losses from number to) none).1
+    none_of losses from number to i d (or_parts (is_of from number to l) (is_lost losses from number to) none).1
     (omega arith)
 
 -- one loss more, of an entry that wasn't lost on its way

@@ -2,8 +2,7 @@
 use Rattle.std.proofs.Common.{◌≡◌, ◌≢◌, ◌∙◌, ℕ, ◌+◌, ◌<◌, ◌≤◌, inl, inr, true, false, cond, List, [], ◌∷◌, ◌++◌}
 use Rattle.std.proofs.Common.{length, Some, refl, sym, ap, subst, arith, length-append}
 use Rattle.std.specs.Prelude.{◌==◌, ◌&&◌, All, nat_le}
-use Rattle.std.proofs.lemmas.Bool.{cases_Bool, cases_eq, cases_lt, eq-eqb, ne_eqb, le-leb, leb-true}
-use Rattle.std.proofs.lemmas.Bool.{and_from, and_left, and_right}
+use Rattle.std.proofs.lemmas.Bool.{cases_eq, cases_lt, eq-eqb, ne_eqb, le-leb, and_from, and_left, and_right, lt-leb}
 use Rattle.std.proofs.lemmas.List.Elements.{All-pop}
 use Rattle.entry_format.specs.SealedEntry.{SealedEntry}
 use Rattle.election_script.specs.declared.script.Lose.{Lose}
@@ -13,17 +12,13 @@ use Rattle.floor_sweep.specs.inside.Fates.{AreNumbered, IsHanded}
 use Rattle.floor_sweep.specs.inside.Steps.{IsSwept, actions_left, no_waits, waits_from}
 use Rattle.floor_sweep.proofs.Left.{handed_left}
 use Rattle.floor_sweep.proofs.Handed.{handed_count, handed_numbered, swept_handed, swept_waits}
-
--- nat_le by its meaning
-le_false : (a b : ℕ) → b < a → nat_le a b ≡ false
-le_false a b lt =
-    elim (cases_Bool (nat_le a b)) [ inl is ↦ (let h = leb-true a b is in absurd (omega arith)) | inr isnt ↦ isnt ]
+use Rattle.roster.specs.Machines.{max_machines}
 
 -- but for the number itself, what is at least a number is at least the next
 le_next : (a b : ℕ) → b ≢ a → nat_le (a + 1) b ≡ nat_le a b
 le_next a b differs =
     elim (cases_lt b a) [
-      | inl lt ↦ le_false (a + 1) b (omega arith) ∙ sym (le_false a b lt)
+      | inl lt ↦ lt-leb (a + 1) b (omega arith) ∙ sym (lt-leb a b lt)
       | inr ge ↦ le-leb (a + 1) b (omega arith) ∙ sym (le-leb a b ge)
     ]
 
@@ -34,7 +29,7 @@ module _ (maker : ℕ) (e : SealedEntry) (to : ℕ) where
       let now : ((maker == maker) && nat_le to to) ≡ true =
       and_from (maker == maker) (nat_le to to) (eq-eqb maker maker refl) (le-leb to to (omega arith)) in
       let then_not : ((maker == maker) && nat_le (to + 1) to) ≡ false =
-      and_right (maker == maker) (nat_le (to + 1) to) (le_false (to + 1) to (omega arith)) in
+      and_right (maker == maker) (nat_le (to + 1) to) (lt-leb (to + 1) to (omega arith)) in
       ap (λ b. cond b (e ∷ []) []) now ∙ ap (λ b. e ∷ cond b (e ∷ []) []) (sym then_not)
 
   -- on other ways nothing changes
@@ -50,7 +45,7 @@ module _ (maker : ℕ) (e : SealedEntry) (to : ℕ) where
   -- it doesn't wait for a machine below
   waits_past : (c d : ℕ) → d < to → waits_from maker e to c d ≡ []
   waits_past c d lt =
-      ap (λ b. cond b (e ∷ []) []) (and_right (c == maker) (nat_le to d) (le_false to d lt))
+      ap (λ b. cond b (e ∷ []) []) (and_right (c == maker) (nat_le to d) (lt-leb to d lt))
 
 -- the machines below `to` were handed their copies
 pub record Handing (loses : List Lose) (from count : ℕ) (copies0 : List SealedEntry) (ms0 : List MachineState)
@@ -59,7 +54,7 @@ pub record Handing (loses : List Lose) (from count : ℕ) (copies0 : List Sealed
   -- there are `count` machines
   pub as_many : length ms ≡ count
   -- which are at most 16
-  pub few : count ≤ 16
+  pub few : count ≤ max_machines
   -- the maker is one of them
   pub inside : from < count
   -- each has its place as its number
@@ -81,7 +76,7 @@ pub record Handing (loses : List Lose) (from count : ℕ) (copies0 : List Sealed
 module _ (loses : List Lose) (from count : ℕ) (copies0 : List SealedEntry) (ms0 : List MachineState)
     (losses0 : List Loss) where
   -- before the first machine is reached
-  pub handing_none : length ms0 ≡ count → count ≤ 16 → from < count → AreNumbered ms0 →
+  pub handing_none : length ms0 ≡ count → count ≤ max_machines → from < count → AreNumbered ms0 →
       All (λ (x : SealedEntry). x.entry.maker ≡ from) copies0 → length copies0 + 1 ≡ length ms0 →
       Handing loses from count copies0 ms0 losses0 0 copies0 ms0 losses0
   handing_none as_many few inside numbers makers many = record {

@@ -31,8 +31,8 @@ history_others (m ∷ ms) zero (suc k) n differs = refl
 history_others (m ∷ ms) (suc at) zero n differs = refl
 history_others (m ∷ ms) (suc at) (suc k) n differs = history_others ms at k n (λ s. differs (ap suc s))
 
--- putting a machine in a place leaves as many
-pub length_set : (ms : List MachineState) (at : ℕ) (n : MachineState) → length (slice_set ms at n) ≡ length ms
+-- putting something in a place leaves as many
+pub length_set : {X : Type 0} (ms : List X) (at : ℕ) (n : X) → length (slice_set ms at n) ≡ length ms
 length_set [] at n = refl
 length_set (m ∷ ms) zero n = refl
 length_set (m ∷ ms) (suc at) n = ap suc (length_set ms at n)

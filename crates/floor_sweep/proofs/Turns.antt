@@ -2,11 +2,12 @@
 use Rattle.std.proofs.Common.{◌≡◌, ◌∙◌, ℕ, ◌+◌, ◌<◌, ◌≤◌, inl, inr, Bool, true, false, List, [], length, Some}
 use Rattle.std.proofs.Common.{refl, sym, ap, subst, arith}
 use Rattle.std.specs.Prelude.{◌||◌, slice_get}
-use Rattle.std.proofs.lemmas.Bool.{cases_Bool, cases_lt, true≢false}
+use Rattle.std.proofs.lemmas.Bool.{cases_Bool, cases_lt, true≢false, or_parts}
 use Rattle.std.proofs.lemmas.List.{append-nil}
 use Rattle.std.proofs.lemmas.List.Elements.{All-nil}
 use Rattle.entry_format.specs.Nodes.{node_of_sealed}
 use Rattle.entry_order.specs.World.{history}
+use Rattle.entry_order.proofs.Places.{one_at}
 use Rattle.election_script.specs.declared.script.Lose.{Lose}
 use Rattle.floor_losses.specs.declared.loss.Loss.{Loss}
 use Rattle.floor_losses.specs.Balance.{IsBalanced}
@@ -17,7 +18,6 @@ use Rattle.polling_world.specs.declared.left.LeftWhy.TheVariants as why
 use Rattle.polling_world.specs.Acting.{IsActed}
 use Rattle.polling_world.specs.Machines.{MachineState}
 use Rattle.polling_world.specs.Worlds.{world_of}
-use Rattle.polling_world.proofs.Placing.{one_there}
 use Rattle.floor_sweep.specs.Places.{ArePlaced, AreOfSent, HasGrown, IsAt}
 use Rattle.floor_sweep.specs.Swept.{IsLicensed}
 use Rattle.floor_sweep.specs.Wholes.{IsWholeRun}
@@ -25,6 +25,7 @@ use Rattle.floor_sweep.specs.inside.Fates.{AreNumbered}
 use Rattle.floor_sweep.specs.Done.{did}
 use Rattle.floor_sweep.specs.inside.Steps.{AreStillBelow, IsStillAt, IsSwept, Waits, actions_left, no_waits}
 use Rattle.floor_sweep.proofs.Handed.{stopped_there}
+use Rattle.roster.specs.Machines.{max_machines}
 
 -- the machines below `at` acted, or none of them could
 pub record Rounding (loses : List Lose) (count : ℕ) (ms0 : List MachineState) (losses0 : List Loss) (at : ℕ)
@@ -32,7 +33,7 @@ pub record Rounding (loses : List Lose) (count : ℕ) (ms0 : List MachineState) 
   -- there are `count` machines
   pub as_many : length ms ≡ count
   -- which are at most 16
-  pub few : count ≤ 16
+  pub few : count ≤ max_machines
   -- each has its place as its number
   pub numbers : AreNumbered ms
   -- what a sweep keeps is kept since the round began
@@ -43,14 +44,9 @@ pub record Rounding (loses : List Lose) (count : ℕ) (ms0 : List MachineState) 
   -- where none did, each below `at` was to act and didn't, and all machines are as they were
   pub none : some ≡ false → AreStillBelow at ms × (ms ≡ ms0)
 
--- both or neither
-either_false : (a b : Bool) → (a || b) ≡ false → (a ≡ false) × (b ≡ false)
-either_false true b neither = cc
-either_false false b neither = (refl, neither)
-
 module _ (loses : List Lose) (count : ℕ) (ms0 : List MachineState) (losses0 : List Loss) where
   -- as the round begins none has acted
-  pub rounding_none : length ms0 ≡ count → count ≤ 16 → AreNumbered ms0 →
+  pub rounding_none : length ms0 ≡ count → count ≤ max_machines → AreNumbered ms0 →
       Rounding loses count ms0 losses0 0 false ms0 losses0
   rounding_none as_many few numbers = record {
     as_many = as_many;
@@ -107,7 +103,7 @@ module _ (loses : List Lose) (count : ℕ) (ms0 : List MachineState) (losses0 : 
             ]
           ];
       none = λ neither.
-          let (not_before, not_now) = either_false some now neither in
+          let (not_before, not_now) = or_parts some now neither in
           let same = (none not_now).1 in
           let was = is.none not_before in (
             (λ place lt. subst (λ (l : List MachineState). IsStillAt l place) (sym same)
@@ -149,7 +145,7 @@ swept_none loses ms losses waits placed balanced once of = record {
   grown = record {
     count = refl;
     each = λ place m n was is.
-        subst (HasGrown m) (one_there ms place m n was is)
+        subst (HasGrown m) (one_at ms place m n was is)
         (record { config = refl; stop = refl; later = []; events = sym (append-nil m.events) });
   };
   placed = placed;

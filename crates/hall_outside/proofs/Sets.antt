@@ -6,9 +6,9 @@ use Rattle.std.specs.Str.{bytes_eq}
 use Rattle.std.proofs.lemmas.List.{append-nil}
 use Rattle.std.proofs.Math.Seq.{take-add}
 use Rattle.std.proofs.Math.Path.{fun_ext}
-use Rattle.std.proofs.lemmas.Slice.Eq.{bytes_eq-Decides}
 use Rattle.hall_outside.specs.Files.{Files, OnFile, file_set, with_file}
 use Rattle.hall_outside.specs.Writing.{appended, file_appended, with_appended}
+use Rattle.hall_outside.proofs.FileLists.{eq_self}
 
 -- a front of the bytes and the next part of them
 front_grows : (bytes piece : List ℕ) (at n : ℕ) → piece ≡ drop at bytes
@@ -29,10 +29,6 @@ appended_more (Some before) mid new bytes piece at n p m e =
 pub appended_none : (written : Option (List ℕ)) → written ≡ appended written []
 appended_none None = refl
 appended_none (Some before) = ap Some (sym (append-nil before))
-
--- a name is found equal to itself
-eq_self : (a : List ℕ) → bytes_eq a a ≡ true
-eq_self a = (bytes_eq-Decides a a).1 refl
 
 -- the file that was set last is the one that is there
 set_again : (files : Files) (name first last other : List ℕ)

@@ -23,6 +23,7 @@ use Rattle.entry_order.proofs.Histories.{nth_split}
 use Rattle.entry_order.proofs.Stamps.{stamp_below}
 use Rattle.entry_order.proofs.Forms.{to_chain}
 use Rattle.entry_order.proofs.Machines.{nth_of_sent, in_world}
+use Rattle.entry_order.proofs.Places.{element_at}
 use Rattle.held_counts.specs.inside.Counts.{raised, taken_in, spread_one, spread, spread_times, is_held_before}
 
 -- ---- one count raised
@@ -102,12 +103,6 @@ module _ (c : List ℕ) (m n : ℕ) where
       other is e = let s = ap (λ d. slice_index d a) is ∙ get_or-set_other c m a (n + 1) 0 e in omega arith
 
 -- ---- places among what was sent
-
--- before a list's end something stands
-some_at : {X : Type 0} (xs : List X) (i : ℕ) → i < length xs → (x : X) × (slice_get xs i ≡ Some x)
-some_at [] i l = absurd (omega arith)
-some_at (x ∷ xs) zero l = (x, refl)
-some_at (x ∷ xs) (suc i) l = some_at xs i (omega arith)
 
 module _ {T : Type 0} where
   -- what was held when an earlier entry was sent is held when a later one is
@@ -320,7 +315,7 @@ module _ {T : Type 0} (node : T → Node) (w : World T) (orderly : IsOrderly nod
             let some = eqb-false (slice_index c place) 0 s in
             let n = slice_index c place - 1 in
             let g = good.1 place in
-            let (z, nth_z) = some_at (sent (history w place)) n (omega arith) in
+            let (z, nth_z) = element_at (sent (history w place)) n (omega arith) in
             let (p, l, split, count) = nth_split (history w place) n z nth_z in
             let zheld : HeldBefore w z e = good.0 place n z (omega arith) nth_z in
             let is : taken_in node a.history n c ≡ take_all node p c =
@@ -443,7 +438,7 @@ module _ {T : Type 0} (node : T → Node) (w : World T) (orderly : IsOrderly nod
         by false s =
             let g = good b in
             let j = slice_index c b - 1 in
-            let (z, nth_z) = some_at (sent (history w b)) j (omega arith) in
+            let (z, nth_z) = element_at (sent (history w b)) j (omega arith) in
             let (p, rest, split_z, count) = nth_split (history w b) j z nth_z in
             let (x, there, same) =
             held_later node w orderly b n j h z p rest split_z count (omega arith) q m split number f held_f in

@@ -45,6 +45,7 @@ use Rattle.honest_logs.proofs.Few.{few_distinct}
 use Rattle.honest_logs.specs.WhatIsLeft.{IsPrefixRead, IsReadIn, AreReadIn}
 use Rattle.entry_order.proofs.Honest.{none_inside}
 use Rattle.log_files.proofs.KeptRecords.{entry_is}
+use Rattle.election_script.specs.Lawful.{max_actions}
 
 -- what is never unknown is told exactly
 told_exactly : (told : Three) (P : Type 0) → (told ≡ True → P) → (told ≡ False → ¬ P) → told ≢ Unknown →
@@ -167,7 +168,7 @@ module _ (w : World SealedEntry) (orderly : IsOrderly node_of_sealed w) where
           }
 
     -- they are few and don't collide
-    module _ (few : length (sent_in w) ≤ 4096) where
+    module _ (few : length (sent_in w) ≤ max_actions) where
       -- a graph of so few entries without a collision fails for want of memory alone
       not_refused : (fault : GraphFault SealedEntry) →
           IsGraphAnswer node_of_sealed (λ e. e.text) given (Err fault) → fault ≡ Memory

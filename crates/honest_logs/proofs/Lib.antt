@@ -4,7 +4,6 @@ pub mod OneReading
 pub mod Few
 pub mod Given
 pub mod LeftInWorlds
-pub mod Stamps
 pub mod MadeValid
 pub mod Scripts
 pub mod LeftFileFacts

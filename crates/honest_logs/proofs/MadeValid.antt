@@ -9,6 +9,7 @@ use Rattle.lms_sign.specs.Secret.{public_of, signed_by}
 use Rattle.lms_sign.specs.Signs.{Signs}
 use Rattle.lms_sign.proofs.Signatures.{index-signed, signed_signs}
 use Rattle.roster.specs.declared.post.Post.{Post}
+use Rattle.roster.specs.Machines.{max_machines}
 use Rattle.entry_format.specs.declared.deed.Deed.{Deed}
 use Rattle.entry_format.specs.declared.deed.Deed.TheVariants.{Opened, Authorise, Override, Closed, Activate, Commit}
 use Rattle.entry_format.specs.declared.deed.Deed.TheVariants.{Cast, Cancel, Challenge}
@@ -23,7 +24,8 @@ use Rattle.polling_world.specs.Configs.{Config}
 use Rattle.polling_world.specs.Making.{election_of, entry_with, made}
 
 -- a script's deed can be written
-pub deed_lawful : (machines : List Cast0) (deed : Deed) → length machines ≤ 16 → IsDeedAmong machines deed → IsDeed deed
+pub deed_lawful : (machines : List Cast0) (deed : Deed) → length machines ≤ max_machines →
+    IsDeedAmong machines deed → IsDeed deed
 deed_lawful machines Opened few is = tt
 deed_lawful machines (Authorise booth session) few ((cast, at, role), (least, most)) =
     (omega (arith, few, slice_get_within machines booth cast at), omega (arith, most))

@@ -13,8 +13,9 @@ use Rattle.log_files.specs.declared.sealed_log.Kept.{Kept}
 use Rattle.log_files.specs.declared.sealed_log.LogRead.{LogRead}
 use Rattle.log_files.specs.SealedLog.{event_of}
 use Rattle.log_files.specs.Written.{log_text}
+use Rattle.log_files.proofs.SealedLogs.{kept_with}
 use Rattle.honest_logs.specs.WhatIsLeft.{IsPrefixRead, StandWhole, IsCutAt, end_of}
-use Rattle.honest_logs.proofs.ReadLogs.{end_within, kept_with}
+use Rattle.honest_logs.proofs.ReadLogs.{end_within}
 
 module _ (owner : ℕ) (events : List (Event SealedEntry)) (size : ℕ) where
   -- no count of whole records is below another: with one record more it would fit, and wouldn't

@@ -1,14 +1,13 @@
 -- The logs of machines that have played are all logs of their world.
-use Rattle.std.proofs.Common.{◌≡◌, ◌∙◌, ℕ, zero, suc, inl, inr, List, [], ◌∷◌, Option, Some, None}
-use Rattle.std.proofs.Common.{refl, ap, sym, subst, arith}
-use Rattle.std.specs.Prelude.{slice_get, All, option_map}
+use Rattle.std.proofs.Common.{◌≡◌, ◌∙◌, ℕ, inl, inr, List, Option, Some, None, refl, ap, sym, subst, arith}
+use Rattle.std.specs.Prelude.{slice_get, option_map}
 use Rattle.std.specs.List.{Contains}
 use Rattle.std.proofs.lemmas.List.{length-map}
-use Rattle.std.proofs.lemmas.List.Elements.{All-nil, All-cons}
 use Rattle.std.proofs.lemmas.Option.{slice_get_cases, slice_get_within, slice_get-map}
 use Rattle.entry_order.specs.declared.event.Event.{Event}
 use Rattle.entry_order.specs.World.{history}
 use Rattle.entry_order.proofs.Lists.{Contains-map}
+use Rattle.entry_order.proofs.Places.{all_from_places, member_at}
 use Rattle.entry_format.specs.SealedEntry.{SealedEntry}
 use Rattle.log_files.specs.Written.{log_text}
 use Rattle.election_script.specs.declared.script.Script.{Script}
@@ -18,15 +17,10 @@ use Rattle.polling_world.specs.Worlds.{machine_of, world_of}
 use Rattle.polling_world.proofs.Placing.{history_there}
 use Rattle.honest_logs.specs.LeftFiles.{AreAllFilesOf, AreFilesOf, written_logs}
 use Rattle.honest_logs.proofs.LeftFileFacts.{IsFileOf}
-use Rattle.honest_logs.proofs.ReadLogs.{there_is, whole_is_left}
-
--- what holds at each place holds of all
-All-each : {X : Type 0} (P : X → Type 0) (xs : List X) → ((i : ℕ) (x : X) → slice_get xs i ≡ Some x → P x) → All P xs
-All-each P [] each = All-nil P
-All-each P (x ∷ xs) each = All-cons P x xs (each zero x refl) (All-each P xs (λ i y at. each (suc i) y at))
+use Rattle.honest_logs.proofs.ReadLogs.{whole_is_left}
 
 -- the file of a machine's whole log
-abbrev file_of : MachineState → Option (List ℕ)
+abbrev pub file_of : MachineState → Option (List ℕ)
 file_of m = Some (log_text m.config.number m.events)
 
 module _ (script : Script) (machines : List MachineState) (are : AreOf script machines) where
@@ -59,7 +53,7 @@ module _ (script : Script) (machines : List MachineState) (are : AreOf script ma
   -- the logs that are written are files of the world
   pub written_are_left : AreFilesOf (world_of machines) (written_logs machines)
   written_are_left =
-      All-each (IsFileOf (world_of machines)) (written_logs machines) (λ place file at.
+      all_from_places (IsFileOf (world_of machines)) (written_logs machines) (λ place file at.
       left_from place file (slice_get machines place) refl (sym (slice_get-map file_of machines place) ∙ at))
 
   -- and all of them are there, whole
@@ -68,6 +62,6 @@ module _ (script : Script) (machines : List MachineState) (are : AreOf script ma
       elim (slice_get_cases machines place).1 [
         | inl (m, within, at, same) ↦
             subst (λ (file : Option (List ℕ)). Contains (written_logs machines) file) (file_at place m at)
-            (Contains-map file_of machines m (there_is machines place m at))
+            (Contains-map file_of machines m (member_at machines place m at))
         | inr past ↦ absurd (omega (arith, below, past.0, length-map machines machine_of))
       ]

@@ -1,12 +1,12 @@
 -- What is left of a log is read as its events.
-use Rattle.std.proofs.Common.{◌≡◌, ◌∙◌, ℕ, zero, suc, ◌+◌, ◌-◌, ◌^◌, ◌<◌, ◌≤◌, ◌⊎◌, inl, inr, Bool, true, false, List}
-use Rattle.std.proofs.Common.{[], ◌∷◌, ◌++◌, length, map, take, drop, Some, None, Result, Ok, Err, refl, ap, sym}
+use Rattle.std.proofs.Common.{◌≡◌, ◌∙◌, ℕ, zero, suc, ◌+◌, ◌-◌, ◌^◌, ◌<◌, ◌≤◌, ◌⊎◌, inl, inr, true, false, List}
+use Rattle.std.proofs.Common.{[], ◌∷◌, ◌++◌, length, map, take, drop, Some, None, Result, Ok, refl, ap, sym}
 use Rattle.std.proofs.Common.{subst, arith, append_assoc, append-nil, length-append}
 use Rattle.std.specs.Prelude.{slice_get, All}
 use Rattle.std.specs.List.{Contains, flat_map}
 use Rattle.std.proofs.lemmas.Grind.{flat_map-append}
 use Rattle.std.proofs.lemmas.Bool.{cases_lt}
-use Rattle.std.proofs.lemmas.List.{take-append-drop, take-append-le, take_all, take_more, length-drop}
+use Rattle.std.proofs.lemmas.List.{take-append-drop, take-append-le, take_all, length-drop}
 use Rattle.std.proofs.lemmas.List.Elements.{All-nil, All-cons}
 use Rattle.std.proofs.lemmas.Option.{slice_get_within, get_or_from_slice_get}
 use Rattle.canonical_sexp.specs.Text.{text_of, Fits, IsProperPrefixOfText}
@@ -16,13 +16,13 @@ use Rattle.entry_order.specs.declared.event.Event.TheVariants.{Sent, Got}
 use Rattle.entry_order.specs.History.{entry_of, held, IsLegal}
 use Rattle.entry_order.proofs.Lists.{Contains-none, Contains-at, Contains-head, Contains-later, Contains-map}
 use Rattle.entry_order.proofs.Lists.{Contains-cons_cases}
+use Rattle.entry_order.proofs.Places.{member_at, taken_more}
 use Rattle.roster.specs.declared.post.Post.{Post}
 use Rattle.entry_format.specs.declared.plain.EntryFault.{EntryFault}
 use Rattle.entry_format.specs.EntryText.{signed_tree}
 use Rattle.entry_format.specs.Nodes.{node_of_sealed}
 use Rattle.entry_format.specs.SealedEntry.{SealedEntry}
 use Rattle.entry_format.specs.Unsealing.{Unseals}
-use Rattle.entry_format.proofs.Unsealings.{one_unsealing}
 use Rattle.log_files.specs.declared.plain_log.End.{End}
 use Rattle.log_files.specs.declared.plain_log.End.TheVariants.{Clean, Torn, Malformed}
 use Rattle.log_files.specs.declared.sealed_log.Kept.{Kept}
@@ -37,18 +37,13 @@ use Rattle.honest_logs.specs.WhatIsLeft.{IsLeftOf, IsPrefixRead, IsWholeRead, St
 use Rattle.honest_logs.proofs.Cuts.{IsCut, cut_of, take_behind}
 use Rattle.entry_format.proofs.Limits.{members_in}
 use Rattle.log_files.proofs.RecordTexts.{tree_of, records_fit, records_spelt}
+use Rattle.log_files.proofs.SealedLogs.{one_sealed, kept_with}
 
 -- ---- lists of events
 
 -- the first events and one more
 take_one : {X : Type 0} (xs : List X) (k : ℕ) (x : X) → slice_get xs k ≡ Some x → take (k + 1) xs ≡ take k xs ++ x ∷ []
-take_one {X} xs k x at =
-    take_more xs k x (slice_get_within xs k x at)
-    ∙ ap (λ (y : X). take k xs ++ y ∷ []) (get_or_from_slice_get xs k x x at)
-
--- what stands at a place of the list is in it
-pub there_is : {X : Type 0} (xs : List X) (k : ℕ) (x : X) → slice_get xs k ≡ Some x → Contains xs x
-there_is xs k x at = (k, slice_get_within xs k x at, get_or_from_slice_get xs k x x at)
+take_one xs k x at = taken_more xs k x (slice_get_within xs k x at) (sym (get_or_from_slice_get xs k x x at))
 
 -- the first so many events of a legal history are one
 pub legal_prefix : (owner : ℕ) (h : List (Event SealedEntry)) (k : ℕ) → IsLegal node_of_sealed owner h →
@@ -99,10 +94,6 @@ whole_is_left owner events =
     }
 
 -- ---- records that are read
-
--- the record at a place of an entry that was sent or got
-abbrev pub kept_with : ℕ → Bool → SealedEntry → Kept
-kept_with place sent entry = record { place = place; sent = sent; entry = entry }
 
 -- the record of an event, at a place
 abbrev kept_at : ℕ → Event SealedEntry → Kept
@@ -179,30 +170,6 @@ is_cut_at place size offset [] long same = omega (arith, long)
 is_cut_at place size offset (b ∷ rest) long same = (omega (arith, long), same)
 
 module _ (posts : List Post) (election : List ℕ) where
-  -- a text's reading is one
-  one_sealed : (place : ℕ) (sent : Bool) (text : List ℕ) (reading other : Result Kept EntryFault) →
-      IsReadSealed posts election place sent text reading → IsReadSealed posts election place sent text other →
-      reading ≡ other
-  one_sealed place sent text (Ok kept) (Ok other) (there, way, unseals) (there', way', unseals') =
-      let same : Ok kept.entry ≡ Ok other.entry =
-      one_unsealing posts election text (Ok kept.entry) (Ok other.entry) unseals unseals' in
-      let entries : kept.entry ≡ other.entry = cc in
-      ap (λ n. Ok (kept_with n kept.sent kept.entry)) (there ∙ sym there')
-      ∙ ap (λ b. Ok (kept_with other.place b kept.entry)) (way ∙ sym way')
-      ∙ ap (λ e. Ok (kept_with other.place other.sent e)) entries
-  one_sealed place sent text (Ok kept) (Err fault) (there, way, unseals) told =
-      let same : Ok kept.entry ≡ Err fault =
-      one_unsealing posts election text (Ok kept.entry) (Err fault) unseals told in
-      cc
-  one_sealed place sent text (Err fault) (Ok other) told (there, way, unseals) =
-      let same : Err fault ≡ Ok other.entry =
-      one_unsealing posts election text (Err fault) (Ok other.entry) told unseals in
-      cc
-  one_sealed place sent text (Err fault) (Err other) h k =
-      let same : Err fault ≡ Err other = one_unsealing posts election text (Err fault) (Err other) h k in
-      let faults : fault ≡ other = cc in
-      ap Err faults
-
   -- the entry's text is its own, and valid
   abbrev pub IsValidly : SealedEntry → Type 0
   IsValidly e = Unseals posts election e.text (Ok e)
@@ -275,7 +242,7 @@ module _ (posts : List Post) (election : List ℕ) where
           | inl h ↦ inl h.1
           | inr (x, at, (more, some, text)) ↦
               (let kept = (valid (entry_of x)
-              (Contains-map entry_of events x (there_is events cut.count x at))).kept in
+              (Contains-map entry_of events x (member_at events cut.count x at))).kept in
               inr (record {
                 tree = tree_of x;
                 rest = more;
@@ -373,7 +340,7 @@ module _ (posts : List Post) (election : List ℕ) where
     pub read_so : (log : LogRead) → SaysSealed posts election bytes log → IsPrefixRead owner events bytes log
     read_so log said =
         let same =
-        one_said (IsReadSealed posts election) one_sealed bytes log.owner owner log.kept.items
+        one_said (IsReadSealed posts election) (one_sealed posts election) bytes log.owner owner log.kept.items
         (kept_from 0 (take cut.count events)) log.refused.items [] log.end (end_at offset cut.rest) said.says are_log in
         let kept : map event_of log.kept.items ≡ take cut.count events =
         ap (map event_of) same.kept ∙ events_kept 0 (take cut.count events) in

@@ -5,7 +5,7 @@ use Rattle.std.specs.Prelude.{slice_get, get_or, All}
 use Rattle.std.specs.List.{Contains, enumerate_from, flat_map}
 use Rattle.std.proofs.lemmas.List.{length-append, length-map}
 use Rattle.std.proofs.lemmas.List.Elements.{All-from_get_or, Contains-get_or}
-use Rattle.std.proofs.lemmas.Option.{slice_get_within, slice_get_cases, get_or_from_slice_get}
+use Rattle.std.proofs.lemmas.Option.{slice_get_within, slice_get_cases}
 use Rattle.entry_order.specs.declared.event.Event.{Event}
 use Rattle.entry_order.specs.declared.step.Step.{Step}
 use Rattle.entry_order.specs.Frontier.{frontier}
@@ -19,6 +19,8 @@ use Rattle.entry_order.proofs.Machines.{length_play, length_start}
 use Rattle.entry_order.proofs.MadePlays.{plays_are_made}
 use Rattle.entry_order.proofs.Orders.{was_sent, held_was_sent, next_of}
 use Rattle.entry_order.proofs.Plays.{IsOrderly-play, IsOrderly-start}
+use Rattle.entry_order.proofs.Places.{all_at}
+use Rattle.entry_order.proofs.FewStamps.{stamps_are_few}
 use Rattle.lms_sign.proofs.Heights.{leaves_of}
 use Rattle.entry_format.specs.Deeds.{IsDeedOf}
 use Rattle.entry_format.specs.EntryText.{IsDigest, IsDeedIn, IsEntry}
@@ -27,7 +29,7 @@ use Rattle.entry_format.specs.SealedEntry.{SealedEntry}
 use Rattle.entry_format.specs.Unsealing.{IsValid}
 use Rattle.election_script.specs.declared.script.Cast0.{Cast0}
 use Rattle.election_script.specs.declared.script.Script.{Script}
-use Rattle.election_script.specs.Lawful.{IsCast, IsDeedAmong, IsLawful}
+use Rattle.election_script.specs.Lawful.{IsCast, IsDeedAmong, IsLawful, max_actions}
 use Rattle.polling_world.specs.Configs.{Config, config_of, script_configs}
 use Rattle.polling_world.specs.Keys.{post_of, roster_of}
 use Rattle.polling_world.specs.Making.{election_of, entry_with}
@@ -40,12 +42,7 @@ use Rattle.polling_world.proofs.Rosters.{key_in_roster}
 use Rattle.honest_logs.specs.HonestWorld.{IsHonestWorld}
 use Rattle.polling_world.proofs.Rosters.{length-id}
 use Rattle.honest_logs.proofs.MadeValid.{deed_lawful, length-digest, length-election, made_valid}
-use Rattle.honest_logs.proofs.Stamps.{stamp_at_most}
-
--- what a list's test says of all it says of what stands at a place
-All-at : {X : Type 0} (P : X → Type 0) (xs : List X) (k : ℕ) (x : X) → All P xs → slice_get xs k ≡ Some x → P x
-All-at P xs k x all at =
-    subst P (get_or_from_slice_get xs k x x at) (all k x (slice_get_within xs k x at))
+use Rattle.roster.specs.Machines.{max_machines}
 
 -- the configuration at a place, if there is a machine
 abbrev IsConfigAt : Script → List Cast0 → ℕ → ℕ → Option Config → Type 0
@@ -165,7 +162,7 @@ module _ (script : Script) (lawful : IsLawful script) (next : ℕ → List (Even
             ]
 
     -- all together they sent no more than 4,096 entries
-    few_sent : length (sent_in world) ≤ 4096
+    few_sent : length (sent_in world) ≤ max_actions
     few_sent =
         let all = lawful.machines.in_all in
         omega (arith, all, sums_few world script.machines one_each few_by_one)
@@ -192,7 +189,7 @@ module _ (script : Script) (lawful : IsLawful script) (next : ℕ → List (Even
 
     -- a stamp has 32 bits
     stamp_small : (e : SealedEntry) → Contains (sent_in world) e → e.entry.stamp < 2 ^ 32
-    stamp_small e c = omega (arith, few_sent, stamp_at_most node_of_sealed world orderly e c)
+    stamp_small e c = omega (arith, few_sent, stamps_are_few node_of_sealed world orderly e c)
 
     -- each entry that was sent is valid
     valid : (e : SealedEntry) → Contains (sent_in world) e →
@@ -206,11 +203,11 @@ module _ (script : Script) (lawful : IsLawful script) (next : ℕ → List (Even
         let stamp : ℕ = 1 + greatest_stamp node_of_sealed (held past) in
         let names = frontier node_of_sealed (held past) in
         let there : m < length script.machines = slice_get_within script.machines m cast at in
-        let few : length script.machines ≤ 16 = lawful.machines.few.1 in
+        let few : length script.machines ≤ max_machines = lawful.machines.few.1 in
         let actions : IsCast script.version script.machines cast =
-        All-at (IsCast script.version script.machines) script.machines m cast lawful.machines.actions at in
+        all_at (IsCast script.version script.machines) script.machines m cast lawful.machines.actions at in
         let deed =
-        All-at (λ d. IsDeedOf cast.role d × IsDeedIn script.version d × IsDeedAmong script.machines d) cast.actions k
+        all_at (λ d. IsDeedOf cast.role d × IsDeedIn script.version d × IsDeedAmong script.machines d) cast.actions k
         may.deed actions may.action in
         let next_stamp = (next_of node_of_sealed world orderly past e s).stamp in
         let unspent : k < 2 ^ script.height = may.unspent in

@@ -5,6 +5,7 @@ use Rattle.std.specs.Prelude.{Ok, ◌||◌, not, is_some, codes, IsSomeAnd}
 use Rattle.std.specs.List.{Contains, flat_map, list_any, zip}
 use Rattle.std.proofs.lemmas.List.{append-nil}
 use Rattle.std.proofs.lemmas.List.Elements.{All-contains, All-head, All-tail}
+use Rattle.std.proofs.lemmas.Bool.{or_parts, false_from_ne_true}
 use Rattle.entry_format.specs.SealedEntry.{SealedEntry}
 use Rattle.entry_format.specs.declared.plain.EntryFault.{EntryFault}
 use Rattle.entry_order.specs.World.{World}
@@ -37,6 +38,7 @@ use Rattle.honest_reports.specs.Kept.{EndClean, FindsNothing, kept_line, kept_te
 use Rattle.honest_reports.specs.Places.{AreWholeFilesOf, IsWholeIn}
 use Rattle.honest_reports.specs.Reports.{entries_and_gap_lines, innocent_lines, log_and_torn_line, torn_line}
 use Rattle.honest_reports.proofs.Judged.{none_by}
+use Rattle.honest_rules.proofs.NotHeld.{none_such}
 
 -- the whole log of a machine is read to its end
 module _ (posts : List Post) (w : World SealedEntry) (honest : IsHonestWorld posts w) where
@@ -117,21 +119,10 @@ clean_lines (file ∷ files) (log ∷ logs) clean =
     ∙ ap (λ (x : List ℕ). log_head_line file log ++ x)
     (clean_lines files logs (λ other there. clean other (Contains-later log logs other there)))
 
--- what is false of two is false of each
-or_false : (a b : Bool) → (a || b) ≡ false → (a ≡ false) × (b ≡ false)
-or_false true b is = cc
-or_false false b is = (refl, is)
-
 -- what is so of no member
 no_member : {A : Type 0} (test : A → Bool) (xs : List A) → list_any test xs ≡ false → (x : A) → Contains xs x →
     test x ≡ false
-no_member test [] none x inside = absurd (Contains-none x inside)
-no_member {A} test (y ∷ xs) none x inside =
-    let both = or_false (test y) (list_any test xs) none in
-    elim (Contains-cons_cases y xs x inside) [
-      | inl is ↦ subst (λ (z : A). test z ≡ false) is both.0
-      | inr later ↦ no_member test xs both.1 x later
-    ]
+no_member test xs none x inside = false_from_ne_true (test x) (none_such test xs none x inside)
 
 -- an end that isn't found unclean is clean
 end_clean : (end : End) → not (is_clean end) ≡ false → end ≡ Clean
@@ -162,11 +153,11 @@ module _ (report : AuditReport) (kept : report.verdicts ≡ map (λ (rule : Rule
       by : (found : Bool) → has_finding report ≡ found → outcome_of report ≡ outcome.Findings
       by true is = comes_by true is
       by false is =
-          let logs = (or_false (list_any log_has_finding report.logs) (graph_has_finding report.graph) is).0 in
+          let logs = (or_parts (list_any log_has_finding report.logs) (graph_has_finding report.graph) is).0 in
           absurd (torn (λ log inside.
           let each = no_member log_has_finding report.logs logs log inside in
-          let rest = (or_false (has_some log.refused.items) (not (is_clean log.end) || is_some log.broke) each).1 in
-          end_clean log.end (or_false (not (is_clean log.end)) (is_some log.broke) rest).0))
+          let rest = (or_parts (has_some log.refused.items) (not (is_clean log.end) || is_some log.broke) each).1 in
+          end_clean log.end (or_parts (not (is_clean log.end)) (is_some log.broke) rest).0))
 
 module _ (w : World SealedEntry) (report : AuditReport) (read : AreReadIn w report.logs)
     (honest : IsHonestGraph w (entries_of report.logs) report.graph) (rules : report.rules ≡ standard_rules)

@@ -14,7 +14,7 @@ use Rattle.roster.specs.declared.post.Post.{Post}
 use Rattle.roster.specs.declared.post.Role.{Role}
 use Rattle.roster.specs.declared.post.Role.TheVariants.{Supervisor, Booth}
 use Rattle.roster.specs.declared.rosters.Roster.{Roster}
-use Rattle.roster.specs.Machines.{HaveText, IsName}
+use Rattle.roster.specs.Machines.{HaveText, IsName, max_machines, max_name}
 use Rattle.roster.specs.Reading.{Reads}
 use Rattle.roster.specs.RosterText.{HasKey, post_tree, role_word, roster_tree}
 use Rattle.roster.proofs.Fits.{roster_fits}
@@ -70,7 +70,7 @@ posts_short : (machines : List Post) → All (λ (post : Post). IsName post.name
     length (texts_of (forest_of (map post_tree machines))) ≤ 233 * length machines
 posts_short [] named keyed = omega arith
 posts_short (post ∷ machines) named keyed =
-    let name : length post.name ≤ 16 = (All-head (λ (p : Post). IsName p.name) post machines named).at_most in
+    let name : length post.name ≤ max_name = (All-head (λ (p : Post). IsName p.name) post machines named).at_most in
     let key : length post.key ≡ 56 = All-head HasKey post machines keyed in
     let rest = posts_short machines (All-tail (λ (p : Post). IsName p.name) post machines named)
     (All-tail HasKey post machines keyed) in
@@ -81,7 +81,7 @@ posts_short (post ∷ machines) named keyed =
 -- the text of a roster is below the limit of its file
 text_short : (machines : List Post) → HaveText machines → length (text_of (roster_tree machines)) ≤ 4194304
 text_short machines have =
-    let few : length machines ≤ 16 = have.roster.few in
+    let few : length machines ≤ max_machines = have.roster.few in
     let posts = texts_of (forest_of (map post_tree machines)) in
     let version = atom_text (codes "1") in
     let word = atom_text (codes "roster") in

@@ -24,9 +24,9 @@ use Rattle.deed_history.proofs.Deciding.{commits, commits_decides, ends, ends_de
 use Rattle.supervisor_core.specs.Causes.{IsBusy}
 use Rattle.auditor.specs.Rows.{booth_of}
 
--- no entry of these is such where a test of them all says so
-pub none_such : (test : SealedEntry → Bool) (es : List SealedEntry) → list_any test es ≡ false → (e : SealedEntry) →
-    Contains es e → test e ≢ true
+-- no member is such where a test of them all says so
+pub none_such : {T : Type 0} (test : T → Bool) (es : List T) → list_any test es ≡ false → (e : T) → Contains es e →
+    test e ≢ true
 none_such test es none e c such = false≢true (sym none ∙ list_any_of test es e c such)
 
 -- none of them bears the digest

@@ -1,9 +1,9 @@
 -- What a script's machines come to is an honest polling place.
 use Rattle.std.proofs.Common.{◌≡◌, ℕ, zero, suc, ◌+◌, List, [], ◌∷◌, ◌++◌, map, length, Option, Some, None, refl, sym}
 use Rattle.std.proofs.Common.{ap, ◌∙◌, subst, arith}
-use Rattle.std.specs.Prelude.{slice_get, All, Ok, option_map}
+use Rattle.std.specs.Prelude.{slice_get, Ok, option_map}
 use Rattle.std.specs.List.{enumerate_from}
-use Rattle.std.proofs.lemmas.Option.{slice_get-map, slice_get_within, get_or_from_slice_get}
+use Rattle.std.proofs.lemmas.Option.{slice_get-map}
 use Rattle.entry_format.specs.declared.deed.Deed.{Deed}
 use Rattle.entry_format.specs.declared.entry.Entry.{Entry}
 use Rattle.entry_format.specs.Deeds.{IsDeedOf}
@@ -16,6 +16,7 @@ use Rattle.entry_order.specs.History.{sent, MayFollow}
 use Rattle.entry_order.specs.World.{World, start, history, history_of, play, IsLegalNext}
 use Rattle.entry_order.proofs.MadePlays.{plays_are_made}
 use Rattle.entry_order.proofs.Plays.{IsOrderly-play, IsOrderly-start}
+use Rattle.entry_order.proofs.Places.{all_at}
 use Rattle.roster.specs.declared.post.Role.{Role}
 use Rattle.election_script.specs.declared.script.Cast0.{Cast0}
 use Rattle.election_script.specs.declared.script.Script.{Script}
@@ -36,11 +37,6 @@ use Rattle.honest_rules.specs.Scripts.{ScriptsLeadToHonestPlaces, ScriptsKeepThe
 use Rattle.honest_rules.specs.Scripts.{ScriptsAreKept}
 use Rattle.honest_rules.proofs.Standard.{honest_entries_keep_the_rules}
 use Rattle.honest_rules.proofs.Audits.{honest_audits_never_say_broken, honest_audits_say_kept}
-
--- a member of which all is said
-all_at : {X : Type 0} (P : X → Type 0) (xs : List X) (k : ℕ) (x : X) → All P xs → slice_get xs k ≡ Some x → P x
-all_at P xs k x all is =
-    subst P (get_or_from_slice_get xs k x x is) (all k x (slice_get_within xs k x is))
 
 -- it is what the script gives the machine at this place
 abbrev IsConfigAt : Script → ℕ → Config → Type 0

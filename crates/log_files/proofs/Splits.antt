@@ -6,21 +6,15 @@ use Rattle.std.specs.List.{flat_map}
 use Rattle.std.proofs.lemmas.List.{take-append-drop, length-drop, length-take-le, drop-drop}
 use Rattle.std.proofs.lemmas.List.Elements.{All-push, All-nil}
 use Rattle.canonical_sexp.specs.declared.sexp.Sexp.{Sexp}
-use Rattle.canonical_sexp.specs.declared.sexp.Sexp.TheVariants.{Atom, List as Branch}
-use Rattle.std.specs.Fmt.{decimal}
 use Rattle.canonical_sexp.specs.declared.read.Read.TheVariants as read
 use Rattle.canonical_sexp.specs.Reading.{Answers}
 use Rattle.canonical_sexp.specs.Text.{text_of, Fits}
+use Rattle.canonical_sexp.proofs.InPlace.{text_some}
 use Rattle.entry_format.specs.declared.plain.EntryFault.{EntryFault}
 use Rattle.log_files.specs.declared.plain_log.End.{End}
 use Rattle.log_files.specs.LogText.{header_tree, IsEnd, Gives, EachGives, kept_of, refused_of, AreLog}
 use Rattle.log_files.specs.inside.Parts.{Adds, IsHeaderOf}
 use Rattle.log_files.specs.inside.Taking.{AreReadTo}
-
--- the text of a tree isn't empty
-pub some_text : (tree : Sexp) → 0 < length (text_of tree)
-some_text (Atom octets) = omega (arith, length-append (decimal (length octets)) (58 ∷ octets))
-some_text (Branch members) = omega arith
 
 -- a tree more puts its text behind the others
 flat_map-push : (trees : List Sexp) (tree : Sexp) → flat_map text_of (trees ++ tree ∷ []) ≡ flat_map text_of trees
@@ -30,9 +24,9 @@ flat_map-push (t ∷ trees) tree = ap (λ bs. text_of t ++ bs) (flat_map-push tr
     ∙ sym (append_assoc (text_of t) (flat_map text_of trees) (text_of tree))
 
 -- a text isn't empty
-text_some : (tree : Sexp) (bytes : List ℕ) (used : ℕ) → take used bytes ≡ text_of tree → 0 < used
-text_some tree bytes zero e = absurd (omega (arith, ap length e, some_text tree))
-text_some tree bytes (suc used) e = omega arith
+some_used : (tree : Sexp) (bytes : List ℕ) (used : ℕ) → take used bytes ≡ text_of tree → 0 < used
+some_used tree bytes zero e = absurd (omega (arith, ap length e, text_some tree))
+some_used tree bytes (suc used) e = omega arith
 
 module _ {T : Type 0} where
   -- a record more that was read is kept behind the others
@@ -119,7 +113,7 @@ module _ {T : Type 0} (IsReadAs : ℕ → Bool → List ℕ → Result T EntryFa
       ∙ ap (λ bs. text_of tree ++ bs) (drop-drop used at bytes) in
       let long : used ≡ length (text_of tree) =
       sym (length-take-le used (drop at bytes) whole.within) ∙ ap length whole.spelt in
-      let some : 0 < used = text_some tree (drop at bytes) used whole.spelt in
+      let some : 0 < used = some_used tree (drop at bytes) used whole.spelt in
       let numbered : place ≡ 0 + length h.readings = omega (arith, h.counted) in
       record {
         is_header = h.is_header;

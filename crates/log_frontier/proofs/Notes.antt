@@ -1,6 +1,6 @@
 -- The places of a frontier when one entry more is held.
 use Rattle.std.proofs.Common.{◌≡◌, ◌≢◌, ℕ, zero, suc, ◌+◌, ◌<◌, Bool, true, false, cond, List, [], ◌∷◌, ◌++◌}
-use Rattle.std.proofs.Common.{map, length, get_or, take, drop, Some, refl, sym, ap, subst, ◌∙◌}
+use Rattle.std.proofs.Common.{map, length, get_or, take, drop, refl, sym, ap, subst, ◌∙◌}
 use Rattle.std.proofs.Common.{arith, length-append, length-take}
 use Rattle.std.specs.Prelude.{slice_get, not}
 use Rattle.std.specs.List.{All, Contains, filter, prefix_len, insert}
@@ -19,6 +19,7 @@ use Rattle.entry_order.specs.Ascending.{inserted, insert_digest}
 use Rattle.entry_order.specs.Frontier.{frontier}
 use Rattle.entry_order.proofs.Lists.{Contains-head, Contains-later, Contains-filter_cases, Contains-map_cases}
 use Rattle.entry_order.proofs.Frontiers.{frontier_cases, frontier_push}
+use Rattle.entry_order.proofs.Places.{last_at}
 use Rattle.log_frontier.specs.Places.{digest_or_none, digest_at, IsFrontierAt, HasNoDigestTwice}
 use Rattle.log_frontier.specs.inside.Noting.{is_left, count_below}
 
@@ -84,11 +85,6 @@ get_append : {A : Type 0} (xs ys : List A) (i : ℕ) → i < length xs → slice
 get_append [] ys i l = absurd (omega arith)
 get_append (x ∷ xs) ys zero l = refl
 get_append (x ∷ xs) ys (suc i) l = get_append xs ys i (omega arith)
-
--- the last member of a list with one more is that one
-get_last : {A : Type 0} (xs : List A) (x : A) → slice_get (xs ++ x ∷ []) (length xs) ≡ Some x
-get_last [] x = refl
-get_last (y ∷ xs) x = get_last xs x
 
 -- at a place of the list, both words for not being named by e agree
 left_at : {T : Type 0} (node : T → Node) (e : T) (es : List T) (p : ℕ) → p < length es →
@@ -196,7 +192,7 @@ module _ {T : Type 0} (node : T → Node) (es : List T) (e : T) where
             let n = count_below node (es ++ e ∷ []) (node e).digest (left ps) in
             map_insert (λ p. at_new p) (left ps) n (length es)
             ∙ ap (λ cs. take n cs ++ at_new (length es) ∷ drop n cs) left_digests
-            ∙ ap (λ d. take n kept ++ d ∷ drop n kept) (ap (digest_or_none node) (get_last es e))
+            ∙ ap (λ d. take n kept ++ d ∷ drop n kept) (ap (digest_or_none node) (last_at es e))
             ∙ ap (put_at (node e).digest kept) (sym counts)
             ∙ sym (insert_by_count (node e).digest kept apart)
             ∙ sym (frontier_push node es e ∙ ap (λ b. cond b kept (insert_digest (node e).digest kept)) free)

@@ -8,6 +8,7 @@ use Rattle.std.proofs.lemmas.Bool.{or_left, not-true}
 use Rattle.std.proofs.lemmas.List.Elements.{All-nil}
 use Rattle.std.proofs.lemmas.List.Folds.{list_any-append}
 use Rattle.std.proofs.lemmas.Slice.Eq.{bytes_eq-Decides}
+use Rattle.std.proofs.Math.Bool.{and-true, or-false}
 use Rattle.entry_order.specs.Node.{Node}
 use Rattle.entry_order.specs.Naming.{names_digest, is_named, has_digest, IsNew}
 use Rattle.entry_order.proofs.Lists.{list_any_some, list_any_of}
@@ -94,17 +95,7 @@ module _ {T : Type 0} (node : T → Node) where
         (λ t. let (f, held, same) = list_any_some (λ g. bytes_eq (node g).digest d) es t in
         new f held ((bytes_eq-Decides (node f).digest d).0 same)) in
         ap (λ b. b || names_digest node e d)
-        (are scans d ∙ ap (λ b. is_named node es d && not b) free ∙ and_true (is_named node es d))
-        ∙ ap (λ b. is_named node es d || b) (or_false (names_digest node e d))
+        (are scans d ∙ ap (λ b. is_named node es d && not b) free ∙ and-true (is_named node es d))
+        ∙ ap (λ b. is_named node es d || b) (sym (or-false (names_digest node e d)))
         ∙ sym (list_any-append (λ g. names_digest node g d) es (e ∷ []))
         ∙ sym (ap (λ (l : List T). is_named node l d) split)
-      where
-        -- a second test that always holds changes nothing
-        and_true : (b : Bool) → (b && true) ≡ b
-        and_true true = refl
-        and_true false = refl
-
-        -- nor does a second test that always fails
-        or_false : (b : Bool) → b ≡ (b || false)
-        or_false true = refl
-        or_false false = refl

@@ -7,12 +7,12 @@ use Rattle.std.proofs.lemmas.List.Elements.{filter-append, All-contains}
 use Rattle.std.proofs.lemmas.Option.{same_Some}
 use Rattle.entry_format.specs.SealedEntry.{SealedEntry}
 use Rattle.entry_order.specs.declared.event.Event.{Event}
+use Rattle.entry_order.proofs.Lists.{filter_all}
 use Rattle.election_script.specs.declared.script.Lose.{Lose}
 use Rattle.broadcast_queues.specs.Ends.{OutView}
 use Rattle.floor_losses.specs.declared.loss.Loss.{Loss}
 use Rattle.floor_losses.specs.declared.loss.LossWhy.{LossWhy}
 use Rattle.floor_losses.specs.declared.loss.LossWhy.TheVariants.{Scripted, LinkFull, ToStopped, LogFull, SameDigest}
-use Rattle.floor_losses.proofs.Lists.{filter_all}
 use Rattle.floor_losses.specs.Scripted.{is_scripted}
 use Rattle.floor_links.specs.Sendings.{IsWay}
 use Rattle.polling_world.specs.declared.heard.MachineHeard.{MachineHeard}

@@ -1,13 +1,13 @@
 -- What the stations of a script leave together, once the links between them are finished.
-use Rattle.std.proofs.Common.{◌≡◌, ◌≢◌, ℕ, zero, suc, ◌+◌, ◌<◌, ◌≤◌, Bool, true, false, cond, List, [], ◌∷◌, ◌++◌}
+use Rattle.std.proofs.Common.{◌≡◌, ◌≢◌, ℕ, suc, ◌+◌, ◌<◌, ◌≤◌, Bool, true, false, cond, List, [], ◌∷◌, ◌++◌}
 use Rattle.std.proofs.Common.{length, map, refl, sym, ap, ◌∙◌, subst, arith, ◌⊎◌, inl, inr, get_or, Option, Some}
 use Rattle.std.specs.Prelude.{All, slice_get, nat_lt, ◌==◌, ◌&&◌, ◌||◌, not}
 use Rattle.std.specs.List.{Contains, AllZip, filter, flat_map}
 use Rattle.std.proofs.lemmas.Bool.{and_parts, and_from, or_cases, or_left, or_right, not-true, true≢false}
 use Rattle.std.proofs.lemmas.Bool.{not_from_false, cases_Bool}
 use Rattle.std.proofs.lemmas.List.{length-map}
-use Rattle.std.proofs.lemmas.List.Elements.{All-contains, Contains-append_left, Contains-get_or, at_from_Contains}
-use Rattle.std.proofs.lemmas.Option.{get_or_from_slice_get, slice_get-get_or, slice_get_within, same_Some}
+use Rattle.std.proofs.lemmas.List.Elements.{All-contains, Contains-append_left, Contains-get_or}
+use Rattle.std.proofs.lemmas.Option.{get_or_from_slice_get, slice_get_within, same_Some}
 use Rattle.entry_order.proofs.Lists.{Contains-filter_cases, list_any_some, list_any_of, Contains-flat_map}
 use Rattle.entry_order.proofs.Lists.{Contains-flat_map_cases, Contains-head, Contains-later}
 use Rattle.entry_format.specs.Nodes.{node_of_sealed}
@@ -17,6 +17,7 @@ use Rattle.entry_order.specs.declared.event.Event.TheVariants.{Sent, Got}
 use Rattle.entry_order.specs.History.{sent, IsLegal}
 use Rattle.entry_order.specs.World.{history, history_of}
 use Rattle.entry_order.proofs.Orders.{member_split, Contains-sent_cases}
+use Rattle.entry_order.proofs.Places.{place_of, member_at, all_at, element_at}
 use Rattle.election_script.specs.declared.script.Lose.{Lose}
 use Rattle.election_script.specs.declared.script.Script.{Script}
 use Rattle.broadcast_queues.specs.Ends.{OutView, InView, LinkView, IsOutOf, IsInOf}
@@ -41,6 +42,7 @@ use Rattle.polling_world.specs.Machines.{MachineState, IsFresh}
 use Rattle.polling_world.specs.Worlds.{world_of, machine_of}
 use Rattle.polling_world.proofs.Placing.{get-map, get-map_from}
 use Rattle.roster.specs.declared.post.Post.{Post}
+use Rattle.roster.specs.Machines.{max_machines}
 use Rattle.machine_floor.specs.Stations.{StationState, IsStation, IsOfHand, IsOfEar, IsOutCause, IsInCause}
 use Rattle.machine_floor.specs.Stations.{made_of, numbered_below, ticks_from}
 use Rattle.machine_floor.specs.Fresh.{lose_lines_of, IsNewStation, AreNewStations}
@@ -55,28 +57,6 @@ same_test : (x y : Bool) → (x ≡ true → y ≡ true) → (y ≡ true → x �
 same_test true y to from = sym (to refl)
 same_test false true to from = from refl
 same_test false false to from = refl
-
--- a member stands at a place
-place_of : {X : Type 0} (xs : List X) (x : X) → Contains xs x → (k : ℕ) × (slice_get xs k ≡ Some x)
-place_of xs x c =
-    let (k, within, is) = at_from_Contains xs x c in
-    (k, slice_get-get_or xs k x within ∙ ap Some (is x))
-
--- and what stands at a place is a member
-member_at : {X : Type 0} (xs : List X) (k : ℕ) (x : X) → slice_get xs k ≡ Some x → Contains xs x
-member_at xs k x stands =
-    subst (Contains xs) (get_or_from_slice_get xs k x x stands)
-    (Contains-get_or xs k x (slice_get_within xs k x stands))
-
--- what is true of all is true of what stands at a place
-all_at : {X : Type 0} (P : X → Type 0) (xs : List X) (k : ℕ) (x : X) → All P xs → slice_get xs k ≡ Some x → P x
-all_at P xs k x all stands = All-contains P xs x all (member_at xs k x stands)
-
--- an element at a place within the list
-element : {X : Type 0} (xs : List X) (k : ℕ) → k < length xs → (x : X) × (slice_get xs k ≡ Some x)
-element [] k lt = absurd (omega arith)
-element (x ∷ xs) zero lt = (x, refl)
-element (x ∷ xs) (suc k) lt = element xs k (omega arith)
 
 -- of lists that differ in all pairs of places nothing is lost twice
 once_all : {X : Type 0} (f : X → List Loss) (xs : List X) →
@@ -300,7 +280,7 @@ module _ (script : Script) (links : List (List LinkView)) (ss : List StationStat
   -- a station has at most 16 ends that put, and there are as many rows of links
   few_rows : (xs : List StationState) → All IsStation xs →
       ((k : ℕ) (s : StationState) → slice_get xs k ≡ Some s → length s.outs ≡ length ss) → length links ≡ length xs →
-      length links ≡ length ss → length links ≤ 16
+      length links ≡ length ss → length links ≤ max_machines
   few_rows [] is long n m = omega arith
   few_rows (s ∷ xs) is long n m =
       let one : IsStation s = is 0 s (omega arith) in
@@ -313,30 +293,30 @@ module _ (script : Script) (links : List (List LinkView)) (ss : List StationStat
     senders = length-map ss (λ (s : StationState). s.outs) ∙ sym rows;
     receivers = length-map ss (λ (s : StationState). s.inns) ∙ sym rows;
     row = λ a lt.
-        let (s, stands) = element ss a (omega (arith, rows)) in
+        let (s, stands) = element_at ss a (omega (arith, rows)) in
         let long = outs_long a s stands in
         row_is links s (made a s stands).ends (there a s stands) a (omega (arith, rows)) ∙ long ∙ sym rows;
     outs_row = λ a lt.
-        let (s, stands) = element ss a (omega (arith, rows)) in
+        let (s, stands) = element_at ss a (omega (arith, rows)) in
         ap length (outs_at a s stands) ∙ outs_long a s stands ∙ sym rows;
     inns_row = λ b lt.
-        let (s, stands) = element ss b (omega (arith, rows)) in
+        let (s, stands) = element_at ss b (omega (arith, rows)) in
         ap length (inns_at b s stands) ∙ inns_long b s stands ∙ sym rows;
     puts = λ a b l d la lb.
-        let (s, stands) = element ss a (omega (arith, rows)) in
+        let (s, stands) = element_at ss a (omega (arith, rows)) in
         let long = outs_long a s stands in
         let h = ends_out links s (made a s stands).ends (there a s stands) b l d (omega (arith, rows)) in
         subst (λ (o : List (OutView SealedEntry)). IsOutOf (link_at links a b l) (get_or o b d))
         (sym (outs_at a s stands))
         (subst (λ n. IsOutOf (link_at links n b l) (get_or s.outs b d)) (number_is a s stands) h);
     takes = λ a b l e la lb.
-        let (t, at_b) = element ss b (omega (arith, rows)) in
+        let (t, at_b) = element_at ss b (omega (arith, rows)) in
         let long = inns_long b t at_b in
         let h = ends_in links t (made b t at_b).ends (there b t at_b) a l e (omega (arith, rows)) in
         subst (λ (i : List (InView SealedEntry)). IsInOf (link_at links a b l) (get_or i a e)) (sym (inns_at b t at_b))
         (subst (λ n. IsInOf (link_at links a n l) (get_or t.inns a e)) (number_is b t at_b) h);
     makers = λ a b d la lb differs.
-        let (s, stands) = element ss a (omega (arith, rows)) in
+        let (s, stands) = element_at ss a (omega (arith, rows)) in
         let long = outs_long a s stands in
         let number = number_is a s stands in
         let is = there a s stands in
@@ -368,7 +348,8 @@ module _ (script : Script) (links : List (List LinkView)) (ss : List StationStat
     taken_sent a b s t p q differs i x c =
         let is = there a s p in
         let number = number_is a s p in
-        let (out, _) = element s.outs b (let l = outs_long a s p in let w = slice_get_within ss b t q in omega arith) in
+        let (out, _) =
+        element_at s.outs b (let l = outs_long a s p in let w = slice_get_within ss b t q in omega arith) in
         let put : Contains (get_or s.outs b out).put x =
         subst (λ (l : List SealedEntry). Contains l x) (sym (finished a b s t p q differs out i))
         (Contains-append_left (get_or t.inns a i).taken (waits_of waits a b) x c) in
@@ -406,9 +387,9 @@ module _ (script : Script) (links : List (List LinkView)) (ss : List StationStat
     heard_off : (b : ℕ) (t : StationState) → slice_get ss b ≡ Some t → (x : Loss) → IsOfEar t x → HeardOff x b t
     heard_off b t q x (hearer, below, other, taken) =
         let number = number_is b t q in
-        let (s, stands) = element ss x.from (let l = outs_long b t q in omega arith) in
+        let (s, stands) = element_at ss x.from (let l = outs_long b t q in omega arith) in
         let apart : x.from ≢ b = λ e. other (e ∙ sym number) in
-        let (inn, _) = element t.inns x.from
+        let (inn, _) = element_at t.inns x.from
         (let l = inns_long b t q in let o = outs_long b t q in omega arith) in
         let (entry, was_taken, tells, cause) = taken inn in
         let c = taken_sent x.from b s t stands q apart inn entry was_taken in
@@ -427,10 +408,10 @@ module _ (script : Script) (links : List (List LinkView)) (ss : List StationStat
     -- what a machine got of another, and what waits for it, are what the other sent and isn't lost, in order
     balanced : IsBalanced node_of_sealed (length machines) (history (world_of machines)) lost (waits_of waits)
     balanced a b la lb apart =
-        let (s, at_a) = element ss a (omega (arith, count)) in
-        let (t, at_b) = element ss b (omega (arith, count)) in
-        let (out, at_out) = element s.outs b (let l = outs_long a s at_a in omega (arith, count)) in
-        let (inn, at_inn) = element t.inns a (let l = inns_long b t at_b in omega (arith, count)) in
+        let (s, at_a) = element_at ss a (omega (arith, count)) in
+        let (t, at_b) = element_at ss b (omega (arith, count)) in
+        let (out, at_out) = element_at s.outs b (let l = outs_long a s at_a in omega (arith, count)) in
+        let (inn, at_inn) = element_at t.inns a (let l = inns_long b t at_b in omega (arith, count)) in
         let out_is = get_or_from_slice_get s.outs b out out at_out in
         let inn_is = get_or_from_slice_get t.inns a inn inn at_inn in
         let whole = gather_pair s t lost a b (waits_of waits a b) (there a s at_a) (there b t at_b)
@@ -568,7 +549,7 @@ module _ (script : Script) (links : List (List LinkView)) (ss : List StationStat
         subst (λ n. is_scripted script.loses n x.number x.to ≡ true) (sym from)
         (sym (named a s p x.number x.to) ∙ ap (λ n. is_scripted s.loses n x.number x.to) (sym from) ∙ cause)
     hand_cause a s p x LinkFull from lb apart cause =
-        let out = element s.outs x.to (let l = outs_long a s p in omega arith) in
+        let out = element_at s.outs x.to (let l = outs_long a s p in omega arith) in
         let many = cause.1 out.0 in
         let link = (made a s p).link in
         let fewer = put_counts a x.to x.number s p lb apart out.0 in (
@@ -624,7 +605,7 @@ module _ (script : Script) (links : List (List LinkView)) (ss : List StationStat
     -- each entry that was sent and that a line of the script names is lost so
     scripted : AreLostAsScripted script machines lost
     scripted from number to lf lt apart low named_there =
-        let (s, stands) = element ss from (omega (arith, count)) in
+        let (s, stands) = element_at ss from (omega (arith, count)) in
         let is = there from s stands in
         let at = number_is from s stands in
         let n = count_at from s stands in

@@ -12,6 +12,7 @@ use Rattle.entry_format.specs.Nodes.{node_of_sealed}
 use Rattle.floor_losses.specs.Losses.{arriving}
 use Rattle.entry_format.specs.SealedEntry.{SealedEntry}
 use Rattle.entry_order.specs.declared.event.Event.TheVariants.{Got}
+use Rattle.entry_order.proofs.Histories.{sent_few}
 use Rattle.log_lock.specs.declared.story.Tick.{Tick}
 use Rattle.broadcast_queues.specs.Ends.{LinkView, IsInOf, FoundLinkEmpty}
 use Rattle.floor_losses.specs.declared.loss.Loss.{Loss}
@@ -22,17 +23,18 @@ use Rattle.polling_world.specs.Hearing.{IsHeard, machine_after}
 use Rattle.polling_world.specs.Machines.{MachineState, IsMachine, with_event}
 use Rattle.machine_floor.specs.Stations.{StationState, IsStation, IsTakenWell, new_in}
 use Rattle.machine_floor.specs.Turns.{cause_of, IsFate, EarTook, EarFoundNone}
-use Rattle.machine_floor.proofs.HandTurns.{few_sent, ticks_as_many}
+use Rattle.machine_floor.proofs.HandTurns.{ticks_as_many}
 use Rattle.machine_floor.proofs.Ears.{Inn, Took, few_taken, taken_after, sum_after, maker_is}
 use Rattle.machine_floor.proofs.Ears.{IsStation-heard, IsStation-lost}
 use Rattle.polling_world.specs.Waiting.{IsGoing}
 use Rattle.machine_floor.proofs.Causes.{in_new}
 use Rattle.machine_floor.proofs.Made.{inns_same, made_same}
+use Rattle.election_script.specs.Lawful.{max_actions}
 
 module _ (old : StationState) (from : ℕ) (end : Inn) (x : SealedEntry) (is : IsStation old)
     (within : from < length old.inns) (other : from ≢ old.machine.config.number)
-    (took : (d : Inn) → Took (get_or old.inns from d) x end) (small : x.entry.number < 4096) (of : end.from ≡ from)
-    (same_from : (d : Inn) → (get_or old.inns from d).from ≡ from)
+    (took : (d : Inn) → Took (get_or old.inns from d) x end) (small : x.entry.number < max_actions)
+    (of : end.from ≡ from) (same_from : (d : Inn) → (get_or old.inns from d).from ≡ from)
     (queue : (d : Inn) → end.queue ≡ (get_or old.inns from d).queue) where
   -- where there is no cause, the entry was taken
   heard_done : (answer : MachineHeard) (new : MachineState) → IsHeard old.machine x answer →
@@ -59,15 +61,15 @@ module _ (old : StationState) (from : ℕ) (end : Inn) (x : SealedEntry) (is : I
   inns_are : List Inn
   inns_are = set old.inns from end
 
-  -- at most 4096 entries are sent, and taken from each of 16 machines: so there is room for one loss more
+  -- at most 4,096 entries are sent, and taken from each of 16 machines: so there is room for one loss more
   pub room_for_loss : length old.losses < 131072
   room_for_loss =
-      let each : All (λ (i : Inn). length i.taken ≤ 4096) (set old.inns from end) =
+      let each : All (λ (i : Inn). length i.taken ≤ max_actions) (set old.inns from end) =
       λ k d lt. few_taken k (get_or (set old.inns from end) k d).taken
       (taken_after old from end x is within other took small of same_from k d lt) in
-      let sum = sum_by-le (λ (i : Inn). length i.taken) 4096 (set old.inns from end) each in
+      let sum = sum_by-le (λ (i : Inn). length i.taken) max_actions (set old.inns from end) each in
       let more = sum_after old from end x is within other took small of same_from in
-      let w = is.machine.within in let s = is.small in let f = few_sent old.machine.events in let l = is.few_losses in
+      let w = is.machine.within in let s = is.small in let f = sent_few old.machine.events in let l = is.few_losses in
       let o = is.few in let m = is.as_many in
       omega (arith, length-set old.inns from end)
 
@@ -197,7 +199,7 @@ pub record Looked (old : StationState) (from : ℕ) (end : Inn) (x : SealedEntry
   pub other : from ≢ old.machine.config.number
   -- the end took the entry, and is now as given
   pub took : (d : Inn) → Took (get_or old.inns from d) x end
-  pub small : x.entry.number < 4096
+  pub small : x.entry.number < max_actions
   -- the end carries the entries of that machine
   pub of : end.from ≡ from
   -- as it did before
@@ -209,7 +211,7 @@ pub record Looked (old : StationState) (from : ℕ) (end : Inn) (x : SealedEntry
 pub look : (now old : StationState) (from : ℕ) (link : LinkView) (before end : Inn) (x : SealedEntry) → old ≡ now →
     IsStation old → from < length now.inns → from ≢ now.machine.config.number →
     ((d : Inn) → IsInOf link (get_or now.inns from d)) → link.from ≡ from → before ≡ get_or old.inns from before →
-    Took before x end → IsInOf link end → x.entry.number < 4096 → Looked old from end x
+    Took before x end → IsInOf link end → x.entry.number < max_actions → Looked old from end x
 look now old from link before end x same is within other ends sender read took kept small =
     let inside : from < length old.inns = subst (λ (s : StationState). from < length s.inns) (sym same) within in
     let ends_old = subst (λ (s : StationState). (d : Inn) → IsInOf link (get_or s.inns from d)) (sym same) ends in

@@ -27,10 +27,10 @@ use Rattle.floor_losses.proofs.Pushes.{sent-got}
 use Rattle.floor_links.proofs.Ends.{other_way, got_from-here, got_from-other, takes_heard, takes_lost}
 use Rattle.polling_world.specs.Machines.{IsMachine, with_event}
 use Rattle.polling_world.specs.Waiting.{IsGoing}
-use Rattle.machine_floor.specs.Stations.{StationState, IsStation, IsInCause, IsOfHand, IsOfEar, IsTakenWell}
-use Rattle.machine_floor.specs.Stations.{ticks_from}
+use Rattle.machine_floor.specs.Stations.{StationState, IsStation, IsInCause, IsOfHand, IsOfEar, IsTakenWell, ticks_from}
 use Rattle.machine_floor.proofs.Causes.{in_stays}
 use Rattle.machine_floor.proofs.Ticks.{ticks_push}
+use Rattle.election_script.specs.Lawful.{max_actions}
 
 -- an end that takes from a link
 abbrev pub Inn : Type 0
@@ -61,8 +61,8 @@ above (suc n) xs x e dense before j s =
     let b = before n x lt in
     omega arith
 
--- entries whose numbers are below 4096, and no lower than their places, are at most 4096
-few : (n : ℕ) (taken : List SealedEntry) → n ≡ length taken → (from : ℕ) → IsTakenWell from taken → n ≤ 4096
+-- entries whose numbers are below 4,096, and no lower than their places, are at most 4,096
+few : (n : ℕ) (taken : List SealedEntry) → n ≡ length taken → (from : ℕ) → IsTakenWell from taken → n ≤ max_actions
 few zero taken e from well = omega arith
 few (suc n) [] e from well = omega arith
 few (suc n) (y ∷ taken) e from well =
@@ -72,17 +72,17 @@ few (suc n) (y ∷ taken) e from well =
     omega arith
 
 -- few entries are taken from one link
-pub few_taken : (from : ℕ) (taken : List SealedEntry) → IsTakenWell from taken → length taken ≤ 4096
+pub few_taken : (from : ℕ) (taken : List SealedEntry) → IsTakenWell from taken → length taken ≤ max_actions
 few_taken from taken well = few (length taken) taken refl from well
 
 -- one entry more is taken well
 pub taken_more : (from : ℕ) (old new : Inn) (x : SealedEntry) → IsTakenWell from old.taken → Took old x new →
-    old.from ≡ from → x.entry.number < 4096 → IsTakenWell from new.taken
+    old.from ≡ from → x.entry.number < max_actions → IsTakenWell from new.taken
 taken_more from old new x well took of small =
     let Well : List SealedEntry → Type 0 = IsTakenWell from in
     subst Well (sym took.taken) (record {
       makers = All-push (λ (y : SealedEntry). y.entry.maker ≡ from) old.taken x well.makers (took.from ∙ of);
-      small = All-push (λ (y : SealedEntry). y.entry.number < 4096) old.taken x well.small small;
+      small = All-push (λ (y : SealedEntry). y.entry.number < max_actions) old.taken x well.small small;
       dense = λ j d lt.
           elim (cases_eq j (length old.taken)) [
             | inl s ↦ (let here : get_or (old.taken ++ x ∷ []) j d ≡ x = last_read old.taken x j d s in
@@ -96,8 +96,8 @@ taken_more from old new x well took of small =
 
 module _ (old : StationState) (from : ℕ) (end : Inn) (x : SealedEntry) (is : IsStation old)
     (within : from < length old.inns) (other : from ≢ old.machine.config.number)
-    (took : (d : Inn) → Took (get_or old.inns from d) x end) (small : x.entry.number < 4096) (of : end.from ≡ from)
-    (same_from : (d : Inn) → (get_or old.inns from d).from ≡ from) where
+    (took : (d : Inn) → Took (get_or old.inns from d) x end) (small : x.entry.number < max_actions)
+    (of : end.from ≡ from) (same_from : (d : Inn) → (get_or old.inns from d).from ≡ from) where
   -- the ends that take, with this one after it took the entry
   abbrev pub inns_after : List Inn
   inns_after = set old.inns from end

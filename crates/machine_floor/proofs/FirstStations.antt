@@ -1,9 +1,8 @@
 -- The stations of the first machines of a script, and what is left for the others.
-use Rattle.std.proofs.Common.{◌≡◌, ℕ, zero, suc, ◌<◌, ◌≤◌, List, [], ◌∷◌, ◌++◌, length, map, drop, refl, sym, ap}
-use Rattle.std.proofs.Common.{◌∙◌}
+use Rattle.std.proofs.Common.{◌≡◌, ℕ, suc, ◌<◌, ◌≤◌, List, [], ◌∷◌, ◌++◌, length, map, drop, refl, sym, ap, ◌∙◌}
 use Rattle.std.proofs.Common.{subst, arith, get_or, Option, Some, inl, inr, length-append, add-one}
 use Rattle.std.specs.Prelude.{All, slice_get}
-use Rattle.std.proofs.lemmas.Option.{slice_get_within}
+use Rattle.std.proofs.lemmas.Option.{slice_get_within, slice_get-get_or}
 use Rattle.election_script.specs.declared.script.Script.{Script}
 use Rattle.election_script.specs.Lawful.{IsLawful}
 use Rattle.lms_sign.specs.Secret.{Secret}
@@ -142,20 +141,14 @@ all_new script links outs inns stations [] outs_left inns_left first none rows =
   each = first.each;
 }
 
--- within a list, what is read at a place stands there
-there_at : {X : Type 0} (xs : List X) (k : ℕ) (d : X) → k < length xs → slice_get xs k ≡ Some (get_or xs k d)
-there_at [] k d lt = absurd (omega arith)
-there_at (x ∷ xs) zero d lt = refl
-there_at (x ∷ xs) (suc k) d lt = there_at xs k d (omega arith)
-
 -- new stations can be worked: their ends are those of the links, and they have no tick yet
 pub all_workable : (script : Script) (links : List (List LinkView)) (stations : List StationState) →
     AreNewStations script links stations →
     (All (λ (s : StationState). IsOfLinks links (made_of s)) stations) ×
     All (λ (s : StationState). s.ticks ≡ []) stations
 all_workable script links stations are = (
-  λ k d lt. let new = are.each k (get_or stations k d) (there_at stations k d lt) in
+  λ k d lt. let new = are.each k (get_or stations k d) (slice_get-get_or stations k d lt) in
       subst (IsOfLinks links) (sym new.fresh) new.ends,
-  λ k d lt. let new = are.each k (get_or stations k d) (there_at stations k d lt) in
+  λ k d lt. let new = are.each k (get_or stations k d) (slice_get-get_or stations k d lt) in
       sym (ap (λ (s : StationState). s.ticks) new.fresh),
 )

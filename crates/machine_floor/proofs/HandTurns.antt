@@ -6,9 +6,9 @@ use Rattle.std.specs.List.{Contains, sum_by}
 use Rattle.std.proofs.lemmas.List.Elements.{All-replicate, All-filter, All-contains_itself, All-weaker}
 use Rattle.std.proofs.lemmas.List.Sums.{sum_by-le}
 use Rattle.entry_format.specs.SealedEntry.{SealedEntry}
-use Rattle.entry_order.specs.declared.event.Event.{Event}
-use Rattle.entry_order.specs.declared.event.Event.TheVariants.{Sent, Got}
+use Rattle.entry_order.specs.declared.event.Event.TheVariants.{Sent}
 use Rattle.entry_order.specs.History.{sent}
+use Rattle.entry_order.proofs.Histories.{sent_few}
 use Rattle.log_lock.specs.declared.story.Tick.{Tick}
 use Rattle.broadcast_queues.specs.Ends.{OutView, InView}
 use Rattle.floor_losses.specs.declared.loss.Loss.{Loss}
@@ -23,20 +23,15 @@ use Rattle.machine_floor.proofs.Ticks.{length_ticks}
 use Rattle.machine_floor.proofs.Ears.{few_taken}
 use Rattle.machine_floor.proofs.Hands.{IsStation-hand}
 use Rattle.machine_floor.proofs.Made.{outs_same, made_same}
-
--- no more entries were sent than there are events
-pub few_sent : (h : List (Event SealedEntry)) → length (sent h) ≤ length h
-few_sent [] = omega arith
-few_sent (Sent e ∷ h) = let r = few_sent h in omega arith
-few_sent (Got e ∷ h) = let r = few_sent h in omega arith
+use Rattle.election_script.specs.Lawful.{max_actions}
 
 module _ (old : StationState) (is : IsStation old) where
   -- in all, few entries are taken
   pub all_taken : sum_by (λ (i : InView SealedEntry). length i.taken) old.inns ≤ 65536
   all_taken =
-      let each : All (λ (i : InView SealedEntry). length i.taken ≤ 4096) old.inns =
+      let each : All (λ (i : InView SealedEntry). length i.taken ≤ max_actions) old.inns =
       λ k d lt. few_taken k (get_or old.inns k d).taken (is.taken k d lt) in
-      let sum = sum_by-le (λ (i : InView SealedEntry). length i.taken) 4096 old.inns each in
+      let sum = sum_by-le (λ (i : InView SealedEntry). length i.taken) max_actions old.inns each in
       omega (arith, is.as_many, is.few)
 
   -- there are as many ticks as events
@@ -64,15 +59,15 @@ module _ (old : StationState) (is : IsStation old) where
     -- what was sent and taken is few enough that there is room for a loss on each link out
     pub room_for_losses : length old.losses + length old.outs ≤ 131072
     room_for_losses =
-        let r = done.may.room in let s = is.small in let f = few_sent old.machine.events in let l = is.few_losses in
+        let r = done.may.room in let s = is.small in let f = sent_few old.machine.events in let l = is.few_losses in
         let t = all_taken in let o = is.few in omega arith
 
-    -- each copy has the machine as maker, and the number that the machine told, which is below 4096
+    -- each copy has the machine as maker, and the number that the machine told, which is below 4,096
     pub copies_are : AreCopies old.machine.config.number number copies
     copies_are =
         let P : SealedEntry → Type 0 = λ x. (x.entry.maker ≡ old.machine.config.number) × (x.entry.number ≡ number) ×
-        (x.entry.number < 4096) in
-        let r = done.may.room in let s = is.small in let f = few_sent old.machine.events in
+        (x.entry.number < max_actions) in
+        let r = done.may.room in let s = is.small in let f = sent_few old.machine.events in
         subst (All P) (sym done.copied)
         (All-replicate P receivers the_entry (maker_is, number_is ∙ sym done.counted, omega (arith, number_is)))
 

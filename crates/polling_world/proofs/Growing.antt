@@ -14,6 +14,7 @@ use Rattle.entry_order.proofs.Lists.{Contains-none, Contains-head, Contains-late
 use Rattle.entry_order.proofs.Lists.{Contains-map_cases}
 use Rattle.entry_order.proofs.Orders.{sent_in_from, sent_in_cases}
 use Rattle.entry_order.proofs.Histories.{IsLegal-push, sent-append, sent_few}
+use Rattle.election_script.specs.Lawful.{max_events}
 
 module _ {T : Type 0} where
   -- ---- a machine that has stopped
@@ -101,8 +102,8 @@ module _ {T : Type 0} where
       omega (arith, more, all, old)
 
   -- no more entries were sent than all logs have room for
-  pub sent_in_few : (w : World T) → ((m : ℕ) (a : Machine T) → slice_get w m ≡ Some a → length a.history ≤ 4096) →
-      length (sent_in w) ≤ 4096 * length w
+  pub sent_in_few : (w : World T) → ((m : ℕ) (a : Machine T) → slice_get w m ≡ Some a → length a.history ≤ max_events) →
+      length (sent_in w) ≤ max_events * length w
   sent_in_few [] small = omega arith
   sent_in_few (a ∷ w) small =
       let rest = sent_in_few w (λ m b is. small (suc m) b is) in

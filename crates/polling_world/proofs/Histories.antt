@@ -1,23 +1,18 @@
 -- Histories with one event more.
-use Rattle.std.proofs.Common.{◌≡◌, ℕ, ◌+◌, ◌≤◌, List, [], ◌∷◌, ◌++◌, length, map, ap, subst, ◌∙◌}
-use Rattle.std.proofs.Common.{inl, inr, arith}
+use Rattle.std.proofs.Common.{◌≡◌, ℕ, ◌≤◌, List, [], ◌∷◌, ◌++◌, length, map, ap, subst, ◌∙◌, inl, inr, arith}
 use Rattle.std.specs.List.{filter}
 use Rattle.std.specs.Prelude.{not}
-use Rattle.std.specs.Cmp.Lexicographic.{slice_cmp}
-use Rattle.std.specs.Ordering.{nat_cmp}
-use Rattle.std.specs.declared.cmp.Ordering.{Ordering}
-use Rattle.std.specs.declared.cmp.Ordering.TheVariants.{Less, Equal, Greater}
 use Rattle.std.proofs.lemmas.List.{length-map, map_push}
 use Rattle.std.proofs.lemmas.List.Sums.{length-filter, count_by-le-length}
 use Rattle.entry_format.specs.Nodes.{node_of_sealed}
 use Rattle.entry_format.specs.SealedEntry.{SealedEntry}
 use Rattle.entry_order.specs.declared.event.Event.{Event}
 use Rattle.entry_order.specs.declared.event.Event.TheVariants.{Sent}
-use Rattle.entry_order.specs.Ascending.{ascending, insert_digest, inserted, IsAscending}
+use Rattle.entry_order.specs.Ascending.{ascending, IsAscending}
 use Rattle.entry_order.specs.Frontier.{frontier}
 use Rattle.entry_order.specs.History.{entry_of, held}
 use Rattle.entry_order.specs.Naming.{is_named}
-use Rattle.entry_order.proofs.Ascending.{ascending_ascending}
+use Rattle.entry_order.proofs.Ascending.{ascending_ascending, length-insert_digest}
 use Rattle.entry_order.proofs.Histories.{last_or_earlier}
 use Rattle.polling_world.specs.Configs.{Config}
 use Rattle.polling_world.specs.Rules.{entries_in}
@@ -43,19 +38,6 @@ pub entries_push : (h : List (Event SealedEntry)) (x : Event SealedEntry) →
 entries_push h x =
     ap (map (λ (sealed : SealedEntry). sealed.entry)) (map_push (λ (x : Event SealedEntry). entry_of x) h x)
     ∙ map_push (λ (sealed : SealedEntry). sealed.entry) (held h) (entry_of x)
-
--- a digest that is put into its place makes at most one more
-length-inserted : (o : Ordering) (d c : List ℕ) (cs after : List (List ℕ)) → length after ≤ length cs + 1 →
-    length (inserted o d c cs after) ≤ length cs + 2
-length-inserted Less d c cs after few = omega arith
-length-inserted Equal d c cs after few = omega arith
-length-inserted Greater d c cs after few = omega (arith, few)
-
--- so inserting a digest adds at most one
-length-insert_digest : (d : List ℕ) (ds : List (List ℕ)) → length (insert_digest d ds) ≤ length ds + 1
-length-insert_digest d [] = omega arith
-length-insert_digest d (c ∷ cs) =
-    omega (arith, length-inserted (slice_cmp nat_cmp d c) d c cs (insert_digest d cs) (length-insert_digest d cs))
 
 -- in order digests are no more than they were
 length-ascending : (ds : List (List ℕ)) → length (ascending ds) ≤ length ds

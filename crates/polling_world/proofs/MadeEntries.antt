@@ -11,6 +11,7 @@ use Rattle.entry_format.specs.EntryText.{body_tree, signed_tree}
 use Rattle.entry_format.specs.Nodes.{node_of_sealed}
 use Rattle.entry_format.specs.SealedEntry.{SealedEntry}
 use Rattle.entry_format.specs.Unsealing.{key_at, IsValid}
+use Rattle.entry_format.proofs.Unsealings.{same_sealed}
 use Rattle.entry_order.specs.declared.event.Event.{Event}
 use Rattle.entry_order.specs.declared.event.Event.TheVariants.{Sent}
 use Rattle.entry_order.specs.History.{MayFollow, held}
@@ -28,21 +29,6 @@ pub entry-made : (config : Config) (k stamp : ℕ) (names : List (List ℕ)) (de
 unfolding made
 entry-made config k stamp names deed = refl
 
--- a sealed entry of these parts
-abbrev sealed_of : Entry → List ℕ → List ℕ → List ℕ → List ℕ → SealedEntry
-sealed_of entry signature text digest key =
-    record { entry = entry; signature = signature; text = text; digest = digest; key = key }
-
--- a sealed entry is its parts
-same_parts : (s t : SealedEntry) → s.entry ≡ t.entry → s.signature ≡ t.signature → s.text ≡ t.text →
-    s.digest ≡ t.digest → s.key ≡ t.key → s ≡ t
-same_parts s t entry signature text digest key =
-    ap (λ e. sealed_of e s.signature s.text s.digest s.key) entry
-    ∙ ap (λ x. sealed_of t.entry x s.text s.digest s.key) signature
-    ∙ ap (λ x. sealed_of t.entry t.signature x s.digest s.key) text
-    ∙ ap (λ x. sealed_of t.entry t.signature t.text x s.key) digest
-    ∙ ap (λ x. sealed_of t.entry t.signature t.text t.digest x) key
-
 -- a sealed entry whose parts are these is the one that is made
 pub is_made : (config : Config) (k stamp : ℕ) (names : List (List ℕ)) (deed : Deed) (sealed : SealedEntry) →
     sealed.entry ≡ entry_with config k stamp names deed →
@@ -57,31 +43,7 @@ is_made config k stamp names deed sealed entry signature text digest key =
     let spelt : sealed.text ≡ (made config k stamp names deed).text =
     text ∙ ap (λ e. text_of (signed_tree e sealed.signature)) entry
     ∙ ap (λ s. text_of (signed_tree body s)) signed in
-    same_parts sealed (made config k stamp names deed) entry signed spelt (digest ∙ ap sha256 spelt) key
-
--- an entry is its parts
-abbrev entry_of_parts : ℕ → List ℕ → ℕ → ℕ → ℕ → List (List ℕ) → Deed → Entry
-entry_of_parts version election maker number stamp names deed = record {
-  version = version;
-  election = election;
-  maker = maker;
-  number = number;
-  stamp = stamp;
-  names = names;
-  deed = deed;
-}
-
--- entries with the same parts are the same
-pub same_entry : (e f : Entry) → e.version ≡ f.version → e.election ≡ f.election → e.maker ≡ f.maker →
-    e.number ≡ f.number → e.stamp ≡ f.stamp → e.names ≡ f.names → e.deed ≡ f.deed → e ≡ f
-same_entry e f version election maker number stamp names deed =
-    ap (λ x. entry_of_parts x e.election e.maker e.number e.stamp e.names e.deed) version
-    ∙ ap (λ x. entry_of_parts f.version x e.maker e.number e.stamp e.names e.deed) election
-    ∙ ap (λ x. entry_of_parts f.version f.election x e.number e.stamp e.names e.deed) maker
-    ∙ ap (λ x. entry_of_parts f.version f.election f.maker x e.stamp e.names e.deed) number
-    ∙ ap (λ x. entry_of_parts f.version f.election f.maker f.number x e.names e.deed) stamp
-    ∙ ap (λ x. entry_of_parts f.version f.election f.maker f.number f.stamp x e.deed) names
-    ∙ ap (λ x. entry_of_parts f.version f.election f.maker f.number f.stamp f.names x) deed
+    same_sealed sealed (made config k stamp names deed) entry signed spelt (digest ∙ ap sha256 spelt) key
 
 -- what a machine's key sealed is what it makes
 pub sealed_is_made : (config : Config) (k stamp : ℕ) (names : List (List ℕ)) (deed : Deed) (secret : Secret)

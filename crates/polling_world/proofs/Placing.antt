@@ -1,9 +1,10 @@
 -- Machines in their places, and the world that they are.
 use Rattle.std.proofs.Common.{◌≡◌, ◌∙◌, ℕ, zero, suc, ◌<◌, ◌⊎◌, inl, inr, List, [], ◌∷◌, ◌++◌, length, map}
-use Rattle.std.proofs.Common.{Some, None, Option, refl, sym, ap, arith, ◌||◌, false, true, Bool}
+use Rattle.std.proofs.Common.{Some, None, Option, refl, sym, ap, arith, ◌||◌, true, Bool}
 use Rattle.std.specs.Prelude.{slice_get, slice_set, slice_index_or}
 use Rattle.std.specs.List.{Contains}
 use Rattle.std.proofs.lemmas.Option.{slice_get_within, get_or_from_slice_get}
+use Rattle.std.proofs.Math.Bool.{or-false}
 use Rattle.entry_format.specs.SealedEntry.{SealedEntry}
 use Rattle.entry_order.specs.declared.event.Event.{Event}
 use Rattle.entry_order.specs.History.{sent}
@@ -64,10 +65,6 @@ module _ {X : Type 0} where
   set_cases (v ∷ xs) (suc i) (suc n) x y z e is =
       elim (set_cases xs i n x y z e is) [ inl s ↦ inl (ap suc s.0, s.1) | inr s ↦ inr s ]
 
-  -- two values of one place are one
-  pub one_there : (xs : List X) (i : ℕ) (x y : X) → slice_get xs i ≡ Some x → slice_get xs i ≡ Some y → x ≡ y
-  one_there xs i x y e f = let same : Some x ≡ Some y = sym e ∙ f in cc
-
 -- the world once a machine in it was changed
 pub world_of-set : (ms : List MachineState) (at : ℕ) (m new : MachineState)
     (change : Machine SealedEntry → Machine SealedEntry) → slice_get ms at ≡ Some m →
@@ -97,12 +94,7 @@ history_at (m ∷ ms) (suc at) d l = history_at ms at d (omega arith)
 -- a machine with no stop of its own has stopped where it was marked
 pub stopped_by_mark : (m : MachineState) → m.stop ≡ None → has_stopped m ≡ m.marked
 stopped_by_mark m none =
-    ap (λ (stop : Option ℕ). m.marked || is_reached stop (length m.events)) none ∙ or_false m.marked
-  where
-    -- with a test that fails the other decides
-    or_false : (b : Bool) → (b || false) ≡ b
-    or_false true = refl
-    or_false false = refl
+    ap (λ (stop : Option ℕ). m.marked || is_reached stop (length m.events)) none ∙ or-false m.marked
 
 -- and it hasn't stopped for an event more
 pub machine_of-event : (m : MachineState) (x : Event SealedEntry) → m.stop ≡ None →

@@ -1,13 +1,12 @@
 -- Ranked steps, once they are sorted by rank, are the steps of the merged order.
-use Rattle.std.proofs.Common.{◌≡◌, ◌≢◌, ◌∙◌, ℕ, suc, ◌+◌, Bool, false, List, [], ◌∷◌, map, length, get_or, set}
+use Rattle.std.proofs.Common.{◌≡◌, ◌∙◌, ℕ, suc, ◌+◌, Bool, false, List, [], ◌∷◌, map, length, get_or, set}
 use Rattle.std.proofs.Common.{refl, sym, ap, subst, arith, swap}
 use Rattle.std.specs.List.{Contains, IsDistinct}
 use Rattle.std.specs.List.Sorted.{IsPermutation, IsSortedBy, IsSortedByKey}
 use Rattle.std.specs.Str.{bytes_eq}
 use Rattle.std.specs.Cmp.Lexicographic.{slice_cmp}
-use Rattle.std.specs.Ordering.{nat_cmp, ordering_reverse, is_lt}
-use Rattle.std.specs.declared.cmp.Ordering.{Ordering}
-use Rattle.std.specs.declared.cmp.Ordering.TheVariants.{Less, Equal, Greater}
+use Rattle.std.specs.Ordering.{nat_cmp, is_lt}
+use Rattle.std.specs.declared.cmp.Ordering.TheVariants.{Less}
 use Rattle.std.proofs.Math.ListN.{get_or-map}
 use Rattle.std.proofs.lemmas.Bool.{true≢false}
 use Rattle.std.proofs.lemmas.Cmp.{nat_list_cmp_total, nat_list_eq_equiv}
@@ -16,11 +15,11 @@ use Rattle.std.proofs.lemmas.List.Sorted.{sorted_far, ranks_by, IsPermutation-ma
 use Rattle.std.proofs.lemmas.List.Sorted.{IsPermutation-swap, IsPermutation-trans, IsPermutation-keeps}
 use Rattle.std.proofs.lemmas.List.Sorted.{IsPermutation-sym, Contains-permutation}
 use Rattle.std.proofs.lemmas.Map.Keys.{IsDistinct-IsPermutation, IsDistinct-tail, apart_from_distinct}
-use Rattle.std.proofs.lemmas.Map.Lookups.{exact_bytes}
 use Rattle.std.proofs.lemmas.Slice.Eq.{bytes_eq-Decides}
 use Rattle.entry_order.specs.Node.{Node}
 use Rattle.entry_order.specs.World.{World}
 use Rattle.entry_order.specs.Merged.{PlacedEvent, sort_key, IsInSortOrder, IsMergedOf, step_of}
+use Rattle.entry_order.proofs.Comparisons.{below}
 use Rattle.polling_world.specs.declared.merging.RankedStep.{RankedStep}
 use Rattle.polling_world.specs.inside.Ranked.{ranked_step, AreRanked}
 
@@ -53,15 +52,6 @@ module _ {X Y : Type 0} (f : X → Y) where
       ys moved
 
 -- ---- what rises
-
--- what isn't below and isn't the same is above
-below : (x y : List ℕ) → is_lt (slice_cmp nat_cmp y x) ≡ false → x ≢ y → slice_cmp nat_cmp x y ≡ Less
-below x y not_lt differ = by (slice_cmp nat_cmp y x) refl not_lt
-  where
-    by : (o : Ordering) → slice_cmp nat_cmp y x ≡ o → is_lt o ≡ false → slice_cmp nat_cmp x y ≡ Less
-    by Less e h = absurd (true≢false h)
-    by Equal e h = absurd (differ (sym (exact_bytes y x e)))
-    by Greater e h = nat_list_cmp_total.antisymm x y ∙ ap ordering_reverse e
 
 -- the rank by which a step is sorted
 abbrev pub rank_of : RankedStep → List ℕ

@@ -1,8 +1,8 @@
 -- What a step does is what the world's step is.
-use Rattle.std.proofs.Common.{◌≡◌, ◌≢◌, ◌∙◌, ℕ, ◌<◌, inl, inr, List, [], ◌∷◌, length}
+use Rattle.std.proofs.Common.{◌≡◌, ◌≢◌, ◌∙◌, ℕ, inl, inr, List, [], ◌∷◌, length}
 use Rattle.std.proofs.Common.{Some, None, Option, Ok, Err, Bool, true, false, cond, refl, sym, ap, subst, arith}
 use Rattle.std.specs.Prelude.{◌||◌, not, nat_le}
-use Rattle.std.proofs.lemmas.Bool.{leb-true, leb-false}
+use Rattle.std.proofs.lemmas.Bool.{leb-false, not-true, lt-leb}
 use Rattle.first_cause.specs.Causes.{IsFirstOf}
 use Rattle.entry_format.specs.declared.deed.Deed.{Deed}
 use Rattle.entry_format.specs.Nodes.{node_of_sealed}
@@ -53,11 +53,6 @@ refuses_one Supervisor owner h deed _ ok err = err
 refuses_one Booth owner h deed (left.BoothNot why) ok err =
     one_first (booth.causes_of owner (entries_in h) (IsWholeHistory h) deed) why ok err
 refuses_one Booth owner h deed _ ok err = err
-
--- what is denied by a test that holds fails
-not_true : (b : Bool) → not b ≡ true → b ≡ false
-not_true true e = cc
-not_true false e = refl
 
 -- ---- what is sent
 
@@ -111,7 +106,7 @@ pub act_is : (m new : MachineState) (answer : Acted) (o : Option SealedEntry) �
 act_is m new (acted.Did number copies) o alone spent told done =
     ap machine_of done.changed ∙ machine_of-event m (Sent done.entry) alone
     ∙ sym (send_going o (machine_of m) done.entry (next_is m.config m.events o done.entry told done.may)
-    (not_true (has_stopped m) done.going))
+    (not-true (has_stopped m) done.going))
 act_is m new acted.Stopped o alone spent told (stopped, same) =
     ap machine_of same ∙ sym (send_stopped o (machine_of m) stopped)
 act_is m new acted.NoMore o alone spent told (_, none, same) =
@@ -168,15 +163,6 @@ new_is_not_borne es e new = by (has_digest node_of_sealed es (node_of_sealed e).
         absurd (new g there digest)
     by false is = refl
 
--- the greater of two numbers isn't at most the lesser
-not_at_most : (n m : ℕ) → m < n → nat_le n m ≡ false
-not_at_most n m less = by (nat_le n m) refl
-  where
-    -- the test can't have held
-    by : (b : Bool) → nat_le n m ≡ b → b ≡ false
-    by true is = let le = leb-true n m is in absurd (omega (arith, le, less))
-    by false is = refl
-
 -- a number is at most what it equals
 at_most_itself : (n m : ℕ) → m ≡ n → nat_le n m ≡ true
 at_most_itself n m same = by (nat_le n m) refl
@@ -195,8 +181,8 @@ hear_is m e heard.Taken log alone size other (going, (maker, new, room)) =
     machine_of-event m (Got e) alone
     ∙ sym (ap (λ (b : Bool). cond b (machine_of m) (append (Got e) (machine_of m)))
     (none_of (has_stopped m) (has_digest node_of_sealed (held m.events) (node_of_sealed e).digest)
-    (nat_le log (length m.events)) (not_true (has_stopped m) going) (new_is_not_borne (held m.events) e new)
-    (not_at_most log (length m.events) (omega (arith, room, size)))))
+    (nat_le log (length m.events)) (not-true (has_stopped m) going) (new_is_not_borne (held m.events) e new)
+    (lt-leb log (length m.events) (omega (arith, room, size)))))
 hear_is m e (heard.Stopped back) log alone size other (is, same) =
     sym (ap (λ (b : Bool). cond (b || has_digest node_of_sealed (held m.events) (node_of_sealed e).digest
     || nat_le log (length m.events)) (machine_of m) (append (Got e) (machine_of m))) is)

@@ -19,7 +19,9 @@ use Rattle.entry_order.specs.Naming.{IsNew}
 use Rattle.entry_order.specs.Receipt.{IsOrderly}
 use Rattle.entry_order.specs.World.{Machine, World, history, sent_in, with_machine, append, stop, send, hear, happens}
 use Rattle.entry_order.proofs.Orders.{member_split, Contains-sent_cases}
+use Rattle.entry_order.proofs.Places.{one_at}
 use Rattle.roster.specs.declared.post.Post.{Post}
+use Rattle.roster.specs.Machines.{max_machines}
 use Rattle.polling_world.specs.declared.acted.Acted.{Acted}
 use Rattle.polling_world.specs.declared.acted.Acted.TheVariants as acted
 use Rattle.polling_world.specs.declared.heard.MachineHeard.{MachineHeard}
@@ -34,15 +36,14 @@ use Rattle.polling_world.specs.Steps.{stepped_by, stepped_in, ActsAt, IsGiven, H
 use Rattle.polling_world.specs.Waiting.{IsStampSpent}
 use Rattle.polling_world.specs.Configs.{Config}
 use Rattle.polling_world.specs.Worlds.{machine_of, world_of, configs_of, stops_of, HaveLog, IsNextAt, IsPlaced, IsWorld}
-use Rattle.polling_world.specs.Worlds.{TellsNext}
-use Rattle.polling_world.specs.Worlds.{WorldState}
+use Rattle.polling_world.specs.Worlds.{TellsNext, WorldState}
 use Rattle.polling_world.proofs.Growing.{sent_in_stop, sent_in-grown_cases, sent_in-count, sent_in_few, held_stamps}
 use Rattle.polling_world.proofs.Growing.{held_greatest, IsOrderly-stop, IsOrderly-append}
 use Rattle.polling_world.proofs.MadeEntries.{may_follow}
 use Rattle.polling_world.proofs.Placing.{sent_at_sent, get-map, get-map_from, map-set_same, set_same, set_get}
-use Rattle.polling_world.proofs.Placing.{set_cases, one_there}
-use Rattle.polling_world.proofs.Placing.{world_of-set, history_there, machine_of-event, machine_of-stop}
+use Rattle.polling_world.proofs.Placing.{set_cases, world_of-set, history_there, machine_of-event, machine_of-stop}
 use Rattle.polling_world.proofs.Stepping.{act_is, hear_is}
+use Rattle.election_script.specs.Lawful.{max_events}
 
 -- a world with this roster and these machines
 abbrev pub state_of : List Post → List MachineState → WorldState
@@ -110,7 +111,7 @@ module _ (posts : List Post) (ms : List MachineState) (world : IsWorld posts ms)
       omega (arith, all, count, few)
     where
       -- the log of each has room for at most 4,096 events
-      small : (n : ℕ) (a : Machine SealedEntry) → slice_get (world_of ms) n ≡ Some a → length a.history ≤ 4096
+      small : (n : ℕ) (a : Machine SealedEntry) → slice_get (world_of ms) n ≡ Some a → length a.history ≤ max_events
       small n a is =
           let (m, stands, is_a) = get-map_from machine_of ms n a is in
           let within = (world.placed n m stands).within in
@@ -159,7 +160,7 @@ module _ (posts : List Post) (ms : List MachineState) (world : IsWorld posts ms)
         ]
 
     -- there are still at most 16 machines
-    still_few : (new : MachineState) → length (slice_set ms at new) ≤ 16
+    still_few : (new : MachineState) → length (slice_set ms at new) ≤ max_machines
     still_few new = let few = world.few in omega (arith, few, length-set ms at new)
 
     -- with an event more that may follow, it is a world
@@ -227,7 +228,7 @@ module _ (posts : List Post) (ms : List MachineState) (world : IsWorld posts ms)
               let now : slice_get ms at ≡ Some (with_event x m) =
               ap (λ (us : List MachineState). slice_get us at) (sym same ∙ changed)
               ∙ set_get ms at m (with_event x m) there in
-              let one = one_there ms at m (with_event x m) there now in
+              let one = one_at ms at m (with_event x m) there now in
               let long : length m.events ≡ length (m.events ++ x ∷ []) =
               ap (λ (u : MachineState). length u.events) one in
               absurd (omega (arith, long, length-append m.events (x ∷ [])))),
@@ -270,7 +271,7 @@ module _ (posts : List Post) (ms : List MachineState) (world : IsWorld posts ms)
             let now : slice_get ms at ≡ Some (record m { marked = true }) =
             ap (λ (us : List MachineState). slice_get us at) (sym same ∙ changed)
             ∙ set_get ms at m (record m { marked = true }) there in
-            let one = one_there ms at m (record m { marked = true }) there now in
+            let one = one_at ms at m (record m { marked = true }) there now in
             let no : false ≡ true = sym going ∙ ap has_stopped one in cc),
       );
       configs = ap configs_of changed ∙ map-set_same (λ u. u.config) ms at m (record m { marked = true }) there refl;

@@ -27,3 +27,9 @@ ComesTo script steps world =
 pub record IsPlayed (script : Script) (machines : List MachineState) : Type 0 where
   pub are_of : AreOf script machines
   pub played : ComesTo script script.steps (world_of machines)
+
+-- a script is played in one way
+abbrev pub ScriptsArePlayedInOneWay : Type 0
+ScriptsArePlayedInOneWay =
+    (script : Script) (machines others : List MachineState) → IsPlayed script machines → IsPlayed script others →
+    machines ≡ others

@@ -79,3 +79,8 @@ pub record IsNextLeft (m : MachineState) (left : Left) : Type 0 where
 abbrev pub IsLeft : MachineState → Option Left → Type 0
 IsLeft m None = next_action m.config m.events ≡ None
 IsLeft m (Some left) = IsNextLeft m left
+
+-- it is told in one way
+abbrev pub WhatIsLeftIsToldInOneWay : Type 0
+WhatIsLeftIsToldInOneWay =
+    (machine : MachineState) (left other : Option Left) → IsLeft machine left → IsLeft machine other → left ≡ other

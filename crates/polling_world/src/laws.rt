@@ -4,12 +4,9 @@ ghost use Rattle.std.specs.Prelude.{◌≡◌, ℕ, List, Option};
 ghost use Rattle.entry_format.specs.SealedEntry.{SealedEntry};
 ghost use Rattle.entry_order.specs.declared.event.Event.{Event};
 ghost use Rattle.polling_world.specs.Configs.{Config};
-ghost use Rattle.election_script.specs.declared.script.Script.{Script};
-ghost use Rattle.polling_world.specs.Machines.{MachineState};
-ghost use Rattle.polling_world.specs.Playing.{IsPlayed};
+ghost use Rattle.polling_world.specs.Playing.{ScriptsArePlayedInOneWay};
 ghost use Rattle.polling_world.specs.Worlds.{TellsNext};
-ghost use Rattle.polling_world.specs.declared.left.Left.{Left};
-ghost use Rattle.polling_world.specs.Waiting.{IsLeft};
+ghost use Rattle.polling_world.specs.Waiting.{WhatIsLeftIsToldInOneWay};
 
 /// Of any machines one function tells what each may send after any history, and no other does.
 pub fn one_function_tells_what_is_sent()
@@ -23,12 +20,10 @@ pub fn one_function_tells_what_is_sent()
 
 /// A script is played in one way.
 pub fn scripts_are_played_in_one_way()
-    ensures { (script : Script) (machines others : List MachineState) →
-        IsPlayed script machines → IsPlayed script others → machines ≡ others }
+    ensures { ScriptsArePlayedInOneWay }
 {}
 
 /// What is left of a machine's actions is told in one way.
 pub fn what_is_left_is_told_in_one_way()
-    ensures { (machine : MachineState) (left other : Option Left) →
-        IsLeft machine left → IsLeft machine other → left ≡ other }
+    ensures { WhatIsLeftIsToldInOneWay }
 {}

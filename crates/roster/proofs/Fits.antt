@@ -3,15 +3,15 @@ use Rattle.std.proofs.Common.{◌≡◌, ◌≤◌, List, [], ◌∷◌, length,
 use Rattle.std.proofs.lemmas.List.Elements.{All-head, All-tail}
 use Rattle.canonical_sexp.specs.Forest.{count_of}
 use Rattle.canonical_sexp.specs.Sexp.{forest_of}
-use Rattle.canonical_sexp.specs.Text.{AreWithin, Fits}
+use Rattle.canonical_sexp.specs.Text.{AreWithin, Fits, max_octets}
 use Rattle.roster.specs.declared.post.Post.{Post}
 use Rattle.roster.specs.declared.post.Role.{Role}
 use Rattle.roster.specs.declared.post.Role.TheVariants.{Supervisor, Booth}
 use Rattle.roster.specs.RosterText.{role_word, post_tree, roster_tree, HasKey}
-use Rattle.roster.specs.Machines.{IsName, HaveText}
+use Rattle.roster.specs.Machines.{IsName, HaveText, max_machines, max_name}
 
 -- the word of a role is short enough for an atom
-word_is_short : (role : Role) → length (role_word role) ≤ 262144
+word_is_short : (role : Role) → length (role_word role) ≤ max_octets
 word_is_short Supervisor = omega arith
 word_is_short Booth = omega arith
 
@@ -20,7 +20,8 @@ posts_within : (machines : List Post) → All (λ (post : Post). IsName post.nam
     AreWithin 7 (forest_of (map post_tree machines))
 posts_within [] named keyed = tt
 posts_within (post ∷ machines) named keyed =
-    let name : length post.name ≤ 16 = (All-head (λ (post : Post). IsName post.name) post machines named).at_most in
+    let name : length post.name ≤ max_name =
+    (All-head (λ (post : Post). IsName post.name) post machines named).at_most in
     let key : length post.key ≡ 56 = All-head HasKey post machines keyed in
     let rest = posts_within machines (All-tail (λ (post : Post). IsName post.name) post machines named)
     (All-tail HasKey post machines keyed) in
@@ -34,7 +35,7 @@ posts_counted (post ∷ machines) = let rest = posts_counted machines in omega (
 -- the tree of a roster is within the limits
 pub roster_fits : (machines : List Post) → HaveText machines → Fits (roster_tree machines)
 roster_fits machines have =
-    let few : length machines ≤ 16 = have.roster.few in (
+    let few : length machines ≤ max_machines = have.roster.few in (
       omega arith,
       omega (arith, posts_counted machines),
       (omega arith, (omega arith, posts_within machines have.roster.named have.keys)),

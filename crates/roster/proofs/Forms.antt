@@ -13,7 +13,7 @@ use Rattle.roster.specs.inside.Raw.{IsRosterTree}
 use Rattle.roster.proofs.Trees.{same_behind, one_list}
 
 -- a text has one tree
-one_text : (text : List ℕ) (tree other : Sexp) → Fits tree → Fits other → text ≡ text_of tree →
+pub one_text : (text : List ℕ) (tree other : Sexp) → Fits tree → Fits other → text ≡ text_of tree →
     text ≡ text_of other → tree ≡ other
 one_text text tree other fits other_fits is also = same_text tree other fits other_fits (sym is ∙ also)
 

@@ -20,7 +20,7 @@ same_behind trees others same =
     cc
 
 -- a role has one word
-one_role : (role other : Role) → role_word role ≡ role_word other → role ≡ other
+pub one_role : (role other : Role) → role_word role ≡ role_word other → role ≡ other
 one_role Supervisor Supervisor same = refl
 one_role Supervisor Booth same = cc
 one_role Booth Supervisor same = cc

@@ -1,6 +1,5 @@
 -- The first rows at which a rule is broken.
-use Rattle.std.proofs.Common.{◌≡◌, ◌∙◌, ap, sym, refl, ℕ, zero, suc, ◌+◌, ◌-◌, ◌<◌, Bool, true, false, cond, Option}
-use Rattle.std.proofs.Common.{Some}
+use Rattle.std.proofs.Common.{◌≡◌, ◌∙◌, ap, sym, ℕ, zero, suc, ◌+◌, ◌-◌, ◌<◌, Bool, true, false, cond, Option, Some}
 use Rattle.std.proofs.Common.{List, length, Box, Global, rules, arith}
 use Rattle.std.specs.Prelude.{find, OnOk, Result, Ok, Err, slice_get, ◌&&◌}
 use Rattle.std.proofs.Common.{get_or}
@@ -62,21 +61,6 @@ module _ (rows : List Row) (order : ℕ → ℕ → Three) (wholes : ℕ → Boo
       let less : length rows - i - 1 ≡ length rows - (i + 1) = omega arith in
       so_far ∙ find_more p i (length rows - i) (omega arith) is
       ∙ ap (λ (n : ℕ). find p (range_with_len (i + 1) n)) less
-
--- a test whose second part fails fails
-pub neither : (a b : Bool) → b ≡ false → (a && b) ≡ false
-neither true b is = is
-neither false b is = refl
-
--- a test of two parts that both hold holds
-pub each_true : (a b : Bool) → a ≡ true → b ≡ true → (a && b) ≡ true
-each_true true b is also = also
-each_true false b is also = cc
-
--- a test whose first part fails fails
-pub not_first : (a b : Bool) → a ≡ false → (a && b) ≡ false
-not_first true b is = cc
-not_first false b is = refl
 
 -- within the rows, the row at a place is of the kind that the list says
 pub at_row : (rows : List Row) (kind : Kind) (i : ℕ) (d : Row) → i < length rows →

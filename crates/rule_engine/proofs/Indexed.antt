@@ -1,12 +1,12 @@
 -- Rows in buckets, and values over the rows of one bucket in place of all.
 use Rattle.std.proofs.Common.{◌≡◌, ◌≢◌, ◌∙◌, ap, sym, refl, subst, ℕ, zero, suc, ◌+◌, ◌-◌, ◌<◌, ◌≤◌, ◌%◌, Bool, true}
-use Rattle.std.proofs.Common.{false}
-use Rattle.std.proofs.Common.{not, cond, Option, Some, None, List, length, get_or, replicate, arith, inl, inr}
+use Rattle.std.proofs.Common.{false, not, cond, Option, Some, None, List, length, get_or, replicate, arith, inl, inr}
 use Rattle.std.specs.Prelude.{slice_get, slice_set, slice_index_or, ◌&&◌}
 use Rattle.std.proofs.lemmas.Option.{slice_get_within, slice_get_cases, slice_get-get_or}
 use Rattle.std.proofs.lemmas.Grind.{get_or_default_zero}
 use Rattle.std.proofs.lemmas.Bool.{cases_eq, cases_lt}
 use Rattle.std.proofs.lemmas.List.{get_or-set_same, get_or-set_other, get_or-replicate, length-set, length-replicate}
+use Rattle.std.proofs.lemmas.Nat.{mod_below}
 use Rattle.entry_order.specs.declared.three.Three.{Three}
 use Rattle.entry_order.specs.declared.three.Three.TheVariants.{False, True}
 use Rattle.rule_language.specs.declared.row.Row.{Row}
@@ -28,10 +28,6 @@ use Rattle.rule_engine.proofs.Judges.{both_true, over_step}
 -- finds that are the same are of one row
 same_row : (a b : Row) → Some a ≡ Some b → a ≡ b
 same_row a b e = cc
-
--- a remainder is below its divisor
-pub mod_below : (n d : ℕ) → 0 < d → n % d < d
-mod_below n d some = omega arith
 
 module _ (rows : List Row) (by : Key) (count : ℕ) where
   -- the row itself is the first from its place on

@@ -5,6 +5,7 @@ use Rattle.std.proofs.Common.{List, [], ◌∷◌, map, drop, get_or, length, Ve
 use Rattle.std.specs.Prelude.{slice_get}
 use Rattle.std.specs.List.{filter, range_with_len}
 use Rattle.std.proofs.lemmas.List.{drop_more, drop_all}
+use Rattle.std.proofs.Math.Bool.{and-true}
 use Rattle.entry_order.specs.declared.three.Three.{Three}
 use Rattle.entry_order.specs.declared.three.Three.TheVariants.{False, Unknown, True}
 use Rattle.rule_language.specs.declared.row.Row.{Row}
@@ -18,8 +19,7 @@ use Rattle.rule_language.specs.declared.form.Form.TheVariants as form
 use Rattle.rule_language.specs.Trees.{Trees, no_trees, tree_then}
 use Rattle.rule_language.specs.Forms.{in_front, tree_of}
 use Rattle.rule_engine.specs.Kleene.{both, either, opposite, least, greatest, as_three, is_true}
-use Rattle.rule_engine.specs.Tests.{has_kind, is_next, has_role, are_equal, is_less}
-use Rattle.rule_engine.specs.Tests.{value_of as term_value}
+use Rattle.rule_engine.specs.Tests.{has_kind, is_next, has_role, are_equal, is_less, value_of as term_value}
 use Rattle.rule_engine.specs.Meaning.{bind}
 use Rattle.rule_engine.specs.Values.{values, first_value, second_value, places, ancestors, rest_of, values_before}
 use Rattle.rule_engine.specs.Values.{row_at, order_of}
@@ -133,11 +133,6 @@ pub greatest_rest : (b : Bool) → greatest (cond b [] (Unknown ∷ [])) ≡ opp
 greatest_rest true = refl
 greatest_rest false = refl
 
--- a second test that always holds changes nothing
-and_true : (b : Bool) → (b && true) ≡ b
-and_true true = refl
-and_true false = refl
-
 -- members picked by one test and then by another are those that pass both
 filter_twice : (p q : ℕ → Bool) (xs : List ℕ) → filter q (filter p xs) ≡ filter (λ j. p j && q j) xs
 filter_twice p q [] = refl
@@ -202,7 +197,7 @@ module _ (rows : List Row) (order : ℕ → ℕ → Three) (wholes : ℕ → Boo
       ≡ filter (λ j. has_kind kind (slice_get rows j) && true) (range_with_len 0 (length rows))
   all_rows kind =
       ap (λ (p : ℕ → Bool). filter p (range_with_len 0 (length rows)))
-      (fun_ext (λ (j : ℕ). sym (and_true (has_kind kind (slice_get rows j)))))
+      (fun_ext (λ (j : ℕ). sym (and-true (has_kind kind (slice_get rows j)))))
 
   -- the rows of a kind before a row are those that one with `before` goes over
   earlier_rows : (kind : Kind) (u : ℕ) →

@@ -17,9 +17,9 @@ use Rattle.entry_order.specs.Ancestors.{reaches, is_whole, before}
 use Rattle.entry_order.specs.Settled.{IsGraphOf}
 use Rattle.entry_order.proofs.Lists.{Contains-none, Contains-head, Contains-cons_cases}
 use Rattle.entry_order.proofs.Lists.{Contains-map, Contains-map_cases, Contains-filter, Contains-filter_cases}
-use Rattle.entry_order.proofs.Settled.{order_is_settled, at_place, place_of, whole_from_test}
-use Rattle.entry_order.proofs.Settled.{precedes_from_reaches, reaches_from_precedes}
+use Rattle.entry_order.proofs.Settled.{order_is_settled, whole_from_test, precedes_from_reaches, reaches_from_precedes}
 use Rattle.entry_order.proofs.Completions.{before_in_completion, before_among_survivors}
+use Rattle.entry_order.proofs.Places.{member_at, place_of}
 use Rattle.rule_language.specs.declared.row.Row.{Row}
 use Rattle.rule_language.specs.declared.kind.Kind.{Kind}
 use Rattle.rule_language.specs.declared.form.Form.{Form}
@@ -327,7 +327,7 @@ module _ {T : Type 0} (node : T → Node) (row : T → Row) (machines : ℕ) (S 
     survivors_meant : (i : ℕ) → Contains (places rows comes_before whole_at_place kind) i →
         (e : T) × Survives e × Agrees (value_at i) (SaysAt e)
     survivors_meant i c =
-        let (e, there, such) = place_meant kind i c in (e, (at_place S i e there, such), body i e there)
+        let (e, there, such) = place_meant kind i c in (e, (member_at S i e there, such), body i e there)
 
     -- and each survivor of the kind has a place
     survivors_all : true ≡ true → (e : T) → Survives e →
@@ -380,7 +380,7 @@ module _ {T : Type 0} (node : T → Node) (row : T → Row) (machines : ℕ) (S 
       earlier_all : is_whole parents ragged u u ≡ true → (e : T) → IsEarlier e →
           (i : ℕ) × Contains (ancestors rows comes_before whole_at_place kind u) i × Agrees (value_at i) (SaysAt e)
       earlier_all whole e m =
-          let path = before_among_survivors node S machines G completion e last (at_place S u last at)
+          let path = before_among_survivors node S machines G completion e last (member_at S u last at)
           (whole_from_test node machines S parents ragged graph u u last last at at whole) m.1 in
           let (i, there, placed) = place_of_kind kind e path.0 m.0 in
           let near = is_true_before (reaches parents u i u) (is_whole parents ragged u u)

@@ -1,7 +1,6 @@
 -- Where each survivor is whole, nothing is unknown.
 use Rattle.std.proofs.Common.{◌≡◌, ◌≢◌, ℕ, Bool, true, false, cond, List, [], ◌∷◌, ◌++◌, map, Option, Some, None}
-use Rattle.std.proofs.Common.{length}
-use Rattle.std.proofs.Common.{refl, sym, ap, ◌∙◌, subst}
+use Rattle.std.proofs.Common.{length, refl, sym, ap, ◌∙◌, subst}
 use Rattle.std.specs.Prelude.{slice_get}
 use Rattle.std.specs.List.{Contains}
 use Rattle.entry_order.specs.declared.three.Three.{Three}
@@ -11,7 +10,8 @@ use Rattle.entry_order.specs.Survivors.{gaps}
 use Rattle.entry_order.specs.Settled.{IsGraphOf, IsWhole}
 use Rattle.entry_order.specs.Ancestors.{reaches, is_whole, before}
 use Rattle.entry_order.proofs.Lists.{Contains-none, Contains-head, Contains-later, Contains-filter_cases}
-use Rattle.entry_order.proofs.Settled.{whole_test_from, at_place}
+use Rattle.entry_order.proofs.Settled.{whole_test_from}
+use Rattle.entry_order.proofs.Places.{member_at}
 use Rattle.rule_language.specs.declared.row.Row.{Row}
 use Rattle.rule_language.specs.declared.kind.Kind.{Kind}
 use Rattle.rule_language.specs.declared.form.Form.{Form}
@@ -137,7 +137,7 @@ module _ {T : Type 0} (node : T → Node) (row : T → Row) (S : List T) (parent
   whole_at : (i : ℕ) → IsPlace (Some i) → is_whole parents ragged i i ≡ true
   whole_at i (e, is) =
       whole_test_from node 0 S parents ragged graph i i e e is is
-      (wholes e (at_place S i e is))
+      (wholes e (member_at S i e is))
 
   -- a variable more that stands for such a place leaves all standing for such
   one_more : (v i : ℕ) (σ : ℕ → Option ℕ) → IsPlace (Some i) → ArePlaces σ → ArePlaces (bind v i σ)

@@ -3,7 +3,7 @@ use Rattle.std.proofs.Common.{◌≡◌, ◌≢◌, inl, inr, ◌∙◌, ◌↔�
 use Rattle.std.proofs.Common.{◌++◌, Some, Result, Ok, Err, refl, ap, sym, arith, append_assoc, Box, Global}
 use Rattle.std.specs.Prelude.{codes, nat_le, ◌==◌, IsTrue, if◌then◌else◌}
 use Rattle.std.specs.Str.{bytes_eq}
-use Rattle.std.proofs.lemmas.Bool.{lt-ltb, ne_eqb}
+use Rattle.std.proofs.lemmas.Bool.{lt-ltb, ne_eqb, le-leb}
 use Rattle.hall_text.specs.declared.spans.Span.{Span}
 use Rattle.rule_language.specs.declared.formula.Formula.{Formula}
 use Rattle.rule_language.specs.declared.form.Form.{Form}
@@ -61,12 +61,8 @@ no_formula scope depth rest word a b = rw (bytes_differ word (codes "true") a) (
 -- inside 32 parentheses no other may open
 pub too_deep : (scope : Scope) (depth : ℕ) (rest : List Want) (word : Token) → word ≡ left → 32 ≤ depth
     → meets_formula scope depth rest word ≡ Err TooDeep
-too_deep scope depth rest word is deep = rw is (deeper (nat_le 32 depth) (le_true depth deep))
+too_deep scope depth rest word is deep = rw is (deeper (nat_le 32 depth) (le-leb 32 depth deep))
   where
-    -- a depth of 32 or more is found too great
-    le_true : (d : ℕ) → 32 ≤ d → nat_le 32 d ≡ true
-    le_true d le = lt-ltb 31 d (omega arith)
-
     -- where the depth is too great, that is the cause
     deeper : (b : Bool) → b ≡ true → (if b then Err TooDeep else Ok (head scope (depth + 1) ∷ rest)) ≡ deep_met
     deeper true e = refl

@@ -3,7 +3,7 @@ use Rattle.std.proofs.Common.{◌≡◌, ◌≢◌, ◌⊎◌, inl, inr, ◌∙�
 use Rattle.std.proofs.Common.{◌∷◌, ◌++◌, Some, None, Result, Ok, Err, refl, ap, sym, subst, arith}
 use Rattle.std.specs.Prelude.{nat_lt, nat_le, ◌==◌, if◌then◌else◌, codes}
 use Rattle.std.specs.Str.{bytes_eq}
-use Rattle.std.proofs.lemmas.Bool.{lt-ltb, leb-false, eqb-false}
+use Rattle.std.proofs.lemmas.Bool.{lt-ltb, leb-false, eqb-false, and_parts}
 use Rattle.rule_language.specs.declared.kind.Kind.{Kind}
 use Rattle.rule_language.specs.declared.form.Form.TheVariants as form
 use Rattle.rule_language.specs.declared.faults.RuleWhy.{RuleWhy}
@@ -14,7 +14,7 @@ use Rattle.rule_language.specs.Lawful.{is_closed, has_arity, is_shallow, scope_i
 use Rattle.rule_language.specs.Spelling.{Token, left, right, variable, form_words, spelt, tokens_then}
 use Rattle.rule_language.specs.Wants.{Want, Met, formula, head, before_or_body, more, a_variable, close}
 use Rattle.rule_language.specs.Wants.{meets, meets_formula, then_want}
-use Rattle.rule_language.proofs.Found.{both_true, bytes_same}
+use Rattle.rule_language.proofs.Found.{bytes_same}
 use Rattle.rule_language.proofs.Passing.{spelt_cases, tokens_append}
 use Rattle.rule_language.proofs.Fills.{FillsFormula, FillsHead, Completes}
 
@@ -59,9 +59,9 @@ pub row-good : (scope : Scope) (depth : ℕ) (a b : Trees) → are_formulas scop
     → are_formulas scope depth (in_row a b) ≡ true
 row-good scope depth no_trees b ga gb = gb
 row-good scope depth (tree_then f parts trees) b ga gb =
-    let n = both_true (is_shallow depth f && (is_closed scope f && has_arity f (count_of parts)))
+    let n = and_parts (is_shallow depth f && (is_closed scope f && has_arity f (count_of parts)))
     (are_formulas (scope_in f scope) (depth + 1) parts && are_formulas scope depth trees) ga in
-    let m = both_true (are_formulas (scope_in f scope) (depth + 1) parts) (are_formulas scope depth trees) n.1 in
+    let m = and_parts (are_formulas (scope_in f scope) (depth + 1) parts) (are_formulas scope depth trees) n.1 in
     rw n.0 (rw m.0 (row-good scope depth trees b m.1 gb))
 
 -- `true`, or a form in parentheses
@@ -210,12 +210,3 @@ more_back n scope depth wants next t ts met fills = by (bytes_eq t right) (n == 
           },
           filled,
         )
-
--- a number up to another passes the test of order
-pub le_true : (k n : ℕ) → k ≤ n → nat_le k n ≡ true
-le_true k n le = cases (nat_le k n) refl
-  where
-    -- the test can't have failed
-    cases : (b : Bool) → nat_le k n ≡ b → b ≡ true
-    cases true is = refl
-    cases false is = let lt : n < k = leb-false k n is in absurd (omega arith)

@@ -2,7 +2,7 @@
 use Rattle.std.proofs.Common.{◌≡◌, ◌∙◌, ℕ, ◌+◌, ◌<◌, ◌≤◌, Bool, true, false, ◌&&◌, List, ◌∷◌, ◌++◌, Option, Some, None}
 use Rattle.std.proofs.Common.{Ok, refl, ap, sym, arith}
 use Rattle.std.specs.Prelude.{codes, nat_lt, nat_le}
-use Rattle.std.proofs.lemmas.Bool.{lt-ltb}
+use Rattle.std.proofs.lemmas.Bool.{lt-ltb, le-leb}
 use Rattle.rule_language.specs.declared.kind.Kind.{Kind}
 use Rattle.rule_language.specs.declared.kind.Sort.{Sort}
 use Rattle.rule_language.specs.declared.term.Term.{Term}
@@ -20,7 +20,7 @@ use Rattle.rule_language.specs.Wants.{nested, may_begin}
 use Rattle.rule_language.specs.inside.Quantifiers.{form_of, quantifier_head, range_words}
 use Rattle.rule_language.proofs.Binders.{may_bind}
 use Rattle.rule_language.proofs.Fills.{FillsHead, IsRange, Completes}
-use Rattle.rule_language.proofs.Completing.{one_closed, le_true, in_row, row-tokens, row-count, row-good}
+use Rattle.rule_language.proofs.Completing.{one_closed, in_row, row-tokens, row-count, row-good}
 
 -- a formula behind its first word, and the rest
 abbrev HeadFills : Scope → ℕ → List Want → Head → List Token → Type 0
@@ -107,7 +107,7 @@ several_fills scope depth wants ts fills =
   where
     -- a count from 1 to 64 passes both tests
     within : (n : ℕ) → 0 < n → n ≤ 64 → (nat_lt 0 n && nat_le n 64) ≡ true
-    within n some few = rw (lt-ltb 0 n some) (le_true n 64 few)
+    within n some few = rw (lt-ltb 0 n some) (le-leb n 64 few)
 
 -- two variables, two terms
 record FillsPair (scope : Scope) (wants : List Want) (ts : List Token) : Type 0 where

@@ -1,9 +1,9 @@
 -- Tokens are those of one list of rules.
-use Rattle.std.proofs.Common.{◌≡◌, ◌≢◌, ℕ, ◌^◌, Bool, true, false, List, [], ◌∷◌, ◌++◌, Option, Some, None, refl}
+use Rattle.std.proofs.Common.{◌≡◌, ◌≢◌, ℕ, ◌^◌, Bool, true, false, List, [], ◌∷◌, ◌++◌, Option, Some, None, refl, ap}
 use Rattle.std.specs.Prelude.{nat_lt, codes, is_some}
 use Rattle.std.specs.Str.{bytes_eq}
 use Rattle.std.specs.Fmt.{decimal}
-use Rattle.std.proofs.lemmas.Bool.{ltb-true}
+use Rattle.std.proofs.lemmas.Bool.{ltb-true, and_parts}
 use Rattle.roster.specs.declared.post.Role.{Role}
 use Rattle.roster.specs.declared.post.Role.TheVariants as role
 use Rattle.roster.specs.RosterText.{role_word}
@@ -22,10 +22,10 @@ use Rattle.rule_language.specs.Scopes.{Scope, is_letter}
 use Rattle.rule_language.specs.Lawful.{sort_of, are_of_one_sort, has_order, is_closed}
 use Rattle.rule_language.specs.Spelling.{Token, term_word, form_words}
 use Rattle.rule_language.specs.Wants.{number_in}
-use Rattle.rule_language.proofs.Found.{both_true}
-use Rattle.rule_language.proofs.Passing.{field_named_word, no_number}
+use Rattle.rule_language.proofs.Passing.{field_named_word, no_number, kind_named_word}
 use Rattle.rule_language.proofs.Numbers.{number-found}
 use Rattle.rule_language.proofs.WrittenTexts.{sorts_some}
+use Rattle.rule_language.proofs.Found.{kind_is_named}
 
 -- the first byte of a word
 abbrev pub first_of : Token → ℕ
@@ -109,17 +109,7 @@ decoded (w ∷ ts) = decoded_by (head_named w) ts
 
 -- the word of a kind is decoded as that kind
 kind_back : (k : Kind) → kind_or (kind_named (kind_word k)) ≡ k
-kind_back kind.Any = refl
-kind_back kind.Opened = refl
-kind_back kind.Authorise = refl
-kind_back kind.Override = refl
-kind_back kind.Forced = refl
-kind_back kind.Closed = refl
-kind_back kind.Activate = refl
-kind_back kind.Commit = refl
-kind_back kind.Cast = refl
-kind_back kind.Cancel = refl
-kind_back kind.Challenge = refl
+kind_back k = ap kind_or (kind_is_named (kind_word k) k (kind_named_word k))
 
 -- the word of a role is decoded as that role
 role_back : (r : Role) → role_or (role_named (role_word r)) ≡ r
@@ -170,4 +160,4 @@ form_back scope (form.OfKind v k) t ts good other first = rw (kind_back k) refl
 form_back scope (form.Equal t1 t2) t ts good other first = terms_back scope t1 t2 (λ x y. form.Equal x y) (t ∷ ts) good
 form_back scope (form.Less t1 t2) t ts good other first =
     terms_back scope t1 t2 (λ x y. form.Less x y) (t ∷ ts)
-    (both_true (has_order (sort_of scope t1)) (are_of_one_sort (sort_of scope t1) (sort_of scope t2)) good).1
+    (and_parts (has_order (sort_of scope t1)) (are_of_one_sort (sort_of scope t1) (sort_of scope t2)) good).1

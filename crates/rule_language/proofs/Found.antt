@@ -5,7 +5,7 @@ use Rattle.std.specs.Prelude.{if◌then◌else◌, nat_lt, nat_le, ◌==◌, ◌
 use Rattle.std.specs.Str.{bytes_eq}
 use Rattle.std.specs.Fmt.{decimal}
 use Rattle.std.proofs.lemmas.Slice.Eq.{bytes_eq-Decides}
-use Rattle.std.proofs.lemmas.Bool.{ltb-true, lt-ltb, eqb-true}
+use Rattle.std.proofs.lemmas.Bool.{ltb-true, lt-ltb, eqb-true, and_parts}
 use Rattle.std.proofs.lemmas.Fmt.{decimal_nonempty}
 use Rattle.std.proofs.lemmas.List.{drop_more}
 use Rattle.roster.specs.declared.post.Role.{Role}
@@ -23,8 +23,7 @@ use Rattle.rule_language.specs.declared.form.Head.TheVariants as head
 use Rattle.rule_language.specs.declared.faults.RuleWhy.{RuleWhy}
 use Rattle.rule_language.specs.declared.faults.RuleWhy.TheVariants.{Shape, UnknownKind, SameName, Unbound, WrongField}
 use Rattle.rule_language.specs.Kinds.{first_named, kind_word, entry_kinds, kind_named, field_word, fields, field_named}
-use Rattle.rule_language.specs.Kinds.{role_named}
-use Rattle.rule_language.specs.Kinds.{head_word, heads, head_named, has_field, sort_of_field, is_quantifier}
+use Rattle.rule_language.specs.Kinds.{role_named, head_word, heads, head_named, has_field, sort_of_field, is_quantifier}
 use Rattle.rule_language.specs.Scopes.{Scope, kind_in, is_letter}
 use Rattle.rule_language.specs.Lawful.{is_bound, sort_of}
 use Rattle.rule_language.specs.Spelling.{Token, left, right, variable, term_word}
@@ -63,12 +62,6 @@ found_of a = Ok a
 -- results that are the same are of one value
 ok_same : {A : Type 0} (a b : A) → found_of a ≡ found_of b → a ≡ b
 ok_same a b e = cc
-
--- of a conjunction that holds both parts hold
-pub both_true : (a b : Bool) → (a && b) ≡ true → (a ≡ true) × (b ≡ true)
-both_true true true e = (refl, refl)
-both_true true false e = absurd (cc)
-both_true false b e = absurd (cc)
 
 -- words with equal bytes are the same
 pub bytes_same : (xs ys : List ℕ) → bytes_eq xs ys ≡ true → xs ≡ ys
@@ -179,11 +172,15 @@ or_found : {A : Type 0} (cause : RuleWhy) (o : Option A) (a : A) → or_cause ca
 or_found cause None a e = absurd (cc)
 or_found cause (Some b) a e = ap (λ x. Some x) (ok_same b a e)
 
--- a token that was read as a kind is the word of that kind
-pub kind_found : (word : Token) (k : Kind) → kind_for word ≡ Ok k → (word ≡ kind_word k) × (kind_word k ≢ []) × Unit {0}
-kind_found word k e =
+-- a token that was read as a kind names that kind
+pub kind_is_named : (word : Token) (k : Kind) → kind_for word ≡ Ok k → kind_named word ≡ Some k
+kind_is_named word k e =
     let b = if_second (bytes_eq word left || bytes_eq word right) (or_cause UnknownKind (kind_named word)) Shape k e in
-    (named_found kind_word entry_kinds word k (or_found UnknownKind (kind_named word) k b.1), kind_some k, tt)
+    or_found UnknownKind (kind_named word) k b.1
+
+-- and is its word
+pub kind_found : (word : Token) (k : Kind) → kind_for word ≡ Ok k → (word ≡ kind_word k) × (kind_word k ≢ []) × Unit {0}
+kind_found word k e = (named_found kind_word entry_kinds word k (kind_is_named word k e), kind_some k, tt)
 
 -- a token that was read as a role is the word of that role
 pub role_found : (word : Token) (r : Role) → or_cause Shape (role_named word) ≡ Ok r → (word ≡ role_word r)
@@ -220,7 +217,7 @@ pub number_spelt : (word : Token) (n : ℕ) → number_in word ≡ Some n → (w
 number_spelt word n e =
     let (both, same) = if_some (nat_lt (value_from 0 word) (2 ^ 32) && bytes_eq word (decimal (value_from 0 word)))
     (value_from 0 word) n e in
-    let b = both_true (nat_lt (value_from 0 word) (2 ^ 32)) (bytes_eq word (decimal (value_from 0 word))) both in
+    let b = and_parts (nat_lt (value_from 0 word) (2 ^ 32)) (bytes_eq word (decimal (value_from 0 word))) both in
     let small : value_from 0 word < 2 ^ 32 = ltb-true (value_from 0 word) (2 ^ 32) b.0 in
     (bytes_same word (decimal (value_from 0 word)) b.1 ∙ ap decimal same, omega (arith, same))
 
@@ -249,7 +246,7 @@ dotted_found scope [] typed e = absurd (cc)
 dotted_found scope (v ∷ []) typed e = absurd (cc)
 dotted_found scope (v ∷ dot ∷ name) typed e =
     let b = if_first (is_letter v && (dot == 46)) (of_variable v (kind_in scope v) name) Shape typed e in
-    let both = both_true (is_letter v) (dot == 46) b.0 in
+    let both = and_parts (is_letter v) (dot == 46) b.0 in
     bound (kind_in scope v) refl (eqb-true dot 46 both.1) both.0 b.1
   where
     -- the same by the kind that the letter is bound with

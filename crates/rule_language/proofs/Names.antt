@@ -4,7 +4,7 @@ use Rattle.std.proofs.Common.{Err, Result, refl, ap, arith}
 use Rattle.std.specs.Prelude.{◌||◌, nat_le, nat_lt, string_bytes, if◌then◌else◌}
 use Rattle.std.specs.Str.{IsUtf8, IsAscii}
 use Rattle.std.proofs.lemmas.Str.{IsUtf8-from_ascii}
-use Rattle.std.proofs.lemmas.Bool.{leb-true}
+use Rattle.std.proofs.lemmas.Bool.{leb-true, and_parts}
 use Rattle.rule_language.specs.declared.faults.RuleWhy.{RuleWhy}
 use Rattle.rule_language.specs.declared.faults.RuleWhy.TheVariants.{Shape, SameName}
 use Rattle.rule_language.specs.declared.formula.Rule.{Rule}
@@ -13,7 +13,6 @@ use Rattle.rule_language.specs.Lawful.{is_alphanumeric, are_alphanumeric, is_nam
 use Rattle.rule_language.specs.Spelling.{Token}
 use Rattle.rule_language.specs.Wants.{name_in}
 use Rattle.rule_language.specs.inside.Reader.{rule_names, checked}
-use Rattle.rule_language.proofs.Found.{both_true}
 use Rattle.rule_language.proofs.RulesPass.{names_of}
 
 -- one of two tests
@@ -24,7 +23,7 @@ either_true false b P f g e = g e
 -- a byte up to a bound that is below 128 is below 128
 low : (lowest highest byte : ℕ) → highest < 128 → (nat_le lowest byte && nat_le byte highest) ≡ true → byte < 128
 low lowest highest byte small e =
-    let b = both_true (nat_le lowest byte) (nat_le byte highest) e in
+    let b = and_parts (nat_le lowest byte) (nat_le byte highest) e in
     let le : byte ≤ highest = leb-true byte highest b.1 in
     omega arith
 
@@ -40,14 +39,14 @@ ascii_byte byte =
 -- a word of letters and digits is ASCII
 ascii : (bytes : List ℕ) → are_alphanumeric bytes ≡ true → IsAscii bytes
 ascii [] all i = omega arith
-ascii (byte ∷ bytes) all zero = ascii_byte byte (both_true (is_alphanumeric byte) (are_alphanumeric bytes) all).0
-ascii (byte ∷ bytes) all (suc i) = ascii bytes (both_true (is_alphanumeric byte) (are_alphanumeric bytes) all).1 i
+ascii (byte ∷ bytes) all zero = ascii_byte byte (and_parts (is_alphanumeric byte) (are_alphanumeric bytes) all).0
+ascii (byte ∷ bytes) all (suc i) = ascii bytes (and_parts (is_alphanumeric byte) (are_alphanumeric bytes) all).1 i
 
 -- a rule's name is text in UTF-8
 pub name_is_text : (name : List ℕ) → is_name name ≡ true → IsUtf8 name
 name_is_text name is =
     IsUtf8-from_ascii name (ascii name
-    (both_true (nat_lt 0 (length name) && nat_le (length name) 16) (are_alphanumeric name) is).1)
+    (and_parts (nat_lt 0 (length name) && nat_le (length name) 16) (are_alphanumeric name) is).1)
 
 -- a name isn't empty
 pub name_some : (name : Token) → is_name name ≡ true → name ≢ []

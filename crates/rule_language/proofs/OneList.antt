@@ -2,14 +2,13 @@
 use Rattle.std.proofs.Common.{◌≡◌, ◌≢◌, inl, inr, ◌∙◌, ℕ, ◌+◌, true, false, List, [], ◌∷◌, ◌++◌, refl, ap, sym, arith}
 use Rattle.std.specs.Prelude.{nat_lt, codes}
 use Rattle.std.specs.Str.{bytes_eq}
-use Rattle.std.proofs.lemmas.Bool.{eqb-true}
+use Rattle.std.proofs.lemmas.Bool.{eqb-true, and_parts}
 use Rattle.rule_language.specs.declared.form.Form.{Form}
 use Rattle.rule_language.specs.declared.form.Form.TheVariants as form
 use Rattle.rule_language.specs.Scopes.{Scope}
 use Rattle.rule_language.specs.Trees.{Trees, no_trees, tree_then, count_of, RuleTree}
 use Rattle.rule_language.specs.Lawful.{is_closed, has_arity, is_shallow, scope_in, are_formulas, is_rule, follow}
 use Rattle.rule_language.specs.Spelling.{Token, left, right, form_words, spelt, tokens_then, rules_tokens}
-use Rattle.rule_language.proofs.Found.{both_true}
 use Rattle.rule_language.proofs.Passing.{spelt_cases, tokens_append}
 use Rattle.rule_language.proofs.Passes.{may_stand}
 use Rattle.rule_language.proofs.RulesPass.{rule_good}
@@ -214,8 +213,8 @@ rules_same names [] [] a b e = refl
 rules_same names [] (q ∷ qs) a b e = absurd (cc)
 rules_same names (r ∷ rs) [] a b e = absurd (cc)
 rules_same names (r ∷ rs) (q ∷ qs) a b e =
-    let ba = both_true (is_rule names r) (follow (names ++ r.name ∷ []) rs) a in
-    let bb = both_true (is_rule names q) (follow (names ++ q.name ∷ []) qs) b in
+    let ba = and_parts (is_rule names r) (follow (names ++ r.name ∷ []) rs) a in
+    let bb = and_parts (is_rule names q) (follow (names ++ q.name ∷ []) qs) b in
     let gr = rule_good names r ba.0 in
     let gq = rule_good names q bb.0 in
     let open_e : r.name ∷ (tokens_then r.body (right ∷ []) ++ rules_tokens rs)

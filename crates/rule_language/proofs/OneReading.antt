@@ -1,5 +1,6 @@
 -- A text is read in one way.
 use Rattle.std.proofs.Common.{◌≡◌, ℕ, List, length, Result, Ok, Err, ap}
+use Rattle.std.proofs.lemmas.Bool.{and_parts}
 use Rattle.std.specs.Prelude.{nat_lt, []}
 use Rattle.rule_language.specs.declared.faults.RuleWhy.{RuleWhy}
 use Rattle.rule_language.specs.declared.faults.RuleFault.{RuleFault}
@@ -8,7 +9,6 @@ use Rattle.rule_language.specs.Trees.{RuleTree}
 use Rattle.rule_language.specs.Lawful.{follow}
 use Rattle.rule_language.specs.Spelling.{IsTextOf, rules_tokens}
 use Rattle.rule_language.specs.Reading.{Reads}
-use Rattle.rule_language.proofs.Found.{both_true}
 use Rattle.rule_language.proofs.RulesPass.{no_fault}
 use Rattle.rule_language.proofs.OneList.{rules_same}
 use Rattle.rule_language.proofs.OneFault.{one_before, one_fault, fault_or_none}
@@ -16,8 +16,8 @@ use Rattle.rule_language.proofs.OneFault.{one_before, one_fault, fault_or_none}
 -- a text is one of a single list of rules
 pub one_text : (text : List ℕ) (rs qs : List RuleTree) → IsTextOf text rs → IsTextOf text qs → rs ≡ qs
 one_text text rs qs a b =
-    rules_same [] rs qs (both_true (nat_lt 0 (length rs)) (follow [] rs) a.lawful).1
-    (both_true (nat_lt 0 (length qs)) (follow [] qs) b.lawful).1
+    rules_same [] rs qs (and_parts (nat_lt 0 (length rs)) (follow [] rs) a.lawful).1
+    (and_parts (nat_lt 0 (length qs)) (follow [] qs) b.lawful).1
     (one_before text (length text) (rules_tokens rs) (rules_tokens qs) a.tokens b.tokens)
 
 -- what reading a text answers

@@ -1,7 +1,7 @@
 -- Formulas in a row, one by one.
 use Rattle.std.proofs.Common.{◌≡◌, ◌∙◌, ℕ, ◌+◌, ◌-◌, ◌≤◌, Bool, true, false, ◌&&◌, List, [], ◌∷◌, ◌++◌, length, Ok}
 use Rattle.std.proofs.Common.{refl, ap, sym, arith}
-use Rattle.std.proofs.lemmas.Bool.{ne_eqb}
+use Rattle.std.proofs.lemmas.Bool.{ne_eqb, and_parts}
 use Rattle.rule_language.specs.declared.formula.Formula.{Formula}
 use Rattle.rule_language.specs.Scopes.{Scope}
 use Rattle.rule_language.specs.Trees.{Trees, no_trees, tree_then, count_of}
@@ -10,7 +10,6 @@ use Rattle.rule_language.specs.Lawful.{is_closed, has_arity, is_shallow, scope_i
 use Rattle.rule_language.specs.Spelling.{Token, tokens_then}
 use Rattle.rule_language.specs.Wants.{Want, formula, more, behind}
 use Rattle.rule_language.proofs.Views.{shape}
-use Rattle.rule_language.proofs.Found.{both_true}
 use Rattle.rule_language.proofs.Passing.{more_wanted}
 use Rattle.rule_language.proofs.Passes.{passes, may_stand}
 
@@ -71,7 +70,7 @@ good-parts scope depth q rest good =
     let (outer, parts, view) = shape q in
     let open_good = sym (ap (are_formulas scope depth) (view rest)) ∙ good in
     let ((_, _, _, inner), others) = may_stand scope depth outer parts rest open_good in
-    let (stands, _) = both_true (is_shallow depth outer && (is_closed scope outer && has_arity outer (count_of parts)))
+    let (stands, _) = and_parts (is_shallow depth outer && (is_closed scope outer && has_arity outer (count_of parts)))
     (are_formulas (scope_in outer scope) (depth + 1) parts && are_formulas scope depth rest) open_good in
     (ap (are_formulas scope depth) (view no_trees) ∙ rw stands (rw inner refl), others)
 
@@ -103,7 +102,7 @@ pub members_left : (trees : Trees) (n : ℕ) (scope : Scope) (depth : ℕ) (rest
 members_left no_trees n scope depth rest after few good =
     ap (λ k. behind (Ok (more k scope depth ∷ rest)) after) (omega arith)
 members_left (tree_then f parts trees) n scope depth rest after few good =
-    let b = both_true (is_shallow depth f && (is_closed scope f && has_arity f (count_of parts)))
+    let b = and_parts (is_shallow depth f && (is_closed scope f && has_arity f (count_of parts)))
     (are_formulas (scope_in f scope) (depth + 1) parts && are_formulas scope depth trees) good in
     let may = may_stand scope depth f parts trees good in
     let alone : are_formulas scope depth (tree_then f parts no_trees) ≡ true = rw b.0 (rw may.0.3 refl) in

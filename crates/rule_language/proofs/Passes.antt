@@ -2,7 +2,7 @@
 use Rattle.std.proofs.Common.{◌≡◌, ◌⊎◌, inl, inr, ◌∙◌, ℕ, ◌+◌, ◌-◌, ◌≤◌, true, false, ◌&&◌, List, [], ◌∷◌, ◌++◌, Ok}
 use Rattle.std.proofs.Common.{refl, ap, sym, arith}
 use Rattle.std.specs.Prelude.{nat_lt, ◌==◌, codes}
-use Rattle.std.proofs.lemmas.Bool.{eqb-true, ne_eqb}
+use Rattle.std.proofs.lemmas.Bool.{eqb-true, ne_eqb, and_parts}
 use Rattle.rule_language.specs.declared.form.Head.TheVariants as begins
 use Rattle.rule_language.specs.declared.form.Form.{Form}
 use Rattle.rule_language.specs.declared.form.Form.TheVariants as form
@@ -13,9 +13,7 @@ use Rattle.rule_language.specs.Trees.{Trees, no_trees, tree_then, count_of}
 use Rattle.rule_language.specs.Lawful.{is_bound, can_bind, sort_of, are_of_one_sort, has_order, is_closed, has_arity}
 use Rattle.rule_language.specs.Lawful.{is_shallow, scope_in, are_formulas}
 use Rattle.rule_language.specs.Spelling.{Token, left, right, variable, term_word, form_words, spelt, tokens_then}
-use Rattle.rule_language.specs.Wants.{Want, formula, more, a_variable, a_role, a_kind, first_term, close}
-use Rattle.rule_language.specs.Wants.{behind}
-use Rattle.rule_language.proofs.Found.{both_true}
+use Rattle.rule_language.specs.Wants.{Want, formula, more, a_variable, a_role, a_kind, first_term, close, behind}
 use Rattle.rule_language.proofs.Passing.{RowPasses, MembersPass, step, begin_passes, quantifier_begins, quantified}
 use Rattle.rule_language.proofs.Passing.{one_passes, two_pass, body_row, pair_passes, terms_pass, order_begins}
 use Rattle.rule_language.proofs.Passing.{several_pass, variable_passes, role_passes, kind_passes, tokens_append}
@@ -32,11 +30,11 @@ pub may_stand : (scope : Scope) (depth : ℕ) (f : Form) (parts trees : Trees)
     → are_formulas scope depth (tree_then f parts trees) ≡ true
     → MayStand scope depth f parts × (are_formulas scope depth trees ≡ true)
 may_stand scope depth f parts trees good =
-    let b = both_true (is_shallow depth f && (is_closed scope f && has_arity f (count_of parts)))
+    let b = and_parts (is_shallow depth f && (is_closed scope f && has_arity f (count_of parts)))
     (are_formulas (scope_in f scope) (depth + 1) parts && are_formulas scope depth trees) good in
-    let here = both_true (is_shallow depth f) (is_closed scope f && has_arity f (count_of parts)) b.0 in
-    let inside = both_true (is_closed scope f) (has_arity f (count_of parts)) here.1 in
-    let rows = both_true (are_formulas (scope_in f scope) (depth + 1) parts) (are_formulas scope depth trees) b.1 in
+    let here = and_parts (is_shallow depth f) (is_closed scope f && has_arity f (count_of parts)) b.0 in
+    let inside = and_parts (is_closed scope f) (has_arity f (count_of parts)) here.1 in
+    let rows = and_parts (are_formulas (scope_in f scope) (depth + 1) parts) (are_formulas scope depth trees) b.1 in
     ((here.0, inside.0, inside.1, rows.0), rows.1)
 
 -- no formula stands in an atom
@@ -81,7 +79,7 @@ enclosed_passes (form.ForSome v k) parts row members scope depth rest after shal
 enclosed_passes (form.EveryBefore v k u) parts row members scope depth rest after shallow (closed, arity, formulas) =
     let ts = tokens_then parts (right ∷ after) in
     let one : count_of parts ≡ 1 = eqb-true (count_of parts) 1 arity in
-    let (free, bound) = both_true (can_bind scope v) (is_bound scope u) closed in
+    let (free, bound) = and_parts (can_bind scope v) (is_bound scope u) closed in
     inr (begin_passes scope depth begins.ForEvery rest (variable v ∷ kind_word k ∷ codes "before" ∷ variable u ∷ ts)
     shallow (quantifier_begins scope v begins.ForEvery free)
     ∙ quantified scope (depth + 1) v k rest (codes "before" ∷ variable u ∷ ts) free
@@ -92,7 +90,7 @@ enclosed_passes (form.EveryBefore v k u) parts row members scope depth rest afte
 enclosed_passes (form.SomeBefore v k u) parts row members scope depth rest after shallow (closed, arity, formulas) =
     let ts = tokens_then parts (right ∷ after) in
     let one : count_of parts ≡ 1 = eqb-true (count_of parts) 1 arity in
-    let (free, bound) = both_true (can_bind scope v) (is_bound scope u) closed in
+    let (free, bound) = and_parts (can_bind scope v) (is_bound scope u) closed in
     inr (begin_passes scope depth begins.ForSome rest (variable v ∷ kind_word k ∷ codes "before" ∷ variable u ∷ ts)
     shallow (quantifier_begins scope v begins.ForSome free)
     ∙ quantified scope (depth + 1) v k rest (codes "before" ∷ variable u ∷ ts) free
@@ -150,7 +148,7 @@ enclosed_passes (form.Equal t u) parts row members scope depth rest after shallo
     ∙ atom_passes parts (term_word t ∷ term_word u ∷ []) (first_term false scope ∷ close ∷ rest) rest after arity
     (terms_pass scope false t u rest after closed (λ s is. refl)))
 enclosed_passes (form.Less t u) parts row members scope depth rest after shallow (closed, arity, _) =
-    let b = both_true (has_order (sort_of scope t)) (are_of_one_sort (sort_of scope t) (sort_of scope u)) closed in
+    let b = and_parts (has_order (sort_of scope t)) (are_of_one_sort (sort_of scope t) (sort_of scope u)) closed in
     inr (begin_passes scope depth begins.Less rest (term_word t ∷ term_word u ∷ tokens_then parts (right ∷ after))
     shallow refl
     ∙ atom_passes parts (term_word t ∷ term_word u ∷ []) (first_term true scope ∷ close ∷ rest) rest after arity

@@ -4,7 +4,7 @@ use Rattle.std.proofs.Common.{◌∷◌, ◌++◌, length, Option, Some, None, R
 use Rattle.std.proofs.Common.{append_assoc}
 use Rattle.std.specs.Prelude.{if◌then◌else◌, nat_lt, nat_le, not, ◌==◌, is_some}
 use Rattle.std.specs.Fmt.{decimal}
-use Rattle.std.proofs.lemmas.Bool.{ltb-true, le-ltb, leb-true}
+use Rattle.std.proofs.lemmas.Bool.{ltb-true, le-ltb, leb-true, not-true, and_parts}
 use Rattle.roster.specs.declared.post.Role.{Role}
 use Rattle.roster.specs.declared.post.Role.TheVariants as role
 use Rattle.roster.specs.RosterText.{role_word}
@@ -35,7 +35,7 @@ use Rattle.rule_language.specs.Wants.{or_cause, then_want, kind_for, number_in, 
 use Rattle.rule_language.specs.Wants.{may_begin, nested, behind_head, meets_formula, meets, behind}
 use Rattle.rule_language.proofs.Numbers.{number-found}
 use Rattle.canonical_sexp.proofs.Decimal.{AreDigits, decimal_digits}
-use Rattle.rule_language.proofs.Found.{both_true, number_spelt}
+use Rattle.rule_language.proofs.Found.{number_spelt}
 
 -- each word names what it is the word of
 pub kind_named_word : (k : Kind) → kind_for (kind_word k) ≡ Ok k
@@ -80,25 +80,20 @@ head_named_word begins.OfKind = refl
 head_named_word begins.Equal = refl
 head_named_word begins.Less = refl
 
--- what is denied by a test that holds fails
-pub not_true : (b : Bool) → not b ≡ true → b ≡ false
-not_true true e = absurd (cc)
-not_true false e = refl
-
 -- the wants behind a token that is good there
 pub variable_passes : (scope : Scope) (v : ℕ) (rest : List Want) → is_bound scope v ≡ true
     → meets (a_variable scope ∷ rest) (variable v) ≡ Ok rest
 variable_passes scope v rest bound =
-    let b = both_true (is_letter v) (is_some (kind_in scope v)) bound in
+    let b = and_parts (is_letter v) (is_some (kind_in scope v)) bound in
     rw b.0 (rw b.1 refl)
 
 -- a variable that may be bound passes as a new one, and its kind is wanted next
 pub new_passes : (scope : Scope) (depth v : ℕ) (rest : List Want) → can_bind scope v ≡ true
     → meets (new_variable scope depth ∷ rest) (variable v) ≡ Ok (kind_of v scope depth ∷ rest)
 new_passes scope depth v rest can =
-    let b = both_true (is_letter v) (not (is_some (kind_in scope v)) && nat_lt (length scope) 4) can in
-    let d = both_true (not (is_some (kind_in scope v))) (nat_lt (length scope) 4) b.1 in
-    rw b.0 (rw (not_true (is_some (kind_in scope v)) d.0) refl)
+    let b = and_parts (is_letter v) (not (is_some (kind_in scope v)) && nat_lt (length scope) 4) can in
+    let d = and_parts (not (is_some (kind_in scope v))) (nat_lt (length scope) 4) b.1 in
+    rw b.0 (rw (not-true (is_some (kind_in scope v)) d.0) refl)
 
 -- the kind of a quantifier passes, and `before` or the body is wanted next
 pub kind_of_passes : (scope : Scope) (depth v : ℕ) (k : Kind) (rest : List Want)
@@ -141,7 +136,7 @@ no_number v word letter = cases (number_in (v ∷ word)) refl
     cases : (o : Option ℕ) → number_in (v ∷ word) ≡ o → o ≡ None
     cases None is = refl
     cases (Some n) is =
-        let b = both_true (nat_le 97 v) (nat_le v 122) letter in
+        let b = and_parts (nat_le 97 v) (nat_le v 122) letter in
         let low : 97 ≤ v = leb-true 97 v b.0 in
         let spelt = number_spelt (v ∷ word) n is in
         let d = digits n spelt.1 spelt.0 in
@@ -302,8 +297,8 @@ begin_passes scope depth h rest tokens shallow good =
 -- a quantifier may begin where a variable may be bound
 pub quantifier_begins : (scope : Scope) (v : ℕ) (h : Head) → can_bind scope v ≡ true → nested scope (Some h) ≡ Ok h
 quantifier_begins scope v h can =
-    let b = both_true (is_letter v) (not (is_some (kind_in scope v)) && nat_lt (length scope) 4) can in
-    let d = both_true (not (is_some (kind_in scope v))) (nat_lt (length scope) 4) b.1 in
+    let b = and_parts (is_letter v) (not (is_some (kind_in scope v)) && nat_lt (length scope) 4) can in
+    let d = and_parts (not (is_some (kind_in scope v))) (nat_lt (length scope) 4) b.1 in
     let lt : length scope < 4 = ltb-true (length scope) 4 d.1 in
     let few : nat_le 4 (length scope) ≡ false = le-ltb 3 (length scope) (omega arith) in
     test (is_quantifier h) (nat_le 4 (length scope)) few
@@ -359,7 +354,7 @@ pub pair_passes : (scope : Scope) (v u : ℕ) (rest : List Want) (after : List T
     → behind (Ok (a_variable scope ∷ a_variable scope ∷ close ∷ rest)) (variable v ∷ variable u ∷ right ∷ after)
     ≡ behind (Ok rest) after
 pair_passes scope v u rest after bound =
-    let b = both_true (is_bound scope v) (is_bound scope u) bound in
+    let b = and_parts (is_bound scope v) (is_bound scope u) bound in
     step (a_variable scope ∷ a_variable scope ∷ close ∷ rest) (a_variable scope ∷ close ∷ rest) (variable v)
     (variable u ∷ right ∷ after)
     (variable_passes scope v (a_variable scope ∷ close ∷ rest) b.0)
@@ -426,6 +421,6 @@ pub several_pass : (parts : Trees) (scope : Scope) (depth : ℕ) (rest : List Wa
     (Ok rest) after
 several_pass no_trees scope depth rest after members arity good = absurd (cc)
 several_pass (tree_then f parts trees) scope depth rest after members arity good =
-    let b = both_true (nat_lt 0 (count_of trees + 1)) (nat_le (count_of trees + 1) 64) arity in
+    let b = and_parts (nat_lt 0 (count_of trees + 1)) (nat_le (count_of trees + 1) 64) arity in
     sym (more_wanted f (tokens_then parts []) (tokens_then trees (right ∷ after)) 64 scope depth rest refl)
     ∙ members 64 scope depth rest after (leb-true (count_of trees + 1) 64 b.1) good

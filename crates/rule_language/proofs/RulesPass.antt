@@ -2,15 +2,14 @@
 use Rattle.std.proofs.Common.{◌≡◌, ◌∙◌, ℕ, ◌<◌, true, false, ◌&&◌, List, [], ◌∷◌, ◌++◌, length, map, Ok, refl, ap, sym}
 use Rattle.std.proofs.Common.{arith, append_assoc, append-nil}
 use Rattle.std.specs.Prelude.{nat_lt, not, ◌==◌, codes}
-use Rattle.std.proofs.lemmas.Bool.{eqb-true, ltb-true}
+use Rattle.std.proofs.lemmas.Bool.{eqb-true, ltb-true, not-true, and_parts}
 use Rattle.rule_language.specs.Trees.{count_of, RuleTree}
 use Rattle.rule_language.specs.Lawful.{are_formulas, is_name, is_among, is_rule, follow}
 use Rattle.rule_language.specs.Spelling.{Token, left, right, tokens_then, rule_tokens, rules_tokens, IsTextOf}
 use Rattle.rule_language.specs.Wants.{Want, more_rules, rule_word, rule_name, formula, close, behind, is_end, opening}
 use Rattle.rule_language.specs.Wants.{name_in, then_want}
 use Rattle.rule_language.specs.Reading.{HasNoFault}
-use Rattle.rule_language.proofs.Found.{both_true}
-use Rattle.rule_language.proofs.Passing.{step, one_passes, not_true, tokens_append}
+use Rattle.rule_language.proofs.Passing.{step, one_passes, tokens_append}
 use Rattle.rule_language.proofs.Passes.{passes}
 
 -- what is asked of a rule
@@ -29,15 +28,15 @@ pub record IsGood (names : List Token) (rule : RuleTree) : Type 0 where
 -- a rule that may stand behind others is all that is asked of it
 pub rule_good : (names : List Token) (rule : RuleTree) → is_rule names rule ≡ true → IsGood names rule
 rule_good names rule good =
-    let b = both_true (nat_lt (length names) 256 && (is_name rule.name && not (is_among rule.name names)))
+    let b = and_parts (nat_lt (length names) 256 && (is_name rule.name && not (is_among rule.name names)))
     ((count_of rule.body == 1) && are_formulas [] 1 rule.body) good in
-    let n = both_true (nat_lt (length names) 256) (is_name rule.name && not (is_among rule.name names)) b.0 in
-    let m = both_true (is_name rule.name) (not (is_among rule.name names)) n.1 in
-    let f = both_true (count_of rule.body == 1) (are_formulas [] 1 rule.body) b.1 in
+    let n = and_parts (nat_lt (length names) 256) (is_name rule.name && not (is_among rule.name names)) b.0 in
+    let m = and_parts (is_name rule.name) (not (is_among rule.name names)) n.1 in
+    let f = and_parts (count_of rule.body == 1) (are_formulas [] 1 rule.body) b.1 in
     record {
       few = n.0;
       name = m.0;
-      fresh = not_true (is_among rule.name names) m.1;
+      fresh = not-true (is_among rule.name names) m.1;
       one = eqb-true (count_of rule.body) 1 f.0;
       body = f.1;
     }
@@ -76,7 +75,7 @@ pub rules_pass : (names : List Token) (rs : List RuleTree) → follow names rs �
     → behind (Ok (more_rules names ∷ [])) (rules_tokens rs) ≡ Ok (more_rules (names ++ names_of rs) ∷ [])
 rules_pass names [] good = ap (λ ns. Ok (more_rules ns ∷ [])) (sym (append-nil names))
 rules_pass names (r ∷ rs) good =
-    let b = both_true (is_rule names r) (follow (names ++ r.name ∷ []) rs) good in
+    let b = and_parts (is_rule names r) (follow (names ++ r.name ∷ []) rs) good in
     rule_passes names r (rules_tokens rs) b.0
     ∙ rules_pass (names ++ r.name ∷ []) rs b.1
     ∙ ap (λ ns. Ok (more_rules ns ∷ [])) (append_assoc names (r.name ∷ []) (names_of rs))
@@ -87,7 +86,7 @@ pub follow_push : (names : List Token) (rs : List RuleTree) (r : RuleTree) → f
     → follow names (rs ++ r ∷ []) ≡ true
 follow_push names [] r good one = rw (rw (append-nil names) at one) refl
 follow_push names (q ∷ rs) r good one =
-    let b = both_true (is_rule names q) (follow (names ++ q.name ∷ []) rs) good in
+    let b = and_parts (is_rule names q) (follow (names ++ q.name ∷ []) rs) good in
     let later : is_rule ((names ++ q.name ∷ []) ++ names_of rs) r ≡ true =
     rw (append_assoc names (q.name ∷ []) (names_of rs)) one in
     rw b.0 (follow_push (names ++ q.name ∷ []) rs r b.1 later)
@@ -101,7 +100,7 @@ tokens_push (q ∷ rs) r = ap (λ ts. rule_tokens q ++ ts) (tokens_push rs r)
 -- the text of rules has no fault
 pub no_fault : (text : List ℕ) (rs : List RuleTree) → IsTextOf text rs → HasNoFault text
 no_fault text rs is =
-    let b = both_true (nat_lt 0 (length rs)) (follow [] rs) is.lawful in (
+    let b = and_parts (nat_lt 0 (length rs)) (follow [] rs) is.lawful in (
       more_rules (names_of rs) ∷ [],
       (rules_tokens rs, is.tokens, rules_pass [] rs b.1),
       ended rs (ltb-true 0 (length rs) b.0),

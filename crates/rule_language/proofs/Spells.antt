@@ -1,16 +1,15 @@
 -- Texts that spell tokens wherever they stand.
-use Rattle.std.proofs.Common.{◌≡◌, inl, inr, ◌∙◌, ℕ, ◌+◌, ◌-◌, ◌<◌, zero, suc, Bool, true, false, ◌&&◌, List, [], ◌∷◌}
+use Rattle.std.proofs.Common.{◌≡◌, inl, inr, ◌∙◌, ℕ, ◌+◌, ◌-◌, ◌<◌, zero, suc, Bool, true, ◌&&◌, List, [], ◌∷◌}
 use Rattle.std.proofs.Common.{◌++◌, length, get_or, take, drop, refl, ap, sym, subst, arith, append_assoc, append-nil}
 use Rattle.std.proofs.Common.{length-append, add-zero, get_or-append-add, take_at, drop_at}
 use Rattle.std.specs.Prelude.{nat_le, not, ◌==◌}
-use Rattle.std.proofs.lemmas.Bool.{leb-true, eqb-false}
+use Rattle.std.proofs.lemmas.Bool.{leb-true, eqb-false, not-true, and_parts}
 use Rattle.std.proofs.lemmas.List.{get_or_append_left}
 use Rattle.hall_text.specs.declared.spans.Span.{Span}
 use Rattle.hall_text.specs.Spans.{IsWordByte, IsParenthesis, IsToken, piece}
 use Rattle.hall_text.specs.Places.{CutsNoWord}
 use Rattle.hall_text.proofs.TokenLemmas.{between_behind}
 use Rattle.rule_language.specs.Spelling.{Token, IsSeparator, StandBefore}
-use Rattle.rule_language.proofs.Found.{both_true}
 use Rattle.rule_language.proofs.Stands.{separator_more, between_separator, token_one}
 
 -- whether the byte belongs to a word
@@ -22,21 +21,16 @@ abbrev pub are_word_bytes : List ℕ → Bool
 are_word_bytes [] = true
 are_word_bytes (byte ∷ bytes) = is_word_byte byte && are_word_bytes bytes
 
--- what is denied by a test that holds fails
-not_equal : (b : Bool) → not b ≡ true → b ≡ false
-not_equal true e = absurd (cc)
-not_equal false e = refl
-
 -- a byte that passes the test belongs to a word
 pub word_byte : (byte : ℕ) → is_word_byte byte ≡ true → IsWordByte byte
 word_byte byte e =
-    let b = both_true (nat_le 33 byte && nat_le byte 126) (not (byte == 40) && not (byte == 41)) e in
-    let range = both_true (nat_le 33 byte) (nat_le byte 126) b.0 in
-    let other = both_true (not (byte == 40)) (not (byte == 41)) b.1 in (
+    let b = and_parts (nat_le 33 byte && nat_le byte 126) (not (byte == 40) && not (byte == 41)) e in
+    let range = and_parts (nat_le 33 byte) (nat_le byte 126) b.0 in
+    let other = and_parts (not (byte == 40)) (not (byte == 41)) b.1 in (
       leb-true 33 byte range.0,
       leb-true byte 126 range.1,
-      eqb-false byte 40 (not_equal (byte == 40) other.0),
-      eqb-false byte 41 (not_equal (byte == 41) other.1),
+      eqb-false byte 40 (not-true (byte == 40) other.0),
+      eqb-false byte 41 (not-true (byte == 41) other.1),
     )
 
 -- no word goes on there
@@ -158,9 +152,9 @@ token_stands xs text front more before some is token stand =
 -- each byte of a word belongs to words
 bytes_at : (xs : List ℕ) (i : ℕ) → are_word_bytes xs ≡ true → i < length xs → IsWordByte (get_or xs i 0)
 bytes_at [] i all lt = absurd (omega arith)
-bytes_at (byte ∷ xs) zero all lt = word_byte byte (both_true (is_word_byte byte) (are_word_bytes xs) all).0
+bytes_at (byte ∷ xs) zero all lt = word_byte byte (and_parts (is_word_byte byte) (are_word_bytes xs) all).0
 bytes_at (byte ∷ xs) (suc i) all lt =
-    bytes_at xs i (both_true (is_word_byte byte) (are_word_bytes xs) all).1 (omega arith)
+    bytes_at xs i (and_parts (is_word_byte byte) (are_word_bytes xs) all).1 (omega arith)
 
 -- a word
 pub spells_word : (xs : List ℕ) → 0 < length xs → are_word_bytes xs ≡ true → Spells xs (xs ∷ [])

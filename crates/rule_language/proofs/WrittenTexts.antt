@@ -4,7 +4,7 @@ use Rattle.std.proofs.Common.{◌∷◌, ◌++◌, length, Option, Some, None, r
 use Rattle.std.specs.Prelude.{nat_le, nat_lt, not, ◌||◌, codes, is_some}
 use Rattle.std.specs.Fmt.{decimal}
 use Rattle.std.proofs.lemmas.Fmt.{decimal_nonempty}
-use Rattle.std.proofs.lemmas.Bool.{leb-true, leb-false, ltb-true, lt-ltb, ne_eqb}
+use Rattle.std.proofs.lemmas.Bool.{leb-true, ltb-true, lt-ltb, ne_eqb, le-leb, and_parts}
 use Rattle.canonical_sexp.proofs.Decimal.{AreDigits, decimal_digits}
 use Rattle.roster.specs.declared.post.Role.{Role}
 use Rattle.roster.specs.declared.post.Role.TheVariants as role
@@ -28,7 +28,6 @@ use Rattle.rule_language.specs.Lawful.{follow, are_rules}
 use Rattle.rule_language.specs.Spelling.{Token, left, right, variable, term_word, form_words, spelt, tokens_then}
 use Rattle.rule_language.specs.Spelling.{rule_tokens, rules_tokens, IsTextOf}
 use Rattle.rule_language.specs.Written.{spaced, with_spaces, form_text, row_text, rule_text, rules_text}
-use Rattle.rule_language.proofs.Found.{both_true}
 use Rattle.rule_language.proofs.Passing.{spelt_cases, tokens_append}
 use Rattle.rule_language.proofs.Passes.{may_stand}
 use Rattle.rule_language.proofs.RulesPass.{rule_good}
@@ -75,26 +74,17 @@ field_bytes field.Number = refl
 field_bytes field.Session = refl
 field_bytes field.Ballot = refl
 
--- a number up to another passes the test of order
-le_true : (k n : ℕ) → k ≤ n → nat_le k n ≡ true
-le_true k n le = cases (nat_le k n) refl
-  where
-    -- the test can't have failed
-    cases : (b : Bool) → nat_le k n ≡ b → b ≡ true
-    cases true is = refl
-    cases false is = let lt : n < k = leb-false k n is in absurd (omega arith)
-
 -- a byte within a range that has no parenthesis
 in_range : (low high byte : ℕ) → 41 < low → high ≤ 126 → low ≤ byte → byte ≤ high → is_word_byte byte ≡ true
 in_range low high byte a b c d =
     rw (lt-ltb 32 byte (omega arith))
-    (rw (le_true byte 126 (omega arith))
+    (rw (le-leb byte 126 (omega arith))
     (rw (ne_eqb byte 40 (λ e. omega arith)) (rw (ne_eqb byte 41 (λ e. omega arith)) refl)))
 
 -- letters belong to words
 letter_byte : (v : ℕ) → is_letter v ≡ true → is_word_byte v ≡ true
 letter_byte v letter =
-    let b = both_true (nat_le 97 v) (nat_le v 122) letter in
+    let b = and_parts (nat_le 97 v) (nat_le v 122) letter in
     in_range 97 122 v (omega arith) (omega arith) (leb-true 97 v b.0) (leb-true v 122 b.1)
 
 -- a letter is spelt as a variable
@@ -103,12 +93,12 @@ variable_spelt v letter = (omega arith, rw (letter_byte v letter) refl)
 
 -- a bound variable is spelt
 bound_spelt : (scope : Scope) (v : ℕ) → is_bound scope v ≡ true → IsSpelt (variable v)
-bound_spelt scope v bound = variable_spelt v (both_true (is_letter v) (is_some (kind_in scope v)) bound).0
+bound_spelt scope v bound = variable_spelt v (and_parts (is_letter v) (is_some (kind_in scope v)) bound).0
 
 -- a variable that may be bound is spelt
 can_spelt : (scope : Scope) (v : ℕ) → can_bind scope v ≡ true → IsSpelt (variable v)
 can_spelt scope v can = variable_spelt v
-    (both_true (is_letter v) (not (is_some (kind_in scope v)) && nat_lt (length scope) 4) can).0
+    (and_parts (is_letter v) (not (is_some (kind_in scope v)) && nat_lt (length scope) 4) can).0
 
 -- digits belong to words
 digits_bytes : (ds : List ℕ) → AreDigits ds → are_word_bytes ds ≡ true
@@ -153,7 +143,7 @@ terms_spelt scope t u same =
 before_spelt : (scope : Scope) (v : ℕ) (k : Kind) (u : ℕ) → (can_bind scope v && is_bound scope u) ≡ true
     → AreSpelt (variable v ∷ kind_word k ∷ codes "before" ∷ variable u ∷ [])
 before_spelt scope v k u good =
-    let (can, bound) = both_true (can_bind scope v) (is_bound scope u) good in
+    let (can, bound) = and_parts (can_bind scope v) (is_bound scope u) good in
     (can_spelt scope v can, (kind_spelt k, ((omega arith, refl), (bound_spelt scope u bound, tt))))
 
 -- the words of a form that may stand are spelt
@@ -167,17 +157,17 @@ form_spelt scope form.And good = ((omega arith, refl), tt)
 form_spelt scope form.Or good = ((omega arith, refl), tt)
 form_spelt scope form.Not good = ((omega arith, refl), tt)
 form_spelt scope form.Implies good = ((omega arith, refl), tt)
-form_spelt scope (form.Same v u) good = let (first, second) = both_true (is_bound scope v) (is_bound scope u) good in
+form_spelt scope (form.Same v u) good = let (first, second) = and_parts (is_bound scope v) (is_bound scope u) good in
     ((omega arith, refl), (bound_spelt scope v first, (bound_spelt scope u second, tt)))
-form_spelt scope (form.Before v u) good = let (first, second) = both_true (is_bound scope v) (is_bound scope u) good in
+form_spelt scope (form.Before v u) good = let (first, second) = and_parts (is_bound scope v) (is_bound scope u) good in
     ((omega arith, refl), (bound_spelt scope v first, (bound_spelt scope u second, tt)))
-form_spelt scope (form.Next v u) good = let (first, second) = both_true (is_bound scope v) (is_bound scope u) good in
+form_spelt scope (form.Next v u) good = let (first, second) = and_parts (is_bound scope v) (is_bound scope u) good in
     ((omega arith, refl), (bound_spelt scope v first, (bound_spelt scope u second, tt)))
 form_spelt scope (form.Is v r) good = ((omega arith, refl), (bound_spelt scope v good, (role_spelt r, tt)))
 form_spelt scope (form.OfKind v k) good = ((omega arith, refl), (bound_spelt scope v good, (kind_spelt k, tt)))
 form_spelt scope (form.Equal t u) good = ((omega arith, refl), terms_spelt scope t u good)
 form_spelt scope (form.Less t u) good =
-    let b = both_true (has_order (sort_of scope t)) (are_of_one_sort (sort_of scope t) (sort_of scope u)) good in
+    let b = and_parts (has_order (sort_of scope t)) (are_of_one_sort (sort_of scope t) (sort_of scope u)) good in
     ((omega arith, refl), terms_spelt scope t u b.1)
 
 -- no word begins with a space or a parenthesis
@@ -286,21 +276,21 @@ alphanumeric_byte byte =
     within : (low high : ℕ) → 41 < low → high ≤ 126 → (nat_le low byte && nat_le byte high) ≡ true
         → is_word_byte byte ≡ true
     within low high a b e =
-        let r = both_true (nat_le low byte) (nat_le byte high) e in
+        let r = and_parts (nat_le low byte) (nat_le byte high) e in
         in_range low high byte a b (leb-true low byte r.0) (leb-true byte high r.1)
 
 -- a word of letters and digits has bytes of words alone
 alphanumeric_bytes : (bytes : List ℕ) → are_alphanumeric bytes ≡ true → are_word_bytes bytes ≡ true
 alphanumeric_bytes [] e = refl
 alphanumeric_bytes (byte ∷ bytes) e =
-    let b = both_true (is_alphanumeric byte) (are_alphanumeric bytes) e in
+    let b = and_parts (is_alphanumeric byte) (are_alphanumeric bytes) e in
     rw (alphanumeric_byte byte b.0) (alphanumeric_bytes bytes b.1)
 
 -- a rule's name is spelt
 name_spelt : (name : Token) → is_name name ≡ true → IsSpelt name
 name_spelt name is =
-    let b = both_true (nat_lt 0 (length name) && nat_le (length name) 16) (are_alphanumeric name) is in
-    let size = both_true (nat_lt 0 (length name)) (nat_le (length name) 16) b.0 in
+    let b = and_parts (nat_lt 0 (length name) && nat_le (length name) 16) (are_alphanumeric name) is in
+    let size = and_parts (nat_lt 0 (length name)) (nat_le (length name) 16) b.0 in
     (ltb-true 0 (length name) size.0, alphanumeric_bytes name b.1)
 
 -- a rule's line
@@ -350,14 +340,14 @@ rules_spell : (names : List Token) (rs : List RuleTree) → follow names rs ≡ 
     → Spells (rules_text rs) (rules_tokens rs)
 rules_spell names [] good = spells_none
 rules_spell names (r ∷ rs) good =
-    let b = both_true (is_rule names r) (follow (names ++ r.name ∷ []) rs) good in
+    let b = and_parts (is_rule names r) (follow (names ++ r.name ∷ []) rs) good in
     spells_more (rule_text r) (rules_text rs) (rule_tokens r) (rules_tokens rs) (rule_spells names r b.0)
     (rules_spell (names ++ r.name ∷ []) rs b.1) (rules_breaks rs)
 
 -- what is written of rules is a text of them
 pub written_is_text : (rs : List RuleTree) → are_rules rs ≡ true → IsTextOf (rules_text rs) rs
 written_is_text rs good =
-    let b = both_true (nat_lt 0 (length rs)) (follow [] rs) good in
+    let b = and_parts (nat_lt 0 (length rs)) (follow [] rs) good in
     let text = rules_text rs in
     let whole = rules_spell [] rs b.1 text [] [] [] (sym (append-nil text)) tt (λ positive. absurd (omega arith))
     (none_yet text) in

@@ -1,10 +1,10 @@
 -- How much the entries that a machine holds name together.
-use Rattle.std.proofs.Common.{◌≡◌, ◌≢◌, ◌∙◌, ℕ, suc, ◌+◌, ◌*◌, ◌≤◌, inl, inr, List, [], ◌∷◌, ◌++◌, length}
-use Rattle.std.proofs.Common.{refl, sym, ap, subst, arith, append_assoc}
+use Rattle.std.proofs.Common.{◌≡◌, ◌∙◌, ℕ, suc, ◌+◌, ◌*◌, ◌≤◌, List, [], ◌∷◌, ◌++◌, length}
+use Rattle.std.proofs.Common.{sym, ap, subst, arith, append_assoc}
 use Rattle.std.specs.List.{Contains, sum_by}
 use Rattle.std.proofs.lemmas.List.{length-map}
-use Rattle.std.proofs.lemmas.List.Elements.{Contains-append_left, Contains-append_right, Contains-append_cases}
-use Rattle.std.proofs.lemmas.List.Sums.{sum_by-append, sum_by-cons}
+use Rattle.std.proofs.lemmas.List.Elements.{Contains-append_right}
+use Rattle.std.proofs.lemmas.List.Sums.{sum_by-append}
 use Rattle.entry_order.specs.declared.event.Event.{Event}
 use Rattle.entry_order.specs.declared.event.Event.TheVariants.{Sent, Got}
 use Rattle.entry_order.specs.Node.{Node}
@@ -12,19 +12,14 @@ use Rattle.entry_order.specs.History.{entry_of, held, sent, IsLegal}
 use Rattle.entry_order.specs.Receipt.{IsOrderly}
 use Rattle.entry_order.specs.World.{World, history, sent_in}
 use Rattle.entry_order.proofs.Histories.{new_from_may}
-use Rattle.entry_order.proofs.Lists.{Contains-head, Contains-later, Contains-cons_cases, Contains-map}
-use Rattle.entry_order.proofs.Lists.{Contains-map_cases}
+use Rattle.entry_order.proofs.Lists.{Contains-head, Contains-map, Contains-map_cases}
 use Rattle.entry_order.proofs.Orders.{member_split, sent_in_from}
+use Rattle.entry_order.proofs.Apart.{DigestsDiffer, sum_among, few_among}
 use Rattle.short_logs.proofs.NamedOnce.{named_once}
 
 module _ {T : Type 0} (node : T → Node) where
-  -- no digest of an entry is that of a later one
-  abbrev pub AreApart : List T → Type 0
-  AreApart [] = Unit {0}
-  AreApart (x ∷ xs) = ((y : T) → Contains xs y → (node y).digest ≢ (node x).digest) × AreApart xs
-
   -- what a machine holds is apart, since each event is new to those before it
-  held_apart : (owner : ℕ) (p q : List (Event T)) → IsLegal node owner (p ++ q) → AreApart (held q)
+  held_apart : (owner : ℕ) (p q : List (Event T)) → IsLegal node owner (p ++ q) → DigestsDiffer node (held q)
   held_apart owner p [] legal = tt
   held_apart owner p (x ∷ q) legal = (
     λ y inside same.
@@ -40,32 +35,6 @@ module _ {T : Type 0} (node : T → Node) where
         (subst (λ (h : List (Event T)). IsLegal node owner h) (sym (append_assoc p (x ∷ []) q)) legal),
   )
 
-  -- entries that are apart sum up to no more than the entries that they are among
-  sum_among : (f : T → ℕ) (xs ys : List T) → AreApart xs → ((x : T) → Contains xs x → Contains ys x) →
-      sum_by f xs ≤ sum_by f ys
-  sum_among f [] ys apart among = omega arith
-  sum_among f (x ∷ xs) ys apart among =
-      let (before, later, is) = member_split ys x (among x (Contains-head x xs)) in
-      let rest : sum_by f xs ≤ sum_by f (before ++ later) =
-      sum_among f xs (before ++ later) apart.1 (λ y c.
-      elim (Contains-append_cases before (x ∷ later) y
-      (subst (λ (zs : List T). Contains zs y) is (among y (Contains-later x xs y c)))) [
-        | inl first ↦ Contains-append_left before later y first
-        | inr last ↦ elim (Contains-cons_cases x later y last) [
-          | inl same ↦ absurd (apart.0 y c (ap (λ (z : T). (node z).digest) (sym same)))
-          | inr behind ↦ Contains-append_right before later y behind
-        ]
-      ]) in
-      omega (
-        arith,
-        rest,
-        ap (sum_by f) is,
-        sum_by-cons f x xs,
-        sum_by-append f before (x ∷ later),
-        sum_by-cons f x later,
-        sum_by-append f before later,
-      )
-
   module _ (w : World T) (orderly : IsOrderly node w) where
     -- what a machine holds was sent
     pub held_was_sent : (m : ℕ) (e : T) → Contains (held (history w m)) e → Contains (sent_in w) e
@@ -80,22 +49,18 @@ module _ {T : Type 0} (node : T → Node) where
     -- so a measure of what it holds is at most that of what was sent
     pub held_sum : (f : T → ℕ) (m : ℕ) → sum_by f (held (history w m)) ≤ sum_by f (sent_in w)
     held_sum f m =
-        sum_among f (held (history w m)) (sent_in w) (held_apart m [] (history w m) (orderly.legal m))
+        sum_among node f (held (history w m)) (sent_in w) (held_apart m [] (history w m) (orderly.legal m))
         (held_was_sent m)
 
     -- and it holds no more than was sent
     pub few_held : (m : ℕ) → length (history w m) ≤ length (sent_in w)
-    few_held m = omega (
-      arith,
-      held_sum (λ e. 1) m,
-      ones (held (history w m)),
-      ones (sent_in w),
-      length-map (history w m) entry_of,
-    )
-      where
-        ones : (es : List T) → sum_by (λ e. 1) es ≡ length es
-        ones [] = refl
-        ones (e ∷ es) = omega (arith, sum_by-cons (λ (g : T). 1) e es, ones es)
+    few_held m =
+        omega (
+          arith,
+          few_among node (held (history w m)) (sent_in w) (held_apart m [] (history w m) (orderly.legal m))
+              (held_was_sent m),
+          length-map (history w m) entry_of,
+        )
 
   -- the machines from a place on name together at most as much as they hold
   all_named : (from c : ℕ) (w : World T) → ((m : ℕ) → IsLegal node (from + m) (history w m)) →

@@ -6,33 +6,19 @@ use Rattle.std.specs.List.{Contains, filter, sum_by}
 use Rattle.std.proofs.lemmas.Bool.{not_from_true}
 use Rattle.std.proofs.lemmas.List.{append-nil, map-append}
 use Rattle.std.proofs.lemmas.List.Sums.{sum_by-append, length-filter, count_by-le-length}
-use Rattle.std.specs.Cmp.Lexicographic.{slice_cmp}
-use Rattle.std.specs.Ordering.{nat_cmp}
-use Rattle.std.specs.declared.cmp.Ordering.{Ordering}
-use Rattle.std.specs.declared.cmp.Ordering.TheVariants.{Less, Equal, Greater}
 use Rattle.entry_order.specs.declared.event.Event.{Event}
 use Rattle.entry_order.specs.declared.event.Event.TheVariants.{Sent, Got}
 use Rattle.entry_order.specs.Node.{Node}
 use Rattle.entry_order.specs.Naming.{is_named, names_digest}
-use Rattle.entry_order.specs.Ascending.{insert_digest, inserted}
+use Rattle.entry_order.specs.Ascending.{insert_digest}
 use Rattle.entry_order.specs.Frontier.{frontier}
 use Rattle.entry_order.specs.History.{entry_of, held, sent, IsLegal, MayFollow}
 use Rattle.entry_order.proofs.Lists.{Contains-head, Contains-later}
 use Rattle.entry_order.proofs.Naming.{names_digest_of}
 use Rattle.entry_order.proofs.Frontiers.{frontier_push}
 use Rattle.entry_order.proofs.Histories.{sent-append}
+use Rattle.entry_order.proofs.Ascending.{length-insert_digest}
 use Rattle.short_logs.specs.Named.{count_named}
-
--- a digest put in its place makes a list longer by at most one
-one_more : (d : List ℕ) (ds : List (List ℕ)) → length (insert_digest d ds) ≤ length ds + 1
-one_more d [] = omega arith
-one_more d (c ∷ cs) = by (slice_cmp nat_cmp d c) (one_more d cs)
-  where
-    by : (o : Ordering) → length (insert_digest d cs) ≤ length cs + 1 →
-        length (inserted o d c cs (insert_digest d cs)) ≤ length (c ∷ cs) + 1
-    by Less rest = omega arith
-    by Equal rest = omega arith
-    by Greater rest = omega (arith, rest)
 
 -- what passes no test is none
 none_left : (p : List ℕ → Bool) (ds : List (List ℕ)) → ((d : List ℕ) → Contains ds d → p d ≡ false) →
@@ -59,7 +45,7 @@ module _ {T : Type 0} (node : T → Node) where
       by : (b : Bool) →
           length (cond b (left es e) (insert_digest (node e).digest (left es e))) ≤ length (left es e) + 1
       by true = omega arith
-      by false = one_more (node e).digest (left es e)
+      by false = length-insert_digest (node e).digest (left es e)
 
   -- an entry that names the frontier leaves none of it
   none_after : (es : List T) (e : T) → (node e).names ≡ frontier node es → length (left es e) ≡ 0

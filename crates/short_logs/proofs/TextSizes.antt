@@ -18,10 +18,9 @@ use Rattle.entry_format.specs.declared.deed.How.TheVariants as how
 use Rattle.entry_format.specs.declared.entry.Entry.{Entry}
 use Rattle.entry_format.specs.EntryText.{IsDeed, IsDigest, IsEntry, IsVersion, body_tree, deed_rest, deed_tree}
 use Rattle.entry_format.specs.EntryText.{deed_word, how_rest, signed_tree}
-use Rattle.lms_ots.specs.declared.kind.OtsKind.{OtsKind}
-use Rattle.lms_ots.specs.declared.kind.OtsKind.TheVariants.{W1, W2, W4, W8}
-use Rattle.lms_sign.specs.Height.{IsHeight}
-use Rattle.lms_sign.specs.Signs.{Signs, lms_signature_len}
+use Rattle.entry_format.proofs.Keys.{signature_small}
+use Rattle.entry_format.proofs.Taken.{version_small}
+use Rattle.lms_sign.specs.Signs.{Signs}
 
 -- how many bytes a tree's text has
 abbrev pub size : Sexp → ℕ
@@ -150,27 +149,8 @@ deed_size version deed is small =
       rest version deed is small,
     )
 
--- a signature has at most 8,844 bytes
-signature_size : (key message signature : List ℕ) → Signs key message signature → length signature ≤ 8844
-signature_size key message signature is =
-    omega (arith, is.signs.size, of_kind is.kind is.height is.types.height)
-  where
-    of_kind : (kind : OtsKind) (h : ℕ) → IsHeight h → lms_signature_len kind h ≤ 8844
-    of_kind W1 h (inl e) = omega (arith, e)
-    of_kind W1 h (inr e) = omega (arith, e)
-    of_kind W2 h (inl e) = omega (arith, e)
-    of_kind W2 h (inr e) = omega (arith, e)
-    of_kind W4 h (inl e) = omega (arith, e)
-    of_kind W4 h (inr e) = omega (arith, e)
-    of_kind W8 h (inl e) = omega (arith, e)
-    of_kind W8 h (inr e) = omega (arith, e)
-
 -- the body of an entry
 module _ (entry : Entry) (is : IsEntry entry) where
-  -- the version has 32 bits
-  version_small : entry.version < 2 ^ 32
-  version_small = elim is.version [ inl e ↦ omega (arith, e) | inr e ↦ omega (arith, e) ]
-
   -- what stands behind the names
   behind_names : sizes (deed_tree entry.version entry.deed ∷ []) ≤ 78
   behind_names =
@@ -227,7 +207,7 @@ module _ (entry : Entry) (is : IsEntry entry) where
             ∷ number_atom entry.number ∷ number_atom entry.stamp ∷ list_of (map Atom entry.names)
             ∷ deed_tree entry.version entry.deed ∷ []),
         atom (codes "entry") (omega arith),
-        number entry.version version_small,
+        number entry.version (version_small entry.version is.version),
         digest entry.election is.election,
         numbers,
       )
@@ -236,7 +216,7 @@ module _ (entry : Entry) (is : IsEntry entry) where
   pub signed_size : (key message signature : List ℕ) → Signs key message signature →
       size (signed_tree entry signature) ≤ 9100 + 38 * length entry.names
   signed_size key message signature signs =
-      let long = signature_size key message signature signs in
+      let long = signature_small key message signature signs in
       omega (
         arith,
         around (Atom (codes "sealed") ∷ body_tree entry ∷ Atom signature ∷ []),

@@ -1,5 +1,6 @@
 use Rattle.std.proofs.Common.{◌≤◌, refl, ap, sym, subst, ◌∙◌}
 use Rattle.election_script.specs.Generated.{count_actions}
+use Rattle.election_script.specs.Lawful.{max_actions}
 use Rattle.election_script.proofs.DayLawful.{count_few}
 use Rattle.election_script.proofs.DayScript.{made_is_lawful}
 use Rattle.election_script.proofs.making.make.Goals as goal
@@ -7,7 +8,7 @@ use Rattle.election_script.proofs.making.make.Goals as goal
 -- the machines do little enough
 pub count_actions-requires : goal.count_actions-requires
 count_actions-requires c =
-    subst (λ machines. count_actions machines ≤ 4096) (sym (c.as_slice.ensures ∙ c.in_ok-machines.ensures))
+    subst (λ machines. count_actions machines ≤ max_actions) (sym (c.as_slice.ensures ∙ c.in_ok-machines.ensures))
     (count_few c.args.n c.requires.1)
 
 -- each part is the day's

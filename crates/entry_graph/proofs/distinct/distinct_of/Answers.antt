@@ -1,5 +1,4 @@
-use Rattle.std.proofs.Common.{rules, ◌≡◌, ◌≢◌, ◌∙◌, ◌++◌, ◌∷◌, [], Some}
-use Rattle.std.proofs.Common.{None, length, ap, sym, subst}
+use Rattle.std.proofs.Common.{rules, ◌≡◌, ◌≢◌, ◌∙◌, ◌++◌, ◌∷◌, [], Some, None, length, ap, sym, subst}
 use Rattle.std.specs.List.{Contains}
 use Rattle.std.specs.Str.{bytes_eq}
 use Rattle.std.proofs.lemmas.Bool.{true≢false, not-false, not_from_true}
@@ -8,12 +7,13 @@ use Rattle.std.proofs.lemmas.Option.{get_or_from_slice_get, slice_get_within}
 use Rattle.std.proofs.lemmas.Slice.Eq.{bytes_eq-Decides}
 use Rattle.entry_order.specs.Naming.{IsBorneIn}
 use Rattle.entry_order.proofs.Lists.{Contains-none}
+use Rattle.entry_order.proofs.Places.{member_at}
 use Rattle.entry_graph.specs.inside.Distinct.{HasNoDigestTwice}
 use Rattle.entry_graph.specs.inside.Tables.{number_at, ArePlaces}
 use Rattle.entry_graph.proofs.DistinctFacts.{distinct_given, distinct_bears, distinct_new}
 use Rattle.entry_graph.proofs.DistinctFacts.{distinct_again, no_collision_new, no_collision_again}
 use Rattle.entry_graph.proofs.LinkFacts.{lacks_borne}
-use Rattle.entry_graph.proofs.Places.{at_place, single_none, single_push}
+use Rattle.entry_graph.proofs.Places.{single_none, single_push}
 use Rattle.entry_graph.proofs.TableFacts.{IsSet, no_places, places_more}
 use Rattle.entry_graph.proofs.distinct.distinct_of.Goals as goal
 
@@ -96,7 +96,7 @@ returns-then-ne-clause-fault g c =
     c.index.ensures ∙ get_or_from_slice_get kept place h c.index.result.now at_h in
     let among : Contains c.loop-entry.yielded h =
     distinct_given node c.loop-entry.yielded h
-    (subst (λ es. Contains es h) c.loop-entry.invariant.found (at_place kept place h at_h)) in
+    (subst (λ es. Contains es h) c.loop-entry.invariant.found (member_at kept place h at_h)) in
     let differ : text h ≢ text e =
     λ same.
     let one : c.signed_text.result.now ≡ c.signed_text-in-Some-get.result.now =
@@ -129,7 +129,7 @@ loop-entry-preserved g c =
     c.index.ensures ∙ get_or_from_slice_get kept place h c.index.result.now at_h in
     let among : Contains before h =
     distinct_given node before h
-    (subst (λ es. Contains es h) c.loop-entry.invariant.found (at_place kept place h at_h)) in
+    (subst (λ es. Contains es h) c.loop-entry.invariant.found (member_at kept place h at_h)) in
     let same_text : text h ≡ text e =
     ap text (sym shown) ∙ sym c.signed_text.ensures
     ∙ (bytes_eq-Decides c.signed_text.result.now c.signed_text-in-Some-get.result.now).0

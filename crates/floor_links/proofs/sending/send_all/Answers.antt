@@ -7,6 +7,7 @@ use Rattle.std.proofs.lemmas.Bool.{cases_lt}
 use Rattle.std.proofs.lemmas.List.Elements.{All-pop}
 use Rattle.entry_format.specs.SealedEntry.{SealedEntry}
 use Rattle.election_script.specs.declared.script.Lose.{Lose}
+use Rattle.election_script.specs.Lawful.{max_actions}
 use Rattle.broadcast_queues.specs.Ends.{OutView, LinkView, IsOutOf}
 use Rattle.floor_losses.specs.declared.loss.Loss.{Loss}
 use Rattle.floor_links.specs.Rows.{IsRowOf, link_at}
@@ -40,10 +41,10 @@ module _ (links : List (List LinkView)) (loses : List Lose) (own number count : 
   out_is out lt e = e ∙ is.left to out (omega arith) lt
 
   popped : (rest : List SealedEntry) (copy : SealedEntry) → copies ≡ rest ++ copy ∷ [] →
-      (copy.entry.maker ≡ own) × (copy.entry.number ≡ number) × (copy.entry.number < 4096)
+      (copy.entry.maker ≡ own) × (copy.entry.number ≡ number) × (copy.entry.number < max_actions)
   popped rest copy split =
       (All-pop (λ (x : SealedEntry). (x.entry.maker ≡ own) × (x.entry.number ≡ number) ×
-      (x.entry.number < 4096)) copies rest (Some copy) split is.are_copies).1
+      (x.entry.number < max_actions)) copies rest (Some copy) split is.are_copies).1
 
   -- the end that is reached is that of the link that is reached
   end_is : (link : LinkView) (out : OutView SealedEntry) → to < count → IsRowOf links own outs0 →

@@ -1,5 +1,6 @@
 use Rattle.std.proofs.Common.{◌≡◌, ◌∙◌, ◌+◌, length, refl, sym, ap, subst, arith}
 use Rattle.entry_format.specs.Nodes.{node_of_sealed}
+use Rattle.entry_format.proofs.OneEntry.{same_fields}
 use Rattle.entry_order.specs.Ascending.{IsAscending}
 use Rattle.entry_order.specs.Frontier.{frontier}
 use Rattle.entry_order.specs.History.{held, sent, greatest_stamp}
@@ -7,7 +8,7 @@ use Rattle.polling_world.specs.Machines.{MachineState}
 use Rattle.polling_world.specs.Making.{election_of, next_entry}
 use Rattle.polling_world.specs.Viewing.{state_of}
 use Rattle.polling_world.proofs.Histories.{frontier_rises, few_in_frontier}
-use Rattle.polling_world.proofs.MadeEntries.{same_entry, sealed_is_made}
+use Rattle.polling_world.proofs.MadeEntries.{sealed_is_made}
 use Rattle.polling_world.proofs.machine.Machine.next_entry.Goals as goal
 
 pub seal-requires-clause-election : goal.seal-requires-clause-election
@@ -39,6 +40,6 @@ returns-in-Ok-seal c =
     (sealed_is_made m.config (length (sent h)) (1 + greatest_stamp node_of_sealed (held h))
     (frontier node_of_sealed (held h)) c.args.deed c.self.inside.key _ c.in-Ok-seal.sealed
     (ap (λ n. record c.self.inside.key { next = n }) c.self.invariant.signs_next) c.self.invariant.machine.public
-    (same_entry _ _ refl c.self.invariant.of_roster c.owner.ensures next.number next.stamp
+    (same_fields _ _ refl c.self.invariant.of_roster c.owner.ensures next.number next.stamp
     (c.from_vec.ensures ∙ next.names) refl)
     c.in-Ok-seal.ensures.entry c.in-Ok-seal.ensures.signature c.in-Ok-seal.ensures.valid)

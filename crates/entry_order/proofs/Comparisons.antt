@@ -1,0 +1,32 @@
+-- Numbers and digests as the order compares them.
+use Rattle.std.proofs.Common.{◌≡◌, ◌≢◌, ◌∙◌, ℕ, ◌<◌, false, List, refl, sym, ap, arith}
+use Rattle.std.specs.Cmp.Lexicographic.{slice_cmp}
+use Rattle.std.specs.Ordering.{nat_cmp, ordering_reverse, is_lt}
+use Rattle.std.specs.declared.cmp.Ordering.{Ordering}
+use Rattle.std.specs.declared.cmp.Ordering.TheVariants.{Less, Equal, Greater}
+use Rattle.std.proofs.lemmas.Bool.{true≢false}
+use Rattle.std.proofs.lemmas.Bool.Decides.{nat_tests}
+use Rattle.std.proofs.lemmas.Cmp.{nat_list_cmp_total}
+use Rattle.std.proofs.lemmas.Map.Lookups.{exact_bytes}
+
+-- a lower number compares as less
+pub less : (m n : ℕ) → m < n → nat_cmp m n ≡ Less
+less m n lower = grind (arith, nat_tests)
+
+-- the same number as equal
+pub level : (m n : ℕ) → m ≡ n → nat_cmp m n ≡ Equal
+level m n same = grind (arith, nat_tests)
+
+-- of two digests the one that isn't above and isn't the same is below
+pub below : (x y : List ℕ) → is_lt (slice_cmp nat_cmp y x) ≡ false → x ≢ y → slice_cmp nat_cmp x y ≡ Less
+below x y not_lt differ = by (slice_cmp nat_cmp y x) refl not_lt
+  where
+    -- by how the second compares with the first: it isn't less, and equal would make them the same
+    by : (o : Ordering) → slice_cmp nat_cmp y x ≡ o → is_lt o ≡ false → slice_cmp nat_cmp x y ≡ Less
+    by Less e h = absurd (true≢false h)
+    by Equal e h = absurd (differ (sym (exact_bytes y x e)))
+    by Greater e h = nat_list_cmp_total.antisymm x y ∙ ap ordering_reverse e
+
+-- no two digests are each below the other
+pub not_both : (x y : List ℕ) → slice_cmp nat_cmp x y ≡ Less → slice_cmp nat_cmp y x ≡ Less → ⊥
+not_both x y a b = let e : Less ≡ Greater = sym a ∙ nat_list_cmp_total.antisymm x y ∙ ap ordering_reverse b in cc

@@ -1,0 +1,39 @@
+-- Lists in which each member is below all later ones.
+use Rattle.std.proofs.Common.{◌≡◌, ◌∙◌, List, [], ◌∷◌, refl, sym, subst, inl, inr}
+use Rattle.std.specs.List.{Contains}
+use Rattle.entry_order.proofs.Lists.{Contains-none, Contains-head, Contains-later, Contains-cons_cases}
+
+module _ {X : Type 0} (Below : X → X → Type 0) where
+  -- each is below all behind it
+  abbrev pub Rises : List X → Type 0
+  Rises [] = Unit {0}
+  Rises (x ∷ xs) = ((y : X) → Contains xs y → Below x y) × Rises xs
+
+  module _ (not_both : (x y : X) → Below x y → Below y x → ⊥) where
+    -- two lists that rise and have the same members are equal
+    pub same_rising : (xs ys : List X) → Rises xs → Rises ys → ((d : X) → Contains xs d → Contains ys d) →
+        ((d : X) → Contains ys d → Contains xs d) → xs ≡ ys
+    same_rising [] [] a b to from = refl
+    same_rising [] (y ∷ ys) a b to from = absurd (Contains-none y (from y (Contains-head y ys)))
+    same_rising (x ∷ xs) [] a b to from = absurd (Contains-none x (to x (Contains-head x xs)))
+    same_rising (x ∷ xs) (y ∷ ys) (x_below, xs_rise) (y_below, ys_rise) to from =
+        let heads : x ≡ y =
+        elim (Contains-cons_cases y ys x (to x (Contains-head x xs))) [
+          | inl e ↦ sym e
+          | inr u ↦ elim (Contains-cons_cases x xs y (from y (Contains-head y ys))) [
+            | inl e ↦ e
+            | inr v ↦ absurd (not_both x y (x_below y v) (y_below x u))
+          ]
+        ] in
+        let forth : (d : X) → Contains xs d → Contains ys d =
+        λ d c. elim (Contains-cons_cases y ys d (to d (Contains-later x xs d c))) [
+          | inl e ↦ absurd (let m : Below x x = subst (Below x) (sym (heads ∙ e)) (x_below d c) in not_both x x m m)
+          | inr u ↦ u
+        ] in
+        let back : (d : X) → Contains ys d → Contains xs d =
+        λ d c. elim (Contains-cons_cases x xs d (from d (Contains-later y ys d c))) [
+          | inl e ↦ absurd (let m : Below y y = subst (Below y) (sym e ∙ heads) (y_below d c) in not_both y y m m)
+          | inr u ↦ u
+        ] in
+        let tails : xs ≡ ys = same_rising xs ys xs_rise ys_rise forth back in
+        λ i. heads i ∷ tails i
