@@ -17,7 +17,7 @@ use Rattle.lms_ots.proofs.Pieces.{length-pieces, piece_at, same_pieces}
 abbrev runs : List ℕ → ℕ → ℕ → ℕ → ℕ → List ℕ → List ℕ
 runs id q i from n tmp = fold (step id q i) tmp (range_with_len from n)
 
--- so many steps, and others behind them, are all these steps
+-- some steps and then others are all these steps
 runs-add : (id tmp : List ℕ) (q i from n m : ℕ)
     → runs id q i from (n + m) tmp ≡ runs id q i (from + n) m (runs id q i from n tmp)
 runs-add id tmp q i from zero m =
@@ -30,7 +30,7 @@ runs-add id tmp q i from (suc n) m =
     rw (e, f) (runs-add id (step id q i tmp from) q i (from + 1) n m)
 
 -- two parts of a chain are one
-chain-chain : (id tmp : List ℕ) (q i a most : ℕ) → a ≤ most
+pub chain-chain : (id tmp : List ℕ) (q i a most : ℕ) → a ≤ most
     → chain id q i a most (chain id q i 0 a tmp) ≡ chain id q i 0 most tmp
 unfolding chain
 chain-chain id tmp q i a most h =

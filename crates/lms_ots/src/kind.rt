@@ -37,6 +37,7 @@ impl Parameters {
 impl OtsKind {
     ghost use Rattle.lms_ots.specs.Parameters.{parameters, signature_len};
     ghost use Rattle.lms_ots.specs.Words.{ots_word};
+    ghost use Rattle.lms_ots.specs.Checkpoints.{chain_checkpoints, checkpoint_count, stride};
 
     pub(crate) fn parameters(self) -> Parameters
         ensures table { result ≡ parameters self }
@@ -107,5 +108,38 @@ impl OtsKind {
         ensures { result ≡ signature_len self }
     {
         4 + 32 + 32 * usize::from(self.parameters().p)
+    }
+
+    // The steps of a chain from one checkpoint to the next. Chains of W1 and W2 are shorter.
+    pub(crate) fn stride(self) -> u8
+        ensures value { result ≡ stride self }
+        ensures some { 0 < result }
+    {
+        match self {
+            OtsKind::W1 => 2,
+            OtsKind::W2 => 4,
+            OtsKind::W4 => 4,
+            OtsKind::W8 => 16,
+        }
+    }
+
+    // The number of checkpoints of a chain.
+    pub(crate) fn chain_checkpoints(self) -> u8
+        ensures { result ≡ chain_checkpoints self }
+    {
+        match self {
+            OtsKind::W1 => 0,
+            OtsKind::W2 => 0,
+            OtsKind::W4 => 3,
+            OtsKind::W8 => 15,
+        }
+    }
+
+    /// The number of checkpoints of a key: values of its chains that a signer may keep, so that it
+    /// needn't walk each chain from its start again.
+    pub fn checkpoint_count(self) -> usize
+        ensures { result ≡ checkpoint_count self }
+    {
+        usize::from(self.parameters().p) * usize::from(self.chain_checkpoints())
     }
 }

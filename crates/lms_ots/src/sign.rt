@@ -1,21 +1,23 @@
 //! Keys, signatures and candidates.
-ghost use Rattle.std.specs.Prelude.{◌≡◌, ◌≢◌, ◌↔◌, ◌*◌, ◌++◌, length, take, vec_len};
+ghost use Rattle.std.specs.Prelude.{◌≡◌, ◌≢◌, ◌↔◌, ◌*◌, ◌≤◌, ◌++◌, length, take, vec_len};
 ghost use Rattle.std.specs.Prelude.{IfOk, OnOk, IsErrOf};
 ghost use Rattle.std.specs.List.{flat_map, range_with_len};
 ghost use Rattle.lms_ots.specs.Parameters.{parameters, signature_len};
+ghost use Rattle.lms_ots.specs.Checkpoints.{AreCheckpoints, checkpoint_count};
 ghost use Rattle.lms_ots.specs.Digits.{cksm};
 ghost use Rattle.lms_ots.specs.Ots.{candidate_of, message_hash, public_key, randomizer};
 ghost use Rattle.lms_ots.specs.Ots.{signature_of, u16str, u32str};
 ghost use Rattle.lms_ots.specs.inside.Elements.{signed_element};
 
-use crate::chain::{chain, secret_element};
+use crate::chain::chain;
+use crate::checkpoints::{chain_to, end_of_chain};
 use crate::digits::{checksum, digit};
 use crate::kind::OtsKind;
 use crate::octets::{hasher, u16_bytes, u32_bytes, write_at};
 use sha2::{Digest, Sha256};
 use std::alloc::{AllocError, Global};
 
-/// Want of memory.
+/// Out of memory.
 pub type Memory = AllocError;
 
 /// Why a signature has no candidate.
@@ -37,18 +39,33 @@ const D_MESG: u16 = 0x8181;
 pub fn ots_public(kind: OtsKind, id: &[u8; 16], q: u32, seed: &[u8; 32]) -> [u8; 32]
     ensures { result ≡ public_key kind id.now q seed.now }
 {
+    ots_public_into(&mut [], kind, id, q, seed)
+}
+
+/// The public key, as `ots_public` gives it. Fills `checkpoints` with the key's first checkpoints,
+/// with which `ots_sign_into` needs fewer hashes; W1 and W2 have none.
+pub fn ots_public_into(
+    checkpoints: &mut [[u8; 32]],
+    kind: OtsKind,
+    id: &[u8; 16],
+    q: u32,
+    seed: &[u8; 32],
+) -> [u8; 32]
+    requires { length checkpoints.old ≤ checkpoint_count kind }
+    ensures value { result ≡ public_key kind id.now q seed.now }
+    ensures checkpoints { AreCheckpoints kind id.now q seed.now checkpoints.new }
+    ensures len { length checkpoints.new ≡ length checkpoints.old }
+{
     let parameters = kind.parameters();
-    let last = parameters.largest();
     let mut key = hasher(id, q, D_PBLC);
     'public_elements: for i in 0..parameters.p {
-        let secret = secret_element(id, q, seed, i);
-        key.update(chain(id, q, i, 0, last, secret));
+        key.update(end_of_chain(kind, id, q, seed, i, checkpoints));
     }
     key.finalize()
 }
 
-/// The signature of `message` under the one-time key `q` of `id`: RFC 8554, 4.5. The randomizer is a
-/// function of key and seed, so signing is a function.
+/// The signature of `message` under the one-time key `q` of `id`: RFC 8554, 4.5. The randomizer is
+/// a function of key and seed, so signing is a function.
 pub fn ots_sign(
     alloc: Global,
     kind: OtsKind,
@@ -62,12 +79,13 @@ pub fn ots_sign(
     ensures len { IfOk result (λ s. vec_len s ≡ signature_len kind) }
 {
     let mut signature = vec![in alloc; 0; kind.signature_len()]?;
-    ots_sign_into(&mut signature, kind, id, q, seed, message);
+    ots_sign_into(&mut signature, kind, id, q, seed, message, &[]);
     Ok(signature)
 }
 
 /// Fills `signature` with the signature of `message` under the one-time key `q` of `id`, as
-/// `ots_sign` makes it. It takes no memory.
+/// `ots_sign` makes it. `checkpoints` are the key's first, as `ots_public_into` gives them, and may
+/// be empty. It takes no memory.
 pub fn ots_sign_into(
     signature: &mut [u8],
     kind: OtsKind,
@@ -75,15 +93,25 @@ pub fn ots_sign_into(
     q: u32,
     seed: &[u8; 32],
     message: &[u8],
+    checkpoints: &[[u8; 32]],
 )
-    requires { length signature.old ≡ signature_len kind }
+    requires room { length signature.old ≡ signature_len kind }
+    requires checkpoints { AreCheckpoints kind id.now q seed.now checkpoints.now }
     ensures { signature.new ≡ signature_of kind id.now q seed.now message.now }
 {
     let c = randomizer(id, q, seed);
     let digits = digits_of(kind, id, q, &c, message);
     write_at(signature, 0, &u32_bytes(kind.typecode()));
     write_at(signature, 4, &c);
-    write_elements(&mut signature[36..], kind, id, q, seed, &digits);
+    write_elements(
+        &mut signature[36..],
+        kind,
+        id,
+        q,
+        seed,
+        &digits,
+        checkpoints,
+    );
 }
 
 // Fills `elements` with those of the signature of these digits.
@@ -94,20 +122,21 @@ fn write_elements(
     q: u32,
     seed: &[u8; 32],
     digits: &[u8; 34],
+    checkpoints: &[[u8; 32]],
 )
-    requires { length elements.old ≡ 32 * (parameters kind).p }
+    requires room { length elements.old ≡ 32 * (parameters kind).p }
+    requires checkpoints { AreCheckpoints kind id.now q seed.now checkpoints.now }
     ensures { elements.new
         ≡ flat_map (signed_element id.now q seed.now digits.now (parameters kind).w)
         (range_with_len 0 (parameters kind).p) }
 {
     let parameters = kind.parameters();
     'signed_elements: for i in 0..parameters.p {
-        let secret = secret_element(id, q, seed, i);
         let place = digit(digits, usize::from(i), parameters.w);
         write_at(
             elements,
             32 * usize::from(i),
-            &chain(id, q, i, 0, place, secret),
+            &chain_to(kind, id, q, seed, i, place, checkpoints),
         );
     }
 }
@@ -126,7 +155,7 @@ pub fn ots_candidate(
     ensures form { OnOk result ((length signature.now ≡ signature_len kind)
         × (take 4 signature.now ≡ u32str (parameters kind).typecode)) }
 
-    // The first that applies is told.
+    // The first that applies is reported.
     ensures length { IsErrOf result OtsFault.WrongLength
         ↔ (length signature.now ≢ signature_len kind) }
     ensures typecode { IsErrOf result OtsFault.WrongType

@@ -5,9 +5,11 @@ ghost use Rattle.std.specs.List.{flat_map, range_with_len};
 ghost use Rattle.lms_sign.specs.Height.{IsHeight};
 ghost use Rattle.lms_sign.specs.Tree.{interior, leaf, sibling};
 ghost use Rattle.lms_sign.specs.Signs.{parent};
+ghost use Rattle.lms_sign.specs.inside.Leaves.{AreLeaves};
 ghost use Rattle.lms_sign.specs.inside.Nodes.{HoldsFrom, HoldsTree};
 
-use lms_ots::{OtsKind, hasher, ots_public, write_at};
+use crate::leaves::Leaf;
+use lms_ots::{OtsKind, hasher, write_at};
 use sha2::Digest;
 use std::alloc::{AllocError, Global};
 
@@ -23,13 +25,15 @@ pub(crate) fn nodes_of(
     height: u32,
     id: &[u8; 16],
     seed: &[u8; 32],
+    leaves: &[Leaf],
 ) -> Result<Vec<[u8; 32]>, AllocError>
-    requires { IsHeight height }
+    requires height { IsHeight height }
+    requires leaves { AreLeaves kind height id.now seed.now leaves.now }
     ensures { IfOk result (λ nodes. HoldsTree kind height id.now seed.now nodes.items) }
 {
     let count = leaf_count(height) as usize;
     let mut nodes = vec![in alloc; [0; 32]; 2 * count]?;
-    fill_leaves(kind, height, id, seed, nodes.as_mut_slice());
+    fill_leaves(kind, height, id, seed, leaves, nodes.as_mut_slice());
     fill_parents(kind, height, id, seed, nodes.as_mut_slice());
     Ok(nodes)
 }
@@ -43,19 +47,27 @@ pub(crate) fn leaf_count(height: u32) -> u32
     1 << height
 }
 
-fn fill_leaves(kind: OtsKind, height: u32, id: &[u8; 16], seed: &[u8; 32], nodes: &mut [[u8; 32]])
+// The leaves. Only the contract needs kind, identifier and seed.
+fn fill_leaves(
+    kind: OtsKind,
+    height: u32,
+    id: &[u8; 16],
+    seed: &[u8; 32],
+    leaves: &[Leaf],
+    nodes: &mut [[u8; 32]],
+)
     requires height { IsHeight height }
+    requires leaves { AreLeaves kind height id.now seed.now leaves.now }
     requires count { length nodes.old ≡ 2 * 2 ^ height }
     ensures { HoldsFrom kind height id.now seed.now (2 ^ height) nodes.new }
 {
     let count = leaf_count(height);
     'leaves: for q in 0..count {
-        let key = ots_public(kind, id, q, seed);
-        nodes[(count + q) as usize] = leaf(id, count + q, &key);
+        nodes[(count + q) as usize] = leaves[q as usize].value;
     }
 }
 
-// The interior nodes, from the last to the root. Kind and seed say which tree it is.
+// The interior nodes, from the last to the root. Only the contract needs kind and seed.
 fn fill_parents(kind: OtsKind, height: u32, id: &[u8; 16], seed: &[u8; 32], nodes: &mut [[u8; 32]])
     requires height { IsHeight height }
     requires count { length nodes.old ≡ 2 * 2 ^ height }

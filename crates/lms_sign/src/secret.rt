@@ -16,15 +16,18 @@ ghost use Rattle.std.specs.Prelude.{
 ghost use Rattle.lms_sign.specs.Height.{IsHeight};
 ghost use Rattle.lms_sign.specs.Secret.{public_of, signed_by};
 ghost use Rattle.lms_sign.specs.Signs.{Signs, index_in, lms_signature_len};
+ghost use Rattle.lms_sign.specs.inside.Leaves.{AreLeaves};
 
+use crate::leaves::{Leaf, blank_leaves, make_leaves, make_leaves_in};
 use crate::nodes::{leaf_count, nodes_of, write_path};
-use crate::public::{LmsPublic, lms_typecode};
+use crate::public::{LmsPublic, lms_typecode, signature_len};
 use lms_ots::{OtsKind, ots_sign_into, u32_bytes, write_at};
 use std::alloc::{AllocError, Global};
 use std::marker::Model;
+use std::thread::Threads;
 use thiserror::Error;
 
-/// Want of memory.
+/// Out of memory.
 pub type Memory = AllocError;
 
 /// Why a secret key doesn't sign.
@@ -46,8 +49,9 @@ impl From<AllocError> for SignFault {
     }
 }
 
-/// A secret key that signs with the indexes 0, 1, 2 and so on, each once. All nodes of its tree are
-/// kept from its making on. It can't be printed, so that its seed isn't printed by accident.
+/// A secret key that signs with the indexes 0, 1, 2 and so on, each once. It keeps all nodes of its
+/// tree, and checkpoints of its one-time keys, from which signing walks their chains. It can't be
+/// printed, so that its seed isn't printed by accident.
 #[derive(Drop)]
 pub struct LmsSecret {
     kind: OtsKind,
@@ -55,12 +59,14 @@ pub struct LmsSecret {
     id: [u8; 16],
     seed: [u8; 32],
     next: u32,
+    leaves: Vec<Leaf>,
     nodes: Vec<[u8; 32]>,
 }
 
 impl Model for LmsSecret {
     ghost use Rattle.std.specs.Prelude.{◌≡◌, ◌^◌, ◌≤◌, length};
     ghost use Rattle.lms_sign.specs.Height.{IsHeight};
+    ghost use Rattle.lms_sign.specs.inside.Leaves.{AreLeaves};
     ghost use Rattle.lms_sign.specs.inside.Nodes.{HoldsTree};
     ghost use Rattle.lms_sign.specs.Secret.{Secret};
 
@@ -70,7 +76,8 @@ impl Model for LmsSecret {
         record { kind = s.kind; height = s.height; id = s.id; seed = s.seed; next = s.next } };
 
     ghost invariant = { λ s. IsHeight s.height × (s.next ≤ 2 ^ s.height) × (length s.id ≡ 16)
-        × HoldsTree s.kind s.height s.id s.seed s.nodes.items };
+        × HoldsTree s.kind s.height s.id s.seed s.nodes.items
+        × AreLeaves s.kind s.height s.id s.seed s.leaves.items };
 }
 
 impl LmsSecret {
@@ -91,13 +98,108 @@ impl LmsSecret {
           next = 0;
         }) }
     {
-        let nodes = nodes_of(alloc, kind, height, &id, &seed)?;
+        LmsSecret::make_at(alloc, kind, height, id, seed, 0)
+    }
+
+    /// The key whose indexes before `next` are used up. `height` is 5 or 10.
+    pub fn make_at(
+        alloc: Global,
+        kind: OtsKind,
+        height: u32,
+        id: [u8; 16],
+        seed: [u8; 32],
+        next: u32,
+    ) -> Result<LmsSecret, Memory>
+        requires height { IsHeight height }
+        requires next { next ≤ 2 ^ height }
+        ensures { IfOk result (λ s. s ≡ record {
+          kind = kind;
+          height = height;
+          id = id;
+          seed = seed;
+          next = next;
+        }) }
+    {
+        let mut leaves = blank_leaves(alloc, kind, height)?;
+        make_leaves(kind, height, &id, &seed, leaves.as_mut_slice());
+        LmsSecret::of_leaves(alloc, kind, height, id, seed, next, leaves)
+    }
+
+    /// The key of `make`, whose leaves are made in threads.
+    pub fn make_in<R: Threads + Sync>(
+        rt: &R,
+        alloc: Global,
+        kind: OtsKind,
+        height: u32,
+        id: [u8; 16],
+        seed: [u8; 32],
+    ) -> Result<LmsSecret, Memory>
+        requires { IsHeight height }
+        ensures { IfOk result (λ s. s ≡ record {
+          kind = kind;
+          height = height;
+          id = id;
+          seed = seed;
+          next = 0;
+        }) }
+    {
+        LmsSecret::make_at_in(rt, alloc, kind, height, id, seed, 0)
+    }
+
+    /// The key of `make_at`, whose leaves are made in threads.
+    pub fn make_at_in<R: Threads + Sync>(
+        rt: &R,
+        alloc: Global,
+        kind: OtsKind,
+        height: u32,
+        id: [u8; 16],
+        seed: [u8; 32],
+        next: u32,
+    ) -> Result<LmsSecret, Memory>
+        requires height { IsHeight height }
+        requires next { next ≤ 2 ^ height }
+        ensures { IfOk result (λ s. s ≡ record {
+          kind = kind;
+          height = height;
+          id = id;
+          seed = seed;
+          next = next;
+        }) }
+    {
+        let mut leaves = blank_leaves(alloc, kind, height)?;
+        make_leaves_in(rt, kind, height, &id, &seed, leaves.as_mut_slice());
+        LmsSecret::of_leaves(alloc, kind, height, id, seed, next, leaves)
+    }
+
+    // The key of these leaves.
+    fn of_leaves(
+        alloc: Global,
+        kind: OtsKind,
+        height: u32,
+        id: [u8; 16],
+        seed: [u8; 32],
+        next: u32,
+        leaves: Vec<Leaf>,
+    ) -> Result<LmsSecret, Memory>
+        requires height { IsHeight height }
+        requires next { next ≤ 2 ^ height }
+        requires leaves { AreLeaves kind height id seed leaves.items }
+        ensures { IfOk result (λ s. s ≡ record {
+          kind = kind;
+          height = height;
+          id = id;
+          seed = seed;
+          next = next;
+        }) }
+    {
+        let nodes = nodes_of(alloc, kind, height, &id, &seed, &leaves)?;
         Ok(LmsSecret {
             kind,
             height,
             id,
             seed,
-            next: 0,
+            next,
+            leaves,
             nodes,
         })
     }
@@ -152,8 +254,7 @@ impl LmsSecret {
         if self.next == leaf_count(self.height) {
             return Err(SignFault::Spent);
         }
-        let len = 4 + self.kind.signature_len() + 4 + 32 * self.height as usize;
-        let mut signature = vec![in alloc; 0; len]?;
+        let mut signature = vec![in alloc; 0; signature_len(self.kind, self.height)]?;
         self.write_signature(&mut signature, message);
         Ok(signature)
     }
@@ -174,6 +275,7 @@ impl LmsSecret {
             self.next,
             &self.seed,
             message,
+            &self.leaves[self.next as usize].checkpoints,
         );
         write_at(signature, type_at, &u32_bytes(lms_typecode(self.height)));
         write_path(
