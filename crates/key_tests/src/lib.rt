@@ -1,9 +1,11 @@
-//! Tests of the public calls of `lms_ots`, `lms_sign` and `entry_format`. They stand in a crate of
-//! their own, so that what they test isn't proved once more with them.
+//! Tests of the public calls of `lms_ots`, `lms_sign`, `hss_sign` and `entry_format`. They stand in
+//! a crate of their own, so that what they test isn't proved once more with them.
 #![tactic(auto)]
 
 #[cfg(test)]
 mod entry_format_tests;
+#[cfg(test)]
+mod hss_sign_tests;
 #[cfg(test)]
 mod key_rows;
 #[cfg(test)]

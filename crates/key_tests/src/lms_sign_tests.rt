@@ -185,3 +185,32 @@ fn each_index_signs_its_own_message(rt: HostRuntime) -> Result<(), Fail> {
     );
     Ok(())
 }
+
+// The digest of the last signature of a key of 32 leaves, as another program makes it.
+const LAST: &str = "fb072b08a6cd0dfac88913551e61319d4c0fea76aaf05262dd4bd0fc45bc4d2f";
+
+#[test]
+fn a_key_is_made_at_any_index(rt: HostRuntime) -> Result<(), Fail> {
+    let alloc = rt.alloc();
+    let mut last = LmsSecret::make_at(alloc, OtsKind::W1, 5, ID, SEED, 31)?;
+    let signature = last.sign(alloc, b"ballot")?;
+    let mut text = String::new(alloc);
+    push_hex(&mut text, &Sha256::digest(&signature))?;
+    assert!(rt; text.ends_with(LAST) && last.is_spent());
+    let mut spent = LmsSecret::make_at(alloc, OtsKind::W1, 5, ID, SEED, 32)?;
+    assert!(rt; matches!(spent.sign(alloc, b"ballot"), Err(SignFault::Spent)));
+    Ok(())
+}
+
+#[test]
+fn a_key_made_in_threads_is_the_same(rt: HostRuntime) -> Result<(), Fail> {
+    let alloc = rt.alloc();
+    let made = LmsSecret::make(alloc, OtsKind::W4, 5, ID, SEED)?;
+    let in_threads = LmsSecret::make_in(&rt, alloc, OtsKind::W4, 5, ID, SEED)?;
+    assert!(rt; made.public().bytes() == in_threads.public().bytes());
+    let signature = made.signature(alloc, b"ballot")?;
+    assert!(rt; signature == in_threads.signature(alloc, b"ballot")?);
+    let at_one = LmsSecret::make_at_in(&rt, alloc, OtsKind::W4, 5, ID, SEED, 1)?;
+    assert!(rt; at_one.next() == 1 && at_one.public().bytes() == made.public().bytes());
+    Ok(())
+}

@@ -1,0 +1,5 @@
+pub mod Numbers
+pub mod Signed
+pub mod Keeping
+pub mod Verified
+pub mod Answered

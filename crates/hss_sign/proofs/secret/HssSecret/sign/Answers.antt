@@ -1,0 +1,145 @@
+use Rattle.std.proofs.Common.{◌≡◌, ◌+◌, ◌/◌, ◌^◌, ◌<◌, ◌≤◌, ◌∙◌, IfSome, List, ℕ, length, ap, arith, sym, subst}
+use Rattle.lms_sign.specs.Height.{IsHeight}
+use Rattle.hss_sign.specs.Signs.{HssSigns, leaves_in}
+use Rattle.hss_sign.specs.TwoLevels.{TwoLevelSecret, hss_public, hss_signed, top_tree}
+use Rattle.hss_sign.specs.declared.low_tree.LowTree.{LowTree}
+use Rattle.hss_sign.proofs.Keeping.{IsReady, advances, from_kept, from_made, ready_signs, stays, to_make}
+use Rattle.hss_sign.proofs.Numbers.{left_of}
+use Rattle.hss_sign.proofs.Signed.{leaves_named, signed_verifies}
+use Rattle.hss_sign.proofs.secret.HssSecret.sign.Goals as goal
+use Rattle.hss_sign.proofs.secret.HssSecret.sign.Goals.{in-Some, in-None+in_ok-key-in-None+in_ok-tree-in-None}
+
+-- the secret is as before
+same : (c : goal.After-self-2-1) → record {
+  kind = c.match-unspent.self-inside.kind;
+  top = c.match-unspent.self-inside.top;
+  low = c.match-unspent.self-inside.low;
+  id = c.match-unspent.self-inside.id;
+  seed = c.match-unspent.self-inside.seed;
+  next = c.match-unspent.self-inside.next;
+} ≡ c.args.self.now
+same c = elim c.match-unspent.branch [
+  | in-Some w ↦ rw w.self-inside-is c.self.view_is
+  | in-None+in_ok-key-in-None+in_ok-tree-in-None w ↦ rw w.self-inside-is c.self.view_is
+]
+
+-- the tree has a leaf for the message
+ready : (c : goal.After-self-2-1) → IsReady (record {
+  kind = c.match-unspent.self-inside.kind;
+  top = c.match-unspent.self-inside.top;
+  low = c.match-unspent.self-inside.low;
+  id = c.match-unspent.self-inside.id;
+  seed = c.match-unspent.self-inside.seed;
+  next = c.match-unspent.self-inside.next;
+}) c.match-unspent.self-inside.top_key c.match-unspent.tree
+ready c =
+    let x = c.self.inside in
+    let s : TwoLevelSecret = record {
+      kind = x.kind;
+      top = x.top;
+      low = x.low;
+      id = x.id;
+      seed = x.seed;
+      next = x.next;
+    } in
+    elim c.match-unspent.branch [
+      | in-Some w ↦ rw (w.self-inside-is, w.tree-is) (
+          from_kept s x.top_key x.tree w.in-Some.tree c.self.invariant.4
+          (sym c.take.ensures.value ∙ w.in-Some.ensures.some.0) w.in-Some.ensures.some.1)
+      | in-None+in_ok-key-in-None+in_ok-tree-in-None w ↦ (
+          let spent : IfSome x.tree (λ t. t.key.next ≡ 2 ^ t.key.height) =
+          rw c.take.ensures.value at w.in-None.ensures.none in
+          let at : x.top_key ≡ top_tree s (s.next / 2 ^ s.low) =
+          to_make s x.top_key x.tree c.self.invariant.1 c.self.invariant.4 spent in
+          let made = w.in_ok-tree-in-None.ensures in
+          rw (w.self-inside-is, w.tree-is) (
+          from_made s x.top_key w.make.new.top w.in_ok-key-in-None.key w.in_ok-tree-in-None.tree c.self.invariant.1
+          at w.in_ok-key-in-None.ensures made.key made.head made.next))
+    ]
+
+left : (c : goal.After-self-2-1) → c.args.self.now.next < 2 ^ (c.args.self.now.top + c.args.self.now.low)
+left c =
+    let most : c.args.self.now.next ≤ 2 ^ (c.args.self.now.top + c.args.self.now.low) =
+    subst (λ (v : TwoLevelSecret). v.next ≤ 2 ^ (v.top + v.low)) c.self.view_is c.self.invariant.2 in
+    left_of c.args.self.now.next (2 ^ (c.args.self.now.top + c.args.self.now.low)) c.is_spent.result
+    c.is_spent.ensures c.if-is_spent.false most
+
+pub invariant_of-self-2 : goal.invariant_of-self-2
+invariant_of-self-2 c =
+    let x = c.match-unspent.self-inside in
+    let s : TwoLevelSecret = record {
+      kind = x.kind;
+      top = x.top;
+      low = x.low;
+      id = x.id;
+      seed = x.seed;
+      next = x.next;
+    } in
+    let back = c.self.view_is ∙ sym (same c) in
+    let below = left c in (
+      subst (λ (v : TwoLevelSecret). IsHeight v.top) back c.self.invariant.0,
+      subst (λ (v : TwoLevelSecret). IsHeight v.low) back c.self.invariant.1,
+      subst (λ (v : TwoLevelSecret). v.next + 1 ≤ 2 ^ (v.top + v.low)) (sym (same c)) (omega (arith, below)),
+      subst (λ (v : TwoLevelSecret). length v.id ≡ 16) back c.self.invariant.3,
+      advances s x.top_key c.match-unspent.tree c.sign-answer.new.self (ready c) c.in_ok-signature.ensures.next
+          c.in_ok-signature.ensures.head,
+    )
+
+pub invariant_of-self-in_err-signature : goal.invariant_of-self-in_err-signature
+invariant_of-self-in_err-signature c =
+    let x = c.self.inside in
+    let keeps = c.self.invariant in
+    let s : TwoLevelSecret = record {
+      kind = x.kind;
+      top = x.top;
+      low = x.low;
+      id = x.id;
+      seed = x.seed;
+      next = x.next;
+    } in
+    let after = c.sign-answer.new.self in
+    elim c.match-unspent.branch [
+      | in-Some w ↦ rw w.self-inside-is (
+          let tree = w.in-Some.tree in
+          let key = c.in_err-signature.ensures.err ∙ ap (λ (t : LowTree). t.key) w.tree-is in
+          let head = c.in_err-signature.ensures.head ∙ ap (λ (t : LowTree). t.head) w.tree-is in
+          let is_ready = from_kept s x.top_key x.tree tree keeps.4
+          (sym c.take.ensures.value ∙ w.in-Some.ensures.some.0) w.in-Some.ensures.some.1 in
+          (keeps.0, keeps.1, keeps.2, keeps.3, stays s x.top_key tree after is_ready key head))
+      | in-None+in_ok-key-in-None+in_ok-tree-in-None w ↦ rw w.self-inside-is (
+          let tree = w.in_ok-tree-in-None.tree in
+          let key = c.in_err-signature.ensures.err ∙ ap (λ (t : LowTree). t.key) w.tree-is in
+          let head = c.in_err-signature.ensures.head ∙ ap (λ (t : LowTree). t.head) w.tree-is in
+          let spent : IfSome x.tree (λ t. t.key.next ≡ 2 ^ t.key.height) =
+          rw c.take.ensures.value at w.in-None.ensures.none in
+          let at : x.top_key ≡ top_tree s (s.next / 2 ^ s.low) = to_make s x.top_key x.tree keeps.1 keeps.4 spent in
+          let made = w.in_ok-tree-in-None.ensures in
+          let is_ready = from_made s x.top_key w.make.new.top w.in_ok-key-in-None.key tree keeps.1 at
+          w.in_ok-key-in-None.ensures made.key made.head made.next in
+          (keeps.0, keeps.1, keeps.2, keeps.3, stays s w.make.new.top tree after is_ready key head))
+    ]
+
+pub returns-clause-ok : goal.returns-clause-ok
+returns-clause-ok c =
+    let tree = c.match-unspent.tree in
+    let low : IsHeight c.args.self.now.low =
+    subst (λ (v : TwoLevelSecret). IsHeight v.low) c.self.view_is c.self.invariant.1 in
+    ready_signs c.args.self.now c.match-unspent.self-inside.top_key tree c.in_ok-signature.signature.items
+    c.args.message.now low
+    (subst (λ (v : TwoLevelSecret). IsReady v c.match-unspent.self-inside.top_key tree) (same c) (ready c))
+    c.in_ok-signature.ensures.ok
+
+pub returns-clause-signs : goal.returns-clause-signs
+returns-clause-signs c =
+    rw (returns-clause-ok c)
+    (signed_verifies c.args.self.now c.args.message.now
+    (subst (λ (v : TwoLevelSecret). IsHeight v.top) c.self.view_is c.self.invariant.0)
+    (subst (λ (v : TwoLevelSecret). IsHeight v.low) c.self.view_is c.self.invariant.1)
+    (subst (λ (v : TwoLevelSecret). length v.id ≡ 16) c.self.view_is c.self.invariant.3) (left c))
+
+pub returns-clause-leaves : goal.returns-clause-leaves
+returns-clause-leaves c =
+    rw (returns-clause-ok c)
+    (leaves_named c.args.self.now c.args.message.now
+    (subst (λ (v : TwoLevelSecret). IsHeight v.top) c.self.view_is c.self.invariant.0)
+    (subst (λ (v : TwoLevelSecret). IsHeight v.low) c.self.view_is c.self.invariant.1) (left c))

@@ -1,0 +1,4 @@
+pub mod TwoLevels
+pub mod Signs
+pub mod Calls
+pub mod inside
