@@ -13,10 +13,10 @@ use Rattle.rule_language.specs.declared.row.Row.{Row}
 use Rattle.rule_language.specs.declared.form.Form.{Form}
 use Rattle.rule_language.specs.declared.form.Form.TheVariants as form
 use Rattle.rule_language.specs.Trees.{Trees, no_trees, tree_then, RuleTree}
-use Rattle.rule_engine.specs.Kleene.{is_false}
-use Rattle.rule_engine.specs.Tests.{has_kind}
-use Rattle.rule_engine.specs.Meaning.{bind, unbound}
-use Rattle.rule_engine.specs.Values.{values, first_value}
+use Rattle.rule_meaning.specs.Kleene.{is_false}
+use Rattle.rule_meaning.specs.Tests.{has_kind}
+use Rattle.rule_meaning.specs.Meaning.{bind, unbound}
+use Rattle.rule_meaning.specs.Values.{values, first_value}
 use Rattle.rule_engine.specs.Verdicts.{first_false, and_then, broken_by, broken, IsVerdict, IsJudged}
 use Rattle.rule_engine.specs.declared.verdict.Verdict.{Verdict}
 use Rattle.rule_engine.specs.declared.verdict.Verdict.TheVariants.{Kept, Broken, Unsettled}

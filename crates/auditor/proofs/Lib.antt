@@ -5,3 +5,5 @@ pub mod Below
 pub mod Audited
 pub mod OneVerdict
 pub mod OneReport
+pub mod Lower
+pub mod PlainRules

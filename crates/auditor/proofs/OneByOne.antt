@@ -9,7 +9,8 @@ use Rattle.rule_language.specs.declared.formula.Rule.{Rule}
 use Rattle.rule_language.specs.declared.row.Row.{Row}
 use Rattle.rule_language.specs.Trees.{RuleTree}
 use Rattle.rule_language.specs.Forms.{rule_tree}
-use Rattle.rule_engine.specs.Verdicts.{IsJudged, is_too_wide}
+use Rattle.rule_meaning.specs.Widths.{is_too_wide}
+use Rattle.rule_engine.specs.Verdicts.{IsJudged}
 use Rattle.rule_engine.specs.declared.verdict.Verdict.{Verdict}
 use Rattle.rule_engine.specs.declared.verdict.JudgeFault.{JudgeFault}
 use Rattle.rule_engine.specs.declared.verdict.JudgeFault.TheVariants.{TooWide, Memory}

@@ -5,7 +5,8 @@ use Rattle.entry_graph.specs.EntryGraph.{EntryGraph, parents_of, ragged_of}
 use Rattle.precedence.specs.Graph.{Graph}
 use Rattle.rule_language.specs.declared.row.Row.{Row}
 use Rattle.rule_language.specs.Trees.{RuleTree}
-use Rattle.rule_engine.specs.Verdicts.{IsJudged, is_too_wide}
+use Rattle.rule_meaning.specs.Widths.{is_too_wide}
+use Rattle.rule_engine.specs.Verdicts.{IsJudged}
 use Rattle.rule_engine.specs.declared.verdict.Verdict.{Verdict}
 
 -- the survivors as the nodes of a graph

@@ -1,4 +1,5 @@
 pub mod Rows
+pub mod PlainRules
 pub mod Judged
 pub mod Report
 pub mod Outcomes

@@ -6,6 +6,7 @@ use Rattle.roster.specs.declared.post.Post.{Post}
 use Rattle.entry_format.specs.declared.deed.Deed.{Deed}
 use Rattle.entry_format.specs.declared.deed.Deed.TheVariants as deed
 use Rattle.entry_format.specs.declared.deed.How.TheVariants as how
+use Rattle.entry_format.specs.declared.entry.Entry.{Entry}
 use Rattle.entry_format.specs.SealedEntry.{SealedEntry}
 use Rattle.rule_language.specs.declared.kind.Kind.{Kind}
 use Rattle.rule_language.specs.declared.kind.Kind.TheVariants as kind
@@ -57,14 +58,18 @@ abbrev pub role_in : Option Post → Role
 role_in None = Booth
 role_in (Some post) = post.role
 
--- the row of an entry: what a rule sees of it
-abbrev pub row_of : List Post → SealedEntry → Row
-row_of machines sealed = record {
-  kind = kind_of sealed.entry.deed;
-  maker = sealed.entry.maker;
-  role = role_in (slice_get machines sealed.entry.maker);
-  number = sealed.entry.number;
-  session = session_of sealed.entry.deed;
-  ballot = ballot_of sealed.entry.deed;
-  booth = booth_of sealed.entry.deed;
+-- the row of an entry: what a rule sees of what it says
+abbrev pub row_said : List Post → Entry → Row
+row_said machines entry = record {
+  kind = kind_of entry.deed;
+  maker = entry.maker;
+  role = role_in (slice_get machines entry.maker);
+  number = entry.number;
+  session = session_of entry.deed;
+  ballot = ballot_of entry.deed;
+  booth = booth_of entry.deed;
 }
+
+-- the row of a sealed entry
+abbrev pub row_of : List Post → SealedEntry → Row
+row_of machines sealed = row_said machines sealed.entry

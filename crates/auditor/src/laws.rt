@@ -1,6 +1,7 @@
 //! Laws of audits, which hold of the definitions alone. Each is the contract of a function that does
 //! nothing.
 ghost use Rattle.auditor.specs.OneReport.{FilesGiveOneReport};
+ghost use Rattle.auditor.specs.PlainRules.{PlainRules};
 
 use evidence::{
     entries_give_one_graph, log_files_give_one_answer, roster_files_give_one_answer,
@@ -18,3 +19,9 @@ pub fn files_give_one_report()
     same_logs_keep_the_same_entries();
     entries_give_one_graph();
 }
+
+/// A rule that is known to be true of survivors holds in every completion of what they say, and one
+/// that is known to be false in none.
+pub fn plain_rules()
+    ensures { PlainRules }
+{}

@@ -12,7 +12,7 @@ mod row;
 
 pub use auditing::{RulesFrom, audit, audit_logs};
 pub use evidence::AuditFault;
-pub use laws::files_give_one_report;
+pub use laws::{files_give_one_report, plain_rules};
 pub use outcome::Outcome;
 pub use report::{Report, write_report};
 pub use row::rows;

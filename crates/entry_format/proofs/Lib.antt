@@ -5,3 +5,4 @@ pub mod Forms
 pub mod Keys
 pub mod Limits
 pub mod Unsealings
+pub mod Fillers

@@ -3,6 +3,7 @@ pub mod Deeds
 pub mod Reading
 pub mod Nodes
 pub mod SealedEntry
+pub mod Plains
 pub mod Sealing
 pub mod Unsealing
 pub mod inside

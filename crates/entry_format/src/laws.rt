@@ -1,7 +1,10 @@
-//! Laws about the texts of entries, which hold of the definitions alone. Each is the contract of a
+//! Laws about entries and their texts, which hold of the definitions alone. Each is the contract of a
 //! function that does nothing.
 ghost use Rattle.std.specs.Prelude.{◌≡◌, ℕ, List, Result};
+ghost use Rattle.entry_order.specs.Exact.{CompletionsExist, OrderIsExact};
 ghost use Rattle.entry_format.specs.EntryText.{IsSignedText};
+ghost use Rattle.entry_format.specs.Nodes.{node_of};
+ghost use Rattle.entry_format.specs.Plains.{PlainGraphs};
 ghost use Rattle.entry_format.specs.Reading.{Reads};
 ghost use Rattle.entry_format.specs.SealedEntry.{SealedEntry};
 ghost use Rattle.entry_format.specs.Unsealing.{Unseals};
@@ -29,4 +32,20 @@ pub fn one_unsealing_is_right()
         (answer other : Result SealedEntry EntryFault) →
         Unseals machines election text answer → Unseals machines election text other →
         answer ≡ other }
+{}
+
+/// Entries with different digests, whose makers are in the roster, have a completion.
+pub fn completions_exist()
+    ensures { CompletionsExist node_of }
+{}
+
+/// One of two survivors is known to precede the other exactly where it does in each completion, and
+/// is known not to exactly where it does in none.
+pub fn order_is_exact()
+    ensures { OrderIsExact node_of }
+{}
+
+/// A graph of sealed entries is one of what they say.
+pub fn plain_graphs()
+    ensures { PlainGraphs }
 {}

@@ -18,7 +18,10 @@ mod writing;
 
 pub use deed::{Deed, How};
 pub use entry::{Entry, Names};
-pub use laws::{one_reading_is_right, one_unsealing_is_right, texts_have_one_entry};
+pub use laws::{
+    completions_exist, one_reading_is_right, one_unsealing_is_right, order_is_exact, plain_graphs,
+    texts_have_one_entry,
+};
 pub use plain::{EntryFault, Plain, read_unsigned, read_unsigned_text};
 pub use reading::is_rising;
 pub use sealed::{Memory, Sealed};

@@ -16,6 +16,8 @@ pub mod MadePlays
 pub mod Strays
 pub mod Completions
 pub mod Settled
+pub mod Filled
+pub mod Images
 pub mod Machines
 pub mod Honest
 pub mod Made

@@ -18,7 +18,8 @@ use Rattle.entry_order.proofs.Completions.{before_in_completion, before_among_su
 use Rattle.entry_order.proofs.Places.{member_at, place_of}
 
 -- each passes, and the other way round
-list_all_each : {X : Type 0} (p : X → Bool) (xs : List X) → list_all p xs ≡ true → (x : X) → Contains xs x → p x ≡ true
+pub list_all_each : {X : Type 0} (p : X → Bool) (xs : List X) → list_all p xs ≡ true → (x : X) → Contains xs x →
+    p x ≡ true
 list_all_each p [] e x c = absurd (Contains-none x c)
 list_all_each p (z ∷ xs) e x c =
     let parts = and_parts (p z) (list_all p xs) e in
@@ -29,7 +30,7 @@ list_all_each p (z ∷ xs) e x c =
     ]
 
 -- where each passes, all do
-list_all_from_each : {X : Type 0} (p : X → Bool) (xs : List X) → ((x : X) → Contains xs x → p x ≡ true) →
+pub list_all_from_each : {X : Type 0} (p : X → Bool) (xs : List X) → ((x : X) → Contains xs x → p x ≡ true) →
     list_all p xs ≡ true
 list_all_from_each p [] each = refl
 list_all_from_each p (z ∷ xs) each =
@@ -38,7 +39,7 @@ list_all_from_each p (z ∷ xs) each =
 
 module _ (parents : ℕ → List ℕ) where
   -- what is reached is an ancestor
-  ancestor_from_reaches : (n y x : ℕ) → reaches parents n y x ≡ true → IsAncestor parents y x
+  pub ancestor_from_reaches : (n y x : ℕ) → reaches parents n y x ≡ true → IsAncestor parents y x
   ancestor_from_reaches zero y x e = absurd (true≢false (sym e))
   ancestor_from_reaches (suc n) y x e =
       let (z, arrow, test) = list_any_some (λ z. (z == y) || reaches parents n y z) (parents x) e in
@@ -50,7 +51,7 @@ module _ (parents : ℕ → List ℕ) where
 
   module _ (descends : Descends parents) where
     -- and an ancestor is reached within as many arrows as the place's number
-    reaches_from_walk : (n y x : ℕ) (zs : List ℕ) → x ≤ n → IsWalk parents x zs y → reaches parents n y x ≡ true
+    pub reaches_from_walk : (n y x : ℕ) (zs : List ℕ) → x ≤ n → IsWalk parents x zs y → reaches parents n y x ≡ true
     reaches_from_walk zero y x [] l w = absurd (let d = descends x y w in omega arith)
     reaches_from_walk zero y x (z ∷ zs) l w = absurd (let d = descends x z w.0 in omega arith)
     reaches_from_walk (suc n) y x [] l w =
@@ -63,17 +64,17 @@ module _ (parents : ℕ → List ℕ) where
 
     module _ (ragged : ℕ → Bool) where
       -- a whole place isn't ragged
-      clean_itself : (n x : ℕ) → is_whole parents ragged n x ≡ true → ragged x ≡ false
+      pub clean_itself : (n x : ℕ) → is_whole parents ragged n x ≡ true → ragged x ≡ false
       clean_itself zero x e = not-true (ragged x) e
       clean_itself (suc n) x e =
           not-true (ragged x) (and_parts (not (ragged x)) (list_all (λ z. is_whole parents ragged n z) (parents x)) e).0
 
       -- neither x nor an ancestor is ragged
-      abbrev IsClean : ℕ → Type 0
+      abbrev pub IsClean : ℕ → Type 0
       IsClean x = (ragged x ≡ false) × ((y : ℕ) → IsAncestor parents y x → ragged y ≡ false)
 
       -- nor is an ancestor of it
-      clean_ancestor : (n x : ℕ) → x ≤ n → is_whole parents ragged n x ≡ true → (y : ℕ) (zs : List ℕ) →
+      pub clean_ancestor : (n x : ℕ) → x ≤ n → is_whole parents ragged n x ≡ true → (y : ℕ) (zs : List ℕ) →
           IsWalk parents x zs y → ragged y ≡ false
       clean_ancestor zero x l e y [] w = absurd (let d = descends x y w in omega arith)
       clean_ancestor zero x l e y (z ∷ zs) w = absurd (let d = descends x z w.0 in omega arith)
@@ -87,7 +88,7 @@ module _ (parents : ℕ → List ℕ) where
           (list_all_each (λ z. is_whole parents ragged n z) (parents x) parts.1 z arrow) y zs walk
 
       -- and where none is, the place is whole
-      is_whole_from_clean : (n x : ℕ) → IsClean x → is_whole parents ragged n x ≡ true
+      pub is_whole_from_clean : (n x : ℕ) → IsClean x → is_whole parents ragged n x ≡ true
       is_whole_from_clean zero x (not_ragged, _) = not_from_false (ragged x) not_ragged
       is_whole_from_clean (suc n) x (not_ragged, none_above) =
           and_from (not (ragged x)) (list_all (λ z. is_whole parents ragged n z) (parents x))
@@ -98,7 +99,7 @@ module _ (parents : ℕ → List ℕ) where
 -- ---- places and entries
 
 -- a walk with one arrow more at its far end
-walk_on : (parents : ℕ → List ℕ) (x : ℕ) (zs : List ℕ) (y z : ℕ) → IsWalk parents x zs y → Contains (parents y) z →
+pub walk_on : (parents : ℕ → List ℕ) (x : ℕ) (zs : List ℕ) (y z : ℕ) → IsWalk parents x zs y → Contains (parents y) z →
     IsWalk parents x (zs ++ y ∷ []) z
 walk_on parents x [] y z w c = (w, c)
 walk_on parents x (v ∷ zs) y z w c = (w.0, walk_on parents v zs y z w.1 c)

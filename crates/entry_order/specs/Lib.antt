@@ -11,6 +11,7 @@ pub mod Survivors
 pub mod Completion
 pub mod Ancestors
 pub mod Settled
+pub mod Exact
 pub mod Honest
 pub mod Merged
 pub mod Made

@@ -1,0 +1,42 @@
+-- Entries that go by stamp and then digest: what they say stands at one place each.
+use Rattle.std.proofs.Common.{◌≡◌, ◌∙◌, ℕ, ◌<◌, List, sym, ap, subst, Some, inl, inr, arith}
+use Rattle.std.specs.Prelude.{slice_get}
+use Rattle.std.proofs.Common.{get_or}
+use Rattle.std.specs.List.{AllPairs}
+use Rattle.std.specs.Ordering.{is_eq}
+use Rattle.std.proofs.lemmas.Bool.{false≢true}
+use Rattle.std.proofs.lemmas.Option.{slice_get_within, get_or_from_slice_get}
+use Rattle.std.proofs.lemmas.Slice.Eq.{bytes_eq-Decides}
+use Rattle.std.proofs.lemmas.Map.Text.{is_eq-slice_cmp}
+use Rattle.entry_order.specs.Node.{Node}
+use Rattle.entry_format.specs.declared.plain.Plain.{Plain}
+use Rattle.entry_format.specs.SealedEntry.{SealedEntry}
+use Rattle.entry_format.specs.Nodes.{node_of, node_of_sealed}
+use Rattle.entry_graph.specs.EntryGraph.{IsLower}
+use Rattle.rule_meaning.specs.Sound.{HasNoDouble}
+use Rattle.entry_format.specs.Plains.{plain_of, plains}
+use Rattle.entry_order.proofs.Images.{at_image}
+
+-- nothing is lower than itself
+not_lower : (x z : SealedEntry) → node_of_sealed x ≡ node_of_sealed z → IsLower node_of_sealed x z → ⊥
+not_lower x z same (inl less) = let stamps = ap (λ (n : Node). n.stamp) same in omega (arith, less, stamps)
+not_lower x z same (inr (_, less)) =
+    let digests : x.digest ≡ z.digest = ap (λ (n : Node). n.digest) same in
+    false≢true (sym (ap is_eq less) ∙ is_eq-slice_cmp x.digest z.digest ∙ (bytes_eq-Decides x.digest z.digest).1 digests)
+
+-- two places in that order have different ones
+apart : (S : List SealedEntry) → AllPairs (IsLower node_of_sealed) S → (i j : ℕ) (e : Plain)
+    → slice_get (plains S) i ≡ Some e → slice_get (plains S) j ≡ Some e → i < j → ⊥
+apart S lower i j e at_i at_j less =
+    let (x, is_x, to_e) = at_image plain_of S i e at_i in
+    let (z, is_z, also) = at_image plain_of S j e at_j in
+    let pair = lower i j x less (slice_get_within S j z is_z) in
+    let up = subst (λ f. IsLower node_of_sealed f z) (get_or_from_slice_get S i x x is_x)
+    (subst (λ f. IsLower node_of_sealed (get_or S i x) f) (get_or_from_slice_get S j z x is_z) pair) in
+    not_lower x z (ap node_of (to_e ∙ sym also)) up
+
+pub no_double : (S : List SealedEntry) → AllPairs (IsLower node_of_sealed) S → HasNoDouble (plains S)
+no_double S lower i j e at_i at_j =
+    let this = apart S lower i j e at_i at_j in
+    let that = apart S lower j i e at_j at_i in
+    omega (arith, this, that)
