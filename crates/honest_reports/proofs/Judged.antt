@@ -14,9 +14,9 @@ use Rattle.rule_language.specs.declared.row.Row.{Row}
 use Rattle.rule_language.specs.Trees.{RuleTree}
 use Rattle.rule_engine.specs.declared.verdict.Verdict.{Verdict}
 use Rattle.rule_engine.specs.declared.verdict.Verdict.TheVariants as verdict
-use Rattle.rule_engine.specs.Values.{three_in}
+use Rattle.rule_meaning.specs.Values.{three_in}
 use Rattle.rule_engine.specs.Verdicts.{IsJudged}
-use Rattle.rule_engine.proofs.Unknowns.{unknown_only_by_gaps}
+use Rattle.rule_meaning.proofs.Unknowns.{unknown_only_by_gaps}
 use Rattle.auditor.specs.declared.outcome.Outcome.TheVariants as outcome
 use Rattle.auditor.specs.Judged.{AreJudged, nodes_of}
 use Rattle.auditor.specs.Outcomes.{has_finding, is_broken, is_unsettled, outcome_by, outcome_of}

@@ -15,7 +15,7 @@ use Rattle.rule_language.specs.Trees.{RuleTree}
 use Rattle.rule_language.specs.Standard.{standard_rules}
 use Rattle.rule_engine.specs.declared.verdict.Verdict.{Verdict}
 use Rattle.rule_engine.specs.declared.verdict.Verdict.TheVariants as verdict
-use Rattle.rule_engine.specs.Values.{three_in}
+use Rattle.rule_meaning.specs.Values.{three_in}
 use Rattle.polling_world.specs.Making.{election_of}
 use Rattle.evidence.specs.Graphs.{entries_of}
 use Rattle.evidence.specs.Logs.{GivesLogs}

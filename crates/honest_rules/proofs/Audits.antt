@@ -5,9 +5,9 @@ use Rattle.entry_order.specs.declared.three.Three.{Three}
 use Rattle.entry_order.specs.declared.three.Three.TheVariants.{False, Unknown, True}
 use Rattle.entry_order.specs.World.{sent_in}
 use Rattle.entry_order.proofs.Honest.{honest_entries_agree_in_orderly_worlds}
-use Rattle.rule_engine.specs.Values.{three_in}
-use Rattle.rule_engine.proofs.Sounds.{rules_are_settled}
-use Rattle.rule_engine.proofs.Unknowns.{unknown_only_by_gaps}
+use Rattle.rule_meaning.specs.Values.{three_in}
+use Rattle.rule_meaning.proofs.Sounds.{rules_are_settled}
+use Rattle.rule_meaning.proofs.Unknowns.{unknown_only_by_gaps}
 use Rattle.auditor.specs.Rows.{row_of}
 use Rattle.honest_rules.specs.Kept.{HonestAuditsNeverSayBroken, HonestAuditsSayKept}
 use Rattle.honest_rules.proofs.Standard.{honest_entries_keep_the_rules}

@@ -23,8 +23,8 @@ use Rattle.rule_language.specs.declared.kind.Kind.TheVariants as kind
 use Rattle.rule_language.specs.Trees.{Trees}
 use Rattle.rule_language.specs.Standard.{a1_body, c1_body, c2_body, c3_body, c4_body, c5_body, c6_body, c7_body}
 use Rattle.rule_language.specs.Standard.{v2_body, v3_body, p4_body}
-use Rattle.rule_engine.specs.Meaning.{Holds as Says}
-use Rattle.rule_engine.specs.Tests.{is_kind}
+use Rattle.rule_meaning.specs.Meaning.{Holds as Says}
+use Rattle.rule_meaning.specs.Tests.{is_kind}
 use Rattle.auditor.specs.Rows.{row_of, kind_of, session_of, ballot_of, booth_of}
 use Rattle.honest_rules.specs.Honest.{IsHonest}
 use Rattle.honest_rules.specs.Kept.{WereSentIn}

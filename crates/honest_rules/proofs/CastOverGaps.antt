@@ -17,7 +17,7 @@ use Rattle.booth_core.specs.declared.state.BoothNot.TheVariants.{LogNotWhole}
 use Rattle.polling_world.specs.declared.left.LeftWhy.TheVariants.{BoothNot}
 use Rattle.entangled_log.specs.Whole.{NamesOnlyHeld}
 use Rattle.rule_language.specs.Standard.{v2_body}
-use Rattle.rule_engine.specs.Meaning.{Holds}
+use Rattle.rule_meaning.specs.Meaning.{Holds}
 use Rattle.auditor.specs.Rows.{row_of}
 use Rattle.honest_rules.specs.Honest.{role_at}
 use Rattle.honest_rules.specs.InSpite.{MayInSpiteOf, IsHonestBut, FailsAtSome}

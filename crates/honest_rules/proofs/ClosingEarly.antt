@@ -16,8 +16,8 @@ use Rattle.supervisor_core.specs.declared.state.SupervisorNot.TheVariants.{Sessi
 use Rattle.polling_world.specs.declared.left.LeftWhy.TheVariants.{SupervisorNot}
 use Rattle.rule_language.specs.declared.kind.Kind.TheVariants as kind
 use Rattle.rule_language.specs.Standard.{p3_body}
-use Rattle.rule_engine.specs.Meaning.{Holds}
-use Rattle.rule_engine.specs.Tests.{is_kind}
+use Rattle.rule_meaning.specs.Meaning.{Holds}
+use Rattle.rule_meaning.specs.Tests.{is_kind}
 use Rattle.auditor.specs.Rows.{row_of, kind_of}
 use Rattle.honest_rules.specs.Honest.{role_at}
 use Rattle.honest_rules.specs.InSpite.{MayInSpiteOf, IsHonestBut, FailsAtSome}

@@ -10,7 +10,7 @@ use Rattle.roster.specs.declared.post.Role.{Role}
 use Rattle.roster.specs.declared.post.Role.TheVariants.{Supervisor, Booth}
 use Rattle.rule_language.specs.declared.kind.Kind.{Kind}
 use Rattle.rule_language.specs.declared.kind.Kind.TheVariants as kind
-use Rattle.rule_engine.specs.Tests.{is_kind}
+use Rattle.rule_meaning.specs.Tests.{is_kind}
 use Rattle.auditor.specs.Rows.{kind_of, session_of, ballot_of, booth_of}
 
 -- the deed of a kind that has the session, the ballot and the booth of d

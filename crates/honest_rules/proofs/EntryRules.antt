@@ -28,8 +28,8 @@ use Rattle.roster.specs.declared.post.Role.TheVariants.{Supervisor, Booth}
 use Rattle.rule_language.specs.declared.kind.Kind.TheVariants as kind
 use Rattle.rule_language.specs.Trees.{Trees}
 use Rattle.rule_language.specs.Standard.{m1_body, k1_body, k2_body}
-use Rattle.rule_engine.specs.Meaning.{Holds, SomeHolds}
-use Rattle.rule_engine.specs.Tests.{is_kind, is_role}
+use Rattle.rule_meaning.specs.Meaning.{Holds, SomeHolds}
+use Rattle.rule_meaning.specs.Tests.{is_kind, is_role}
 use Rattle.auditor.specs.Rows.{row_of, kind_of}
 use Rattle.honest_rules.specs.Honest.{IsHonest, role_at}
 use Rattle.honest_rules.specs.Kept.{WereSentIn}

@@ -15,7 +15,7 @@ use Rattle.entry_order.proofs.Plays.{IsNew-from_test}
 use Rattle.roster.specs.declared.post.Post.{Post}
 use Rattle.roster.specs.declared.post.Role.TheVariants.{Supervisor, Booth}
 use Rattle.rule_language.specs.Standard.{k2_body}
-use Rattle.rule_engine.specs.Meaning.{Holds}
+use Rattle.rule_meaning.specs.Meaning.{Holds}
 use Rattle.auditor.specs.Rows.{row_of}
 use Rattle.honest_rules.specs.Honest.{MayAs, role_at}
 use Rattle.honest_rules.specs.InSpite.{FailsAtSome}

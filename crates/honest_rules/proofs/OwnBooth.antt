@@ -10,7 +10,7 @@ use Rattle.entry_order.specs.declared.step.Step.TheVariants.{Act, Hear}
 use Rattle.entry_order.specs.World.{World, history, sent_in}
 use Rattle.roster.specs.declared.post.Post.{Post}
 use Rattle.roster.specs.declared.post.Role.TheVariants.{Supervisor, Booth}
-use Rattle.rule_engine.specs.Meaning.{Holds}
+use Rattle.rule_meaning.specs.Meaning.{Holds}
 use Rattle.auditor.specs.Rows.{row_of}
 use Rattle.honest_rules.specs.Honest.{IsHonest, MayAs, role_at}
 use Rattle.honest_rules.specs.InSpite.{FailsAtSome, own_booth}

@@ -6,7 +6,7 @@ use Rattle.entry_format.specs.Nodes.{node_of_sealed}
 use Rattle.entry_order.specs.World.{sent_in}
 use Rattle.rule_language.specs.Trees.{RuleTree}
 use Rattle.rule_language.specs.Standard.{standard_rules}
-use Rattle.rule_engine.specs.Meaning.{Holds}
+use Rattle.rule_meaning.specs.Meaning.{Holds}
 use Rattle.auditor.specs.Rows.{row_of}
 use Rattle.honest_rules.specs.Kept.{HonestEntriesKeepTheRules}
 use Rattle.honest_rules.proofs.SupervisorRules as supervisor

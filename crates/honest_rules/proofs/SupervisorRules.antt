@@ -22,8 +22,8 @@ use Rattle.deed_history.proofs.Deciding.{commits, commits_decides, ends, ends_de
 use Rattle.rule_language.specs.declared.kind.Kind.TheVariants as kind
 use Rattle.rule_language.specs.Trees.{Trees}
 use Rattle.rule_language.specs.Standard.{o1_body, o2_body, a2_body, p1_body, p2_body, p3_body, v1_body, v4_body}
-use Rattle.rule_engine.specs.Meaning.{Holds}
-use Rattle.rule_engine.specs.Tests.{is_kind}
+use Rattle.rule_meaning.specs.Meaning.{Holds}
+use Rattle.rule_meaning.specs.Tests.{is_kind}
 use Rattle.auditor.specs.Rows.{row_of, role_in, kind_of, session_of, booth_of}
 use Rattle.honest_rules.specs.Honest.{IsHonest, role_at}
 use Rattle.honest_rules.specs.Kept.{WereSentIn}

@@ -10,9 +10,9 @@ use Rattle.entry_order.specs.World.{World, sent_in}
 use Rattle.roster.specs.declared.post.Post.{Post}
 use Rattle.rule_language.specs.Trees.{RuleTree}
 use Rattle.rule_language.specs.Standard.{standard_rules}
-use Rattle.rule_engine.specs.Meaning.{Holds}
-use Rattle.rule_engine.specs.Sound.{HasNoDouble}
-use Rattle.rule_engine.specs.Values.{three_in}
+use Rattle.rule_meaning.specs.Meaning.{Holds}
+use Rattle.rule_meaning.specs.Sound.{HasNoDouble}
+use Rattle.rule_meaning.specs.Values.{three_in}
 use Rattle.auditor.specs.Rows.{row_of}
 use Rattle.honest_rules.specs.Honest.{IsHonest}
 

@@ -14,16 +14,16 @@ use Rattle.rule_language.specs.declared.kind.Kind.{Kind}
 use Rattle.rule_language.specs.declared.kind.Kind.TheVariants as kinds
 use Rattle.rule_language.specs.declared.formula.Formula.{Formula}
 use Rattle.rule_engine.specs.declared.index.Key.{Key}
-use Rattle.rule_engine.specs.Kleene.{both, as_three, is_false}
-use Rattle.rule_engine.specs.Tests.{is_kind, has_kind}
-use Rattle.rule_engine.specs.Meaning.{bind}
-use Rattle.rule_engine.specs.inside.Judging.{signed, value_of, is_in, over_from, over_rows, if_meant}
+use Rattle.rule_meaning.specs.Kleene.{both, as_three, is_false}
+use Rattle.rule_meaning.specs.Tests.{is_kind, has_kind}
+use Rattle.rule_meaning.specs.Meaning.{bind}
+use Rattle.rule_meaning.specs.Judging.{signed, value_of, is_in, over_from, over_rows, if_meant}
 use Rattle.rule_engine.specs.inside.Bucket.{IsBucketFor}
 use Rattle.rule_engine.specs.declared.quantifier.Quantifier.{Quantifier}
 use Rattle.rule_engine.specs.declared.quantifier.Bucket.{Bucket}
 use Rattle.rule_engine.specs.inside.Index.{rank, number_in, first_in, IsFirst, HoldsFrom}
 use Rattle.rule_engine.proofs.Wants.{signed_true, false_is}
-use Rattle.rule_engine.proofs.Judges.{both_true, over_step}
+use Rattle.rule_meaning.proofs.Judges.{both_true, over_step}
 
 -- finds that are the same are of one row
 same_row : (a b : Row) → Some a ≡ Some b → a ≡ b
@@ -213,7 +213,7 @@ module _ (rows : List Row) (order : ℕ → ℕ → Three) (wholes : ℕ → Boo
       ap (λ (b : Bool). cond (b && is_in order within j) (signed some (value j)) True)
       (ap (has_kind kind) is ∙ other_kind kind row.kind any apart)
 
-  -- the least so far and the rest is the least with the row, and the rest behind it
+  -- the least so far and the rest is the least with the row, and the rest after it
   pub step_at : (i : ℕ) (acc : Three) → i < length rows → both acc (rest i) ≡ both (both acc (at i)) (rest (i + 1))
   step_at i acc inside =
       over_step rows order wholes env some body v kind within i acc
@@ -225,7 +225,7 @@ module _ (rows : List Row) (order : ℕ → ℕ → Three) (wholes : ℕ → Boo
       by true = refl
       by false = sym (both_true acc)
 
-  -- behind the last row nothing is left
+  -- after the last row nothing is left
   pub no_rest : (i : ℕ) → length rows ≤ i → rest i ≡ True
   no_rest i over =
       let none : length rows - i ≡ 0 = omega (arith, over) in
@@ -310,7 +310,7 @@ module _ (rows : List Row) (order : ℕ → ℕ → Three) (wholes : ℕ → Boo
         first.here,
       )
 
-  -- behind a row of the bucket the least goes on at the next one in it
+  -- after a row of the bucket the least goes on at the next one in it
   pub bucket_goes_on : (i next : ℕ) → i < length rows → next ≡ slice_index_or bucket.index.now.nexts.items i 0 →
       IsInside i → (i < next) × (left (i + 1) ≡ left next) × IsInside next
   bucket_goes_on i next inside is here = elim (slice_get_cases rows i).1 [

@@ -1,5 +1,5 @@
 -- What is answered of a rule.
-use Rattle.std.specs.Prelude.{◌≡◌, ℕ, ◌*◌, Bool, true, false, ◌&&◌, ◌||◌, nat_lt, List, [], ◌∷◌, length, count_by, find}
+use Rattle.std.specs.Prelude.{◌≡◌, ℕ, Bool, true, false, ◌&&◌, List, [], ◌∷◌, length, find}
 use Rattle.std.specs.Prelude.{Option, Some, None, slice_get, Result, Ok, Err}
 use Rattle.std.specs.List.{range_with_len}
 use Rattle.entry_order.specs.declared.three.Three.{Three}
@@ -9,12 +9,13 @@ use Rattle.precedence.specs.Graph.{Graph}
 use Rattle.rule_language.specs.declared.row.Row.{Row}
 use Rattle.rule_language.specs.declared.kind.Kind.{Kind}
 use Rattle.rule_language.specs.declared.form.Form.{Form}
-use Rattle.rule_language.specs.declared.form.Form.TheVariants.{ForEvery, ForSome, EveryBefore, SomeBefore}
+use Rattle.rule_language.specs.declared.form.Form.TheVariants.{ForEvery}
 use Rattle.rule_language.specs.Trees.{Trees, no_trees, tree_then}
-use Rattle.rule_engine.specs.Kleene.{is_false}
-use Rattle.rule_engine.specs.Tests.{has_kind}
-use Rattle.rule_engine.specs.Meaning.{bind, unbound}
-use Rattle.rule_engine.specs.Values.{values, first_value, three}
+use Rattle.rule_meaning.specs.Kleene.{is_false}
+use Rattle.rule_meaning.specs.Tests.{has_kind}
+use Rattle.rule_meaning.specs.Meaning.{bind, unbound}
+use Rattle.rule_meaning.specs.Values.{values, first_value, three}
+use Rattle.rule_meaning.specs.Widths.{is_too_wide}
 use Rattle.rule_engine.specs.declared.verdict.Verdict.{Verdict}
 use Rattle.rule_engine.specs.declared.verdict.Verdict.TheVariants.{Kept, Broken, Unsettled}
 use Rattle.rule_engine.specs.declared.verdict.JudgeFault.{JudgeFault}
@@ -25,7 +26,7 @@ module _ (rows : List Row) (order : ℕ → ℕ → Three) (wholes : ℕ → Boo
   abbrev pub first_false : Kind → (ℕ → Three) → ℕ → ℕ → Option ℕ
   first_false kind value i n = find (λ j. has_kind kind (slice_get rows j) && is_false (value j)) (range_with_len i n)
 
-  -- that row, and what is put behind it
+  -- that row, and what follows it
   abbrev pub and_then : Option ℕ → (ℕ → List ℕ) → List ℕ
   and_then None deeper = []
   and_then (Some i) deeper = i ∷ deeper i
@@ -47,34 +48,6 @@ module _ (rows : List Row) (order : ℕ → ℕ → Three) (wholes : ℕ → Boo
   IsVerdict rule Kept = three rows order wholes rule ≡ known.True
   IsVerdict rule (Broken places) = (three rows order wholes rule ≡ known.False) × (places.items ≡ broken rule unbound)
   IsVerdict rule Unsettled = three rows order wholes rule ≡ known.Unknown
-
--- how many rows are of the kind
-abbrev pub count_of_rows : List Row → Kind → ℕ
-count_of_rows rows kind = count_by (λ row. has_kind kind (Some row)) rows
-
--- the kind that a quantifier goes over
-abbrev pub quantified_kind : Form → Option Kind
-quantified_kind (ForEvery v kind) = Some kind
-quantified_kind (ForSome v kind) = Some kind
-quantified_kind (EveryBefore v kind u) = Some kind
-quantified_kind (SomeBefore v kind u) = Some kind
-quantified_kind form = None
-
--- the width, or the width with one quantifier more, is too great, or that of what stands inside
-abbrev pub widens_by : List Row → Option Kind → (ℕ → Bool) → ℕ → Bool
-widens_by rows None inside width = inside width
-widens_by rows (Some kind) inside width =
-    nat_lt 268435456 (width * count_of_rows rows kind) || inside (width * count_of_rows rows kind)
-
--- whether some quantifier is too wide, where the formulas stand in quantifiers of this width
-abbrev pub is_too_wide : List Row → Trees → ℕ → Bool
-is_too_wide rows no_trees width = false
-is_too_wide rows (tree_then form parts rest) width =
-    widens_by rows (quantified_kind form) (is_too_wide rows parts) width || is_too_wide rows rest width
-
--- the same of a quantifier over the kind with this body
-abbrev pub widens : List Row → Kind → Trees → ℕ → Bool
-widens rows kind body width = widens_by rows (Some kind) (is_too_wide rows body) width
 
 -- a rule that isn't too wide has its verdict, and one that is too wide is refused as such
 abbrev pub IsJudgeAnswer : List Row → (ℕ → ℕ → Three) → (ℕ → Bool) → Trees → Result Verdict JudgeFault → Type 0

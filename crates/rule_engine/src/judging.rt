@@ -1,10 +1,9 @@
 //! The value of a formula, by recursion over the rows.
 ghost use Rattle.std.specs.Prelude.{◌≡◌, ◌<◌, length, IfSome};
 ghost use Rattle.precedence.specs.Known.{known_before, known_count, known_whole};
-ghost use Rattle.rule_engine.specs.Kleene.{either, opposite};
-ghost use Rattle.rule_engine.specs.Tests.{value_of as term_value};
-ghost use Rattle.rule_engine.specs.Values.{order_of, row_at};
-ghost use Rattle.rule_engine.specs.inside.Judging.{
+ghost use Rattle.rule_meaning.specs.Kleene.{either, opposite};
+ghost use Rattle.rule_meaning.specs.Values.{order_of};
+ghost use Rattle.rule_meaning.specs.Judging.{
   value_of,
   over,
   over_rows,
@@ -14,22 +13,23 @@ ghost use Rattle.rule_engine.specs.inside.Judging.{
 };
 ghost use Rattle.rule_engine.specs.inside.Bucket.{IsBucketFor};
 ghost use Rattle.rule_engine.specs.inside.Index.{AreIndexesOf};
-ghost use Rattle.rule_engine.specs.inside.Scopes.{IsWithin, env_of};
+ghost use Rattle.rule_meaning.specs.Scopes.{BindsRows, env_of};
 
-use crate::atoms::{Value, are_equal, field_of, has_kind, has_role, is_less, is_next, same_place};
-use crate::kleene::{as_three, both, either, is_false, opposite, signed};
 use crate::quantifier::{Bucket, Quantifier, bucket_for, is_meant, quantifier_over};
-use crate::scope::Scope;
 use crate::survivors::Survivors;
 use entry_order::Three;
 use precedence::Rows;
-use rule_language::{Formula, Row, Term};
+use rule_language::Formula;
+use rule_meaning::atoms::{are_equal, has_kind, has_role, is_less, is_next, same_place};
+use rule_meaning::kleene::{as_three, both, either, is_false, opposite, signed};
+use rule_meaning::scope::Scope;
+use rule_meaning::terms::{row_at, term_value};
 
 /// The value of the formula where the variables of the scope are bound.
 #[cycle(judging)]
 pub(crate) fn value(formula: &Formula, scope: &Scope<'_>, survivors: &Survivors<'_>) -> Three
     requires same { length survivors.now.rows.now ≡ known_count survivors.now.order.now }
-    requires within { IsWithin (length survivors.now.rows.now) scope.now }
+    requires within { BindsRows (length survivors.now.rows.now) scope.now }
     requires indexed { AreIndexesOf survivors.now.rows.now survivors.now.indexes }
     ensures { result ≡ value_of survivors.now.rows.now (known_before survivors.now.order.now)
         (known_whole survivors.now.order.now) formula.now (env_of scope.now) }
@@ -84,7 +84,7 @@ pub(crate) fn value(formula: &Formula, scope: &Scope<'_>, survivors: &Survivors<
 #[cycle(judging)]
 fn implied(first: Three, second: &Formula, scope: &Scope<'_>, survivors: &Survivors<'_>) -> Three
     requires same { length survivors.now.rows.now ≡ known_count survivors.now.order.now }
-    requires within { IsWithin (length survivors.now.rows.now) scope.now }
+    requires within { BindsRows (length survivors.now.rows.now) scope.now }
     requires indexed { AreIndexesOf survivors.now.rows.now survivors.now.indexes }
     ensures { result ≡ either (opposite first) (value_of survivors.now.rows.now
         (known_before survivors.now.order.now) (known_whole survivors.now.order.now) second.now (env_of scope.now)) }
@@ -100,7 +100,7 @@ fn implied(first: Three, second: &Formula, scope: &Scope<'_>, survivors: &Surviv
 #[cycle(judging)]
 fn over(some: bool, parts: &[Formula], scope: &Scope<'_>, survivors: &Survivors<'_>) -> Three
     requires same { length survivors.now.rows.now ≡ known_count survivors.now.order.now }
-    requires within { IsWithin (length survivors.now.rows.now) scope.now }
+    requires within { BindsRows (length survivors.now.rows.now) scope.now }
     requires indexed { AreIndexesOf survivors.now.rows.now survivors.now.indexes }
     ensures { result ≡ over survivors.now.rows.now (known_before survivors.now.order.now)
         (known_whole survivors.now.order.now) some parts.now (env_of scope.now) }
@@ -124,7 +124,7 @@ fn over_rows(
     survivors: &Survivors<'_>,
 ) -> Three
     requires same { length survivors.now.rows.now ≡ known_count survivors.now.order.now }
-    requires within { IsWithin (length survivors.now.rows.now) scope.now }
+    requires within { BindsRows (length survivors.now.rows.now) scope.now }
     requires indexed { AreIndexesOf survivors.now.rows.now survivors.now.indexes }
     requires node { IfSome quantifier.within (λ u. u < length survivors.now.rows.now) }
     ensures { result ≡ over_rows survivors.now.rows.now (known_before survivors.now.order.now)
@@ -147,7 +147,7 @@ fn over_bucket(
     survivors: &Survivors<'_>,
 ) -> Three
     requires same { length survivors.now.rows.now ≡ known_count survivors.now.order.now }
-    requires within { IsWithin (length survivors.now.rows.now) scope.now }
+    requires within { BindsRows (length survivors.now.rows.now) scope.now }
     requires indexed { AreIndexesOf survivors.now.rows.now survivors.now.indexes }
     requires node { IfSome quantifier.within (λ u. u < length survivors.now.rows.now) }
     requires bucket { IsBucketFor survivors.now.rows.now (known_before survivors.now.order.now)
@@ -177,7 +177,7 @@ fn over_each(
     survivors: &Survivors<'_>,
 ) -> Three
     requires same { length survivors.now.rows.now ≡ known_count survivors.now.order.now }
-    requires within { IsWithin (length survivors.now.rows.now) scope.now }
+    requires within { BindsRows (length survivors.now.rows.now) scope.now }
     requires indexed { AreIndexesOf survivors.now.rows.now survivors.now.indexes }
     requires node { IfSome quantifier.within (λ u. u < length survivors.now.rows.now) }
     ensures { result ≡ over_rows survivors.now.rows.now (known_before survivors.now.order.now)
@@ -204,7 +204,7 @@ fn value_at(
     survivors: &Survivors<'_>,
 ) -> Three
     requires same { length survivors.now.rows.now ≡ known_count survivors.now.order.now }
-    requires within { IsWithin (length survivors.now.rows.now) scope.now }
+    requires within { BindsRows (length survivors.now.rows.now) scope.now }
     requires indexed { AreIndexesOf survivors.now.rows.now survivors.now.indexes }
     requires node { IfSome quantifier.within (λ u. u < length survivors.now.rows.now) }
     requires row { i < length survivors.now.rows.now }
@@ -234,7 +234,7 @@ fn over_before(
     survivors: &Survivors<'_>,
 ) -> Three
     requires same { length survivors.now.rows.now ≡ known_count survivors.now.order.now }
-    requires within { IsWithin (length survivors.now.rows.now) scope.now }
+    requires within { BindsRows (length survivors.now.rows.now) scope.now }
     requires indexed { AreIndexesOf survivors.now.rows.now survivors.now.indexes }
     ensures { result ≡ over_before survivors.now.rows.now (known_before survivors.now.order.now)
         (known_whole survivors.now.order.now) quantifier.some body.now quantifier.v
@@ -269,34 +269,11 @@ fn unless_ragged(order: &Rows, u: usize) -> Three
 
 /// The order of what two variables stand for.
 fn order_of(v: u8, u: u8, scope: &Scope<'_>, order: &Rows) -> Three
-    requires { IsWithin (known_count order.now) scope.now }
+    requires { BindsRows (known_count order.now) scope.now }
     ensures { result ≡ order_of (known_before order.now) (env_of scope.now v) (env_of scope.now u) }
 {
     match (scope.place_of(v), scope.place_of(u)) {
         (Some(y), Some(x)) => order.before(y, x),
         _ => Three::False,
-    }
-}
-
-/// The row at a place.
-pub(crate) fn row_at(rows: &[Row], place: Option<usize>) -> Option<Row>
-    ensures { result ≡ row_at rows.now place }
-{
-    match place {
-        None => None,
-        Some(i) => { if i < rows.len() { Some(rows[i]) } else { None } }
-    }
-}
-
-/// What the term stands for.
-pub(crate) fn term_value(term: Term, scope: &Scope<'_>, rows: &[Row]) -> Option<Value>
-    ensures { result ≡ term_value (λ w. row_at rows.now (env_of scope.now w)) term }
-{
-    match term {
-        Term::Number(n) => Some(Value::Number(n)),
-        Term::Of { v, field } => match row_at(rows, scope.place_of(v)) {
-            None => None,
-            Some(row) => Some(field_of(field, row)),
-        },
     }
 }

@@ -2,23 +2,23 @@
 ghost use Rattle.std.specs.Prelude.{◌≡◌, ◌++◌, ◌<◌, length, IfErr, IfOk, OnOk, IfSome};
 ghost use Rattle.precedence.specs.Graph.{Graph};
 ghost use Rattle.precedence.specs.Known.{IsKnownOf, known_before, known_count, known_whole};
-ghost use Rattle.rule_engine.specs.Meaning.{bind};
+ghost use Rattle.rule_meaning.specs.Meaning.{bind};
 ghost use Rattle.rule_engine.specs.Verdicts.{IsJudgeAnswer, IsJudged, IsVerdict, broken, first_false};
 ghost use Rattle.rule_engine.specs.inside.Index.{AreIndexesOf};
-ghost use Rattle.rule_engine.specs.inside.Judging.{value_of};
-ghost use Rattle.rule_engine.specs.inside.Scopes.{IsWithin, env_of};
+ghost use Rattle.rule_meaning.specs.Judging.{value_of};
+ghost use Rattle.rule_meaning.specs.Scopes.{BindsRows, env_of};
 ghost use Rattle.rule_language.specs.Forms.{tree_of};
 
-use crate::atoms::has_kind;
 use crate::index::Indexes;
 use crate::judging::value;
-use crate::kleene::is_false;
-use crate::scope::Scope;
 use crate::survivors::Survivors;
-use crate::width::is_too_wide;
 use entry_order::Three;
 use precedence::Rows;
 use rule_language::{Formula, Kind, Row, Rule};
+use rule_meaning::atoms::has_kind;
+use rule_meaning::kleene::is_false;
+use rule_meaning::scope::Scope;
+use rule_meaning::width::is_too_wide;
 use std::alloc::{AllocError, Global};
 use thiserror::Error;
 
@@ -111,7 +111,7 @@ fn push_broken(
     places: &mut Vec<u32>,
 ) -> Result<(), AllocError>
     requires same { length survivors.now.rows.now ≡ known_count survivors.now.order.now }
-    requires within { IsWithin (length survivors.now.rows.now) scope.now }
+    requires within { BindsRows (length survivors.now.rows.now) scope.now }
     requires indexed { AreIndexesOf survivors.now.rows.now survivors.now.indexes }
     ensures { OnOk result (places.new.items ≡ places.old.items
         ++ broken survivors.now.rows.now (known_before survivors.now.order.now)
@@ -145,7 +145,7 @@ fn first_broken(
     survivors: &Survivors<'_>,
 ) -> Option<u32>
     requires same { length survivors.now.rows.now ≡ known_count survivors.now.order.now }
-    requires within { IsWithin (length survivors.now.rows.now) scope.now }
+    requires within { BindsRows (length survivors.now.rows.now) scope.now }
     requires indexed { AreIndexesOf survivors.now.rows.now survivors.now.indexes }
     ensures first { result ≡ first_false survivors.now.rows.now (known_before survivors.now.order.now)
         (known_whole survivors.now.order.now) kind

@@ -3,12 +3,12 @@
 ghost use Rattle.std.specs.Prelude.{◌≡◌, ℕ, Bool, false, IfSome, Some};
 ghost use Rattle.entry_order.specs.declared.three.Three.{Three as ThreeOf};
 ghost use Rattle.entry_order.specs.declared.three.Three.TheVariants.{False as KnownFalse};
-ghost use Rattle.rule_engine.specs.Kleene.{as_three};
-ghost use Rattle.rule_engine.specs.Meaning.{bind};
-ghost use Rattle.rule_engine.specs.Tests.{are_equal as are_equal_terms, is_next};
+ghost use Rattle.rule_meaning.specs.Kleene.{as_three};
+ghost use Rattle.rule_meaning.specs.Meaning.{bind};
+ghost use Rattle.rule_meaning.specs.Tests.{are_equal as are_equal_terms, is_next};
 ghost use Rattle.rule_language.specs.declared.row.Row.{Row as RowOf};
-ghost use Rattle.rule_engine.specs.inside.Judging.{value_of, over};
-ghost use Rattle.rule_engine.specs.inside.Scopes.{env_of};
+ghost use Rattle.rule_meaning.specs.Judging.{value_of, over};
+ghost use Rattle.rule_meaning.specs.Scopes.{env_of};
 ghost use Rattle.rule_engine.specs.inside.Wanted.{
   IsEquality,
   IsFixed,
@@ -18,10 +18,10 @@ ghost use Rattle.rule_engine.specs.inside.Wanted.{
   term_with,
 };
 
-use crate::atoms::Value;
-use crate::judging::{row_at, term_value};
-use crate::scope::Scope;
 use rule_language::{Field, Formula, Row, Term};
+use rule_meaning::atoms::Value;
+use rule_meaning::scope::Scope;
+use rule_meaning::terms::{row_at, term_value};
 
 /// The number that the row of the variable has to have in the field, or else the formula is true, or
 /// false, as asked.
@@ -173,7 +173,7 @@ fn following(
     if first == v && second != v {
         before(row_at(rows, scope.place_of(second)), field)
     } else if second == v && first != v {
-        behind(row_at(rows, scope.place_of(first)), field)
+        after(row_at(rows, scope.place_of(first)), field)
     } else {
         None
     }
@@ -192,7 +192,7 @@ fn before(next: Option<Row>, field: Field) -> Option<u32>
 }
 
 /// What a row has to have to be its maker's next after the other.
-fn behind(last: Option<Row>, field: Field) -> Option<u32>
+fn after(last: Option<Row>, field: Field) -> Option<u32>
     ensures { (row : RowOf) → has_wanted field result row ≡ false → is_next last (Some row) ≡ false }
 {
     let last = last?;

@@ -1,0 +1,96 @@
+-- How wide rules are, step by step.
+use Rattle.std.proofs.Common.{◌≡◌, ◌∙◌, ap, sym, ℕ, ◌+◌, ◌<◌, ◌≤◌, Bool, true, false, ◌||◌, List, ◌∷◌, length, drop}
+use Rattle.std.proofs.Common.{get_or}
+use Rattle.std.proofs.Common.{Box, Global, rules}
+use Rattle.std.proofs.Math.Bool.{or-false}
+use Rattle.std.proofs.lemmas.List.{drop_more, drop_all}
+use Rattle.rule_language.specs.declared.row.Row.{Row}
+use Rattle.rule_language.specs.declared.kind.Kind.{Kind}
+use Rattle.rule_language.specs.declared.formula.Formula.{Formula, ForEvery, ForSome, EveryBefore, SomeBefore, Implies}
+use Rattle.rule_language.specs.declared.formula.Formula.{the_lemmas}
+use Rattle.rule_language.specs.declared.form.Form.TheVariants as form
+use Rattle.rule_language.specs.Trees.{Trees, no_trees, tree_then}
+use Rattle.rule_language.specs.Forms.{in_front, tree_of, trees_of}
+use Rattle.rule_language.proofs.Views.{shape}
+use Rattle.rule_meaning.specs.Widths.{is_too_wide, widens, widens_by, quantified_kind}
+
+module _ (rows : List Row) (width : ℕ) where
+  -- whether some quantifier of the formulas is too wide at this width
+  abbrev wide : Trees → Bool
+  wide trees = is_too_wide rows trees width
+
+  -- a row is too wide where its first formula is or the others are
+  pub wide-in_front : (f : Formula) (rest : Trees) → wide (in_front f rest) ≡ (wide (tree_of f) || wide rest)
+  wide-in_front f rest =
+      let (outer, parts, view) = shape f in
+      let inside = widens_by rows (quantified_kind outer) (is_too_wide rows parts) width in
+      ap wide (view rest)
+      ∙ ap (λ (b : Bool). b || wide rest) (sym (ap wide (view no_trees) ∙ or-false inside))
+
+  -- an `implies` is too wide where one of its formulas is
+  pub wide-Implies : (f g : Box Formula Global) →
+      wide (tree_of (Implies f g)) ≡ (wide (tree_of f.value) || wide (tree_of g.value))
+  wide-Implies f g =
+      let view : tree_of (Implies f g) ≡ tree_then form.Implies (in_front f.value (in_front g.value no_trees))
+      no_trees =
+      search (rules, the_lemmas) in
+      ap wide view ∙ or-false (wide (in_front f.value (in_front g.value no_trees)))
+      ∙ wide-in_front f.value (in_front g.value no_trees)
+
+  -- one formula more
+  pub wide_more : (fs : List Formula) (i : ℕ) (f : Formula) → i < length fs → f ≡ get_or fs i f →
+      wide (trees_of (drop i fs)) ≡ (wide (tree_of f) || wide (trees_of (drop (i + 1) fs)))
+  wide_more fs i f within is =
+      ap (λ (gs : List Formula). wide (trees_of gs))
+      (drop_more fs i f within ∙ ap (λ (g : Formula). g ∷ drop (i + 1) fs) (sym is))
+      ∙ wide-in_front f (trees_of (drop (i + 1) fs))
+
+  -- after the last formula nothing is too wide
+  pub wide_none : (fs : List Formula) (i : ℕ) → length fs ≤ i → wide (trees_of (drop i fs)) ≡ false
+  wide_none fs i over = ap (λ (gs : List Formula). wide (trees_of gs)) (drop_all i fs over)
+
+  -- an `every` widens what stands in it by the rows of its kind
+  pub wide-ForEvery : (v : ℕ) (kind : Kind) (body : Box Formula Global) →
+      wide (tree_of (ForEvery v kind body)) ≡ widens rows kind (tree_of body.value) width
+  wide-ForEvery v kind body =
+      let view : tree_of (ForEvery v kind body) ≡ tree_then (form.ForEvery v kind)
+      (in_front body.value no_trees) no_trees =
+      search (rules, the_lemmas) in
+      ap wide view ∙ or-false (widens rows kind (tree_of body.value) width)
+
+  -- and so does a `some`
+  pub wide-ForSome : (v : ℕ) (kind : Kind) (body : Box Formula Global) →
+      wide (tree_of (ForSome v kind body)) ≡ widens rows kind (tree_of body.value) width
+  wide-ForSome v kind body =
+      let view : tree_of (ForSome v kind body) ≡ tree_then (form.ForSome v kind)
+      (in_front body.value no_trees) no_trees =
+      search (rules, the_lemmas) in
+      ap wide view ∙ or-false (widens rows kind (tree_of body.value) width)
+
+  -- and an `every` with `before`
+  pub wide-EveryBefore : (v : ℕ) (kind : Kind) (u : ℕ) (body : Box Formula Global) →
+      wide (tree_of (EveryBefore v kind u body)) ≡ widens rows kind (tree_of body.value) width
+  wide-EveryBefore v kind u body =
+      let view : tree_of (EveryBefore v kind u body) ≡ tree_then (form.EveryBefore v kind u)
+      (in_front body.value no_trees) no_trees =
+      search (rules, the_lemmas) in
+      ap wide view ∙ or-false (widens rows kind (tree_of body.value) width)
+
+  -- and a `some` with `before`
+  pub wide-SomeBefore : (v : ℕ) (kind : Kind) (u : ℕ) (body : Box Formula Global) →
+      wide (tree_of (SomeBefore v kind u body)) ≡ widens rows kind (tree_of body.value) width
+  wide-SomeBefore v kind u body =
+      let view : tree_of (SomeBefore v kind u body) ≡ tree_then (form.SomeBefore v kind u)
+      (in_front body.value no_trees) no_trees =
+      search (rules, the_lemmas) in
+      ap wide view ∙ or-false (widens rows kind (tree_of body.value) width)
+
+-- where the first of two tests holds it is the test of either
+pub or_first : (a x y : Bool) → a ≡ x → a ≡ true → a ≡ (x || y)
+or_first a true y is t = is
+or_first a false y is t = cc
+
+-- where the first fails the second is the test of either
+pub or_second : (a b x y : Bool) → a ≡ x → b ≡ y → a ≡ false → b ≡ (x || y)
+or_second a b true y is is' t = cc
+or_second a b false y is is' t = is'
