@@ -1,0 +1,195 @@
+-- A graph has one canonical proof.
+use Rattle.std.proofs.Common.{◌≡◌, ℕ, zero, suc, ◌<◌, ◌≤◌, List, [], ◌∷◌, ◌++◌, refl, sym, ap, ◌∙◌, subst, inl, inr}
+use Rattle.std.proofs.Common.{arith}
+use Rattle.std.proofs.Common.{append-nil, length, Some}
+use Rattle.std.specs.Prelude.{slice_get, Ok, Err}
+use Rattle.std.specs.List.{Contains, flat_map}
+use Rattle.entry_order.specs.Ancestors.{IsWalk}
+use Rattle.entry_order.proofs.Lists.{Contains-none, Contains-head, Contains-later, Contains-cons_cases, Contains-map}
+use Rattle.entry_order.proofs.Lists.{Contains-map_cases}
+use Rattle.entry_order.proofs.Places.{all_at, place_of, element_at, member_at}
+use Rattle.precedence.specs.Graph.{Graph}
+use Rattle.audit_proof.specs.declared.step.ProofStep.{ProofStep}
+use Rattle.audit_proof.specs.Lines.{Line, listed_in, IsOnLine, IsLineOf, HasEachLine}
+use Rattle.audit_proof.specs.declared.fault.ProofFault.TheVariants.{At, Memory}
+use Rattle.audit_proof.specs.ProofText.{line_text, head_text, proof_text}
+use Rattle.audit_proof.specs.Reads.{IsTextFor}
+use Rattle.audit_proof.specs.Trust.{WrittenProofsSayAll}
+use Rattle.audit_proof.specs.Canonical.{IsGreatest, IsCanonicalProof, OneTextIsCanonical}
+use Rattle.audit_proof.specs.inside.Falls.{Falls}
+use Rattle.audit_proof.proofs.Ancestries.{listed_ancestor, ancestor_listed}
+use Rattle.audit_proof.proofs.Listings.{pair_at}
+use Rattle.audit_proof.proofs.LongerLines.{reached_on_line}
+use Rattle.audit_proof.proofs.Texts.{prefix_lines}
+use Rattle.audit_proof.proofs.TextFacts.{same_rest, proof_small}
+use Rattle.audit_proof.proofs.Trusted.{full_proofs_say_all}
+use Rattle.audit_proof.proofs.Writing.{writing_none, writing_rest}
+
+-- lists of one length that agree place by place are one
+same_lists : {X : Type 0} (xs ys : List X) → length xs ≡ length ys →
+    ((i : ℕ) (x y : X) → slice_get xs i ≡ Some x → slice_get ys i ≡ Some y → x ≡ y) → xs ≡ ys
+same_lists [] [] size same = refl
+same_lists (x ∷ xs) (y ∷ ys) size same =
+    let rest : length xs ≡ length ys = omega (arith, size) in
+    ap (λ z. z ∷ xs) (same zero x y refl refl)
+    ∙ ap (λ zs. y ∷ zs) (same_lists xs ys rest (λ i a b at_a at_b. same (suc i) a b at_a at_b))
+same_lists [] (y ∷ ys) size same = absurd (omega (arith, size))
+same_lists (x ∷ xs) [] size same = absurd (omega (arith, size))
+
+-- below the first of steps that fall
+head_falls : (x : ProofStep) (xs : List ProofStep) → Falls (x ∷ xs) → (s : ProofStep) → Contains xs s →
+    s.ancestor < x.ancestor
+head_falls x xs falls s c =
+    let (k, at) = place_of xs s c in
+    pair_at (λ (a b : ProofStep). b.ancestor < a.ancestor) (x ∷ xs) zero (suc k) x s falls (omega arith) refl at
+
+-- and the others fall
+tail_falls : (x : ProofStep) (xs : List ProofStep) → Falls (x ∷ xs) → Falls xs
+tail_falls x xs falls i j d low within = falls (suc i) (suc j) d (omega (arith, low)) (omega (arith, within))
+
+-- steps that fall are determined by which they are
+same_falling : (xs ys : List ProofStep) → Falls xs → Falls ys → ((s : ProofStep) → Contains xs s → Contains ys s) →
+    ((s : ProofStep) → Contains ys s → Contains xs s) → xs ≡ ys
+same_falling [] [] falls_x falls_y to from = refl
+same_falling [] (y ∷ ys) falls_x falls_y to from = absurd (Contains-none y (from y (Contains-head y ys)))
+same_falling (x ∷ xs) [] falls_x falls_y to from = absurd (Contains-none x (to x (Contains-head x xs)))
+same_falling (x ∷ xs) (y ∷ ys) falls_x falls_y to from =
+    ap (λ (s : ProofStep). s ∷ xs) first
+    ∙ ap (λ (ss : List ProofStep). y ∷ ss)
+    (same_falling xs ys (tail_falls x xs falls_x) (tail_falls y ys falls_y) (λ s c. later_to s c)
+    (λ s c. later_from s c))
+  where
+    -- the first of both is one
+    first : x ≡ y
+    first = elim (Contains-cons_cases y ys x (to x (Contains-head x xs))) [
+      | inl same ↦ sym same
+      | inr in_ys ↦ elim (Contains-cons_cases x xs y (from y (Contains-head y ys))) [
+        | inl same ↦ same
+        | inr in_xs ↦
+            let below_y = head_falls y ys falls_y x in_ys in
+            let below_x = head_falls x xs falls_x y in_xs in
+            absurd (omega (arith, below_y, below_x))
+      ]
+    ]
+
+    -- the others of the one are those of the other
+    later_to : (s : ProofStep) → Contains xs s → Contains ys s
+    later_to s c = elim (Contains-cons_cases y ys s (to s (Contains-later x xs s c))) [
+      | inl same ↦
+          let below = head_falls x xs falls_x s c in
+          let above : s ≡ x = sym same ∙ sym first in
+          absurd (let none : s.ancestor < s.ancestor = subst (λ (t : ProofStep). s.ancestor < t.ancestor)
+          (sym above) below
+          in omega (arith, none))
+      | inr there ↦ there
+    ]
+
+    later_from : (s : ProofStep) → Contains ys s → Contains xs s
+    later_from s c = elim (Contains-cons_cases x xs s (from s (Contains-later y ys s c))) [
+      | inl same ↦
+          let below = head_falls y ys falls_y s c in
+          let above : s ≡ y = sym same ∙ first in
+          absurd (let none : s.ancestor < s.ancestor = subst (λ (t : ProofStep). s.ancestor < t.ancestor)
+          (sym above) below
+          in omega (arith, none))
+      | inr there ↦ there
+    ]
+
+module _ (graph : Graph) (a b : Line) (entries : a.entry ≡ b.entry) (is_a : IsLineOf graph a) (is_b : IsLineOf graph b)
+  where
+    -- what the one line lists the other does
+    listed_other : (x : ℕ) → Contains (listed_in a.steps) x → Contains (listed_in b.steps) x
+    listed_other x c =
+        let (zs, walk) = listed_ancestor graph a is_a x c in
+        ancestor_listed graph b is_b x (zs, subst (λ (n : ℕ). IsWalk graph.parents n zs x) entries walk)
+
+    -- so what is on the one is on the other
+    on_other : (x : ℕ) → IsOnLine a x → IsOnLine b x
+    on_other x (inl same) = inl (same ∙ entries)
+    on_other x (inr c) = inr (listed_other x c)
+
+    -- and with the greatest vias each step of the one is one of the other
+    step_there : IsGreatest graph a → IsGreatest graph b → ((x : ℕ) → IsOnLine b x → IsOnLine a x) → (s : ProofStep) →
+        Contains a.steps s → Contains b.steps s
+    step_there greatest_a greatest_b back s c =
+        let (k, at) = place_of a.steps s c in
+        let (t, among, same) = Contains-map_cases (λ (u : ProofStep). u.ancestor) b.steps s.ancestor
+        (listed_other s.ancestor (Contains-map (λ (u : ProofStep). u.ancestor) a.steps s c)) in
+        let (j, at_t) = place_of b.steps t among in
+        let low = greatest_b j t at_t s.via (on_other s.via (reached_on_line a k s.via (is_a.begun.reached k s at)))
+        (subst (Contains (graph.parents s.via)) (sym same) (is_a.begun.arrows k s at)) in
+        let high = greatest_a k s at t.via (back t.via (reached_on_line b j t.via (is_b.begun.reached j t at_t)))
+        (subst (Contains (graph.parents t.via)) same (is_b.begun.arrows j t at_t)) in
+        let vias : t.via ≡ s.via = omega (arith, low, high) in
+        subst (Contains b.steps)
+        (ap (λ (n : ℕ). let u : ProofStep = record { ancestor = n; via = t.via } in u) same
+        ∙ ap (λ (n : ℕ). let u : ProofStep = record { ancestor = s.ancestor; via = n } in u) vias)
+        among
+
+-- lines of one entry with the greatest vias are one
+same_line : (graph : Graph) (a b : Line) → a.entry ≡ b.entry → IsLineOf graph a → IsLineOf graph b →
+    IsGreatest graph a → IsGreatest graph b → a ≡ b
+same_line graph a b entries is_a is_b greatest_a greatest_b =
+    let steps : a.steps ≡ b.steps =
+    same_falling a.steps b.steps is_a.begun.falls is_b.begun.falls
+    (step_there graph a b entries is_a is_b greatest_a greatest_b (on_other graph b a (sym entries) is_b is_a))
+    (step_there graph b a (sym entries) is_b is_a greatest_b greatest_a (on_other graph a b entries is_a is_b)) in
+    ap (λ (n : ℕ). let line : Line = record { entry = n; steps = a.steps } in line) entries
+    ∙ ap (λ (ss : List ProofStep). let line : Line = record { entry = b.entry; steps = ss } in line) steps
+
+-- so canonical lines are one list
+same_canonical : (graph : Graph) (xs ys : List Line) → IsCanonicalProof graph xs → IsCanonicalProof graph ys → xs ≡ ys
+same_canonical graph xs ys of_x of_y =
+    same_lists xs ys (of_x.count ∙ sym of_y.count)
+    (λ i a b at_a at_b. same_line graph a b (of_x.entries i a at_a ∙ sym (of_y.entries i b at_b))
+    (all_at (IsLineOf graph) xs i a of_x.proof.each at_a) (all_at (IsLineOf graph) ys i b of_y.proof.each at_b)
+    (all_at (IsGreatest graph) xs i a of_x.greatest at_a) (all_at (IsGreatest graph) ys i b of_y.greatest at_b))
+
+-- a line for each survivor, in order, is one for each
+pub canonical_full : (graph : Graph) (lines : List Line) → IsCanonicalProof graph lines → HasEachLine graph lines
+canonical_full graph lines is x low =
+    let size = is.count in
+    let (line, at) = element_at lines x (omega (arith, low, size)) in
+    (line, member_at lines x line at, is.entries x line at)
+
+-- the law
+pub one_text_is_canonical : OneTextIsCanonical
+one_text_is_canonical graph descends = (
+  let (rest, is) = writing_rest graph descends graph.count 0 (head_text graph.count) (omega arith)
+      (writing_none graph (head_text graph.count) refl) in
+      (head_text graph.count ++ rest, is),
+  λ a b of_a of_b.
+      let (xs, is_x, text_x) = of_a in
+      let (ys, is_y, text_y) = of_b in
+      text_x ∙ ap (proof_text graph.count) (same_canonical graph xs ys is_x is_y) ∙ sym text_y,
+)
+
+-- steps without a line's text are none
+no_lines : (ls : List Line) → flat_map line_text ls ≡ [] → ls ≡ []
+no_lines [] is = refl
+no_lines (l ∷ ls) is = cc
+
+-- a text is of one proof
+pub one_proof : (graph : Graph) → graph.count ≤ 16384 → (bytes : List ℕ) (xs ys : List Line) →
+    IsTextFor graph bytes xs → IsTextFor graph bytes ys → xs ≡ ys
+one_proof graph few bytes xs ys of_x of_y =
+    let rest : flat_map line_text xs ≡ flat_map line_text ys =
+    same_rest (head_text graph.count) (flat_map line_text xs) (flat_map line_text ys) (sym of_x.0 ∙ of_y.0) in
+    let (more, are, left) = prefix_lines ys xs [] (proof_small graph few ys of_y.1) (proof_small graph few xs of_x.1)
+    (rest ∙ sym (append-nil (flat_map line_text ys))) in
+    are ∙ ap (λ (ls : List Line). ys ++ ls) (no_lines more left) ∙ append-nil ys
+
+-- what is written is read, and says all
+pub written_proofs_say_all : WrittenProofsSayAll
+written_proofs_say_all rows graph bytes (Ok lines) size few descends (made, is, text) answer there =
+    let read : IsTextFor graph bytes lines = answer in
+    let same : lines ≡ made = one_proof graph few bytes lines made read (text, is.proof) in (
+      lines,
+      refl,
+      read.1,
+      full_proofs_say_all rows graph lines size descends read.1
+          (subst (HasEachLine graph) (sym same) (canonical_full graph made is)),
+    )
+written_proofs_say_all rows graph bytes (Err (At line why)) size few descends (made, is, text) answer there =
+    absurd (answer.1 made (text, is.proof))
+written_proofs_say_all rows graph bytes (Err Memory) size few descends canonical answer there = absurd (there refl)

@@ -1,0 +1,16 @@
+pub mod Ancestries
+pub mod Trusted
+pub mod Listings
+pub mod Checks
+pub mod Texts
+pub mod FirstFaults
+pub mod LongerLines
+pub mod WordsRead
+pub mod LinesRead
+pub mod LineFacts
+pub mod EntryLines
+pub mod TextFacts
+pub mod HeadsRead
+pub mod Walked
+pub mod Writing
+pub mod Canonicals

@@ -1,0 +1,169 @@
+-- By a proof a rule has the value that it has by the graph, or none.
+use Rattle.std.proofs.Common.{◌≡◌, ℕ, ◌<◌, Bool, true, false, cond, List, [], ◌∷◌, length, refl, sym, subst, ap, ◌∙◌}
+use Rattle.std.proofs.Common.{inl, inr, Option, Some, None}
+use Rattle.std.specs.Prelude.{◌==◌, map}
+use Rattle.std.specs.List.{Contains}
+use Rattle.std.proofs.lemmas.Bool.{eqb-true, eq-eqb, false≢true}
+use Rattle.std.proofs.lemmas.List.{length-map}
+use Rattle.entry_order.specs.declared.three.Three.{Three}
+use Rattle.entry_order.specs.declared.three.Three.TheVariants.{False, Unknown, True}
+use Rattle.entry_order.specs.Ancestors.{Descends, is_whole, before}
+use Rattle.entry_order.specs.Node.{Node}
+use Rattle.entry_order.proofs.Lists.{Contains-none, Contains-head, Contains-later, Contains-cons_cases}
+use Rattle.entry_order.proofs.Places.{place_of, all_at}
+use Rattle.precedence.specs.Graph.{Graph}
+use Rattle.rule_language.specs.declared.row.Row.{Row}
+use Rattle.rule_meaning.specs.Meaning.{unbound}
+use Rattle.rule_meaning.specs.Values.{first_value, three_in}
+use Rattle.rule_meaning.specs.Knowledge.{IsLess, IsLessKnown}
+use Rattle.rule_meaning.proofs.Less.{less_is_known}
+use Rattle.rule_meaning.proofs.Sounds.{rules_are_settled}
+use Rattle.rule_meaning.proofs.SameOrders.{same_values}
+use Rattle.audit_proof.specs.Lines.{Line, IsLineOf, IsProofOf, HasEachLine}
+use Rattle.audit_proof.specs.KnownBy.{own_line, lists, is_whole_line, before_on, before_by, whole_by, three_by}
+use Rattle.audit_proof.specs.Trust.{ProofsSayNoMore, FullProofsSayAll, ProofsAreRight}
+use Rattle.audit_proof.proofs.Ancestries.{order_same, whole_same}
+
+-- the line that is found for x is a line, and x's
+pub line_found : (lines : List Line) (x : ℕ) (line : Line) → own_line lines x ≡ Some line →
+    Contains lines line × (line.entry ≡ x)
+line_found [] x line is = cc
+line_found (l ∷ lines) x line is = by (l.entry == x) refl is (line_found lines x line)
+  where
+    -- the same by whether the first line is x's
+    by : (b : Bool) → (l.entry == x) ≡ b → cond b (Some l) (own_line lines x) ≡ Some line →
+        (own_line lines x ≡ Some line → Contains lines line × (line.entry ≡ x)) →
+        Contains (l ∷ lines) line × (line.entry ≡ x)
+    by true at found later =
+        let here : l ≡ line = cc in (
+          subst (Contains (l ∷ lines)) here (Contains-head l lines),
+          sym (ap (λ (k : Line). k.entry) here)
+              ∙ eqb-true l.entry x at,
+        )
+    by false at found later = let rest = later found in (Contains-later l lines line rest.0, rest.1)
+
+-- where some line is x's, one is found
+pub line_there : (lines : List Line) (x : ℕ) (line : Line) → Contains lines line → line.entry ≡ x →
+    (found : Line) × (own_line lines x ≡ Some found)
+line_there [] x line c same = absurd (Contains-none line c)
+line_there (l ∷ lines) x line c same = by (l.entry == x) refl (λ later. line_there lines x line later same)
+  where
+    -- the same by whether the first line is x's
+    by : (b : Bool) → (l.entry == x) ≡ b →
+        (Contains lines line → (found : Line) × (own_line lines x ≡ Some found)) →
+        (found : Line) × (cond b (Some l) (own_line lines x) ≡ Some found)
+    by true at others = (l, refl)
+    by false at others =
+        elim (Contains-cons_cases l lines line c) [
+          | inl here ↦ absurd (false≢true (sym at ∙ eq-eqb l.entry x (ap (λ (k : Line). k.entry) here ∙ same)))
+          | inr later ↦ others later
+        ]
+
+-- what is settled isn't unknown
+settled_known : (l w : Bool) → w ≡ true → cond l True (cond w False Unknown) ≡ Unknown → ⊥
+settled_known true w e u = cc
+settled_known false true e u = cc
+settled_known false false e u = cc
+
+module _ (graph : Graph) (lines : List Line) (descends : Descends graph.parents) (is : IsProofOf graph lines) where
+  -- the order by the graph, and what is whole by it
+  abbrev order : ℕ → ℕ → Three
+  order = before graph.parents graph.ragged
+
+  abbrev wholes : ℕ → Bool
+  wholes x = is_whole graph.parents graph.ragged x x
+
+  -- where a line is found, it is one of the graph
+  is_line : (x : ℕ) (line : Line) → own_line lines x ≡ Some line → IsLineOf graph line
+  is_line x line found =
+      let (k, at) = place_of lines line (line_found lines x line found).0 in all_at
+      (IsLineOf graph) lines k line is.each at
+
+  -- it says of the order before x what the graph says, and of x whether it is whole
+  order_found : (y x : ℕ) (line : Line) → own_line lines x ≡ Some line → before_by graph.ragged lines y x ≡ order y x
+  order_found y x line found =
+      ap (λ (o : Option Line). before_on o (is_whole_line graph.ragged o) y) found
+      ∙ order_same graph line (is_line x line found) descends y
+      ∙ ap (order y) (line_found lines x line found).1
+
+  whole_found : (x : ℕ) (line : Line) → own_line lines x ≡ Some line → whole_by graph.ragged lines x ≡ wholes x
+  whole_found x line found =
+      ap (is_whole_line graph.ragged) found
+      ∙ whole_same graph line (is_line x line found) descends
+      ∙ ap wholes (line_found lines x line found).1
+
+  -- so the proof says no more
+  pub less_by : IsLess graph.count (before_by graph.ragged lines) (whole_by graph.ragged lines) order wholes
+  less_by = record {
+    orders = λ y x l. order_less y x (own_line lines x) refl;
+    whole = λ x l w. whole_less x w (own_line lines x) refl;
+    settled = λ y x l w. settled_known (lists (own_line lines x) y) (whole_by graph.ragged lines x) w;
+  }
+    where
+      order_less : (y x : ℕ) (o : Option Line) → own_line lines x ≡ o →
+          IsLessKnown (before_by graph.ragged lines y x) (order y x)
+      order_less y x None found =
+          inl (ap (λ (o : Option Line). before_on o (is_whole_line graph.ragged o) y) found)
+      order_less y x (Some line) found = inr (order_found y x line found)
+
+      whole_less : (x : ℕ) → whole_by graph.ragged lines x ≡ true → (o : Option Line) → own_line lines x ≡ o →
+          wholes x ≡ true
+      whole_less x w None found = absurd (false≢true (sym (ap (is_whole_line graph.ragged) found) ∙ w))
+      whole_less x w (Some line) found = sym (whole_found x line found) ∙ w
+
+  -- and where each survivor has a line it says all
+  module _ (full : HasEachLine graph lines) where
+    pub order_full : (y x : ℕ) → x < graph.count → before_by graph.ragged lines y x ≡ order y x
+    order_full y x l =
+        let (line, c, same) = full x l in
+        let (found, at) = line_there lines x line c same in
+        order_found y x found at
+
+    pub whole_full : (x : ℕ) → x < graph.count → whole_by graph.ragged lines x ≡ wholes x
+    whole_full x l =
+        let (line, c, same) = full x l in
+        let (found, at) = line_there lines x line c same in
+        whole_found x found at
+
+-- the law of all proofs
+pub proofs_say_no_more : ProofsSayNoMore
+proofs_say_no_more rows graph lines as_many descends is rule =
+    less_is_known rows (before_by graph.ragged lines) (whole_by graph.ragged lines)
+    (before graph.parents graph.ragged) (λ x. is_whole graph.parents graph.ragged x x)
+    (subst (λ (n : ℕ). IsLess n (before_by graph.ragged lines) (whole_by graph.ragged lines)
+    (before graph.parents graph.ragged) (λ x. is_whole graph.parents graph.ragged x x)) (sym as_many)
+    (less_by graph lines descends is)) rule
+
+-- the law of full proofs
+pub full_proofs_say_all : FullProofsSayAll
+full_proofs_say_all rows graph lines as_many descends is full rule =
+    ap first_value (same_values rows (before_by graph.ragged lines) (before graph.parents graph.ragged)
+    (whole_by graph.ragged lines) (λ x. is_whole graph.parents graph.ragged x x)
+    (λ y x l. order_full graph lines descends is full y x (subst (λ (n : ℕ). x < n) as_many l))
+    (λ x l. whole_full graph lines descends is full x (subst (λ (n : ℕ). x < n) as_many l))
+    rule unbound (λ v. tt))
+
+-- what is known of less is known of more
+known_of_more : (x y v : Three) → IsLessKnown x y → (v ≡ Unknown → ⊥) → x ≡ v → y ≡ v
+known_of_more x y v (inl u) known is = absurd (known (sym is ∙ u))
+known_of_more x y v (inr e) known is = sym e ∙ is
+
+true≢unknown : True ≡ Unknown → ⊥
+true≢unknown e = cc
+
+false≢unknown : False ≡ Unknown → ⊥
+false≢unknown e = cc
+
+-- so the law of what is right
+pub proofs_are_right : {T : Type 0} (node : T → Node) (row : T → Row) → ProofsAreRight node row
+proofs_are_right node row machines S G parents ragged lines single graph completion is rule =
+    let nodes : Graph = record { count = length S; parents = parents; ragged = ragged } in
+    let less = proofs_say_no_more (map row S) nodes lines (length-map S row) graph.descends is rule in
+    let settled = rules_are_settled node row machines S G parents ragged single graph completion rule in (
+      λ t. settled.0
+          (known_of_more (three_by (map row S) ragged lines rule) (three_in
+          (map row S) parents ragged rule) True less true≢unknown t),
+      λ f. settled.1
+          (known_of_more (three_by (map row S) ragged lines rule) (three_in
+          (map row S) parents ragged rule) False less false≢unknown f),
+    )

@@ -1,0 +1,6 @@
+use Rattle.std.proofs.Common.{◌≡◌, drop}
+use Rattle.audit_proof.specs.inside.Closed.{closed_at}
+use Rattle.audit_proof.proofs.lines.are_listed.Given as goal
+
+abbrev pub invariant-loop-number : goal.invariant-loop-number
+invariant-loop-number l = closed_at l.listed l.numbers ≡ closed_at l.listed (drop l.number-index l.numbers)

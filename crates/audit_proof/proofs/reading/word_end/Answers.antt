@@ -1,0 +1,11 @@
+use Rattle.std.proofs.Common.{◌≡◌, ◌∙◌, ◌+◌, ◌-◌, ap, subst, ℕ, take, drop, arith}
+use Rattle.audit_proof.specs.inside.Bytes.{HasNo}
+use Rattle.audit_proof.proofs.reading.word_end.Goals as goal
+
+pub returns-clause-whole : goal.returns-clause-whole
+returns-clause-whole c =
+    let start = c.args.start in
+    let size = c.find_byte.result in
+    let same : size ≡ start + size - start = omega arith in
+    subst (HasNo 32) (ap (take size) c.rest_from.ensures ∙ ap (λ (n : ℕ). take n (drop start c.args.words.now)) same)
+    c.find_byte.ensures.before

@@ -1,0 +1,10 @@
+pub mod Lines
+pub mod ProofText
+pub mod KnownBy
+pub mod Answers
+pub mod Faults
+pub mod Reads
+pub mod Canonical
+pub mod Proves
+pub mod Trust
+pub mod inside

@@ -1,0 +1,38 @@
+//! What a proof is worth, whoever made it. Each law is the contract of a function with an empty
+//! body.
+ghost use Rattle.rule_language.specs.declared.row.Row.{Row as RowOf};
+ghost use Rattle.audit_proof.specs.Canonical.{OneTextIsCanonical};
+ghost use Rattle.audit_proof.specs.Trust.{
+  FullProofsSayAll,
+  LinesListAncestors,
+  ProofsAreRight,
+  ProofsSayNoMore,
+  WrittenProofsSayAll,
+};
+
+use entry_order::Knot;
+
+/// A line lists exactly the ancestors of its entry. So a rule has by a proof the value that it has
+/// by the survivors' graph, or none; and where every survivor has a line it has that value.
+pub fn proofs_say_no_more()
+    ensures lists { LinesListAncestors }
+    ensures less { ProofsSayNoMore }
+    ensures full { FullProofsSayAll }
+{}
+
+/// Every graph has one canonical text, which `prove` writes where it isn't too long.
+pub fn one_text_is_canonical()
+    ensures { OneTextIsCanonical }
+{}
+
+/// What `prove` writes is accepted by `read_proof`, and by it a rule has the value that it has by
+/// the survivors' graph.
+pub fn written_proofs_say_all()
+    ensures { WrittenProofsSayAll }
+{}
+
+/// A rule that is true by a proof holds in every completion of the survivors, and one that is false
+/// by a proof holds in none.
+pub fn proofs_are_right<T: Knot>()
+    ensures { (row : T → RowOf) → ProofsAreRight T.node row }
+{}

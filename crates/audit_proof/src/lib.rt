@@ -1,0 +1,29 @@
+//! Proofs of an audit: a text that shows the ancestors of survivors, by which a court checks
+//! verdicts without trusting rows, indexes, or whoever made it.
+#![tactic(auto)]
+
+mod by_proof;
+mod checking;
+mod fault;
+mod kinds;
+mod laws;
+mod line;
+mod lines;
+mod listing;
+mod proof;
+mod proving;
+mod reading;
+mod scene;
+mod step;
+mod whole_text;
+
+pub use by_proof::check;
+pub use fault::{CheckFault, ProofFault, ProofWhy, Verdict};
+pub use laws::{
+    one_text_is_canonical, proofs_are_right, proofs_say_no_more, written_proofs_say_all,
+};
+pub use line::ProofLine;
+pub use proof::Proof;
+pub use proving::{ProveFault, prove};
+pub use step::ProofStep;
+pub use whole_text::read_proof;

@@ -1,0 +1,169 @@
+//! Reading the lines of a proof's text.
+ghost use Rattle.std.specs.Prelude.{
+  ◌≡◌,
+  ◌+◌,
+  ◌<◌,
+  ◌≤◌,
+  ◌^◌,
+  ◌↔◌,
+  IsTrue,
+  length,
+  take,
+  codes,
+  All,
+  IfSome,
+  IfErr,
+  ℕ,
+  false,
+  slice_index_or,
+};
+ghost use Rattle.std.specs.List.{list_all};
+ghost use Rattle.audit_proof.specs.Lines.{IsBegun, listed_in};
+ghost use Rattle.audit_proof.specs.inside.Begun.{IsListedTable};
+ghost use Rattle.audit_proof.specs.inside.Closed.{closed_at};
+ghost use Rattle.audit_proof.specs.inside.LineAnswers.{
+  IsEntryOf,
+  IsFinished,
+  IsLineAnswer,
+  IsNoEntry,
+};
+ghost use Rattle.audit_proof.specs.inside.Unread.{line_with};
+
+use crate::fault::ProofWhy;
+use crate::line::ProofLine;
+use crate::reading::{LineSteps, Unread, front, piece, read_words, rest_from, word_end};
+use crate::step::ProofStep;
+use canonical_sexp::number_of;
+use precedence::Arrows;
+use std::alloc::Global;
+
+/// Whether each of these is listed.
+fn are_listed(numbers: &[u32], listed: &[bool]) -> bool
+    requires { All (λ number. number < length listed.now) numbers.now }
+    ensures { result ≡ closed_at listed.now numbers.now }
+{
+    for number in numbers {
+        if !listed[*number as usize] {
+            return false;
+        }
+    }
+    true
+}
+
+/// Whether the parents of these ancestors are all listed.
+fn are_closed<A: Arrows>(graph: &A, steps: &[ProofStep], listed: &[bool]) -> bool
+    requires each { length listed.now ≡ (A.graph graph.now).count }
+    requires inside { All (λ step. step.ancestor < (A.graph graph.now).count) steps.now }
+    ensures { result ≡ list_all (λ y. closed_at listed.now ((A.graph graph.now).parents y))
+        (listed_in steps.now) }
+{
+    for step in steps {
+        if !are_listed(graph.parents(step.ancestor as usize), listed) {
+            return false;
+        }
+    }
+    true
+}
+
+/// The entry's number, and where it ends.
+#[derive(Clone, Copy)]
+pub(crate) struct Entry {
+    pub(crate) number: u32,
+    pub(crate) end: usize,
+}
+
+/// Whether the bytes are `past` and a space.
+fn is_past(bytes: &[u8]) -> bool
+    ensures { IsTrue result ↔ (bytes.now ≡ codes "past ") }
+{
+    bytes == b"past ".as_slice()
+}
+
+/// The entry with which the line begins.
+fn read_entry(line: &[u8]) -> Option<Entry>
+    ensures some { IfSome result (IsEntryOf line.now) }
+    ensures none { result ≡ None → IsNoEntry line.now }
+{
+    if line.len() < 5 {
+        return None;
+    }
+    if !is_past(front(line, 5)) {
+        return None;
+    }
+    let end = word_end(line, 5);
+    match number_of(piece(line, 5, end)) {
+        None => None,
+        Some(number) => Some(Entry { number, end }),
+    }
+}
+
+/// The line of the entry with these steps, where it is ended and lacks no parent.
+fn finish<A: Arrows>(
+    graph: &A,
+    entry: u32,
+    read: LineSteps,
+    is_ended: bool,
+) -> Result<ProofLine, Unread>
+    requires entry { entry < (A.graph graph.now).count }
+    requires begun { IsBegun (A.graph graph.now) (line_with entry read.steps.items) }
+    requires each { length read.listed.items ≡ (A.graph graph.now).count }
+    requires table { IsListedTable read.steps.items read.listed.items }
+    ensures { IsFinished (A.graph graph.now) entry read.steps.items is_ended result }
+{
+    if !is_ended {
+        return Err(Unread::Why(ProofWhy::Form));
+    }
+    if !are_listed(graph.parents(entry as usize), &read.listed) {
+        return Err(Unread::Why(ProofWhy::NotClosed));
+    }
+    if !are_closed(graph, &read.steps, &read.listed) {
+        return Err(Unread::Why(ProofWhy::NotClosed));
+    }
+    Ok(ProofLine {
+        entry,
+        steps: read.steps,
+    })
+}
+
+/// The line that begins with this entry.
+fn read_entry_line<A: Arrows>(
+    alloc: Global,
+    graph: &A,
+    line: &[u8],
+    entry: Entry,
+    is_ended: bool,
+    least: usize,
+) -> Result<ProofLine, Unread>
+    requires few { (A.graph graph.now).count ≤ 16384 }
+    requires entry { IsEntryOf line.now entry }
+    ensures { IsLineAnswer (A.graph graph.now) line.now is_ended least result }
+{
+    let number = entry.number as usize;
+    if number >= graph.count() {
+        return Err(Unread::Why(ProofWhy::OutOfRange));
+    }
+    if number < least {
+        return Err(Unread::Why(ProofWhy::NotRising));
+    }
+    match read_words(alloc, graph, number, rest_from(line, entry.end)) {
+        Err(unread) => Err(unread),
+        Ok(read) => finish(graph, entry.number, read, is_ended),
+    }
+}
+
+/// The line that the bytes are, whose entry is at least this.
+pub(crate) fn read_line<A: Arrows>(
+    alloc: Global,
+    graph: &A,
+    line: &[u8],
+    is_ended: bool,
+    least: usize,
+) -> Result<ProofLine, Unread>
+    requires { (A.graph graph.now).count ≤ 16384 }
+    ensures { IsLineAnswer (A.graph graph.now) line.now is_ended least result }
+{
+    match read_entry(line) {
+        None => Err(Unread::Why(ProofWhy::Form)),
+        Some(entry) => read_entry_line(alloc, graph, line, entry, is_ended, least),
+    }
+}

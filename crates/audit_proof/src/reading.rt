@@ -1,0 +1,213 @@
+//! Reading the words of a proof's text.
+ghost use Rattle.std.specs.Prelude.{
+  ◌≡◌,
+  ◌+◌,
+  ◌-◌,
+  ◌<◌,
+  ◌≤◌,
+  ◌↔◌,
+  length,
+  take,
+  drop,
+  IsTrue,
+  Ok,
+};
+ghost use Rattle.std.specs.List.{Contains};
+ghost use Rattle.canonical_sexp.specs.Forms.{Finds};
+ghost use Rattle.first_cause.specs.Causes.{IsFirstOf};
+ghost use Rattle.audit_proof.specs.inside.Bytes.{Follows, HasNo};
+ghost use Rattle.audit_proof.specs.inside.Begun.{GoesOn, IsWordStep, step_tests};
+ghost use Rattle.audit_proof.specs.inside.Unread.{IsWordsAnswer};
+ghost use Rattle.audit_proof.specs.ProofText.{step_word};
+
+use crate::fault::ProofWhy;
+use crate::step::ProofStep;
+use canonical_sexp::number_of;
+use precedence::Arrows;
+use std::alloc::{AllocError, AllocFailed, Global};
+
+/// Where the byte first stands, or the length where it doesn't.
+pub(crate) fn find_byte(bytes: &[u8], byte: u8) -> usize
+    ensures within { result ≤ length bytes.now }
+    ensures before { HasNo byte (take result bytes.now) }
+    ensures at { Follows byte (drop result bytes.now) }
+{
+    for i in 0..bytes.len() {
+        if bytes[i] == byte {
+            return i;
+        }
+    }
+    bytes.len()
+}
+
+/// The bytes before a place.
+pub(crate) fn front(word: &[u8], place: usize) -> &[u8]
+    requires { place ≤ length word.now }
+    ensures { result.now ≡ take place word.now }
+{
+    &word[..place]
+}
+
+/// The bytes after a place.
+fn after(word: &[u8], place: usize) -> &[u8]
+    requires { place < length word.now }
+    ensures { result.now ≡ drop (place + 1) word.now }
+{
+    &word[place + 1..]
+}
+
+/// The step that a word is.
+pub(crate) fn read_step(word: &[u8]) -> Option<ProofStep>
+    ensures { Finds (λ step. IsWordStep step × (word.now ≡ step_word step)) result }
+{
+    let colon = find_byte(word, b':');
+    if colon == word.len() {
+        return None;
+    }
+    match number_of(front(word, colon)) {
+        None => None,
+        Some(ancestor) => match number_of(after(word, colon)) {
+            None => None,
+            Some(via) => Some(ProofStep { ancestor, via }),
+        },
+    }
+}
+
+/// Tries a step on a line of which this is reached, and whose last ancestor is the bound.
+fn try_step<A: Arrows>(
+    graph: &A,
+    reached: &[bool],
+    bound: usize,
+    step: ProofStep,
+) -> Result<(), ProofWhy>
+    requires { length reached.now ≡ (A.graph graph.now).count }
+    ensures first { IsFirstOf (step_tests (A.graph graph.now) reached.now bound step) result }
+    ensures ok { result ≡ Ok tt → GoesOn (A.graph graph.now) reached.now bound step }
+    ensures below { result ≡ Ok tt → step.ancestor < step.via }
+{
+    let ancestor = step.ancestor as usize;
+    let via = step.via as usize;
+    if ancestor >= graph.count() || via >= graph.count() {
+        return Err(ProofWhy::OutOfRange);
+    }
+    if ancestor >= bound {
+        return Err(ProofWhy::NotFalling);
+    }
+    if !reached[via] {
+        return Err(ProofWhy::NotReached);
+    }
+    if !has(graph.parents(via), step.ancestor) {
+        return Err(ProofWhy::NotParent);
+    }
+    Ok(())
+}
+
+/// Whether the number is one of these.
+fn has(numbers: &[u32], number: u32) -> bool
+    ensures { IsTrue result ↔ Contains numbers.now number }
+{
+    numbers.contains(&number)
+}
+
+/// Where the word that begins at a place ends: at the next space, or with the words.
+pub(crate) fn word_end(words: &[u8], start: usize) -> usize
+    requires { start ≤ length words.now }
+    ensures within { (start ≤ result) × (result ≤ length words.now) }
+    ensures whole { HasNo 32 (take (result - start) (drop start words.now)) }
+    ensures next { Follows 32 (drop result words.now) }
+{
+    start + find_byte(rest_from(words, start), b' ')
+}
+
+/// The bytes from a place on.
+pub(crate) fn rest_from(words: &[u8], start: usize) -> &[u8]
+    requires { start ≤ length words.now }
+    ensures { result.now ≡ drop start words.now }
+{
+    &words[start..]
+}
+
+/// The bytes from a place up to another.
+pub(crate) fn piece(words: &[u8], start: usize, end: usize) -> &[u8]
+    requires { (start ≤ end) × (end ≤ length words.now) }
+    ensures { result.now ≡ take (end - start) (drop start words.now) }
+{
+    &words[start..end]
+}
+
+/// Why words are no line's, or out of memory.
+#[derive(Clone, Copy)]
+pub(crate) enum Unread {
+    Why(ProofWhy),
+    Memory,
+}
+
+impl From<AllocError> for Unread {
+    ghost use Rattle.std.specs.Prelude.{◌≡◌};
+    ghost use Rattle.audit_proof.specs.declared.reading.Unread.TheVariants.{Memory};
+
+    ghost from_gives = { λ _ e. e ≡ Memory };
+
+    fn from(_refused: AllocError) -> Unread {
+        Unread::Memory
+    }
+}
+
+impl<X: Drop> From<AllocFailed<X>> for Unread {
+    ghost use Rattle.std.specs.Prelude.{◌≡◌};
+    ghost use Rattle.audit_proof.specs.declared.reading.Unread.TheVariants.{Memory};
+
+    ghost from_gives = { λ _ e. e ≡ Memory };
+
+    fn from(_refused: AllocFailed<X>) -> Unread {
+        Unread::Memory
+    }
+}
+
+/// The steps of a line, and for each survivor whether they list it.
+#[derive(Drop)]
+pub(crate) struct LineSteps {
+    pub(crate) steps: Vec<ProofStep>,
+    pub(crate) listed: Vec<bool>,
+}
+
+/// The steps that the words after a line's entry are.
+pub(crate) fn read_words<A: Arrows>(
+    alloc: Global,
+    graph: &A,
+    entry: usize,
+    words: &[u8],
+) -> Result<LineSteps, Unread>
+    requires few { (A.graph graph.now).count ≤ 16384 }
+    requires entry { entry < (A.graph graph.now).count }
+    requires starts { Follows 32 words.now }
+    ensures { IsWordsAnswer (A.graph graph.now) entry words.now result }
+{
+    let mut steps = Vec::new(alloc);
+    let mut reached = vec![in alloc; false; graph.count()]?;
+    reached[entry] = true;
+    let mut bound = graph.count();
+    let mut at = 0;
+    'words: while at < words.len() {
+        let end = word_end(words, at + 1);
+        let word = piece(words, at + 1, end);
+        let step = match read_step(word) {
+            None => return Err(Unread::Why(ProofWhy::Form)),
+            Some(step) => step,
+        };
+        match try_step(graph, &reached, bound, step) {
+            Err(why) => return Err(Unread::Why(why)),
+            Ok(()) => {}
+        }
+        steps.push(step)?;
+        bound = step.ancestor as usize;
+        reached[bound] = true;
+        at = end;
+    }
+    // What is reached but isn't listed is the entry.
+    reached[entry] = false;
+    Ok(LineSteps {
+        steps,
+        listed: reached,
+    })
+}
