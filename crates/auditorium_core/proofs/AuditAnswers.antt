@@ -7,18 +7,23 @@ use Rattle.entry_order.specs.Completion.{Completion}
 use Rattle.entry_order.specs.Survivors.{GapsAreUnique}
 use Rattle.roster.specs.declared.post.Post.{Post}
 use Rattle.entry_format.specs.SealedEntry.{SealedEntry}
-use Rattle.entry_format.specs.Nodes.{node_of_sealed}
+use Rattle.entry_format.specs.Nodes.{node_of, node_of_sealed}
+use Rattle.entry_format.specs.declared.plain.Plain.{Plain}
+use Rattle.entry_format.specs.Plains.{plain_of, plains}
+use Rattle.auditor.proofs.PlainRules.{plain_rules}
+use Rattle.evidence.specs.Graphs.{entries_of}
+use Rattle.auditorium_core.proofs.PlainSurvivors.{some_completion as some_here}
 use Rattle.entry_graph.specs.EntryGraph.{EntryGraph, IsEntryGraph, parents_of, ragged_of}
 use Rattle.rule_language.specs.Trees.{RuleTree}
-use Rattle.rule_engine.specs.Meaning.{Holds}
-use Rattle.rule_engine.specs.Sound.{RulesAreSettled, UnknownOnlyByGaps}
+use Rattle.rule_meaning.specs.Meaning.{Holds}
+use Rattle.rule_meaning.specs.Sound.{RulesAreSettled, UnknownOnlyByGaps}
 use Rattle.rule_engine.specs.Verdicts.{IsJudged}
 use Rattle.rule_engine.specs.declared.verdict.Verdict.{Verdict}
 use Rattle.rule_engine.specs.declared.verdict.Verdict.TheVariants as verdict
 use Rattle.evidence.specs.Refusal.{Refusal}
 use Rattle.auditor.specs.declared.outcome.Outcome.{Outcome}
 use Rattle.auditor.specs.declared.outcome.Outcome.TheVariants as outcome
-use Rattle.auditor.specs.Rows.{row_of}
+use Rattle.auditor.specs.Rows.{row_of, row_said}
 use Rattle.auditor.specs.Judged.{nodes_of, AreJudged}
 use Rattle.auditor.specs.Outcomes.{is_broken, outcome_of}
 use Rattle.auditor.specs.Report.{AuditReport, ReportParts, IsReport, report_of}
@@ -26,39 +31,40 @@ use Rattle.auditor.specs.ReportText.{report_text}
 use Rattle.auditor.specs.Audits.{GivesReportIn}
 use Rattle.auditorium_core.specs.declared.status.Status.{Status}
 use Rattle.auditorium_core.specs.declared.status.Status.TheVariants as status
-use Rattle.auditorium_core.specs.Words.{audit, source_named}
+use Rattle.auditorium_core.specs.Words.{audit}
 use Rattle.auditorium_core.specs.Lines.{Answer, refusal_answer}
-use Rattle.auditorium_core.specs.Audit.{status_by, report_answer, IsAuditOf, IsAuditOver}
-use Rattle.auditorium_core.specs.HonestAudit.{IsAuditAnswer}
+use Rattle.auditorium_core.specs.ReportAnswers.{status_by, report_answer}
+use Rattle.auditorium_core.specs.Audit.{source_named, HoldsOf, Completes, IsAuditOf, IsAuditOver, IsAuditAnswer}
 use Rattle.auditorium_core.specs.Answer.{IsAnswerTo}
 
 module _ (machines : List Post) (graph : EntryGraph SealedEntry) (is : IsEntryGraph node_of_sealed graph)
     (settled : RulesAreSettled node_of_sealed (row_of machines))
     (unknown : UnknownOnlyByGaps node_of_sealed (row_of machines)) where
   -- entries that complete the survivors
-  abbrev Completes : List SealedEntry → Type 0
-  Completes G = Completion node_of_sealed (length machines) graph.survivors G
+  abbrev CompletesHere : List Plain → Type 0
+  CompletesHere G = Completion node_of (length machines) (plains graph.survivors) G
 
   -- the rule holds of the survivors if these were all
-  abbrev HoldsOf : List SealedEntry → RuleTree → Type 0
-  HoldsOf G rule = Holds node_of_sealed (row_of machines) graph.survivors G rule.body
+  abbrev HoldsHere : List Plain → RuleTree → Type 0
+  HoldsHere G rule =
+      Holds node_of (λ (plain : Plain). row_said machines plain.entry) (plains graph.survivors) G rule.body
 
   -- one verdict is that of its rule
   abbrev Judged : RuleTree → Verdict → Type 0
   Judged rule v = IsJudged (map (row_of machines) graph.survivors) (nodes_of graph) rule.body (Ok v)
 
-  kept_here : (rule : RuleTree) (v : Verdict) → Judged rule v → v ≡ verdict.Kept → (G : List SealedEntry) →
-      Completes G → HoldsOf G rule
+  kept_here : (rule : RuleTree) (v : Verdict) → Judged rule v → v ≡ verdict.Kept → (G : List Plain) →
+      CompletesHere G → HoldsHere G rule
   kept_here rule v judged e G whole =
       let at : Judged rule verdict.Kept = subst (λ u. Judged rule u) e judged in
-      (settled (length machines) graph.survivors G (parents_of graph.links) (ragged_of graph.links) is.single
-      is.linked.arrows whole rule.body).0 at.1
+      (plain_rules (row_said machines) (length machines) graph.survivors (parents_of graph.links) (ragged_of graph.links)
+      is.numbered is.linked.arrows G whole rule.body).0 at.1
 
-  broken_here : (rule : RuleTree) (v : Verdict) → Judged rule v → IsTrue (is_broken v) → (G : List SealedEntry) →
-      Completes G → ¬ HoldsOf G rule
+  broken_here : (rule : RuleTree) (v : Verdict) → Judged rule v → IsTrue (is_broken v) → (G : List Plain) →
+      CompletesHere G → ¬ HoldsHere G rule
   broken_here rule (verdict.Broken places) judged e G whole =
-      (settled (length machines) graph.survivors G (parents_of graph.links) (ragged_of graph.links) is.single
-      is.linked.arrows whole rule.body).1 judged.1.0
+      (plain_rules (row_said machines) (length machines) graph.survivors (parents_of graph.links) (ragged_of graph.links)
+      is.numbered is.linked.arrows G whole rule.body).1 judged.1.0
   broken_here rule verdict.Kept judged e G whole = cc
   broken_here rule verdict.Unsettled judged e G whole = cc
 
@@ -77,6 +83,11 @@ module _ (machines : List Post) (graph : EntryGraph SealedEntry) (is : IsEntryGr
   each P one (r ∷ rules) [] judged = absurd judged
   each P one (r ∷ rules) (v ∷ vs) judged = (one r v judged.0, each P one rules vs judged.1)
 
+-- there are entries that complete the survivors of a report
+some_completion : (report : AuditReport) → IsReport report → (G : List Plain) × Completes report G
+some_completion report is =
+    some_here report.machines (entries_of report.logs) report.graph is.makers is.graphed
+
 -- a report is told with what its verdicts and its gaps say
 pub report_is_told : (report : AuditReport) (answer : Answer) →
     RulesAreSettled node_of_sealed (row_of report.machines) →
@@ -86,15 +97,12 @@ report_is_told report answer settled unknown unique is told =
     let kept = is.graphed.2.kept in
     record {
       kept = each report.machines report.graph kept settled unknown
-          (λ rule v. v ≡ verdict.Kept → (G : List SealedEntry) →
-          Completion node_of_sealed (length report.machines) report.graph.survivors G →
-          Holds node_of_sealed (row_of report.machines) report.graph.survivors G rule.body)
+          (λ rule v. v ≡ verdict.Kept → (G : List Plain) → Completes report G → HoldsOf report G rule)
           (kept_here report.machines report.graph kept settled unknown) report.rules report.verdicts is.judged;
       broken = each report.machines report.graph kept settled unknown
-          (λ rule v. IsTrue (is_broken v) → (G : List SealedEntry) →
-          Completion node_of_sealed (length report.machines) report.graph.survivors G →
-          ¬ Holds node_of_sealed (row_of report.machines) report.graph.survivors G rule.body)
+          (λ rule v. IsTrue (is_broken v) → (G : List Plain) → Completes report G → ¬ HoldsOf report G rule)
           (broken_here report.machines report.graph kept settled unknown) report.rules report.verdicts is.judged;
+      some = some_completion report is;
       unsettled = each report.machines report.graph kept settled unknown
           (λ rule v. v ≡ verdict.Unsettled → report.graph.gaps ≢ [])
           (unsettled_here report.machines report.graph kept settled unknown) report.rules report.verdicts is.judged;

@@ -6,7 +6,8 @@ use Rattle.hall_outside.specs.Files.{Files, with_file}
 use Rattle.hall_outside.specs.Writing.{AppendsPrefix}
 use Rattle.hall_outside.specs.declared.stores.Failed.{Failed}
 use Rattle.auditorium_core.specs.Lines.{Answer}
-use Rattle.auditorium_core.specs.Outcome.{Outside, with_files, SetsSome, IsCutShort}
+use Rattle.auditorium_core.specs.Outside.{Outside}
+use Rattle.auditorium_core.specs.Outcome.{with_files, SetsSome, IsCutShort}
 
 -- all of the files are some of them
 pub all_set : (old : Option Files) (files : List (List ℕ × List ℕ)) → SetsSome old files (with_files old files)

@@ -16,6 +16,10 @@ use Rattle.auditorium_core.specs.inside.Promise.{IsAnswered}
 abbrev pub IsAnswerOfFault : AuditFault → Answer → Type 0
 IsAnswerOfFault fault answer = IsSomeAnd (refusal_of fault) (λ refusal. answer ≡ refusal_answer refusal)
 
+-- the answer says that a file is absent by its status
+abbrev pub IsAbsentAnswer : Answer → Type 0
+IsAbsentAnswer answer = answer.status ≡ status.Absent
+
 -- what is refused of what is read is the answer
 pub refused_or : {T E : Type 0} (Gives : Result T Refusal → Type 0) (IsFor : T → Answer → Type 0) (fault : AuditFault)
     (result : Result Answer E) → IfOk result (IsAnswerOfFault fault) →
@@ -58,7 +62,7 @@ pub refused_answered : {T U : Type 0} (value : T → U) (IsFound : Option Files 
     IsReadFrom value IsFound old (Err fault) new → IfOk result (IsAnswerOfFault fault) →
     IfErr result (λ why. why ≡ ReadFault → fault ≡ audit.ReadFault) →
     ((refusal : Refusal) → IsFound old.files (Err refusal) → IsRight old.files (refusal_answer refusal)) →
-    IsAnswered IsRight old result new
+    IsAnswered IsRight IsAbsentAnswer old result new
 refused_answered value IsFound IsRight old new fault (Ok answer) given told why right = record {
   answer = by (refusal_of fault) told given.err;
   absent =
@@ -93,7 +97,7 @@ pub found_answered : {T U : Type 0} (value : T → U) (IsFound : Option Files �
     (IsRight : Option Files → Answer → Type 0) (old new : StoreSeen) (found : T) (result : Result Answer Fault) →
     IsReadFrom value IsFound old (Ok found) new → IfOk result (IsRight old.files) →
     IfOk result (λ answer. answer.status ≢ status.Absent) → IfErr result (λ fault. fault ≡ Memory) →
-    IsAnswered IsRight old result new
+    IsAnswered IsRight IsAbsentAnswer old result new
 found_answered value IsFound IsRight old new found (Ok answer) given right other memory = record {
   answer = right;
   absent =

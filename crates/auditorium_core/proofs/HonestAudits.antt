@@ -20,10 +20,10 @@ use Rattle.honest_reports.specs.Places.{IsRosterOf, files_read}
 use Rattle.honest_reports.specs.Refusals.{IsHonestRefusal, IsRefusalOfRules, IsTooWideFor}
 use Rattle.honest_reports.specs.Reports.{IsHonestReport}
 use Rattle.auditorium_core.specs.declared.status.Status.TheVariants as status
-use Rattle.auditorium_core.specs.Words.{source_named}
+use Rattle.auditorium_core.specs.ReportAnswers.{report_answer, status_by}
 use Rattle.auditorium_core.specs.Lines.{Answer, refusal_answer}
-use Rattle.auditorium_core.specs.Audit.{IsAuditOver, report_answer, status_by}
-use Rattle.auditorium_core.specs.HonestAudit.{IsAuditAnswer, IsAuditOfPlace, IsOfReport}
+use Rattle.auditorium_core.specs.Audit.{source_named, IsAuditOver, IsAuditAnswer}
+use Rattle.auditorium_core.specs.HonestAudit.{IsAuditOfPlace, IsOfReport}
 use Rattle.auditorium_core.proofs.ShortFiles.{none_over_limit}
 
 -- where digests differ, a report by the standard rules on what is left of such a place says of none that it is broken

@@ -27,6 +27,8 @@ use Rattle.auditorium_core.specs.Lines.{Answer, refusal_answer}
 use Rattle.auditorium_core.specs.Honest.{IsHonestOrder, IsHonestWord, IsOrderOfPlace}
 use Rattle.auditorium_core.specs.Honest.{no_first, no_second, both}
 use Rattle.auditorium_core.specs.Order.{IsOrderAmong, IsOrderOf, IsOrderOver, IsOrderOverLogs, IsOrderUnder}
+use Rattle.auditor.proofs.Makers.{logs_have_makers, survivors_have_makers}
+use Rattle.auditorium_core.proofs.PlainSurvivors.{is_exact}
 use Rattle.auditorium_core.proofs.EntryTexts.{named_has}
 use Rattle.auditorium_core.proofs.HonestWords.{word_exact, word_in, word_known}
 use Rattle.auditorium_core.proofs.ShortFiles.{none_over_limit}
@@ -167,4 +169,11 @@ module _ (known : AreKnown) (read : RosterRead) (x y : List ℕ) (names : List (
 
   -- an answer that is right is right of each honest place
   pub order_under : IsOrderOverLogs read x y names files answer → IsOrderUnder read x y names files answer
-  order_under right = record { right = right; honest = λ w is left. of_place w is left right }
+  order_under right = record {
+    right = right;
+    exact = λ graph (found, gives, graphed).
+        is_exact read.roster.machines (entries_of found) graph
+        (survivors_have_makers read.roster.machines (entries_of found) graph
+        (logs_have_makers read.roster.machines read.election names files found gives) graphed) graphed;
+    honest = λ w is left. of_place w is left right;
+  }

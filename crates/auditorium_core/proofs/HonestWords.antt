@@ -7,7 +7,9 @@ use Rattle.entry_order.specs.Receipt.{OrderIsReceiptIn}
 use Rattle.entry_order.specs.Survivors.{gaps}
 use Rattle.entry_order.specs.World.{World, sent_in}
 use Rattle.entry_order.proofs.Lists.{Contains-none}
-use Rattle.entry_format.specs.Nodes.{node_of_sealed}
+use Rattle.entry_format.specs.Nodes.{node_of, node_of_sealed}
+use Rattle.entry_format.specs.Plains.{plain_of, plains}
+use Rattle.entry_order.proofs.Images.{order_seen, order_back, completion_seen}
 use Rattle.entry_format.specs.SealedEntry.{SealedEntry}
 use Rattle.auditorium_core.specs.declared.order_word.OrderWord.{OrderWord}
 use Rattle.auditorium_core.specs.declared.order_word.OrderWord.TheVariants as says
@@ -21,15 +23,18 @@ module _ (w : World SealedEntry) (e f : SealedEntry) where
       IsSettled machines S e f word → IsWordIn w e f word
   word_in receipt sent_e sent_f machines S all says.Same settled = settled
   word_in receipt sent_e sent_f machines S all says.Before settled =
-      (receipt e f sent_e sent_f).0 (settled (sent_in w) all)
+      (receipt e f sent_e sent_f).0 (order_back node_of plain_of (sent_in w) e f sent_e sent_f
+      (settled (plains (sent_in w)) (completion_seen node_of plain_of machines S (sent_in w) all)))
   word_in receipt sent_e sent_f machines S all says.After settled =
-      (receipt f e sent_f sent_e).0 (settled (sent_in w) all)
-  word_in receipt sent_e sent_f machines S all says.Apart settled =
-      let apart = settled (sent_in w) all in
+      (receipt f e sent_f sent_e).0 (order_back node_of plain_of (sent_in w) f e sent_f sent_e
+      (settled (plains (sent_in w)) (completion_seen node_of plain_of machines S (sent_in w) all)))
+  word_in receipt sent_e sent_f machines S all says.Apart (differ, settled) =
+      let (not_before, not_after) =
+      settled (plains (sent_in w)) (completion_seen node_of plain_of machines S (sent_in w) all) in
       record {
-        differ = apart.differ;
-        not_before = λ held. apart.not_before ((receipt e f sent_e sent_f).1 held);
-        not_after = λ held. apart.not_after ((receipt f e sent_f sent_e).1 held);
+        differ = differ;
+        not_before = λ held. not_before (order_seen node_of plain_of (sent_in w) e f ((receipt e f sent_e sent_f).1 held));
+        not_after = λ held. not_after (order_seen node_of plain_of (sent_in w) f e ((receipt f e sent_f sent_e).1 held));
       }
   word_in receipt sent_e sent_f machines S all says.Unknown settled = tt
 

@@ -8,7 +8,11 @@ use Rattle.entry_order.specs.declared.three.Three.TheVariants.{False, Unknown, T
 use Rattle.entry_order.specs.Ancestors.{reaches, is_whole, before}
 use Rattle.entry_order.specs.Settled.{IsWhole, IsGraphOf, GraphsAreExact, PathsAreSettled}
 use Rattle.entry_format.specs.SealedEntry.{SealedEntry}
-use Rattle.entry_format.specs.Nodes.{node_of_sealed}
+use Rattle.entry_format.specs.Nodes.{node_of, node_of_sealed}
+use Rattle.entry_order.proofs.Lists.{Contains-map}
+use Rattle.entry_order.proofs.Completions.{paths_are_settled}
+use Rattle.entry_format.specs.Plains.{plain_of, plains}
+use Rattle.entry_order.proofs.Images.{order_seen, order_back, whole_seen}
 use Rattle.auditorium_core.specs.declared.order_word.OrderWord.{OrderWord}
 use Rattle.auditorium_core.specs.declared.order_word.OrderWord.TheVariants as says
 use Rattle.auditorium_core.specs.Order.{IsBefore, IsWordOf, IsSettled}
@@ -53,11 +57,23 @@ word_is_right S e f Unknown Unknown differ (not_before, f_lacks) (not_after, _) 
 pub word_is_settled : PathsAreSettled node_of_sealed → (machines : ℕ) (S : List SealedEntry) (e f : SealedEntry)
     (word : OrderWord) → Contains S e → Contains S f → IsWordOf S e f word → IsSettled machines S e f word
 word_is_settled paths machines S e f says.Same has_e has_f right = right
-word_is_settled paths machines S e f says.Before has_e has_f right = λ G all. (paths machines S G all e f).0 right
-word_is_settled paths machines S e f says.After has_e has_f right = λ G all. (paths machines S G all f e).0 right
-word_is_settled paths machines S e f says.Apart has_e has_f (apart, (e_whole, f_whole)) = λ G all. record {
-  differ = apart.differ;
-  not_before = λ path. apart.not_before ((paths machines S G all e f).1 has_f f_whole path);
-  not_after = λ path. apart.not_after ((paths machines S G all f e).1 has_e e_whole path);
-}
+word_is_settled paths machines S e f says.Before has_e has_f right =
+    λ G all. (paths_are_settled node_of machines (plains S) G all (plain_of e) (plain_of f)).0
+    (order_seen node_of plain_of S e f right)
+word_is_settled paths machines S e f says.After has_e has_f right =
+    λ G all. (paths_are_settled node_of machines (plains S) G all (plain_of f) (plain_of e)).0
+    (order_seen node_of plain_of S f e right)
+word_is_settled paths machines S e f says.Apart has_e has_f (apart, (e_whole, f_whole)) = (
+  apart.differ,
+  λ G all. (
+    λ path.
+        apart.not_before (order_back node_of plain_of S e f has_e has_f
+        ((paths_are_settled node_of machines (plains S) G all (plain_of e) (plain_of f)).1
+        (Contains-map plain_of S f has_f) (whole_seen node_of plain_of S f has_f f_whole) path)),
+    λ path.
+        apart.not_after (order_back node_of plain_of S f e has_f has_e
+        ((paths_are_settled node_of machines (plains S) G all (plain_of f) (plain_of e)).1
+        (Contains-map plain_of S e has_e) (whole_seen node_of plain_of S e has_e e_whole) path)),
+  ),
+)
 word_is_settled paths machines S e f says.Unknown has_e has_f (_, not_whole) = not_whole

@@ -1,53 +1,50 @@
--- What `audit` gives for a roster, rules and logs.
-use Rattle.std.specs.Prelude.{◌≡◌, ◌≢◌, ℕ, List, [], length, IsTrue, Option}
+-- The command `audit`.
+use Rattle.std.specs.Prelude.{◌≡◌, ◌≢◌, ℕ, List, [], ◌∷◌, length, IsTrue, Option, Ok, codes, if◌then◌else◌}
 use Rattle.std.specs.List.{AllZip}
+use Rattle.std.specs.Str.{bytes_eq}
 use Rattle.entry_order.specs.Completion.{Completion}
 use Rattle.entry_order.specs.Survivors.{IsGaps}
-use Rattle.entry_format.specs.SealedEntry.{SealedEntry}
-use Rattle.entry_format.specs.Nodes.{node_of_sealed}
+use Rattle.entry_format.specs.Nodes.{node_of, node_of_sealed}
+use Rattle.entry_format.specs.declared.plain.Plain.{Plain}
+use Rattle.entry_format.specs.Plains.{plains}
 use Rattle.rule_language.specs.Trees.{RuleTree}
-use Rattle.rule_engine.specs.Meaning.{Holds}
+use Rattle.rule_meaning.specs.Meaning.{Holds}
 use Rattle.rule_engine.specs.declared.verdict.Verdict.TheVariants as verdict
-use Rattle.auditor.specs.declared.outcome.Outcome.{Outcome}
-use Rattle.auditor.specs.declared.outcome.Outcome.TheVariants as outcome
-use Rattle.auditor.specs.Rows.{row_of}
+use Rattle.auditor.specs.Rows.{row_said}
 use Rattle.auditor.specs.Report.{AuditReport}
-use Rattle.auditor.specs.Outcomes.{is_broken, outcome_of}
-use Rattle.auditor.specs.ReportText.{report_text}
-use Rattle.auditor.specs.Audits.{GivesReport}
-use Rattle.auditorium_core.specs.declared.status.Status.{Status}
+use Rattle.auditor.specs.Outcomes.{is_broken}
+use Rattle.auditor.specs.Audits.{GivesReport, audit_files}
+use Rattle.auditor.specs.Sources.{RuleSource, standard, in_file}
 use Rattle.auditorium_core.specs.declared.status.Status.TheVariants as status
-use Rattle.auditorium_core.specs.Words.{source_named}
 use Rattle.auditorium_core.specs.Lines.{Answer, OrRefused}
+use Rattle.auditorium_core.specs.ReportAnswers.{report_answer, report_statuses}
+use Rattle.auditorium_core.specs.HonestAudit.{IsAuditOfPlaces}
+use Rattle.auditorium_core.specs.WordForms.{AreLogs}
+use Rattle.auditorium_core.specs.CommandParts.{CommandParts}
 
--- the status of what a report comes to
-abbrev pub status_by : Outcome → Status
-status_by outcome.Kept = status.Done
-status_by outcome.Findings = status.Findings
-status_by outcome.Unsettled = status.Unsettled
-status_by outcome.Broken = status.Broken
+-- the rules that a word names: the standard ones, or those in a file
+abbrev pub source_named : List ℕ → RuleSource
+source_named word = if bytes_eq word (codes "standard") then standard else in_file word
 
--- the answer of a report
-abbrev pub report_answer : AuditReport → Answer
-report_answer report = record { status = status_by (outcome_of report); files = []; output = report_text report }
+-- the rule holds of the survivors if these were all that there was, of which nothing is known but what they say
+abbrev pub HoldsOf : AuditReport → List Plain → RuleTree → Type 0
+HoldsOf report G rule =
+    Holds node_of (λ (plain : Plain). row_said report.machines plain.entry) (plains report.graph.survivors) G rule.body
 
--- the rule holds of the survivors if these entries were all that there was
-abbrev pub HoldsOf : AuditReport → List SealedEntry → RuleTree → Type 0
-HoldsOf report G rule = Holds node_of_sealed (row_of report.machines) report.graph.survivors G rule.body
-
--- these entries may be all that there was: they complete the survivors
-abbrev pub Completes : AuditReport → List SealedEntry → Type 0
-Completes report G = Completion node_of_sealed (length report.machines) report.graph.survivors G
+-- entries with such digests may be all that there was: they complete the survivors
+abbrev pub Completes : AuditReport → List Plain → Type 0
+Completes report G = Completion node_of (length report.machines) (plains report.graph.survivors) G
 
 -- The answer is that of the report, of which this holds: a rule that is reported kept holds whatever was lost, and one
--- that is reported broken holds in no case. A rule is unsettled only where there is a gap. The gaps are exactly the
--- digests that a survivor names and none has, each once, ascending.
+-- that is reported broken holds in no case. There is such a case. A rule is unsettled only where there is a gap. The
+-- gaps are exactly the digests that a survivor names and none has, each once, ascending.
 pub record IsAuditOf (report : AuditReport) (answer : Answer) : Type 0 where
-  pub kept : AllZip (λ rule is. is ≡ verdict.Kept → (G : List SealedEntry) → Completes report G → HoldsOf report G rule)
+  pub kept : AllZip (λ rule is. is ≡ verdict.Kept → (G : List Plain) → Completes report G → HoldsOf report G rule)
       report.rules report.verdicts
   pub broken : AllZip
-      (λ rule is. IsTrue (is_broken is) → (G : List SealedEntry) → Completes report G → ¬ HoldsOf report G rule)
+      (λ rule is. IsTrue (is_broken is) → (G : List Plain) → Completes report G → ¬ HoldsOf report G rule)
       report.rules report.verdicts
+  pub some : (G : List Plain) × Completes report G
   pub unsettled : AllZip (λ rule is. is ≡ verdict.Unsettled → report.graph.gaps ≢ []) report.rules report.verdicts
   pub gaps : IsGaps node_of_sealed report.graph.survivors report.graph.gaps
   pub told : answer ≡ report_answer report
@@ -56,3 +53,26 @@ pub record IsAuditOf (report : AuditReport) (answer : Answer) : Type 0 where
 abbrev pub IsAuditOver : List ℕ → List ℕ → List (List ℕ) → List (Option (List ℕ)) → Answer → Type 0
 IsAuditOver roster rules logs files answer =
     OrRefused (GivesReport roster (source_named rules) logs files) IsAuditOf answer
+
+-- the answer for these files, and what it says where those of the logs are left of an honest place
+pub record IsAuditAnswer (roster rules : List ℕ) (logs : List (List ℕ)) (files : List (Option (List ℕ)))
+    (answer : Answer) : Type 0 where
+  pub right : IsAuditOver roster rules logs files answer
+  pub honest : IsAuditOfPlaces (source_named rules) logs files answer
+
+-- The files give a report. So its graph isn't refused, and none of its rules is too wide.
+abbrev pub GiveReport : List ℕ → List ℕ → List (List ℕ) → List (Option (List ℕ)) → Type 0
+GiveReport roster rules logs files =
+    (report : AuditReport) × GivesReport roster (source_named rules) logs files (Ok report)
+
+-- `audit ROSTER RULES LOG..`; the word `standard` names rules that no file has
+abbrev pub audit_parts : List ℕ → List ℕ → List (List ℕ) → CommandParts
+audit_parts roster rules logs = record {
+  words = codes "audit" ∷ roster ∷ rules ∷ logs;
+  IsAllowed = AreLogs logs;
+  files = audit_files roster (source_named rules) logs;
+  IsAnswer = IsAuditAnswer roster rules logs;
+  AreAccepted = GiveReport roster rules logs;
+  statuses = report_statuses;
+  absence = status.Absent;
+}

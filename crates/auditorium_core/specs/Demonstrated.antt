@@ -1,5 +1,7 @@
--- What `demo` gives for a number of sessions.
+-- The command `demo`.
 use Rattle.std.specs.Prelude.{◌≡◌, ◌≢◌, ◌⊎◌, ℕ, ◌+◌, List, [], ◌∷◌, length, Some, None, Result, Ok, Err}
+use Rattle.std.specs.Prelude.{codes}
+use Rattle.std.specs.Fmt.{decimal}
 use Rattle.entry_format.specs.Nodes.{node_of_sealed}
 use Rattle.entry_order.specs.Naming.{Distinct}
 use Rattle.entry_order.specs.World.{history, sent_in}
@@ -17,9 +19,11 @@ use Rattle.demonstration.specs.declared.shown.Demonstration.{Demonstration}
 use Rattle.demonstration.specs.Kept.{IsKeptOf}
 use Rattle.demonstration.specs.Lines.{demonstration_text}
 use Rattle.demonstration.specs.Shown.{IsAudited, IsDemonstrationOf, IsRefusedSo}
-use Rattle.auditorium_core.specs.declared.status.Status.TheVariants.{Broken}
-use Rattle.auditorium_core.specs.Audit.{status_by}
+use Rattle.auditorium_core.specs.declared.status.Status.TheVariants as status
+use Rattle.auditorium_core.specs.ReportAnswers.{status_by, report_statuses}
 use Rattle.auditorium_core.specs.Lines.{Answer, OrRefused, refusal_answer}
+use Rattle.auditorium_core.specs.WordForms.{AreSessions}
+use Rattle.auditorium_core.specs.CommandParts.{CommandParts, OnNoFile}
 
 -- the number is half of so many sessions, rounded up
 abbrev pub IsHalfOf : ℕ → ℕ → Type 0
@@ -53,7 +57,7 @@ pub record TellsNoneBroken (sessions session : ℕ) (answer : Answer) : Type 0 w
   pub none_broken : shown.broken ≡ 0
   pub each : shown.kept + shown.unsettled ≡ length standard_rules
   pub unsettled : shown.gaps ≡ 0 → shown.unsettled ≡ 0
-  pub not_broken : answer.status ≢ Broken
+  pub not_broken : answer.status ≢ status.Broken
 
 -- The answer is a refusal, because a standard rule is too wide over what survives in the log that is kept of these
 -- machines.
@@ -80,3 +84,15 @@ abbrev pub ShowsReport : ℕ → Type 0
 ShowsReport sessions =
     (half : ℕ) × IsHalfOf sessions half × (machines : List MachineState) × (report : AuditReport)
     × IsAudited (generated sessions) half machines (Ok report)
+
+-- `demo N`
+abbrev pub demonstration_parts : ℕ → CommandParts
+demonstration_parts sessions = record {
+  words = codes "demo" ∷ decimal sessions ∷ [];
+  IsAllowed = AreSessions sessions;
+  files = [];
+  IsAnswer = λ files answer. OnNoFile (IsDemonstrationAnswer sessions answer) files;
+  AreAccepted = OnNoFile (ShowsReport sessions);
+  statuses = report_statuses;
+  absence = status.Absent;
+}

@@ -1,5 +1,5 @@
--- What `gaps` gives for a log.
-use Rattle.std.specs.Prelude.{◌≡◌, ℕ, List, [], ◌∷◌, ◌++◌, Option, ◌⊎◌, codes}
+-- The command `gaps`.
+use Rattle.std.specs.Prelude.{◌≡◌, ℕ, List, [], ◌∷◌, ◌++◌, Option, ◌⊎◌, codes, ⊤}
 use Rattle.entry_order.specs.Survivors.{gaps}
 use Rattle.entry_format.specs.Nodes.{node_of}
 use Rattle.log_files.specs.declared.plain_log.PlainLog.{PlainLog}
@@ -7,9 +7,10 @@ use Rattle.log_files.specs.declared.plain_log.LogFault.{LogFault}
 use Rattle.log_files.specs.declared.plain_log.LogFault.TheVariants.{Absent, TooLong, Header, ReadFault, Memory}
 use Rattle.log_files.specs.LogFile.{IsLogOf, IsLogRefused}
 use Rattle.auditorium_core.specs.declared.status.Status.{Status}
-use Rattle.auditorium_core.specs.declared.status.Status.TheVariants.{Done, Findings}
+use Rattle.auditorium_core.specs.declared.status.Status.TheVariants as status
 use Rattle.report_lines.specs.Lines.{refused_lines, end_line, gap_lines}
 use Rattle.auditorium_core.specs.Lines.{Answer, absent_answer, refused_answer}
+use Rattle.auditorium_core.specs.CommandParts.{CommandParts, OnOneFile}
 
 -- all lines of a log: the gaps are the digests that its entries name and none of them bears
 abbrev pub gaps_log_lines : List ℕ → PlainLog → List ℕ
@@ -18,8 +19,8 @@ gaps_log_lines name log =
 
 -- findings, where there is any line
 abbrev pub status_of : List ℕ → Status
-status_of [] = Done
-status_of (byte ∷ bytes) = Findings
+status_of [] = status.Done
+status_of (byte ∷ bytes) = status.Findings
 
 -- an answer of these lines
 abbrev pub findings_answer : List ℕ → Answer
@@ -38,3 +39,15 @@ abbrev pub IsGapsAnswer : List ℕ → Option (List ℕ) → Answer → Type 0
 IsGapsAnswer name file answer =
     ((log : PlainLog) × IsLogOf log file × (answer ≡ findings_answer (gaps_log_lines name log)))
     ⊎ ((fault : LogFault) × IsLogRefused fault file × IsRefusal name fault answer)
+
+-- `gaps LOG`
+abbrev pub gaps_parts : List ℕ → CommandParts
+gaps_parts log = record {
+  words = codes "gaps" ∷ log ∷ [];
+  IsAllowed = ⊤;
+  files = log ∷ [];
+  IsAnswer = λ files answer. OnOneFile (λ file. IsGapsAnswer log file answer) files;
+  AreAccepted = OnOneFile (λ file. (read : PlainLog) × IsLogOf read file);
+  statuses = status.Done ∷ status.Findings ∷ status.Refused ∷ status.Absent ∷ [];
+  absence = status.Absent;
+}

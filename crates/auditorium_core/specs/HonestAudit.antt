@@ -15,9 +15,8 @@ use Rattle.honest_reports.specs.Refusals.{IsRefusalOfRules, IsTooWideFor}
 use Rattle.honest_reports.specs.Reports.{IsHonestReport}
 use Rattle.auditorium_core.specs.declared.status.Status.{Status}
 use Rattle.auditorium_core.specs.declared.status.Status.TheVariants as status
-use Rattle.auditorium_core.specs.Words.{source_named}
 use Rattle.auditorium_core.specs.Lines.{Answer, refusal_answer}
-use Rattle.auditorium_core.specs.Audit.{IsAuditOver, report_answer}
+use Rattle.auditorium_core.specs.ReportAnswers.{report_answer}
 
 -- the status is that of a report, and of no refusal
 abbrev pub IsOfReport : Status → Type 0
@@ -76,9 +75,3 @@ IsAuditOfPlaces source names files answer =
     (log_files : List (Option (List ℕ))) → AreFilesOf w log_files → (rules_file : Option (List ℕ)) →
     files ≡ files_read roster_file source rules_file log_files →
     IsAuditOfPlace script w source rules_file names log_files answer
-
--- the answer for these files, and what it says where those of the logs are left of an honest place
-pub record IsAuditAnswer (roster rules : List ℕ) (logs : List (List ℕ)) (files : List (Option (List ℕ)))
-    (answer : Answer) : Type 0 where
-  pub right : IsAuditOver roster rules logs files answer
-  pub honest : IsAuditOfPlaces (source_named rules) logs files answer

@@ -1,10 +1,25 @@
--- What `make` gives for a number of sessions.
-use Rattle.std.specs.Prelude.{ℕ, []}
+-- The command `make`.
+use Rattle.std.specs.Prelude.{◌≡◌, ℕ, [], ◌∷◌, codes, ⊤}
+use Rattle.std.specs.Fmt.{decimal}
 use Rattle.election_script.specs.Generated.{generated}
 use Rattle.election_script.specs.Written.{script_text}
-use Rattle.auditorium_core.specs.declared.status.Status.TheVariants.{Done}
+use Rattle.auditorium_core.specs.declared.status.Status.TheVariants as status
 use Rattle.auditorium_core.specs.Lines.{Answer}
+use Rattle.auditorium_core.specs.WordForms.{AreSessions}
+use Rattle.auditorium_core.specs.CommandParts.{CommandParts, OnNoFile}
 
 -- the text of the script of a day of so many sessions
 abbrev pub made_answer : ℕ → Answer
-made_answer sessions = record { status = Done; files = []; output = script_text (generated sessions) }
+made_answer sessions = record { status = status.Done; files = []; output = script_text (generated sessions) }
+
+-- `make N`
+abbrev pub make_parts : ℕ → CommandParts
+make_parts sessions = record {
+  words = codes "make" ∷ decimal sessions ∷ [];
+  IsAllowed = AreSessions sessions;
+  files = [];
+  IsAnswer = λ files answer. OnNoFile (answer ≡ made_answer sessions) files;
+  AreAccepted = OnNoFile ⊤;
+  statuses = status.Done ∷ [];
+  absence = status.Absent;
+}

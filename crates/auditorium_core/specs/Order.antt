@@ -1,11 +1,14 @@
--- What `order` gives for a roster, two words for entries, and logs.
-use Rattle.std.specs.Prelude.{◌≡◌, ◌≢◌, ◌⊎◌, ℕ, List, length, Option}
+-- The command `order`.
+use Rattle.std.specs.Prelude.{◌≡◌, ◌≢◌, ◌⊎◌, ℕ, List, [], ◌∷◌, length, Option, ◌↔◌, Ok, codes}
+use Rattle.std.specs.List.{Contains}
 use Rattle.entry_order.specs.Precedes.{Precedes}
 use Rattle.entry_order.specs.Settled.{IsWhole}
 use Rattle.entry_order.specs.Completion.{Completion}
 use Rattle.roster.specs.declared.post.Post.{Post}
 use Rattle.entry_format.specs.SealedEntry.{SealedEntry}
-use Rattle.entry_format.specs.Nodes.{node_of_sealed}
+use Rattle.entry_format.specs.Nodes.{node_of, node_of_sealed}
+use Rattle.entry_format.specs.declared.plain.Plain.{Plain}
+use Rattle.entry_format.specs.Plains.{plain_of, plains}
 use Rattle.log_files.specs.declared.sealed_log.LogRead.{LogRead}
 use Rattle.entry_graph.specs.EntryGraph.{EntryGraph}
 use Rattle.evidence.specs.declared.roster_file.RosterRead.{RosterRead}
@@ -14,10 +17,12 @@ use Rattle.evidence.specs.Logs.{GivesLogs}
 use Rattle.evidence.specs.Graphs.{entries_of, GivesGraph}
 use Rattle.auditorium_core.specs.declared.order_word.OrderWord.{OrderWord}
 use Rattle.auditorium_core.specs.declared.order_word.OrderWord.TheVariants.{Same, Before, After, Apart, Unknown}
-use Rattle.auditorium_core.specs.declared.status.Status.TheVariants.{Done}
+use Rattle.auditorium_core.specs.declared.status.Status.TheVariants as status
 use Rattle.auditorium_core.specs.Lines.{Answer, OrRefused, line_answer, no_entry, order_word}
-use Rattle.auditorium_core.specs.EntryWords.{MeansEntry, MeansNone}
+use Rattle.auditorium_core.specs.EntryWords.{IsEntryWord, MeansEntry, MeansNone}
 use Rattle.auditorium_core.specs.Honest.{IsOrderOfPlaces}
+use Rattle.auditorium_core.specs.WordForms.{AreLogs}
+use Rattle.auditorium_core.specs.CommandParts.{CommandParts, OnFirstFile}
 
 -- e before f in G, by a path of names
 abbrev pub IsBefore : List SealedEntry → SealedEntry → SealedEntry → Type 0
@@ -41,13 +46,22 @@ IsWordOf S e f After = IsBefore S f e
 IsWordOf S e f Apart = AreApart S e f × AreWhole S e f
 IsWordOf S e f Unknown = AreApart S e f × (¬ AreWhole S e f)
 
+-- what e says comes before what f says, in entries of which nothing else is known than what they say
+abbrev pub ComesFirst : List Plain → SealedEntry → SealedEntry → Type 0
+ComesFirst G e f = Precedes node_of G (plain_of e) (plain_of f)
+
+-- so it is in all that the entries may have been of which S survives
+abbrev pub InEach : ℕ → List SealedEntry → (List Plain → Type 0) → Type 0
+InEach machines S P = (G : List Plain) → Completion node_of machines (plains S) G → P G
+
 -- What the word promises of all that the entries may have been of which S survives: `before` and `after` hold in each
 -- completion, of `apart` neither holds in any, and `unknown` is told only where one of the two isn't whole.
 abbrev pub IsSettled : ℕ → List SealedEntry → SealedEntry → SealedEntry → OrderWord → Type 0
 IsSettled machines S e f Same = e ≡ f
-IsSettled machines S e f Before = (G : List SealedEntry) → Completion node_of_sealed machines S G → IsBefore G e f
-IsSettled machines S e f After = (G : List SealedEntry) → Completion node_of_sealed machines S G → IsBefore G f e
-IsSettled machines S e f Apart = (G : List SealedEntry) → Completion node_of_sealed machines S G → AreApart G e f
+IsSettled machines S e f Before = InEach machines S (λ G. ComesFirst G e f)
+IsSettled machines S e f After = InEach machines S (λ G. ComesFirst G f e)
+IsSettled machines S e f Apart =
+    (e ≢ f) × InEach machines S (λ G. (¬ ComesFirst G e f) × (¬ ComesFirst G f e))
 IsSettled machines S e f Unknown = ¬ AreWhole S e f
 
 -- the answer of two survivors
@@ -55,7 +69,7 @@ pub record IsOrderOf (machines : List Post) (S : List SealedEntry) (e f : Sealed
   pub word : OrderWord
   pub right : IsWordOf S e f word
   pub settled : IsSettled (length machines) S e f word
-  pub told : answer ≡ line_answer Done (order_word word)
+  pub told : answer ≡ line_answer status.Done (order_word word)
 
 -- the answer of two words among the survivors S
 abbrev pub IsOrderAmong : List Post → List SealedEntry → List ℕ → List ℕ → Answer → Type 0
@@ -76,10 +90,27 @@ IsOrderOverLogs read x y logs files answer =
     OrRefused (GivesLogs read.roster.machines read.election logs files)
     (λ (found : List LogRead). IsOrderOver read.roster.machines x y (entries_of found)) answer
 
+-- the logs in these files have this graph
+abbrev pub IsGraphIn : RosterRead → List (List ℕ) → List (Option (List ℕ)) → EntryGraph SealedEntry → Type 0
+IsGraphIn read logs files graph =
+    (found : List LogRead) × GivesLogs read.roster.machines read.election logs files (Ok found)
+    × GivesGraph (entries_of found) (Ok graph)
+
+-- Some entries complete S. Of two survivors e is before f exactly where it is so in each completion; and f is whole and
+-- e not before it exactly where it is so in none. So a word other than unknown is told wherever completions agree.
+pub record IsExact (machines : ℕ) (S : List SealedEntry) : Type 0 where
+  pub some : (G : List Plain) × Completion node_of machines (plains S) G
+  pub before : (e f : SealedEntry) → Contains S e → Contains S f →
+      IsBefore S e f ↔ InEach machines S (λ G. ComesFirst G e f)
+  pub not_before : (e f : SealedEntry) → Contains S e → Contains S f →
+      (IsWhole node_of_sealed S f × (¬ IsBefore S e f)) ↔ InEach machines S (λ G. ¬ ComesFirst G e f)
+
 -- the same, and what it says where the files are left of an honest place
 pub record IsOrderUnder (read : RosterRead) (x y : List ℕ) (logs : List (List ℕ)) (files : List (Option (List ℕ)))
     (answer : Answer) : Type 0 where
   pub right : IsOrderOverLogs read x y logs files answer
+  pub exact : (graph : EntryGraph SealedEntry) → IsGraphIn read logs files graph →
+      IsExact (length read.roster.machines) graph.survivors
   pub honest : IsOrderOfPlaces read.roster.machines read.election x y logs files answer
 
 -- the answer for the roster's file and the logs' files, each of which may be absent
@@ -87,3 +118,35 @@ abbrev pub IsOrderAnswer : List ℕ → List ℕ → List ℕ → List (List ℕ
     Answer → Type 0
 IsOrderAnswer roster x y logs file files answer =
     OrRefused (GivesRoster roster file) (λ (read : RosterRead). IsOrderUnder read x y logs files) answer
+
+-- two words for entries, and 1 to 16 logs
+pub record AreOrderWords (x y : List ℕ) (logs : List (List ℕ)) : Type 0 where
+  pub first : IsEntryWord x
+  pub second : IsEntryWord y
+  pub enough : AreLogs logs
+
+-- the files are a roster's and logs, the logs' entries have a graph, and both words mean survivors
+pub record GiveEntries (roster x y : List ℕ) (logs : List (List ℕ)) (file : Option (List ℕ))
+    (files : List (Option (List ℕ))) : Type 0 where
+  pub read : RosterRead
+  pub found : List LogRead
+  pub graph : EntryGraph SealedEntry
+  pub e : SealedEntry
+  pub f : SealedEntry
+  pub of_roster : GivesRoster roster file (Ok read)
+  pub of_logs : GivesLogs read.roster.machines read.election logs files (Ok found)
+  pub of_entries : GivesGraph (entries_of found) (Ok graph)
+  pub first : MeansEntry read.roster.machines graph.survivors x e
+  pub second : MeansEntry read.roster.machines graph.survivors y f
+
+-- `order ROSTER X Y LOG..`
+abbrev pub order_parts : List ℕ → List ℕ → List ℕ → List (List ℕ) → CommandParts
+order_parts roster x y logs = record {
+  words = codes "order" ∷ roster ∷ x ∷ y ∷ logs;
+  IsAllowed = AreOrderWords x y logs;
+  files = roster ∷ logs;
+  IsAnswer = λ files answer. OnFirstFile (λ file others. IsOrderAnswer roster x y logs file others answer) files;
+  AreAccepted = OnFirstFile (GiveEntries roster x y logs);
+  statuses = status.Done ∷ status.Refused ∷ status.Absent ∷ [];
+  absence = status.Absent;
+}

@@ -3,22 +3,15 @@ use Rattle.std.specs.Prelude.{◌≡◌, ℕ, List, [], ◌∷◌, Option, ◌�
 use Rattle.hall_outside.specs.Counts.{HasRisen}
 use Rattle.hall_outside.specs.Files.{Files, with_file, SetsPrefix}
 use Rattle.hall_outside.specs.Writing.{appended, AppendsPrefix, OffersAll, PutsFile}
+use Rattle.hall_outside.specs.declared.sinks.Sink.{Ghosts as SinkGhosts}
 use Rattle.hall_outside.specs.declared.stores.Failed.{Failed}
-use Rattle.evidence.specs.Reading.{StoreSeen}
+use Rattle.hall_outside.specs.declared.stores.Store.{Ghosts as StoreGhosts}
 use Rattle.auditorium_core.specs.declared.status.Status.{Status}
 use Rattle.auditorium_core.specs.declared.status.Status.TheVariants.{ReadFault, WriteFault, Memory}
 use Rattle.auditorium_core.specs.Lines.{Answer}
+use Rattle.auditorium_core.specs.Outside.{Outside}
+use Rattle.auditorium_core.specs.Words.{Command}
 use Rattle.auditorium_core.specs.Answer.{IsAnswerOf}
-
--- what can be seen of a store and a sink: of the sink the output, where it is told, and the count
-pub record Outside : Type 0 where
-  pub store : StoreSeen
-  pub output : Option (List ℕ)
-  pub output_faults : ℕ
-
--- the same, part by part
-abbrev pub outside : StoreSeen → Option (List ℕ) → ℕ → Outside
-outside store output output_faults = record { store = store; output = output; output_faults = output_faults }
 
 -- the files with these set, one after another
 abbrev pub with_files : Option Files → List (List ℕ × List ℕ) → Option Files
@@ -52,6 +45,12 @@ IsWrittenBy create append write answer store out ok store_after out_after =
     (PutsAll create append store answer.files false store_after × (out_after ≡ out) × (ok ≡ false))
     ⊎ (PutsAll create append store answer.files true store_after × OffersAll write out answer.output ok out_after)
 
+-- so it is written after reads, which change no file
+abbrev pub IsWrittenAfterReads : {S K : Type 0} → StoreGhosts S → SinkGhosts K → S → K → S → K → Answer → Bool → Type 0
+IsWrittenAfterReads {S} of_store of_sink store out store_after out_after answer ok =
+    (read : S) × (of_store.files read ≡ of_store.files store)
+    × IsWrittenBy of_store.creates of_store.appends of_sink.writes answer read out ok store_after out_after
+
 -- nothing was written
 pub record IsUnwritten (old new : Outside) : Type 0 where
   pub files : new.store.files ≡ old.store.files
@@ -72,19 +71,20 @@ pub record IsCutShort (answer : Answer) (old new : Outside) : Type 0 where
       → new.store.files ≡ with_files old.store.files answer.files
   pub no_output : ¬ HasRisen old.output_faults new.output_faults → new.output ≡ old.output
 
--- an answer that is right, in this call
-abbrev pub GivesAnswer : (Option Files → Answer → Type 0) → Outside → Outside → Answer → Type 0
-GivesAnswer IsRight old new answer =
-    IsAnswerOf IsRight old.store.files old.store.answered.absences new.store.answered.absences answer
+-- an answer to the words that is right, in this call
+abbrev pub GivesAnswer : (Command → Type 0) → List (List ℕ) → Outside → Outside → Answer → Type 0
+GivesAnswer IsDone words old new answer =
+    IsAnswerOf IsDone words old.store.files old.store.answered.absences new.store.answered.absences answer
 
--- What was done where such an answer is right. A status that isn't a fault of the outside or want of memory is that of
--- the answer. An answer is written by these calls, all of which but the last, in the second case, do as they are asked.
-abbrev pub HasDone : (Option Files → Answer → Type 0) → (Answer → Bool → Type 0) → Outside → Status → Outside → Type 0
-HasDone IsRight is_written_by old ReadFault new =
+-- What was done for words where these are the commands. A status that isn't a fault of the outside or want of memory is
+-- that of the answer. An answer is written by these calls, all of which but the last, in the second case, do as they
+-- are asked.
+abbrev pub HasDone : (Command → Type 0) → List (List ℕ) → (Answer → Bool → Type 0) → Outside → Status → Outside → Type 0
+HasDone IsDone words is_written_by old ReadFault new =
     HasRisen old.store.read_faults new.store.read_faults × IsUnwritten old new
-HasDone IsRight is_written_by old WriteFault new =
-    (answer : Answer) × GivesAnswer IsRight old new answer × is_written_by answer false × IsCutShort answer old new
-HasDone IsRight is_written_by old Memory new = IsUnwritten old new
-HasDone IsRight is_written_by old status new =
-    (answer : Answer) × GivesAnswer IsRight old new answer × (status ≡ answer.status) × is_written_by answer true
+HasDone IsDone words is_written_by old WriteFault new =
+    (answer : Answer) × GivesAnswer IsDone words old new answer × is_written_by answer false × IsCutShort answer old new
+HasDone IsDone words is_written_by old Memory new = IsUnwritten old new
+HasDone IsDone words is_written_by old status new =
+    (answer : Answer) × GivesAnswer IsDone words old new answer × (status ≡ answer.status) × is_written_by answer true
     × IsWritten answer old new

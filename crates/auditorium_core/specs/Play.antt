@@ -1,5 +1,5 @@
--- What `play` gives for a script.
-use Rattle.std.specs.Prelude.{◌≡◌, ℕ, List, [], ◌∷◌, ◌++◌, length, map, Option, Some, None, codes}
+-- The command `play`.
+use Rattle.std.specs.Prelude.{◌≡◌, ℕ, List, [], ◌∷◌, ◌++◌, length, map, Option, Some, None, codes, ⊤}
 use Rattle.std.specs.List.{flat_map}
 use Rattle.std.specs.Fmt.{decimal}
 use Rattle.canonical_sexp.specs.Text.{text_of}
@@ -19,11 +19,12 @@ use Rattle.polling_world.specs.Playing.{IsPlayed}
 use Rattle.polling_world.specs.Worlds.{world_of}
 use Rattle.polling_world.specs.Waiting.{IsLeft}
 use Rattle.auditorium_core.specs.declared.status.Status.{Status}
-use Rattle.auditorium_core.specs.declared.status.Status.TheVariants.{Done, Undone}
+use Rattle.auditorium_core.specs.declared.status.Status.TheVariants as status
 use Rattle.report_lines.specs.Lines.{line}
 use Rattle.auditorium_core.specs.HonestPlace.{LeaveHonestFiles}
 use Rattle.auditorium_core.specs.Lines.{Answer, OrRefused}
-use Rattle.auditorium_core.specs.ScriptFile.{GivesScript}
+use Rattle.auditorium_core.specs.ScriptFile.{GivesScript, IsScriptFile}
+use Rattle.auditorium_core.specs.CommandParts.{CommandParts, OnOneFile}
 use Rattle.polling_world.specs.CauseWords.{left_why_word}
 
 -- the roster goes into this file, and a machine's log into that one
@@ -62,8 +63,12 @@ SayUndone (m ∷ machines) lines =
 
 -- undone, where there is such a line
 abbrev pub status_of_undone : List ℕ → Status
-status_of_undone [] = Done
-status_of_undone (byte ∷ bytes) = Undone
+status_of_undone [] = status.Done
+status_of_undone (byte ∷ bytes) = status.Undone
+
+-- those of machines that play, and of a refusal
+abbrev pub play_statuses : List Status
+play_statuses = status.Done ∷ status.Undone ∷ status.Refused ∷ status.Absent ∷ []
 
 -- the answer of machines with this roster, of which these lines say what is left
 abbrev pub play_answer : List ℕ → List Post → List MachineState → List ℕ → Answer
@@ -92,3 +97,15 @@ pub record IsPlayOf (prefix : List ℕ) (script : Script) (answer : Answer) : Ty
 -- the answer for the script's file, or where there is none
 abbrev pub IsPlayAnswer : List ℕ → List ℕ → Option (List ℕ) → Answer → Type 0
 IsPlayAnswer name prefix file answer = OrRefused (GivesScript name file) (IsPlayOf prefix) answer
+
+-- `play SCRIPT PREFIX`
+abbrev pub play_parts : List ℕ → List ℕ → CommandParts
+play_parts script prefix = record {
+  words = codes "play" ∷ script ∷ prefix ∷ [];
+  IsAllowed = ⊤;
+  files = script ∷ [];
+  IsAnswer = λ files answer. OnOneFile (λ file. IsPlayAnswer script prefix file answer) files;
+  AreAccepted = OnOneFile IsScriptFile;
+  statuses = play_statuses;
+  absence = status.Absent;
+}

@@ -1,5 +1,5 @@
--- What `run` gives for a script.
-use Rattle.std.specs.Prelude.{◌≡◌, ℕ, List, ◌++◌, Option, codes}
+-- The command `run`.
+use Rattle.std.specs.Prelude.{◌≡◌, ℕ, List, [], ◌∷◌, ◌++◌, Option, codes, ⊤}
 use Rattle.std.specs.List.{flat_map}
 use Rattle.std.specs.Fmt.{decimal}
 use Rattle.entry_format.specs.SealedEntry.{SealedEntry}
@@ -18,9 +18,12 @@ use Rattle.finished_floor.specs.Floors.{IsFloorOf}
 use Rattle.report_lines.specs.Lines.{line}
 use Rattle.auditor.specs.ReportText.{maker_name}
 use Rattle.auditorium_core.specs.HonestPlace.{LeaveHonestFiles}
+use Rattle.auditorium_core.specs.declared.status.Status.TheVariants as status
 use Rattle.auditorium_core.specs.Lines.{Answer, OrRefused}
-use Rattle.auditorium_core.specs.Play.{KeepOrder, SayUndone, machine_lines, play_files, status_of_undone}
-use Rattle.auditorium_core.specs.ScriptFile.{GivesScript}
+use Rattle.auditorium_core.specs.Play.{KeepOrder, SayUndone, machine_lines, play_files, play_statuses}
+use Rattle.auditorium_core.specs.Play.{status_of_undone}
+use Rattle.auditorium_core.specs.ScriptFile.{GivesScript, IsScriptFile}
+use Rattle.auditorium_core.specs.CommandParts.{CommandParts, OnOneFile}
 
 -- an entry that didn't arrive: its maker's name and its number there, the receiver's name, and why
 abbrev pub loss_line : List Post → Loss → List ℕ
@@ -67,3 +70,15 @@ pub record IsRunOf (prefix : List ℕ) (script : Script) (answer : Answer) : Typ
 -- the answer for the script's file, or where there is none
 abbrev pub IsRunAnswer : List ℕ → List ℕ → Option (List ℕ) → Answer → Type 0
 IsRunAnswer name prefix file answer = OrRefused (GivesScript name file) (IsRunOf prefix) answer
+
+-- `run SCRIPT PREFIX`
+abbrev pub run_parts : List ℕ → List ℕ → CommandParts
+run_parts script prefix = record {
+  words = codes "run" ∷ script ∷ prefix ∷ [];
+  IsAllowed = ⊤;
+  files = script ∷ [];
+  IsAnswer = λ files answer. OnOneFile (λ file. IsRunAnswer script prefix file answer) files;
+  AreAccepted = OnOneFile IsScriptFile;
+  statuses = play_statuses;
+  absence = status.Absent;
+}

@@ -1,5 +1,5 @@
 -- What a script's file gives.
-use Rattle.std.specs.Prelude.{◌≡◌, ◌⊎◌, ℕ, ◌<◌, ◌≤◌, List, length, Option, Some, None, Result, Ok, Err}
+use Rattle.std.specs.Prelude.{◌≡◌, ◌⊎◌, ℕ, ◌<◌, ◌≤◌, List, length, Option, Some, None, Result, Ok, Err, IsSomeAnd}
 use Rattle.hall_outside.specs.Files.{Files, OnSomeFile}
 use Rattle.election_script.specs.declared.script.Script.{Script}
 use Rattle.election_script.specs.declared.faults.ScriptWhy.{ScriptWhy}
@@ -24,3 +24,8 @@ GivesScript name (Some bytes) answer =
 -- the same of the named file: of the one that is told, or of some where none is
 abbrev pub GivesScriptIn : List ℕ → Option Files → Result Script Refusal → Type 0
 GivesScriptIn name told answer = OnSomeFile told name (λ file. GivesScript name file answer)
+
+-- the file is there, within the limit, and a script's
+abbrev pub IsScriptFile : Option (List ℕ) → Type 0
+IsScriptFile file =
+    IsSomeAnd file (λ bytes. (length bytes ≤ max_script) × ((script : Script) × Reads bytes (Ok script)))

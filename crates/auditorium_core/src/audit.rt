@@ -1,22 +1,37 @@
 // The command `audit`: the report on a polling place from whatever logs survive.
-ghost use Rattle.std.specs.Prelude.{◌≡◌, ◌≢◌, map, IfOk, string_bytes};
-ghost use Rattle.evidence.specs.Reading.{store_seen};
+ghost use Rattle.std.specs.Prelude.{◌≡◌, ◌≢◌, codes, map, IfOk, string_bytes};
 ghost use Rattle.auditor.specs.Report.{report_of};
 ghost use Rattle.auditor.specs.Sources.{source_of};
-ghost use Rattle.auditorium_core.specs.Answer.{IsAnswerTo};
-ghost use Rattle.auditorium_core.specs.Audit.{status_by, IsAuditOf};
-ghost use Rattle.auditorium_core.specs.Words.{audit, source_named};
-ghost use Rattle.auditorium_core.specs.inside.Promise.{IsAnswered};
+ghost use Rattle.auditorium_core.specs.Audit.{source_named, IsAuditOf};
+ghost use Rattle.auditorium_core.specs.Outside.{seen};
+ghost use Rattle.auditorium_core.specs.ReportAnswers.{status_by};
+ghost use Rattle.auditorium_core.specs.Words.{audit};
+ghost use Rattle.auditorium_core.specs.inside.Meaning.{IsReadAs};
+ghost use Rattle.auditorium_core.specs.inside.Promise.{IsAnsweredBy};
 
 use crate::answer::{Answer, Fault};
 use crate::honest::audits_are_honest;
 use crate::status::Status;
+use crate::word_forms::are_logs;
+use crate::words::Request;
 use auditor::{Outcome, Report, RulesFrom, write_report};
 use entry_format::Sealed;
 use entry_order::gaps_are_unique;
 use hall_outside::Store;
-use rule_engine::rules_are_settled;
+use rule_meaning::rules_are_settled;
 use std::alloc::{AllocError, Global};
+
+/// The request that the words after `audit` make.
+pub(crate) fn audit_request(rest: &[String]) -> Option<Request<'_>>
+    ensures { IsReadAs (codes "audit") (map string_bytes rest.now) result }
+{
+    match rest {
+        [roster, rules, logs @ ..] if are_logs(logs) => {
+            Some(Request::Audit(roster.as_str(), rules.as_str(), logs))
+        }
+        _ => None,
+    }
+}
 
 /// The rules that a word of the command line names.
 fn rules_from(word: &str) -> RulesFrom<'_>
@@ -61,13 +76,8 @@ pub(crate) fn audit<S: Store>(
     rules: &str,
     logs: &[String],
 ) -> Result<Answer, Fault>
-    ensures { IsAnswered (IsAnswerTo
-        (audit roster.now rules.now (map string_bytes logs.now)))
-        (store_seen (S.files store.old) (S.answered store.old) (S.read_faults store.old)
-        (S.write_faults store.old))
-        result
-        (store_seen (S.files store.new) (S.answered store.new) (S.read_faults store.new)
-        (S.write_faults store.new)) }
+    ensures { IsAnsweredBy (audit roster.now rules.now (map string_bytes logs.now))
+        (seen S.Store store.old) result (seen S.Store store.new) }
 {
     audits_are_honest();
     match auditor::audit(alloc, store, roster, rules_from(rules), logs) {

@@ -1,19 +1,32 @@
 // The command `demo`: what an audit shows of a generated day, of which one log is left, cut.
-ghost use Rattle.std.specs.Prelude.{◌≡◌, ◌≢◌, ℕ, IfErr, IfOk};
+ghost use Rattle.std.specs.Prelude.{◌≡◌, ◌≢◌, ℕ, IfErr, IfOk, codes, map, string_bytes};
 ghost use Rattle.election_script.specs.Generated.{generated};
 ghost use Rattle.election_script.specs.Lawful.{IsLawful};
 ghost use Rattle.auditorium_core.specs.Demonstrated.{IsAnswerOfShown, IsDemonstrationAnswer};
 ghost use Rattle.auditorium_core.specs.Demonstrated.{IsHalfOf, demonstration_answer};
 ghost use Rattle.auditorium_core.specs.Lines.{Answer};
-ghost use Rattle.auditorium_core.specs.Words.{AreSessions};
+ghost use Rattle.auditorium_core.specs.WordForms.{AreSessions};
+ghost use Rattle.auditorium_core.specs.inside.Meaning.{IsReadAs};
 
 use crate::answer::{Answer, Fault};
 use crate::audit::status_by;
 use crate::status::Status;
+use crate::word_forms::sessions_of;
+use crate::words::Request;
 use demonstration::{Demonstration, write_demonstration};
 use honest_reports::{honest_audits_are_refused_only_so, honest_places_keep_the_standard_rules};
 use polling_world::scripts_are_played_in_one_way;
 use std::alloc::{AllocError, Global};
+
+/// The request that the words after `demo` make.
+pub(crate) fn demonstration_request(rest: &[String]) -> Option<Request<'_>>
+    ensures { IsReadAs (codes "demo") (map string_bytes rest.now) result }
+{
+    match rest {
+        [word] => Some(Request::Demonstrate(sessions_of(word.as_str())?)),
+        _ => None,
+    }
+}
 
 /// What is shown of a generated day says of no rule that it is broken.
 fn demonstrations_are_honest()

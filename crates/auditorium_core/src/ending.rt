@@ -1,6 +1,6 @@
 // How the program ends with an answer.
-ghost use Rattle.evidence.specs.Reading.{store_seen};
-ghost use Rattle.auditorium_core.specs.Outcome.{outside, IsWrittenBy};
+ghost use Rattle.auditorium_core.specs.Outcome.{IsWrittenBy};
+ghost use Rattle.auditorium_core.specs.Outside.{outside};
 ghost use Rattle.auditorium_core.specs.inside.Ending.{EndsWith};
 
 use crate::answer::{Answer, Fault};
@@ -16,11 +16,8 @@ pub(crate) fn end_with<S: Store, K: Sink>(
 ) -> Status
     ensures { EndsWith answer
         (λ told ok. IsWrittenBy S.creates S.appends K.writes told store.old out.old ok store.new out.new)
-        (outside (store_seen (S.files store.old) (S.answered store.old) (S.read_faults store.old)
-        (S.write_faults store.old)) (K.written out.old) (K.faults out.old))
-        result
-        (outside (store_seen (S.files store.new) (S.answered store.new) (S.read_faults store.new)
-        (S.write_faults store.new)) (K.written out.new) (K.faults out.new)) }
+        (outside S.Store K.Sink store.old out.old) result
+        (outside S.Store K.Sink store.new out.new) }
 {
     match answer {
         Ok(answer) => match write_answer(&answer, store, out) {

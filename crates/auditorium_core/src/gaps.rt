@@ -1,25 +1,31 @@
 // The command `gaps`: what one log says, without its signatures.
-ghost use Rattle.std.specs.Prelude.{◌≡◌, IfOk, string_bytes};
-ghost use Rattle.auditorium_core.specs.Answer.{IsAnswerTo};
+ghost use Rattle.std.specs.Prelude.{◌≡◌, IfOk, codes, map, string_bytes};
 ghost use Rattle.auditorium_core.specs.Gaps.{gaps_log_lines};
-ghost use Rattle.evidence.specs.Reading.{store_seen};
+ghost use Rattle.auditorium_core.specs.Outside.{seen};
 ghost use Rattle.auditorium_core.specs.Words.{gaps};
-ghost use Rattle.auditorium_core.specs.inside.Promise.{IsAnswered};
+ghost use Rattle.auditorium_core.specs.inside.Meaning.{IsReadAs};
+ghost use Rattle.auditorium_core.specs.inside.Promise.{IsAnsweredBy};
 
 use crate::answer::{Answer, Fault};
+use crate::words::Request;
 use hall_outside::Store;
 use log_files::{LogFault, PlainLog, read_plain_log};
 use report_lines::{add_end, add_gaps, add_refused};
 use std::alloc::{AllocError, Global};
 
+/// The request that the words after `gaps` make.
+pub(crate) fn gaps_request(rest: &[String]) -> Option<Request<'_>>
+    ensures { IsReadAs (codes "gaps") (map string_bytes rest.now) result }
+{
+    match rest {
+        [log] => Some(Request::Gaps(log.as_str())),
+        _ => None,
+    }
+}
+
 /// The answer of `gaps` for the log in this file.
 pub(crate) fn gaps<S: Store>(alloc: Global, store: &mut S, log: &str) -> Result<Answer, Fault>
-    ensures { IsAnswered (IsAnswerTo (gaps log.now))
-        (store_seen (S.files store.old) (S.answered store.old) (S.read_faults store.old)
-        (S.write_faults store.old))
-        result
-        (store_seen (S.files store.new) (S.answered store.new) (S.read_faults store.new)
-        (S.write_faults store.new)) }
+    ensures { IsAnsweredBy (gaps log.now) (seen S.Store store.old) result (seen S.Store store.new) }
 {
     match read_plain_log(alloc, store, log) {
         Ok(plain) => Ok(Answer::findings(alloc, lines_of(alloc, log, &plain)?)),

@@ -2,8 +2,7 @@
 // does nothing.
 ghost use Rattle.std.specs.Prelude.{ℕ, List, Option};
 ghost use Rattle.evidence.specs.declared.roster_file.RosterRead.{RosterRead};
-ghost use Rattle.auditorium_core.specs.Audit.{IsAuditOver};
-ghost use Rattle.auditorium_core.specs.HonestAudit.{IsAuditAnswer};
+ghost use Rattle.auditorium_core.specs.Audit.{IsAuditAnswer, IsAuditOver};
 ghost use Rattle.auditorium_core.specs.Lines.{Answer};
 ghost use Rattle.auditorium_core.specs.Order.{IsOrderOverLogs, IsOrderUnder};
 

@@ -5,7 +5,8 @@ ghost use Rattle.auditorium_core.specs.declared.status.Status.{Status};
 ghost use Rattle.auditorium_core.specs.Lines.{Answer};
 ghost use Rattle.auditorium_core.specs.Words.{run, IsAny, IsStill, Means};
 ghost use Rattle.auditorium_core.specs.Answer.{AnswersWords, HasItsWords};
-ghost use Rattle.auditorium_core.specs.Outcome.{Outside, HasDone};
+ghost use Rattle.auditorium_core.specs.Outcome.{HasDone};
+ghost use Rattle.auditorium_core.specs.Outside.{Outside};
 ghost use Rattle.auditorium_core.specs.Complete.{IsComplete};
 
 use auditor::files_give_one_report;
@@ -61,9 +62,9 @@ pub fn statuses_have_their_words()
 /// It does nothing.
 pub fn answers_are_complete()
     ensures any { (words : List (List ℕ)) (old : Outside) (how : Status) (new : Outside) →
-        HasDone (AnswersWords IsAny words) (λ _ _. ⊤) old how new → IsComplete IsAny words old how new }
+        HasDone IsAny words (λ _ _. ⊤) old how new → IsComplete IsAny words old how new }
     ensures still { (words : List (List ℕ)) (old : Outside) (how : Status) (new : Outside) →
-        HasDone (AnswersWords IsStill words) (λ _ _. ⊤) old how new →
+        HasDone IsStill words (λ _ _. ⊤) old how new →
         IsComplete IsStill words old how new }
 {
     bytes_say_one_log();

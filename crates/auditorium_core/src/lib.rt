@@ -20,6 +20,7 @@ mod program;
 mod run;
 mod script_file;
 mod status;
+mod word_forms;
 mod words;
 mod writing;
 

@@ -1,12 +1,25 @@
 // The command `make`: the text of a generated script.
-ghost use Rattle.std.specs.Prelude.{◌≡◌, IfOk};
+ghost use Rattle.std.specs.Prelude.{◌≡◌, IfOk, codes, map, string_bytes};
 ghost use Rattle.auditorium_core.specs.Made.{made_answer};
-ghost use Rattle.auditorium_core.specs.Words.{AreSessions};
+ghost use Rattle.auditorium_core.specs.WordForms.{AreSessions};
+ghost use Rattle.auditorium_core.specs.inside.Meaning.{IsReadAs};
 
 use crate::answer::Answer;
 use crate::status::Status;
+use crate::word_forms::sessions_of;
+use crate::words::Request;
 use election_script::write;
 use std::alloc::{AllocError, Global};
+
+/// The request that the words after `make` make.
+pub(crate) fn make_request(rest: &[String]) -> Option<Request<'_>>
+    ensures { IsReadAs (codes "make") (map string_bytes rest.now) result }
+{
+    match rest {
+        [word] => Some(Request::Make(sessions_of(word.as_str())?)),
+        _ => None,
+    }
+}
 
 /// The answer of `make` for this many sessions.
 pub(crate) fn make(alloc: Global, sessions: u32) -> Result<Answer, AllocError>

@@ -4,6 +4,7 @@ ghost use Rattle.std.specs.Prelude.{
   ◌≢◌,
   ◌<◌,
   ◌↔◌,
+  codes,
   map,
   length,
   IfOk,
@@ -17,20 +18,22 @@ ghost use Rattle.std.specs.Prelude.{
 ghost use Rattle.roster.specs.declared.post.Post.{Post};
 ghost use Rattle.entry_format.specs.Nodes.{node_of_sealed};
 ghost use Rattle.entry_graph.specs.EntryGraph.{IsEntryGraph};
-ghost use Rattle.evidence.specs.Reading.{store_seen};
 ghost use Rattle.evidence.specs.Graphs.{entries_of};
-ghost use Rattle.auditorium_core.specs.Answer.{IsAnswerTo};
+ghost use Rattle.auditorium_core.specs.Outside.{seen};
 ghost use Rattle.auditorium_core.specs.Words.{order};
 ghost use Rattle.auditorium_core.specs.EntryWords.{IsNamedBy, IsNumbered, MeansEntry, by_number};
-ghost use Rattle.auditorium_core.specs.Order.{IsOrderAmong, IsOrderOver};
+ghost use Rattle.auditorium_core.specs.Order.{AreOrderWords, IsOrderAmong, IsOrderOver};
 ghost use Rattle.auditorium_core.specs.inside.EntryNames.{IsLowerAt, IsPlaceOf, IsWordAt, word_by};
-ghost use Rattle.auditorium_core.specs.inside.Promise.{IsAnswered};
+ghost use Rattle.auditorium_core.specs.inside.Meaning.{IsReadAs};
+ghost use Rattle.auditorium_core.specs.inside.Promise.{IsAnsweredBy};
 
 use crate::answer::{Answer, Fault};
-use crate::entry_word::{Read, read_word};
+use crate::entry_word::{Read, is_entry_word, read_word};
 use crate::honest::orders_are_honest;
 use crate::order_word::OrderWord;
 use crate::status::Status;
+use crate::word_forms::are_logs;
+use crate::words::Request;
 use entry_format::Sealed;
 use entry_graph::Graph;
 use entry_order::{Knot, Three, order_is_settled};
@@ -41,6 +44,25 @@ use precedence::{Arrows, Rows};
 use roster::Roster;
 use std::alloc::{AllocError, Global};
 
+/// The request that the words after `order` make.
+pub(crate) fn order_request(rest: &[String]) -> Option<Request<'_>>
+    ensures { IsReadAs (codes "order") (map string_bytes rest.now) result }
+{
+    match rest {
+        [roster, x, y, logs @ ..] if are_ordered(x.as_str(), y.as_str(), logs) => {
+            Some(Request::Order(roster.as_str(), x.as_str(), y.as_str(), logs))
+        }
+        _ => None,
+    }
+}
+
+/// Whether these are words for entries, and there are 1 to 16 logs.
+fn are_ordered(x: &str, y: &str, logs: &[String]) -> bool
+    ensures { IsTrue result ↔ AreOrderWords x.now y.now (map string_bytes logs.now) }
+{
+    is_entry_word(x) && is_entry_word(y) && are_logs(logs)
+}
+
 /// The answer of `order` for two words for entries, by the roster and the logs in these files.
 pub(crate) fn order<S: Store>(
     alloc: Global,
@@ -50,13 +72,8 @@ pub(crate) fn order<S: Store>(
     y: &str,
     logs: &[String],
 ) -> Result<Answer, Fault>
-    ensures { IsAnswered (IsAnswerTo
-        (order roster.now x.now y.now (map string_bytes logs.now)))
-        (store_seen (S.files store.old) (S.answered store.old) (S.read_faults store.old)
-        (S.write_faults store.old))
-        result
-        (store_seen (S.files store.new) (S.answered store.new) (S.read_faults store.new)
-        (S.write_faults store.new)) }
+    ensures { IsAnsweredBy (order roster.now x.now y.now (map string_bytes logs.now))
+        (seen S.Store store.old) result (seen S.Store store.new) }
 {
     let read = match read_roster(alloc, store, roster) {
         Ok(read) => read,

@@ -1,11 +1,11 @@
 // The command `play`: a script's machines, on one thread.
-ghost use Rattle.std.specs.Prelude.{◌≡◌, ◌++◌, map, IfOk, OnOk, string_bytes};
+ghost use Rattle.std.specs.Prelude.{◌≡◌, ◌++◌, codes, map, IfOk, OnOk, string_bytes};
 ghost use Rattle.roster.specs.Machines.{HaveText};
 ghost use Rattle.election_script.specs.Lawful.{IsLawful};
-ghost use Rattle.auditorium_core.specs.Answer.{IsAnswerTo};
-ghost use Rattle.evidence.specs.Reading.{store_seen};
+ghost use Rattle.auditorium_core.specs.Outside.{seen};
 ghost use Rattle.auditorium_core.specs.Words.{play};
-ghost use Rattle.auditorium_core.specs.inside.Promise.{IsAnswered};
+ghost use Rattle.auditorium_core.specs.inside.Meaning.{IsReadAs};
+ghost use Rattle.auditorium_core.specs.inside.Promise.{IsAnsweredBy};
 ghost use Rattle.auditorium_core.specs.Play.{
   roster_file,
   log_file,
@@ -18,6 +18,7 @@ ghost use Rattle.auditorium_core.specs.Play.{IsPlayOf, play_files};
 
 use crate::answer::{Answer, Fault, OutputFile};
 use crate::script_file::read_script;
+use crate::words::Request;
 use election_script::Script;
 use hall_outside::Store;
 use log_files::log_text;
@@ -25,6 +26,16 @@ use polling_world::{Left, Machine};
 use roster::Roster;
 use std::alloc::{AllocError, Global};
 use std::fmt::Write;
+
+/// The request that the words after `play` make.
+pub(crate) fn play_request(rest: &[String]) -> Option<Request<'_>>
+    ensures { IsReadAs (codes "play") (map string_bytes rest.now) result }
+{
+    match rest {
+        [script, prefix] => Some(Request::Play(script.as_str(), prefix.as_str())),
+        _ => None,
+    }
+}
 
 /// The file of a machine's log.
 fn log_file(alloc: Global, prefix: &str, machine: &Machine) -> Result<OutputFile, AllocError>
@@ -146,12 +157,8 @@ pub(crate) fn play<S: Store>(
     name: &str,
     prefix: &str,
 ) -> Result<Answer, Fault>
-    ensures { IsAnswered (IsAnswerTo (play name.now prefix.now))
-        (store_seen (S.files store.old) (S.answered store.old) (S.read_faults store.old)
-        (S.write_faults store.old))
-        result
-        (store_seen (S.files store.new) (S.answered store.new) (S.read_faults store.new)
-        (S.write_faults store.new)) }
+    ensures { IsAnsweredBy (play name.now prefix.now)
+        (seen S.Store store.old) result (seen S.Store store.new) }
 {
     match read_script(alloc, store, name) {
         Ok(script) => Ok(played(alloc, prefix, &script)?),

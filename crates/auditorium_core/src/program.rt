@@ -1,10 +1,10 @@
 // From the words of the command line to the bytes that go out.
-ghost use Rattle.std.specs.Prelude.{◌≡◌, map, string_bytes};
-ghost use Rattle.auditorium_core.specs.Answer.{AnswersWords};
-ghost use Rattle.evidence.specs.Reading.{store_seen};
-ghost use Rattle.auditorium_core.specs.Outcome.{outside, IsWrittenBy, HasDone};
-ghost use Rattle.auditorium_core.specs.Words.{IsAny, IsStill};
-ghost use Rattle.auditorium_core.specs.inside.Promise.{IsAnswered};
+ghost use Rattle.std.specs.Prelude.{◌≡◌, ℕ, List, IfNone, IfSome, map, string_bytes};
+ghost use Rattle.auditorium_core.specs.Outcome.{HasDone, IsWrittenAfterReads};
+ghost use Rattle.auditorium_core.specs.Outside.{outside, seen};
+ghost use Rattle.auditorium_core.specs.Words.{IsAny, IsStill, Means, command_parts, run};
+ghost use Rattle.auditorium_core.specs.inside.Meaning.{asked};
+ghost use Rattle.auditorium_core.specs.inside.Promise.{AreAnswered, IsAnsweredBy};
 
 use crate::answer::{Answer, Fault};
 use crate::audit::audit;
@@ -16,7 +16,7 @@ use crate::order::order;
 use crate::play::play;
 use crate::run::run;
 use crate::status::Status;
-use crate::words::{Request, request_of, run_of};
+use crate::words::{Request, request_of};
 use hall_outside::{Gate, Sink, Store};
 use std::alloc::Global;
 use std::sync::Wait;
@@ -33,14 +33,10 @@ pub fn auditorium<R: Threads + Wait + Sync, S: Store, K: Sink, G: Gate + Sync>(
     out: &mut K,
     gate: &G,
 ) -> Status
-    ensures { HasDone (AnswersWords IsAny (map string_bytes words.now))
-        (λ answer ok. (read : S) × (S.files read ≡ S.files store.old)
-        × IsWrittenBy S.creates S.appends K.writes answer read out.old ok store.new out.new)
-        (outside (store_seen (S.files store.old) (S.answered store.old) (S.read_faults store.old)
-        (S.write_faults store.old)) (K.written out.old) (K.faults out.old))
-        result
-        (outside (store_seen (S.files store.new) (S.answered store.new) (S.read_faults store.new)
-        (S.write_faults store.new)) (K.written out.new) (K.faults out.new)) }
+    ensures { HasDone IsAny (map string_bytes words.now)
+        (IsWrittenAfterReads S.Store K.Sink store.old out.old store.new out.new)
+        (outside S.Store K.Sink store.old out.old) result
+        (outside S.Store K.Sink store.new out.new) }
 {
     match run_of(words) {
         Some((script, prefix)) => {
@@ -58,35 +54,64 @@ pub fn auditorium_still<S: Store, K: Sink>(
     store: &mut S,
     out: &mut K,
 ) -> Status
-    ensures { HasDone (AnswersWords IsStill (map string_bytes words.now))
-        (λ answer ok. (read : S) × (S.files read ≡ S.files store.old)
-        × IsWrittenBy S.creates S.appends K.writes answer read out.old ok store.new out.new)
-        (outside (store_seen (S.files store.old) (S.answered store.old) (S.read_faults store.old)
-        (S.write_faults store.old)) (K.written out.old) (K.faults out.old))
-        result
-        (outside (store_seen (S.files store.new) (S.answered store.new) (S.read_faults store.new)
-        (S.write_faults store.new)) (K.written out.new) (K.faults out.new)) }
+    ensures { HasDone IsStill (map string_bytes words.now)
+        (IsWrittenAfterReads S.Store K.Sink store.old out.old store.new out.new)
+        (outside S.Store K.Sink store.old out.old) result
+        (outside S.Store K.Sink store.new out.new) }
 {
     let answer = answer_of(alloc, words, store);
     end_with(answer, store, out)
 }
 
-/// The answer to the words. Nothing is written.
-fn answer_of<S: Store>(alloc: Global, words: &[String], store: &mut S) -> Result<Answer, Fault>
-    ensures { IsAnswered (AnswersWords IsStill (map string_bytes words.now))
-        (store_seen (S.files store.old) (S.answered store.old) (S.read_faults store.old)
-        (S.write_faults store.old))
-        result
-        (store_seen (S.files store.new) (S.answered store.new) (S.read_faults store.new)
-        (S.write_faults store.new)) }
+/// The script and the prefix of a run in threads, if the words ask for one.
+fn run_of(words: &[String]) -> Option<(&str, &str)>
+    ensures some { IfSome result (λ found.
+        Means (map string_bytes words.now) (run found.0.now found.1.now)) }
+    ensures none { IfNone result ((script prefix : List ℕ) →
+        ¬ Means (map string_bytes words.now) (run script prefix)) }
 {
     match request_of(words) {
-        Request::Usage => Ok(Answer::usage(alloc)?),
-        Request::Gaps(log) => gaps(alloc, store, log),
-        Request::Play(script, prefix) => play(alloc, store, script, prefix),
-        Request::Order(roster, x, y, logs) => order(alloc, store, roster, x, y, logs),
+        Some(request) => run_in(&request),
+        None => None,
+    }
+}
+
+/// The script and the prefix of a run in threads, if the request is for one.
+fn run_in<'a>(request: &Request<'a>) -> Option<(&'a str, &'a str)>
+    ensures some { IfSome result (λ found. asked request.now ≡ run found.0.now found.1.now) }
+    ensures none { IfNone result (IsStill (asked request.now)) }
+{
+    match *request {
+        Request::Run(script, prefix) => Some((script, prefix)),
+        _ => None,
+    }
+}
+
+/// The answer to the words. Nothing is written.
+fn answer_of<S: Store>(alloc: Global, words: &[String], store: &mut S) -> Result<Answer, Fault>
+    ensures { AreAnswered IsStill (map string_bytes words.now)
+        (seen S.Store store.old) result (seen S.Store store.new) }
+{
+    match request_of(words) {
+        Some(request) if run_in(&request).is_none() => answer_to(alloc, request, store),
+        _ => Ok(Answer::usage(alloc)?),
+    }
+}
+
+/// The answer of a command that needs no threads.
+fn answer_to<S: Store>(alloc: Global, request: Request<'_>, store: &mut S) -> Result<Answer, Fault>
+    requires still { IsStill (asked request) }
+    requires allowed { (command_parts (asked request)).IsAllowed }
+    ensures { IsAnsweredBy (asked request.entry)
+        (seen S.Store store.old) result (seen S.Store store.new) }
+{
+    match request {
         Request::Audit(roster, rules, logs) => audit(alloc, store, roster, rules, logs),
-        Request::Make(sessions) => Ok(make(alloc, sessions)?),
         Request::Demonstrate(sessions) => demonstrate(alloc, sessions),
+        Request::Gaps(log) => gaps(alloc, store, log),
+        Request::Make(sessions) => Ok(make(alloc, sessions)?),
+        Request::Order(roster, x, y, logs) => order(alloc, store, roster, x, y, logs),
+        Request::Play(script, prefix) => play(alloc, store, script, prefix),
+        Request::Run(_, _) => unreachable!(),
     }
 }

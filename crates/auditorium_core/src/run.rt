@@ -1,17 +1,18 @@
 // The command `run`: a script's machines, in threads.
-ghost use Rattle.std.specs.Prelude.{◌≡◌, ◌++◌, All, IfOk, OnOk, length, map, string_bytes};
+ghost use Rattle.std.specs.Prelude.{◌≡◌, ◌++◌, All, IfOk, OnOk, codes, length, map, string_bytes};
 ghost use Rattle.election_script.specs.Lawful.{IsLawful};
 ghost use Rattle.finished_floor.specs.Floors.{IsFloorOf};
-ghost use Rattle.evidence.specs.Reading.{store_seen};
-ghost use Rattle.auditorium_core.specs.Answer.{IsAnswerTo};
+ghost use Rattle.auditorium_core.specs.Outside.{seen};
 ghost use Rattle.auditorium_core.specs.Run.{IsRunOf, loss_line, loss_lines};
 ghost use Rattle.auditorium_core.specs.Words.{run};
 ghost use Rattle.auditorium_core.specs.inside.Losses.{IsBetween};
-ghost use Rattle.auditorium_core.specs.inside.Promise.{IsAnswered};
+ghost use Rattle.auditorium_core.specs.inside.Meaning.{IsReadAs};
+ghost use Rattle.auditorium_core.specs.inside.Promise.{IsAnsweredBy};
 
 use crate::answer::{Answer, Fault};
 use crate::play::{add_machines, files_of, undone_lines};
 use crate::script_file::read_script;
+use crate::words::Request;
 use election_script::Script;
 use hall_outside::{Gate, Store};
 use machine_floor::{Floor, Loss, run_floor};
@@ -20,6 +21,16 @@ use std::alloc::{AllocError, Global};
 use std::fmt::Write;
 use std::sync::Wait;
 use std::thread::Threads;
+
+/// The request that the words after `run` make.
+pub(crate) fn run_request(rest: &[String]) -> Option<Request<'_>>
+    ensures { IsReadAs (codes "run") (map string_bytes rest.now) result }
+{
+    match rest {
+        [script, prefix] => Some(Request::Run(script.as_str(), prefix.as_str())),
+        _ => None,
+    }
+}
 
 /// Adds the line of an entry that didn't arrive.
 fn add_loss(lines: &mut String, roster: &Roster, loss: &Loss) -> Result<(), AllocError>
@@ -92,12 +103,8 @@ pub(crate) fn run<R: Threads + Wait + Sync, S: Store, G: Gate + Sync>(
     name: &str,
     prefix: &str,
 ) -> Result<Answer, Fault>
-    ensures { IsAnswered (IsAnswerTo (run name.now prefix.now))
-        (store_seen (S.files store.old) (S.answered store.old) (S.read_faults store.old)
-        (S.write_faults store.old))
-        result
-        (store_seen (S.files store.new) (S.answered store.new) (S.read_faults store.new)
-        (S.write_faults store.new)) }
+    ensures { IsAnsweredBy (run name.now prefix.now)
+        (seen S.Store store.old) result (seen S.Store store.new) }
 {
     match read_script(alloc, store, name) {
         Ok(script) => Ok(has_run(rt, alloc, gate, prefix, &script)?),

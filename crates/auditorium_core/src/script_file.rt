@@ -1,8 +1,9 @@
 // A script's file.
 ghost use Rattle.std.specs.Prelude.{◌≢◌, ◌≤◌, Err, IfErr, IfOk, IfSome, Ok, Some, length};
 ghost use Rattle.election_script.specs.Lawful.{IsLawful};
-ghost use Rattle.evidence.specs.Reading.{IsReadFrom, store_seen};
+ghost use Rattle.evidence.specs.Reading.{IsReadFrom};
 ghost use Rattle.evidence.specs.Refusal.{IsAbsent, refusal_of};
+ghost use Rattle.auditorium_core.specs.Outside.{seen};
 ghost use Rattle.auditorium_core.specs.ScriptFile.{GivesScript, GivesScriptIn, max_script};
 
 use election_script::{Script, ScriptFault, read};
@@ -20,11 +21,7 @@ pub(crate) fn read_script<S: Store>(
     name: &str,
 ) -> Result<Script, AuditFault>
     ensures read { IsReadFrom (λ script. script) (GivesScriptIn name.now)
-        (store_seen (S.files store.old) (S.answered store.old) (S.read_faults store.old)
-        (S.write_faults store.old))
-        result
-        (store_seen (S.files store.new) (S.answered store.new) (S.read_faults store.new)
-        (S.write_faults store.new)) }
+        (seen S.Store store.old) result (seen S.Store store.new) }
     ensures lawful { IfOk result IsLawful }
 {
     match read_file(alloc, store, name, MAX_SCRIPT) {

@@ -1,9 +1,9 @@
 // From an answer to the bytes that go out.
 ghost use Rattle.std.specs.Prelude.{◌≡◌, is_ok, IsErr, OnOk, OnErr};
 ghost use Rattle.hall_outside.specs.Counts.{HasCause};
-ghost use Rattle.evidence.specs.Reading.{store_seen};
-ghost use Rattle.auditorium_core.specs.Outcome.{outside, with_files, SetsSome};
+ghost use Rattle.auditorium_core.specs.Outcome.{with_files, SetsSome};
 ghost use Rattle.auditorium_core.specs.Outcome.{PutsAll, IsWrittenBy, IsWritten, IsCutShort};
+ghost use Rattle.auditorium_core.specs.Outside.{outside};
 
 use crate::answer::{Answer, OutputFile};
 use hall_outside::{Failed, Sink, Store, put_file, write_all};
@@ -30,15 +30,11 @@ pub(crate) fn write_answer<S: Store, K: Sink>(
     out: &mut K,
 ) -> Result<(), Failed>
     ensures ok { OnOk result (IsWritten answer.now
-        (outside (store_seen (S.files store.old) (S.answered store.old) (S.read_faults store.old)
-        (S.write_faults store.old)) (K.written out.old) (K.faults out.old))
-        (outside (store_seen (S.files store.new) (S.answered store.new) (S.read_faults store.new)
-        (S.write_faults store.new)) (K.written out.new) (K.faults out.new))) }
+        (outside S.Store K.Sink store.old out.old)
+        (outside S.Store K.Sink store.new out.new)) }
     ensures err { OnErr result (IsCutShort answer.now
-        (outside (store_seen (S.files store.old) (S.answered store.old) (S.read_faults store.old)
-        (S.write_faults store.old)) (K.written out.old) (K.faults out.old))
-        (outside (store_seen (S.files store.new) (S.answered store.new) (S.read_faults store.new)
-        (S.write_faults store.new)) (K.written out.new) (K.faults out.new))) }
+        (outside S.Store K.Sink store.old out.old)
+        (outside S.Store K.Sink store.new out.new)) }
     ensures answered { S.answered store.new ≡ S.answered store.old }
     ensures calls { IsWrittenBy S.creates S.appends K.writes answer.now store.old out.old
         (is_ok result) store.new out.new }

@@ -5,7 +5,8 @@ use Rattle.auditorium_core.specs.declared.answer.Fault.TheVariants as fault
 use Rattle.auditorium_core.specs.declared.status.Status.{Status}
 use Rattle.auditorium_core.specs.declared.status.Status.TheVariants as status
 use Rattle.auditorium_core.specs.Lines.{Answer}
-use Rattle.auditorium_core.specs.Outcome.{Outside, IsCutShort, IsWritten}
+use Rattle.auditorium_core.specs.Outside.{Outside}
+use Rattle.auditorium_core.specs.Outcome.{IsCutShort, IsWritten}
 
 -- the answer was written, or was cut short where a write failed
 abbrev pub IsToldAs : Answer → (Answer → Bool → Type 0) → Outside → Status → Outside → Type 0

@@ -1,15 +1,25 @@
 -- What a request of the source says of the words.
-use Rattle.std.specs.Prelude.{ℕ, List, map, string_bytes}
+use Rattle.std.specs.Prelude.{◌≡◌, ℕ, List, ◌∷◌, Option, Some, None, map, string_bytes}
 use Rattle.auditorium_core.specs.declared.words.Request.{Request}
-use Rattle.auditorium_core.specs.declared.words.Request.TheVariants.{Usage, Gaps, Play, Order, Audit, Make, Demonstrate}
-use Rattle.auditorium_core.specs.Words.{gaps, play, order, audit, generate, demonstrate, IsStill, Means, AreGood}
+use Rattle.auditorium_core.specs.declared.words.Request.TheVariants as request
+use Rattle.auditorium_core.specs.Words.{Command, audit, demonstrate, gaps, generate, order, play, run, command_parts}
 
--- the words are those of the command, or they aren't good, where `run` isn't one of the commands
-abbrev pub Asks : List (List ℕ) → Request → Type 0
-Asks words Usage = ¬ AreGood IsStill words
-Asks words (Gaps log) = Means words (gaps log.now)
-Asks words (Play script prefix) = Means words (play script.now prefix.now)
-Asks words (Audit roster rules logs) = Means words (audit roster.now rules.now (map string_bytes logs.now))
-Asks words (Make sessions) = Means words (generate sessions)
-Asks words (Demonstrate sessions) = Means words (demonstrate sessions)
-Asks words (Order roster x y logs) = Means words (order roster.now x.now y.now (map string_bytes logs.now))
+-- the command that a request is for
+abbrev pub asked : Request → Command
+asked (request.Audit roster rules logs) = audit roster.now rules.now (map string_bytes logs.now)
+asked (request.Demonstrate sessions) = demonstrate sessions
+asked (request.Gaps log) = gaps log.now
+asked (request.Make sessions) = generate sessions
+asked (request.Order roster x y logs) = order roster.now x.now y.now (map string_bytes logs.now)
+asked (request.Play script prefix) = play script.now prefix.now
+asked (request.Run script prefix) = run script.now prefix.now
+
+-- the words are the command's, whether or not each has the form of a word
+pub record Spells (words : List (List ℕ)) (command : Command) : Type 0 where
+  pub spelt : words ≡ (command_parts command).words
+  pub allowed : (command_parts command).IsAllowed
+
+-- what is read of the words after a name: the request that they make, or that they make none
+abbrev pub IsReadAs : List ℕ → List (List ℕ) → Option Request → Type 0
+IsReadAs name rest (Some found) = Spells (name ∷ rest) (asked found)
+IsReadAs name rest None = (command : Command) → ¬ Spells (name ∷ rest) command

@@ -1,10 +1,12 @@
 use Rattle.std.proofs.Common.{map, subst, string_bytes}
 use Rattle.std.specs.Prelude.{Ok, Err}
-use Rattle.evidence.specs.Reading.{StoreSeen, store_seen, IsReadFrom}
+use Rattle.evidence.specs.Reading.{IsReadFrom}
 use Rattle.auditor.specs.Report.{report_of}
 use Rattle.auditor.specs.Sources.{RuleSource}
 use Rattle.auditor.specs.Audits.{GivesReportIn}
-use Rattle.auditorium_core.specs.Words.{audit, source_named}
+use Rattle.auditorium_core.specs.Outside.{seen}
+use Rattle.auditorium_core.specs.Audit.{source_named}
+use Rattle.auditorium_core.specs.Words.{audit}
 use Rattle.auditorium_core.specs.Answer.{IsAnswerTo}
 use Rattle.auditorium_core.proofs.Faults.{refused_answered, found_answered}
 use Rattle.auditorium_core.proofs.AuditAnswers.{audit_refused, audit_told}
@@ -13,10 +15,8 @@ use Rattle.auditorium_core.proofs.audit.audit.Goals as goal
 pub returns-in-Err : goal.returns-in-Err
 returns-in-Err g c =
     let store = g.S.Store in
-    let seen : g.row.S.Denot → StoreSeen = λ s.
-    store_seen (store.files s) (store.answered s) (store.read_faults s) (store.write_faults s) in
-    let before = seen c.args.store.now in
-    let after = seen c.audit.new.store in
+    let before = seen store c.args.store.now in
+    let after = seen store c.audit.new.store in
     let roster = c.args.roster.now in
     let rules = c.args.rules.now in
     let logs = map string_bytes c.args.logs.now in
@@ -30,10 +30,8 @@ returns-in-Err g c =
 pub returns-in_ok-answer_of-in-Ok : goal.returns-in_ok-answer_of-in-Ok
 returns-in_ok-answer_of-in-Ok g c =
     let store = g.S.Store in
-    let seen : g.row.S.Denot → StoreSeen = λ s.
-    store_seen (store.files s) (store.answered s) (store.read_faults s) (store.write_faults s) in
-    let before = seen c.args.store.now in
-    let after = seen c.audit.new.store in
+    let before = seen store c.args.store.now in
+    let after = seen store c.audit.new.store in
     let roster = c.args.roster.now in
     let rules = c.args.rules.now in
     let logs = map string_bytes c.args.logs.now in

@@ -1,7 +1,7 @@
 use Rattle.std.proofs.Common.{◌∙◌, ap, rules}
 use Rattle.log_files.specs.declared.plain_log.LogFault.TheVariants.{Absent, TooLong, Header}
 use Rattle.auditorium_core.specs.Gaps.{findings_answer}
-use Rattle.auditorium_core.proofs.Told.{gaps_findings, gaps_refusal}
+use Rattle.auditorium_core.proofs.GapsCommand.{gaps_findings, gaps_refusal}
 use Rattle.auditorium_core.proofs.gaps.gaps.Goals as goal
 
 pub returns-in_ok-lines_of-in-Ok : goal.returns-in_ok-lines_of-in-Ok

@@ -1,6 +1,6 @@
 use Rattle.std.proofs.Common.{refl}
-use Rattle.evidence.specs.Reading.{store_seen}
 use Rattle.evidence.proofs.FilesRead.{was_read, not_read}
+use Rattle.auditorium_core.specs.Outside.{seen}
 use Rattle.auditorium_core.specs.ScriptFile.{max_script, GivesScript}
 use Rattle.auditorium_core.proofs.ScriptFiles.{itself, long_script}
 use Rattle.auditorium_core.proofs.script_file.read_script.Goals as goal
@@ -10,8 +10,8 @@ returns-in-Ok-clause-read g c =
     let store = g.S.Store in
     let old = c.args.store.now in
     let new = c.read_file.new.store in
-    let before = store_seen (store.files old) (store.answered old) (store.read_faults old) (store.write_faults old) in
-    let after = store_seen (store.files new) (store.answered new) (store.read_faults new) (store.write_faults new) in
+    let before = seen store old in
+    let after = seen store new in
     let given = c.in-Ok.ensures in
     was_read itself (GivesScript c.args.name.now) c.args.name.now before after c.in-Ok.bytes.items c.script_of.result
     given.ok.whole
@@ -30,8 +30,8 @@ returns-in-Err-clause-read g c =
     let store = g.S.Store in
     let old = c.args.store.now in
     let new = c.read_file.new.store in
-    let before = store_seen (store.files old) (store.answered old) (store.read_faults old) (store.write_faults old) in
-    let after = store_seen (store.files new) (store.answered new) (store.read_faults new) (store.write_faults new) in
+    let before = seen store old in
+    let after = seen store new in
     let given = c.in-Err.ensures in
     not_read itself (GivesScript c.args.name.now) c.args.name.now before after max_script c.in-Err.fault
     c.file_fault.result refl (long_script c.args.name.now) c.file_fault.ensures given.err given.absent given.read_fault

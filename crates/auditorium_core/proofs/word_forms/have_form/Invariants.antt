@@ -1,6 +1,6 @@
 use Rattle.std.proofs.Common.{ℕ, ◌<◌, List, map, get_or, string_bytes}
-use Rattle.auditorium_core.specs.Words.{IsCommandWord}
-use Rattle.auditorium_core.proofs.words.have_form.Given as goal
+use Rattle.auditorium_core.specs.WordForms.{IsCommandWord}
+use Rattle.auditorium_core.proofs.word_forms.have_form.Given as goal
 
 -- the words so far have the form
 abbrev pub invariant-loop-word : goal.invariant-loop-word

@@ -2,8 +2,8 @@
 use Rattle.std.proofs.Common.{◌≡◌, ◌∙◌, ℕ, ◌<◌, ◌^◌, ◌⊎◌, List, sym, arith, inl, inr}
 use Rattle.std.specs.Fmt.{decimal}
 use Rattle.std.proofs.lemmas.Fmt.{decimal_injective}
-use Rattle.auditorium_core.specs.Words.{AreSessions}
-use Rattle.auditorium_core.proofs.words.sessions_of.Goals as goal
+use Rattle.auditorium_core.specs.WordForms.{AreSessions}
+use Rattle.auditorium_core.proofs.word_forms.sessions_of.Goals as goal
 
 none_in_range : (number : ℕ) (word : List ℕ) → word ≡ decimal number → number < 2 ^ 32 →
     (number < 1) ⊎ (800 < number) → (n : ℕ) → AreSessions n → word ≡ decimal n → ⊥

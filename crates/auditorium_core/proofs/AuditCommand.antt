@@ -1,0 +1,64 @@
+-- The command `audit`.
+use Rattle.std.proofs.Common.{◌≡◌, ◌∙◌, ℕ, List, [], Option, inl, inr, ap, sym}
+use Rattle.std.specs.Prelude.{Ok, Err}
+use Rattle.std.specs.List.{Contains}
+use Rattle.auditor.specs.declared.outcome.Outcome.{Outcome}
+use Rattle.auditor.specs.Report.{AuditReport}
+use Rattle.auditor.specs.Outcomes.{outcome_of}
+use Rattle.auditor.specs.ReportText.{report_text}
+use Rattle.auditor.specs.Same.{SameReport}
+use Rattle.auditor.specs.Audits.{GivesReport}
+use Rattle.auditor.specs.OneReport.{FilesGiveOneReport}
+use Rattle.auditorium_core.specs.Lines.{Answer}
+use Rattle.auditorium_core.specs.ReportAnswers.{status_by, report_answer, report_statuses}
+use Rattle.auditorium_core.specs.Audit.{source_named, IsAuditOf, IsAuditOver, audit_parts}
+use Rattle.auditorium_core.specs.Complete.{IsCarriedOut}
+use Rattle.auditorium_core.proofs.SameOr.{same_or}
+use Rattle.auditorium_core.proofs.CommandProofs.{HasStatuses, IsCompleted, HasOneAnswer, contains_as, carried_out_as}
+use Rattle.auditorium_core.proofs.CommandProofs.{of_read}
+use Rattle.auditorium_core.proofs.ReportCommands.{outcome_done, outcome_status, refused_status, absent_status}
+use Rattle.auditorium_core.proofs.ReportCommands.{report_statuses_some}
+
+-- a report has one answer
+same_told : (report other : AuditReport) → SameReport report other → report_answer report ≡ report_answer other
+same_told report other same =
+    ap (λ (o : Outcome). record { status = status_by o; files = []; output = report_text report }) same.outcome
+    ∙ ap (λ (t : List ℕ). record { status = status_by (outcome_of other); files = []; output = t }) same.text
+
+-- so an audit has
+same_audit : FilesGiveOneReport → (roster rules : List ℕ) (logs : List (List ℕ)) (files : List (Option (List ℕ)))
+    (a b : Answer) → IsAuditOver roster rules logs files a → IsAuditOver roster rules logs files b → a ≡ b
+same_audit one roster rules logs files a b =
+    same_or SameReport (GivesReport roster (source_named rules) logs files) IsAuditOf a b
+    (one roster (source_named rules) logs files)
+    (λ f g gives same x y. x.told ∙ same_told f g same ∙ sym y.told)
+
+-- and the command has
+pub audit_one : FilesGiveOneReport → (roster rules : List ℕ) (logs : List (List ℕ)) →
+    HasOneAnswer (audit_parts roster rules logs)
+audit_one one roster rules logs files a b x y = same_audit one roster rules logs files a b x.right y.right
+
+-- it is carried out over what gives a report
+over_done : FilesGiveOneReport → (roster rules : List ℕ) (logs : List (List ℕ)) (files : List (Option (List ℕ)))
+    (answer : Answer) (report : AuditReport) → GivesReport roster (source_named rules) logs files (Ok report) →
+    IsAuditOver roster rules logs files answer → IsCarriedOut answer.status
+over_done one roster rules logs files answer report given (inl (refusal, gives, e)) =
+    absurd (one roster (source_named rules) logs files (Err refusal) (Ok report) gives given)
+over_done one roster rules logs files answer report given (inr (other, gives, is)) =
+    carried_out_as answer (report_answer other) is.told (outcome_done (outcome_of other))
+
+pub audit_completed : FilesGiveOneReport → (roster rules : List ℕ) (logs : List (List ℕ)) →
+    IsCompleted (audit_parts roster rules logs)
+audit_completed one roster rules logs files answer right (report, given) =
+    over_done one roster rules logs files answer report given right.right
+
+-- and has its statuses
+pub audit_has_statuses : (roster rules : List ℕ) (logs : List (List ℕ)) → HasStatuses (audit_parts roster rules logs)
+audit_has_statuses roster rules logs = record {
+  own = λ files answer is.
+      of_read report_statuses refused_status absent_status (GivesReport roster (source_named rules) logs files)
+      IsAuditOf answer
+      (λ (report : AuditReport) right. contains_as report_statuses answer (report_answer report) right.told
+      (outcome_status (outcome_of report))) is.right;
+  some = report_statuses_some;
+}

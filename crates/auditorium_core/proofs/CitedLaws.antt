@@ -1,0 +1,19 @@
+-- The laws of the crates below that the laws of all commands rest on.
+use Rattle.auditor.specs.OneReport.{FilesGiveOneReport}
+use Rattle.auditorium_core.proofs.GapsCommand.{SayOne}
+use Rattle.auditorium_core.proofs.OnePlayAnswer.{PlayOne}
+use Rattle.auditorium_core.proofs.OneOrderAnswer.{OrderOne}
+use Rattle.auditorium_core.proofs.OneDemonstrationAnswer.{ShowOne}
+
+-- each by what it speaks of
+pub record CitedLaws : Type 0 where
+  -- logs without their signatures
+  pub logs : SayOne
+  -- scripts and what they come to
+  pub plays : PlayOne
+  -- rosters, logs and graphs
+  pub orders : OrderOne
+  -- reports
+  pub reports : FilesGiveOneReport
+  -- demonstrations
+  pub shows : ShowOne

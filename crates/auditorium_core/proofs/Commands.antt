@@ -1,0 +1,82 @@
+-- What is shown of each command, by its own file. The tables are in the order of the words.
+use Rattle.std.proofs.Common.{◌≡◌, ◌∙◌, ℕ, ◌+◌, ◌*◌, List, [], ◌∷◌, get_or, ap, sym, arith}
+use Rattle.std.specs.Prelude.{codes}
+use Rattle.std.specs.Fmt.{decimal}
+use Rattle.std.proofs.lemmas.Fmt.{decimal_injective}
+use Rattle.auditorium_core.specs.WordForms.{AreSessions}
+use Rattle.auditorium_core.specs.Words.{Command, audit, demonstrate, gaps, generate, order, play, run, command_parts}
+use Rattle.auditorium_core.specs.Words.{IsStill, Means}
+use Rattle.auditorium_core.proofs.CitedLaws.{CitedLaws}
+use Rattle.auditorium_core.proofs.CommandProofs.{HasStatuses, IsCompleted, HasOneAnswer}
+use Rattle.auditorium_core.proofs.AuditCommand.{audit_has_statuses, audit_completed, audit_one}
+use Rattle.auditorium_core.proofs.DemonstrationCommand.{demonstration_has_statuses, demonstration_completed}
+use Rattle.auditorium_core.proofs.DemonstrationCommand.{demonstration_one}
+use Rattle.auditorium_core.proofs.GapsCommand.{gaps_has_statuses, gaps_completed, gaps_one}
+use Rattle.auditorium_core.proofs.MakeCommand.{make_has_statuses, make_completed, make_one}
+use Rattle.auditorium_core.proofs.OrderCommand.{order_has_statuses, order_completed, order_one}
+use Rattle.auditorium_core.proofs.PlayCommand.{play_has_statuses, play_completed, play_one}
+use Rattle.auditorium_core.proofs.RunCommand.{run_has_statuses, run_completed}
+
+-- each command has its statuses
+pub have_statuses : (command : Command) → HasStatuses (command_parts command)
+have_statuses (audit roster rules logs) = audit_has_statuses roster rules logs
+have_statuses (demonstrate sessions) = demonstration_has_statuses sessions
+have_statuses (gaps log) = gaps_has_statuses log
+have_statuses (generate sessions) = make_has_statuses sessions
+have_statuses (order roster x y logs) = order_has_statuses roster x y logs
+have_statuses (play script prefix) = play_has_statuses script prefix
+have_statuses (run script prefix) = run_has_statuses script prefix
+
+-- is carried out where its files are accepted
+pub are_completed : CitedLaws → (command : Command) → IsCompleted (command_parts command)
+are_completed laws (audit roster rules logs) = audit_completed laws.reports roster rules logs
+are_completed laws (demonstrate sessions) = demonstration_completed laws.shows sessions
+are_completed laws (gaps log) = gaps_completed laws.logs log
+are_completed laws (generate sessions) = make_completed sessions
+are_completed laws (order roster x y logs) = order_completed laws.orders roster x y logs
+are_completed laws (play script prefix) = play_completed laws.plays script prefix
+are_completed laws (run script prefix) = run_completed laws.plays script prefix
+
+-- and, without threads, has one answer
+pub have_one_answer : CitedLaws → (command : Command) → IsStill command → HasOneAnswer (command_parts command)
+have_one_answer laws (audit roster rules logs) still = audit_one laws.reports roster rules logs
+have_one_answer laws (demonstrate sessions) still = demonstration_one laws.shows sessions
+have_one_answer laws (gaps log) still = gaps_one laws.logs log
+have_one_answer laws (generate sessions) still = make_one sessions
+have_one_answer laws (order roster x y logs) still = order_one laws.orders roster x y logs
+have_one_answer laws (play script prefix) still = play_one laws.plays script prefix
+have_one_answer laws (run script prefix) still = absurd still
+
+-- a byte of the first word
+abbrev name_byte : ℕ → List (List ℕ) → ℕ
+name_byte at words = get_or (get_or words 0 []) at 0
+
+-- a word that says a number of sessions says no other
+same_sessions : (n l : ℕ) → AreSessions n → AreSessions l → decimal n ≡ decimal l → n ≡ l
+same_sessions n l some also word =
+    decimal_injective n l (omega (arith, some.at_most)) (omega (arith, also.at_most)) word
+
+-- Words mean one command: the names of two differ in one of these bytes.
+pub same_command : (words : List (List ℕ)) (a b : Command) → Means words a → Means words b → a ≡ b
+same_command words (audit r u logs) (audit s w others) m n =
+    let e : codes "audit" ∷ r ∷ u ∷ logs ≡ codes "audit" ∷ s ∷ w ∷ others = sym m.spelt ∙ n.spelt in cc
+same_command words (demonstrate s) (demonstrate t) m n =
+    let e : codes "demo" ∷ decimal s ∷ [] ≡ codes "demo" ∷ decimal t ∷ [] = sym m.spelt ∙ n.spelt in
+    let word : decimal s ≡ decimal t = cc in ap demonstrate (same_sessions s t m.allowed n.allowed word)
+same_command words (gaps x) (gaps y) m n =
+    let e : codes "gaps" ∷ x ∷ [] ≡ codes "gaps" ∷ y ∷ [] = sym m.spelt ∙ n.spelt in cc
+same_command words (generate s) (generate t) m n =
+    let e : codes "make" ∷ decimal s ∷ [] ≡ codes "make" ∷ decimal t ∷ [] = sym m.spelt ∙ n.spelt in
+    let word : decimal s ≡ decimal t = cc in ap generate (same_sessions s t m.allowed n.allowed word)
+same_command words (order r u v logs) (order s w z others) m n =
+    let e : codes "order" ∷ r ∷ u ∷ v ∷ logs ≡ codes "order" ∷ s ∷ w ∷ z ∷ others = sym m.spelt ∙ n.spelt in cc
+same_command words (play x y) (play z w) m n =
+    let e : codes "play" ∷ x ∷ y ∷ [] ≡ codes "play" ∷ z ∷ w ∷ [] = sym m.spelt ∙ n.spelt in cc
+same_command words (run x y) (run z w) m n =
+    let e : codes "run" ∷ x ∷ y ∷ [] ≡ codes "run" ∷ z ∷ w ∷ [] = sym m.spelt ∙ n.spelt in cc
+same_command words a b m n =
+    let e : (command_parts a).words ≡ (command_parts b).words = sym m.spelt ∙ n.spelt in
+    let first : name_byte 0 (command_parts a).words ≡ name_byte 0 (command_parts b).words = ap (name_byte 0) e in
+    let second : name_byte 1 (command_parts a).words ≡ name_byte 1 (command_parts b).words = ap (name_byte 1) e in
+    let eighth : name_byte 7 (command_parts a).words ≡ name_byte 7 (command_parts b).words = ap (name_byte 7) e in
+    absurd (omega (arith, first, second, eighth))

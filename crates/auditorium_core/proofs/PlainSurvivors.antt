@@ -1,0 +1,76 @@
+-- What survives, by what it says.
+use Rattle.std.proofs.Common.{◌≡◌, ◌∙◌, ℕ, ◌<◌, List, [], map, length, refl, sym, ap, subst}
+use Rattle.std.specs.Prelude.{Ok, ◌↔◌}
+use Rattle.std.specs.List.{Contains}
+use Rattle.std.proofs.lemmas.List.Elements.{All-contains}
+use Rattle.entry_order.specs.Completion.{Completion}
+use Rattle.entry_order.specs.Settled.{IsWhole}
+use Rattle.entry_order.proofs.Lists.{Contains-none, Contains-map, Contains-map_cases}
+use Rattle.entry_order.proofs.Strays.{survivors_are_no_strays}
+use Rattle.roster.specs.declared.post.Post.{Post}
+use Rattle.entry_format.specs.declared.plain.Plain.{Plain}
+use Rattle.entry_format.specs.SealedEntry.{SealedEntry}
+use Rattle.entry_format.specs.Nodes.{node_of, node_of_sealed}
+use Rattle.entry_graph.specs.EntryGraph.{EntryGraph}
+use Rattle.evidence.specs.Graphs.{entries_of, GivesGraph}
+use Rattle.evidence.proofs.Survivors.{survivors_distinct}
+use Rattle.auditor.specs.Rows.{HaveMakers}
+use Rattle.entry_order.specs.Exact.{AreSurvivors}
+use Rattle.entry_format.specs.Plains.{plain_of, plains}
+use Rattle.entry_order.proofs.Filled.{completions_exist, order_is_exact}
+use Rattle.entry_format.proofs.Fillers.{made}
+use Rattle.entry_order.proofs.Images.{order_seen, order_back, whole_seen, whole_back}
+use Rattle.auditorium_core.specs.Order.{IsBefore, InEach, ComesFirst, IsExact}
+
+module _ (machines : List Post) (given : List SealedEntry) (graph : EntryGraph SealedEntry)
+    (makers : HaveMakers machines graph.survivors) (gives : GivesGraph given (Ok graph)) where
+  -- the survivors' makers are in the roster, and no two have one digest
+  pub are_survivors : AreSurvivors node_of (length machines) (plains graph.survivors)
+  are_survivors =
+      let apart = survivors_distinct (survivors_are_no_strays node_of_sealed) given graph gives in
+      record {
+        in_roster = λ v there.
+            let (x, in_x, to_v) = Contains-map_cases plain_of graph.survivors v there in
+            subst (λ (u : Plain). u.entry.maker < length machines) to_v
+            (All-contains (λ (sealed : SealedEntry). sealed.entry.maker < length machines) graph.survivors x makers in_x);
+        distinct = λ v u in_v in_u same.
+            let (x, in_x, to_v) = Contains-map_cases plain_of graph.survivors v in_v in
+            let (z, in_z, to_u) = Contains-map_cases plain_of graph.survivors u in_u in
+            let digests : x.digest ≡ z.digest =
+            ap (λ (w : Plain). w.digest) to_v ∙ same ∙ ap (λ (w : Plain). w.digest) (sym to_u) in
+            sym to_v ∙ ap plain_of (apart x z in_x in_z digests) ∙ to_u;
+      }
+
+  -- so they have a completion
+  pub some_completion : (G : List Plain) × Completion node_of (length machines) (plains graph.survivors) G
+  some_completion =
+      completions_exist node_of (made []) (λ d. refl) (λ d. refl) (λ d e there. Contains-none e there)
+      (length machines) (plains graph.survivors) are_survivors
+
+  -- and what is told of their order is exact
+  pub is_exact : IsExact (length machines) graph.survivors
+  is_exact =
+      let S : List SealedEntry = graph.survivors in
+      let exact = order_is_exact node_of made (λ ns d. refl) (λ ns d. refl) (λ ns d. refl) (length machines) (plains S)
+      are_survivors in
+      record {
+        some = some_completion;
+        before = λ e f in_e in_f.
+            let by = (exact (plain_of e) (plain_of f) (Contains-map plain_of S e in_e)
+            (Contains-map plain_of S f in_f)).0 in (
+              λ path. by.0 (order_seen node_of plain_of S e f path),
+              λ always. order_back node_of plain_of S e f in_e in_f (by.1 always),
+            );
+        not_before = λ e f in_e in_f.
+            let by = (exact (plain_of e) (plain_of f) (Contains-map plain_of S e in_e)
+            (Contains-map plain_of S f in_f)).1 in (
+              λ (whole, none).
+                  by.0 (
+                    whole_seen node_of plain_of S f in_f whole,
+                    λ path. none (order_back node_of plain_of S e f in_e in_f path),
+                  ),
+              λ never.
+                  let (whole, none) = by.1 never in
+                  (whole_back node_of plain_of S f whole, λ path. none (order_seen node_of plain_of S e f path)),
+            );
+      }

@@ -1,0 +1,35 @@
+-- The commands that answer with a report.
+use Rattle.std.proofs.Common.{◌≡◌, [], ◌∷◌, refl, arith}
+use Rattle.std.specs.List.{All, Contains}
+use Rattle.std.proofs.lemmas.List.Elements.{All-from_recursion}
+use Rattle.auditor.specs.declared.outcome.Outcome.{Outcome}
+use Rattle.auditor.specs.declared.outcome.Outcome.TheVariants as outcome
+use Rattle.auditorium_core.specs.declared.status.Status.TheVariants as status
+use Rattle.auditorium_core.specs.ReportAnswers.{status_by, report_statuses}
+use Rattle.auditorium_core.specs.Complete.{IsCarriedOut}
+use Rattle.auditorium_core.proofs.CommandProofs.{IsOfCommands}
+
+-- each outcome of a report has a status of a command that was carried out
+pub outcome_done : (came : Outcome) → IsCarriedOut (status_by came)
+outcome_done outcome.Kept = tt
+outcome_done outcome.Findings = tt
+outcome_done outcome.Unsettled = tt
+outcome_done outcome.Broken = tt
+
+-- and one of those of a report
+pub outcome_status : (came : Outcome) → Contains report_statuses (status_by came)
+outcome_status outcome.Kept = (0, omega arith, refl)
+outcome_status outcome.Findings = (1, omega arith, refl)
+outcome_status outcome.Unsettled = (2, omega arith, refl)
+outcome_status outcome.Broken = (3, omega arith, refl)
+
+-- among which a refusal's are
+pub refused_status : Contains report_statuses status.Refused
+refused_status = (4, omega arith, refl)
+
+pub absent_status : Contains report_statuses status.Absent
+absent_status = (5, omega arith, refl)
+
+-- and which commands can have
+pub report_statuses_some : All IsOfCommands report_statuses
+report_statuses_some = All-from_recursion IsOfCommands report_statuses (tt, (tt, (tt, (tt, (tt, (tt, tt))))))
