@@ -1,21 +1,33 @@
 //! The program `auditorium`: it answers the words after its name, and ends with the status. Where
-//! the system failed, a line on standard error says at what and why.
+//! the system failed, a line on standard error says at what and why; where the command line isn't
+//! valid, or an input was refused or isn't there, a hint does.
 #![tactic(auto)]
 
+mod hinting;
+mod kept_sink;
+
+use crate::hinting::hint;
+use crate::kept_sink::KeptSink;
 use auditorium_core::{Status, auditorium};
-use hall_outside::{Failure, FolderStore, OpenGate, OutputSink};
+use hall_outside::{Failure, FolderStore, OpenGate};
 use std::env;
 use std::io::{self, Eprint, ErrorKind};
 use std::process::ExitCode;
 use std::rt::Env;
 
-/// The words after the program's name.
-fn words_after_name<R: Env + AllocGlobal>(rt: &R) -> io::Result<Vec<String>> {
+/// The words after the program's name, or `None` where one of them isn't text.
+fn words_after_name<R: Env + AllocGlobal>(rt: &R) -> io::Result<Option<Vec<String>>> {
     let mut words = Vec::new(rt.alloc());
-    for word in env::args(rt)?.skip(1) {
-        words.push(word)?;
+    match env::args(rt) {
+        Ok(given) => {
+            for word in given.skip(1) {
+                words.push(word)?;
+            }
+            Ok(Some(words))
+        }
+        Err(error) if error.kind() == ErrorKind::InvalidData => Ok(None),
+        Err(error) => Err(error),
     }
-    Ok(words)
 }
 
 /// Says on standard error what failed, where the status is that the system did. A line that can't
@@ -33,25 +45,23 @@ fn report<R: Eprint>(rt: &R, status: Status, store: Option<&Failure>, out: Optio
 }
 
 fn main(rt: HostRuntime) -> ExitCode {
-    let words = match words_after_name(&rt) {
-        Ok(words) => words,
-        // A word that isn't valid text counts as no words at all, which is a usage error.
-        Err(error) if error.kind() == ErrorKind::InvalidData => Vec::new(rt.alloc()),
-        Err(_) => {
-            report(&rt, Status::Memory, None, None);
-            return ExitCode::from(Status::Memory.exit_status());
-        }
+    let Ok(given) = words_after_name(&rt) else {
+        report(&rt, Status::Memory, None, None);
+        return ExitCode::from(Status::Memory.exit_status());
     };
+    // A word that isn't text counts as no words at all, which is a usage error.
+    let words = given.as_ref().map(|words| words.as_slice());
     let mut store = FolderStore::make(&rt);
-    let mut out = OutputSink::make(&rt);
+    let mut out = KeptSink::make(&rt);
     let status = auditorium(
         &rt,
         rt.alloc(),
-        words.as_slice(),
+        words.unwrap_or(&[]),
         &mut store,
         &mut out,
         &OpenGate,
     );
     report(&rt, status, store.failure(), out.failure());
+    hint(&rt, status, words, out.first_line());
     ExitCode::from(status.exit_status())
 }

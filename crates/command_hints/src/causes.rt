@@ -1,0 +1,198 @@
+//! The causes of refusals, and a sentence on each.
+ghost use Rattle.canonical_sexp.specs.Forms.{Finds};
+ghost use Rattle.std.specs.Prelude.{◌≡◌};
+ghost use Rattle.election_script.specs.CauseWords.{script_why_word};
+ghost use Rattle.roster.specs.Reading.{fault_word};
+ghost use Rattle.rule_language.specs.Kinds.{why_word};
+
+use election_script::ScriptWhy;
+use roster::RosterFault;
+use rule_language::RuleWhy;
+
+/// Why an input was refused, by the kind of the input.
+#[derive(Clone, Copy)]
+pub enum Cause {
+    Script(ScriptWhy),
+    Roster(RosterFault),
+    Rules(RuleWhy),
+    /// A file doesn't begin with a log's header.
+    Header,
+    /// A file is over the limit of its kind.
+    TooLong,
+    /// A rule is too wide.
+    TooWide,
+    /// There are too many entries in the logs.
+    TooMany,
+    /// Two entries have one digest.
+    Collision,
+    /// A word means no entry.
+    NoEntry,
+}
+
+/// The cause against a script that this word is.
+pub(crate) fn script_cause(word: &str) -> Option<ScriptWhy>
+    ensures { Finds (λ why. word.now ≡ script_why_word why) result }
+{
+    match word {
+        "NotPlain" => Some(ScriptWhy::NotPlain),
+        "UnknownWord" => Some(ScriptWhy::UnknownWord),
+        "OutOfOrder" => Some(ScriptWhy::OutOfOrder),
+        "WrongCount" => Some(ScriptWhy::WrongCount),
+        "BadNumber" => Some(ScriptWhy::BadNumber),
+        "BadHex" => Some(ScriptWhy::BadHex),
+        "BadName" => Some(ScriptWhy::BadName),
+        "SameName" => Some(ScriptWhy::SameName),
+        "UnknownName" => Some(ScriptWhy::UnknownName),
+        "WrongRole" => Some(ScriptWhy::WrongRole),
+        "OutOfRange" => Some(ScriptWhy::OutOfRange),
+        "NotOneSupervisor" => Some(ScriptWhy::NotOneSupervisor),
+        _ => None,
+    }
+}
+
+/// The fault of a roster that this word is; its place isn't part of the word.
+pub(crate) fn roster_cause(word: &str) -> Option<RosterFault>
+    ensures { Finds (λ fault. word.now ≡ fault_word fault) result }
+{
+    match word {
+        "NotCanonical" => Some(RosterFault::NotCanonical(0)),
+        "WrongShape" => Some(RosterFault::WrongShape),
+        "TooManyMachines" => Some(RosterFault::TooManyMachines),
+        "BadName" => Some(RosterFault::BadName),
+        "SameName" => Some(RosterFault::SameName),
+        "NotOneSupervisor" => Some(RosterFault::NotOneSupervisor),
+        "Memory" => Some(RosterFault::Memory),
+        _ => None,
+    }
+}
+
+/// The cause against a text of rules that this word is.
+pub(crate) fn rule_cause(word: &str) -> Option<RuleWhy>
+    ensures { Finds (λ why. word.now ≡ why_word why) result }
+{
+    match word {
+        "Token" => Some(RuleWhy::Token),
+        "Shape" => Some(RuleWhy::Shape),
+        "UnknownKind" => Some(RuleWhy::UnknownKind),
+        "SameName" => Some(RuleWhy::SameName),
+        "Unbound" => Some(RuleWhy::Unbound),
+        "WrongField" => Some(RuleWhy::WrongField),
+        "TooDeep" => Some(RuleWhy::TooDeep),
+        _ => None,
+    }
+}
+
+/// What was expected, for each cause.
+pub fn sentence(cause: Cause) -> &'static str {
+    match cause {
+        Cause::Script(why) => script_sentence(why),
+        Cause::Roster(fault) => roster_sentence(fault),
+        Cause::Rules(why) => rule_sentence(why),
+        Cause::Header => {
+            "a log begins with its header, as (3:log1:11:0); the logs of play and run do"
+        }
+        Cause::TooLong => {
+            "a script, a roster or a file of rules has at most 4,194,304 bytes, \
+             and a log 67,108,864"
+        }
+        Cause::TooWide => {
+            "the rows of the rule's nested quantifiers multiply to more than 268,435,456"
+        }
+        Cause::TooMany => "the logs have more than 16,384 distinct entries",
+        Cause::Collision => "two entries with different texts have one digest",
+        Cause::NoEntry => "no entry that survives in the logs is the one that this word means",
+    }
+}
+
+fn script_sentence(why: ScriptWhy) -> &'static str {
+    match why {
+        ScriptWhy::NotPlain => {
+            "a line has only bytes from space to ~, so no tab and no carriage return"
+        }
+        ScriptWhy::UnknownWord => {
+            "a word isn't one that may be there: a line begins with version, seed, key, log, link, \
+             machine, do, lose, stop or step, and then come a deed, a role or another fixed word"
+        }
+        ScriptWhy::OutOfOrder => {
+            "lines come in the order version, seed, key, log, link, machine, do, lose, stop, step; \
+             the first five come once, and only version, do, lose, stop and step may be left out"
+        }
+        ScriptWhy::WrongCount => {
+            "the line has too few or too many words; one space is between two, and none at an end"
+        }
+        ScriptWhy::BadNumber => {
+            "a number is decimal digits without a leading zero, at most 4,294,967,295"
+        }
+        ScriptWhy::BadHex => {
+            "a seed is an even number of the digits 0 to 9 and a to f, and a ballot 64 of them"
+        }
+        ScriptWhy::BadName => "a machine's name has 1 to 16 characters from a to z and 0 to 9",
+        ScriptWhy::SameName => {
+            "a machine is named twice, has a second stop line, or loses an entry to itself"
+        }
+        ScriptWhy::UnknownName => "no machine line has this name",
+        ScriptWhy::WrongRole => {
+            "the deed is one of the other role, or the machine that is authorised isn't a booth"
+        }
+        ScriptWhy::OutOfRange => {
+            "a number, the length of the seed or the number of such lines is out of its range"
+        }
+        ScriptWhy::NotOneSupervisor => "exactly one machine line is of a supervisor",
+    }
+}
+
+fn roster_sentence(fault: RosterFault) -> &'static str {
+    match fault {
+        RosterFault::NotCanonical(_) => {
+            "a roster is exactly one canonical S-expression, as PREFIX.roster of play and run is"
+        }
+        RosterFault::WrongShape => {
+            "a roster is (6:roster1:1 and a list for each machine, as play and run write it"
+        }
+        RosterFault::TooManyMachines => "a roster has at most 16 machines",
+        RosterFault::BadName => "a machine's name has 1 to 16 characters from a to z and 0 to 9",
+        RosterFault::SameName => "two machines have one name",
+        RosterFault::NotOneSupervisor => "exactly one machine is a supervisor",
+        RosterFault::Memory => "memory ran out",
+    }
+}
+
+fn rule_sentence(why: RuleWhy) -> &'static str {
+    match why {
+        RuleWhy::Token => {
+            "a text of rules has parentheses, words from ! to ~, spaces, tabs and ends of lines, \
+             and nothing else"
+        }
+        RuleWhy::Shape => {
+            "a rule begins with \"(rule NAME\", and a formula is true or begins with every, some, \
+             and, or, not, implies, same, before, next, is, kind, = or < behind a parenthesis"
+        }
+        RuleWhy::UnknownKind => {
+            "a kind is entry, opened, authorise, override, forced, closed, activate, commit, cast, \
+             cancel or challenge"
+        }
+        RuleWhy::SameName => "a rule has this name already, or the variable is bound already",
+        RuleWhy::Unbound => "no every or some around this place binds the variable",
+        RuleWhy::WrongField => {
+            "entries of the variable's kind have no such field, or the terms can't be compared"
+        }
+        RuleWhy::TooDeep => "at most 32 parentheses nest, and at most 4 of every and some",
+    }
+}
+
+impl Cause {
+    /// The cause's word in lines of output.
+    pub fn word(self) -> &'static str {
+        match self {
+            Cause::Script(why) => why.word(),
+            Cause::Roster(fault) => fault.word(),
+            Cause::Rules(why) => why.word(),
+            Cause::Header => "Header",
+            Cause::TooLong => "TooLong",
+            Cause::TooWide => "TooWide",
+            Cause::TooMany => "TooMany",
+            Cause::Collision => "Collision",
+            Cause::NoEntry => "NoEntry",
+        }
+    }
+}

@@ -1,0 +1,16 @@
+//! Hints: what may help a user whose command line isn't valid, or whose input was refused or isn't
+//! there. They are written to standard error, and change nothing else.
+#![tactic(auto)]
+
+mod causes;
+mod commands;
+mod excerpts;
+mod hints;
+mod refusals;
+mod slips;
+
+pub use causes::{Cause, sentence};
+pub use excerpts::Excerpt;
+pub use hints::{Hint, hint_on};
+pub use refusals::{Absence, Refusal};
+pub use slips::Slip;
