@@ -15,7 +15,10 @@ ROOT = pathlib.Path(__file__).resolve().parent.parent
 NAME = re.compile(r"`([^`]+)`")
 FALLIBLE = re.compile(r"-> (?:Result|Option)<")
 # Crates that compare or measure, and serve no command.
-APART = {"small_worlds", "listed_graphs", "world_orders", "order_speed", "text_speed", "signature_speed", "auditorium_cli"}
+APART = {
+    "small_worlds", "listed_graphs", "world_orders", "order_speed", "text_speed", "signature_speed",
+    "auditorium_cli",
+}
 
 
 def rows():

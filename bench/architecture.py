@@ -1,23 +1,56 @@
 #!/usr/bin/env python3
-"""Draws docs/architecture.svg from crates.txt, and checks docs/ARCHITECTURE.md against it.
+"""Checks docs/ARCHITECTURE.md against crates.txt, and draws docs/architecture.svg from both.
 
-Run from anywhere: python3 bench/architecture.py
+Run from anywhere: python3 bench/architecture.py [--write]
 
-The picture has a row for each layer: a crate lies one above the highest crate that it uses. Crates of the
-document's second table, the programs for measuring and comparing, are grey; those of the third, which have tests
-alone, aren't drawn. Printed is what the tables say of a crate's libraries and crates.txt doesn't, or the other way
-round, each crate that only one of the two has, and each that crates.txt has before a crate that it uses; the exit
-status is 1 if there is any such line.
+The page has a table for each band, lowest first, and then one for programs that measure and one for crates of
+tests. "Stands on" has the crates of crates.txt that a crate uses and that no other one of these uses, and the
+next column what it uses of the kit; --write fills both. Printed is where a table differs from crates.txt, each
+crate that only one of the two has, each that crates.txt has before a crate that it uses, and each that uses one
+of a higher band, other than entry_order. The exit status is 1 if there is any such line.
+
+The picture has the crates of the bands, each at its place in PLACES, and the page's ways through them: a way is
+a numbered list, and a step of it is at the crate that it names first. A crate without a place, or in another
+band there, is printed, too. What has a place and isn't in crates.txt isn't drawn.
 """
 import pathlib
 import re
 import sys
-from collections import defaultdict
 
 ROOT = pathlib.Path(__file__).resolve().parent.parent
 DOCUMENT = ROOT / "docs" / "ARCHITECTURE.md"
 PICTURE = ROOT / "docs" / "architecture.svg"
-WIDTH, HEIGHT, LANE, GAP, RISE, MARGIN = 132, 30, 8, 16, 84, 16
+USED_FROM_BELOW = "entry_order"
+
+# The rows of boxes from the top down; `.` is an empty place, and a line of dashes parts two bands. Where the
+# ways go straight up there are empty places.
+PLACES = """
+command_hints  auditorium_cli  auditorium_core  demonstration   .
+report_lines   auditor         .                honest_reports  honest_rules
+evidence       .               .                short_logs      honest_logs
+-----
+floor_losses   .               finished_floor   log_lock        broadcast_queues
+ruled_queues   .               floor_sweep      machine_floor   floor_links
+-----
+.              .               election_script  polling_world   .
+deed_history   .               .                booth_core      supervisor_core
+-----
+audit_proof    rule_engine     .                rule_meaning    rule_language
+entry_graph    precedence      .                entry_order     held_counts
+-----
+entry_gaps     log_files       .                entangled_log   log_frontier
+roster         .               entry_format     .               .
+-----
+item_list      canonical_sexp  .                lms_sign        hss_sign
+first_cause    hall_outside    hall_text        lms_ots         .
+"""
+
+# Blue, vermilion and bluish green can be told apart by everybody (Okabe and Ito).
+COLOURS = ("#0072b2", "#d55e00", "#007a58")
+# How far each way keeps from the middle of a lane.
+SHIFTS = (0, -5, 5)
+FILLS = ("#eef2f6", "#e1e8ef")
+MARGIN, NAMES, WIDTH, HEIGHT, LANE, RISE, EDGE = 8, 96, 132, 28, 26, 30, 6
 
 
 def workspace():
@@ -30,22 +63,63 @@ def workspace():
     return found
 
 
-def tables():
-    """For each table with the column "Stands on": of each crate what the row names, own and the kit's."""
-    found, inside = [], False
-    for line in DOCUMENT.read_text().splitlines():
+def tables(text):
+    """For each table with the column "Stands on" its heading, and of each crate what the row names, own and the
+    kit's."""
+    found, heading, inside = [], "", False
+    for line in text.splitlines():
+        if line.startswith("#"):
+            heading = line.lstrip("# ")
         if not line.startswith("|"):
             inside = False
         elif "| Stands on |" in line:
             inside = True
-            found.append({})
+            found.append((heading, {}))
         elif inside and "`" in line:
             cells = [re.findall(r"`(\w+)`", cell) for cell in line.strip("|").split("|")]
-            found[-1][cells[0][0]] = (set(cells[2]), set(cells[3]))
+            found[-1][1][cells[0][0]] = (set(cells[2]), set(cells[3]))
     return found
 
 
-def disagreements(libraries, rows):
+def ways(text):
+    """The ways with their letters and names, and the crates of their steps."""
+    found = []
+    for line in text.splitlines():
+        if heading := re.match(r"### ([A-Z])\. (.*)", line):
+            found.append((heading.group(1), heading.group(2).replace("`", ""), []))
+        elif line.startswith("#"):
+            found.append(("", "", []))
+        elif found and (step := re.match(r"\d+\. `(\w+)`", line)):
+            found[-1][2].append(step.group(1))
+    return [way for way in found if way[0] and way[2]]
+
+
+def direct(libraries):
+    """Of each crate the crates that it uses and that no other one of these uses in turn, and what of the kit."""
+    own = {crate: [name for name in libraries[crate] if name in libraries] for crate in libraries}
+    below = {}
+    for crate in libraries:
+        below[crate] = set(own[crate]).union(*(below.get(name, ()) for name in own[crate]))
+    return {crate: ([n for n in own[crate] if not any(n in below.get(m, ()) for m in own[crate])],
+                    [name for name in libraries[crate] if name not in libraries]) for crate in libraries}
+
+
+def filled(text, wanted):
+    """The page with the last two columns of each crate's row as they are wanted."""
+    lines = text.splitlines()
+    inside = False
+    for place, line in enumerate(lines):
+        inside = line.startswith("|") and (inside or "| Stands on |" in line)
+        crate = re.match(r"\| `(\w+)` \|", line)
+        if inside and crate and crate.group(1) in wanted:
+            cells = line.strip().strip("|").split("|")[:2]
+            cells += [" " + ", ".join(f"`{name}`" for name in names) + " " for names in wanted[crate.group(1)]]
+            lines[place] = re.sub(r"\|  +\|", "| |", re.sub(r"\|  +\|", "| |", f"|{'|'.join(cells)}|"))
+    return "\n".join(lines) + "\n"
+
+
+def table_faults(libraries, rows, wanted):
+    """Where the tables differ from crates.txt."""
     order = list(libraries)
     for crate in libraries:
         for name in libraries[crate]:
@@ -54,143 +128,225 @@ def disagreements(libraries, rows):
         if crate not in rows:
             yield f"no row of {crate}"
             continue
-        used = set(libraries[crate])
-        own = {name for name in used if name in libraries}
-        for what, listed, wanted in (("stands on", rows[crate][0], own), ("of the kit", rows[crate][1], used - own)):
-            for name in sorted(listed ^ wanted):
-                place = "only in crates.txt" if name in wanted else "only in the table"
-                yield f"{crate} {what} {name}: {place}"
+        columns = zip(("stands on", "of the kit"), rows[crate], wanted[crate])
+        for what, listed, names in columns:
+            for name in sorted(listed ^ set(names)):
+                yield f"{crate} {what} {name}: {'only in crates.txt' if name in names else 'only in the table'}"
     yield from (f"{crate} isn't in crates.txt" for crate in rows if crate not in libraries)
 
 
-def direct(libraries):
-    """Of each crate the crates that it uses and that no other one of these uses in turn."""
-    own = {crate: [name for name in libraries[crate] if name in libraries] for crate in libraries}
-    below = {}
-    for crate in lowest_first(own):
-        below[crate] = set(own[crate]).union(*(below[name] for name in own[crate]))
-    return {crate: [n for n in own[crate] if not any(n in below[m] for m in own[crate])] for crate in libraries}
+def band_faults(libraries, bands, places, drawn_ways):
+    """What uses a higher band, what has no place in the picture, and what is in another band there."""
+    band = {crate: k for k, (_, rows) in enumerate(bands) for crate in rows}
+    for crate in band:
+        for name in libraries.get(crate, ()):
+            if band.get(name, -1) > band[crate] and name != USED_FROM_BELOW:
+                yield f"{crate} is in a band below that of {name}"
+        if crate not in places:
+            yield f"the picture has no place for {crate}"
+        elif places[crate][0] != len(bands) - 1 - band[crate]:
+            yield f"the picture has {crate} in another band"
+    for letter, _, steps in drawn_ways:
+        yield from (f"way {letter} goes through {name}, which isn't drawn" for name in steps if name not in band)
 
 
-def lowest_first(used):
-    """The crates, each after those that it uses, and otherwise as they come."""
-    found = []
-    while len(found) < len(used):
-        found.append(next(crate for crate in used if crate not in found and set(used[crate]) <= set(found)))
-    return found
+class Map:
+    """Where the boxes are: rows and columns from 0, and the lanes between them."""
+
+    def __init__(self, crates):
+        self.places, self.tops, self.bands = {}, [], []
+        top = MARGIN
+        for k, text in enumerate(PLACES.split("-----")):
+            start, top = top, top + EDGE + RISE // 2
+            for line in text.strip().splitlines():
+                for column, crate in enumerate(line.split()):
+                    if crate != ".":
+                        self.places[crate] = (k, len(self.tops), column)
+                self.tops.append(top)
+                top += HEIGHT + RISE
+            top += EDGE - RISE // 2
+            self.bands.append((start, top))
+        self.height = top
+        self.columns = 1 + max(column for _, _, column in self.places.values())
+        self.width = MARGIN + NAMES + self.columns * (WIDTH + LANE) + LANE + MARGIN
+        self.full = {place[1:] for crate, place in self.places.items() if crate in crates}
+
+    def middle(self, column):
+        return MARGIN + NAMES + LANE + column * (WIDTH + LANE) + WIDTH / 2
+
+    def lane(self, column):
+        """The middle of the lane to the left of a column."""
+        return self.middle(column) - WIDTH / 2 - LANE / 2
+
+    def is_free(self, column, row, other):
+        """Whether a column is empty between two rows."""
+        return not any((k, column) in self.full for k in range(min(row, other) + 1, max(row, other)))
+
+    def route(self, start, end, shift, taken):
+        """The corners of a way from one box to another, moved by a shift from where other ways go; lanes that the
+        way takes are noted with the rows that it passes there."""
+        (_, row, column), (_, last, aim) = self.places[start], self.places[end]
+        x, u = self.middle(column) + 2.2 * shift, self.middle(aim) + 2.2 * shift
+        if row == last:
+            y, side = self.tops[row] + HEIGHT / 2 + shift, WIDTH / 2 if aim > column else -WIDTH / 2
+            return [(self.middle(column) + side, y), (self.middle(aim) - side, y)]
+        up = last < row
+        leave = self.tops[row] if up else self.tops[row] + HEIGHT
+        enter = self.tops[last] + HEIGHT if up else self.tops[last]
+        if column == aim and self.is_free(column, row, last):
+            return [(x, leave), (x, enter)]
+        near = leave + (-RISE / 2 if up else RISE / 2) + shift
+        far = enter + (RISE / 2 if up else -RISE / 2) + shift
+        if self.is_free(aim, row, last):
+            return sideways([(x, leave), (x, near), (u, near), (u, enter)])
+        if self.is_free(column, row, last):
+            return sideways([(x, leave), (x, far), (u, far), (u, enter)])
+        both = (aim, aim + 1) if column < aim else (aim + 1, aim)
+        passed = {(lane, k) for lane in both for k in range(min(row, last), max(row, last) + 1)}
+        lane = next((lane for lane in both if not any(place in taken for place in passed if place[0] == lane)), both[0])
+        taken |= {place for place in passed if place[0] == lane}
+        middle = self.lane(lane) + shift
+        return sideways([(x, leave), (x, near), (middle, near), (middle, far), (u, far), (u, enter)])
 
 
-def layered(libraries, arrows):
-    """The layers from the lowest on, and each arrow as a chain that has one member in each layer it passes.
-
-    A member between the ends is a pair of the two crates: it keeps a place free of boxes for the arrow.
-    """
-    level = {}
-    for crate in lowest_first(arrows):
-        level[crate] = 1 + max((level[name] for name in arrows[crate]), default=-1)
-    layers = [[c for c in libraries if level[c] == k] for k in range(max(level.values()) + 1)]
-    chains = []
-    for crate, used in arrows.items():
-        for name in used:
-            between = range(level[name] + 1, level[crate])
-            for k in between:
-                layers[k].append((name, crate))
-            chains.append([name] + [(name, crate)] * len(between) + [crate])
-    return level, layers, chains
+def sideways(corners, size=9):
+    """The corners with both ends moved towards where the way goes, so that what comes and what goes lie apart."""
+    (x, _), (a, _), (b, _), (u, _) = corners[1], corners[2], corners[-3], corners[-2]
+    out, back = (size if a > x else -size), (size if b > u else -size)
+    return [(c + (out if k < 2 else back if k >= len(corners) - 2 else 0), d) for k, (c, d) in enumerate(corners)]
 
 
-def neighbours(level, layers, chains):
-    """Of each member of each layer, by layer and member, the members that chains tie it to one layer below, above."""
-    below, above = defaultdict(list), defaultdict(list)
-    for chain in chains:
-        first = level[chain[0]]
-        for k, (low, high) in enumerate(zip(chain, chain[1:]), first):
-            above[k, low].append(high)
-            below[k + 1, high].append(low)
-    return below, above
+def path_of(corners, turn=7):
+    """The path through the corners, each but the ends rounded."""
+    path = "M{:.0f} {:.0f}".format(*corners[0])
+    for (a, b), (x, y), (c, d) in zip(corners, corners[1:], corners[2:]):
+        before, after = abs(a - x) + abs(b - y), abs(c - x) + abs(d - y)
+        size = min(turn, before / 2, after / 2)
+        if size < 1:
+            continue
+        path += "L{:.0f} {:.0f}".format(x + (a - x) * size / before, y + (b - y) * size / before)
+        path += "Q{:.0f} {:.0f} {:.0f} {:.0f}".format(x, y, x + (c - x) * size / after, y + (d - y) * size / after)
+    return path + "L{:.0f} {:.0f}".format(*corners[-1])
 
 
-def middles(layer, wanted):
-    """The middles of a layer's members, in its order, each as near to what is wanted as its neighbours allow."""
-    spans = [WIDTH if isinstance(member, str) else LANE for member in layer]
-    found = {}
-    edge = -1e9
-    for member, span in zip(layer, spans):
-        found[member] = max(wanted[member], edge + GAP + span / 2)
-        edge = found[member] + span / 2
-    # What was pushed to the right goes back by the mean of the pushes.
-    shift = sum(found[member] - wanted[member] for member in layer) / len(layer)
-    return {member: place - shift for member, place in found.items()}
+def band_lines(sheet, bands):
+    """The bands, from the top down, each with its name at the left."""
+    for k, ((top, bottom), (name, _)) in enumerate(zip(sheet.bands, reversed(bands))):
+        yield (f'<rect x="{MARGIN}" y="{top:.0f}" width="{sheet.width - 2 * MARGIN:.0f}" height="{bottom - top:.0f}"'
+               f' fill="{FILLS[k % 2]}"/>')
+        words, rows = name.split(), [""]
+        for word in words:
+            if len(rows[-1]) + len(word) > 12 and rows[-1]:
+                rows.append("")
+            rows[-1] = f"{rows[-1]} {word}".strip()
+        first = (top + bottom) / 2 + 5 - 8 * (len(rows) - 1)
+        for place, row in enumerate(rows):
+            yield (f'<text x="{MARGIN + 10}" y="{first + 16 * place:.0f}" font-size="13" font-weight="bold"'
+                   f' fill="#234">{row}</text>')
 
 
-def placed(level, layers, chains):
-    """The middle of each member of each layer: each goes near the mean of those that it is tied to."""
-    below, above = neighbours(level, layers, chains)
-    spots = [{member: k * (WIDTH + GAP) for k, member in enumerate(layer)} for layer in layers]
-    for turn in range(24):
-        upwards = turn % 2 == 0
-        ties, step = (below, -1) if upwards else (above, 1)
-        for k in range(len(layers)) if upwards else reversed(range(len(layers))):
-            wanted = {}
-            for member in layers[k]:
-                tied = ties[k, member] if 0 <= k + step < len(layers) else []
-                near = [spots[k + step][other] for other in tied]
-                wanted[member] = sum(near) / len(near) if near else spots[k][member]
-            layers[k].sort(key=wanted.get)
-            spots[k] = middles(layers[k], wanted)
-    least = min(min(row.values()) for row in spots) - WIDTH / 2 - MARGIN
-    return [{member: place - least for member, place in row.items()} for row in spots]
+def way_lines(sheet, drawn_ways):
+    """The ways, and after them the marks of their steps."""
+    for k, (_, _, steps) in enumerate(drawn_ways):
+        taken = set()
+        for start, end in zip(steps, steps[1:]):
+            path = path_of(sheet.route(start, end, SHIFTS[k], taken))
+            yield (f'<path d="{path}" fill="none" stroke="{COLOURS[k]}" stroke-width="2.5"'
+                   f' marker-end="url(#tip{k})"/>')
 
 
-def arrow_path(chain, first, spots, top):
-    """The path of an arrow, from the upper crate down to the lower one, straight where it passes a layer."""
-    points = []
-    for k, member in enumerate(chain, first):
-        x, y = spots[k][member], top(k)
-        points = [(x, y), (x, y + HEIGHT)] + points
-    points = points[1:-1]
-    path = f"M{points[0][0]:.0f} {points[0][1]:.0f}"
-    for k in range(1, len(points)):
-        (x, y), (u, v) = points[k - 1], points[k]
-        path += f"L{u:.0f} {v:.0f}" if k % 2 == 0 else f"C{x:.0f} {y + 26:.0f} {u:.0f} {v - 26:.0f} {u:.0f} {v:.0f}"
-    return path
+def box_lines(sheet, crates):
+    for crate, (_, row, column) in sheet.places.items():
+        if crate in crates:
+            x, y = sheet.middle(column), sheet.tops[row]
+            yield (f'<rect x="{x - WIDTH / 2:.0f}" y="{y}" width="{WIDTH}" height="{HEIGHT}" rx="5" fill="#fff"'
+                   ' stroke="#567"/>')
+            yield f'<text x="{x:.0f}" y="{y + HEIGHT / 2 + 4.5:.0f}" text-anchor="middle">{crate}</text>'
 
 
-def drawn(libraries, measuring):
-    level, layers, chains = layered(libraries, direct(libraries))
-    spots = placed(level, layers, chains)
-    width = max(max(row.values()) for row in spots) + WIDTH / 2 + MARGIN
-    height = 2 * MARGIN + (len(layers) - 1) * RISE + HEIGHT
+def mark(x, y, text, colour):
+    size = 8 + 8 * len(text)
+    return [f'<rect x="{x - size / 2:.0f}" y="{y - 7:.0f}" width="{size}" height="14" rx="7" fill="{colour}"'
+            ' stroke="#fff"/>',
+            f'<text x="{x:.0f}" y="{y + 3.5:.0f}" text-anchor="middle" font-size="10" font-weight="bold" fill="#fff">'
+            f"{text}</text>"]
 
-    def top(k):
-        return MARGIN + (len(layers) - 1 - k) * RISE
 
+def mark_lines(sheet, drawn_ways):
+    marked = {}
+    for k, (letter, _, steps) in enumerate(drawn_ways):
+        for place, crate in enumerate(steps, 1):
+            marked.setdefault(crate, []).append((f"{letter}{place}", COLOURS[k]))
+    for crate, marks in marked.items():
+        _, row, column = sheet.places[crate]
+        # All but the last are at the left, so that there is room for arrows in the middle.
+        left = marks[:-1]
+        yield from marks_in_row(sheet.middle(column) - WIDTH / 2 - 4, sheet.tops[row], left)
+        wide = sum(17 + 8 * (len(text) - 1) for text, _ in marks[len(left):])
+        yield from marks_in_row(sheet.middle(column) + WIDTH / 2 + 4 - wide, sheet.tops[row], marks[len(left):])
+
+
+def marks_in_row(x, y, marks):
+    for text, colour in marks:
+        size = 17 + 8 * (len(text) - 1)
+        yield from mark(x + size / 2, y, text, colour)
+        x += size
+
+
+def legend_lines(sheet, drawn_ways):
+    """What the colours and marks mean, below the bands."""
+    y = sheet.height + 24
+    for k, (letter, name, _) in enumerate(drawn_ways):
+        x = MARGIN + 4 + k * (sheet.width - 2 * MARGIN) / len(drawn_ways)
+        yield f'<path d="M{x:.0f} {y}h44" stroke="{COLOURS[k]}" stroke-width="2.5" marker-end="url(#tip{k})"/>'
+        yield f'<text x="{x + 52:.0f}" y="{y + 4}">{letter}: {name}</text>'
+    y += 28
+    x = MARGIN + 4
+    yield f'<rect x="{x}" y="{y - 11}" width="44" height="22" rx="5" fill="#fff" stroke="#567"/>'
+    yield f'<text x="{x + 52}" y="{y + 4}">a crate</text>'
+    x += (sheet.width - 2 * MARGIN) / 3
+    yield from mark(x + 22, y, f"{drawn_ways[0][0]}2", COLOURS[0])
+    yield (f'<text x="{x + 52:.0f}" y="{y + 4}">a step of a way, numbered as in the text; each band rests on those'
+           " below it</text>")
+
+
+def drawn(crates, bands, drawn_ways):
+    sheet = Map(crates)
+    tips = "".join(f'<marker id="tip{k}" viewBox="0 0 8 8" refX="7" refY="4" markerWidth="9" markerHeight="9"'
+                   f' markerUnits="userSpaceOnUse" orient="auto"><path d="M0 0 8 4 0 8z" fill="{colour}"/></marker>'
+                   for k, colour in enumerate(COLOURS))
     lines = [
-        f'<svg xmlns="http://www.w3.org/2000/svg" viewBox="0 0 {width:.0f} {height:.0f}" font-family="sans-serif"'
-        ' font-size="12">',
-        '<title>Which crate stands on which</title>',
-        '<defs><marker id="tip" viewBox="0 0 8 8" refX="8" refY="4" markerWidth="7" markerHeight="7" orient="auto">'
-        '<path d="M0 0 8 4 0 8z" fill="#667"/></marker></defs>',
+        f'<svg xmlns="http://www.w3.org/2000/svg" viewBox="0 0 {sheet.width:.0f} {sheet.height + 74:.0f}"'
+        ' font-family="Helvetica, Arial, DejaVu Sans, sans-serif" font-size="12.5">',
+        "<title>Six bands of crates, and three ways through them</title>",
+        f"<defs>{tips}</defs>",
         '<rect width="100%" height="100%" fill="#fff"/>',
+        *band_lines(sheet, bands),
+        *way_lines(sheet, drawn_ways),
+        *box_lines(sheet, crates),
+        *mark_lines(sheet, drawn_ways),
+        *legend_lines(sheet, drawn_ways),
     ]
-    for chain in chains:
-        path = arrow_path(chain, level[chain[0]], spots, top)
-        lines.append(f'<path d="{path}" fill="none" stroke="#99a" marker-end="url(#tip)"/>')
-    for crate in libraries:
-        fill = "#e6e6e6" if crate in measuring else "#dcebf9"
-        x, y = spots[level[crate]][crate], top(level[crate])
-        lines.append(f'<rect x="{x - WIDTH / 2:.0f}" y="{y}" width="{WIDTH}" height="{HEIGHT}" rx="5"'
-                     f' fill="{fill}" stroke="#456"/>')
-        lines.append(f'<text x="{x:.0f}" y="{y + HEIGHT / 2 + 4:.0f}" text-anchor="middle">{crate}</text>')
     return "\n".join(lines) + "\n</svg>\n"
 
 
 def main():
     libraries = workspace()
-    product, measuring, testing = tables()
-    PICTURE.write_text(drawn({name: libraries[name] for name in libraries if name not in testing}, measuring))
-    faults = list(disagreements(libraries, {**product, **measuring, **testing}))
-    print("\n".join(faults) or f"the tables agree with crates.txt; drawn: {len(libraries)} crates")
+    wanted = direct(libraries)
+    text = DOCUMENT.read_text()
+    if "--write" in sys.argv[1:]:
+        text = filled(text, wanted)
+        DOCUMENT.write_text(text)
+    found = tables(text)
+    bands = [(heading.partition(". ")[2], rows) for heading, rows in found if re.match(r"\d+\. ", heading)]
+    drawn_ways = ways(text)
+    rows = {crate: cells for _, table in found for crate, cells in table.items()}
+    crates = {crate for _, table in bands for crate in table if crate in libraries}
+    faults = list(table_faults(libraries, rows, wanted))
+    faults += band_faults(libraries, bands, Map(crates).places, drawn_ways)
+    print("\n".join(faults) or f"the page agrees with crates.txt; drawn: {len(crates)} crates")
+    if not any("picture" in fault or "drawn" in fault for fault in faults):
+        PICTURE.write_text(drawn(crates, bands, drawn_ways))
     return 1 if faults else 0
 
 

@@ -1,13 +1,14 @@
 #!/usr/bin/env python3
-"""The definitions that public clauses reach, and whether docs/DEFINITIONS.md has exactly these.
+"""The definitions that public clauses reach, whether docs/DEFINITIONS.md has exactly these, and whether
+docs/BELIEVE.md has what each command needs of them.
 
-usage: python3 bench/definitions.py [--list]
+usage: python3 bench/definitions.py [--list | --write]
 
 A public clause is a `requires` or `ensures` of a function that its crate exports, or of a trait's function,
 and so are the members that a trait or a type gives to contracts (`ghost NAME`, `Value`). What a type keeps of
 its own fields (`view`, `invariant`) isn't public. A clause reaches the definitions that it names and those
-that they name in turn, in the `specs/` of all crates. A constructor or a field counts as its type. What is
-behind a type is reached too: how contracts tell its values apart (`coded`), and which error `?` makes of
+that they name in turn, in the `specs/` of all crates. A constructor counts as its type, and so does a field that is given
+a value; elsewhere a word that is a field's is taken for a variable. What is behind a type is reached too: how contracts tell its values apart (`coded`), and which error `?` makes of
 another (`from_gives`). Of all that is reached, only this may lie in `specs/inside/`.
 
 In docs/DEFINITIONS.md the first column of a table names definitions of the crate whose name heads the
@@ -16,19 +17,36 @@ own those of `specs/inside/`. Printed is what the document lacks, lists without 
 has too late or in another part, and what a clause reaches although it lies in `specs/inside/`; the exit
 status is 1 if there is any such line. With --list each reached definition is printed with its comment,
 those that `auditorium` reaches marked by `*`.
+
+docs/BELIEVE.md has a part for the law on order, one for what all commands share, and one for each command:
+what the record reaches that the table of commands gives it. In a part the definitions stand from the top down: crate
+by crate, each after those of the part that name it. A part of the page is what stands between `<!-- NAME -->`
+and `<!-- end -->`. The status is 1, too, where one differs from the sources, or a command has none. With
+--write the parts are written anew, and the heading of one that is missing. Lines are counted without blanks,
+imports and comments.
 """
 import pathlib
 import re
 import sys
-from collections import defaultdict
+from collections import Counter, defaultdict
 
 ROOT = pathlib.Path(__file__).resolve().parent.parent
 DOCUMENT = ROOT / "docs" / "DEFINITIONS.md"
+PAGE = ROOT / "docs" / "BELIEVE.md"
 TOP = ("auditorium_core", "auditorium")
 FIRST = "## What the headline needs"
 BEHIND = "## What is behind types"
 INSIDE = "specs/inside/"
+# What says of each command what it is, by one record for each.
+TABLE = "command_parts"
+# What the law on order says, and of which worlds it is proved.
+LAW = ("OrderIsReceiptIn", "Distinct")
+WORLDS = ("OrderIsReceiptInOrderlyWorlds", "OrderIsReceipt")
+# The parts of the page that are no command's, and what is said of honest places, which is counted apart.
+SHARED = {"law": "the law on order", "worlds": "of which worlds it is proved", "every": "what all commands share"}
+HONEST = {"order": ("IsOrderOfPlaces",), "audit": ("IsAuditOfPlaces",)}
 WORD = re.compile(r"[A-Za-z_][\w'?]*(?:\.[A-Za-z_][\w'?]*)?")
+GIVEN = re.compile(r"([A-Za-z_][\w'?]*) = ")
 IMPORT = re.compile(r"^\s*(?:pub |ghost )?use Rattle\.(\w+)\.specs\.([\w.]+?)(?:\.\{(.*?)\}| as (\w+));?$", re.S | re.M)
 DEFINITION = re.compile(r"^\s*(?:(?:abbrev|unfoldable|record|data|pub) )+([A-Za-z_][\w'?]*)")
 CONSTRUCTOR = re.compile(r"^\s+(?:pub )?([A-Za-z_][\w'?]*(?: [A-Za-z_][\w'?]*)*) :")
@@ -45,20 +63,29 @@ class Module:
         self.imported, self.aliases = imports_of(text)
         self.bodies = defaultdict(list)
         self.comments = {}
+        self.places = {}
         self.owners = {}
+        self.parts = defaultdict(set)
+        self.fields = set()
         current, comment, kind, indent = None, [], "", 0
-        for line in IMPORT.sub("", text).splitlines():
+        # The lines that an import takes stay as empty ones, so that lines keep their numbers.
+        left = IMPORT.sub(lambda found: "\n" * found.group().count("\n"), text)
+        for number, line in enumerate(left.splitlines(), 1):
             if line.strip().startswith("--"):
                 comment.append(line.strip()[2:].strip())
                 continue
             head = DEFINITION.match(line)
             if head and line.split()[0] != "pub" or head and re.match(r"\s*pub (record|data) ", line):
                 current, indent = head.group(1), len(line) - len(line.lstrip())
+                is_record = "record" in line[: head.start(1)].split()
                 kind = "type" if re.search(r"\b(record|data)\b", line[: head.start(1)]) else "function"
                 self.comments[current] = " ".join(comment)
+                self.places[current] = number - len(comment)
             elif current and kind == "type" and (inner := CONSTRUCTOR.match(line)):
                 for name in inner.group(1).split():
                     self.owners.setdefault(name, current)
+                    self.parts[current].add(name)
+                    self.fields |= {name} if is_record else set()
             elif current and ends(line, indent, current):
                 current = None
             if current and line.strip():
@@ -110,8 +137,9 @@ def target(known, crate, module, name):
 
 
 def meant(known, text, imported, aliases, here=None):
-    """The definitions that a text names; `here` is the module in which it stands."""
-    for word in set(WORD.findall(text)):
+    """The definitions that a text names, as they come; `here` is the module in which it stands."""
+    given = set(GIVEN.findall(text))
+    for word in dict.fromkeys(WORD.findall(text)):
         first, _, second = word.partition(".")
         if here and first in here.bodies:
             yield here.crate, here.name, first
@@ -123,20 +151,28 @@ def meant(known, text, imported, aliases, here=None):
             found = target(known, *aliases[first], second)
             if found:
                 yield found
-        elif here and first in here.owners:
+        elif here and first in here.owners and (first in given or first not in here.fields):
             yield here.crate, here.name, here.owners[first]
 
 
-def reached_from(known, starts):
-    """All that is reached from some definitions, the nearest first."""
+def named_by(known, key):
+    """The definitions that a definition names, as they come; its own fields aren't those of another one."""
+    here = known[key[:2]]
+    own = here.parts[key[2]]
+    body = "\n".join(here.bodies[key[2]])
+    found = meant(known, WORD.sub(lambda word: "" if word.group() in own else word.group(), body), here.imported,
+                  here.aliases, here)
+    return list(found)
+
+
+def reached_from(known, starts, without=()):
+    """All that is reached from some definitions, but for some and what only these reach; the nearest first."""
     reached, queue = [], list(starts)
-    seen = set(queue)
+    seen = set(queue) | set(without)
     while queue:
         key = queue.pop(0)
         reached.append(key)
-        here = known[key[:2]]
-        body = "\n".join(here.bodies[key[2]])
-        for found in sorted(meant(known, body, here.imported, here.aliases, here)):
+        for found in sorted(named_by(known, key)):
             if found not in seen:
                 seen.add(found)
                 queue.append(found)
@@ -203,13 +239,14 @@ def public_texts(crate, path):
 
 
 def starts(known):
-    """The definitions that each public clause or member names, by crate and the name of function or member."""
-    found = defaultdict(set)
+    """The definitions that each public clause or member names, as they come, by crate and the name of function or
+    member."""
+    found = defaultdict(dict)
     for crate in crates():
         for path in sorted((ROOT / "crates" / crate / "src").rglob("*.rt")):
             imported, aliases = imports_of(path.read_text())
             for function, clause in public_texts(crate, path):
-                found[crate, function] |= set(meant(known, clause, imported, aliases))
+                found[crate, function].update(dict.fromkeys(meant(known, clause, imported, aliases)))
     return found
 
 
@@ -260,6 +297,181 @@ def disagreements(known, reached, by_clauses, top):
     yield from (f"names no crate: {crate}" for crate in sorted(set(shown) - set(crates())))
 
 
+def equations(known, name):
+    """The equations of a definition of the top crate, by the constructor of the first argument, and its module;
+    none where there is no such definition."""
+    there = next((module for module in known.values() if module.crate == TOP[0] and name in module.bodies), None)
+    found, current = {}, None
+    for line in there.bodies[name] if there else ():
+        if case := re.match(rf"\s*{name} \(?(\w+)", line):
+            current = case.group(1)
+            found[current] = line
+        elif current:
+            found[current] += "\n" + line
+    return there, found
+
+
+def commands(known):
+    """For each command its word and the record that says what it is."""
+    there, records = equations(known, TABLE)
+    if there is None:
+        sys.exit(f"there is no {TABLE} in {TOP[0]}: say in this script which table lists the commands")
+    found = {}
+    for constructor, text in records.items():
+        roots = list(meant(known, text.partition(" = ")[2], there.imported, there.aliases, there))
+        bodies = [line for root in roots for line in known[root[:2]].bodies[root[2]]]
+        word = re.search(r'codes "(\w+)"', "\n".join(bodies))
+        if roots:
+            found[word.group(1) if word else constructor] = roots
+    return found
+
+
+def key_of(known, crate, name):
+    """A definition by its crate and name, which this script or the page begins at."""
+    for other, module in known:
+        if other == crate and name in known[other, module].bodies:
+            return crate, module, name
+    sys.exit(f"there is no {name} in {crate}: say in this script where its part begins")
+
+
+def parts_of_page(known, named):
+    """The parts of the page by name, each with the definitions that it has."""
+    by_word = commands(known)
+    answers = {root for roots in by_word.values() for root in roots}
+    law = reached_from(known, [key_of(known, "entry_order", name) for name in LAW])
+    worlds = reached_from(known, [key_of(known, "entry_order", name) for name in WORLDS], law)
+    parts = {"law": law, "worlds": worlds, "every": reached_from(known, named[TOP], answers)}
+    for word, roots in by_word.items():
+        honest = [key_of(known, TOP[0], name) for name in HONEST.get(word, ())]
+        parts[word] = reached_from(known, roots, honest)
+        if honest:
+            parts[f"{word} honest"] = reached_from(known, honest)
+    return {name: from_top(known, keys) for name, keys in parts.items()}
+
+
+def from_top(known, keys):
+    """The definitions crate by crate, the highest first, and each after those that name it."""
+    inside, seen, done = set(keys), set(), []
+    for root in reversed(keys):
+        stack = [(root, None)]
+        while stack:
+            key, rest = stack.pop()
+            if rest is None:
+                if key in seen:
+                    continue
+                seen.add(key)
+                rest = [found for found in named_by(known, key) if found in inside]
+            if rest:
+                stack += [(key, rest[:-1]), (rest[-1], None)]
+            else:
+                done.append(key)
+    order = {crate: place for place, crate in enumerate(crates())}
+    return sorted(reversed(done), key=lambda key: -order[key[0]])
+
+
+def lines_of(known, keys):
+    return sum(len(known[key[:2]].bodies[key[2]]) for key in keys)
+
+
+def counted(known, keys):
+    """How many definitions and lines."""
+    one, line = len(keys), lines_of(known, keys)
+    return f"{one:,} definition{'' if one == 1 else 's'}, {line:,} line{'' if line == 1 else 's'}"
+
+
+def label(known, key, doubles):
+    """How the page names a definition: with its place, too, where another has the name, but for its case."""
+    crate, module, name = key
+    place = known[crate, module].places[name]
+    return f"[`{name}`][{crate} {module} {place}]" if doubles[name.lower()] > 1 else f"[`{name}`]"
+
+
+def own_of(parts, name):
+    """What a part has and no part of another command."""
+    others = (keys for other, keys in parts.items() if other.split()[0] != name.split()[0])
+    return set(parts[name]).difference(*others)
+
+
+def list_of_part(known, parts, name, doubles):
+    """The list of a part: a line for each crate, its own definitions in bold."""
+    keys = parts[name]
+    own = own_of(parts, name) if name not in SHARED else set()
+    text = counted(known, keys)
+    if own:
+        text += f". In bold what is its own: {counted(known, own)}"
+    lines = [f"{text}.", ""]
+    for crate in dict.fromkeys(key[0] for key in keys):
+        of_crate = [key for key in keys if key[0] == crate]
+        shown = (f"**{label(known, key, doubles)}**" if key in own else label(known, key, doubles) for key in of_crate)
+        lines.append(f"- `{crate}` ({counted(known, of_crate)}): {', '.join(shown)}")
+    return lines
+
+
+def table_of_parts(known, parts, order):
+    """What each part has, what of it is its own, and what of it no part above has."""
+    lines = ["| To read | Definitions | Lines | Its own | New after the rows above |", "|---|---|---|---|---|"]
+    above = set()
+    for name in order:
+        new = [key for key in parts[name] if key not in above]
+        own = own_of(parts, name) if name not in SHARED else ()
+        cells = [title(name), f"{len(parts[name]):,}", f"{lines_of(known, parts[name]):,}",
+                 f"{len(own)}, in {lines_of(known, own):,} lines" if own else "",
+                 f"{len(new)}, in {lines_of(known, new):,} lines"]
+        lines.append(f"| {' | '.join(cells)} |")
+        above |= set(new)
+    return lines + [f"| all together | {len(above):,} | {lines_of(known, above):,} | | |"]
+
+
+def title(name):
+    """A part's name in the table."""
+    word, _, honest = name.partition(" ")
+    return SHARED.get(name) or f"`{word}`" + (", of an honest place" if honest else "")
+
+
+def links_of(known, parts, doubles):
+    """Where each definition stands, as the links by which the lists name them."""
+    found = {}
+    for key in sorted(set().union(*parts.values())):
+        module = known[key[:2]]
+        path = module.path.relative_to(ROOT).as_posix()
+        text = label(known, key, doubles)
+        found[text[text.rindex("["):]] = f"../{path}#L{module.places[key[2]]}"
+    return [f"{text}: {link}" for text, link in found.items()]
+
+
+BLOCK = re.compile(r"^<!-- (?!end)([a-z_ ]+) -->\n(.*?)^<!-- end -->$", re.S | re.M)
+
+
+def blocks(known, parts, order):
+    """The text of each part of the page."""
+    doubles = Counter(key[2].lower() for key in set().union(*parts.values()))
+    found = {name: list_of_part(known, parts, name, doubles) for name in parts}
+    found["figures"] = table_of_parts(known, parts, order)
+    found["links"] = links_of(known, parts, doubles)
+    return {name: "\n".join(lines) + "\n" for name, lines in found.items()}
+
+
+def page_faults(known, named, is_written):
+    """What of the page differs from the sources; where it is to be written, nothing does afterwards."""
+    parts = parts_of_page(known, named)
+    text = PAGE.read_text()
+    shown = [name for name, _ in BLOCK.findall(text)]
+    missing = [name for name in parts if name not in shown]
+    if is_written:
+        sections = "".join(f"## {title(name)}\n\n<!-- {name} -->\n<!-- end -->\n\n" for name in missing)
+        text = text.replace("<!-- links -->", sections + "<!-- links -->")
+        shown = [name for name, _ in BLOCK.findall(text)]
+    wanted = blocks(known, parts, [name for name in shown if name in parts])
+    if is_written:
+        text = BLOCK.sub(lambda found: f"<!-- {found[1]} -->\n{wanted.get(found[1], '')}<!-- end -->", text)
+        PAGE.write_text(text)
+        return
+    yield from (f"BELIEVE.md lacks {name}" for name in missing)
+    for name, found in BLOCK.findall(text):
+        if found != wanted.get(name):
+            yield f"BELIEVE.md has another list than the sources: {name}"
+
+
 def main():
     known = modules()
     named = starts(known)
@@ -273,6 +485,7 @@ def main():
             print(f"{mark} {crate} {module} {name}: {known[crate, module].comments[name]}")
         return 0
     lines = list(disagreements(known, reached, by_clauses, top))
+    lines += page_faults(known, named, "--write" in sys.argv[1:])
     print("\n".join(lines) or f"{len(reached)} definitions are reached, and all are listed")
     return 1 if lines else 0
 

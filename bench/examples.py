@@ -1,14 +1,18 @@
 #!/usr/bin/env python3
-"""Runs the commands of examples/README.md and compares what they print and their exit statuses.
+"""Runs the commands of examples/README.md and docs/REPORT.md and compares what they print and their exit statuses.
 
 usage: python3 bench/examples.py PROGRAM [WORD ..]
 
-PROGRAM, with these words before the command's, takes the place of `auditorium`. The statuses are those of the
-headings; where a heading has several commands, each ends with that status. Lines that begin with `auditorium: `
-are compared with standard error, the others with standard output. The exit status is 1 if a command differs.
+PROGRAM, with these words before the command's, takes the place of `auditorium`; any other command is the shell's. The
+statuses are those of the headings, where these begin with one; where a heading has several commands, each ends with
+that status. Lines that begin with `auditorium: ` or with a space are compared with the first lines of standard error,
+the others with standard output. Where GNU parallel is installed, a county of twelve places is made and audited, too.
+The exit status is 1 if something differs.
 """
+import os
 import pathlib
 import re
+import shlex
 import shutil
 import subprocess
 import sys
@@ -18,36 +22,75 @@ ROOT = pathlib.Path(__file__).resolve().parent.parent
 
 
 def examples(text):
-    """Each command's words, the lines that it prints, and its status."""
+    """Each command, the lines that it prints, and its status."""
     status, inside = None, False
     for line in text.splitlines():
-        if heading := re.match(r"## (\d+):", line):
-            status = int(heading.group(1))
+        if line.startswith("## "):
+            heading = re.match(r"## (\d+):", line)
+            status = heading and int(heading.group(1))
         if line.startswith("```"):
             if inside:
                 yield from found
             inside, found = line == "```console", []
-        elif inside and line.startswith("$ auditorium "):
-            found.append((line.split()[2:], [], status))
+        elif inside and line.startswith("$ "):
+            found.append((line[2:], [], status))
         elif inside:
             found[-1][1].append(line)
 
 
 def agrees(run, lines, status):
-    """Whether a command ended with this status and printed these lines, on either stream."""
-    def is_failure(line):
-        return line.startswith("auditorium: ")
+    """Whether a command ended with this status, if one is wanted, and printed these lines, on either stream."""
+    hints = [line for line in lines if line.startswith(("auditorium: ", " "))]
+    printed = [line for line in lines if line not in hints]
+    errors = run.stderr.splitlines()
+    return ((status is None or run.returncode == status) and run.stdout.splitlines() == printed
+            and errors[:len(hints)] == hints and bool(errors) == bool(hints))
 
-    failures = list(filter(is_failure, lines))
-    printed = [line for line in lines if not is_failure(line)]
-    return (run.returncode == status and run.stdout.splitlines() == printed
-            and list(filter(is_failure, run.stderr.splitlines())) == failures)
+
+def ran(program, command, here):
+    """The run of a command in a folder."""
+    words = command.split()
+    if words[0] == "auditorium":
+        return subprocess.run(program + words[1:], cwd=here, capture_output=True, text=True, timeout=120)
+    return subprocess.run(command, shell=True, cwd=here, capture_output=True, text=True, timeout=120)
+
+
+def has_parallel():
+    """Whether GNU parallel is installed; another program has the same name."""
+    if not shutil.which("parallel"):
+        return False
+    version = subprocess.run(["parallel", "--version"], capture_output=True, text=True)
+    return version.stdout.startswith("GNU parallel")
+
+
+def county_fault(program, here):
+    """How the audit of a county of twelve places differs from what its damage asks for; nothing if it doesn't."""
+    tools, county = here / "out" / "tools", here / "out" / "county"
+    tools.mkdir()
+    (tools / "auditorium").write_text(f'#!/bin/sh\nexec {shlex.join(program)} "$@"\n')
+    (tools / "auditorium").chmod(0o755)
+    path = f"{tools}{os.pathsep}{os.environ['PATH']}"
+
+    def run(script, *words):
+        return subprocess.run([here / "county" / script, *words], env={**os.environ, "PATH": path},
+                              capture_output=True, text=True, timeout=600)
+
+    made = run("make_county.sh", "12", county)
+    if made.returncode != 0:
+        return f"make_county.sh: status {made.returncode}\n{made.stderr}"
+    audited = run("audit_all.sh", county, "standard")
+    wanted = (county / "expected.tsv").read_text()
+    found = re.sub(r"\t[^\t\n]*$", "", (county / "summary.tsv").read_text(), flags=re.MULTILINE)
+    gravest = max(int(line.split("\t")[1]) for line in wanted.splitlines()[1:])
+    if found == wanted and audited.returncode == gravest:
+        return ""
+    return f"audit_all.sh: status {audited.returncode}, wanted {gravest}\n{audited.stderr}{found}wanted\n{wanted}"
 
 
 def main():
     program = [shutil.which(sys.argv[1]) or sys.argv[1]] + sys.argv[2:]
     program[0] = str(pathlib.Path(program[0]).resolve())
-    passed = failed = 0
+    faults = []
     with tempfile.TemporaryDirectory() as folder:
         # A copy, so that nothing is written into the repository.
         here = pathlib.Path(folder, "examples")
@@ -55,14 +98,18 @@ def main():
         data = pathlib.Path("crates", "auditorium_cli", "data")
         shutil.copytree(ROOT / data, pathlib.Path(folder, data))
         (here / "out").mkdir(exist_ok=True)
-        for words, lines, status in examples((here / "README.md").read_text()):
-            run = subprocess.run(program + words, cwd=here, capture_output=True, text=True, timeout=120)
-            if agrees(run, lines, status):
-                passed += 1
-            else:
-                failed += 1
-                print(f"{' '.join(words)}: status {run.returncode}, wanted {status}\n{run.stdout}{run.stderr}", end="")
-    print(f"{passed} passed, {failed} failed")
+        texts = [here / "README.md", ROOT / "docs" / "REPORT.md"]
+        for command, lines, status in (case for text in texts for case in examples(text.read_text())):
+            run = ran(program, command, here)
+            faults.append("" if agrees(run, lines, status) else
+                          f"{command}: status {run.returncode}, wanted {status}\n{run.stdout}{run.stderr}")
+        if has_parallel():
+            faults.append(county_fault(program, here))
+        else:
+            print("the county isn't run: GNU parallel isn't installed")
+    failed = list(filter(None, faults))
+    print(*failed, sep="", end="")
+    print(f"{len(faults) - len(failed)} passed, {len(failed)} failed")
     return 1 if failed else 0
 
 

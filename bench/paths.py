@@ -1,5 +1,5 @@
 #!/usr/bin/env python3
-"""Checks the documents: each path and link that they name exists, and the README has at most 900 words.
+"""Checks the documents: each path and link that they name exists, and the README has at most 950 words.
 
 Run from anywhere: python3 bench/paths.py
 
@@ -15,7 +15,7 @@ import subprocess
 import sys
 
 ROOT = pathlib.Path(__file__).resolve().parent.parent
-MOST_WORDS = 900
+MOST_WORDS = 950
 TOP = ("crates/", "docs/", "bench/", "examples/", ".ci/")
 OWN = ("src/", "specs/", "proofs/", "must-fail/")
 

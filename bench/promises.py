@@ -1,18 +1,27 @@
 #!/usr/bin/env python3
-"""Checks what docs/PROMISES.md and the crates' READMEs name. Run from anywhere: python3 bench/promises.py
+"""Checks what docs/PROMISES.md and the crates' READMEs name, and that each law has a caller or a reader.
+
+Run from anywhere: python3 bench/promises.py
 
 In docs/PROMISES.md each crate of crates.txt must have one row. In its third column `NAME`, clause `CLAUSE`,
 in `PATH` means that PATH is a file of the crate and that NAME and CLAUSE are words of it, NAME of a function
 or of a definition. In crates/NAME/README.md the names in the column "Kept by" must be words of the crate's
-sources, or of those of a crate that the cell names too. Each fault is printed; the exit status is 1 if there
-is one.
+sources, or of those of a crate that the cell names too.
+
+A law is a public function without arguments and result: all that it has is its contract. One that no function
+calls is a promise to readers, so a row of its crate must name it, in the table of crates or in that of laws.
+A row of laws names nothing else. Each fault is printed; the exit status is 1 if there is one.
 """
 import pathlib
 import re
 import sys
 
 ROOT = pathlib.Path(__file__).resolve().parent.parent
+PROMISES = ROOT / "docs" / "PROMISES.md"
 NAME = re.compile(r"`([^`]+)`")
+LAW = re.compile(r"^pub fn (\w+)(?:<[^(]*>)?\(\)\s*\n(?=\s*(?:requires|ensures))", re.M)
+CALL = re.compile(r"(?<![.\w])(?<!fn )(?:(\w+)::)?(\w+)(?:::<[^>]*>)?\(\)")
+USE = re.compile(r"^use (\w+)::(?:\{(.*?)\}|(\w+));", re.S | re.M)
 
 
 def crates():
@@ -81,9 +90,42 @@ def readme_faults(crate):
                 yield from (f"{crate}/README.md: no {part}" for part in parts if part != "for" and part not in known)
 
 
+def sources(crate):
+    return [path.read_text() for path in sorted((ROOT / "crates" / crate / "src").rglob("*.rt"))]
+
+
+def laws():
+    """The laws, each with its crate."""
+    return {(crate, name) for crate in crates() for text in sources(crate) for name in LAW.findall(text)}
+
+
+def called():
+    """What is called without arguments, with the crate that it is of."""
+    for crate in crates():
+        for text in sources(crate):
+            imported = {}
+            for other, names, name in USE.findall(text):
+                imported.update(dict.fromkeys(re.findall(r"\w+", names or name), other))
+            for other, name in CALL.findall(re.sub(r"//.*", "", text)):
+                yield other or imported.get(name, crate), name
+
+
+def law_faults(text, listed):
+    """The laws that have neither a caller nor a row, and what rows of laws name in vain."""
+    known = laws()
+    shown = {(crate, name) for crate, cells in listed for name in NAME.findall(cells[2])}
+    for cells in rows(text, "Law"):
+        names = {(crate, name) for crate in NAME.findall(cells[0]) for name in NAME.findall(cells[1])}
+        yield from (f"{crate}: {name} isn't a law of it" for crate, name in sorted(names - known))
+        shown |= names
+    for crate, name in sorted(known - shown - set(called())):
+        yield f"{crate}: the law {name} has neither a caller nor a row"
+
+
 def main():
     faults = []
-    listed = [(NAME.findall(cells[0])[0], cells) for cells in rows((ROOT / "docs/PROMISES.md").read_text(), "Crate")]
+    text = PROMISES.read_text()
+    listed = [(NAME.findall(cells[0])[0], cells) for cells in rows(text, "Its promise")]
     names = [crate for crate, _ in listed]
     faults += [f"no row of {crate}" for crate in crates() if names.count(crate) != 1]
     faults += [f"a row of {crate}, which isn't in crates.txt" for crate in names if crate not in crates()]
@@ -91,6 +133,7 @@ def main():
         faults += row_faults(crate, cells[2])
     for crate in crates():
         faults += readme_faults(crate)
+    faults += law_faults(text, listed)
     for fault in faults:
         print(fault)
     return 1 if faults else 0
