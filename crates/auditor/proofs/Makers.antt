@@ -14,7 +14,7 @@ use Rattle.entry_format.specs.declared.plain.EntryFault.{EntryFault}
 use Rattle.entry_format.specs.SealedEntry.{SealedEntry}
 use Rattle.entry_format.specs.Nodes.{node_of_sealed}
 use Rattle.entry_order.specs.Survivors.{is_stray}
-use Rattle.entry_order.proofs.Lists.{Contains-at, Contains-later, Contains-cons_cases, Contains-filter_cases}
+use Rattle.entry_order.proofs.Lists.{Contains-map, Contains-at, Contains-later, Contains-cons_cases, Contains-filter_cases}
 use Rattle.log_files.specs.declared.sealed_log.Kept.{Kept}
 use Rattle.log_files.specs.declared.sealed_log.LogRead.{LogRead}
 use Rattle.log_files.specs.LogText.{kept_of, Gives, EachGives}
@@ -42,16 +42,25 @@ forks_have_makers machines survivors forks told makers are same =
         (All-contains (λ (sealed : SealedEntry). sealed.entry.maker < length machines) survivors e makers has)
 
 -- the rows of the first entries, and one more
-pub rows_more : (machines : List Post) (survivors : List SealedEntry) (i : ℕ) (entry : SealedEntry) (row : Row)
+pub rows_more : {T : Type 0} (seen : T → Row) (survivors : List T) (i : ℕ) (entry : T) (row : Row)
     (rows new : List Row) → i < length survivors → slice_get survivors i ≡ Some entry →
-    rows ≡ map (row_of machines) (take i survivors) → row ≡ row_of machines entry → new ≡ rows ++ row ∷ [] →
-    new ≡ map (row_of machines) (take (i + 1) survivors)
-rows_more machines survivors i entry row rows new within at so_far is added =
+    rows ≡ map seen (take i survivors) → row ≡ seen entry → new ≡ rows ++ row ∷ [] →
+    new ≡ map seen (take (i + 1) survivors)
+rows_more seen survivors i entry row rows new within at so_far is added =
     added ∙ ap (λ (r : Row). rows ++ r ∷ [])
-    (is ∙ ap (row_of machines) (sym (get_or_from_slice_get survivors i entry entry at)))
-    ∙ ap (λ (rs : List Row). rs ++ row_of machines (get_or survivors i entry) ∷ []) so_far
-    ∙ sym (ap (map (row_of machines)) (take_more survivors i entry within)
-    ∙ map-append (row_of machines) (take i survivors) (get_or survivors i entry ∷ []))
+    (is ∙ ap seen (sym (get_or_from_slice_get survivors i entry entry at)))
+    ∙ ap (λ (rs : List Row). rs ++ seen (get_or survivors i entry) ∷ []) so_far
+    ∙ sym (ap (map seen) (take_more survivors i entry within)
+    ∙ map-append seen (take i survivors) (get_or survivors i entry ∷ []))
+
+-- the maker of what a survivor stands for
+pub maker_at : {T : Type 0} (sealed : T → SealedEntry) (machines : List Post) (survivors : List T) →
+    HaveMakers machines (map sealed survivors) → (i : ℕ) (e : T) → i < length survivors →
+    slice_get survivors i ≡ Some e → (sealed e).entry.maker < length machines
+maker_at sealed machines survivors makers i e within at =
+    All-contains (λ (s : SealedEntry). s.entry.maker < length machines) (map sealed survivors) (sealed e) makers
+    (Contains-map sealed survivors e
+    (subst (λ x. Contains survivors x) (get_or_from_slice_get survivors i e e at) (Contains-get_or survivors i e within)))
 
 -- a list of the first entries with each digest has given entries alone
 distinct_is_given : (given : List SealedEntry) (entry : SealedEntry) → Contains (distinct node_of_sealed given) entry →

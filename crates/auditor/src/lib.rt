@@ -15,4 +15,4 @@ pub use evidence::AuditFault;
 pub use laws::{files_give_one_report, plain_rules};
 pub use outcome::Outcome;
 pub use report::{Report, write_report};
-pub use row::rows;
+pub use row::{ShowsSealed, rows};

@@ -1,9 +1,10 @@
 //! What rules see of the survivors.
 ghost use Rattle.std.specs.Prelude.{◌≡◌, ◌<◌, length, map, IfOk};
+ghost use Rattle.entry_format.specs.SealedEntry.{SealedEntry};
 ghost use Rattle.auditor.specs.Rows.{HaveMakers, kind_of, session_of, ballot_of, booth_of, row_of};
 
 use entry_format::{Deed, How, Sealed};
-use entry_graph::Graph;
+use entry_graph::{Graph, SignedText};
 use precedence::Arrows;
 use roster::Roster;
 use rule_language::{Kind, Row};
@@ -12,17 +13,39 @@ use std::alloc::{AllocError, Global};
 /// Want of memory.
 pub type Memory = AllocError;
 
+/// An entry that is sealed, or stands for one.
+pub trait ShowsSealed: SignedText {
+    /// The sealed entry.
+    ghost sealed: { Self → SealedEntry };
+
+    /// The sealed entry.
+    fn sealed(&self) -> &Sealed
+        ensures { result.now ≡ sealed self.now };
+}
+
+impl ShowsSealed for Sealed {
+    ghost sealed = { λ sealed. sealed };
+
+    fn sealed(&self) -> &Sealed {
+        self
+    }
+}
+
 /// What rules see of the survivors: member i is the row of survivor i. The survivors are entries that
 /// were unsealed with this roster.
-pub fn rows(alloc: Global, graph: &Graph, roster: &Roster) -> Result<Vec<Row>, Memory>
-    requires { HaveMakers roster.now.machines graph.now.survivors }
+pub fn rows<T: ShowsSealed + Drop>(
+    alloc: Global,
+    graph: &Graph<T>,
+    roster: &Roster,
+) -> Result<Vec<Row>, Memory>
+    requires { HaveMakers roster.now.machines (map T.sealed graph.now.survivors) }
     ensures { IfOk result (λ rows.
-        rows.items ≡ map (row_of roster.now.machines) graph.now.survivors) }
+        rows.items ≡ map (λ e. row_of roster.now.machines (T.sealed e)) graph.now.survivors) }
 {
     let count = graph.count();
     let mut rows = Vec::with_capacity(alloc, count)?;
     for i in 0..count {
-        rows.push_reserved(row_of(roster, graph.node(i)));
+        rows.push_reserved(row_of(roster, graph.node(i).sealed()));
     }
     Ok(rows)
 }

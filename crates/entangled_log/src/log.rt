@@ -5,6 +5,7 @@ ghost use Rattle.std.specs.Prelude.{Some, None, Err, IfNone, IfOk, IfSome, IsNon
 ghost use Rattle.entry_order.specs.declared.event.Event.TheVariants.{Sent};
 ghost use Rattle.entry_order.specs.History.{IsLegal, IsNext, MayFollow, greatest_stamp, held, sent};
 ghost use Rattle.entry_order.specs.Naming.{IsBorneIn, IsNew};
+ghost use Rattle.entry_order.specs.Survivors.{gaps};
 ghost use Rattle.entangled_log.specs.declared.next.NextFault.{NextFault};
 ghost use Rattle.entangled_log.specs.Hearing.{IsHearAnswer, log_after};
 ghost use Rattle.entangled_log.specs.Logs.{log_with_event};
@@ -163,6 +164,13 @@ impl<T: Knot> Log<T> {
         ensures { IsTrue result ↔ NamesOnlyHeld T.node (held self.now.events) }
     {
         !self.frontier.wants(&self.events)
+    }
+
+    /// The digests that held entries name and none of them bears, ascending.
+    pub fn missing(&self, alloc: Global) -> Result<Vec<[u8; 32]>, Memory>
+        ensures { IfOk result (λ digests. digests.items ≡ gaps T.node (held self.now.events)) }
+    {
+        self.frontier.missing(alloc, &self.events)
     }
 
     /// Whether an entry with the digest is held.

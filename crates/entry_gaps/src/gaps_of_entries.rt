@@ -3,10 +3,11 @@ ghost use Rattle.std.specs.Prelude.{◌≡◌, map, IfOk, IsSorted};
 ghost use Rattle.std.specs.List.{flat_map};
 ghost use Rattle.std.specs.Ordering.{nat_cmp};
 ghost use Rattle.std.specs.Cmp.Lexicographic.{slice_cmp};
+ghost use Rattle.entry_order.specs.Ascending.{ascending as ascending_of};
 ghost use Rattle.entry_order.specs.Survivors.{gaps as gaps_of};
 ghost use Rattle.entry_gaps.specs.inside.Without.{IsWithout};
 
-use entry_order::{Knot, gaps_are_unique};
+use entry_order::{Knot, ascending_is_unique, gaps_are_unique};
 use item_list::Items;
 use std::alloc::{AllocError, Global};
 
@@ -28,6 +29,17 @@ pub fn gaps<T: Knot>(alloc: Global, entries: &[T]) -> Result<Digests, Memory>
     named.sort_unstable();
     let digests = without(alloc, named.as_slice(), borne.as_slice())?;
     Ok(Items::from_vec(digests))
+}
+
+/// The digests in ascending order of their bytes, each once.
+pub fn ascending(alloc: Global, digests: Vec<[u8; 32]>) -> Result<Digests, Memory>
+    ensures { IfOk result (λ found. found ≡ ascending_of digests.items) }
+{
+    ascending_is_unique();
+    let mut sorted = digests;
+    sorted.sort_unstable();
+    let found = without(alloc, sorted.as_slice(), &[])?;
+    Ok(Items::from_vec(found))
 }
 
 /// The digests that the entries bear, in their order.

@@ -62,7 +62,8 @@ to_end kind id secret tmp end q i n count steps last en ec es el et ee =
 
 -- a walk from a checkpoint leads where the whole walk does
 pub from_checkpoint : (kind : OtsKind) (id seed block tmp : List ℕ) (q i n from place : ℕ)
-    → from ≡ (n + 1) * stride kind → from ≤ place → block ≡ checkpoint kind id q seed i n → tmp ≡ chain id q i from place block
+    → from ≡ (n + 1) * stride kind → from ≤ place → block ≡ checkpoint kind id q seed i n
+    → tmp ≡ chain id q i from place block
     → tmp ≡ chain id q i 0 place (secret_element id q seed i)
 unfolding checkpoint
 from_checkpoint kind id seed block tmp q i n from place ef le eb et =

@@ -56,6 +56,13 @@ impl Digests {
         self.set.is_empty()
     }
 
+    /// The digests, in some order.
+    pub fn list(&self, alloc: Global) -> Result<Vec<[u8; 32]>, AllocError>
+        ensures { IfOk result (λ list. list.items ≡ self.now.list) }
+    {
+        self.set.iter().copied().collect(alloc)
+    }
+
     /// Puts the digest in. It takes no memory.
     pub fn insert(&mut self, digest: &[u8; 32])
         requires { 0 < self.old.spare }

@@ -2,12 +2,14 @@
 
 ghost use Rattle.std.specs.Prelude.{◌≡◌, ◌↔◌, ◌≤◌, ◌+◌, [], length, take, IfOk, IsTrue, false};
 ghost use Rattle.entry_order.specs.Naming.{has_digest};
+ghost use Rattle.entry_order.specs.Survivors.{gaps as gaps_of};
 ghost use Rattle.log_frontier.specs.Places.{HasNoDigestTwice, NamesUnborne, StandsFor};
 
 use crate::digests::Digests;
 use crate::noting::{is_last_named, note_last, note_tables, wants_by_scan};
 use crate::wanted::Wanted;
-use entry_order::Knot;
+use entry_gaps::{ascending, gaps};
+use entry_order::{Knot, gaps_are_unique};
 use std::alloc::{AllocError, Global};
 use std::marker::Model;
 
@@ -87,6 +89,21 @@ impl Frontier {
         } else {
             !self.wanted.is_empty()
         }
+    }
+
+    /// The digests that one of the entries names and none of them bears, ascending. The time is that
+    /// of sorting them; where the table had no room for all of them, every name is looked at.
+    pub fn missing<T: Knot>(&self, alloc: Global, held: &[T]) -> Result<Vec<[u8; 32]>, Memory>
+        requires { StandsFor T.node held.now self.now }
+        ensures { IfOk result (λ digests. digests.items ≡ gaps_of T.node held.now) }
+    {
+        gaps_are_unique::<T>();
+        let digests = if self.wanted.scans() {
+            gaps(alloc, held)?
+        } else {
+            ascending(alloc, self.wanted.list(alloc)?)?
+        };
+        Ok(digests.into_vec())
     }
 
     /// The places, in ascending order of the digests there.

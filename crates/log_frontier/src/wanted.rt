@@ -58,6 +58,13 @@ impl Wanted {
         self.digests.is_empty()
     }
 
+    /// Those that are looked for, in some order.
+    pub fn list(&self, alloc: Global) -> Result<Vec<[u8; 32]>, AllocError>
+        ensures { IfOk result (λ list. list.items ≡ self.now.list) }
+    {
+        self.digests.list(alloc)
+    }
+
     /// Takes out the digest, which was found.
     pub fn forget(&mut self, digest: &[u8; 32])
         ensures has { (d : List ℕ) →

@@ -222,6 +222,13 @@ impl Machine {
         self.key.next()
     }
 
+    /// Whether it has stopped: it sends and hears nothing.
+    pub fn stopped(&self) -> bool
+        ensures { result ≡ has_stopped self.now }
+    {
+        self.has_stopped()
+    }
+
     /// Its log.
     pub fn log(&self) -> &Log<Sealed>
         ensures log { result.now ≡ log_of self.now }

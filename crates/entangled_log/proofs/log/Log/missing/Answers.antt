@@ -1,0 +1,23 @@
+use Rattle.std.proofs.Common.{◌≡◌, ◌∙◌, List, ap, sym, subst}
+use Rattle.std.proofs.lemmas.Result.{IfOk-weaker}
+use Rattle.entry_order.specs.declared.event.Event.{Event}
+use Rattle.entry_order.specs.History.{entry_of, held}
+use Rattle.entry_order.specs.Survivors.{gaps}
+use Rattle.log_frontier.specs.Places.{StandsFor}
+use Rattle.entangled_log.proofs.Missing.{gaps_held}
+use Rattle.entangled_log.proofs.log.Log.missing.Goals as goal
+
+-- the frontier stands for the events as they are lent
+pub missing-requires : goal.missing-requires
+missing-requires g c =
+    subst (λ (h : List (Event g.row.T.Denot)). StandsFor (λ x. g.T.Knot.node (entry_of x)) h c.self.inside.frontier)
+    (sym c.deref.ensures.value) c.self.invariant.stands
+
+pub returns : goal.returns
+returns g c =
+    let node = g.T.Knot.node in
+    IfOk-weaker c.missing.result _ _
+    (λ digests is. is ∙ gaps_held node c.deref.result.now
+    ∙ ap (λ (h : List (Event g.row.T.Denot)). gaps node (held h))
+    (c.deref.ensures.value ∙ ap (λ log. log.events) c.self.view_is))
+    c.missing.ensures
