@@ -14,3 +14,5 @@ pub mod HeadsRead
 pub mod Walked
 pub mod Writing
 pub mod Canonicals
+pub mod OneReading
+pub mod SameArrows

@@ -111,7 +111,7 @@ same_step s t small_s small_t e =
     ∙ ap (λ (n : ℕ). let step : ProofStep = record { ancestor = t.ancestor; via = n } in step) v
 
 -- steps are followed by a space, or by nothing
-steps_follow : (ss : List ProofStep) (rest : List ℕ) → Follows 32 rest → Follows 32 (flat_map step_text ss ++ rest)
+pub steps_follow : (ss : List ProofStep) (rest : List ℕ) → Follows 32 rest → Follows 32 (flat_map step_text ss ++ rest)
 steps_follow [] rest f = f
 steps_follow (s ∷ ss) rest f = refl
 

@@ -1,14 +1,16 @@
--- Why a text is no proof for a graph: the causes in the order in which they are tried, line by line, and on a line word
--- by word from the left. Each cause stands beside the fact that it applies.
-use Rattle.std.specs.Prelude.{◌≡◌, ◌≢◌, ◌⊎◌, ℕ, ◌+◌, ◌<◌, ◌^◌, ◌==◌, List, [], ◌∷◌, ◌++◌, length, take, drop, All}
-use Rattle.std.specs.Prelude.{codes, Err}
+-- Why a text is no proof for a graph: the causes in the order in which they are tried, line by
+-- line, and on a line word by word from the left. Each cause stands beside the fact that it
+-- applies.
+use Rattle.std.specs.Prelude.{◌≡◌, ◌≢◌, ◌⊎◌, ℕ, ◌+◌, ◌<◌, ◌^◌, ◌==◌, List, [], ◌∷◌, ◌++◌}
+use Rattle.std.specs.Prelude.{length, take, drop, All, codes, Err}
 use Rattle.std.specs.List.{Contains, before_first}
 use Rattle.std.specs.Fmt.{decimal}
 use Rattle.first_cause.specs.Causes.{IsFirstOf}
 use Rattle.precedence.specs.Graph.{Graph}
 use Rattle.audit_proof.specs.declared.step.ProofStep.{ProofStep}
 use Rattle.audit_proof.specs.declared.fault.ProofWhy.{ProofWhy}
-use Rattle.audit_proof.specs.declared.fault.ProofWhy.TheVariants.{Form, WrongCount, OutOfRange, NotRising, NotFalling}
+use Rattle.audit_proof.specs.declared.fault.ProofWhy.TheVariants.{Form, WrongCount, OutOfRange}
+use Rattle.audit_proof.specs.declared.fault.ProofWhy.TheVariants.{NotRising, NotFalling}
 use Rattle.audit_proof.specs.declared.fault.ProofWhy.TheVariants.{NotReached, NotParent, NotClosed}
 use Rattle.audit_proof.specs.Lines.{Line, IsOnLine, LacksNoParent, IsBegun, IsProofOf}
 use Rattle.audit_proof.specs.ProofText.{step_word, line_words, form_line, proof_text}
@@ -31,7 +33,8 @@ SaysNumber Holds word = (number : ℕ) × (number < 2 ^ 32) × (word ≡ decimal
 -- the word is two such numbers with a colon between them, a step of which this holds
 abbrev pub SaysStep : (ProofStep → Type 0) → List ℕ → Type 0
 SaysStep Holds word =
-    (step : ProofStep) × (step.ancestor < 2 ^ 32) × (step.via < 2 ^ 32) × (word ≡ step_word step) × Holds step
+    (step : ProofStep) × (step.ancestor < 2 ^ 32) × (step.via < 2 ^ 32)
+    × (word ≡ step_word step) × Holds step
 
 -- of the first line
 abbrev pub form_causes : List ℕ → ProofCauses
@@ -62,8 +65,14 @@ past_causes graph Rises line =
 abbrev pub ancestor_causes : Graph → Line → List ℕ → ProofCauses
 ancestor_causes graph line word =
     (¬ SaysStep (λ step. Unit {0}) word, Form)
-    ∷ (¬ SaysStep (λ step. (step.ancestor < graph.count) × (step.via < graph.count)) word, OutOfRange)
-    ∷ (¬ SaysStep (λ step. All (λ earlier. step.ancestor < earlier.ancestor) line.steps) word, NotFalling)
+    ∷ (
+      ¬ SaysStep (λ step. (step.ancestor < graph.count) × (step.via < graph.count)) word,
+      OutOfRange,
+    )
+    ∷ (
+      ¬ SaysStep (λ step. All (λ earlier. step.ancestor < earlier.ancestor) line.steps) word,
+      NotFalling,
+    )
     ∷ (¬ SaysStep (λ step. IsOnLine line step.via) word, NotReached)
     ∷ (¬ SaysStep (λ step. Contains (graph.parents step.via) step.ancestor) word, NotParent) ∷ []
 
@@ -71,8 +80,8 @@ ancestor_causes graph line word =
 abbrev pub end_causes : Graph → Line → Type 0 → ProofCauses
 end_causes graph line IsEnded = (¬ IsEnded, Form) ∷ (¬ LacksNoParent graph line, NotClosed) ∷ []
 
--- the first fault of a line, whose entry has to be such: of its beginning; or of the first word that can't follow what
--- stands before it; or of its end
+-- the first fault of a line, whose entry has to be such: of its beginning; or of the first word
+-- that can't follow what stands before it; or of its end
 abbrev pub IsLineFault : Graph → (ℕ → Type 0) → List ℕ → Type 0 → ProofWhy → Type 0
 IsLineFault graph Rises line IsEnded why =
     IsFirstOf (past_causes graph Rises line) (Err why)
@@ -81,8 +90,8 @@ IsLineFault graph Rises line IsEnded why =
     × IsFirstOf (ancestor_causes graph begun (word_in more)) (Err why))
     ⊎ ((line ≡ line_words begun) × IsFirstOf (end_causes graph begun IsEnded) (Err why))))
 
--- the first fault of a text, with the number of its line, counted from 1, where the lines before it are as they should
--- be: of the first line, of the second, or of one of a survivor's ancestors
+-- the first fault of a text, with the number of its line, counted from 1, where the lines before it
+-- are as they should be: of the first line, of the second, or of one of a survivor's ancestors
 abbrev pub IsFirstFault : Graph → List ℕ → ℕ → ProofWhy → Type 0
 IsFirstFault graph bytes number why =
     ((number ≡ 1) × IsFirstOf (form_causes bytes) (Err why))
@@ -90,4 +99,5 @@ IsFirstFault graph bytes number why =
     × IsFirstOf (count_causes graph.count rest) (Err why))
     ⊎ ((lines : List Line) × (rest : List ℕ) × (number ≡ length lines + 3)
     × (bytes ≡ proof_text graph.count lines ++ rest) × IsProofOf graph lines × (rest ≢ [])
-    × IsLineFault graph (λ entry. All (λ line. line.entry < entry) lines) (line_in rest) (Contains rest 10) why)
+    × IsLineFault graph (λ entry. All (λ line. line.entry < entry) lines) (line_in rest)
+    (Contains rest 10) why)

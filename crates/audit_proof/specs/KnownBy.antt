@@ -24,8 +24,8 @@ is_whole_line ragged None = false
 is_whole_line ragged (Some line) =
     not (ragged line.entry) && list_all (λ y. not (ragged y)) (listed_in line.steps)
 
--- whether y comes before an entry with the line, as far as the line tells: it does where it is listed, else it doesn't
--- where the line is whole
+-- whether y comes before an entry with the line, as far as the line tells: it does where it is
+-- listed, else it doesn't where the line is whole
 abbrev pub before_on : Option Line → Bool → ℕ → Three
 before_on line whole y = if lists line y then True else if whole then False else Unknown
 

@@ -1,3 +1,4 @@
+pub mod CauseWords
 pub mod Lines
 pub mod ProofText
 pub mod KnownBy
@@ -7,4 +8,5 @@ pub mod Reads
 pub mod Canonical
 pub mod Proves
 pub mod Trust
+pub mod OneReading
 pub mod inside

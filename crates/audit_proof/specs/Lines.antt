@@ -1,4 +1,5 @@
--- A proof of an audit: for some survivors, by their numbers, the ancestors of each, with a path to each of them.
+-- A proof of an audit: for some survivors, by their numbers, the ancestors of each, with a path to
+-- each of them.
 use Rattle.std.specs.Prelude.{◌≡◌, ◌⊎◌, ℕ, ◌<◌, List, map, AllPairs, All, Some, slice_get}
 use Rattle.std.specs.List.{Contains}
 use Rattle.precedence.specs.Graph.{Graph}
@@ -21,19 +22,21 @@ IsOnLine line x = (x ≡ line.entry) ⊎ Contains (listed_in line.steps) x
 abbrev pub IsReached : Line → ℕ → ℕ → Type 0
 IsReached line k x =
     (x ≡ line.entry)
-    ⊎ ((j : ℕ) × (earlier : ProofStep) × (j < k) × (slice_get line.steps j ≡ Some earlier) × (earlier.ancestor ≡ x))
+    ⊎ ((j : ℕ) × (earlier : ProofStep) × (j < k) × (slice_get line.steps j ≡ Some earlier)
+    × (earlier.ancestor ≡ x))
 
 -- no parent of what is on the line is lacking
 abbrev pub LacksNoParent : Graph → Line → Type 0
 LacksNoParent graph line =
     (x p : ℕ) → IsOnLine line x → Contains (graph.parents x) p → Contains (listed_in line.steps) p
 
--- what a line is as far as it goes: all are survivors; the ancestors fall; and each is a parent of its via, which was
--- reached before
+-- what a line is as far as it goes: all are survivors; the ancestors fall; and each is a parent of
+-- its via, which was reached before
 pub record IsBegun (graph : Graph) (line : Line) : Type 0 where
   pub inside : (x : ℕ) → IsOnLine line x → x < graph.count
   pub falls : AllPairs (λ earlier later. later.ancestor < earlier.ancestor) line.steps
-  pub reached : (k : ℕ) (step : ProofStep) → slice_get line.steps k ≡ Some step → IsReached line k step.via
+  pub reached : (k : ℕ) (step : ProofStep) → slice_get line.steps k ≡ Some step →
+      IsReached line k step.via
   pub arrows : (k : ℕ) (step : ProofStep) → slice_get line.steps k ≡ Some step →
       Contains (graph.parents step.via) step.ancestor
 
@@ -49,4 +52,5 @@ pub record IsProofOf (graph : Graph) (lines : List Line) : Type 0 where
 
 -- every survivor has one
 abbrev pub HasEachLine : Graph → List Line → Type 0
-HasEachLine graph lines = (x : ℕ) → x < graph.count → (line : Line) × Contains lines line × (line.entry ≡ x)
+HasEachLine graph lines =
+    (x : ℕ) → x < graph.count → (line : Line) × Contains lines line × (line.entry ≡ x)

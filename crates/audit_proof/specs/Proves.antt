@@ -10,5 +10,6 @@ use Rattle.audit_proof.specs.Canonical.{IsCanonicalText}
 -- the canonical text, which has at most 64 MiB; or it has more
 abbrev pub IsProveAnswer : Graph → Result (Vec ℕ Global) ProveFault → Type 0
 IsProveAnswer graph (Ok text) = IsCanonicalText graph text.items × (length text.items ≤ 67108864)
-IsProveAnswer graph (Err TooLong) = (text : List ℕ) × IsCanonicalText graph text × (67108864 < length text)
+IsProveAnswer graph (Err TooLong) =
+    (text : List ℕ) × IsCanonicalText graph text × (67108864 < length text)
 IsProveAnswer graph (Err Memory) = Unit {0}

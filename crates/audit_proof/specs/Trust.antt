@@ -31,7 +31,8 @@ abbrev pub ProofsSayNoMore : Type 0
 ProofsSayNoMore =
     (rows : List Row) (graph : Graph) (lines : List Line) → length rows ≡ graph.count →
     Descends graph.parents → IsProofOf graph lines → (rule : Trees) →
-    IsLessKnown (three_by rows graph.ragged lines rule) (three_in rows graph.parents graph.ragged rule)
+    IsLessKnown (three_by rows graph.ragged lines rule)
+    (three_in rows graph.parents graph.ragged rule)
 
 -- and where every survivor has a line it has that value
 abbrev pub FullProofsSayAll : Type 0
@@ -40,21 +41,23 @@ FullProofsSayAll =
     Descends graph.parents → IsProofOf graph lines → HasEachLine graph lines → (rule : Trees) →
     three_by rows graph.ragged lines rule ≡ three_in rows graph.parents graph.ragged rule
 
--- the canonical text is read, whatever meets the reader's clause and doesn't run out of memory, and by what is read a
--- rule has the value that it has by the survivors' graph
+-- the canonical text is read, whatever meets the reader's clause and doesn't run out of memory, and
+-- by what is read a rule has the value that it has by the survivors' graph
 abbrev pub WrittenProofsSayAll : Type 0
 WrittenProofsSayAll =
     (rows : List Row) (graph : Graph) (bytes : List ℕ) (answer : Result (List Line) ProofFault) →
-    length rows ≡ graph.count → graph.count ≤ 16384 → Descends graph.parents → IsCanonicalText graph bytes →
-    IsReadAnswer graph bytes answer → answer ≢ Err Memory →
+    length rows ≡ graph.count → graph.count ≤ 16384 → Descends graph.parents →
+    IsCanonicalText graph bytes → IsReadAnswer graph bytes answer → answer ≢ Err Memory →
     (lines : List Line) × (answer ≡ Ok lines) × IsProofOf graph lines
-    × ((rule : Trees) → three_by rows graph.ragged lines rule ≡ three_in rows graph.parents graph.ragged rule)
+    × ((rule : Trees) →
+    three_by rows graph.ragged lines rule ≡ three_in rows graph.parents graph.ragged rule)
 
 -- a rule that is true by a proof holds in every completion, and one that is false holds in none
 abbrev pub ProofsAreRight : {T : Type 0} → (T → Node) → (T → Row) → Type 0
 ProofsAreRight {T} node row =
     (machines : ℕ) (S G : List T) (parents : ℕ → List ℕ) (ragged : ℕ → Bool) (lines : List Line) →
     HasNoDouble S → IsGraphOf node S parents ragged → Completion node machines S G →
-    IsProofOf (record { count = length S; parents = parents; ragged = ragged }) lines → (rule : Trees) →
+    IsProofOf (record { count = length S; parents = parents; ragged = ragged }) lines →
+    (rule : Trees) →
     (three_by (map row S) ragged lines rule ≡ True → Holds node row S G rule)
     × (three_by (map row S) ragged lines rule ≡ False → ¬ (Holds node row S G rule))

@@ -1,4 +1,7 @@
 //! What is answered of rules, proofs and texts, and why not.
+ghost use Rattle.std.specs.Prelude.{◌≡◌};
+ghost use Rattle.audit_proof.specs.CauseWords.{proof_why_word};
+
 use std::alloc::{AllocError, AllocFailed};
 use thiserror::Error;
 
@@ -64,6 +67,24 @@ pub enum ProofWhy {
     NotParent,
     /// A parent of what is on the line is lacking.
     NotClosed,
+}
+
+impl ProofWhy {
+    /// The cause's word in lines of output.
+    pub fn word(self) -> &'static str
+        ensures { result.now ≡ proof_why_word self }
+    {
+        match self {
+            ProofWhy::Form => "Form",
+            ProofWhy::WrongCount => "WrongCount",
+            ProofWhy::OutOfRange => "OutOfRange",
+            ProofWhy::NotRising => "NotRising",
+            ProofWhy::NotFalling => "NotFalling",
+            ProofWhy::NotReached => "NotReached",
+            ProofWhy::NotParent => "NotParent",
+            ProofWhy::NotClosed => "NotClosed",
+        }
+    }
 }
 
 /// Why a text is no proof for a graph.

@@ -2,6 +2,11 @@
 //! body.
 ghost use Rattle.rule_language.specs.declared.row.Row.{Row as RowOf};
 ghost use Rattle.audit_proof.specs.Canonical.{OneTextIsCanonical};
+ghost use Rattle.audit_proof.specs.OneReading.{
+  SameArrowsGiveOneValue,
+  SameArrowsHaveOneText,
+  TextsAreReadInOneWay,
+};
 ghost use Rattle.audit_proof.specs.Trust.{
   FullProofsSayAll,
   LinesListAncestors,
@@ -23,6 +28,14 @@ pub fn proofs_say_no_more()
 /// Every graph has one canonical text, which `prove` writes where it isn't too long.
 pub fn one_text_is_canonical()
     ensures { OneTextIsCanonical }
+{}
+
+/// Of a text there is one answer, also for another graph with the same arrows, which has the same
+/// canonical text. By a proof for both a rule has one value.
+pub fn proofs_are_read_in_one_way()
+    ensures read { TextsAreReadInOneWay }
+    ensures text { SameArrowsHaveOneText }
+    ensures value { SameArrowsGiveOneValue }
 {}
 
 /// What `prove` writes is accepted by `read_proof`, and by it a rule has the value that it has by

@@ -1,22 +1,5 @@
 //! Reading the lines of a proof's text.
-ghost use Rattle.std.specs.Prelude.{
-  ◌≡◌,
-  ◌+◌,
-  ◌<◌,
-  ◌≤◌,
-  ◌^◌,
-  ◌↔◌,
-  IsTrue,
-  length,
-  take,
-  codes,
-  All,
-  IfSome,
-  IfErr,
-  ℕ,
-  false,
-  slice_index_or,
-};
+ghost use Rattle.std.specs.Prelude.{◌≡◌, ◌<◌, ◌≤◌, ◌↔◌, IsTrue, length, codes, All, IfSome};
 ghost use Rattle.std.specs.List.{list_all};
 ghost use Rattle.audit_proof.specs.Lines.{IsBegun, listed_in};
 ghost use Rattle.audit_proof.specs.inside.Begun.{IsListedTable};

@@ -1,8 +1,6 @@
 //! What the lines of a proof say of the order, found at once.
-ghost use Rattle.std.specs.Prelude.{◌≡◌, ◌<◌, length, IfOk};
-ghost use Rattle.std.specs.List.{list_all};
-ghost use Rattle.std.specs.Prelude.{not, ◌&&◌, ◌==◌, All, slice_get};
-ghost use Rattle.std.specs.List.{list_any};
+ghost use Rattle.std.specs.Prelude.{◌≡◌, ◌<◌, ◌&&◌, ◌==◌, not, length, slice_get, All, IfOk};
+ghost use Rattle.std.specs.List.{list_all, list_any};
 ghost use Rattle.audit_proof.specs.Lines.{IsProofOf, listed_in};
 ghost use Rattle.audit_proof.specs.inside.Falls.{Falls};
 ghost use Rattle.audit_proof.specs.inside.Listing.{

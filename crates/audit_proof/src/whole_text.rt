@@ -1,7 +1,6 @@
 //! Reading the text of a proof.
 ghost use Rattle.std.specs.Prelude.{
   ◌≡◌,
-  ◌+◌,
   ◌-◌,
   ◌≤◌,
   ◌↔◌,

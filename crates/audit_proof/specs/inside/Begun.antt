@@ -1,10 +1,12 @@
 -- A line that is being read.
-use Rattle.std.specs.Prelude.{◌≡◌, ◌⊎◌, ℕ, ◌+◌, ◌-◌, ◌^◌, ◌<◌, ◌≤◌, ◌==◌, Bool, true, false, List, [], ◌∷◌, ◌++◌}
-use Rattle.std.specs.Prelude.{length, take, drop, Some, slice_get, slice_index_or}
+use Rattle.std.specs.Prelude.{◌≡◌, ◌⊎◌, ℕ, ◌+◌, ◌-◌, ◌^◌, ◌<◌, ◌≤◌, ◌==◌, Bool, true, false}
+use Rattle.std.specs.Prelude.{List, [], ◌∷◌, ◌++◌, length, take, drop, Some, slice_get}
+use Rattle.std.specs.Prelude.{slice_index_or}
 use Rattle.std.specs.List.{Contains, flat_map, list_any}
 use Rattle.precedence.specs.Graph.{Graph}
 use Rattle.audit_proof.specs.declared.step.ProofStep.{ProofStep}
-use Rattle.audit_proof.specs.declared.fault.ProofWhy.TheVariants.{OutOfRange, NotFalling, NotReached, NotParent}
+use Rattle.audit_proof.specs.declared.fault.ProofWhy.TheVariants.{OutOfRange, NotFalling}
+use Rattle.audit_proof.specs.declared.fault.ProofWhy.TheVariants.{NotReached, NotParent}
 use Rattle.audit_proof.specs.Lines.{Line, listed_in, IsOnLine, IsBegun}
 use Rattle.audit_proof.specs.ProofText.{step_text}
 use Rattle.audit_proof.specs.Faults.{ProofCauses}
@@ -15,7 +17,8 @@ abbrev pub IsWordStep : ProofStep → Type 0
 IsWordStep step = (step.ancestor < 2 ^ 32) × (step.via < 2 ^ 32)
 
 -- the step goes on a line of which this is reached and whose last ancestor is the bound
-pub record GoesOn (graph : Graph) (reached : List Bool) (bound : ℕ) (step : ProofStep) : Type 0 where
+pub record GoesOn (graph : Graph) (reached : List Bool) (bound : ℕ) (step : ProofStep)
+    : Type 0 where
   pub ancestor : step.ancestor < graph.count
   pub via : step.via < graph.count
   pub falls : step.ancestor < bound
@@ -47,9 +50,10 @@ pub record IsBound (graph : Graph) (steps : List ProofStep) (bound : ℕ) : Type
   pub stands : (bound ≡ graph.count)
       ⊎ ((k : ℕ) × (step : ProofStep) × (slice_get steps k ≡ Some step) × (step.ancestor ≡ bound))
 
--- of the words after a line's entry those before `at` were read: these steps, of which this is reached
-pub record IsReading (graph : Graph) (entry : ℕ) (words : List ℕ) (steps : List ProofStep) (reached : List Bool)
-    (bound at : ℕ) : Type 0 where
+-- of the words after a line's entry those before `at` were read: these steps, of which this is
+-- reached
+pub record IsReading (graph : Graph) (entry : ℕ) (words : List ℕ) (steps : List ProofStep)
+    (reached : List Bool) (bound at : ℕ) : Type 0 where
   pub within : at ≤ length words
   pub text : words ≡ flat_map step_text steps ++ drop at words
   pub follows : Follows 32 (drop at words)

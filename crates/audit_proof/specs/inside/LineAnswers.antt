@@ -1,6 +1,6 @@
 -- What is answered of a line.
-use Rattle.std.specs.Prelude.{◌≡◌, ◌≢◌, ◌⊎◌, ℕ, ◌^◌, ◌<◌, ◌≤◌, Bool, true, List, ◌++◌, length, take, drop, codes}
-use Rattle.std.specs.Prelude.{Result, Ok, Err}
+use Rattle.std.specs.Prelude.{◌≡◌, ◌≢◌, ◌⊎◌, ℕ, ◌^◌, ◌<◌, ◌≤◌, Bool, true, List, ◌++◌, length}
+use Rattle.std.specs.Prelude.{take, drop, codes, Result, Ok, Err}
 use Rattle.std.specs.Fmt.{decimal}
 use Rattle.first_cause.specs.Causes.{IsFirstOf}
 use Rattle.precedence.specs.Graph.{Graph}
@@ -26,8 +26,9 @@ pub record IsEntryOf (line : List ℕ) (entry : Entry) : Type 0 where
 -- the line doesn't begin so with any entry
 abbrev pub IsNoEntry : List ℕ → Type 0
 IsNoEntry line =
-    (take 5 line ≢ codes "past ") ⊎ ((take 5 line ≡ codes "past ") × ¬ SaysNumber (λ entry. Unit {0}) (word_in
-    (drop 5 line)))
+    (take 5 line ≢ codes "past ")
+    ⊎ ((take 5 line ≡ codes "past ")
+    × ¬ SaysNumber (λ entry. Unit {0}) (word_in (drop 5 line)))
 
 -- the line of an entry with these steps; or it isn't ended, or lacks a parent
 abbrev pub IsFinished : Graph → ℕ → List ProofStep → Bool → Result Line Unread → Type 0
@@ -37,13 +38,14 @@ IsFinished graph entry steps ended (Err (Why why)) =
     IsFirstOf (end_causes graph (line_with entry steps) (ended ≡ true)) (Err why)
 IsFinished graph entry steps ended (Err Memory) = Unit {0}
 
--- the line that the bytes are, which is ended and whose entry is at least this; or they are no such line, and this is
--- their first fault
+-- the line that the bytes are, which is ended and whose entry is at least this; or they are no such
+-- line, and this is their first fault
 abbrev pub IsLineAnswer : Graph → List ℕ → Bool → ℕ → Result Line Unread → Type 0
 IsLineAnswer graph bytes ended least (Ok line) =
     (ended ≡ true) × (bytes ≡ line_words line) × IsLineOf graph line × (least ≤ line.entry)
 IsLineAnswer graph bytes ended least (Err (Why why)) =
-    (ended ≡ true → (line : Line) → bytes ≡ line_words line → least ≤ line.entry → ¬ IsLineOf graph line)
+    (ended ≡ true → (line : Line) → bytes ≡ line_words line → least ≤ line.entry →
+    ¬ IsLineOf graph line)
     × IsLineFault graph (λ entry. least ≤ entry) bytes (ended ≡ true) why
 IsLineAnswer graph bytes ended least (Err Memory) = Unit {0}
 

@@ -1,5 +1,6 @@
 -- What a table of a proof's lines says.
-use Rattle.std.specs.Prelude.{◌≡◌, ℕ, ◌<◌, Bool, false, List, Option, length, slice_get, slice_index_or, All}
+use Rattle.std.specs.Prelude.{◌≡◌, ℕ, ◌<◌, Bool, false, List, Option, length, All}
+use Rattle.std.specs.Prelude.{slice_get, slice_index_or}
 use Rattle.entry_order.specs.declared.three.Three.{Three}
 use Rattle.precedence.specs.Graph.{Graph}
 use Rattle.audit_proof.specs.declared.listing.Listing.{Listing}

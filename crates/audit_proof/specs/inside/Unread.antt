@@ -20,7 +20,8 @@ line_with entry steps = record { entry = entry; steps = steps }
 -- no line of the graph has this entry and these words
 abbrev pub AreNoLines : Graph → ℕ → List ℕ → Type 0
 AreNoLines graph entry words =
-    (steps : List ProofStep) → words ≡ flat_map step_text steps → ¬ IsLineOf graph (line_with entry steps)
+    (steps : List ProofStep) → words ≡ flat_map step_text steps →
+    ¬ IsLineOf graph (line_with entry steps)
 
 -- the first word that can't follow the steps before it, and its first cause
 abbrev pub IsWordFault : Graph → ℕ → List ℕ → ProofWhy → Type 0
@@ -29,10 +30,12 @@ IsWordFault graph entry words why =
     × IsBegun graph (line_with entry steps)
     × IsFirstOf (ancestor_causes graph (line_with entry steps) (word_in more)) (Err why)
 
--- the steps that the words are, of a line that lacks nothing but maybe parents; or no line has these words
+-- the steps that the words are, of a line that lacks nothing but maybe parents; or no line has
+-- these words
 abbrev pub IsWordsAnswer : Graph → ℕ → List ℕ → Result LineSteps Unread → Type 0
 IsWordsAnswer graph entry words (Ok read) =
     (words ≡ flat_map step_text read.steps.items) × IsBegun graph (line_with entry read.steps.items)
     × (length read.listed.items ≡ graph.count) × IsListedTable read.steps.items read.listed.items
-IsWordsAnswer graph entry words (Err (Why why)) = AreNoLines graph entry words × IsWordFault graph entry words why
+IsWordsAnswer graph entry words (Err (Why why)) =
+    AreNoLines graph entry words × IsWordFault graph entry words why
 IsWordsAnswer graph entry words (Err Memory) = Unit {0}
