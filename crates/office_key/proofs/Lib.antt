@@ -1,0 +1,2 @@
+pub mod OfficeTexts
+pub mod GoodSignatures
