@@ -1,4 +1,4 @@
-//! Tests of the public calls of `polling_world`, `floor_sweep`, `finished_floor` and
+//! Tests of the public calls of `polling_world`, `log_repair`, `floor_sweep`, `finished_floor` and
 //! `machine_floor`. They stand in a crate of their own, so that what they test isn't proved once
 //! more with them.
 #![tactic(auto)]
@@ -7,6 +7,8 @@
 mod finished_floor_tests;
 #[cfg(test)]
 mod floor_sweep_tests;
+#[cfg(test)]
+mod log_repair_tests;
 #[cfg(test)]
 mod machine_floor_tests;
 #[cfg(test)]

@@ -56,7 +56,12 @@ fn merged(alloc: Global, world: &World) -> Result<Vec<Step>, Fail> {
 }
 
 /// Whether the script of these machines has these steps.
-fn are_steps(alloc: Global, machines: &str, lines: &str, steps: &[Step]) -> Result<bool, Fail> {
+pub(crate) fn are_steps(
+    alloc: Global,
+    machines: &str,
+    lines: &str,
+    steps: &[Step],
+) -> Result<bool, Fail> {
     let lines = format!(in alloc; "{machines}{lines}")?;
     let script = script_of(alloc, 1, 64, lines.as_str())?;
     Ok(script.steps.as_slice() == steps)

@@ -1,0 +1,10 @@
+use Rattle.entry_format.specs.Nodes.{node_of_sealed}
+use Rattle.log_repair.specs.Mending.{Asks}
+use Rattle.log_repair.proofs.Going.{GoingThrough}
+use Rattle.log_repair.proofs.repairing.ask_all.Given as goal
+
+-- the digests so far were asked for
+abbrev pub invariant-loop-digest : goal.invariant-loop-digest
+invariant-loop-digest l =
+    GoingThrough (λ after. Asks node_of_sealed after l.m) l.digests l.digest-index l.fn.world l.fn.steps.items
+    l.steps.items l.world

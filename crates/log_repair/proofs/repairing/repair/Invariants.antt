@@ -1,0 +1,17 @@
+use Rattle.std.proofs.Common.{◌≡◌, ◌+◌, ◌*◌, false, []}
+use Rattle.std.specs.Prelude.{if◌then◌else◌}
+use Rattle.entry_format.specs.Nodes.{node_of_sealed}
+use Rattle.log_repair.specs.Mending.{Repairs}
+use Rattle.log_repair.specs.inside.Totals.{spare}
+use Rattle.log_repair.proofs.Going.{EndsHere, Going}
+use Rattle.log_repair.proofs.repairing.repair.Given as goal
+
+-- some rounds were taken, and once one changed nothing all is mended
+abbrev pub invariant-loop-is_moving : goal.invariant-loop-is_moving
+invariant-loop-is_moving l = record {
+  going : Going (Repairs node_of_sealed) (Repairs node_of_sealed) l.fn.world [] l.steps.items l.world;
+  still : l.is_moving ≡ false → EndsHere (Repairs node_of_sealed) l.fn.world l.world;
+}
+
+abbrev pub decreases-loop-is_moving : goal.decreases-loop-is_moving
+decreases-loop-is_moving l = 2 * spare l.world.machines + (if l.is_moving then 1 else 0)
