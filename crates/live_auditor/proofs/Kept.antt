@@ -1,0 +1,157 @@
+-- What is kept of survivors, read off a graph.
+use Rattle.std.proofs.Common.{◌≡◌, ◌∙◌, ap, refl, sym, subst, ℕ, zero, suc, Bool, ◌+◌, ◌<◌, ◌≤◌, List, [], ◌∷◌, ◌++◌}
+use Rattle.std.proofs.Common.{map, length}
+use Rattle.std.proofs.Common.{get_or, take, arith, length-append, inl, inr, Some, None, Option}
+use Rattle.std.specs.Prelude.{slice_get, Result, Ok, Err, All, IfOk, IfSome}
+use Rattle.std.specs.List.{Contains}
+use Rattle.std.proofs.lemmas.List.{take_more, map-append}
+use Rattle.std.proofs.lemmas.List.Elements.{All-push}
+use Rattle.std.proofs.lemmas.Option.{get_or_from_slice_get, slice_get-get_or}
+use Rattle.entry_order.proofs.Lists.{Contains-cons_cases, Contains-none}
+use Rattle.entry_order.proofs.Strays.{survivors_are_no_strays}
+use Rattle.entry_format.specs.SealedEntry.{SealedEntry}
+use Rattle.entry_format.specs.Nodes.{node_of_sealed}
+use Rattle.entry_graph.specs.EntryGraph.{EntryGraph, Links, parents_in, ragged_in, parents_of, ragged_of}
+use Rattle.entry_graph.specs.Given.{distinct}
+use Rattle.entry_graph.proofs.DistinctFacts.{distinct_given}
+use Rattle.evidence.specs.Graphs.{IsSealedGraph}
+use Rattle.roster.specs.declared.post.Post.{Post}
+use Rattle.rule_language.specs.declared.formula.Rule.{Rule}
+use Rattle.rule_language.specs.declared.row.Row.{Row}
+use Rattle.rule_language.specs.Forms.{rule_tree}
+use Rattle.rule_language.specs.Trees.{RuleTree}
+use Rattle.auditor.specs.Rows.{HaveMakers, row_of}
+use Rattle.live_auditor.specs.Adding.{HasRoomFor}
+use Rattle.live_auditor.specs.Live.{IsOfMachine}
+use Rattle.live_auditor.specs.Summary.{Summary}
+use Rattle.live_auditor.specs.declared.summary.Summed.{Summed}
+use Rattle.live_auditor.specs.inside.Kept.{SurvivorsKept, IsKept, IsSummed}
+use Rattle.live_auditor.specs.inside.KeptOf.{IsSummedBy, kept_of}
+use Rattle.live_auditor.proofs.Additions.{once_more}
+use Rattle.live_auditor.proofs.Grown.{at_contains}
+use Rattle.live_auditor.proofs.Steps.{mapped_at}
+use Rattle.live_auditor.proofs.Unreached.{slice_get_old, slice_get_last}
+
+-- the first elements, mapped, and one more
+pub mapped_more : {X Y : Type 0} (f : X → Y) (xs : List X) (i : ℕ) (x : X) (y : Y) (ys new : List Y) → i < length xs →
+    slice_get xs i ≡ Some x → ys ≡ map f (take i xs) → y ≡ f x → new ≡ ys ++ y ∷ [] → new ≡ map f (take (i + 1) xs)
+mapped_more {X} {Y} f xs i x y ys new within at so_far is added =
+    added ∙ ap (λ (z : Y). ys ++ z ∷ []) (is ∙ ap f (sym (get_or_from_slice_get xs i x x at)))
+    ∙ ap (λ (zs : List Y). zs ++ f (get_or xs i x) ∷ []) so_far
+    ∙ sym (ap (map f) (take_more xs i x within) ∙ map-append f (take i xs) (get_or xs i x ∷ []))
+
+-- the first links and one more
+pub links_more : (links : List Links) (i : ℕ) (link : Links) (before new : List Links) → i < length links →
+    link ≡ record { parents = parents_of links i; ragged = ragged_of links i } → before ≡ take i links →
+    new ≡ before ++ link ∷ [] → new ≡ take (i + 1) links
+links_more links i link before new within is so_far added =
+    let at = slice_get-get_or links i link within in
+    let parents : parents_of links i ≡ (get_or links i link).parents = ap parents_in at in
+    let ragged : ragged_of links i ≡ (get_or links i link).ragged = ap ragged_in at in
+    let same : link ≡ get_or links i link = is ∙ (λ j. record { parents = parents j; ragged = ragged j }) in
+    added ∙ ap (λ (l : Links). before ++ l ∷ []) same ∙ ap (λ (ls : List Links). ls ++ get_or links i link ∷ []) so_far
+    ∙ sym (take_more links i link within)
+
+-- what is read off the graph of entries is theirs
+pub summed_is : (machines : List Post) (rules : List RuleTree) (entries : List SealedEntry)
+    (graph : EntryGraph SealedEntry) (summed : Summed) → IsSealedGraph entries (Ok graph) →
+    IsSummedBy machines rules graph summed →
+    IsSummed machines rules entries summed.summary (kept_of summed.survivors)
+summed_is machines rules entries graph summed graphed by = record {
+  after = record {
+    graph = graph;
+    graphed = graphed;
+    survivors = ap (λ (s : Summary). s.survivors) by.said;
+    gaps = ap (λ (s : Summary). s.gaps) by.said;
+    strays = ap (λ (s : Summary). s.strays) by.said;
+    forks = ap (λ (s : Summary). s.forks) by.said;
+    judged = by.judged;
+  };
+  survivors = by.survivors;
+}
+
+-- of no entries the audit is one
+pub first_kept : (machines : List Post) (rules : List Rule) (trees : List RuleTree) (entries added : List SealedEntry)
+    (summary : Summary) (kept : SurvivorsKept) → trees ≡ map rule_tree rules → entries ≡ [] → added ≡ [] →
+    IsSummed machines trees entries summary kept →
+    IsKept (record { machines = machines; rules = rules; added = added; summary = summary }) kept
+first_kept machines rules trees entries added summary kept same none also is =
+    let moved = subst (λ (es : List SealedEntry). IsSummed machines (map rule_tree rules) es summary kept)
+    (none ∙ sym also) (subst (λ (ts : List RuleTree). IsSummed machines ts entries summary kept) same is) in
+    record {
+      live = record {
+        few = omega (arith, ap length also);
+        of_machines = subst (All (IsOfMachine machines)) (sym also) (λ k d within. absurd (omega (arith, within)));
+        once = subst (λ (es : List SealedEntry). distinct node_of_sealed es ≡ es) (sym also) refl;
+        after = moved.after;
+      };
+      survivors = moved.survivors;
+    }
+
+-- with an entry more it stays one
+pub kept_more : (machines : List Post) (rules : List Rule) (trees : List RuleTree)
+    (added entries now : List SealedEntry) (before summary : Summary) (old kept : SurvivorsKept) (e : SealedEntry) →
+    IsKept (record { machines = machines; rules = rules; added = added; summary = before }) old →
+    IsOfMachine machines e → HasRoomFor added e → entries ≡ added ++ e ∷ [] → now ≡ added ++ e ∷ [] →
+    trees ≡ map rule_tree rules → IsSummed machines trees entries summary kept →
+    IsKept (record { machines = machines; rules = rules; added = now; summary = summary }) kept
+kept_more machines rules trees added entries now before summary old kept e is of_machine room all stands same summed =
+    let moved = subst (λ (es : List SealedEntry). IsSummed machines (map rule_tree rules) es summary kept)
+    (all ∙ sym stands) (subst (λ (ts : List RuleTree). IsSummed machines ts entries summary kept) same summed) in
+    record {
+      live = record {
+        few = omega (arith, ap length stands, length-append added (e ∷ []), room.1);
+        of_machines = subst (All (IsOfMachine machines)) (sym stands)
+            (All-push (IsOfMachine machines) added e is.live.of_machines of_machine);
+        once = subst (λ es. distinct node_of_sealed es ≡ es) (sym stands) (once_more added e is.live.once room.0);
+        after = moved.after;
+      };
+      survivors = moved.survivors;
+    }
+
+-- the only survivor of one entry is this entry
+alone : (e x : SealedEntry) (entries : List SealedEntry) (graph : EntryGraph SealedEntry) → entries ≡ e ∷ [] →
+    IsSealedGraph entries (Ok graph) → Contains graph.survivors x → x ≡ e
+alone e x entries graph one graphed has =
+    let kept = (graphed.2.members x).0 has in
+    let first = ((survivors_are_no_strays node_of_sealed (distinct node_of_sealed entries) x).0 kept).0 in
+    let there = subst (λ es. Contains es x) one (distinct_given node_of_sealed entries x first) in
+    elim (Contains-cons_cases e [] x there) [ inl same ↦ sym same | inr none ↦ absurd (Contains-none x none) ]
+
+-- so the first row is its row
+pub row_is : (machines : List Post) (e : SealedEntry) (entries : List SealedEntry) (graph : EntryGraph SealedEntry)
+    {E : Type 0} (found : Result (Option Row) E) → entries ≡ e ∷ [] → IsSealedGraph entries (Ok graph) →
+    IfOk found (λ o. IfSome o (λ row. slice_get (map (row_of machines) graph.survivors) 0 ≡ Some row)) →
+    IfOk found (λ o. IfSome o (λ row. row ≡ row_of machines e))
+row_is machines e entries graph (Err fault) one graphed first = tt
+row_is machines e entries graph (Ok None) one graphed first = tt
+row_is machines e entries graph (Ok (Some row)) one graphed first =
+    let (x, at, same) = mapped_at (row_of machines) graph.survivors 0 row first in
+    sym same ∙ ap (row_of machines) (alone e x entries graph one graphed (at_contains graph.survivors 0 x at))
+
+-- links with the same parents and the same mark are the same
+pub same_links : (parents others : List ℕ) (ragged torn : Bool) → parents ≡ others → ragged ≡ torn →
+    ◌≡◌ {A = Links} (record { parents = parents; ragged = ragged }) (record { parents = others; ragged = torn })
+same_links parents others ragged torn p r = λ j. record { parents = p j; ragged = r j }
+
+-- the parents at a place before the last are those of the link there
+pub parents_at : (links : List Links) (last : Links) (i : ℕ) (d : Links) → i < length links →
+    (get_or links i d).parents ≡ parents_of (links ++ last ∷ []) i
+parents_at links last i d low = sym (ap parents_in (slice_get_old links last i low ∙ slice_get-get_or links i d low))
+
+-- and at the last place those of the last
+pub parents_end : (links : List Links) (last : Links) (i : ℕ) → length links ≤ i →
+    i < length (links ++ last ∷ []) → last.parents ≡ parents_of (links ++ last ∷ []) i
+parents_end links last i past within =
+    let end : length links ≡ i = omega (arith, past, within, length-append links (last ∷ [])) in
+    sym (ap (parents_of (links ++ last ∷ [])) (sym end) ∙ ap parents_in (slice_get_last links last))
+
+-- one entry of a machine has a maker
+pub makers_one : (machines : List Post) (e : SealedEntry) (entries : List SealedEntry) → entries ≡ e ∷ [] →
+    e.entry.maker < length machines → HaveMakers machines entries
+makers_one machines e entries one maker = subst (HaveMakers machines) (sym one) each
+  where
+    -- it is the only one
+    each : HaveMakers machines (e ∷ [])
+    each zero d within = maker
+    each (suc k) d within = absurd (omega (arith, within))

@@ -1,0 +1,11 @@
+pub mod OneEntry
+pub mod Additions
+pub mod OneSummary
+pub mod Unreached
+pub mod Grown
+pub mod Agreements
+pub mod Changed
+pub mod Steps
+pub mod Kept
+pub mod Reaches
+pub mod Finds

@@ -1,0 +1,23 @@
+-- Under one roster entries with one text are one.
+use Rattle.std.proofs.Common.{◌≡◌, ◌∙◌, List, ap, sym}
+use Rattle.sha2.specs.Sha256.{sha256}
+use Rattle.roster.specs.declared.post.Post.{Post}
+use Rattle.entry_format.specs.declared.entry.Entry.{Entry}
+use Rattle.entry_format.specs.SealedEntry.{SealedEntry}
+use Rattle.entry_format.specs.EntryText.{IsSignedText}
+use Rattle.entry_format.specs.Sealing.{IsSealed}
+use Rattle.entry_format.specs.Unsealing.{key_at}
+use Rattle.entry_format.proofs.OneEntry.{one_entry}
+use Rattle.live_auditor.specs.Live.{IsOfMachine}
+
+-- entries of machines with one text are equal
+pub same_text : (machines : List Post) (e f : SealedEntry) → IsSealed e → IsSealed f → IsOfMachine machines e →
+    IsOfMachine machines f → e.text ≡ f.text → e ≡ f
+same_text machines e f is also of_e of_f same =
+    let moved : IsSignedText e.text f.entry f.signature =
+    record { lawful = also.spelt.lawful; within = also.spelt.within; spelt = same ∙ also.spelt.spelt } in
+    let (entry, signature) = one_entry e.text e.entry f.entry e.signature f.signature is.spelt moved in
+    let digest : e.digest ≡ f.digest = is.hashed ∙ ap sha256 same ∙ sym also.hashed in
+    let key : e.key ≡ f.key =
+    of_e.key ∙ ap (λ (entry : Entry). key_at machines entry.maker) entry ∙ sym of_f.key in
+    λ i. record { entry = entry i; signature = signature i; text = same i; digest = digest i; key = key i }

@@ -1,0 +1,115 @@
+-- Entries have one summary, in whatever order they came.
+use Rattle.std.proofs.Common.{◌≡◌, ◌∙◌, ◌≤◌, List, length, map, ap, sym, subst, arith}
+use Rattle.std.specs.Prelude.{◌↔◌, Ok}
+use Rattle.std.specs.List.{AllZip, Contains}
+use Rattle.std.proofs.lemmas.List.{length-map}
+use Rattle.entry_order.specs.Ancestors.{Descends}
+use Rattle.entry_order.specs.Survivors.{IsStray, SurvivorsAreNoStrays, survivors}
+use Rattle.entry_format.specs.SealedEntry.{SealedEntry}
+use Rattle.entry_format.specs.Nodes.{node_of_sealed}
+use Rattle.entry_graph.specs.Given.{distinct}
+use Rattle.entry_graph.specs.EntryGraph.{EntryGraph, IsGraphOfGiven, parents_of}
+use Rattle.roster.specs.declared.post.Post.{Post}
+use Rattle.rule_language.specs.declared.formula.Rule.{Rule}
+use Rattle.rule_language.specs.Forms.{rule_tree}
+use Rattle.rule_engine.specs.declared.verdict.Verdict.{Verdict}
+use Rattle.evidence.specs.Graphs.{IsSealedGraph}
+use Rattle.evidence.specs.OneAnswer.{EntriesGiveOneGraph}
+use Rattle.evidence.specs.Same.{SameGraph}
+use Rattle.auditor.specs.Judged.{AreJudged, nodes_of}
+use Rattle.auditor.specs.Rows.{row_of}
+use Rattle.auditor.specs.Sources.{standard}
+use Rattle.auditor.proofs.OneVerdict.{SameVerdict, verdicts_agree}
+use Rattle.live_auditor.specs.Same.{AreOneVerdict, OrdersGiveOneSummary}
+
+-- verdicts that agree are one
+one_each : (vs ws : List Verdict) → AllZip SameVerdict vs ws → AllZip AreOneVerdict vs ws
+one_each vs ws same = same
+
+-- lists with the same entries
+abbrev AreSame : List SealedEntry → List SealedEntry → Type 0
+AreSame given other = (e : SealedEntry) → Contains given e ↔ Contains other e
+
+-- what is a stray among entries is one among the same
+stray_moved : (given other : List SealedEntry) → AreSame given other → (e : SealedEntry) →
+    IsStray node_of_sealed given e → IsStray node_of_sealed other e
+stray_moved given other same e (g, has, names, late) = (g, (same g).0 has, names, late)
+
+-- the same the other way round
+turned : (given other : List SealedEntry) → AreSame given other → AreSame other given
+turned given other same e = ((same e).1, (same e).0)
+
+-- a survivor among entries is one among the same
+survivor_moved : SurvivorsAreNoStrays node_of_sealed → (given other : List SealedEntry) → AreSame given other →
+    (e : SealedEntry) → Contains (survivors node_of_sealed given) e → Contains (survivors node_of_sealed other) e
+survivor_moved strays given other same e has =
+    let (in_given, sound) = (strays given e).0 has in
+    (strays other e).1 ((same e).0 in_given, λ stray. sound (stray_moved other given (turned given other same) e stray))
+
+-- so the graph of entries is one of the same
+graph_moved : SurvivorsAreNoStrays node_of_sealed → (given other : List SealedEntry) → AreSame given other →
+    (graph : EntryGraph SealedEntry) → IsGraphOfGiven node_of_sealed given graph →
+    IsGraphOfGiven node_of_sealed other graph
+graph_moved strays given other same graph is = record {
+  kept = is.kept;
+  members = λ e. (
+    λ has. survivor_moved strays given other same e ((is.members e).0 has),
+    λ has. (is.members e).1 (survivor_moved strays other given (turned given other same) e has),
+  );
+  strays = record {
+    rises = is.strays.rises;
+    members = λ d. (
+      λ has.
+          (let (e, in_given, stray, is_d) = (is.strays.members d).0 has in
+          (e, (same e).0 in_given, stray_moved given other same e stray, is_d)),
+      λ (e, in_other, stray, is_d).
+          (is.strays.members d).1
+          (e, (same e).1 in_other, stray_moved other given (turned given other same) e stray, is_d),
+    );
+  };
+}
+
+-- and what is answered of entries, each of which stands once, is an answer for the same
+answer_moved : SurvivorsAreNoStrays node_of_sealed → (given other : List SealedEntry) → AreSame given other →
+    distinct node_of_sealed given ≡ given → distinct node_of_sealed other ≡ other → length other ≤ 1024 →
+    (graph : EntryGraph SealedEntry) → IsSealedGraph given (Ok graph) → IsSealedGraph other (Ok graph)
+answer_moved strays given other same once also few graph (none, _, is) = (
+  λ e f has_e has_f digest. none e f ((same e).1 has_e) ((same f).1 has_f) digest,
+  subst (λ es. length es ≤ 16384) (sym also) (omega (arith, few)),
+  subst (λ es. IsGraphOfGiven node_of_sealed es graph) (sym also)
+      (graph_moved strays given other same graph (subst (λ es. IsGraphOfGiven node_of_sealed es graph) once is)),
+)
+
+-- by rows of the same survivors, each rule has one verdict
+one_verdict_each : (machines others : List Post) (rules more : List Rule) (g h : EntryGraph SealedEntry)
+    (vs ws : List Verdict) → machines ≡ others → rules ≡ more → SameGraph g h →
+    Descends (parents_of g.links) → Descends (parents_of h.links) →
+    AreJudged (map (row_of machines) g.survivors) (nodes_of g) (map rule_tree rules) vs →
+    AreJudged (map (row_of others) h.survivors) (nodes_of h) (map rule_tree more) ws → AllZip AreOneVerdict vs ws
+one_verdict_each machines others rules more g h vs ws one_roster one_list same down down' a b =
+    let by_rules = subst (λ (rs : List Rule).
+    AreJudged (map (row_of others) h.survivors) (nodes_of h) (map rule_tree rs) ws) (sym one_list) b in
+    let by_roster = subst (λ (ms : List Post).
+    AreJudged (map (row_of ms) h.survivors) (nodes_of h) (map rule_tree rules) ws) (sym one_roster) by_rules in
+    let by_rows = subst (λ (s : List SealedEntry).
+    AreJudged (map (row_of machines) s) (nodes_of h) (map rule_tree rules) ws) (sym same.survivors) by_roster in
+    one_each vs ws (verdicts_agree (map (row_of machines) g.survivors) g h down down' same
+    (length-map g.survivors (row_of machines)) standard (map rule_tree rules) (Ok vs) (Ok ws) a by_rows)
+
+-- the same entries give one summary
+pub one_summary : SurvivorsAreNoStrays node_of_sealed → EntriesGiveOneGraph → OrdersGiveOneSummary
+one_summary strays graphs live other a b machines rules entries =
+    let moved = answer_moved strays other.added live.added (turned live.added other.added entries) b.once a.once a.few
+    b.after.graph b.after.graphed in
+    let same : SameGraph a.after.graph b.after.graph =
+    graphs live.added (Ok a.after.graph) (Ok b.after.graph) a.after.graphed moved in
+    record {
+      survivors = a.after.survivors ∙ ap length same.survivors ∙ sym b.after.survivors;
+      gaps = a.after.gaps ∙ same.gaps ∙ sym b.after.gaps;
+      strays = a.after.strays ∙ same.strays ∙ sym b.after.strays;
+      forks = a.after.forks ∙ same.forks ∙ sym b.after.forks;
+      verdicts = one_verdict_each live.machines other.machines live.rules other.rules a.after.graph b.after.graph
+          live.summary.verdicts other.summary.verdicts machines rules same
+          a.after.graphed.2.kept.linked.arrows.descends b.after.graphed.2.kept.linked.arrows.descends
+          a.after.judged b.after.judged;
+    }

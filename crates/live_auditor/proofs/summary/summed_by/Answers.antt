@@ -1,0 +1,12 @@
+use Rattle.std.proofs.Common.{◌∙◌, List, map, subst}
+use Rattle.rule_language.specs.declared.row.Row.{Row}
+use Rattle.rule_language.specs.Forms.{rule_tree}
+use Rattle.auditor.specs.Judged.{nodes_of}
+use Rattle.live_auditor.specs.inside.Unsummed.{IsUnjudged}
+use Rattle.live_auditor.proofs.summary.summed_by.Goals as goal
+
+pub returns-in-Err-clause-err : goal.returns-in-Err-clause-err
+returns-in-Err-clause-err c =
+    subst (λ (rows : List Row). IsUnjudged rows (map rule_tree c.args.rules.now) c.in-Err.fault)
+    (c.as_slice.ensures.value ∙ c.in_ok-seen.ensures)
+    (c.in-Err.ensures.err (nodes_of c.args.graph.now) c.in_ok-order.ensures)

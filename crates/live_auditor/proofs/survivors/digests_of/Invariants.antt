@@ -1,0 +1,7 @@
+use Rattle.std.proofs.Common.{◌≡◌, map, take}
+use Rattle.entry_format.specs.SealedEntry.{SealedEntry}
+use Rattle.live_auditor.proofs.survivors.digests_of.Given as goal
+
+-- the digests so far
+abbrev pub invariant-loop-i : goal.invariant-loop-i
+invariant-loop-i l = l.digests.items ≡ map (λ (e : SealedEntry). e.digest) (take l.i l.graph.survivors)

@@ -1,0 +1,5 @@
+pub mod Summary
+pub mod Live
+pub mod Adding
+pub mod Same
+pub mod inside

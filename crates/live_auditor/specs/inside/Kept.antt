@@ -1,0 +1,47 @@
+-- What is kept of the survivors, beside what is said of them.
+use Rattle.std.specs.Prelude.{◌≡◌, ℕ, false, List, length, map}
+use Rattle.entry_format.specs.SealedEntry.{SealedEntry}
+use Rattle.entry_graph.specs.EntryGraph.{EntryGraph, Links, parents_of, ragged_of}
+use Rattle.precedence.specs.Graph.{Graph}
+use Rattle.roster.specs.declared.post.Post.{Post}
+use Rattle.rule_language.specs.declared.row.Row.{Row}
+use Rattle.auditor.specs.Rows.{row_of}
+use Rattle.rule_language.specs.Trees.{RuleTree}
+use Rattle.live_auditor.specs.Live.{LiveState, IsLive}
+use Rattle.live_auditor.specs.Summary.{Summary, After}
+
+-- the digests of the survivors, their rows, and what each names
+pub record SurvivorsKept : Type 0 where
+  pub digests : List (List ℕ)
+  pub rows : List Row
+  pub links : List Links
+
+-- they are those of the graph's survivors
+pub record AreSurvivorsOf (machines : List Post) (graph : EntryGraph SealedEntry)
+    (kept : SurvivorsKept) : Type 0 where
+  pub digests : kept.digests ≡ map (λ (e : SealedEntry). e.digest) graph.survivors
+  pub rows : kept.rows ≡ map (row_of machines) graph.survivors
+  pub links : kept.links ≡ graph.links
+
+-- the summary is that of the entries, and these are the survivors
+pub record IsSummed (machines : List Post) (rules : List RuleTree) (entries : List SealedEntry)
+    (summary : Summary) (kept : SurvivorsKept) : Type 0 where
+  pub after : After machines rules entries summary
+  pub survivors : AreSurvivorsOf machines after.graph kept
+
+-- what always holds of an audit and of what is kept of its survivors
+pub record IsKept (state : LiveState) (kept : SurvivorsKept) : Type 0 where
+  pub live : IsLive state
+  pub survivors : AreSurvivorsOf state.machines live.after.graph kept
+
+-- what one names that names no gap
+abbrev pub link_to : List ℕ → Links
+link_to parents = record { parents = parents; ragged = false }
+
+-- the graph of survivors with these links
+abbrev pub nodes_by : List Links → Graph
+nodes_by links = record {
+  count = length links;
+  parents = parents_of links;
+  ragged = ragged_of links;
+}

@@ -1,0 +1,17 @@
+//! An audit that goes on while entries come: after each of them the survivors, the gaps, the
+//! strays, the forks and a verdict on each rule, whatever the order in which they came.
+#![tactic(auto)]
+
+mod borrowed;
+mod changes;
+mod fresh;
+mod laws;
+mod live;
+mod seen;
+mod summary;
+mod survivors;
+mod usual;
+
+pub use fresh::{Fresh, LiveFault};
+pub use laws::orders_give_one_summary;
+pub use live::{Live, Memory};

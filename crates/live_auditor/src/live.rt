@@ -1,0 +1,199 @@
+//! An audit that goes on while entries come.
+ghost use Rattle.std.specs.Prelude.{◌≡◌, [], IfOk};
+ghost use Rattle.live_auditor.specs.Adding.{Becomes, HasRoomFor, IsAddAnswer, IsOfSameAudit};
+ghost use Rattle.live_auditor.specs.Live.{IsLive, IsOfMachine};
+
+use crate::borrowed::borrowed_with;
+use crate::changes::growth_by;
+use crate::fresh::{Fresh, LiveFault};
+use crate::seen::{Seen, seen_among};
+use crate::summary::{Summary, Unsummed, summed_of};
+use crate::survivors::Survivors;
+use crate::usual::usual_in;
+use entry_format::Sealed;
+use roster::Roster;
+use rule_engine::Verdict;
+use rule_language::Rule;
+use std::alloc::{AllocError, Global};
+use std::marker::Model;
+
+/// Out of memory.
+pub type Memory = AllocError;
+
+/// The most entries.
+const MOST_ADDED: usize = 1_024;
+
+/// An audit by given rules of the entries that were added so far, in whatever order they came.
+#[derive(Drop)]
+pub struct Live {
+    roster: Roster,
+    rules: Vec<Rule>,
+    /// The entries that were added, each once, in the order in which they came.
+    added: Vec<Sealed>,
+    summary: Summary,
+    survivors: Survivors,
+}
+
+impl Model for Live {
+    ghost use Rattle.std.specs.Coded.{codes};
+    ghost use Rattle.rule_language.specs.contracts.formula.Formula as formula;
+    ghost use Rattle.live_auditor.specs.Live.{LiveState};
+    ghost use Rattle.live_auditor.specs.inside.Kept.{IsKept};
+    ghost use Rattle.live_auditor.specs.inside.KeptOf.{kept_of};
+
+    ghost Value = { LiveState };
+
+    ghost coded = { Prim.hlevel (codes, formula.the_row.coded) };
+
+    ghost view = { λ l. record {
+      machines = l.roster.machines;
+      rules = l.rules.items;
+      added = l.added.items;
+      summary = l.summary;
+    } };
+
+    ghost invariant = { λ l. IsKept (record {
+      machines = l.roster.machines;
+      rules = l.rules.items;
+      added = l.added.items;
+      summary = l.summary;
+    }) (kept_of l.survivors) };
+}
+
+impl Live {
+    /// The audit of no entry, under the roster, by at most 256 rules.
+    pub fn make(alloc: Global, roster: &Roster, rules: Vec<Rule>) -> Result<Live, Memory>
+        ensures machines { IfOk result (λ live. live.machines ≡ roster.now.machines) }
+        ensures rules { IfOk result (λ live. live.rules ≡ rules.items) }
+        ensures empty { IfOk result (λ live. live.added ≡ []) }
+        ensures kept { IfOk result IsLive }
+    {
+        let roster = roster.copy(alloc)?;
+        match summed_of(alloc, &roster, rules.as_slice(), Vec::new(alloc)) {
+            Ok(summed) => Ok(Live {
+                roster,
+                rules,
+                added: Vec::new(alloc),
+                summary: summed.summary,
+                survivors: summed.survivors,
+            }),
+            Err(_) => Err(AllocError),
+        }
+    }
+
+    /// Adds an entry that was unsealed with the roster.
+    ///
+    /// # Errors
+    ///
+    /// The first cause that applies, in the order of `LiveFault`.
+    pub fn add(&mut self, alloc: Global, s: Sealed) -> Result<Fresh, LiveFault>
+        requires { IsOfMachine self.old.machines s }
+        ensures answer { IsAddAnswer self.old s result }
+        ensures becomes { Becomes self.old s result self.new }
+        ensures same { IsOfSameAudit self.old self.new }
+        ensures kept { IsLive self.new }
+    {
+        match seen_among(self.added.as_slice(), &s) {
+            Seen::Known => Ok(Fresh::Known),
+            Seen::Collides => Err(LiveFault::Collision(s)),
+            Seen::New if self.added.len() == MOST_ADDED => Err(LiveFault::TooMany(s)),
+            Seen::New => self.add_new(alloc, s),
+        }
+    }
+
+    /// Adds an entry whose digest no added one has. What is kept of the survivors serves where it
+    /// comes after all others.
+    fn add_new(&mut self, alloc: Global, s: Sealed) -> Result<Fresh, LiveFault>
+        requires machine { IsOfMachine self.old.machines s }
+        requires room { HasRoomFor self.old.added s }
+        ensures answer { IsAddAnswer self.old s result }
+        ensures becomes { Becomes self.old s result self.new }
+        ensures same { IsOfSameAudit self.old self.new }
+        ensures kept { IsLive self.new }
+    {
+        let added = self.added.as_slice();
+        let gaps = self.summary.gaps();
+        match usual_in(alloc, &self.roster, added, gaps, &self.survivors, &s)? {
+            None => self.add_anew(alloc, s),
+            Some(usual) => {
+                let rules = self.rules.as_slice();
+                let parents = usual.parents.as_slice();
+                match growth_by(alloc, rules, &self.survivors, usual.row, parents) {
+                    Ok(growth) => {
+                        self.added.reserve(1)?;
+                        self.survivors.reserve()?;
+                        self.survivors.push(*s.digest(), growth.rows, usual.parents);
+                        self.summary.grow(growth.changes);
+                        self.added.push_reserved(s);
+                        Ok(Fresh::New)
+                    }
+                    Err(Unsummed::TooWide(place)) => Err(LiveFault::TooWide(s, place)),
+                    Err(Unsummed::Memory) => Err(LiveFault::Memory),
+                }
+            }
+        }
+    }
+
+    /// The same for any such entry: everything is found again.
+    fn add_anew(&mut self, alloc: Global, s: Sealed) -> Result<Fresh, LiveFault>
+        requires machine { IsOfMachine self.old.machines s }
+        requires room { HasRoomFor self.old.added s }
+        ensures answer { IsAddAnswer self.old s result }
+        ensures becomes { Becomes self.old s result self.new }
+        ensures same { IsOfSameAudit self.old self.new }
+        ensures kept { IsLive self.new }
+    {
+        self.added.reserve(1)?;
+        let entries = borrowed_with(alloc, self.added.as_slice(), &s)?;
+        match summed_of(alloc, &self.roster, self.rules.as_slice(), entries) {
+            Ok(summed) => {
+                self.added.push_reserved(s);
+                self.summary = summed.summary;
+                self.survivors = summed.survivors;
+                Ok(Fresh::New)
+            }
+            Err(Unsummed::TooWide(place)) => Err(LiveFault::TooWide(s, place)),
+            Err(Unsummed::Memory) => Err(LiveFault::Memory),
+        }
+    }
+
+    /// How many entries survive: all that were added but the strays.
+    pub fn survivors(&self) -> usize
+        ensures value { result ≡ self.now.summary.survivors }
+        ensures kept { IsLive self.now }
+    {
+        self.summary.survivors
+    }
+
+    /// The digests that a survivor names and none has, ascending.
+    pub fn gaps(&self) -> &[[u8; 32]]
+        ensures value { result.now ≡ self.now.summary.gaps }
+        ensures kept { IsLive self.now }
+    {
+        self.summary.gaps.as_slice()
+    }
+
+    /// The digests of the entries that name one whose stamp isn't lower than their own, ascending.
+    pub fn strays(&self) -> &[[u8; 32]]
+        ensures value { result.now ≡ self.now.summary.strays }
+        ensures kept { IsLive self.now }
+    {
+        self.summary.strays.as_slice()
+    }
+
+    /// Each maker and number of two or more survivors, ascending.
+    pub fn forks(&self) -> &[(u32, u32)]
+        ensures value { result.now ≡ self.now.summary.forks }
+        ensures kept { IsLive self.now }
+    {
+        self.summary.forks.as_slice()
+    }
+
+    /// What is answered of the rules, one verdict for each, in their order.
+    pub fn verdicts(&self) -> &[Verdict]
+        ensures value { result.now ≡ self.now.summary.verdicts }
+        ensures kept { IsLive self.now }
+    {
+        self.summary.verdicts.as_slice()
+    }
+}

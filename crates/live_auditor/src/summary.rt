@@ -1,0 +1,202 @@
+//! What is said of entries.
+ghost use Rattle.std.specs.Prelude.{◌≡◌, ◌+◌, ◌<◌, ◌≤◌, length, map, IfOk, IfErr};
+ghost use Rattle.rule_language.specs.Forms.{rule_tree};
+ghost use Rattle.auditor.specs.Judged.{AreJudged};
+ghost use Rattle.auditor.specs.Rows.{HaveMakers, row_of};
+ghost use Rattle.live_auditor.specs.inside.Changes.{changed};
+ghost use Rattle.live_auditor.specs.inside.Kept.{IsSummed};
+ghost use Rattle.live_auditor.specs.inside.KeptOf.{IsSummedBy, kept_of};
+ghost use Rattle.live_auditor.specs.inside.Unsummed.{IsUnjudged, IsUnsummed};
+ghost use Rattle.precedence.specs.Graph.{Graph as PathGraph};
+ghost use Rattle.precedence.specs.Known.{IsKnownOf, known_count};
+
+use crate::borrowed::Borrowed;
+use crate::changes::make_changes;
+use crate::survivors::Survivors;
+use auditor::rows;
+use entry_graph::Graph;
+use precedence::{Arrows, Rows};
+use roster::Roster;
+use rule_engine::{JudgeFault, Verdict, judge};
+use rule_language::{Row, Rule};
+use std::alloc::{AllocError, AllocFailed, Global};
+use std::marker::Model;
+
+/// What is said of entries.
+#[derive(Drop)]
+pub(crate) struct Summary {
+    pub(crate) survivors: usize,
+    pub(crate) gaps: Vec<[u8; 32]>,
+    pub(crate) strays: Vec<[u8; 32]>,
+    pub(crate) forks: Vec<(u32, u32)>,
+    pub(crate) verdicts: Vec<Verdict>,
+}
+
+impl Model for Summary {
+    ghost use Rattle.live_auditor.specs.Summary.{Summary};
+
+    ghost Value = { Summary };
+
+    ghost view = { λ s. record {
+      survivors = s.survivors;
+      gaps = s.gaps.items;
+      strays = s.strays.items;
+      forks = s.forks.items;
+      verdicts = s.verdicts.items;
+    } };
+}
+
+impl Summary {
+    /// The gaps.
+    pub(crate) fn gaps(&self) -> &[[u8; 32]]
+        ensures { result.now ≡ self.now.gaps }
+    {
+        &self.gaps
+    }
+
+    /// The summary after one survivor more, which changes these verdicts and nothing else.
+    pub(crate) fn grow(&mut self, changes: Vec<Option<Verdict>>)
+        requires { self.old.survivors < 16384 }
+        ensures { self.new ≡ record {
+          survivors = self.old.survivors + 1;
+          gaps = self.old.gaps;
+          strays = self.old.strays;
+          forks = self.old.forks;
+          verdicts = changed self.old.verdicts changes.items;
+        } }
+    {
+        self.survivors += 1;
+        make_changes(&mut self.verdicts, changes);
+    }
+}
+
+/// Why nothing is said of entries.
+#[derive(Clone, Copy)]
+pub(crate) enum Unsummed {
+    /// The rule at this place, counted from 0, is the first that is too wide.
+    TooWide(usize),
+    Memory,
+}
+
+impl From<AllocError> for Unsummed {
+    ghost use Rattle.std.specs.Prelude.{◌≡◌};
+    ghost use Rattle.live_auditor.specs.declared.summary.Unsummed.TheVariants.{Memory};
+
+    ghost from_gives = { λ _ e. e ≡ Memory };
+
+    fn from(_refused: AllocError) -> Unsummed {
+        Unsummed::Memory
+    }
+}
+
+impl<T: Drop> From<AllocFailed<T>> for Unsummed {
+    ghost use Rattle.std.specs.Prelude.{◌≡◌};
+    ghost use Rattle.live_auditor.specs.declared.summary.Unsummed.TheVariants.{Memory};
+
+    ghost from_gives = { λ _ e. e ≡ Memory };
+
+    fn from(_refused: AllocFailed<T>) -> Unsummed {
+        Unsummed::Memory
+    }
+}
+
+/// Judges the rules in their order by the survivors' rows and their order, up to the first that is
+/// too wide.
+fn judge_all(
+    alloc: Global,
+    rules: &[Rule],
+    rows: &[Row],
+    order: &Rows,
+) -> Result<Vec<Verdict>, Unsummed>
+    requires { length rows.now ≡ known_count order.now }
+    ensures ok { IfOk result (λ verdicts. (graph : PathGraph) → IsKnownOf graph order.now →
+        AreJudged rows.now graph (map rule_tree rules.now) verdicts.items) }
+    ensures err { IfErr result (λ fault. (graph : PathGraph) → IsKnownOf graph order.now →
+        IsUnjudged rows.now (map rule_tree rules.now) fault) }
+{
+    let mut verdicts = Vec::new(alloc);
+    for place in 0..rules.len() {
+        match judge(alloc, &rules[place], rows, order) {
+            Ok(verdict) => verdicts.push(verdict)?,
+            Err(JudgeFault::TooWide) => return Err(Unsummed::TooWide(place)),
+            Err(JudgeFault::Memory) => return Err(Unsummed::Memory),
+        }
+    }
+    Ok(verdicts)
+}
+
+/// What is said of entries, and their survivors.
+#[derive(Drop)]
+pub(crate) struct Summed {
+    pub(crate) summary: Summary,
+    pub(crate) survivors: Survivors,
+}
+
+/// The summary of the entries that have this graph, by these verdicts.
+fn summary_by(
+    alloc: Global,
+    graph: &Graph<Borrowed<'_>>,
+    verdicts: Vec<Verdict>,
+) -> Result<Summary, AllocError>
+    ensures { IfOk result (λ summary. summary ≡ record {
+      survivors = length graph.now.survivors;
+      gaps = graph.now.gaps;
+      strays = graph.now.strays;
+      forks = graph.now.forks;
+      verdicts = verdicts.items;
+    }) }
+{
+    Ok(Summary {
+        survivors: graph.count(),
+        gaps: Vec::from_slice(alloc, graph.gaps())?,
+        strays: Vec::from_slice(alloc, graph.strays())?,
+        forks: Vec::from_slice(alloc, graph.forks())?,
+        verdicts,
+    })
+}
+
+/// The same, where the rules aren't judged yet.
+fn summed_by(
+    alloc: Global,
+    roster: &Roster,
+    rules: &[Rule],
+    graph: &Graph<Borrowed<'_>>,
+) -> Result<Summed, Unsummed>
+    requires makers { HaveMakers roster.now.machines graph.now.survivors }
+    requires few { length graph.now.survivors ≤ 16384 }
+    requires linked { length graph.now.links ≡ length graph.now.survivors }
+    ensures ok { IfOk result (λ summed.
+        IsSummedBy roster.now.machines (map rule_tree rules.now) graph.now summed) }
+    ensures err { IfErr result (IsUnjudged (map (row_of roster.now.machines) graph.now.survivors)
+        (map rule_tree rules.now)) }
+{
+    let seen = rows(alloc, graph, roster)?;
+    let order = Rows::make(alloc, graph)?;
+    let verdicts = match judge_all(alloc, rules, seen.as_slice(), &order) {
+        Ok(verdicts) => verdicts,
+        Err(fault) => return Err(fault),
+    };
+    Ok(Summed {
+        summary: summary_by(alloc, graph, verdicts)?,
+        survivors: Survivors::of_graph(alloc, graph, seen)?,
+    })
+}
+
+/// What is said of these entries, and their survivors. Entries with different digests have a graph.
+pub(crate) fn summed_of(
+    alloc: Global,
+    roster: &Roster,
+    rules: &[Rule],
+    entries: Vec<Borrowed<'_>>,
+) -> Result<Summed, Unsummed>
+    requires { HaveMakers roster.now.machines entries.items }
+    ensures ok { IfOk result (λ summed. IsSummed roster.now.machines (map rule_tree rules.now)
+        entries.entry.items summed.summary (kept_of summed.survivors)) }
+    ensures err { IfErr result (IsUnsummed roster.now.machines (map rule_tree rules.now)
+        entries.entry.items) }
+{
+    match Graph::make(alloc, entries) {
+        Ok(graph) => summed_by(alloc, roster, rules, &graph),
+        Err(_) => Err(Unsummed::Memory),
+    }
+}

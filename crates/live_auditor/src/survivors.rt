@@ -1,0 +1,192 @@
+//! What is kept of the survivors, beside what is said of them.
+ghost use Rattle.std.specs.Prelude.{◌≡◌, ◌++◌, ◌∷◌, [], length, map, IfOk, OnOk};
+ghost use Rattle.entry_format.specs.SealedEntry.{SealedEntry};
+ghost use Rattle.entry_graph.specs.EntryGraph.{parents_of};
+ghost use Rattle.entry_order.specs.Ancestors.{Descends};
+ghost use Rattle.live_auditor.specs.inside.Kept.{link_to};
+ghost use Rattle.live_auditor.specs.inside.KeptOf.{HasRoom, kept_of};
+
+use crate::borrowed::Borrowed;
+use entry_graph::Graph;
+use entry_order::Knot;
+use precedence::Arrows;
+use rule_language::Row;
+use std::alloc::{AllocError, Global};
+use std::marker::Model;
+
+/// Which survivors one names, by their numbers, and whether it names a gap too.
+#[derive(Drop)]
+pub(crate) struct Link {
+    parents: Vec<u32>,
+    ragged: bool,
+}
+
+impl Model for Link {
+    ghost use Rattle.entry_graph.specs.EntryGraph.{Links};
+
+    ghost Value = { Links };
+
+    ghost view = { λ link. record { parents = link.parents.items; ragged = link.ragged } };
+}
+
+impl Link {
+    /// The link to these parents, which are copied.
+    fn copied(alloc: Global, parents: &[u32], ragged: bool) -> Result<Link, AllocError>
+        ensures { IfOk result (λ link. link ≡ record { parents = parents.now; ragged = ragged }) }
+    {
+        Ok(Link {
+            parents: Vec::from_slice(alloc, parents)?,
+            ragged,
+        })
+    }
+
+    /// The survivors that it leads to.
+    fn parents(&self) -> &[u32]
+        ensures { result.now ≡ self.now.parents }
+    {
+        &self.parents
+    }
+
+    /// Whether it leads to a gap too.
+    fn ragged(&self) -> bool
+        ensures { result ≡ self.now.ragged }
+    {
+        self.ragged
+    }
+
+    /// The link to these parents, and to no gap.
+    fn to(parents: Vec<u32>) -> Link
+        ensures { result ≡ link_to parents.items }
+    {
+        Link {
+            parents,
+            ragged: false,
+        }
+    }
+}
+
+/// The survivors in order: the digest, the row and the links of each.
+#[derive(Drop)]
+pub(crate) struct Survivors {
+    pub(crate) digests: Vec<[u8; 32]>,
+    pub(crate) rows: Vec<Row>,
+    pub(crate) links: Vec<Link>,
+}
+
+impl Survivors {
+    /// The survivors of the graph, which have these rows.
+    pub(crate) fn of_graph(
+        alloc: Global,
+        graph: &Graph<Borrowed<'_>>,
+        rows: Vec<Row>,
+    ) -> Result<Survivors, AllocError>
+        requires { length graph.now.links ≡ length graph.now.survivors }
+        ensures digests { IfOk result (λ kept.
+            kept.digests.items ≡ map (λ (e : SealedEntry). e.digest) graph.now.survivors) }
+        ensures rows { IfOk result (λ kept. kept.rows.items ≡ rows.items) }
+        ensures links { IfOk result (λ kept. kept.links.items ≡ graph.now.links) }
+    {
+        Ok(Survivors {
+            digests: digests_of(alloc, graph)?,
+            rows,
+            links: links_of(alloc, graph)?,
+        })
+    }
+
+    /// Makes room for one more.
+    pub(crate) fn reserve(&mut self) -> Result<(), AllocError>
+        ensures same { kept_of self.new ≡ kept_of self.old }
+        ensures room { OnOk result (HasRoom self.new) }
+    {
+        self.digests.reserve(1)?;
+        self.links.reserve(1)
+    }
+
+    /// Puts one with this digest and these parents behind the others, all of which have these rows.
+    pub(crate) fn push(&mut self, digest: [u8; 32], rows: Vec<Row>, parents: Vec<u32>)
+        requires { HasRoom self.old }
+        ensures digests { self.new.digests.items ≡ self.old.digests.items ++ digest ∷ [] }
+        ensures rows { self.new.rows.items ≡ rows.items }
+        ensures links { self.new.links.items ≡ self.old.links.items ++ link_to parents.items ∷ [] }
+    {
+        self.digests.push_reserved(digest);
+        self.rows = rows;
+        self.links.push_reserved(Link::to(parents));
+    }
+}
+
+/// The digests of the survivors.
+fn digests_of(alloc: Global, graph: &Graph<Borrowed<'_>>) -> Result<Vec<[u8; 32]>, AllocError>
+    ensures { IfOk result (λ digests.
+        digests.items ≡ map (λ (e : SealedEntry). e.digest) graph.now.survivors) }
+{
+    let mut digests = Vec::with_capacity(alloc, graph.count())?;
+    for i in 0..graph.count() {
+        digests.push(*graph.node(i).digest())?;
+    }
+    Ok(digests)
+}
+
+/// The links of the survivors.
+fn links_of(alloc: Global, graph: &Graph<Borrowed<'_>>) -> Result<Vec<Link>, AllocError>
+    requires { length graph.now.links ≡ length graph.now.survivors }
+    ensures { IfOk result (λ links. links.items ≡ graph.now.links) }
+{
+    let mut links = Vec::with_capacity(alloc, graph.count())?;
+    for i in 0..graph.count() {
+        links.push(Link::copied(alloc, graph.parents(i), graph.ragged(i))?)?;
+    }
+    Ok(links)
+}
+
+/// The graph of survivors and one more after them, which has these parents and names no gap.
+#[derive(Drop)]
+pub(crate) struct Grown<'a> {
+    links: &'a [Link],
+    parents: &'a [u32],
+}
+
+impl<'a> Model for Grown<'a> {
+    ghost use Rattle.std.specs.Prelude.{◌++◌, ◌∷◌, [], List};
+    ghost use Rattle.entry_graph.specs.EntryGraph.{Links, parents_of};
+    ghost use Rattle.entry_order.specs.Ancestors.{Descends};
+    ghost use Rattle.live_auditor.specs.inside.Kept.{link_to};
+
+    ghost Value = { List Links };
+
+    ghost view = { λ g. g.links.now ++ link_to g.parents.now ∷ [] };
+
+    ghost invariant = { λ g. Descends (parents_of (g.links.now ++ link_to g.parents.now ∷ [])) };
+}
+
+impl<'a> Grown<'a> {
+    /// The graph of survivors with these links and one with these parents.
+    pub(crate) fn over(links: &'a [Link], parents: &'a [u32]) -> Grown<'a>
+        requires { Descends (parents_of (links.now ++ link_to parents.now ∷ [])) }
+        ensures { result ≡ links.now ++ link_to parents.now ∷ [] }
+    {
+        Grown { links, parents }
+    }
+}
+
+impl<'a> Arrows for Grown<'a> {
+    ghost use Rattle.live_auditor.specs.inside.Kept.{nodes_by};
+
+    ghost graph = { nodes_by };
+
+    fn count(&self) -> usize {
+        self.links.len() + 1
+    }
+
+    fn parents(&self, node: usize) -> &[u32] {
+        if node < self.links.len() {
+            self.links[node].parents()
+        } else {
+            self.parents
+        }
+    }
+
+    fn ragged(&self, node: usize) -> bool {
+        node < self.links.len() && self.links[node].ragged()
+    }
+}

@@ -1,0 +1,154 @@
+//! Whether an entry is usual: one after which nothing needs to be said anew of the other survivors.
+ghost use Rattle.std.specs.Prelude.{◌≡◌, ◌<◌, ◌≤◌, ◌&&◌, ◌==◌, nat_lt, length, map, slice_get};
+ghost use Rattle.std.specs.Prelude.{IfOk, IfSome, Some};
+ghost use Rattle.std.specs.List.{list_all, list_any};
+ghost use Rattle.std.specs.Str.{bytes_eq};
+ghost use Rattle.auditor.specs.Rows.{HaveMakers, row_of};
+ghost use Rattle.live_auditor.specs.inside.Found.{FindsParents, IsUsualBy};
+
+use crate::borrowed::Borrowed;
+use crate::survivors::Survivors;
+use auditor::rows;
+use entry_format::Sealed;
+use entry_graph::Graph;
+use entry_order::Knot;
+use roster::Roster;
+use rule_language::Row;
+use std::alloc::{AllocError, Global};
+
+/// The most survivors of a graph.
+const MOST_SURVIVORS: usize = 16_384;
+
+/// Whether the entry has a higher stamp than each of the others.
+fn is_latest(added: &[Sealed], entry: &Sealed) -> bool
+    ensures { result ≡ list_all (λ f. nat_lt f.entry.stamp entry.now.entry.stamp) added.now }
+{
+    added.iter().all(|f| f.entry().stamp < entry.entry().stamp)
+}
+
+/// Whether the digest is one of these.
+fn is_among(digests: &[[u8; 32]], digest: &[u8; 32]) -> bool
+    ensures { result ≡ list_any (λ d. bytes_eq d digest.now) digests.now }
+{
+    digests.iter().any(|d| d == digest)
+}
+
+/// Whether one of the rows has this maker and number.
+fn is_numbered(rows: &[Row], maker: u32, number: u32) -> bool
+    ensures { result ≡ list_any (λ row. (row.maker == maker) && (row.number == number)) rows.now }
+{
+    rows.iter()
+        .any(|row| row.maker == maker && row.number == number)
+}
+
+/// Where the digest stands, the last place of several.
+fn place_of(digests: &[[u8; 32]], digest: &[u8; 32]) -> Option<usize>
+    ensures { IfSome result (λ place. slice_get digests.now place ≡ Some digest.now) }
+{
+    for place in (0..digests.len()).rev() {
+        if digests[place] == *digest {
+            return Some(place);
+        }
+    }
+    None
+}
+
+/// Where these names stand, or none where one of them doesn't.
+fn parents_in(
+    alloc: Global,
+    digests: &[[u8; 32]],
+    names: &[[u8; 32]],
+) -> Result<Option<Vec<u32>>, AllocError>
+    requires { length digests.now ≤ 16384 }
+    ensures { IfOk result (λ found. IfSome found
+        (λ parents. FindsParents digests.now names.now parents.items)) }
+{
+    let mut parents = Vec::with_capacity(alloc, names.len())?;
+    for name in names {
+        match place_of(digests, name) {
+            Some(place) => parents.push(place as u32)?,
+            None => return Ok(None),
+        }
+    }
+    Ok(Some(parents))
+}
+
+/// The parents of the entry among the survivors, if it is usual.
+fn parents_of(
+    alloc: Global,
+    added: &[Sealed],
+    gaps: &[[u8; 32]],
+    survivors: &Survivors,
+    entry: &Sealed,
+) -> Result<Option<Vec<u32>>, AllocError>
+    ensures { IfOk result (λ found. IfSome found (λ parents. IsUsualBy added.now gaps.now
+        survivors.now.digests.items survivors.now.rows.items entry.now parents.items)) }
+{
+    if survivors.digests.len() >= MOST_SURVIVORS
+        || !is_latest(added, entry)
+        || is_among(gaps, entry.digest())
+        || is_numbered(survivors.rows.as_slice(), entry.maker(), entry.number())
+    {
+        return Ok(None);
+    }
+    parents_in(alloc, survivors.digests.as_slice(), entry.names())
+}
+
+/// The row of the entry, unless it names itself.
+fn row_alone(alloc: Global, roster: &Roster, entry: &Sealed) -> Result<Option<Row>, AllocError>
+    requires { entry.now.entry.maker < length roster.now.machines }
+    ensures { IfOk result (λ found. IfSome found
+        (λ row. row ≡ row_of roster.now.machines entry.now)) }
+{
+    let mut alone = Vec::with_capacity(alloc, 1)?;
+    alone.push(Borrowed::of(entry))?;
+    match Graph::make(alloc, alone) {
+        Ok(graph) => first_row(alloc, roster, &graph),
+        Err(_) => Ok(None),
+    }
+}
+
+/// The row of the first survivor.
+fn first_row(
+    alloc: Global,
+    roster: &Roster,
+    graph: &Graph<Borrowed<'_>>,
+) -> Result<Option<Row>, AllocError>
+    requires { HaveMakers roster.now.machines graph.now.survivors }
+    ensures { IfOk result (λ found. IfSome found (λ row.
+        slice_get (map (row_of roster.now.machines) graph.now.survivors) 0 ≡ Some row)) }
+{
+    let rows = rows(alloc, graph, roster)?;
+    Ok(rows.as_slice().first().copied())
+}
+
+/// What a usual entry is for the survivors: its parents among them, and its row.
+#[derive(Drop)]
+pub(crate) struct Usual {
+    pub(crate) parents: Vec<u32>,
+    pub(crate) row: Row,
+}
+
+/// The same of the entry, if it is usual.
+pub(crate) fn usual_in(
+    alloc: Global,
+    roster: &Roster,
+    added: &[Sealed],
+    gaps: &[[u8; 32]],
+    survivors: &Survivors,
+    entry: &Sealed,
+) -> Result<Option<Usual>, AllocError>
+    requires { entry.now.entry.maker < length roster.now.machines }
+    ensures parents { IfOk result (λ found. IfSome found (λ usual. IsUsualBy added.now gaps.now
+        survivors.now.digests.items survivors.now.rows.items entry.now usual.parents.items)) }
+    ensures row { IfOk result (λ found. IfSome found
+        (λ usual. usual.row ≡ row_of roster.now.machines entry.now)) }
+{
+    let Some(parents) = parents_of(alloc, added, gaps, survivors, entry)? else {
+        return Ok(None);
+    };
+    match row_alone(alloc, roster, entry)? {
+        Some(row) => Ok(Some(Usual { parents, row })),
+        None => Ok(None),
+    }
+}
