@@ -4,6 +4,7 @@ use Rattle.auditorium_core.proofs.GapsCommand.{SayOne}
 use Rattle.auditorium_core.proofs.OnePlayAnswer.{PlayOne}
 use Rattle.auditorium_core.proofs.OneOrderAnswer.{OrderOne}
 use Rattle.auditorium_core.proofs.OneDemonstrationAnswer.{ShowOne}
+use Rattle.auditorium_core.proofs.OneProof.{ProofOne}
 
 -- each by what it speaks of
 pub record CitedLaws : Type 0 where
@@ -13,6 +14,8 @@ pub record CitedLaws : Type 0 where
   pub plays : PlayOne
   -- rosters, logs and graphs
   pub orders : OrderOne
+  -- proofs of an audit, and rules
+  pub proofs : ProofOne
   -- reports
   pub reports : FilesGiveOneReport
   -- demonstrations

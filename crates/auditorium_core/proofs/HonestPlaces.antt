@@ -79,9 +79,16 @@ module _ (machines : List MachineState) (w : World SealedEntry) (many : length w
     all = all_files;
   }
 
+-- machines that came to their world by some steps leave such files
+pub comers_leave_honest_files : (script : Script) (machines : List MachineState) (steps : List Step) → IsLawful script →
+    ((place : ℕ) (m : MachineState) → slice_get machines place ≡ Some m → m.config.number ≡ place) →
+    ComesTo script steps (world_of machines) → LeaveHonestFiles script machines (world_of machines)
+comers_leave_honest_files script machines steps lawful numbered comes =
+    leave_honest_files machines (world_of machines) (length-map machines machine_of) numbered (λ m. refl) script
+    lawful steps comes
+
 -- machines that have played leave such files
 pub players_leave_honest_files : (script : Script) (machines : List MachineState) → IsLawful script →
     IsPlayed script machines → LeaveHonestFiles script machines (world_of machines)
 players_leave_honest_files script machines lawful played =
-    leave_honest_files machines (world_of machines) (length-map machines machine_of) played.are_of.number (λ m. refl)
-    script lawful script.steps played.played
+    comers_leave_honest_files script machines script.steps lawful played.are_of.number played.played

@@ -29,7 +29,7 @@ pub record PlayOne : Type 0 where
   pub left : WhatIsLeftIsToldInOneWay
 
 -- the lines on what is left are the same
-same_undone : PlayOne → (machines : List MachineState) (lines others : List ℕ) → SayUndone machines lines
+pub same_undone : PlayOne → (machines : List MachineState) (lines others : List ℕ) → SayUndone machines lines
     → SayUndone machines others → lines ≡ others
 same_undone one [] lines others p q = p ∙ sym q
 same_undone one (m ∷ machines) lines others (left, rest, waits, says, told) (left', rest', waits', says', told') =

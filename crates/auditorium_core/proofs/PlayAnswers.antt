@@ -1,10 +1,12 @@
--- The answers of plays and of runs, from their files and lines.
+-- The answers of plays, of runs and of repairs, from their files and lines.
 use Rattle.std.proofs.Common.{◌≡◌, ◌∙◌, ℕ, List, [], ◌++◌, ap}
+use Rattle.entry_order.specs.declared.step.Step.{Step}
 use Rattle.roster.specs.declared.post.Post.{Post}
 use Rattle.floor_losses.specs.declared.loss.Loss.{Loss}
 use Rattle.polling_world.specs.Machines.{MachineState}
 use Rattle.auditorium_core.specs.Lines.{Answer}
 use Rattle.auditorium_core.specs.Play.{machine_lines, play_answer, play_files, status_of_undone}
+use Rattle.auditorium_core.specs.Repair.{mended_lines, repair_answer}
 use Rattle.auditorium_core.specs.Run.{loss_lines, run_answer}
 
 -- the answer of a script's machines, with these lines before those on what is left
@@ -48,3 +50,15 @@ told_of_run prefix posts machines losses files begin lines more text undone answ
     let ms = machine_lines machines in
     told_with prefix posts machines files more (ms ++ loss_lines posts losses) text undone answer all
     (next ∙ ap (λ (t : List ℕ). t ++ loss_lines posts losses) (first ∙ ap (λ (t : List ℕ). t ++ ms) none)) same told
+
+-- the answer of a repair
+pub told_of_repair : (prefix : List ℕ) (posts : List Post) (machines : List MachineState) (mended : List Step)
+    (files : List (List ℕ × List ℕ)) (begin lines more text undone : List ℕ) (answer : Answer) →
+    files ≡ play_files prefix posts machines → begin ≡ [] → lines ≡ begin ++ machine_lines machines →
+    more ≡ lines ++ mended_lines posts mended → text ≡ undone →
+    answer ≡ record { status = status_of_undone text; files = files; output = more ++ text } →
+    answer ≡ repair_answer prefix posts machines mended undone
+told_of_repair prefix posts machines mended files begin lines more text undone answer all none first next same told =
+    let ms = machine_lines machines in
+    told_with prefix posts machines files more (ms ++ mended_lines posts mended) text undone answer all
+    (next ∙ ap (λ (t : List ℕ). t ++ mended_lines posts mended) (first ∙ ap (λ (t : List ℕ). t ++ ms) none)) same told

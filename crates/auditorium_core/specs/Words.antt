@@ -3,38 +3,62 @@ use Rattle.std.specs.Prelude.{◌≡◌, ℕ, List, All, ⊤}
 use Rattle.auditorium_core.specs.WordForms.{IsCommandWord}
 use Rattle.auditorium_core.specs.CommandParts.{CommandParts}
 use Rattle.auditorium_core.specs.Audit.{audit_parts}
+use Rattle.auditorium_core.specs.Check.{check_parts}
 use Rattle.auditorium_core.specs.Demonstrated.{demonstration_parts}
+use Rattle.auditorium_core.specs.Endorse.{endorse_parts}
+use Rattle.auditorium_core.specs.Endorsed.{endorsed_parts}
 use Rattle.auditorium_core.specs.Gaps.{gaps_parts}
 use Rattle.auditorium_core.specs.Made.{make_parts}
+use Rattle.auditorium_core.specs.Office.{office_parts}
 use Rattle.auditorium_core.specs.Order.{order_parts}
 use Rattle.auditorium_core.specs.Play.{play_parts}
+use Rattle.auditorium_core.specs.Prove.{prove_parts}
+use Rattle.auditorium_core.specs.Repair.{repair_parts}
 use Rattle.auditorium_core.specs.Run.{run_parts}
 
 -- what good words ask for
 pub data Command : Type 0 where
   -- `audit`: the report by a roster, rules and logs
   audit : (roster rules : List ℕ) (logs : List (List ℕ)) → Command
+  -- `check`: what the rules come to, by a roster, the proof in a file, and logs
+  check : (roster rules proof : List ℕ) (logs : List (List ℕ)) → Command
   -- `demo`: what an audit shows of a day of so many sessions, of which the log of one machine is left, cut
   demonstrate : (sessions : ℕ) → Command
+  -- `endorse`: a file signed with the key of the office of this name
+  endorse : (name file : List ℕ) → Command
+  -- `endorsed`: whether a signature is one of a file under a public key
+  endorsed : (key file signature : List ℕ) → Command
   -- `gaps`: the gaps of one log
   gaps : (log : List ℕ) → Command
   -- `make`: the script of such a day
   generate : (sessions : ℕ) → Command
+  -- `office`: the files of an office of this name, whose key is made of this seed
+  office : (name seed : List ℕ) → Command
   -- `order`: how two entries stand to each other, by a roster and logs
   order : (roster x y : List ℕ) (logs : List (List ℕ)) → Command
   -- `play`: a script played on one thread, and what the names of its files begin with
   play : (script prefix : List ℕ) → Command
+  -- `prove`: the proof of the order of the entries, by a roster and logs, into a file
+  prove : (roster proof : List ℕ) (logs : List (List ℕ)) → Command
+  -- `repair`: a script played on one thread, with logs that are mended, and what the names of its files begin with
+  repair : (script prefix : List ℕ) → Command
   -- `run`: a script played in threads, and what the names of its files begin with
   run : (script prefix : List ℕ) → Command
 
 -- what each command is
 abbrev pub command_parts : Command → CommandParts
 command_parts (audit roster rules logs) = audit_parts roster rules logs
+command_parts (check roster rules proof logs) = check_parts roster rules proof logs
 command_parts (demonstrate sessions) = demonstration_parts sessions
+command_parts (endorse name file) = endorse_parts name file
+command_parts (endorsed key file signature) = endorsed_parts key file signature
 command_parts (gaps log) = gaps_parts log
 command_parts (generate sessions) = make_parts sessions
+command_parts (office name seed) = office_parts name seed
 command_parts (order roster x y logs) = order_parts roster x y logs
 command_parts (play script prefix) = play_parts script prefix
+command_parts (prove roster proof logs) = prove_parts roster proof logs
+command_parts (repair script prefix) = repair_parts script prefix
 command_parts (run script prefix) = run_parts script prefix
 
 -- the words are this command's, and each has the form of a word

@@ -2,4 +2,8 @@ pub mod Promise
 pub mod Ending
 pub mod Losses
 pub mod EntryNames
+pub mod Presence
+pub mod Endorsing
+pub mod Checking
 pub mod Meaning
+pub mod Repaired

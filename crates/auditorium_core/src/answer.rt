@@ -86,6 +86,21 @@ impl Answer {
         }
     }
 
+    /// The answer that writes these files, and tells these lines.
+    pub fn of_files(files: Vec<OutputFile>, lines: String) -> Answer
+        ensures { result ≡ record {
+          status = Done;
+          files = files.items;
+          output = string_bytes lines;
+        } }
+    {
+        Answer {
+            status: Status::Done,
+            files,
+            output: lines.into_bytes(),
+        }
+    }
+
     /// The answer of a play with these files and lines, of which the last say what is left.
     pub fn of_play(
         files: Vec<OutputFile>,

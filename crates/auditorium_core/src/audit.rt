@@ -34,7 +34,7 @@ pub(crate) fn audit_request(rest: &[String]) -> Option<Request<'_>>
 }
 
 /// The rules that a word of the command line names.
-fn rules_from(word: &str) -> RulesFrom<'_>
+pub(crate) fn rules_from(word: &str) -> RulesFrom<'_>
     ensures { source_of result ≡ source_named word.now }
 {
     if word == "standard" {

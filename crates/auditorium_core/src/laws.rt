@@ -7,8 +7,10 @@ ghost use Rattle.auditorium_core.specs.Words.{run, IsAny, IsStill, Means};
 ghost use Rattle.auditorium_core.specs.Answer.{AnswersWords, HasItsWords};
 ghost use Rattle.auditorium_core.specs.Outcome.{HasDone};
 ghost use Rattle.auditorium_core.specs.Outside.{Outside};
+ghost use Rattle.auditorium_core.specs.CheckAgrees.{ChecksAgreeWithAudits};
 ghost use Rattle.auditorium_core.specs.Complete.{IsComplete};
 
+use audit_proof::{one_text_is_canonical, proofs_are_read_in_one_way};
 use auditor::files_give_one_report;
 use demonstration::scripts_are_shown_in_one_way;
 use election_script::one_reading_is_right;
@@ -18,6 +20,7 @@ use evidence::{
 };
 use log_files::bytes_say_one_log;
 use polling_world::{scripts_are_played_in_one_way, what_is_left_is_told_in_one_way};
+use rule_language::one_reading_is_right as rules_are_read_in_one_way;
 
 /// Without threads words and files have at most one answer. What is lost between threads is not
 /// determined by a script, so `run` may have several. It does nothing.
@@ -34,6 +37,9 @@ pub fn one_answer_is_right()
     log_files_give_one_answer();
     entries_give_one_graph();
     survivors_are_sound();
+    one_text_is_canonical();
+    proofs_are_read_in_one_way();
+    rules_are_read_in_one_way();
     files_give_one_report();
     scripts_are_shown_in_one_way();
 }
@@ -57,6 +63,20 @@ pub fn statuses_have_their_words()
         AnswersWords IsStill words told answer → HasItsWords IsStill words answer }
 {}
 
+/// `check` by the proof that `prove` writes for the same logs answers with the verdicts of `audit`,
+/// rule for rule. It does nothing.
+pub fn checks_agree_with_audits()
+    ensures { ChecksAgreeWithAudits }
+{
+    roster_files_give_one_answer();
+    log_files_give_one_answer();
+    entries_give_one_graph();
+    survivors_are_sound();
+    one_text_is_canonical();
+    proofs_are_read_in_one_way();
+    rules_are_read_in_one_way();
+}
+
 /// What the program has done is complete, by whatever calls it was written: where no count of
 /// faults rose, a command over files that are all accepted is carried out, or memory was wanting.
 /// It does nothing.
@@ -75,6 +95,9 @@ pub fn answers_are_complete()
     log_files_give_one_answer();
     entries_give_one_graph();
     survivors_are_sound();
+    one_text_is_canonical();
+    proofs_are_read_in_one_way();
+    rules_are_read_in_one_way();
     files_give_one_report();
     scripts_are_shown_in_one_way();
 }

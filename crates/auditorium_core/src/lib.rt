@@ -6,17 +6,28 @@
 
 mod answer;
 mod audit;
+mod check;
 mod demonstrating;
 mod ending;
+mod endorse;
+mod endorsed;
 mod entry_word;
 mod gaps;
 mod honest;
 mod laws;
 mod make;
+mod named_bytes;
+mod office;
+mod office_file;
+mod office_laws;
 mod order;
 mod order_word;
 mod play;
 mod program;
+mod proof_file;
+mod prove;
+mod repair;
+mod rules_file;
 mod run;
 mod script_file;
 mod status;
@@ -25,7 +36,11 @@ mod words;
 mod writing;
 
 pub use laws::{
-    answers_are_complete, one_answer_is_right, only_runs_need_threads, statuses_have_their_words,
+    answers_are_complete, checks_agree_with_audits, one_answer_is_right, only_runs_need_threads,
+    statuses_have_their_words,
+};
+pub use office_laws::{
+    endorsements_are_called_good, endorsements_leave_three_states, numbers_sign_once,
 };
 pub use program::{auditorium, auditorium_still};
 pub use status::Status;

@@ -3,17 +3,23 @@ ghost use Rattle.std.specs.Prelude.{◌≡◌, ℕ, List, IfNone, IfSome, map, s
 ghost use Rattle.auditorium_core.specs.Outcome.{HasDone, IsWrittenAfterReads};
 ghost use Rattle.auditorium_core.specs.Outside.{outside, seen};
 ghost use Rattle.auditorium_core.specs.Words.{IsAny, IsStill, Means, command_parts, run};
-ghost use Rattle.auditorium_core.specs.inside.Meaning.{asked};
+ghost use Rattle.auditorium_core.specs.inside.Meaning.{IsThreaded, asked};
 ghost use Rattle.auditorium_core.specs.inside.Promise.{AreAnswered, IsAnsweredBy};
 
 use crate::answer::{Answer, Fault};
 use crate::audit::audit;
+use crate::check::check;
 use crate::demonstrating::demonstrate;
 use crate::ending::end_with;
+use crate::endorse::{endorse, endorse_in};
+use crate::endorsed::endorsed;
 use crate::gaps::gaps;
 use crate::make::make;
+use crate::office::{office, office_in};
 use crate::order::order;
 use crate::play::play;
+use crate::prove::prove;
+use crate::repair::repair;
 use crate::run::run;
 use crate::status::Status;
 use crate::words::{Request, request_of};
@@ -23,8 +29,8 @@ use std::sync::Wait;
 use std::thread::Threads;
 
 /// Does what the words ask for, and answers how the program ends: each command, of which `run` plays
-/// a script in threads. It reads the files that the words name, and takes all its memory before it
-/// writes. It may wait.
+/// a script in threads, and `office` and `endorse` make their trees in threads. It reads the files
+/// that the words name, and takes all its memory before it writes. It may wait.
 pub fn auditorium<R: Threads + Wait + Sync, S: Store, K: Sink, G: Gate + Sync>(
     rt: &R,
     alloc: Global,
@@ -38,9 +44,9 @@ pub fn auditorium<R: Threads + Wait + Sync, S: Store, K: Sink, G: Gate + Sync>(
         (outside S.Store K.Sink store.old out.old) result
         (outside S.Store K.Sink store.new out.new) }
 {
-    match run_of(words) {
-        Some((script, prefix)) => {
-            let answer = run(rt, alloc, gate, store, script, prefix);
+    match threaded_of(words) {
+        Some(request) => {
+            let answer = answer_in(rt, alloc, gate, request, store);
             end_with(answer, store, out)
         }
         None => auditorium_still(alloc, words, store, out),
@@ -63,16 +69,50 @@ pub fn auditorium_still<S: Store, K: Sink>(
     end_with(answer, store, out)
 }
 
-/// The script and the prefix of a run in threads, if the words ask for one.
-fn run_of(words: &[String]) -> Option<(&str, &str)>
-    ensures some { IfSome result (λ found.
-        Means (map string_bytes words.now) (run found.0.now found.1.now)) }
+/// What the words ask for, if it is done in threads.
+fn threaded_of(words: &[String]) -> Option<Request<'_>>
+    ensures some { IfSome result (λ request. Means (map string_bytes words.now) (asked request)) }
+    ensures threaded { IfSome result (λ request. IsThreaded (asked request)) }
     ensures none { IfNone result ((script prefix : List ℕ) →
         ¬ Means (map string_bytes words.now) (run script prefix)) }
 {
     match request_of(words) {
-        Some(request) => run_in(&request),
+        Some(request) => threaded(request),
         None => None,
+    }
+}
+
+/// The request, if it is done in threads.
+fn threaded(request: Request<'_>) -> Option<Request<'_>>
+    ensures some { IfSome result (λ found. found ≡ request.entry) }
+    ensures threaded { IfSome result (λ found. IsThreaded (asked found)) }
+    ensures none { IfNone result (IsStill (asked request.entry)) }
+{
+    match request {
+        Request::Endorse(_, _) => Some(request),
+        Request::Office(_, _) => Some(request),
+        Request::Run(_, _) => Some(request),
+        _ => None,
+    }
+}
+
+/// The answer of a command that is done in threads. It may wait.
+fn answer_in<R: Threads + Wait + Sync, S: Store, G: Gate + Sync>(
+    rt: &R,
+    alloc: Global,
+    gate: &G,
+    request: Request<'_>,
+    store: &mut S,
+) -> Result<Answer, Fault>
+    requires { IsThreaded (asked request) }
+    ensures { IsAnsweredBy (asked request.entry)
+        (seen S.Store store.old) result (seen S.Store store.new) }
+{
+    match request {
+        Request::Endorse(name, file) => endorse_in(rt, alloc, store, name, file),
+        Request::Office(name, seed) => office_in(rt, alloc, store, name, seed),
+        Request::Run(script, prefix) => run(rt, alloc, gate, store, script, prefix),
+        _ => unreachable!(),
     }
 }
 
@@ -107,11 +147,19 @@ fn answer_to<S: Store>(alloc: Global, request: Request<'_>, store: &mut S) -> Re
 {
     match request {
         Request::Audit(roster, rules, logs) => audit(alloc, store, roster, rules, logs),
+        Request::Check(roster, rules, proof, logs) => {
+            check(alloc, store, roster, rules, proof, logs)
+        }
         Request::Demonstrate(sessions) => demonstrate(alloc, sessions),
+        Request::Endorse(name, file) => endorse(alloc, store, name, file),
+        Request::Endorsed(key, file, signature) => endorsed(alloc, store, key, file, signature),
         Request::Gaps(log) => gaps(alloc, store, log),
         Request::Make(sessions) => Ok(make(alloc, sessions)?),
+        Request::Office(name, seed) => office(alloc, store, name, seed),
         Request::Order(roster, x, y, logs) => order(alloc, store, roster, x, y, logs),
         Request::Play(script, prefix) => play(alloc, store, script, prefix),
+        Request::Prove(roster, proof, logs) => prove(alloc, store, roster, proof, logs),
+        Request::Repair(script, prefix) => repair(alloc, store, script, prefix),
         Request::Run(_, _) => unreachable!(),
     }
 }

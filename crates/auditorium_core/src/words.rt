@@ -4,11 +4,17 @@ ghost use Rattle.auditorium_core.specs.Words.{Command, Means};
 ghost use Rattle.auditorium_core.specs.inside.Meaning.{IsReadAs, asked};
 
 use crate::audit::audit_request;
+use crate::check::check_request;
 use crate::demonstrating::demonstration_request;
+use crate::endorse::endorse_request;
+use crate::endorsed::endorsed_request;
 use crate::gaps::gaps_request;
 use crate::make::make_request;
+use crate::office::office_request;
 use crate::order::order_request;
 use crate::play::play_request;
+use crate::prove::prove_request;
+use crate::repair::repair_request;
 use crate::run::run_request;
 use crate::word_forms::have_form;
 
@@ -18,18 +24,33 @@ pub(crate) enum Request<'a> {
     /// `audit`: the report by the roster in the first file, the rules that the second word names,
     /// and the logs in the other files.
     Audit(&'a str, &'a str, &'a [String]),
+    /// `check`: what the rules that the second word names come to, by the roster in the first file,
+    /// the proof in the third and the logs in the others.
+    Check(&'a str, &'a str, &'a str, &'a [String]),
     /// `demo`: what an audit shows of a day of so many sessions, of which one log is left, cut.
     Demonstrate(u32),
+    /// `endorse`: the office of the first name signs the file of the second.
+    Endorse(&'a str, &'a str),
+    /// `endorsed`: whether the signature in the third file is one of the second under the public
+    /// key in the first.
+    Endorsed(&'a str, &'a str, &'a str),
     /// `gaps`: the gaps of the log in this file.
     Gaps(&'a str),
     /// `make`: the script of such a day.
     Make(u32),
+    /// `office`: the files of an office of this name with this seed.
+    Office(&'a str, [u8; 32]),
     /// `order`: how the entries of the second word and the third stand to each other, by the roster
     /// in the first file and the logs in the others.
     Order(&'a str, &'a str, &'a str, &'a [String]),
     /// `play`: the script in the first file, into files whose names begin with the second word.
     Play(&'a str, &'a str),
-    /// `run`: the same in threads.
+    /// `prove`: the proof of the order of the entries, by the roster in the first file and the logs
+    /// in the others, into the second file.
+    Prove(&'a str, &'a str, &'a [String]),
+    /// `repair`: a script likewise, whose machines' logs are mended before they finish.
+    Repair(&'a str, &'a str),
+    /// `run`: `play` in threads.
     Run(&'a str, &'a str),
 }
 
@@ -54,11 +75,17 @@ fn request_named<'a>(name: &str, rest: &'a [String]) -> Option<Request<'a>>
 {
     match name {
         "audit" => audit_request(rest),
+        "check" => check_request(rest),
         "demo" => demonstration_request(rest),
+        "endorse" => endorse_request(rest),
+        "endorsed" => endorsed_request(rest),
         "gaps" => gaps_request(rest),
         "make" => make_request(rest),
+        "office" => office_request(rest),
         "order" => order_request(rest),
         "play" => play_request(rest),
+        "prove" => prove_request(rest),
+        "repair" => repair_request(rest),
         "run" => run_request(rest),
         _ => None,
     }

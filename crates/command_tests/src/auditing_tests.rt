@@ -26,7 +26,7 @@ const OTHER: &str =
     "seed 0103\nkey w4 h5\nlog 64\nlink 64\nmachine sv supervisor\nmachine b1 booth\n";
 
 /// Sessions at two booths, of which the second hears the later of the first one's two entries.
-const THREE: &str = "seed 0102\nkey w4 h5\nlog 64\nlink 64\n\
+pub(super) const THREE: &str = "seed 0102\nkey w4 h5\nlog 64\nlink 64\n\
     machine sv supervisor\nmachine b1 booth\nmachine b2 booth\n\
     do sv open\ndo sv authorise b1 1\ndo sv authorise b2 2\ndo b1 activate 1\n\
     do b1 commit 1 0707070707070707070707070707070707070707070707070707070707070707\n\
@@ -343,7 +343,7 @@ const AUDITS: &[(&str, Status, &str)] = &[
 ];
 
 /// The lines, without those of kept rules.
-fn without_kept(alloc: Global, bytes: &[u8]) -> Result<String, Fail> {
+pub(super) fn without_kept(alloc: Global, bytes: &[u8]) -> Result<String, Fail> {
     let text = String::from_utf8_lossy(alloc, bytes)?;
     let mut lines = String::new(alloc);
     for line in text.as_str().split('\n') {
@@ -518,8 +518,14 @@ fn wide_hall(alloc: Global) -> Result<MemoryStore, Fail> {
 fn a_rule_over_too_many_entries_is_too_wide(rt: HostRuntime) -> Result<(), Fail> {
     let alloc = rt.alloc();
     let mut store = wide_hall(alloc)?;
-    let words = "audit w1.roster wide w1.sv.log w2.sv.log w3.sv.log w4.sv.log w5.sv.log";
-    let want = (Status::Refused, "refused wide 1 TooWide\n");
-    assert!(rt; is_answered(alloc, words, &mut store, want)?);
+    store.place(alloc, "proof", b"proof 1\nentries 129\n")?;
+    for words in ["audit w1.roster wide", "check w1.roster wide proof"] {
+        let words = format!(in alloc; "{words} w1.sv.log w2.sv.log w3.sv.log w4.sv.log w5.sv.log")?;
+        let want = (Status::Refused, "refused wide 1 TooWide\n");
+        assert!(rt;
+            is_answered(alloc, words.as_str(), &mut store, want)?,
+            "{words}"
+        );
+    }
     Ok(())
 }

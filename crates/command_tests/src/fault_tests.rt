@@ -1,7 +1,7 @@
 //! Calls of the store and of the sink that fail, or that give and take little, under each command.
 ghost use Rattle.std.specs.Prelude.{◌<◌};
 
-use crate::auditing_tests::{TWO, empty, front_of, play, wide, words_of};
+use crate::auditing_tests::{TWO, answer, empty, front_of, play, wide, words_of};
 use crate::demonstrating_tests::ONE;
 use crate::make_tests::ONE as DAY;
 use auditorium_core::{Status, auditorium};
@@ -20,6 +20,11 @@ const REPORT: &str =
     kept V1\nkept V2\nkept P1\nkept P2\nkept P3\nkept P4\nkept M1\nkept K1\nkept K2\nkept C6\n\
     kept C7\nkept V3\nkept V4\nverdict kept\n";
 
+const CHECKED: &str =
+    "kept O1\nkept O2\nkept A1\nkept A2\nkept C1\nkept C2\nkept C3\nkept C4\nkept C5\n\
+    kept V1\nkept V2\nkept P1\nkept P2\nkept P3\nkept P4\nkept M1\nkept K1\nkept K2\nkept C6\n\
+    kept C7\nkept V3\nkept V4\nverdict kept\n";
+
 /// Words, how many reads they make, their status and their output.
 type Command = (&'static str, u32, Status, &'static str);
 
@@ -28,6 +33,7 @@ type Command = (&'static str, u32, Status, &'static str);
 /// whatever order its threads take their turns.
 const COMMANDS: &[Command] = &[
     ("play script q", 2, Status::Done, PLAYED),
+    ("repair script q", 2, Status::Done, PLAYED),
     ("run script q", 2, Status::Done, PLAYED),
     (
         "audit p.roster standard p.sv.log p.b1.log",
@@ -47,22 +53,39 @@ const COMMANDS: &[Command] = &[
         Status::Findings,
         "torn torn.log 12433\n",
     ),
+    (
+        "prove p.roster o p.sv.log p.b1.log",
+        6,
+        Status::Done,
+        "proof o entries 6 bytes 120\n",
+    ),
+    (
+        "check p.roster standard o p.sv.log p.b1.log",
+        8,
+        Status::Done,
+        CHECKED,
+    ),
     ("make 1", 0, Status::Done, DAY),
     ("demo 1", 0, Status::Unsettled, ONE),
 ];
 
 /// The files that the commands read.
-const READ: [&str; 5] = ["script", "p.roster", "p.sv.log", "p.b1.log", "torn.log"];
+const READ: [&str; 6] = [
+    "script", "p.roster", "p.sv.log", "p.b1.log", "torn.log", "o",
+];
 
-/// The files that `play` and `run` write.
+/// The files that `play`, `repair` and `run` write.
 const WRITTEN: [&str; 3] = ["q.roster", "q.sv.log", "q.b1.log"];
 
-/// The files of the worked play, its script, and the supervisor's log without its last byte.
+/// The files of the worked play, its script, the proof of its entries, and the supervisor's log
+/// without its last byte.
 fn played(alloc: Global) -> Result<MemoryStore, Fail> {
     let mut store = empty(alloc);
     play(alloc, TWO, "p", &mut store)?;
     let torn = front_of(alloc, &store, "p.sv.log", 14_906)?;
     store.place(alloc, "torn.log", &torn)?;
+    let words = "prove p.roster o p.sv.log p.b1.log";
+    answer(alloc, words, &mut store, &mut wide(alloc))?;
     Ok(store)
 }
 
@@ -110,9 +133,14 @@ fn lengths_of(alloc: Global, store: &MemoryStore) -> Result<String, Fail> {
     Ok(text)
 }
 
-/// Whether the words are those of a command that writes files.
+/// Whether the words are those of a command that writes the files of a play.
 fn writes_files(words: &str) -> bool {
     words.ends_with(" script q")
+}
+
+/// Whether they are those of a command that writes any file.
+fn creates_files(words: &str) -> bool {
+    writes_files(words) || words.starts_with("prove ")
 }
 
 /// The lengths that the words leave.
@@ -345,12 +373,12 @@ fn creates_nothing<R: Threads + Wait + Sync>(
 }
 
 #[test]
-fn only_play_and_run_create_files(rt: HostRuntime) -> Result<(), Fail> {
+fn only_play_run_and_prove_create_files(rt: HostRuntime) -> Result<(), Fail> {
     let alloc = rt.alloc();
     let files = played(alloc)?;
     for command in COMMANDS {
         let (words, _, _, _) = *command;
-        if !writes_files(words) {
+        if !creates_files(words) {
             assert!(rt; creates_nothing(&rt, alloc, &files, command)?, "{words}");
         }
     }

@@ -19,11 +19,17 @@ mod limit_tests;
 #[cfg(test)]
 mod make_tests;
 #[cfg(test)]
+mod office_tests;
+#[cfg(test)]
 mod ordering_tests;
 #[cfg(test)]
 mod peak_tests;
 #[cfg(test)]
 mod play_tests;
+#[cfg(test)]
+mod proving_tests;
+#[cfg(test)]
+mod repair_tests;
 #[cfg(test)]
 mod run_tests;
 #[cfg(test)]

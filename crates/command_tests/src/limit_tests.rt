@@ -94,6 +94,16 @@ const ROWS: &[(&str, Status, &str)] = &[
         "refused entries 0 TooMany\n",
     ),
     (
+        "prove p.roster o a b one",
+        Status::Refused,
+        "refused entries 0 TooMany\n",
+    ),
+    (
+        "check p.roster own gone a b one",
+        Status::Refused,
+        "refused entries 0 TooMany\n",
+    ),
+    (
         "order p.roster sv.0 sv.1 a b one",
         Status::Refused,
         "refused entries 0 TooMany\n",

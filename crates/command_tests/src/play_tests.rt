@@ -13,7 +13,7 @@ pub(super) const TWO: &str =
     "seed 0102\nkey w4 h5\nlog 64\nlink 64\nmachine sv supervisor\nmachine b1 booth\n";
 
 /// A supervisor and two booths.
-const THREE: &str = "seed 0102\nkey w4 h5\nlog 64\nlink 64\n\
+pub(super) const THREE: &str = "seed 0102\nkey w4 h5\nlog 64\nlink 64\n\
     machine sv supervisor\nmachine b1 booth\nmachine b2 booth\n";
 
 /// One session from authorisation to ballot.
@@ -31,12 +31,13 @@ const UNHEARD: &str = "step act sv\nstep act sv\nstep hear b1 sv 0\nstep hear b1
     step act b1\nstep act b1\nstep act b1\nstep act sv\nstep hear b1 sv 2\n";
 
 /// A session at each booth.
-const SESSIONS: &str = "do sv open\ndo sv authorise b1 1\ndo sv authorise b2 2\ndo b1 activate 1\n\
+pub(super) const SESSIONS: &str =
+    "do sv open\ndo sv authorise b1 1\ndo sv authorise b2 2\ndo b1 activate 1\n\
     do b1 commit 1 0707070707070707070707070707070707070707070707070707070707070707\n\
     do b2 activate 2\n";
 
 /// The end of the second one.
-const BALLOT: &str =
+pub(super) const BALLOT: &str =
     "do b2 commit 2 0707070707070707070707070707070707070707070707070707070707070707\n\
     do b2 cast 2 0707070707070707070707070707070707070707070707070707070707070707\n";
 
@@ -47,7 +48,7 @@ const PARTED: &str = "step act sv\nstep act sv\nstep act sv\n\
     step act b1\nstep act b1\nstep hear b2 b1 1\nstep act b2\n";
 
 /// After that the second booth has an action behind its commitment.
-const BALLOT_STEPS: &str = "step act sv\nstep act sv\nstep act sv\n\
+pub(super) const BALLOT_STEPS: &str = "step act sv\nstep act sv\nstep act sv\n\
     step hear b1 sv 0\nstep hear b1 sv 1\nstep hear b1 sv 2\n\
     step hear b2 sv 0\nstep hear b2 sv 1\nstep hear b2 sv 2\n\
     step act b1\nstep act b1\nstep hear b2 b1 1\nstep act b2\nstep act b2\nstep act b2\n";

@@ -20,6 +20,13 @@ returns c =
         digests = c.survivors_are_sound.ensures.distinct;
         no_cycle = c.survivors_are_sound.ensures.no_cycle;
       };
+      proofs = record {
+        canonical = c.one_text_is_canonical.ensures;
+        text = c.proofs_are_read_in_one_way.ensures.text;
+        read = c.proofs_are_read_in_one_way.ensures.read;
+        value = c.proofs_are_read_in_one_way.ensures.value;
+        rules = c.one_reading_is_right-2.ensures;
+      };
       reports = c.files_give_one_report.ensures;
       shows = record { shown = shows.shown; refused = shows.refused; either = shows.either };
     })

@@ -2,7 +2,8 @@ use Rattle.std.proofs.Common.{Bool, map, string_bytes}
 use Rattle.auditorium_core.specs.Lines.{Answer}
 use Rattle.auditorium_core.specs.Outcome.{IsWrittenAfterReads, IsWrittenBy}
 use Rattle.auditorium_core.specs.Outside.{outside, seen}
-use Rattle.auditorium_core.specs.Words.{IsAny, run}
+use Rattle.auditorium_core.specs.Words.{IsAny}
+use Rattle.auditorium_core.specs.inside.Meaning.{asked}
 use Rattle.auditorium_core.proofs.Endings.{answered_words, was_done, done_as_any}
 use Rattle.auditorium_core.proofs.program.auditorium.Goals as goal
 
@@ -11,19 +12,19 @@ returns-in-Some g c =
     let store = g.S.Store in
     let sink = g.K.Sink in
     let old = c.args.store.now in
-    let read = c.run-answer.new.store in
+    let read = c.answer_in-answer.new.store in
     let new = c.end_with.new.store in
     let out = c.args.out.now in
     let out_now = c.end_with.new.out in
     let is_told_by : Answer → Bool → Type 0 = λ answer ok.
     IsWrittenBy store.creates store.appends sink.writes answer read out ok new out_now in
-    let command = run c.in-Some.script.now c.in-Some.prefix.now in
+    let command = asked c.in-Some.request in
     was_done IsAny (map string_bytes c.args.words.now) is_told_by
     (IsWrittenAfterReads store sink old out new out_now) (seen store old) (seen store read) (sink.written out)
     (sink.faults out) (outside store sink new out_now)
-    (λ answer ok told. (read, c.run-answer.ensures.files, told)) c.run-answer.result c.end_with.result
+    (λ answer ok told. (read, c.answer_in-answer.ensures.files, told)) c.answer_in-answer.result c.end_with.result
     (answered_words IsAny (map string_bytes c.args.words.now) command (seen store old) (seen store read)
-    c.run-answer.result tt c.in-Some.ensures.some c.run-answer.ensures) c.end_with.ensures
+    c.answer_in-answer.result tt c.in-Some.ensures.some c.answer_in-answer.ensures) c.end_with.ensures
 
 pub returns-in-None : goal.returns-in-None
 returns-in-None g c =

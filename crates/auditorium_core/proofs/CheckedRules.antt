@@ -1,0 +1,70 @@
+-- Rules checked one after another.
+use Rattle.std.proofs.Common.{◌≡◌, ◌∙◌, ℕ, zero, suc, ◌+◌, ◌<◌, List, [], ◌∷◌, ◌++◌, length, take, get_or, map, true}
+use Rattle.std.proofs.Common.{false, ap, sym, subst, arith, Some}
+use Rattle.std.specs.Prelude.{slice_get, Ok, Err}
+use Rattle.std.proofs.lemmas.Slice.Zip.{all_zipped_more}
+use Rattle.std.proofs.lemmas.List.{take_more, map-append}
+use Rattle.precedence.specs.Graph.{Graph}
+use Rattle.rule_language.specs.declared.formula.Rule.{Rule}
+use Rattle.rule_language.specs.declared.row.Row.{Row}
+use Rattle.rule_language.specs.Trees.{RuleTree}
+use Rattle.rule_language.specs.Forms.{rule_tree}
+use Rattle.rule_meaning.specs.Widths.{is_too_wide}
+use Rattle.audit_proof.specs.declared.fault.CheckFault.{CheckFault}
+use Rattle.audit_proof.specs.declared.fault.CheckFault.TheVariants.{TooWide, Memory}
+use Rattle.audit_proof.specs.declared.fault.Verdict.{Verdict}
+use Rattle.audit_proof.specs.Answers.{IsCheckAnswer}
+use Rattle.audit_proof.specs.Lines.{Line}
+use Rattle.auditor.specs.Judged.{IsFirstTooWide}
+use Rattle.auditorium_core.specs.Check.{AreChecked}
+use Rattle.auditorium_core.proofs.OneProof.{checked_is_narrow}
+
+-- the first rules and one more
+trees_more : (rules : List Rule) (i : ℕ) (rule : Rule) → i < length rules → rule ≡ get_or rules i rule →
+    map rule_tree (take i rules) ++ rule_tree rule ∷ [] ≡ map rule_tree (take (i + 1) rules)
+trees_more rules i rule within is =
+    sym (ap (map rule_tree) (take_more rules i rule within)
+    ∙ map-append rule_tree (take i rules) (get_or rules i rule ∷ [])
+    ∙ ap (λ (r : Rule). map rule_tree (take i rules) ++ rule_tree r ∷ []) (sym is))
+
+module _ (rows : List Row) (graph : Graph) (lines : List Line) (rules : List Rule) (i : ℕ) (rule : Rule)
+    (verdicts : List Verdict) (within : i < length rules) (is : rule ≡ get_or rules i rule)
+    (so_far : AreChecked rows graph lines (map rule_tree (take i rules)) verdicts) where
+  -- one verdict more
+  pub checked_more : (verdict : Verdict) →
+      IsCheckAnswer rows graph.ragged lines (rule_tree rule).body (Ok verdict) →
+      AreChecked rows graph lines (map rule_tree (take (i + 1) rules)) (verdicts ++ verdict ∷ [])
+  checked_more verdict checked =
+      let P : List RuleTree → Type 0 = λ trees. AreChecked rows graph lines trees (verdicts ++ verdict ∷ []) in
+      subst P (trees_more rules i rule within is)
+      (all_zipped_more (λ (r : RuleTree) (v : Verdict). IsCheckAnswer rows graph.ragged lines r.body (Ok v))
+      (map rule_tree (take i rules)) verdicts (rule_tree rule) verdict so_far checked)
+
+  -- the rule after those that were checked is the first that is too wide
+  pub first_too_wide : (fault : CheckFault) → fault ≡ TooWide →
+      IsCheckAnswer rows graph.ragged lines (rule_tree rule).body (Err fault) →
+      IsFirstTooWide rows (map rule_tree rules) i
+  first_too_wide fault at answer = record {
+    rule = rule_tree rule;
+    stands = stands rules i rule within is;
+    too_wide = subst (λ (f : CheckFault). IsCheckAnswer rows graph.ragged lines (rule_tree rule).body (Err f)) at answer;
+    first = λ k tree below there.
+        checked_is_narrow rows graph lines (map rule_tree (take i rules)) verdicts k tree so_far
+        (early rules i k tree below there);
+  }
+    where
+      -- the tree of the rule at a place stands at the same place among the trees
+      stands : (list : List Rule) (n : ℕ) (one : Rule) → n < length list → one ≡ get_or list n one →
+          slice_get (map rule_tree list) n ≡ Some (rule_tree one)
+      stands [] n one below same = absurd (omega arith)
+      stands (r ∷ list) zero one below same = ap (λ (q : Rule). Some (rule_tree q)) (sym same)
+      stands (r ∷ list) (suc n) one below same = stands list n one (omega arith) same
+
+      -- a rule at a place below i is one of the first i
+      early : (list : List Rule) (n k : ℕ) (tree : RuleTree) → k < n → slice_get (map rule_tree list) k ≡ Some tree →
+          slice_get (map rule_tree (take n list)) k ≡ Some tree
+      early [] zero k tree below there = absurd (omega arith)
+      early [] (suc n) k tree below there = there
+      early (r ∷ list) zero k tree below there = absurd (omega arith)
+      early (r ∷ list) (suc n) zero tree below there = there
+      early (r ∷ list) (suc n) (suc k) tree below there = early list n k tree (omega arith) there

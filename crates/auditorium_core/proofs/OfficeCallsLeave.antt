@@ -1,0 +1,167 @@
+-- What a call of the program leaves on a store that tells its files.
+use Rattle.std.proofs.Common.{◌≡◌, ◌≢◌, ◌∙◌, ◌⊎◌, ℕ, ◌+◌, ◌-◌, ◌<◌, ◌≤◌, List, [], ◌∷◌, ◌++◌, length, take, get_or, codes}
+use Rattle.std.proofs.Common.{Option, Some, None, Bool, true, false, inl, inr, refl, sym, ap, subst, cond, arith}
+use Rattle.std.specs.Prelude.{Err, Ok, ⊤, IsSomeAnd}
+use Rattle.std.specs.Str.{bytes_eq}
+use Rattle.std.proofs.lemmas.Bool.{cases_lt}
+use Rattle.std.proofs.lemmas.List.{get_or-append_right, length-append, take_all}
+use Rattle.std.proofs.lemmas.Slice.Eq.{bytes_eq-Decides}
+use Rattle.hall_outside.specs.Files.{Files, SetsPrefix, file_set, with_file}
+use Rattle.hall_outside.proofs.FileLists.{eq_self}
+use Rattle.office_key.specs.declared.office.Office.{Office}
+use Rattle.office_key.specs.Endorsements.{endorsement}
+use Rattle.office_key.specs.Offices.{IsOffice, office_text, next_office}
+use Rattle.office_key.proofs.OfficeTexts.{cut_text}
+use Rattle.evidence.specs.Refusal.{Refusal, absent, refused}
+use Rattle.auditorium_core.specs.declared.status.Status.{Status}
+use Rattle.auditorium_core.specs.declared.status.Status.TheVariants as status
+use Rattle.auditorium_core.specs.Lines.{Answer, refusal_answer}
+use Rattle.auditorium_core.specs.Answer.{IsAnswerTo, AnswersWords}
+use Rattle.auditorium_core.specs.Outcome.{HasDone, IsWritten, SetsSome, with_files}
+use Rattle.auditorium_core.specs.Outside.{Outside}
+use Rattle.auditorium_core.specs.Words.{Command, Means}
+use Rattle.auditorium_core.proofs.Commands.{same_command}
+
+-- a set file has its bytes
+pub set_here : (files : Files) (name bytes : List ℕ) → file_set files name bytes name ≡ Some bytes
+set_here files name bytes = ap (λ (b : Bool). cond b (Some bytes) (files name)) (eq_self name)
+
+-- names that differ are found to differ
+names_differ : (a b : List ℕ) → a ≢ b → bytes_eq a b ≡ false
+names_differ a b differ =
+    elim (bytes_eq a b) as (λ (t : Bool). bytes_eq a b ≡ t → bytes_eq a b ≡ false) [
+      | true ↦ λ e. absurd (differ ((bytes_eq-Decides a b).0 e))
+      | false ↦ λ e. e
+    ] refl
+
+-- every other one is as it was
+pub set_elsewhere : (files : Files) (name bytes other : List ℕ) → other ≢ name →
+    file_set files name bytes other ≡ files other
+set_elsewhere files name bytes other differ =
+    ap (λ (b : Bool). cond b (Some bytes) (files other)) (names_differ other name differ)
+
+-- the name of an office's file has another ending than those of the other files
+pub office_is_no_other : (name other ending : List ℕ) → length ending ≡ 4 → get_or ending 3 0 ≢ 101 →
+    name ++ codes ".office" ≢ other ++ ending
+office_is_no_other name other ending four differs same =
+    let at : ℕ = length name + 6 in
+    let here : get_or (name ++ codes ".office") at 0 ≡ 101 =
+    get_or-append_right name (codes ".office") (length name) at 0 refl (omega arith)
+    ∙ ap (λ (k : ℕ). get_or (codes ".office") k 0) (let k : at - length name ≡ 6 = omega arith in k) in
+    let long : length name + 7 ≡ length other + 4 =
+    sym (length-append name (codes ".office")) ∙ ap length same ∙ length-append other ending
+    ∙ ap (λ (k : ℕ). length other + k) four in
+    let there : get_or (other ++ ending) at 0 ≡ get_or ending 3 0 =
+    get_or-append_right other ending (length other) at 0 refl (omega (arith, long))
+    ∙ ap (λ (k : ℕ). get_or ending k 0) (let k : at - length other ≡ 3 = omega (arith, long) in k) in
+    differs (sym there ∙ ap (λ (n : List ℕ). get_or n at 0) (sym same) ∙ here)
+
+-- files that are all set are set up to some place
+set_whole : (old new : Option Files) (files : List (List ℕ × List ℕ)) → new ≡ with_files old files →
+    SetsSome old files new
+set_whole old new [] e = e
+set_whole old new (file ∷ files) e = inr (set_whole (with_file old file.0 file.1) new files e)
+
+module _ (IsDone : Command → Type 0) (words : List (List ℕ)) (command : Command) (old new : Outside) where
+  -- an answer of the command, whose files were set up to some place; with a status of its own, all of them
+  pub record IsSetBy (how : Status) : Type 0 where
+    pub answer : Answer
+    pub right : IsAnswerTo command old.store.files answer
+    pub sets : SetsSome old.store.files answer.files new.store.files
+    pub whole : how ≢ status.WriteFault →
+        (how ≡ answer.status) × (new.store.files ≡ with_files old.store.files answer.files)
+
+  -- nothing was written, or the answer's files were
+  abbrev pub IsSetOrNot : Status → Type 0
+  IsSetOrNot how = ((how ≢ status.Done) × (new.store.files ≡ old.store.files)) ⊎ IsSetBy how
+
+  -- the answer to the words is the command's
+  of_command : Means words command → (answer : Answer) → AnswersWords IsDone words old.store.files answer →
+      IsDone command → IsAnswerTo command old.store.files answer
+  of_command means answer (inl (other, done, means', is)) has =
+      let P : Command → Type 0 = λ c. IsAnswerTo c old.store.files answer in
+      subst P (same_command words other command means' means) is
+  of_command means answer (inr (bad, e)) has = absurd (bad (command, has, means))
+
+  -- what was done with the whole answer
+  answered : Means words command → IsDone command → (how : Status) → how ≢ status.WriteFault → (answer : Answer) →
+      AnswersWords IsDone words old.store.files answer → how ≡ answer.status → IsWritten answer old new →
+      IsSetOrNot how
+  answered means has how not_cut answer gives is written = inr (record {
+    answer = answer;
+    right = of_command means answer gives has;
+    sets = set_whole old.store.files new.store.files answer.files written.files;
+    whole = λ _. (is, written.files);
+  })
+
+  -- so it is with whatever was done
+  pub set_or_not : Means words command → IsDone command → (how : Status) → HasDone IsDone words (λ _ _. ⊤) old how new →
+      IsSetOrNot how
+  set_or_not means has status.ReadFault (risen, unwritten) = inl (λ e. cc, unwritten.files)
+  set_or_not means has status.Memory unwritten = inl (λ e. cc, unwritten.files)
+  set_or_not means has status.WriteFault (answer, gives, calls, cut) = inr (record {
+    answer = answer;
+    right = of_command means answer gives.answers has;
+    sets = cut.files;
+    whole = λ none. absurd (none refl);
+  })
+  set_or_not means has status.Done (answer, gives, is, calls, written) =
+      answered means has status.Done (λ e. cc) answer gives.answers is written
+  set_or_not means has status.Findings (answer, gives, is, calls, written) =
+      answered means has status.Findings (λ e. cc) answer gives.answers is written
+  set_or_not means has status.Unsettled (answer, gives, is, calls, written) =
+      answered means has status.Unsettled (λ e. cc) answer gives.answers is written
+  set_or_not means has status.Broken (answer, gives, is, calls, written) =
+      answered means has status.Broken (λ e. cc) answer gives.answers is written
+  set_or_not means has status.Usage (answer, gives, is, calls, written) =
+      answered means has status.Usage (λ e. cc) answer gives.answers is written
+  set_or_not means has status.Refused (answer, gives, is, calls, written) =
+      answered means has status.Refused (λ e. cc) answer gives.answers is written
+  set_or_not means has status.Absent (answer, gives, is, calls, written) =
+      answered means has status.Absent (λ e. cc) answer gives.answers is written
+  set_or_not means has status.Undone (answer, gives, is, calls, written) =
+      answered means has status.Undone (λ e. cc) answer gives.answers is written
+
+-- a refusal writes no file
+pub refusal_writes_none : (refusal : Refusal) → (refusal_answer refusal).files ≡ []
+refusal_writes_none (absent file) = refl
+refusal_writes_none (refused file place cause) = refl
+
+-- where no file is to be set, none is
+pub none_set : (before after : Files) (files : List (List ℕ × List ℕ)) → files ≡ [] →
+    SetsSome (Some before) files (Some after) → after ≡ before
+none_set before after files none sets =
+    let P : List (List ℕ × List ℕ) → Type 0 = λ fs. SetsSome (Some before) fs (Some after) in
+    let same : Some after ≡ Some before = subst P none sets in cc
+
+-- what is left where two files are to be set: neither was touched, the first is a prefix, or the first is whole and the
+-- second a prefix
+abbrev pub IsLeftOfTwo : Files → List ℕ → List ℕ → List ℕ → List ℕ → Files → Type 0
+IsLeftOfTwo before a x b y after =
+    (after ≡ before)
+    ⊎ ((n : ℕ) × (after ≡ file_set before a (take n x)))
+    ⊎ ((n : ℕ) × (after ≡ file_set (file_set before a x) b (take n y)))
+
+pub left_of_two : (before after : Files) (a x b y : List ℕ) →
+    SetsSome (Some before) ((a, x) ∷ (b, y) ∷ []) (Some after) → IsLeftOfTwo before a x b y after
+left_of_two before after a x b y (inl (inl e)) = inl (let same : after ≡ before = cc in same)
+left_of_two before after a x b y (inl (inr (n, e))) =
+    inr (inl (n, let same : after ≡ file_set before a (take n x) = cc in same))
+left_of_two before after a x b y (inr (inl (inl e))) =
+    let same : after ≡ file_set before a x = cc in
+    inr (inl (length x, same ∙ ap (file_set before a) (sym (take_all (length x) x (omega arith)))))
+left_of_two before after a x b y (inr (inl (inr (n, e)))) =
+    inr (inr (n, let same : after ≡ file_set (file_set before a x) b (take n y) = cc in same))
+left_of_two before after a x b y (inr (inr e)) =
+    let same : after ≡ file_set (file_set before a x) b y = cc in
+    inr (inr (length y, same ∙ ap (file_set (file_set before a x) b) (sym (take_all (length y) y (omega arith)))))
+
+-- a file that is neither is as it was
+pub left_elsewhere : (before after : Files) (a x b y other : List ℕ) → other ≢ a → other ≢ b →
+    IsLeftOfTwo before a x b y after → after other ≡ before other
+left_elsewhere before after a x b y other na nb (inl e) = ap (λ (f : Files). f other) e
+left_elsewhere before after a x b y other na nb (inr (inl (n, e))) =
+    ap (λ (f : Files). f other) e ∙ set_elsewhere before a (take n x) other na
+left_elsewhere before after a x b y other na nb (inr (inr (n, e))) =
+    ap (λ (f : Files). f other) e ∙ set_elsewhere (file_set before a x) b (take n y) other nb
+    ∙ set_elsewhere before a x other na

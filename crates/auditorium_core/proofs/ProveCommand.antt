@@ -1,0 +1,67 @@
+-- The command `prove`.
+use Rattle.std.proofs.Common.{◌≡◌, ◌≢◌, ◌∙◌, ℕ, List, [], ◌∷◌, Option, inl, inr, refl, sym, ap, arith}
+use Rattle.std.specs.Prelude.{Result, Ok, Err}
+use Rattle.std.specs.List.{Contains}
+use Rattle.std.proofs.lemmas.List.Elements.{All-from_recursion}
+use Rattle.hall_outside.specs.Files.{Files}
+use Rattle.evidence.specs.Refusal.{Refusal}
+use Rattle.auditorium_core.specs.declared.status.Status.{Status}
+use Rattle.auditorium_core.specs.declared.status.Status.TheVariants as status
+use Rattle.auditorium_core.specs.Lines.{Answer, refusal_answer}
+use Rattle.auditorium_core.specs.Prove.{ProofMade, GivesMade, IsProofOver, proof_answer, prove_parts}
+use Rattle.auditorium_core.specs.Words.{prove}
+use Rattle.auditorium_core.specs.Answer.{IsAnswerTo}
+use Rattle.auditorium_core.specs.Complete.{IsCarriedOut}
+use Rattle.auditorium_core.specs.inside.Checking.{GivesMadeIn}
+use Rattle.auditorium_core.proofs.CommandProofs.{IsOfCommands, HasStatuses, IsCompleted, HasOneAnswer, contains_as}
+use Rattle.auditorium_core.proofs.CommandProofs.{carried_out_as, of_read, status_is}
+use Rattle.auditorium_core.proofs.OneOrderAnswer.{OrderOne}
+use Rattle.auditorium_core.proofs.OneProof.{ProofOne, one_made}
+use Rattle.auditorium_core.proofs.SameOr.{same_or}
+
+-- over files it has one answer
+pub prove_one : OrderOne → ProofOne → (roster proof : List ℕ) (logs : List (List ℕ)) →
+    HasOneAnswer (prove_parts roster proof logs)
+prove_one order one roster proof logs files a b =
+    same_or (λ (m n : ProofMade). m ≡ n) (GivesMade roster proof logs files)
+    (λ (made : ProofMade) (given : Answer). given ≡ proof_answer proof made) a b
+    (one_made order one roster proof logs files)
+    (λ f g gives same x y. x ∙ ap (proof_answer proof) same ∙ sym y)
+
+-- it is carried out over what gives a proof
+pub prove_completed : OrderOne → ProofOne → (roster proof : List ℕ) (logs : List (List ℕ)) →
+    IsCompleted (prove_parts roster proof logs)
+prove_completed order one roster proof logs files answer (inl (refusal, gives, e)) (made, given) =
+    absurd (one_made order one roster proof logs files (Err refusal) (Ok made) gives given)
+prove_completed order one roster proof logs files answer (inr (other, gives, told)) (made, given) =
+    carried_out_as answer (proof_answer proof other) told tt
+
+-- its statuses
+abbrev own_statuses : List Status
+own_statuses = status.Done ∷ status.Refused ∷ status.Absent ∷ []
+
+pub prove_has_statuses : (roster proof : List ℕ) (logs : List (List ℕ)) → HasStatuses (prove_parts roster proof logs)
+prove_has_statuses roster proof logs = record {
+  own = λ files answer is.
+      of_read own_statuses (1, omega arith, refl) (2, omega arith, refl) (GivesMade roster proof logs files)
+      (λ (made : ProofMade) (given : Answer). given ≡ proof_answer proof made) answer
+      (λ made told. contains_as own_statuses answer (proof_answer proof made) told (0, omega arith, refl)) is;
+  some = All-from_recursion IsOfCommands own_statuses (tt, (tt, (tt, tt)));
+}
+
+module _ (roster proof : List ℕ) (logs : List (List ℕ)) (told : Option Files) where
+  -- a refusal is answered
+  pub prove_refused : (refusal : Refusal) → GivesMadeIn roster proof logs told (Err refusal) →
+      IsAnswerTo (prove roster proof logs) told (refusal_answer refusal)
+  prove_refused refusal (files, are, gives) = (files, are, inl (refusal, gives, refl))
+
+  -- and a proof
+  pub prove_told : (made : ProofMade) (answer : Answer) → GivesMadeIn roster proof logs told (Ok made) →
+      answer ≡ proof_answer proof made → IsAnswerTo (prove roster proof logs) told answer
+  prove_told made answer (files, are, gives) is = (files, are, inr (made, gives, is))
+
+-- its status isn't that of an absent file
+pub prove_is_there : (proof : List ℕ) (made : ProofMade) (answer : Answer) → answer ≡ proof_answer proof made →
+    answer.status ≢ status.Absent
+prove_is_there proof made answer told is =
+    let no : status.Done ≡ status.Absent = sym (status_is answer (proof_answer proof made) told) ∙ is in cc

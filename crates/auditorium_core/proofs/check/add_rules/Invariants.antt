@@ -1,0 +1,11 @@
+use Rattle.std.proofs.Common.{◌≡◌, ◌++◌, string_bytes, map, take}
+use Rattle.std.specs.List.{flat_map, zip}
+use Rattle.rule_language.specs.Forms.{rule_tree}
+use Rattle.auditorium_core.specs.Check.{checked_line}
+use Rattle.auditorium_core.proofs.check.add_rules.Given as goal
+
+-- the lines of the rules so far
+abbrev pub invariant-loop-i : goal.invariant-loop-i
+invariant-loop-i l =
+    string_bytes l.lines
+    ≡ string_bytes l.fn.lines ++ flat_map checked_line (take l.i (zip (map rule_tree l.rules) l.verdicts))

@@ -1,0 +1,30 @@
+use Rattle.std.proofs.Common.{map}
+use Rattle.rule_language.specs.Forms.{rule_tree}
+use Rattle.evidence.specs.Graphs.{entries_of}
+use Rattle.auditor.proofs.Makers.{survivors_have_makers}
+use Rattle.auditorium_core.specs.Outside.{seen}
+use Rattle.auditorium_core.specs.Audit.{source_named}
+use Rattle.auditorium_core.proofs.CheckAnswers.{graph_checked, graph_refused}
+use Rattle.auditorium_core.proofs.check.check_logs.Goals as goal
+
+pub check_graph-requires-clause-kept : goal.check_graph-requires-clause-kept
+check_graph-requires-clause-kept g c = c.in-Ok.ensures.ok.2.kept
+
+pub check_graph-requires-clause-makers : goal.check_graph-requires-clause-makers
+check_graph-requires-clause-makers g c =
+    survivors_have_makers c.args.roster.machines (entries_of c.args.logs.items) c.in-Ok.graph c.requires.makers
+    c.in-Ok.ensures.ok
+
+pub returns-in-Ok : goal.returns-in-Ok
+returns-in-Ok g c =
+    let store = g.S.Store in
+    graph_checked c.args.roster.machines (source_named c.args.word.now) (map rule_tree c.args.rules.items)
+    c.args.proof.now c.args.logs.items c.in-Ok.graph (seen store c.args.store.now)
+    (seen store c.check_graph.new.store) c.check_graph.result c.in-Ok.ensures.ok c.check_graph.ensures
+
+pub returns-in-Err : goal.returns-in-Err
+returns-in-Err g c =
+    let store = g.S.Store in
+    graph_refused c.args.roster.machines (source_named c.args.word.now) (map rule_tree c.args.rules.items)
+    c.args.proof.now c.args.logs.items (seen store c.args.store.now) c.in-Err.fault c.in-Err.ensures.err
+    (λ e. c.in-Err.ensures.no_read (let same = e in cc))

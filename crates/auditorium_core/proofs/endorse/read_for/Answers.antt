@@ -1,0 +1,20 @@
+use Rattle.std.proofs.Common.{[], refl}
+use Rattle.auditorium_core.specs.NamedBytes.{AtLast, GivesBytes, max_signed}
+use Rattle.auditorium_core.specs.Outside.{seen}
+use Rattle.auditorium_core.specs.inside.Endorsing.{unsigned_of}
+use Rattle.auditorium_core.proofs.FileSteps.{file_ends, file_last}
+use Rattle.auditorium_core.proofs.endorse.read_for.Goals as goal
+
+pub returns-in-Ok : goal.returns-in-Ok
+returns-in-Ok g c =
+    let store = g.S.Store in
+    file_last (λ bytes. bytes.items) (GivesBytes max_signed c.args.file.now) c.args.file.now unsigned_of
+    (λ bytes. record { office = c.args.office; bytes = bytes }) (seen store c.args.store.now)
+    (seen store c.read_bytes.new.store) c.in-Ok.bytes _ refl c.in-Ok.ensures
+
+pub returns-in-Err : goal.returns-in-Err
+returns-in-Err g c =
+    let store = g.S.Store in
+    file_ends (λ bytes. bytes.items) (GivesBytes max_signed c.args.file.now) c.args.file.now unsigned_of
+    (λ bytes. AtLast (record { office = c.args.office; bytes = bytes })) [] (seen store c.args.store.now)
+    (seen store c.read_bytes.new.store) c.in-Err.fault c.in-Err.ensures

@@ -1,0 +1,40 @@
+use Rattle.std.proofs.Common.{List, ℕ, [], ◌∷◌, subst}
+use Rattle.std.specs.Prelude.{Ok, Err}
+use Rattle.hall_outside.specs.Files.{OnSomeFile}
+use Rattle.office_key.specs.declared.office.Office.{Office}
+use Rattle.evidence.specs.Reading.{IsReadFrom}
+use Rattle.auditorium_core.specs.NamedBytes.{AtLast, FileThen, GivesBytes, max_signed}
+use Rattle.auditorium_core.specs.OfficeFile.{GivesOffice, office_file}
+use Rattle.auditorium_core.specs.Outside.{seen}
+use Rattle.auditorium_core.specs.inside.Endorsing.{unsigned_of}
+use Rattle.auditorium_core.proofs.FileSteps.{file_ends, file_joins}
+use Rattle.auditorium_core.proofs.endorse.read_to_sign.Goals as goal
+
+pub returns-in-Ok : goal.returns-in-Ok
+returns-in-Ok g c =
+    let store = g.S.Store in
+    let old = seen store c.args.store.now in
+    let mid = seen store c.read_office_file.new.store in
+    let file = c.args.file.now in
+    let P : List ℕ → Type 0 = λ n. IsReadFrom (λ (office : Office). office)
+    (λ told answer. OnSomeFile told n (λ this. GivesOffice n this answer)) old (Ok c.in-Ok.found) mid in
+    file_joins (λ (office : Office). office) (GivesOffice (office_file c.args.name.now)) (office_file c.args.name.now)
+    unsigned_of
+    (λ (office : Office). FileThen (GivesBytes max_signed file)
+    (λ bytes. AtLast (record { office = office; bytes = bytes }))) (file ∷ []) old mid
+    (seen store c.read_for.new.store) c.in-Ok.found c.read_for.result (subst P c.requires c.in-Ok.ensures)
+    c.read_for.ensures
+
+pub returns-in-Err : goal.returns-in-Err
+returns-in-Err g c =
+    let store = g.S.Store in
+    let old = seen store c.args.store.now in
+    let new = seen store c.read_office_file.new.store in
+    let file = c.args.file.now in
+    let P : List ℕ → Type 0 = λ n. IsReadFrom (λ (office : Office). office)
+    (λ told answer. OnSomeFile told n (λ this. GivesOffice n this answer)) old (Err c.in-Err.fault) new in
+    file_ends (λ (office : Office). office) (GivesOffice (office_file c.args.name.now)) (office_file c.args.name.now)
+    unsigned_of
+    (λ (office : Office). FileThen (GivesBytes max_signed file)
+    (λ bytes. AtLast (record { office = office; bytes = bytes }))) (file ∷ []) old new c.in-Err.fault
+    (subst P c.requires c.in-Err.ensures)

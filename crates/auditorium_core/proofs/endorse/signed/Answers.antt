@@ -1,0 +1,14 @@
+use Rattle.std.proofs.Common.{◌≡◌, rules}
+use Rattle.auditorium_core.specs.Endorse.{endorse_answer}
+use Rattle.auditorium_core.specs.inside.Endorsing.{unsigned_of}
+use Rattle.auditorium_core.proofs.endorse.signed.Goals as goal
+
+pub returns : goal.returns
+returns c =
+    let name = c.args.name.now in
+    let read = c.args.read.now in
+    let told : c.of_files.result ≡ endorse_answer name c.args.file.now (unsigned_of read) = search rules in
+    record {
+      good = c.endorsements_are_good.ensures name read.bytes.items read.office c.requires.left;
+      told = told;
+    }

@@ -1,0 +1,20 @@
+use Rattle.std.proofs.Common.{[], refl}
+use Rattle.auditorium_core.specs.NamedBytes.{AtLast, GivesBytes, max_small}
+use Rattle.auditorium_core.specs.Outside.{seen}
+use Rattle.auditorium_core.specs.inside.Endorsing.{signed_of}
+use Rattle.auditorium_core.proofs.FileSteps.{file_ends, file_last}
+use Rattle.auditorium_core.proofs.endorsed.read_signature.Goals as goal
+
+pub returns-in-Ok : goal.returns-in-Ok
+returns-in-Ok g c =
+    let store = g.S.Store in
+    file_last (λ bytes. bytes.items) (GivesBytes max_small c.args.signature.now) c.args.signature.now signed_of
+    (λ s. record { key = c.args.key.items; bytes = c.args.bytes.items; signature = s }) (seen store c.args.store.now)
+    (seen store c.read_bytes.new.store) c.in-Ok.signature _ refl c.in-Ok.ensures
+
+pub returns-in-Err : goal.returns-in-Err
+returns-in-Err g c =
+    let store = g.S.Store in
+    file_ends (λ bytes. bytes.items) (GivesBytes max_small c.args.signature.now) c.args.signature.now signed_of
+    (λ s. AtLast (record { key = c.args.key.items; bytes = c.args.bytes.items; signature = s })) []
+    (seen store c.args.store.now) (seen store c.read_bytes.new.store) c.in-Err.fault c.in-Err.ensures

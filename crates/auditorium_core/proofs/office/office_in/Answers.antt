@@ -1,0 +1,41 @@
+use Rattle.std.proofs.Common.{◌≡◌, ◌∙◌, List, ℕ, true, false, ap, sym, subst, rules}
+use Rattle.std.specs.Prelude.{codes}
+use Rattle.hall_outside.specs.Files.{OnFile}
+use Rattle.auditorium_core.specs.Lines.{refused_answer}
+use Rattle.auditorium_core.specs.OfficeFile.{office_file}
+use Rattle.auditorium_core.specs.Outside.{seen}
+use Rattle.auditorium_core.specs.inside.Presence.{IsThere}
+use Rattle.auditorium_core.proofs.OfficeCommand.{answer_by, office_answered}
+use Rattle.auditorium_core.proofs.office.office_in.Goals as goal
+
+pub returns-in_ok-refused-in-Ok-true : goal.returns-in_ok-refused-in-Ok-true
+returns-in_ok-refused-in-Ok-true g c =
+    let store = g.S.Store in
+    let old = c.args.store.now in
+    let name = c.args.name.now in
+    let there = c.in-Ok-true.field-0 in
+    let given = c.in-Ok-true.ensures in
+    let is : there ≡ true = search rules in
+    let file : c.as_str.result.now ≡ office_file name = search rules in
+    let again : c.as_str-in-Ok-true.result.now ≡ office_file name = search rules in
+    office_answered name c.args.seed there c.in_ok-refused-in-Ok-true.field-0 (seen store old)
+    (seen store c.is_there.new.store)
+    (subst (λ (n : List ℕ). OnFile (store.files old) n (IsThere there)) file given.there) given.absent
+    given.read_fault.never_falls given.files given.write_faults
+    (c.in_ok-refused-in-Ok-true.ensures ∙ ap (λ (n : List ℕ). refused_answer n 0 (codes "Exists")) again
+    ∙ ap (answer_by name c.args.seed) (sym is))
+
+pub returns-in_ok-made_of-in-Ok-false : goal.returns-in_ok-made_of-in-Ok-false
+returns-in_ok-made_of-in-Ok-false g c =
+    let store = g.S.Store in
+    let old = c.args.store.now in
+    let name = c.args.name.now in
+    let there = c.in-Ok-false.field-0 in
+    let given = c.in-Ok-false.ensures in
+    let is : there ≡ false = search rules in
+    let file : c.as_str.result.now ≡ office_file name = search rules in
+    office_answered name c.args.seed there c.in_ok-made_of-in-Ok-false.field-0 (seen store old)
+    (seen store c.is_there.new.store)
+    (subst (λ (n : List ℕ). OnFile (store.files old) n (IsThere there)) file given.there) given.absent
+    given.read_fault.never_falls given.files given.write_faults
+    (c.in_ok-made_of-in-Ok-false.ensures ∙ ap (answer_by name c.args.seed) (sym is))

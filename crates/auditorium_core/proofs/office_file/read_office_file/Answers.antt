@@ -1,0 +1,38 @@
+use Rattle.std.proofs.Common.{refl}
+use Rattle.office_key.specs.declared.office.Office.{Office}
+use Rattle.evidence.proofs.FilesRead.{was_read, not_read}
+use Rattle.auditorium_core.specs.NamedBytes.{max_small}
+use Rattle.auditorium_core.specs.OfficeFile.{GivesOffice}
+use Rattle.auditorium_core.specs.Outside.{seen}
+use Rattle.auditorium_core.proofs.EndorseCommand.{long_office}
+use Rattle.auditorium_core.proofs.office_file.read_office_file.Goals as goal
+
+pub returns-in-Ok : goal.returns-in-Ok
+returns-in-Ok g c =
+    let store = g.S.Store in
+    let given = c.in-Ok.ensures in
+    was_read (λ (office : Office). office) (GivesOffice c.args.file.now) c.args.file.now (seen store c.args.store.now)
+    (seen store c.read_file.new.store) c.in-Ok.bytes.items c.office_of.result given.ok.whole
+    (rw (← c.as_slice.ensures.value) c.office_of.ensures.ok)
+    (rw (← c.as_slice.ensures.value) c.office_of.ensures.err) c.office_of.ensures.only
+    (λ more. let no = given.absent.always more in cc)
+    (record {
+      absences = given.absences;
+      read_faults = given.read_fault.never_falls;
+      files = given.unchanged.0;
+      write_faults = given.unchanged.1;
+    })
+
+pub returns-in-Err : goal.returns-in-Err
+returns-in-Err g c =
+    let store = g.S.Store in
+    let given = c.in-Err.ensures in
+    not_read (λ (office : Office). office) (GivesOffice c.args.file.now) c.args.file.now (seen store c.args.store.now)
+    (seen store c.read_file.new.store) max_small c.in-Err.fault c.file_fault.result refl (long_office c.args.file.now)
+    c.file_fault.ensures given.err given.absent given.read_fault
+    (record {
+      absences = given.absences;
+      read_faults = given.read_fault.never_falls;
+      files = given.unchanged.0;
+      write_faults = given.unchanged.1;
+    })

@@ -1,0 +1,42 @@
+use Rattle.std.proofs.Common.{List, refl}
+use Rattle.audit_proof.specs.Lines.{Line}
+use Rattle.evidence.proofs.FilesRead.{was_read, not_read}
+use Rattle.auditor.specs.Judged.{nodes_of}
+use Rattle.auditorium_core.specs.Outside.{seen}
+use Rattle.auditorium_core.specs.ProofFile.{max_proof, GivesProof}
+use Rattle.auditorium_core.proofs.CheckAnswers.{long_proof}
+use Rattle.auditorium_core.proofs.proof_file.read_proof_file.Goals as goal
+
+pub returns-in-Ok : goal.returns-in-Ok
+returns-in-Ok g c =
+    let store = g.S.Store in
+    let before = seen store c.args.store.now in
+    let after = seen store c.read_file.new.store in
+    let given = c.in-Ok.ensures in
+    was_read (λ (lines : List Line). lines) (GivesProof c.args.name.now (nodes_of c.args.graph.now)) c.args.name.now before
+    after c.in-Ok.bytes.items c.proof_of.result given.ok.whole
+    (rw (← c.as_slice.ensures.value) c.proof_of.ensures.ok)
+    (rw (← c.as_slice.ensures.value) c.proof_of.ensures.err) c.proof_of.ensures.only
+    (λ more. let no = given.absent.always more in cc)
+    (record {
+      absences = given.absences;
+      read_faults = given.read_fault.never_falls;
+      files = given.unchanged.0;
+      write_faults = given.unchanged.1;
+    })
+
+pub returns-in-Err : goal.returns-in-Err
+returns-in-Err g c =
+    let store = g.S.Store in
+    let before = seen store c.args.store.now in
+    let after = seen store c.read_file.new.store in
+    let given = c.in-Err.ensures in
+    not_read (λ (lines : List Line). lines) (GivesProof c.args.name.now (nodes_of c.args.graph.now)) c.args.name.now before
+    after max_proof c.in-Err.fault c.file_fault.result refl (long_proof c.args.name.now (nodes_of c.args.graph.now))
+    c.file_fault.ensures given.err given.absent given.read_fault
+    (record {
+      absences = given.absences;
+      read_faults = given.read_fault.never_falls;
+      files = given.unchanged.0;
+      write_faults = given.unchanged.1;
+    })

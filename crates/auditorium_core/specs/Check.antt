@@ -1,0 +1,201 @@
+-- The command `check`.
+use Rattle.std.specs.Prelude.{◌≡◌, ℕ, List, [], ◌∷◌, ◌++◌, map, length, codes, Option}
+use Rattle.std.specs.Prelude.{Result, Ok, Err, Bool, true, false, if◌then◌else◌}
+use Rattle.std.specs.List.{AllZip, flat_map, list_any, zip}
+use Rattle.precedence.specs.Graph.{Graph}
+use Rattle.roster.specs.declared.post.Post.{Post}
+use Rattle.entry_format.specs.SealedEntry.{SealedEntry}
+use Rattle.entry_format.specs.Nodes.{node_of}
+use Rattle.entry_format.specs.declared.plain.Plain.{Plain}
+use Rattle.entry_format.specs.Plains.{plains}
+use Rattle.entry_order.specs.Completion.{Completion}
+use Rattle.log_files.specs.declared.sealed_log.LogRead.{LogRead}
+use Rattle.entry_graph.specs.EntryGraph.{EntryGraph}
+use Rattle.rule_language.specs.declared.row.Row.{Row}
+use Rattle.rule_language.specs.Standard.{standard_rules}
+use Rattle.rule_language.specs.Trees.{RuleTree}
+use Rattle.rule_meaning.specs.Meaning.{Holds}
+use Rattle.audit_proof.specs.declared.fault.Verdict.{Verdict}
+use Rattle.audit_proof.specs.declared.fault.Verdict.TheVariants.{Kept, Broken, Unsettled}
+use Rattle.audit_proof.specs.Answers.{IsCheckAnswer}
+use Rattle.audit_proof.specs.Lines.{Line}
+use Rattle.evidence.specs.declared.roster_file.RosterRead.{RosterRead}
+use Rattle.evidence.specs.Refusal.{Refusal, refused}
+use Rattle.evidence.specs.RosterFile.{GivesRoster}
+use Rattle.evidence.specs.Logs.{GivesLogs}
+use Rattle.evidence.specs.Graphs.{entries_of, GivesGraph}
+use Rattle.auditor.specs.Rows.{row_of, row_said}
+use Rattle.auditor.specs.Judged.{nodes_of, IsFirstTooWide}
+use Rattle.auditor.specs.Audits.{AndThen}
+use Rattle.auditor.specs.Sources.{RuleSource, standard, in_file, source_word, rule_files, GivesRules}
+use Rattle.report_lines.specs.Lines.{line}
+use Rattle.auditorium_core.specs.declared.status.Status.{Status}
+use Rattle.auditorium_core.specs.declared.status.Status.TheVariants as status
+use Rattle.auditorium_core.specs.Lines.{Answer, OrRefused}
+use Rattle.auditorium_core.specs.WordForms.{AreLogs}
+use Rattle.auditorium_core.specs.Audit.{source_named}
+use Rattle.auditorium_core.specs.ProofFile.{GivesProof}
+use Rattle.auditorium_core.specs.CommandParts.{CommandParts}
+
+-- the machines, the survivors of the entries that the logs keep, and the rules with their verdicts
+pub record CheckReport : Type 0 where
+  pub machines : List Post
+  pub survivors : List SealedEntry
+  pub rules : List RuleTree
+  pub verdicts : List Verdict
+
+-- one verdict for each rule, by the lines of a proof
+abbrev pub AreChecked : List Row → Graph → List Line → List RuleTree → List Verdict → Type 0
+AreChecked rows graph lines =
+    AllZip (λ rule verdict. IsCheckAnswer rows graph.ragged lines rule.body (Ok verdict))
+
+-- what rules give by a proof: a verdict for each, or the refusal of the first that is too wide
+abbrev pub GivesChecked : RuleSource → List Row → Graph → List Line → List RuleTree →
+    Result (List Verdict) Refusal → Type 0
+GivesChecked source rows graph lines rules (Ok verdicts) =
+    AreChecked rows graph lines rules verdicts
+GivesChecked source rows graph lines rules (Err refusal) =
+    (place : ℕ) × IsFirstTooWide rows rules place
+    × (refusal ≡ refused (source_word source) place (codes "TooWide"))
+
+-- what the lines of a proof give with the machines, the rules and the graph
+abbrev pub ChecksLines : List Post → RuleSource → List RuleTree → EntryGraph SealedEntry → List Line →
+    Result CheckReport Refusal → Type 0
+ChecksLines machines source rules graph lines =
+    AndThen
+    (GivesChecked source (map (row_of machines) graph.survivors) (nodes_of graph) lines rules)
+    (λ verdicts answer. answer ≡ Ok (record {
+      machines = machines;
+      survivors = graph.survivors;
+      rules = rules;
+      verdicts = verdicts;
+    }))
+
+-- what a proof's file gives with the graph that it is for: its lines, and what they give
+abbrev pub ChecksProof : List Post → RuleSource → List RuleTree → List ℕ → Option (List ℕ) →
+    EntryGraph SealedEntry → Result CheckReport Refusal → Type 0
+ChecksProof machines source rules proof file graph =
+    AndThen (GivesProof proof (nodes_of graph) file) (ChecksLines machines source rules graph)
+
+-- what logs and a proof's file give: the logs' graph, and what the file gives with it
+abbrev pub ChecksLogs : List Post → RuleSource → List RuleTree → List ℕ → Option (List ℕ) →
+    List LogRead → Result CheckReport Refusal → Type 0
+ChecksLogs machines source rules proof file logs =
+    AndThen (GivesGraph (entries_of logs)) (ChecksProof machines source rules proof file)
+
+-- what the files of logs and a proof's file, the last, give with the roster and the rules
+abbrev pub ChecksFiles : RosterRead → RuleSource → List RuleTree → List ℕ → List (List ℕ) →
+    List (Option (List ℕ)) → Result CheckReport Refusal → Type 0
+ChecksFiles read source rules proof names files answer =
+    (of_logs : List (Option (List ℕ))) × (last : Option (List ℕ)) × (files ≡ of_logs ++ last ∷ [])
+    × AndThen (GivesLogs read.roster.machines read.election names of_logs)
+    (ChecksLogs read.roster.machines source rules proof last) answer
+
+-- what the file of the rules, if there is one, gives with the roster and the other files
+abbrev pub ChecksRules : RosterRead → RuleSource → List ℕ → List (List ℕ) → List (Option (List ℕ)) →
+    Result CheckReport Refusal → Type 0
+ChecksRules read standard proof names files =
+    ChecksFiles read standard standard_rules proof names files
+ChecksRules read (in_file name) proof names (file ∷ files) =
+    AndThen (GivesRules name file)
+    (λ rules. ChecksFiles read (in_file name) rules proof names files)
+ChecksRules read (in_file name) proof names [] = λ answer. ⊥
+
+-- the files that a check reads, in order
+abbrev pub check_files : List ℕ → RuleSource → List ℕ → List (List ℕ) → List (List ℕ)
+check_files roster source proof logs = roster ∷ (rule_files source ++ (logs ++ proof ∷ []))
+
+-- what they give
+abbrev pub GivesCheck : List ℕ → RuleSource → List ℕ → List (List ℕ) → List (Option (List ℕ)) →
+    Result CheckReport Refusal → Type 0
+GivesCheck roster source proof logs (file ∷ files) =
+    AndThen (GivesRoster roster file)
+    (λ (read : RosterRead). ChecksRules read source proof logs files)
+GivesCheck roster source proof logs [] = λ answer. ⊥
+
+-- whether a rule is broken, and whether one is unsettled
+abbrev pub says_broken : Verdict → Bool
+says_broken Broken = true
+says_broken other = false
+
+abbrev pub says_unsettled : Verdict → Bool
+says_unsettled Unsettled = true
+says_unsettled other = false
+
+-- the verdict on all: broken where some rule is, else unsettled where some is
+abbrev pub verdict_on_all : List Verdict → Verdict
+verdict_on_all verdicts =
+    if list_any says_broken verdicts then Broken
+    else if list_any says_unsettled verdicts then Unsettled else Kept
+
+-- its status
+abbrev pub checked_status : Verdict → Status
+checked_status Kept = status.Done
+checked_status Broken = status.Broken
+checked_status Unsettled = status.Unsettled
+
+-- its word
+abbrev pub checked_word : Verdict → List ℕ
+checked_word Kept = codes "kept"
+checked_word Broken = codes "broken"
+checked_word Unsettled = codes "unsettled"
+
+-- the line of a rule with its verdict
+abbrev pub checked_line : RuleTree × Verdict → List ℕ
+checked_line checked = line (checked_word checked.1 ++ codes " " ++ checked.0.name)
+
+-- a line for each rule, and one for all
+abbrev pub checked_text : List RuleTree → List Verdict → List ℕ
+checked_text rules verdicts =
+    flat_map checked_line (zip rules verdicts)
+    ++ line (codes "verdict " ++ checked_word (verdict_on_all verdicts))
+
+-- the answer of rules with their verdicts
+abbrev pub check_answer : List RuleTree → List Verdict → Answer
+check_answer rules verdicts = record {
+  status = checked_status (verdict_on_all verdicts);
+  files = [];
+  output = checked_text rules verdicts;
+}
+
+-- entries with such digests may be all that there was: they complete the survivors
+abbrev pub MayBeAll : CheckReport → List Plain → Type 0
+MayBeAll report G = Completion node_of (length report.machines) (plains report.survivors) G
+
+-- the rule holds of the survivors if these were all that there was, of which nothing is known but
+-- what they say
+abbrev pub HoldsAmong : CheckReport → List Plain → RuleTree → Type 0
+HoldsAmong report G rule =
+    Holds node_of (λ (plain : Plain). row_said report.machines plain.entry)
+    (plains report.survivors) G rule.body
+
+-- The answer is that of the report. Whoever made the proof, a rule that is called kept holds
+-- whatever was lost, and one that is called broken holds in no case. There is such a case.
+pub record IsCheckOf (report : CheckReport) (answer : Answer) : Type 0 where
+  pub kept : AllZip
+      (λ rule is. is ≡ Kept → (G : List Plain) → MayBeAll report G → HoldsAmong report G rule)
+      report.rules report.verdicts
+  pub broken : AllZip
+      (λ rule is. is ≡ Broken → (G : List Plain) → MayBeAll report G → ¬ HoldsAmong report G rule)
+      report.rules report.verdicts
+  pub some : (G : List Plain) × MayBeAll report G
+  pub told : answer ≡ check_answer report.rules report.verdicts
+
+-- the answer for these files, or the first refusal
+abbrev pub IsCheckOver : List ℕ → List ℕ → List ℕ → List (List ℕ) → List (Option (List ℕ)) → Answer →
+    Type 0
+IsCheckOver roster rules proof logs files answer =
+    OrRefused (GivesCheck roster (source_named rules) proof logs files) IsCheckOf answer
+
+-- `check ROSTER RULES PROOF LOG..`; the word `standard` names rules that no file has
+abbrev pub check_parts : List ℕ → List ℕ → List ℕ → List (List ℕ) → CommandParts
+check_parts roster rules proof logs = record {
+  words = codes "check" ∷ roster ∷ rules ∷ proof ∷ logs;
+  IsAllowed = AreLogs logs;
+  files = check_files roster (source_named rules) proof logs;
+  IsAnswer = IsCheckOver roster rules proof logs;
+  AreAccepted = λ files. (report : CheckReport)
+      × GivesCheck roster (source_named rules) proof logs files (Ok report);
+  statuses = status.Done ∷ status.Unsettled ∷ status.Broken ∷ status.Refused ∷ status.Absent ∷ [];
+  absence = status.Absent;
+}

@@ -1,0 +1,33 @@
+-- What a check by the proof that `prove` writes has in common with an audit.
+use Rattle.std.specs.Prelude.{◌≡◌, ℕ, List, [], ◌∷◌, ◌++◌, map, Option, Some, Ok}
+use Rattle.rule_engine.specs.declared.verdict.Verdict.{Verdict as AuditVerdict}
+use Rattle.rule_engine.specs.declared.verdict.Verdict.TheVariants as audited
+use Rattle.audit_proof.specs.declared.fault.Verdict.{Verdict}
+use Rattle.audit_proof.specs.declared.fault.Verdict.TheVariants.{Kept, Broken, Unsettled}
+use Rattle.auditor.specs.Audits.{GivesReport}
+use Rattle.auditor.specs.Report.{AuditReport}
+use Rattle.honest_reports.specs.Places.{files_read}
+use Rattle.auditorium_core.specs.Lines.{Answer}
+use Rattle.auditorium_core.specs.Audit.{source_named}
+use Rattle.auditorium_core.specs.Prove.{IsProofOver}
+use Rattle.auditorium_core.specs.Check.{IsCheckOver, check_answer}
+
+-- what an audit answers of a rule, without the entries by which it is broken
+abbrev pub without_entries : AuditVerdict → Verdict
+without_entries audited.Kept = Kept
+without_entries (audited.Broken places) = Broken
+without_entries audited.Unsettled = Unsettled
+
+-- The proof's file holds what `prove` writes for the same roster and logs, and the files give an
+-- audit a report. Then `check` answers with the verdicts of that report, rule for rule.
+abbrev pub ChecksAgreeWithAudits : Type 0
+ChecksAgreeWithAudits =
+    (roster rules proof : List ℕ) (logs : List (List ℕ)) (roster_file rules_file : Option (List ℕ))
+    (log_files : List (Option (List ℕ))) (text : List ℕ) (proved checked : Answer)
+    (report : AuditReport) → IsProofOver roster proof logs (roster_file ∷ log_files) proved →
+    proved.files ≡ (proof, text) ∷ [] →
+    GivesReport roster (source_named rules) logs
+    (files_read roster_file (source_named rules) rules_file log_files) (Ok report) →
+    IsCheckOver roster rules proof logs
+    (files_read roster_file (source_named rules) rules_file (log_files ++ Some text ∷ [])) checked →
+    checked ≡ check_answer report.rules (map without_entries report.verdicts)

@@ -1,0 +1,101 @@
+-- What calls of the program leave of an office's file and of its signatures, on a store that tells its files.
+use Rattle.std.specs.Prelude.{◌≡◌, ◌≢◌, ◌⊎◌, ℕ, ◌<◌, List, [], ◌∷◌, length, take, Option, Some, Ok, IsSomeAnd, ⊤}
+use Rattle.std.specs.List.{AllPairs}
+use Rattle.hall_outside.specs.Files.{Files, file_set}
+use Rattle.office_key.specs.declared.office.Office.{Office}
+use Rattle.office_key.specs.Endorsements.{endorsement}
+use Rattle.office_key.specs.Offices.{IsOffice, office_text, next_office}
+use Rattle.auditorium_core.specs.declared.status.Status.{Status}
+use Rattle.auditorium_core.specs.Endorse.{GivesUnsigned, Unsigned, signature_file}
+use Rattle.auditorium_core.specs.OfficeFile.{office_file}
+use Rattle.auditorium_core.specs.Outcome.{HasDone}
+use Rattle.auditorium_core.specs.Outside.{Outside}
+use Rattle.auditorium_core.specs.Words.{Command, Means, endorse, endorsed, office}
+
+-- the office's file among these is the text of this office
+abbrev pub IsOfficeIn : Files → List ℕ → Office → Type 0
+IsOfficeIn files name of = IsSomeAnd (files (office_file name)) (λ bytes. IsOffice bytes of)
+
+-- `endorse` reads this in these files
+abbrev pub ReadsUnsigned : Files → List ℕ → List ℕ → Unsigned → Type 0
+ReadsUnsigned files name file read =
+    GivesUnsigned name file (files (office_file name) ∷ files file ∷ []) (Ok read)
+
+-- the office's file is a proper prefix of its next text, which is no office's, and nothing else changed
+pub record IsCutOff (name : List ℕ) (of : Office) (before after : Files) : Type 0 where
+  pub n : ℕ
+  pub proper : n < length (office_text (next_office of))
+  pub left : after ≡ file_set before (office_file name) (take n (office_text (next_office of)))
+  pub refused : (other : Office) → ¬ IsOfficeIn after name other
+
+-- the files with the office's next number in its file
+abbrev pub with_next : Files → List ℕ → Office → Files
+with_next before name of = file_set before (office_file name) (office_text (next_office of))
+
+-- the office's file has the next number, the signature's file is as before or a prefix of the signature, and nothing
+-- else changed
+pub record IsUsedUp (name file : List ℕ) (read : Unsigned) (before after : Files) : Type 0 where
+  pub next : IsOfficeIn after name (next_office read.office)
+  pub left : (after ≡ with_next before name read.office)
+      ⊎ ((n : ℕ) × (after ≡ file_set (with_next before name read.office) (signature_file file)
+      (take n (endorsement name read.office read.bytes))))
+
+-- the three states in which a call of `endorse` may leave the files: as they were, or one of those above
+abbrev pub IsLeftSo : List ℕ → List ℕ → Files → Files → Type 0
+IsLeftSo name file before after =
+    (after ≡ before)
+    ⊎ ((read : Unsigned) × ReadsUnsigned before name file read
+    × (IsCutOff name read.office before after ⊎ IsUsedUp name file read before after))
+
+-- the signature's file differs from before only where the office's file has the next number
+abbrev pub IsSignedByNumber : List ℕ → List ℕ → Files → Files → Type 0
+IsSignedByNumber name file before after =
+    after (signature_file file) ≢ before (signature_file file) →
+    (read : Unsigned) × ReadsUnsigned before name file read × IsOfficeIn after name (next_office read.office)
+
+-- a call of the program on a store that tells its files
+pub record Call : Type 0 where
+  pub words : List (List ℕ)
+  pub before : Files
+  pub how : Status
+  pub after : Files
+
+-- it does what the program does, where these are its commands
+pub record IsCall (IsDone : Command → Type 0) (call : Call) : Type 0 where
+  pub old : Outside
+  pub new : Outside
+  pub told : old.store.files ≡ Some call.before
+  pub left : new.store.files ≡ Some call.after
+  pub done : HasDone IsDone call.words (λ _ _. ⊤) old call.how new
+
+-- the words are those of `office`, `endorse` or `endorsed`
+abbrev pub AreOfOffices : List (List ℕ) → Type 0
+AreOfOffices words =
+    ((name seed : List ℕ) × Means words (office name seed))
+    ⊎ ((name file : List ℕ) × Means words (endorse name file))
+    ⊎ ((key file signature : List ℕ) × Means words (endorsed key file signature))
+
+-- a call of one of these, or what leaves the office's file
+abbrev pub IsCallOrOther : (Command → Type 0) → List ℕ → Call → Type 0
+IsCallOrOther IsDone name call =
+    (IsCall IsDone call × AreOfOffices call.words)
+    ⊎ (call.after (office_file name) ≡ call.before (office_file name))
+
+-- such calls one after another, the first of which finds these files
+abbrev pub AreCallsOn : (Command → Type 0) → List ℕ → Files → List Call → Type 0
+AreCallsOn IsDone name files [] = ⊤
+AreCallsOn IsDone name files (call ∷ calls) =
+    (call.before ≡ files) × IsCallOrOther IsDone name call × AreCallsOn IsDone name call.after calls
+
+-- the call used the number that the office has in what it read, for these bytes
+pub record UsesNumber (name : List ℕ) (call : Call) (read : Unsigned) : Type 0 where
+  pub file : List ℕ
+  pub means : Means call.words (endorse name file)
+  pub read_so : ReadsUnsigned call.before name file read
+  pub next : IsOfficeIn call.after name (next_office read.office)
+
+-- the numbers that calls use rise, so that each is used once
+abbrev pub NumbersRise : List ℕ → List Call → Type 0
+NumbersRise name calls =
+    AllPairs (λ first second. (read again : Unsigned) → UsesNumber name first read → UsesNumber name second again →
+    read.office.next < again.office.next) calls

@@ -1,0 +1,15 @@
+-- What was read for a signature and for its verification, without the room of its vectors.
+use Rattle.auditorium_core.specs.declared.endorse.ToSign.{ToSign}
+use Rattle.auditorium_core.specs.declared.endorsed.ToVerify.{ToVerify}
+use Rattle.auditorium_core.specs.Endorse.{Unsigned}
+use Rattle.auditorium_core.specs.Endorsed.{Signed}
+
+abbrev pub unsigned_of : ToSign → Unsigned
+unsigned_of read = record { office = read.office; bytes = read.bytes.items }
+
+abbrev pub signed_of : ToVerify → Signed
+signed_of read = record {
+  key = read.key.items;
+  bytes = read.bytes.items;
+  signature = read.signature.items;
+}

@@ -1,0 +1,156 @@
+// The command `endorse`: signs a file with an office's key.
+ghost use Rattle.std.specs.Prelude.{◌≡◌, ◌<◌, [], ◌∷◌, IfOk, codes, map, string_bytes};
+ghost use Rattle.office_key.specs.Endorsements.{endorsement};
+ghost use Rattle.office_key.specs.Offices.{max_signatures};
+ghost use Rattle.evidence.specs.Reading.{IsReadFrom};
+ghost use Rattle.auditor.specs.Audits.{OnFiles};
+ghost use Rattle.auditorium_core.specs.Endorse.{GivesUnsigned, IsEndorsement, endorsed_line};
+ghost use Rattle.auditorium_core.specs.NamedBytes.{AtLast, FileThen, GivesBytes, max_signed};
+ghost use Rattle.auditorium_core.specs.OfficeFile.{office_file};
+ghost use Rattle.auditorium_core.specs.Outside.{seen};
+ghost use Rattle.auditorium_core.specs.Words.{endorse};
+ghost use Rattle.auditorium_core.specs.inside.Endorsing.{unsigned_of};
+ghost use Rattle.auditorium_core.specs.inside.Meaning.{IsReadAs};
+ghost use Rattle.auditorium_core.specs.inside.Promise.{IsAnsweredBy};
+
+use crate::answer::{Answer, Fault, OutputFile};
+use crate::named_bytes::{MAX_SIGNED, read_bytes};
+use crate::office_file::{office_file, read_office_file};
+use crate::words::Request;
+use evidence::AuditFault;
+use hall_outside::Store;
+use office_key::{Office, endorsements_are_good, write_office};
+use std::alloc::{AllocError, Global};
+use std::thread::Threads;
+
+/// What is read for a signature.
+#[derive(Drop)]
+pub(crate) struct ToSign {
+    office: Office,
+    bytes: Vec<u8>,
+}
+
+/// The request that the words after `endorse` make.
+pub(crate) fn endorse_request(rest: &[String]) -> Option<Request<'_>>
+    ensures { IsReadAs (codes "endorse") (map string_bytes rest.now) result }
+{
+    match rest {
+        [name, file] => Some(Request::Endorse(name.as_str(), file.as_str())),
+        _ => None,
+    }
+}
+
+/// Reads the bytes that the office is to sign.
+fn read_for<S: Store>(
+    alloc: Global,
+    store: &mut S,
+    office: Office,
+    file: &str,
+) -> Result<ToSign, AuditFault>
+    ensures { IsReadFrom unsigned_of
+        (λ told answer. OnFiles (file.now ∷ []) (λ files. FileThen (GivesBytes max_signed file.now)
+        (λ bytes. AtLast (record { office = office; bytes = bytes })) files answer) told)
+        (seen S.Store store.old) result (seen S.Store store.new) }
+{
+    match read_bytes(alloc, store, file, MAX_SIGNED) {
+        Ok(bytes) => Ok(ToSign { office, bytes }),
+        Err(fault) => Err(fault),
+    }
+}
+
+/// Reads the office's file, of which this is the name, and then the file that it is to sign.
+fn read_to_sign<S: Store>(
+    alloc: Global,
+    store: &mut S,
+    office: &str,
+    name: &str,
+    file: &str,
+) -> Result<ToSign, AuditFault>
+    requires { office.now ≡ office_file name.now }
+    ensures { IsReadFrom unsigned_of
+        (λ told answer. OnFiles (office_file name.now ∷ file.now ∷ [])
+        (λ files. GivesUnsigned name.now file.now files answer) told)
+        (seen S.Store store.old) result (seen S.Store store.new) }
+{
+    match read_office_file(alloc, store, office) {
+        Ok(found) => read_for(alloc, store, found, file),
+        Err(fault) => Err(fault),
+    }
+}
+
+/// The line of a signature of the file under this number.
+fn line_of(alloc: Global, file: &str, number: u32) -> Result<String, AllocError>
+    ensures { IfOk result (λ line. string_bytes line ≡ endorsed_line file.now number) }
+{
+    Ok(format!(in alloc; "endorsed {file} {number}\n")?)
+}
+
+/// The answer where the office's file, of this name, gets its next number, and then the file gets
+/// this signature.
+fn signed(
+    alloc: Global,
+    office: String,
+    name: &str,
+    file: &str,
+    read: &ToSign,
+    signature: Vec<u8>,
+) -> Result<Answer, AllocError>
+    requires office { string_bytes office ≡ office_file name.now }
+    requires left { read.now.office.next < max_signatures }
+    requires signature { signature.items
+        ≡ endorsement name.now read.now.office read.now.bytes.items }
+    ensures { IfOk result (IsEndorsement name.now file.now (unsigned_of read.now)) }
+{
+    endorsements_are_good();
+    let number = read.office.next;
+    let text = write_office(alloc, read.office.used())?;
+    let signature_file = format!(in alloc; "{file}.sig")?;
+    let mut files = Vec::new(alloc);
+    files.push(OutputFile::new(office, text))?;
+    files.push(OutputFile::new(signature_file, signature))?;
+    Ok(Answer::of_files(files, line_of(alloc, file, number)?))
+}
+
+/// The answer of `endorse` for the office of this name and this file.
+pub(crate) fn endorse<S: Store>(
+    alloc: Global,
+    store: &mut S,
+    name: &str,
+    file: &str,
+) -> Result<Answer, Fault>
+    ensures { IsAnsweredBy (endorse name.now file.now)
+        (seen S.Store store.old) result (seen S.Store store.new) }
+{
+    let office = office_file(alloc, name)?;
+    match read_to_sign(alloc, store, office.as_str(), name, file) {
+        Ok(read) => {
+            let bytes = read.bytes.as_slice();
+            let signature = office_key::endorse(alloc, name.as_bytes(), &read.office, bytes)?;
+            Ok(signed(alloc, office, name, file, &read, signature)?)
+        }
+        Err(fault) => Answer::of_fault(alloc, &fault),
+    }
+}
+
+/// The same answer, for which the key's trees are made in threads.
+pub(crate) fn endorse_in<R: Threads + Sync, S: Store>(
+    rt: &R,
+    alloc: Global,
+    store: &mut S,
+    name: &str,
+    file: &str,
+) -> Result<Answer, Fault>
+    ensures { IsAnsweredBy (endorse name.now file.now)
+        (seen S.Store store.old) result (seen S.Store store.new) }
+{
+    let office = office_file(alloc, name)?;
+    match read_to_sign(alloc, store, office.as_str(), name, file) {
+        Ok(read) => {
+            let bytes = read.bytes.as_slice();
+            let key = name.as_bytes();
+            let signature = office_key::endorse_in(rt, alloc, key, &read.office, bytes)?;
+            Ok(signed(alloc, office, name, file, &read, signature)?)
+        }
+        Err(fault) => Answer::of_fault(alloc, &fault),
+    }
+}

@@ -1,0 +1,139 @@
+// The command `endorsed`: whether a signature is an office's.
+ghost use Rattle.std.specs.Prelude.{◌≡◌, ◌≢◌, [], ◌∷◌, IfOk, codes, map, string_bytes};
+ghost use Rattle.evidence.specs.Reading.{IsReadFrom};
+ghost use Rattle.auditor.specs.Audits.{OnFiles};
+ghost use Rattle.auditorium_core.specs.Endorsed.{GivesSigned, IsEndorsedVerdict};
+ghost use Rattle.auditorium_core.specs.NamedBytes.{AtLast, FileThen, GivesBytes};
+ghost use Rattle.auditorium_core.specs.NamedBytes.{max_signed, max_small};
+ghost use Rattle.auditorium_core.specs.Outside.{seen};
+ghost use Rattle.auditorium_core.specs.Words.{endorsed};
+ghost use Rattle.auditorium_core.specs.inside.Endorsing.{signed_of};
+ghost use Rattle.auditorium_core.specs.inside.Meaning.{IsReadAs};
+ghost use Rattle.auditorium_core.specs.inside.Promise.{IsAnsweredBy};
+
+use crate::answer::{Answer, Fault};
+use crate::named_bytes::{MAX_SIGNED, MAX_SMALL, read_bytes};
+use crate::status::Status;
+use crate::words::Request;
+use evidence::AuditFault;
+use hall_outside::Store;
+use hss_sign::hss_verify;
+use std::alloc::{AllocError, Global};
+
+/// What is read for a verification.
+#[derive(Drop)]
+pub(crate) struct ToVerify {
+    key: Vec<u8>,
+    bytes: Vec<u8>,
+    signature: Vec<u8>,
+}
+
+/// The request that the words after `endorsed` make.
+pub(crate) fn endorsed_request(rest: &[String]) -> Option<Request<'_>>
+    ensures { IsReadAs (codes "endorsed") (map string_bytes rest.now) result }
+{
+    match rest {
+        [key, file, signature] => Some(Request::Endorsed(
+            key.as_str(),
+            file.as_str(),
+            signature.as_str(),
+        )),
+        _ => None,
+    }
+}
+
+/// Reads the signature.
+fn read_signature<S: Store>(
+    alloc: Global,
+    store: &mut S,
+    key: Vec<u8>,
+    bytes: Vec<u8>,
+    signature: &str,
+) -> Result<ToVerify, AuditFault>
+    ensures { IsReadFrom signed_of
+        (λ told answer. OnFiles (signature.now ∷ [])
+        (λ files. FileThen (GivesBytes max_small signature.now)
+        (λ s. AtLast (record { key = key.items; bytes = bytes.items; signature = s }))
+        files answer) told)
+        (seen S.Store store.old) result (seen S.Store store.new) }
+{
+    match read_bytes(alloc, store, signature, MAX_SMALL) {
+        Ok(signature) => Ok(ToVerify {
+            key,
+            bytes,
+            signature,
+        }),
+        Err(fault) => Err(fault),
+    }
+}
+
+/// Reads the bytes that were signed, and then the signature.
+fn read_signed<S: Store>(
+    alloc: Global,
+    store: &mut S,
+    key: Vec<u8>,
+    file: &str,
+    signature: &str,
+) -> Result<ToVerify, AuditFault>
+    ensures { IsReadFrom signed_of
+        (λ told answer. OnFiles (file.now ∷ signature.now ∷ [])
+        (λ files. FileThen (GivesBytes max_signed file.now)
+        (λ m. FileThen (GivesBytes max_small signature.now)
+        (λ s. AtLast (record { key = key.items; bytes = m; signature = s }))) files answer) told)
+        (seen S.Store store.old) result (seen S.Store store.new) }
+{
+    match read_bytes(alloc, store, file, MAX_SIGNED) {
+        Ok(bytes) => read_signature(alloc, store, key, bytes, signature),
+        Err(fault) => Err(fault),
+    }
+}
+
+/// Reads the key, the bytes that were signed, and the signature.
+fn read_to_verify<S: Store>(
+    alloc: Global,
+    store: &mut S,
+    key: &str,
+    file: &str,
+    signature: &str,
+) -> Result<ToVerify, AuditFault>
+    ensures { IsReadFrom signed_of
+        (λ told answer. OnFiles (key.now ∷ file.now ∷ signature.now ∷ [])
+        (λ files. GivesSigned key.now file.now signature.now files answer) told)
+        (seen S.Store store.old) result (seen S.Store store.new) }
+{
+    match read_bytes(alloc, store, key, MAX_SMALL) {
+        Ok(key) => read_signed(alloc, store, key, file, signature),
+        Err(fault) => Err(fault),
+    }
+}
+
+/// The answer of a verification.
+fn verdict_of(alloc: Global, read: &ToVerify) -> Result<Answer, AllocError>
+    ensures told { IfOk result (IsEndorsedVerdict (signed_of read.now)) }
+    ensures status { IfOk result (λ answer. answer.status ≢ Status.Absent) }
+{
+    let key = read.key.as_slice();
+    if hss_verify(key, read.bytes.as_slice(), read.signature.as_slice()) {
+        Answer::line(alloc, "good")
+    } else {
+        let bad = format!(in alloc; "bad\n")?;
+        Ok(Answer::of_text(alloc, Status::Findings, bad.into_bytes()))
+    }
+}
+
+/// The answer of `endorsed` for the key, the file and the signature in these files.
+pub(crate) fn endorsed<S: Store>(
+    alloc: Global,
+    store: &mut S,
+    key: &str,
+    file: &str,
+    signature: &str,
+) -> Result<Answer, Fault>
+    ensures { IsAnsweredBy (endorsed key.now file.now signature.now)
+        (seen S.Store store.old) result (seen S.Store store.new) }
+{
+    match read_to_verify(alloc, store, key, file, signature) {
+        Ok(read) => Ok(verdict_of(alloc, &read)?),
+        Err(fault) => Answer::of_fault(alloc, &fault),
+    }
+}

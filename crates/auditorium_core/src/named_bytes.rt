@@ -1,0 +1,32 @@
+// Files whose bytes are read, whatever they are.
+ghost use Rattle.hall_outside.specs.Files.{OnSomeFile};
+ghost use Rattle.evidence.specs.Reading.{IsReadFrom};
+ghost use Rattle.auditorium_core.specs.NamedBytes.{GivesBytes};
+ghost use Rattle.auditorium_core.specs.Outside.{seen};
+
+use evidence::{AuditFault, file_fault};
+use hall_outside::{Store, read_file};
+use std::alloc::Global;
+
+/// The most bytes of a file that is signed.
+pub(crate) const MAX_SIGNED: usize = 67_108_864;
+
+/// The most bytes of an office's file, of a public key and of a signature.
+pub(crate) const MAX_SMALL: usize = 65_536;
+
+/// Reads a file of at most so many bytes. No file changes.
+pub(crate) fn read_bytes<S: Store>(
+    alloc: Global,
+    store: &mut S,
+    name: &str,
+    limit: usize,
+) -> Result<Vec<u8>, AuditFault>
+    ensures { IsReadFrom (λ bytes. bytes.items)
+        (λ told answer. OnSomeFile told name.now (λ file. GivesBytes limit name.now file answer))
+        (seen S.Store store.old) result (seen S.Store store.new) }
+{
+    match read_file(alloc, store, name, limit) {
+        Ok(bytes) => Ok(bytes),
+        Err(fault) => Err(file_fault(alloc, name, fault)),
+    }
+}

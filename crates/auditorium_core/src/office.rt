@@ -1,0 +1,123 @@
+// The command `office`: makes the files of an election office.
+ghost use Rattle.std.specs.Prelude.{◌≡◌, ◌≢◌, ℕ, List, Ok, IfNone, IfOk, IfSome, IsErr, codes};
+ghost use Rattle.std.specs.Prelude.{false, map, string_bytes};
+ghost use Rattle.hex.specs.Hex.{encode_lower};
+ghost use Rattle.hall_outside.specs.Counts.{ComesExactly, HasCause};
+ghost use Rattle.hall_outside.specs.Files.{OnFile};
+ghost use Rattle.office_key.specs.Endorsements.{office_public};
+ghost use Rattle.auditorium_core.specs.Office.{IsOfficeSeed, made_office};
+ghost use Rattle.auditorium_core.specs.OfficeFile.{office_file};
+ghost use Rattle.auditorium_core.specs.Outside.{seen};
+ghost use Rattle.auditorium_core.specs.Words.{office};
+ghost use Rattle.auditorium_core.specs.inside.Meaning.{IsReadAs};
+ghost use Rattle.auditorium_core.specs.inside.Promise.{IsAnsweredBy};
+ghost use Rattle.auditorium_core.specs.inside.Presence.{IsThere};
+
+use crate::answer::{Answer, Fault, OutputFile};
+use crate::office_file::office_file;
+use crate::words::Request;
+use hall_outside::{Failed, Store, Taken};
+use hall_text::digest_hex;
+use office_key::{Office, public_key, public_key_in, write_office};
+use std::alloc::{AllocError, Global};
+use std::thread::Threads;
+
+/// The request that the words after `office` make.
+pub(crate) fn office_request(rest: &[String]) -> Option<Request<'_>>
+    ensures { IsReadAs (codes "office") (map string_bytes rest.now) result }
+{
+    match rest {
+        [name, seed] => Some(Request::Office(name.as_str(), seed_of(seed.as_str())?)),
+        _ => None,
+    }
+}
+
+/// The seed that the word says: 64 lower-case hexadecimal digits. Of any other word `None`.
+fn seed_of(word: &str) -> Option<[u8; 32]>
+    ensures found { IfSome result (λ seed. IsOfficeSeed seed × (word.now ≡ encode_lower seed)) }
+    ensures none { IfNone result
+        ((seed : List ℕ) → IsOfficeSeed seed → word.now ≢ encode_lower seed) }
+{
+    digest_hex(word.as_bytes())
+}
+
+/// Whether the file is there, whatever it has. No file changes.
+fn is_there<S: Store>(store: &mut S, name: &str) -> Result<bool, Failed>
+    ensures there { IfOk result (λ there. OnFile (S.files store.old) name.now (IsThere there)) }
+    ensures absent { ComesExactly (S.answered store.old).absences (S.answered store.new).absences
+        (result ≡ Ok false) }
+    ensures read_fault { HasCause (S.read_faults store.old) (S.read_faults store.new)
+        (IsErr result) }
+    ensures files { S.files store.new ≡ S.files store.old }
+    ensures write_faults { S.write_faults store.new ≡ S.write_faults store.old }
+{
+    let mut first = [0; 1];
+    match store.read_at(name, 0, &mut first) {
+        Ok(Taken::Absent) => Ok(false),
+        Ok(Taken::Bytes(_)) => Ok(true),
+        Err(Failed) => Err(Failed),
+    }
+}
+
+/// The answer where the office's files are made, of which the first has this name.
+fn made_of(
+    alloc: Global,
+    file: String,
+    name: &str,
+    seed: [u8; 32],
+    key: &[u8; 60],
+) -> Result<Answer, AllocError>
+    requires file { string_bytes file ≡ office_file name.now }
+    requires key { key.now ≡ office_public name.now seed }
+    ensures { IfOk result (λ answer. answer ≡ made_office name.now seed) }
+{
+    let text = write_office(alloc, Office { seed, next: 0 })?;
+    let key_file = format!(in alloc; "{name}.key")?;
+    let mut files = Vec::new(alloc);
+    files.push(OutputFile::new(file, text))?;
+    files.push(OutputFile::new(key_file, Vec::from_slice(alloc, key)?))?;
+    Ok(Answer::of_files(files, format!(in alloc; "office {name}\n")?))
+}
+
+/// The answer of `office` for an office of this name with this seed.
+pub(crate) fn office<S: Store>(
+    alloc: Global,
+    store: &mut S,
+    name: &str,
+    seed: [u8; 32],
+) -> Result<Answer, Fault>
+    ensures { IsAnsweredBy (office name.now seed)
+        (seen S.Store store.old) result (seen S.Store store.new) }
+{
+    let file = office_file(alloc, name)?;
+    match is_there(store, file.as_str()) {
+        Ok(true) => Ok(Answer::refused(alloc, file.as_str(), 0, "Exists")?),
+        Ok(false) => {
+            let key = public_key(alloc, name.as_bytes(), &seed)?;
+            Ok(made_of(alloc, file, name, seed, &key)?)
+        }
+        Err(Failed) => Err(Fault::ReadFault),
+    }
+}
+
+/// The same answer, for which the key's tree is made in threads.
+pub(crate) fn office_in<R: Threads + Sync, S: Store>(
+    rt: &R,
+    alloc: Global,
+    store: &mut S,
+    name: &str,
+    seed: [u8; 32],
+) -> Result<Answer, Fault>
+    ensures { IsAnsweredBy (office name.now seed)
+        (seen S.Store store.old) result (seen S.Store store.new) }
+{
+    let file = office_file(alloc, name)?;
+    match is_there(store, file.as_str()) {
+        Ok(true) => Ok(Answer::refused(alloc, file.as_str(), 0, "Exists")?),
+        Ok(false) => {
+            let key = public_key_in(rt, alloc, name.as_bytes(), &seed)?;
+            Ok(made_of(alloc, file, name, seed, &key)?)
+        }
+        Err(Failed) => Err(Fault::ReadFault),
+    }
+}

@@ -1,0 +1,111 @@
+// The command `repair`: a script's machines, whose logs are mended before the close.
+ghost use Rattle.std.specs.Prelude.{◌≡◌, ◌++◌, All, IfOk, OnOk, codes, length, map, string_bytes};
+ghost use Rattle.election_script.specs.Lawful.{IsLawful};
+ghost use Rattle.polling_world.specs.Steps.{IsStepOf};
+ghost use Rattle.auditorium_core.specs.Outside.{seen};
+ghost use Rattle.auditorium_core.specs.Repair.{IsRepairOf, mended_line, mended_lines};
+ghost use Rattle.auditorium_core.specs.Words.{repair};
+ghost use Rattle.auditorium_core.specs.inside.Meaning.{IsReadAs};
+ghost use Rattle.auditorium_core.specs.inside.Promise.{IsAnsweredBy};
+ghost use Rattle.auditorium_core.specs.inside.Repaired.{ComesByRepair};
+
+use crate::answer::{Answer, Fault};
+use crate::play::{add_machines, files_of, undone_lines};
+use crate::script_file::read_script;
+use crate::words::Request;
+use election_script::Script;
+use entry_order::Step;
+use hall_outside::Store;
+use polling_world::World;
+use roster::Roster;
+use std::alloc::{AllocError, Global};
+use std::fmt::Write;
+
+/// The request that the words after `repair` make.
+pub(crate) fn repair_request(rest: &[String]) -> Option<Request<'_>>
+    ensures { IsReadAs (codes "repair") (map string_bytes rest.now) result }
+{
+    match rest {
+        [script, prefix] => Some(Request::Repair(script.as_str(), prefix.as_str())),
+        _ => None,
+    }
+}
+
+/// Adds the line of an entry that a machine was answered.
+fn add_mended(lines: &mut String, roster: &Roster, step: &Step) -> Result<(), AllocError>
+    requires { IsStepOf (length roster.now.machines) step.now }
+    ensures { OnOk result (string_bytes lines.new
+        ≡ string_bytes lines.old ++ mended_line roster.now.machines step.now) }
+{
+    match step {
+        Step::Hear { at, from, number } => {
+            let machines = roster.machines.as_slice();
+            let at = machines[*at as usize].name.as_str();
+            let from = machines[*from as usize].name.as_str();
+            write!(lines, "mended {at} {from}.{number}\n")
+        }
+        Step::Act(_) => Ok(()),
+        Step::Stop(_) => Ok(()),
+    }
+}
+
+/// Adds the line of each entry that a machine was answered.
+fn add_all_mended(lines: &mut String, roster: &Roster, steps: &[Step]) -> Result<(), AllocError>
+    requires { All (IsStepOf (length roster.now.machines)) steps.now }
+    ensures { OnOk result (string_bytes lines.new
+        ≡ string_bytes lines.old ++ mended_lines roster.now.machines steps.now) }
+{
+    for step in steps {
+        add_mended(lines, roster, step)?;
+    }
+    Ok(())
+}
+
+/// The answer of these machines of the script, whose logs were mended by these steps.
+fn answer_of(
+    alloc: Global,
+    prefix: &str,
+    script: &Script,
+    world: &World,
+    mended: &[Step],
+) -> Result<Answer, AllocError>
+    requires lawful { IsLawful script.now }
+    requires comes { ComesByRepair script.now world.now mended.now }
+    ensures { IfOk result (IsRepairOf prefix.now script.now) }
+{
+    let files = files_of(alloc, prefix, &world.roster, &world.machines)?;
+    let mut lines = String::new(alloc);
+    add_machines(&mut lines, &world.machines)?;
+    add_all_mended(&mut lines, &world.roster, mended)?;
+    let undone = undone_lines(alloc, &world.machines)?;
+    world.order_is_receipt();
+    Ok(Answer::of_play(files, lines, undone.as_str())?)
+}
+
+/// The answer of the script's machines once they have played, their logs are mended, and they have
+/// finished.
+fn repaired(alloc: Global, prefix: &str, script: &Script) -> Result<Answer, AllocError>
+    requires { IsLawful script.now }
+    ensures { IfOk result (IsRepairOf prefix.now script.now) }
+{
+    let mut world = polling_world::play(alloc, script)?;
+    let mended = log_repair::repair(alloc, &mut world)?;
+    let _finishing = log_repair::finish(alloc, &mut world)?;
+    answer_of(alloc, prefix, script, &world, mended.as_slice())
+}
+
+/// The answer of `repair` for the script in this file.
+pub(crate) fn repair<S: Store>(
+    alloc: Global,
+    store: &mut S,
+    name: &str,
+    prefix: &str,
+) -> Result<Answer, Fault>
+    ensures { IsAnsweredBy (repair name.now prefix.now)
+        (seen S.Store store.old) result (seen S.Store store.new) }
+{
+    match read_script(alloc, store, name) {
+        Ok(script) => Ok(repaired(alloc, prefix, &script)?),
+        Err(fault) => Answer::of_fault(alloc, &fault),
+    }
+}
