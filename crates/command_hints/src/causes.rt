@@ -4,7 +4,9 @@ ghost use Rattle.std.specs.Prelude.{◌≡◌};
 ghost use Rattle.election_script.specs.CauseWords.{script_why_word};
 ghost use Rattle.roster.specs.Reading.{fault_word};
 ghost use Rattle.rule_language.specs.Kinds.{why_word};
+ghost use Rattle.audit_proof.specs.CauseWords.{proof_why_word};
 
+use audit_proof::ProofWhy;
 use election_script::ScriptWhy;
 use roster::RosterFault;
 use rule_language::RuleWhy;
@@ -15,6 +17,7 @@ pub enum Cause {
     Script(ScriptWhy),
     Roster(RosterFault),
     Rules(RuleWhy),
+    Proof(ProofWhy),
     /// A file doesn't begin with a log's header.
     Header,
     /// A file is over the limit of its kind.
@@ -27,6 +30,12 @@ pub enum Cause {
     Collision,
     /// A word means no entry.
     NoEntry,
+    /// An office has this name already.
+    Exists,
+    /// A file isn't an office's.
+    Office,
+    /// An office's key is used up.
+    Spent,
 }
 
 /// The cause against a script that this word is.
@@ -82,18 +91,36 @@ pub(crate) fn rule_cause(word: &str) -> Option<RuleWhy>
     }
 }
 
+/// The cause against the text of a proof that this word is.
+pub(crate) fn proof_cause(word: &str) -> Option<ProofWhy>
+    ensures { Finds (λ why. word.now ≡ proof_why_word why) result }
+{
+    match word {
+        "Form" => Some(ProofWhy::Form),
+        "WrongCount" => Some(ProofWhy::WrongCount),
+        "OutOfRange" => Some(ProofWhy::OutOfRange),
+        "NotRising" => Some(ProofWhy::NotRising),
+        "NotFalling" => Some(ProofWhy::NotFalling),
+        "NotReached" => Some(ProofWhy::NotReached),
+        "NotParent" => Some(ProofWhy::NotParent),
+        "NotClosed" => Some(ProofWhy::NotClosed),
+        _ => None,
+    }
+}
+
 /// What was expected, for each cause.
 pub fn sentence(cause: Cause) -> &'static str {
     match cause {
         Cause::Script(why) => script_sentence(why),
         Cause::Roster(fault) => roster_sentence(fault),
         Cause::Rules(why) => rule_sentence(why),
+        Cause::Proof(why) => proof_sentence(why),
         Cause::Header => {
             "a log begins with its header, as (3:log1:11:0); the logs of play and run do"
         }
         Cause::TooLong => {
-            "a script, a roster or a file of rules has at most 4,194,304 bytes, \
-             and a log 67,108,864"
+            "a script, a roster or a file of rules has at most 4,194,304 bytes; a log, a proof or a \
+             file that is signed 67,108,864; and an office's file, a key or a signature 65,536"
         }
         Cause::TooWide => {
             "the rows of the rule's nested quantifiers multiply to more than 268,435,456"
@@ -101,6 +128,12 @@ pub fn sentence(cause: Cause) -> &'static str {
         Cause::TooMany => "the logs have more than 16,384 distinct entries",
         Cause::Collision => "two entries with different texts have one digest",
         Cause::NoEntry => "no entry that survives in the logs is the one that this word means",
+        Cause::Exists => "an office's file is never overwritten; take another name",
+        Cause::Office => {
+            "an office's file is (6:office1:132: with its 32 bytes, and a number up to 32,768; one \
+             that was cut short while it was written is of no more use"
+        }
+        Cause::Spent => "the office's key has made its 32,768 signatures; make another office",
     }
 }
 
@@ -180,6 +213,33 @@ fn rule_sentence(why: RuleWhy) -> &'static str {
     }
 }
 
+fn proof_sentence(why: ProofWhy) -> &'static str {
+    match why {
+        ProofWhy::Form => {
+            "the lines of a proof are proof 1, then entries S, and then past I and words A:V, with \
+             one space between two words, a newline at each end, and no leading zeros"
+        }
+        ProofWhy::WrongCount => "the logs don't have so many entries that survive",
+        ProofWhy::OutOfRange => {
+            "an entry's number is below that of the entries, since they count from 0"
+        }
+        ProofWhy::NotRising => "the entry after past is above that of the line before",
+        ProofWhy::NotFalling => {
+            "the entry before a colon is below the one before the colon of the word before"
+        }
+        ProofWhy::NotReached => {
+            "the entry after a colon is the one after past, or stands earlier on the line before \
+             a colon"
+        }
+        ProofWhy::NotParent => {
+            "the entry after a colon doesn't name the one before the colon in the logs"
+        }
+        ProofWhy::NotClosed => {
+            "an entry of the line names one that stands before no colon of the line"
+        }
+    }
+}
+
 impl Cause {
     /// The cause's word in lines of output.
     pub fn word(self) -> &'static str {
@@ -187,12 +247,16 @@ impl Cause {
             Cause::Script(why) => why.word(),
             Cause::Roster(fault) => fault.word(),
             Cause::Rules(why) => why.word(),
+            Cause::Proof(why) => why.word(),
             Cause::Header => "Header",
             Cause::TooLong => "TooLong",
             Cause::TooWide => "TooWide",
             Cause::TooMany => "TooMany",
             Cause::Collision => "Collision",
             Cause::NoEntry => "NoEntry",
+            Cause::Exists => "Exists",
+            Cause::Office => "Office",
+            Cause::Spent => "Spent",
         }
     }
 }

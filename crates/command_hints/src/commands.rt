@@ -10,10 +10,16 @@ pub(crate) const COMMANDS: &[&str] = &[
     "gaps LOG: one log's damage and gaps; no signature checked",
     "play SCRIPT PREFIX: plays a script; writes a roster and signed logs",
     "run SCRIPT PREFIX: the same in threads; lists each lost entry, too",
+    "repair SCRIPT PREFIX: plays, mends logs before the close, and finishes",
     "order ROSTER X Y LOG..: which of two entries came first, if it is known",
     "audit ROSTER RULES LOG..: the report on the logs that survive",
+    "prove ROSTER PROOF LOG..: writes a proof by which others check an audit",
+    "check ROSTER RULES PROOF LOG..: what rules come to, by a proof",
     "make N: prints the script of a day of N sessions",
     "demo N: plays such a day, loses logs, counts an audit",
+    "office NAME SEED: makes an office's key: NAME.office and NAME.key",
+    "endorse NAME FILE: signs FILE with the office's key: FILE.sig",
+    "endorsed KEY FILE SIG: whether SIG is the office's signature of FILE",
 ];
 
 /// What the words of a command are.
@@ -23,8 +29,14 @@ const WORDS: &[&str] = &[
     "PREFIX: what the names of the written files begin with",
     "ROSTER: a roster's file, as play and run write it",
     "RULES: a file of rules, or the word standard",
+    "PROOF: the file of a proof, which prove writes and check reads",
     "X, Y: an entry: NAME.NUMBER, as b1.0, or its digest in 64 hexadecimal digits",
     "N: from 1 to 800 sessions, in digits without a leading zero",
+    "NAME: an office's name; NAME.office is its secret file, and NAME.key its public key",
+    "SEED: 32 secret random bytes, in 64 lower-case hexadecimal digits",
+    "FILE: any file of at most 67,108,864 bytes",
+    "KEY: a file of an office's public key, as office writes it",
+    "SIG: a file of a signature, as endorse writes it",
 ];
 
 /// What each exit status means, from 0 on.

@@ -1,6 +1,6 @@
 //! Inputs that were refused, and files that aren't there.
 
-use crate::causes::{Cause, roster_cause, rule_cause, script_cause, sentence};
+use crate::causes::{Cause, proof_cause, roster_cause, rule_cause, script_cause, sentence};
 use crate::commands::{meaning_of, words_after};
 use crate::excerpts::Excerpt;
 use roster::RosterFault;
@@ -42,6 +42,7 @@ fn cause_against(role: &str, word: &str) -> Option<Cause> {
         "SCRIPT" => script_cause(word).map(Cause::Script),
         "ROSTER" => roster_cause(word).map(Cause::Roster),
         "RULES" => rule_cause(word).map(Cause::Rules),
+        "PROOF" => proof_cause(word).map(Cause::Proof),
         _ => None,
     }
 }
@@ -70,6 +71,9 @@ fn cause_of(words: &[String], name: &str, word: &str) -> Option<Cause> {
         "TooMany" => Some(Cause::TooMany),
         "Collision" => Some(Cause::Collision),
         "NoEntry" => Some(Cause::NoEntry),
+        "Exists" => Some(Cause::Exists),
+        "Office" => Some(Cause::Office),
+        "Spent" => Some(Cause::Spent),
         _ => cause_by_role(words, name, word),
     }
 }
@@ -80,11 +84,21 @@ fn role_of_file(words: &[String], name: &str) -> Option<&'static str> {
     let wanted = words_after(command.as_str())?;
     for (place, other) in others.iter().enumerate() {
         let role = role_at(wanted, place);
-        if other.as_str() == name && matches!(role, "LOG" | "SCRIPT" | "ROSTER" | "RULES") {
+        if is_file_of(role, other.as_str(), name) {
             return Some(role);
         }
     }
     None
+}
+
+/// Whether a word that the help calls so names this file.
+fn is_file_of(role: &str, word: &str, name: &str) -> bool {
+    match role {
+        "LOG" | "SCRIPT" | "ROSTER" | "RULES" => word == name,
+        "PROOF" | "FILE" | "KEY" | "SIG" => word == name,
+        "NAME" => name.strip_suffix(".office") == Some(word),
+        _ => false,
+    }
 }
 
 /// The refusal of which this stands after `refused`, or none where it isn't one of those words.
@@ -132,7 +146,7 @@ impl<'a> Refusal<'a> {
     fn write_place<W: fmt::Write>(&self, f: &mut Formatter<W>) -> fmt::Result {
         let place = self.place;
         match self.cause {
-            Cause::Script(_) => write!(f, ", line {place}"),
+            Cause::Script(_) | Cause::Proof(_) => write!(f, ", line {place}"),
             Cause::Rules(_) | Cause::Roster(RosterFault::NotCanonical(_)) => {
                 write!(f, ", byte {place}, counted from 0")
             }

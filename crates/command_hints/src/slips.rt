@@ -133,6 +133,7 @@ fn is_count(wanted: &str, count: usize) -> bool {
 fn has_meaning(name: &str, word: &str) -> bool {
     match name {
         "N" => matches!(decimal(word.as_bytes()), Some(1..=800)),
+        "SEED" => digest_hex(word.as_bytes()).is_some(),
         "X" | "Y" => digest_hex(word.as_bytes()).is_some() || has_number(word),
         _ => true,
     }

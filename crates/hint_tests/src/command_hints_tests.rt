@@ -10,7 +10,7 @@ const ROWS: &str = "\
 audit,-h|usage|auditorium (unreleased)
 --version|usage|auditorium (unreleased)
 play,s,-V|usage|auditorium (unreleased)
-frobnicate|usage|auditorium: \"frobnicate\" is no command; the nearest is run
+frobnicate|usage|auditorium: \"frobnicate\" is no command; the nearest is office
 aduit,r,standard,l|usage|auditorium: \"aduit\" is no command; the nearest is audit
 Make,1|usage|auditorium: \"Make\" is no command; the nearest is make
 make,801|usage|auditorium: \"801\" isn't N: from 1 to 800 sessions, in digits
@@ -18,9 +18,16 @@ demo,01|usage|auditorium: \"01\" isn't N: from 1 to 800 sessions, in digits
 make|usage|auditorium: make wants N; words given: 0
 play,s|usage|auditorium: play wants SCRIPT PREFIX; words given: 1
 audit,r,standard|usage|auditorium: audit wants ROSTER RULES LOG..; words given: 2
+prove,r,q|usage|auditorium: prove wants ROSTER PROOF LOG..; words given: 2
+check,r,c,q|usage|auditorium: check wants ROSTER RULES PROOF LOG..; words given: 3
 order,r,b1.0,b1.1|usage|auditorium: order wants ROSTER X Y LOG..; words given: 3
 order,r,b1,b1.0,l|usage|auditorium: \"b1\" isn't X: an entry: NAME.NUMBER, as b1.0
 order,r,b1.0,b1.x,l|usage|auditorium: \"b1.x\" isn't Y: an entry: NAME.NUMBER, as b1.0
+office,o|usage|auditorium: office wants NAME SEED; words given: 1
+office,o,00|usage|auditorium: \"00\" isn't SEED: 32 secret random bytes, in 64 lower-case
+endorse,o|usage|auditorium: endorse wants NAME FILE; words given: 1
+endorsed,k,f|usage|auditorium: endorsed wants KEY FILE SIG; words given: 2
+endorsee,o,f|usage|auditorium: \"endorsee\" is no command; the nearest is endorse
 gaps,--all|usage|auditorium: \"--all\" begins with -, and there are no options
 gaps,my log|usage|auditorium: \"my log\" has a space or a byte outside ! to ~
 gaps,|usage|auditorium: word 2 is empty
@@ -32,16 +39,39 @@ audit,r,c,l|refused r 0 SameName|auditorium: r, SameName: two machines have one 
 audit,r,c,l|refused r 5 NotCanonical|auditorium: r, byte 5, counted from 0, NotCanonical: a
 audit,r,c,l|refused c 3 TooWide|auditorium: c, rule 3, counted from 0, TooWide: the
 gaps,l|refused l 0 Header|auditorium: l, Header: a log begins with its header, as (3:log1:11:0);
+check,r,c,q,l|refused q 1 Form|auditorium: q, line 1, Form: the lines of a proof are proof 1,
+check,r,c,q,l|refused q 2 WrongCount|auditorium: q, line 2, WrongCount: the logs don't have so
+check,r,c,q,l|refused q 3 OutOfRange|auditorium: q, line 3, OutOfRange: an entry's number is
+check,r,c,q,l|refused q 4 NotRising|auditorium: q, line 4, NotRising: the entry after past is
+check,r,c,q,l|refused q 5 NotFalling|auditorium: q, line 5, NotFalling: the entry before a colon
+check,r,c,q,l|refused q 6 NotReached|auditorium: q, line 6, NotReached: the entry after a colon is
+check,r,c,q,l|refused q 7 NotParent|auditorium: q, line 7, NotParent: the entry after a colon
+check,r,c,q,l|refused q 8 NotClosed|auditorium: q, line 8, NotClosed: an entry of the line names
+check,r,c,q,l|refused c 28 Unbound|auditorium: c, byte 28, counted from 0, Unbound: no every or
+check,r,c,q,l|refused c 3 TooWide|auditorium: c, rule 3, counted from 0, TooWide: the
+check,r,c,q,l|refused l 3 Form|
+audit,r,c,l|refused c 3 Form|
+prove,r,q,l|refused q 0 TooLong|auditorium: q, TooLong: a script, a roster or a file of rules has
 play,s,p|refused s 0 TooLong|auditorium: s, TooLong: a script, a roster or a file of rules has
 order,r,b1.0,b2.0,l|refused b1.0 0 NoEntry|auditorium: b1.0, NoEntry: no entry that survives in
 audit,r,c,l|refused entries 0 TooMany|auditorium: entries, TooMany: the logs have more than 16,384
 audit,r,c,l|refused entries 0 Collision d1a0|auditorium: entries, Collision: two entries with
+office,o,0|refused o.office 0 Exists|auditorium: o.office, Exists: an office's file is never
+endorse,o,f|refused o.office 0 Office|auditorium: o.office, Office: an office's file is (6:office1:
+endorse,o,f|refused o.office 0 Spent|auditorium: o.office, Spent: the office's key has made its
+endorse,o,f|refused f 0 TooLong|auditorium: f, TooLong: a script, a roster or a file of rules has
 gaps,l|refused l 0 NoCause|
 gaps,l|refused l 3 UnknownWord|
 gaps,l|refused l x Header|
 gaps,l|gap d1a0|
 gaps,l|absent l|auditorium: there is no file l, which is named as LOG: a log's file, as play and
 audit,r,c,l|absent c|auditorium: there is no file c, which is named as RULES: a file of rules, or
+endorse,o,f|absent o.office|auditorium: there is no file o.office, which is named as NAME: an
+endorse,o,f|absent f|auditorium: there is no file f, which is named as FILE: any file of at most
+endorsed,k,f,s|absent k|auditorium: there is no file k, which is named as KEY: a file of an
+endorsed,k,f,s|absent s|auditorium: there is no file s, which is named as SIG: a file of a
+check,r,c,q,l|absent q|auditorium: there is no file q, which is named as PROOF: the file of a
+check,r,c,q,l|absent l|auditorium: there is no file l, which is named as LOG: a log's file, as
 demo,1|absent x|auditorium: there is no file x";
 
 /// The words; what is refused, its place and the cause; the text, with `/` for a newline; and its
