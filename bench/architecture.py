@@ -27,12 +27,12 @@ USED_FROM_BELOW = "entry_order"
 PLACES = """
 command_hints  auditorium_cli  auditorium_core  demonstration   .
 report_lines   auditor         .                honest_reports  honest_rules
-evidence       .               .                short_logs      honest_logs
+evidence       live_auditor    .                short_logs      honest_logs
 -----
 floor_losses   .               finished_floor   log_lock        broadcast_queues
 ruled_queues   .               floor_sweep      machine_floor   floor_links
 -----
-.              .               election_script  polling_world   .
+log_repair     .               election_script  polling_world   .
 deed_history   .               .                booth_core      supervisor_core
 -----
 audit_proof    rule_engine     .                rule_meaning    rule_language
@@ -41,6 +41,7 @@ entry_graph    precedence      .                entry_order     held_counts
 entry_gaps     log_files       .                entangled_log   log_frontier
 roster         .               entry_format     .               .
 -----
+.              .               .                .               office_key
 item_list      canonical_sexp  .                lms_sign        hss_sign
 first_cause    hall_outside    hall_text        lms_ots         .
 """

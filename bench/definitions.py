@@ -439,7 +439,7 @@ def links_of(known, parts, doubles):
     return [f"{text}: {link}" for text, link in found.items()]
 
 
-BLOCK = re.compile(r"^<!-- (?!end)([a-z_ ]+) -->\n(.*?)^<!-- end -->$", re.S | re.M)
+BLOCK = re.compile(r"^<!-- (?!end -->)([a-z_ ]+) -->\n(.*?)^<!-- end -->$", re.S | re.M)
 
 
 def blocks(known, parts, order):

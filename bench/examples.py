@@ -3,7 +3,8 @@
 
 usage: python3 bench/examples.py PROGRAM [WORD ..]
 
-PROGRAM, with these words before the command's, takes the place of `auditorium`; any other command is the shell's. The
+PROGRAM, with these words before the command's, takes the place of `auditorium`, and its output may go into a file by
+`>`; any other command is the shell's. The
 statuses are those of the headings, where these begin with one; where a heading has several commands, each ends with
 that status. Lines that begin with `auditorium: ` or with a space are compared with the first lines of standard error,
 the others with standard output. Where GNU parallel is installed, a county of twelve places is made and audited, too.
@@ -49,9 +50,14 @@ def agrees(run, lines, status):
 
 def ran(program, command, here):
     """The run of a command in a folder."""
-    words = command.split()
+    line, _, file = command.partition(" > ")
+    words = line.split()
     if words[0] == "auditorium":
-        return subprocess.run(program + words[1:], cwd=here, capture_output=True, text=True, timeout=120)
+        done = subprocess.run(program + words[1:], cwd=here, capture_output=True, text=True, timeout=120)
+        if file:
+            (here / file).write_text(done.stdout)
+            done.stdout = ""
+        return done
     return subprocess.run(command, shell=True, cwd=here, capture_output=True, text=True, timeout=120)
 
 
