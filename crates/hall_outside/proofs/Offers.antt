@@ -1,10 +1,10 @@
 -- Calls that are each offered all that is left.
-use Rattle.std.proofs.Common.{◌≡◌, ℕ, ◌+◌, Bool, true, false, List, drop, length, ◌≤◌, sym, subst, arith}
+use Rattle.std.proofs.Common.{◌≡◌, ℕ, ◌+◌, Bool, true, false, List, drop, length, ◌≤◌, ◌<◌, sym, subst, arith}
 use Rattle.std.specs.Prelude.{Result, Ok, Err, IsErr, is_ok}
 use Rattle.std.proofs.lemmas.Bool.{false≢true}
 use Rattle.std.proofs.lemmas.List.{drop-drop, drop_all}
 use Rattle.hall_outside.specs.declared.stores.Failed.{Failed}
-use Rattle.hall_outside.specs.Counts.{raised}
+use Rattle.hall_outside.specs.Counts.{raised, HasCause}
 use Rattle.hall_outside.specs.Writing.{OffersAll, none_left, fails, takes, PutsFile, not_created}
 
 -- what is still to be offered completes what was begun
@@ -55,3 +55,10 @@ not_created_at create step old new bytes (Ok x) err c = absurd (false≢true err
 -- a count that rises twice
 pub raised_twice : (before m n : ℕ) → raised (raised before m) n ≡ raised before (m + n)
 raised_twice before m n = omega arith
+
+-- a count stands where what it counts didn't come
+pub unrisen : (before now : ℕ) → HasCause before now (false ≡ true) → now ≡ before
+unrisen before now cause =
+    let stays : before < now → ⊥ = λ risen. false≢true (cause.always risen) in
+    let never = cause.never_falls in
+    omega (arith, never, stays)

@@ -13,10 +13,11 @@ raised count n = max count (min (count + n) (2 ^ 64 - 1))
 abbrev pub CountsFailures : ℕ → Bool → ℕ → Type 0
 CountsFailures old ok new = new ≡ (if ok then old else raised old 1)
 
--- a count never falls, and the answer comes only where it rose
+-- a count never falls, and the answer comes exactly where it rose: only there, and wherever it is seen to rise
 pub record HasCause (before now : ℕ) (answer : Type 0) : Type 0 where
   pub never_falls : before ≤ now
   pub only : answer → HasRisen before now
+  pub always : before < now → answer
 
 -- the answer comes exactly where a count rose: only there, and wherever it is seen to rise
 pub record ComesExactly (before now : ℕ) (answer : Type 0) : Type 0 where

@@ -45,7 +45,7 @@ pub record IsMemoryRead (name : List ℕ) (at room : ℕ) (old : StoreState) (re
   pub faults : CountsFailures old.read_faults (is_ok result) new.read_faults
   pub rest : new ≡ record old { reads = new.reads; read_faults = new.read_faults; answered = new.answered }
 
--- a create or an append fails where its number is listed
+-- a create, an append or a finish fails where its number is listed
 pub record IsMemoryWrite (old : StoreState) (ok : Bool) (new : StoreState) : Type 0 where
   pub number : new.writes ≡ raised old.writes 1
   pub fails : Contains old.failing_writes new.writes → ok ≡ false

@@ -2,7 +2,7 @@
 
 use std::alloc::Global;
 use std::fmt::{self, Display, Formatter};
-use std::io;
+use std::io::{self, ErrorKind};
 
 /// A call of the system that failed: what was being done, with which file, and the system's reason.
 /// It is displayed as `reading day.sv.log failed: Permission denied (os error 13)`.
@@ -29,6 +29,11 @@ impl Failure {
             }),
             Err(_) => None,
         }
+    }
+
+    /// Whether nobody reads any longer what was being written. Good tools are silent on that.
+    pub fn is_broken_pipe(&self) -> bool {
+        self.reason.kind() == ErrorKind::BrokenPipe
     }
 }
 

@@ -1,11 +1,14 @@
 // The files of the system.
-ghost use Rattle.std.specs.Prelude.{◌≡◌};
+ghost use Rattle.std.specs.Prelude.{◌≡◌, IfOk};
 ghost use Rattle.hall_outside.specs.Counts.{raised as raised_count};
 
+use crate::begun_files::BegunFiles;
 use crate::counts::raised;
 use crate::failure::Failure;
-use crate::stores::{Failed, Store, Taken};
-use crate::system_files::{Reading, Writing, append_part, new_file, read_part};
+use crate::read_files::ReadFiles;
+use crate::stores::{Failed, Memory, Store, Taken};
+use crate::system_files::{LastRead, read_part};
+use std::fs::File;
 use std::io;
 use std::marker::Model;
 use std::rt::Files;
@@ -13,15 +16,25 @@ use std::rt::Files;
 /// The files of the system, in the folder where the program runs. It exposes nothing of them, and
 /// counts what it answered.
 ///
-/// A file that is created is a new one: it is made empty beside the old one and renamed onto it, so
-/// that two programs never write into one file, a link is replaced and not followed, and a file
-/// that is being read stays as it is for its reader. It is appended to through the handle that
-/// created it. What an append wrote is flushed to the disk before it returns.
+/// A file that is created is written under another name beside its own, and stands under its own
+/// from `finish` on: all are flushed to the disk, and then renamed in the order in which they were
+/// created. Until then no file is changed, and a read finds the old one. Where a create, an append
+/// or a flush fails, all are given up and removed; where a rename does, those before it stand. Only
+/// a file that was created since the last `finish` is appended to.
+///
+/// The other name of a file is always the same, and the system's lock is on it. So a second program
+/// that writes the file fails, and what a program left there that was ended is removed by the next.
+/// Nor is a file created that was read since the last `finish`, if another program has written it
+/// meanwhile.
+///
+/// A replaced file keeps its permission bits, and a link is replaced and not followed. A file whose
+/// name ends with `.office` holds a secret: only its owner can read it.
 #[derive(Drop)]
-pub struct FolderStore<'a, R: Files> {
+pub struct FolderStore<'a, R> {
     rt: &'a R,
-    reading: Option<Reading<R::File>>,
-    writing: Option<Writing<R::File>>,
+    last_read: LastRead,
+    read: ReadFiles,
+    begun: BegunFiles,
     failure: Option<Failure>,
     read_faults: u64,
     write_faults: u64,
@@ -29,7 +42,7 @@ pub struct FolderStore<'a, R: Files> {
     bytes: u64,
 }
 
-impl<'a, R: Files> Model for FolderStore<'a, R> {
+impl<'a, R> Model for FolderStore<'a, R> {
     ghost use Rattle.hall_outside.specs.FolderStore.{FolderState};
 
     ghost Value = { FolderState };
@@ -41,25 +54,28 @@ impl<'a, R: Files> Model for FolderStore<'a, R> {
     } };
 }
 
-impl<'a, R: Files> FolderStore<'a, R> {
-    /// The store, with its counts at 0.
-    pub fn make(rt: &'a R) -> FolderStore<'a, R>
-        ensures { result ≡ record {
+impl<'a, R: AllocGlobal> FolderStore<'a, R> {
+    /// The store, with its counts at 0. It takes the memory for names now: reads and writes take
+    /// none of names of up to 1,152 bytes, where at most 17 files are written between two calls of
+    /// `finish`.
+    pub fn make(rt: &'a R) -> Result<FolderStore<'a, R>, Memory>
+        ensures { IfOk result (λ store. store ≡ record {
           read_faults = 0;
           write_faults = 0;
           answered = record { absences = 0; bytes = 0 };
-        } }
+        }) }
     {
-        FolderStore {
+        Ok(FolderStore {
             rt,
-            reading: None,
-            writing: None,
+            last_read: LastRead::make(rt.alloc())?,
+            read: ReadFiles::make(rt.alloc())?,
+            begun: BegunFiles::make(rt.alloc())?,
             failure: None,
             read_faults: 0,
             write_faults: 0,
             absences: 0,
             bytes: 0,
-        }
+        })
     }
 
     /// The last call that failed, for a line to the user. It is `None` where none did, or where
@@ -69,7 +85,7 @@ impl<'a, R: Files> FolderStore<'a, R> {
     }
 }
 
-impl<'a, R: Files + AllocGlobal> FolderStore<'a, R> {
+impl<'a, R: Files<File = File> + AllocGlobal> FolderStore<'a, R> {
     fn read_failed(&mut self, name: &str, reason: io::Error) -> Failed
         ensures { self.new ≡ record self.old {
           read_faults = raised_count (self.old).read_faults 1;
@@ -80,18 +96,20 @@ impl<'a, R: Files + AllocGlobal> FolderStore<'a, R> {
         Failed
     }
 
+    /// Nothing more is done with the files that were begun.
     fn write_failed(&mut self, name: &str, reason: io::Error) -> Failed
         ensures { self.new ≡ record self.old {
           write_faults = raised_count (self.old).write_faults 1;
         } }
     {
+        self.begun.discard(self.rt);
         self.write_faults = raised(self.write_faults, 1);
         self.failure = Failure::new(self.rt.alloc(), "writing", name, reason);
         Failed
     }
 }
 
-impl<'a, R: Files + AllocGlobal> Store for FolderStore<'a, R> {
+impl<'a, R: Files<File = File> + AllocGlobal> Store for FolderStore<'a, R> {
     ghost use Rattle.std.specs.Prelude.{None, is_ok};
     ghost use Rattle.hall_outside.specs.Counts.{CountsFailures};
 
@@ -111,8 +129,10 @@ impl<'a, R: Files + AllocGlobal> Store for FolderStore<'a, R> {
     ghost appends = { λ _ old _ result new.
         CountsFailures old.write_faults (is_ok result) new.write_faults };
 
+    ghost finishes = { λ old ok new. CountsFailures old.write_faults ok new.write_faults };
+
     fn read_at(&mut self, name: &str, at: u64, into: &mut [u8]) -> Result<Taken, Failed> {
-        match read_part(self.rt, &mut self.reading, name, at, into) {
+        match read_part(self.rt, &mut self.last_read, &mut self.read, name, at, into) {
             Ok(Taken::Absent) => {
                 self.absences = raised(self.absences, 1);
                 Ok(Taken::Absent)
@@ -126,19 +146,28 @@ impl<'a, R: Files + AllocGlobal> Store for FolderStore<'a, R> {
     }
 
     fn create(&mut self, name: &str) -> Result<(), Failed> {
-        match new_file(self.rt, name) {
-            Ok(writing) => {
-                self.writing = Some(writing);
-                Ok(())
-            }
+        match self.begun.begin(self.rt, &self.read, name) {
+            Ok(()) => Ok(()),
             Err(reason) => Err(self.write_failed(name, reason)),
         }
     }
 
     fn append(&mut self, name: &str, piece: &[u8]) -> Result<usize, Failed> {
-        match append_part(self.rt, &mut self.writing, name, piece) {
+        match self.begun.append(name, piece) {
             Ok(count) => Ok(count),
             Err(reason) => Err(self.write_failed(name, reason)),
+        }
+    }
+
+    fn finish(&mut self) -> Result<(), Failed> {
+        self.read.clear();
+        match self.begun.place(self.rt) {
+            Ok(()) => Ok(()),
+            Err(failure) => {
+                self.write_faults = raised(self.write_faults, 1);
+                self.failure = failure;
+                Err(Failed)
+            }
         }
     }
 }

@@ -26,8 +26,8 @@ use std::alloc::Global;
 use std::marker::Model;
 
 /// Files in memory, and the numbers of the calls that are to fail. Reads are counted from 1, and so
-/// are the creates and appends together. Want of memory is a failed create or append too. A read
-/// gives all that there is room for, unless `greatest_read` was called.
+/// are the creates, appends and finishes together. A create or an append that gets no memory fails
+/// too. A read gives all that there is room for, unless `greatest_read` was called.
 #[derive(Drop)]
 pub struct MemoryStore {
     files: Vec<File>,
@@ -74,8 +74,8 @@ impl Model for MemoryStore {
 }
 
 impl MemoryStore {
-    /// A store without files, whose reads, and creates and appends, with these numbers are to fail.
-    /// It keeps `alloc` for its files.
+    /// A store without files, whose reads, and whose creates, appends and finishes, with these
+    /// numbers are to fail. It keeps `alloc` for its files.
     pub fn make(alloc: Global, reads: Vec<u64>, writes: Vec<u64>) -> MemoryStore
         ensures { result ≡ record {
           files = [];
@@ -151,6 +151,8 @@ impl Store for MemoryStore {
 
     ghost appends = { λ _ old piece result new. IsMemoryAppend old piece result new };
 
+    ghost finishes = { λ old ok new. IsMemoryWrite old ok new };
+
     fn read_at(&mut self, name: &str, at: u64, into: &mut [u8]) -> Result<Taken, Failed> {
         self.reads = raised(self.reads, 1);
         let number = self.reads;
@@ -190,6 +192,16 @@ impl Store for MemoryStore {
             return Err(Failed);
         }
         Ok(piece.len())
+    }
+
+    fn finish(&mut self) -> Result<(), Failed> {
+        self.writes = raised(self.writes, 1);
+        let number = self.writes;
+        if self.failing_writes.contains(&number) {
+            self.write_faults = raised(self.write_faults, 1);
+            return Err(Failed);
+        }
+        Ok(())
     }
 }
 

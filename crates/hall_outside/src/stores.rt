@@ -28,7 +28,7 @@ use thiserror::Error;
 /// The system gave no memory: another name of std's error.
 pub type Memory = AllocError;
 
-/// A read, a create, an append or a write failed.
+/// A read, a create, an append, a finish or a write failed.
 #[derive(Clone, Copy, Debug, PartialEq, Eq, Error)]
 #[error("the system failed")]
 pub struct Failed;
@@ -53,19 +53,21 @@ pub trait Store {
     /// How many reads have failed, up to the greatest `u64`.
     ghost read_faults: { Self → ℕ };
 
-    /// How many creates and appends have failed, up to the greatest `u64`.
+    /// How many creates, appends and finishes have failed, up to the greatest `u64`.
     ghost write_faults: { Self → ℕ };
 
     /// What reads have answered in all, up to the greatest `u64` each.
     ghost answered: { Self → Answered };
 
-    /// What more than the clauses below say may come of a read, a create and an append: the store
-    /// before the call, what was asked, the answer and the store after it.
+    /// What more than the clauses below say may come of a read, a create, an append and a finish:
+    /// the store before the call, what was asked, the answer and the store after it.
     ghost reads: { List ℕ → ℕ → ℕ → Self → Result Taken Failed → Self → Type 0 };
 
     ghost creates: { List ℕ → Self → Bool → Self → Type 0 };
 
     ghost appends: { List ℕ → Self → List ℕ → Result ℕ Failed → Self → Type 0 };
+
+    ghost finishes: { Self → Bool → Self → Type 0 };
 
     /// Reads into the front of `into` from the file's byte `at` on, counted from 0. The bytes of
     /// `into` that aren't read are unchanged, save after `Failed`.
@@ -99,6 +101,15 @@ pub trait Store {
         ensures answered { answered self.new ≡ answered self.old }
         ensures read_faults { read_faults self.new ≡ read_faults self.old }
         ensures step { appends name.now self.old piece.now result self.new };
+
+    /// Says that what was created and appended since the last such call is all. A store that keeps
+    /// its files elsewhere puts them in place now.
+    fn finish(&mut self) -> Result<(), Failed>
+        ensures files { files self.new ≡ files self.old }
+        ensures cause { HasCause (write_faults self.old) (write_faults self.new) (IsErr result) }
+        ensures answered { answered self.new ≡ answered self.old }
+        ensures read_faults { read_faults self.new ≡ read_faults self.old }
+        ensures step { finishes self.old (is_ok result) self.new };
 }
 
 /// Makes a file of these bytes: it is created, then appended to until all is there, each append

@@ -1,13 +1,12 @@
-ghost use Rattle.std.specs.Prelude.{◌<◌, length};
+ghost use Rattle.std.specs.Prelude.{◌<◌};
 
 use hall_outside::{
     Failure, FileFault, FolderStore, MemorySink, MemoryStore, OutputSink, Store, Taken, put_file,
     read_file, write_all,
 };
 use std::alloc::Global;
-use std::fs;
-use std::os::unix::fs::symlink;
-use std::rt::Files;
+use std::fs::{self, Permissions};
+use std::os::unix::fs::{PermissionsExt, symlink};
 use std::test::Fail;
 
 const LIMIT: usize = 200_000;
@@ -178,33 +177,34 @@ fn is_read_back<S: Store>(alloc: Global, store: &mut S, name: &str, bytes: &[u8]
 }
 
 /// Whether one store puts the bytes as the file and reads them back.
-fn is_put_and_read(rt: &HostRuntime, name: &str, bytes: &[u8]) -> bool {
-    let mut store = FolderStore::make(rt);
-    put_file(&mut store, name, bytes).is_ok() && is_read_back(rt.alloc(), &mut store, name, bytes)
+fn is_put_and_read(rt: &HostRuntime, name: &str, bytes: &[u8]) -> Result<bool, Fail> {
+    let mut store = FolderStore::make(rt)?;
+    let is_put = put_file(&mut store, name, bytes).is_ok() && store.finish().is_ok();
+    Ok(is_put && is_read_back(rt.alloc(), &mut store, name, bytes))
 }
 
 /// Whether a file of so many bytes is put, and read back by the store and by the system.
 fn is_moved(rt: &HostRuntime, name: &str, len: usize) -> Result<bool, Fail> {
     let bytes = distinct_bytes(rt.alloc(), len)?;
-    Ok(is_put_and_read(rt, name, bytes.as_slice()) && has_bytes(rt, name, bytes.as_slice())?)
+    Ok(is_put_and_read(rt, name, bytes.as_slice())? && has_bytes(rt, name, bytes.as_slice())?)
 }
 
 /// Whether a read there finds these bytes.
-fn is_found<R: Files + AllocGlobal>(store: &mut FolderStore<'_, R>, at: u64, want: &[u8]) -> bool {
+fn is_found(store: &mut FolderStore<'_, HostRuntime>, at: u64, want: &[u8]) -> bool {
     let mut into = [0; 8];
     let taken = store.read_at("outside-test", at, &mut into);
     matches!(taken, Ok(Taken::Bytes(count)) if count == want.len()) && into.starts_with(want)
 }
 
 /// Where the first read begins that doesn't find its part.
-fn first_unfound(rt: &HostRuntime) -> Option<u64> {
-    let mut store = FolderStore::make(rt);
+fn first_unfound(rt: &HostRuntime) -> Result<Option<u64>, Fail> {
+    let mut store = FolderStore::make(rt)?;
     for &(at, want) in PARTS {
         if !is_found(&mut store, at, want) {
-            return Some(at);
+            return Ok(Some(at));
         }
     }
-    None
+    Ok(None)
 }
 
 #[test]
@@ -212,14 +212,14 @@ fn folder_store_moves_the_bytes_of_files(rt: HostRuntime) -> Result<(), Fail> {
     assert!(rt; is_moved(&rt, "outside-test", 70_000)?);
     // A shorter file over a longer one.
     assert!(rt; is_moved(&rt, "outside-test", 29)?);
-    assert_eq!(rt; first_unfound(&rt), None);
+    assert_eq!(rt; first_unfound(&rt)?, None);
     fs::remove_file(&rt, "outside-test")?;
     Ok(())
 }
 
 /// Whether the store says that there is no such file.
-fn is_absent(rt: &HostRuntime, name: &str) -> bool {
-    FolderStore::make(rt).read_at(name, 0, &mut [0; 8]) == Ok(Taken::Absent)
+fn is_absent(rt: &HostRuntime, name: &str) -> Result<bool, Fail> {
+    Ok(FolderStore::make(rt)?.read_at(name, 0, &mut [0; 8]) == Ok(Taken::Absent))
 }
 
 /// The line of a failure.
@@ -232,29 +232,28 @@ fn line_of(alloc: Global, failure: Option<&Failure>) -> Result<String, Fail> {
 
 /// The line that the store keeps of the last read that failed.
 fn failure_of(rt: &HostRuntime, name: &str) -> Result<String, Fail> {
-    let mut store = FolderStore::make(rt);
+    let mut store = FolderStore::make(rt)?;
     let _ = store.read_at(name, 0, &mut [0; 8]);
     line_of(rt.alloc(), store.failure())
 }
 
 #[test]
 fn folder_store_refuses_by_name(rt: HostRuntime) -> Result<(), Fail> {
-    assert!(rt; is_absent(&rt, "outside-none"));
+    assert!(rt; is_absent(&rt, "outside-none")?);
     let line = failure_of(&rt, ".")?;
     assert!(rt; line.as_str() == "reading . failed: Is a directory (os error 21)");
     Ok(())
 }
 
-#[test]
-fn a_folder_is_not_replaced(rt: HostRuntime) {
-    assert!(rt; !is_put(&rt, ".", "text"));
-    // What was made beside it is gone.
-    assert!(rt; fs::metadata(&rt, ".auditorium-0").is_err());
+/// Whether the text is put as the file.
+fn is_put(rt: &HostRuntime, name: &str, text: &str) -> Result<bool, Fail> {
+    let mut store = FolderStore::make(rt)?;
+    Ok(put_file(&mut store, name, text.as_bytes()).is_ok() && store.finish().is_ok())
 }
 
-/// Whether the text is put as the file.
-fn is_put(rt: &HostRuntime, name: &str, text: &str) -> bool {
-    put_file(&mut FolderStore::make(rt), name, text.as_bytes()).is_ok()
+/// Whether a file of the name is there.
+fn is_there(rt: &HostRuntime, name: &str) -> bool {
+    fs::symlink_metadata(rt, name).is_ok()
 }
 
 /// Whether the file has this text, which is then removed.
@@ -266,40 +265,95 @@ fn had_text(rt: &HostRuntime, name: &str, text: &str) -> Result<bool, Fail> {
 
 #[test]
 fn a_link_is_replaced_and_not_followed(rt: HostRuntime) -> Result<(), Fail> {
-    assert!(rt; is_put(&rt, "outside-target", "target"));
+    assert!(rt; is_put(&rt, "outside-target", "target")?);
     symlink(&rt, "outside-target", "outside-link")?;
-    assert!(rt; is_put(&rt, "outside-link", "link"));
+    assert!(rt; is_put(&rt, "outside-link", "link")?);
     assert!(rt; had_text(&rt, "outside-target", "target")?);
     assert!(rt; had_text(&rt, "outside-link", "link")?);
     Ok(())
 }
 
-fn is_appended<R: Files + AllocGlobal>(store: &mut FolderStore<'_, R>, text: &str) -> bool
-    requires { 0 < length text.now }
-{
-    store.append("outside-both", text.as_bytes()).is_ok()
+#[test]
+fn no_file_changes_before_all_are_finished(rt: HostRuntime) -> Result<(), Fail> {
+    assert!(rt; is_put(&rt, "outside-first", "old")?);
+    let mut store = FolderStore::make(&rt)?;
+    assert!(rt; put_file(&mut store, "outside-first", "new".as_bytes()).is_ok());
+    assert!(rt; put_file(&mut store, "outside-second", "new".as_bytes()).is_ok());
+    assert!(rt; has_bytes(&rt, "outside-first", "old".as_bytes())?);
+    assert!(rt; !is_there(&rt, "outside-second"));
+    assert!(rt; store.finish().is_ok());
+    assert!(rt; had_text(&rt, "outside-first", "new")?);
+    assert!(rt; had_text(&rt, "outside-second", "new")?);
+    Ok(())
 }
 
-/// Whether both stores create the file and then each appends to it.
-fn both_append<R: Files + AllocGlobal>(
-    first: &mut FolderStore<'_, R>,
-    second: &mut FolderStore<'_, R>,
-) -> bool {
-    first.create("outside-both").is_ok()
-        && second.create("outside-both").is_ok()
-        && is_appended(first, "first")
-        && is_appended(second, "second")
-}
+/// The name that `outside-kept` has until it is put in place.
+const OTHER_NAME: &str = ".auditorium-ea6c218822befb8b";
 
-/// Whether two new stores do so.
-fn is_written_by_two(rt: &HostRuntime) -> bool {
-    both_append(&mut FolderStore::make(rt), &mut FolderStore::make(rt))
+#[test]
+fn a_failed_create_gives_up_the_files_before_it(rt: HostRuntime) -> Result<(), Fail> {
+    let mut store = FolderStore::make(&rt)?;
+    assert!(rt; put_file(&mut store, "outside-kept", "text".as_bytes()).is_ok());
+    assert!(rt; is_there(&rt, OTHER_NAME));
+    // A folder is not replaced.
+    assert!(rt; store.create(".").is_err());
+    assert!(rt; !is_there(&rt, OTHER_NAME));
+    assert!(rt; store.finish().is_ok());
+    assert!(rt; !is_there(&rt, "outside-kept"));
+    Ok(())
 }
 
 #[test]
-fn two_that_write_one_name_never_write_into_one_file(rt: HostRuntime) -> Result<(), Fail> {
-    assert!(rt; is_written_by_two(&rt));
-    assert!(rt; had_text(&rt, "outside-both", "second")?);
+fn what_was_left_under_the_other_name_is_removed(rt: HostRuntime) -> Result<(), Fail> {
+    fs::write(&rt, OTHER_NAME, "left")?;
+    assert!(rt; is_put(&rt, "outside-kept", "text")?);
+    assert!(rt; had_text(&rt, "outside-kept", "text")?);
+    assert!(rt; !is_there(&rt, OTHER_NAME));
+    Ok(())
+}
+
+#[test]
+fn the_second_that_writes_a_file_fails(rt: HostRuntime) -> Result<(), Fail> {
+    let mut first = FolderStore::make(&rt)?;
+    assert!(rt; put_file(&mut first, "outside-both", "first".as_bytes()).is_ok());
+    let mut second = FolderStore::make(&rt)?;
+    assert!(rt; second.create("outside-both").is_err());
+    let line = line_of(rt.alloc(), second.failure())?;
+    let want = "writing outside-both failed: another program is writing it";
+    assert!(rt; line.as_str() == want);
+    assert!(rt; first.finish().is_ok());
+    assert!(rt; had_text(&rt, "outside-both", "first")?);
+    Ok(())
+}
+
+/// The permission bits that the file had, which is then removed.
+fn bits_of(rt: &HostRuntime, name: &str) -> Result<u32, Fail> {
+    let bits = fs::metadata(rt, name)?.permissions().mode() & 0o777;
+    fs::remove_file(rt, name)?;
+    Ok(bits)
+}
+
+/// The bits that a file has once it is put over one that had these bits.
+fn bits_after(rt: &HostRuntime, name: &str, bits: u32) -> Result<u32, Fail> {
+    fs::write(rt, name, "old")?;
+    fs::set_permissions(rt, name, Permissions::from_mode(bits))?;
+    let _ = is_put(rt, name, "new")?;
+    bits_of(rt, name)
+}
+
+#[test]
+fn a_replaced_file_keeps_its_permissions(rt: HostRuntime) -> Result<(), Fail> {
+    for bits in [0o600, 0o640, 0o666, 0o755] {
+        assert_eq!(rt; bits_after(&rt, "outside-bits", bits)?, bits);
+    }
+    Ok(())
+}
+
+#[test]
+fn only_its_owner_reads_a_secret(rt: HostRuntime) -> Result<(), Fail> {
+    assert!(rt; is_put(&rt, "outside.office", "new")?);
+    assert_eq!(rt; bits_of(&rt, "outside.office")?, 0o600);
+    assert_eq!(rt; bits_after(&rt, "outside.office", 0o644)?, 0o600);
     Ok(())
 }
 

@@ -6,7 +6,7 @@ use Rattle.hall_outside.specs.declared.stores.Taken.{Taken}
 use Rattle.hall_outside.specs.declared.stores.Taken.TheVariants.{Absent, Bytes}
 use Rattle.hall_outside.specs.Counts.{raised}
 use Rattle.hall_outside.specs.Reading.{Answered, counted}
-use Rattle.hall_outside.proofs.Offers.{raised_twice}
+use Rattle.hall_outside.proofs.Offers.{raised_twice, unrisen}
 use Rattle.hall_outside.proofs.Pieces.{last_read, read_on}
 use Rattle.hall_outside.proofs.Fronts.{read_more, read_whole, taken_part, taken_fits, written_back}
 use Rattle.hall_outside.proofs.reading.read_pieces.Goals as goal
@@ -68,7 +68,7 @@ loop-piece-preserved g c =
       absences = ap (λ (a : Answered). a.absences) answered ∙ c.loop-piece.invariant.absences;
       given = ap (λ (a : Answered). a.bytes) answered ∙ ap (λ b. raised b count) c.loop-piece.invariant.given
           ∙ raised_twice (store.answered c.args.store.now).bytes at count;
-      read_faults = omega (arith, arm.ensures.cause.never_falls, c.loop-piece.invariant.read_faults);
+      read_faults = unrisen _ _ arm.ensures.cause ∙ c.loop-piece.invariant.read_faults;
       write_faults = arm.ensures.write_faults ∙ c.loop-piece.invariant.write_faults;
       pieces = λ end more. c.loop-piece.invariant.pieces end
           (read_on (store.reads c.args.name.now) c.args.limit at at (length buffer) count (at + count) arm.field-0

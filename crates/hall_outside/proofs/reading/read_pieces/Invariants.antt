@@ -21,7 +21,7 @@ invariant-loop-piece g l =
       files : store.files l.store ≡ store.files l.fn.store;
       absences : (store.answered l.store).absences ≡ (store.answered l.fn.store).absences;
       given : (store.answered l.store).bytes ≡ raised (store.answered l.fn.store).bytes l.done;
-      read_faults : store.read_faults l.fn.store ≤ store.read_faults l.store;
+      read_faults : store.read_faults l.store ≡ store.read_faults l.fn.store;
       write_faults : store.write_faults l.store ≡ store.write_faults l.fn.store;
       pieces : GoesOn (store.reads l.name) l.limit l.fn.store l.done l.store;
     }

@@ -1,6 +1,6 @@
-use Rattle.std.proofs.Common.{◌-◌, ◌≡◌, List, ℕ, length, take, drop, arith, ap}
+use Rattle.std.proofs.Common.{◌-◌, ◌∙◌, ◌≡◌, List, ℕ, length, take, drop, arith, ap}
 use Rattle.std.proofs.lemmas.List.{take_rest, length-drop}
-use Rattle.hall_outside.proofs.Offers.{takes_more, fails_at, all_offered}
+use Rattle.hall_outside.proofs.Offers.{unrisen, takes_more, fails_at, all_offered}
 use Rattle.hall_outside.proofs.Sets.{appended_more}
 use Rattle.hall_outside.proofs.sinks.write_all.Goals as goal
 
@@ -24,7 +24,7 @@ loop-done-preserved g c =
       within = omega (arith, c.in_ok-done.ensures.took.at_most, ap length left, length-drop at bytes);
       written = appended_more (sink.written c.args.sink.now) (sink.written c.loop-done.sink)
           (sink.written c.write.new.self) bytes piece at n left c.loop-done.invariant.written c.in_ok-done.ensures.ok;
-      faults = omega (arith, c.in_ok-done.ensures.cause.never_falls);
+      faults = unrisen _ _ c.in_ok-done.ensures.cause ∙ c.loop-done.invariant.faults;
       offers = λ ok end h. c.loop-done.invariant.offers ok end
           (takes_more sink.writes c.loop-done.sink c.write.new.self end bytes piece at n ok left
           c.in_ok-done.ensures.step h);

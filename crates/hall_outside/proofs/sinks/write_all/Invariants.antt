@@ -10,7 +10,7 @@ invariant-loop-done g l =
     record {
       within : l.done ≤ length l.bytes;
       written : sink.written l.sink ≡ appended (sink.written l.fn.sink) (take l.done l.bytes);
-      faults : sink.faults l.fn.sink ≤ sink.faults l.sink;
+      faults : sink.faults l.sink ≡ sink.faults l.fn.sink;
       offers : Continues sink.writes l.fn.sink l.sink l.bytes (drop l.done l.bytes);
     }
 

@@ -1,7 +1,7 @@
 use Rattle.std.proofs.Common.{◌∙◌, ◌-◌, ◌≡◌, List, ℕ, length, take, drop, arith, ap}
 use Rattle.std.proofs.lemmas.List.{take_rest, length-drop}
 use Rattle.hall_outside.specs.Writing.{created}
-use Rattle.hall_outside.proofs.Offers.{takes_more, fails_at, all_offered, not_created_at}
+use Rattle.hall_outside.proofs.Offers.{unrisen, takes_more, fails_at, all_offered, not_created_at}
 use Rattle.hall_outside.proofs.Sets.{put_more}
 use Rattle.hall_outside.proofs.stores.put_file.Goals as goal
 
@@ -15,7 +15,7 @@ loop-done-init g c =
     record {
       within = omega arith;
       files = c.in_ok-create.ensures.ok;
-      write_faults = c.in_ok-create.ensures.cause.never_falls;
+      write_faults = unrisen _ _ c.in_ok-create.ensures.cause;
       offers = λ ok end h. created _ _ _ _ ok c.in_ok-create.ensures.step h;
       answered = c.in_ok-create.ensures.answered;
       read_faults = c.in_ok-create.ensures.read_faults;
@@ -43,7 +43,7 @@ loop-done-preserved g c =
       files = put_more (store.files c.args.store.now) (store.files c.loop-done.store)
           (store.files c.append.new.self) name bytes piece at n left c.loop-done.invariant.files
           c.in_ok-done.ensures.ok;
-      write_faults = omega (arith, c.in_ok-done.ensures.cause.never_falls);
+      write_faults = unrisen _ _ c.in_ok-done.ensures.cause ∙ c.loop-done.invariant.write_faults;
       offers = λ ok end h. c.loop-done.invariant.offers ok end
           (takes_more (store.appends name) c.loop-done.store c.append.new.self end bytes piece at n ok left
           c.in_ok-done.ensures.step h);

@@ -10,7 +10,7 @@ invariant-loop-done g l =
     record {
       within : l.done ≤ length l.bytes;
       files : store.files l.store ≡ with_file (store.files l.fn.store) l.name (take l.done l.bytes);
-      write_faults : store.write_faults l.fn.store ≤ store.write_faults l.store;
+      write_faults : store.write_faults l.store ≡ store.write_faults l.fn.store;
       offers : Creates (store.creates l.name) (store.appends l.name) l.fn.store l.store l.bytes (drop l.done l.bytes);
       answered : store.answered l.store ≡ store.answered l.fn.store;
       read_faults : store.read_faults l.store ≡ store.read_faults l.fn.store;
