@@ -20,7 +20,7 @@ use Rattle.floor_sweep.specs.Wholes.{IsWholeRun}
 use Rattle.polling_world.specs.Machines.{MachineState}
 use Rattle.polling_world.specs.Worlds.{world_of}
 use Rattle.roster.specs.declared.post.Post.{Post}
-use Rattle.finished_floor.specs.Floors.{AreGathered, IsBy, IsFloorOf, passes_of}
+use Rattle.finished_floor.specs.Floors.{AreGathered, ArePlayedAgain, IsFloorOf, passes_of}
 use Rattle.finished_floor.specs.Losses.{IsToldBefore}
 use Rattle.finished_floor.specs.Places.{AreMachinesOf}
 use Rattle.finished_floor.specs.inside.Begun.{IsBegunBy}
@@ -50,15 +50,14 @@ rows_begun f ms ns rows grown all =
 
 -- what the sweep leaves
 module _ (script : Script) (lawful : IsLawful script) (roster : List Post) (ms ns : List MachineState)
-    (waits : List Waiting) (before after told : List Loss) (rows by : List (List (Option ℕ)))
+    (waits : List Waiting) (before after told : List Loss) (rows : List (List (Option ℕ)))
     (left : AreGathered script roster ms waits before rows) (grown : HaveGrown ms ns) (placed : ArePlaced ns)
     (makers : AreMadeByThese ms → AreMadeByThese ns)
     (balanced : IsBalanced node_of_sealed (length ns) (history (world_of ns)) after (λ a b. []))
     (losses : (lost : List Loss) × (after ≡ before ++ lost) × All (IsLicensed script.loses ns) lost)
     (scripted : AreScripted script.loses ms ns after)
     (whole : (place : ℕ) (m : MachineState) → slice_get ns place ≡ Some m → IsWholeRun m)
-    (moved : IsPermutation after told) (sorted : AllPairs IsToldBefore told)
-    (filled : AllZip (λ (m : MachineState) row. IsBy m.events row) ns by) where
+    (moved : IsPermutation after told) (sorted : AllPairs IsToldBefore told) where
   -- after the sweep the machines are still the script's
   now_of : AreMachinesOf script ns
   now_of = machines_still ms ns grown script left.machines placed
@@ -71,8 +70,12 @@ module _ (script : Script) (lawful : IsLawful script) (roster : List Post) (ms n
   orderly : IsOrderly node_of_sealed (world_of ns)
   orderly = are_orderly ns placed after (λ a b. []) (makers left.makers) balanced
 
+  -- played in their merged order, the events give the histories again
+  pub played_of : ArePlayedAgain script ns
+  played_of = played_again ns placed script now_of orderly
+
   -- it is what a run comes to
-  pub floor_of : IsFloorOf script roster ns told by
+  pub floor_of : IsFloorOf script roster ns told
   floor_of =
       let (lost, split, licensed) = losses in
       let each = got_or_lost ns told (each_is_heard_or_lost node_of_sealed) once
@@ -86,7 +89,6 @@ module _ (script : Script) (lawful : IsLawful script) (roster : List Post) (ms n
         roster = left.roster;
         machines = now_of;
         orderly = orderly;
-        played = played_again ns placed script now_of orderly;
         losses = record {
           sorted = sorted;
           each = each;
@@ -98,5 +100,4 @@ module _ (script : Script) (lawful : IsLawful script) (roster : List Post) (ms n
         };
         roomy = loses_nothing script ns now_of orderly told once each only causes others;
         at_end = all_at_end script lawful ns now_of orderly (stamps_are_few node_of_sealed) whole;
-        by = filled;
       }

@@ -60,15 +60,17 @@ ArePlayedAgain script machines =
     (w : World SealedEntry) → ComesTo script (map (λ x. step_of node_of_sealed x.machine x.event) xs) w →
     (m : ℕ) → history w m ≡ history (world_of machines) m
 
--- What a run comes to: the script's roster and machines, whose histories are those of a play on one thread; what is
--- lost, with causes; who did each event; and nothing that could be done was left.
+-- who did each machine's events
+abbrev pub AreBy : List MachineState → List (List (Option ℕ)) → Type 0
+AreBy states rows = AllZip (λ m row. IsBy m.events row) states rows
+
+-- What a run comes to: the script's roster and machines, whose histories are orderly; what is lost, with causes; and
+-- nothing that could be done was left.
 pub record IsFloorOf (script : Script) (posts : List Post) (states : List MachineState) (lost : List Loss)
-    (rows : List (List (Option ℕ))) : Type 0 where
+    : Type 0 where
   pub roster : posts ≡ roster_of script
   pub machines : AreMachinesOf script states
   pub orderly : IsOrderly node_of_sealed (world_of states)
-  pub played : ArePlayedAgain script states
   pub losses : AreLosses script states lost
   pub roomy : LosesNothing script states lost
   pub at_end : All IsAtEnd states
-  pub by : AllZip (λ m row. IsBy m.events row) states rows

@@ -1,7 +1,7 @@
 //! The end of a run: what threads leave is swept, and what it comes to is put in order.
 ghost use Rattle.std.specs.Prelude.{IfOk, map};
 ghost use Rattle.election_script.specs.Lawful.{IsLawful};
-ghost use Rattle.finished_floor.specs.Floors.{AreGathered, IsFloorOf};
+ghost use Rattle.finished_floor.specs.Floors.{AreBy, AreGathered, ArePlayedAgain, IsFloorOf};
 
 use crate::filling::fill;
 use crate::floor::{Floor, Gathered};
@@ -16,8 +16,11 @@ pub fn finish_floor(alloc: Global, script: &Script, gathered: Gathered) -> Resul
     requires lawful { IsLawful script.now }
     requires gathered { AreGathered script.now gathered.roster.machines gathered.machines.items
         gathered.waits.items gathered.losses.items (map (λ row. row.items) gathered.by.items) }
-    ensures { IfOk result (λ floor. IsFloorOf script.now floor.roster.machines floor.machines.items
-        floor.losses.items (map (λ row. row.items) floor.by.items)) }
+    ensures floor { IfOk result (λ floor. IsFloorOf script.now floor.roster.machines
+        floor.machines.items floor.losses.items) }
+    ensures played { IfOk result (λ floor. ArePlayedAgain script.now floor.machines.items) }
+    ensures by { IfOk result (λ floor. AreBy floor.machines.items
+        (map (λ row. row.items) floor.by.items)) }
 {
     let Gathered {
         roster,

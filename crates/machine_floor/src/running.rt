@@ -2,7 +2,7 @@
 ghost use Rattle.std.specs.Prelude.{◌≡◌, ◌*◌, ◌+◌, IfOk, length, map};
 ghost use Rattle.std.specs.List.{flat_map};
 ghost use Rattle.election_script.specs.Lawful.{IsLawful};
-ghost use Rattle.finished_floor.specs.Floors.{IsFloorOf};
+ghost use Rattle.finished_floor.specs.Floors.{AreBy, ArePlayedAgain, IsFloorOf};
 
 use crate::gathering::gather;
 use crate::keys::make_keys;
@@ -26,8 +26,11 @@ pub fn run_floor<R: Threads + Wait + Sync, G: Gate + Sync>(
     gate: &G,
 ) -> Result<Floor, Memory>
     requires { IsLawful script.now }
-    ensures { IfOk result (λ floor. IsFloorOf script.now floor.roster.machines floor.machines.items
-        floor.losses.items (map (λ row. row.items) floor.by.items)) }
+    ensures floor { IfOk result (λ floor. IsFloorOf script.now floor.roster.machines
+        floor.machines.items floor.losses.items) }
+    ensures played { IfOk result (λ floor. ArePlayedAgain script.now floor.machines.items) }
+    ensures by { IfOk result (λ floor. AreBy floor.machines.items
+        (map (λ row. row.items) floor.by.items)) }
 {
     let Prepared {
         roster,

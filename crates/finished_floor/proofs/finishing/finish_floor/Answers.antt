@@ -3,9 +3,9 @@ use Rattle.std.specs.List.{All, AllZip}
 use Rattle.floor_losses.specs.declared.loss.Loss.{Loss}
 use Rattle.floor_sweep.specs.Swept.{AreScripted, IsLicensed}
 use Rattle.polling_world.specs.Machines.{MachineState}
-use Rattle.finished_floor.specs.Floors.{IsBy}
+use Rattle.finished_floor.specs.Floors.{AreBy}
 use Rattle.finished_floor.specs.inside.Begun.{IsBegunBy}
-use Rattle.finished_floor.proofs.Finished.{floor_of, rows_begun}
+use Rattle.finished_floor.proofs.Finished.{floor_of, played_of, rows_begun}
 use Rattle.finished_floor.proofs.Grown.{are_placed}
 use Rattle.finished_floor.proofs.finishing.finish_floor.Goals as goal
 
@@ -20,19 +20,37 @@ fill-requires c =
     (rows_begun (λ row. row.items) c.args.gathered.machines.items c.sweep.new.machines.items c.args.gathered.by.items
     c.in_ok-sweep.ensures.grown c.requires.gathered.by)
 
-pub returns : goal.returns
-returns c =
+pub returns-clause-floor : goal.returns-clause-floor
+returns-clause-floor c =
     let swept = c.in_ok-sweep.ensures in
     let ms = c.args.gathered.machines.items in
     let ns = c.sweep.new.machines.items in
     let before = c.args.gathered.losses.items in
     let after = c.sweep.new.losses.items in
     floor_of c.args.script.now c.requires.lawful c.args.gathered.roster.machines ms ns c.args.gathered.waits.items
-    before after c.sort_losses.new.losses.items _ _ c.requires.gathered swept.grown swept.placed swept.makers
+    before after c.sort_losses.new.losses.items _ c.requires.gathered swept.grown swept.placed swept.makers
     swept.balanced
     (subst (λ loses. (lost : List Loss) × (after ≡ before ++ lost) × All (IsLicensed loses ns) lost)
     c.as_slice-loses.ensures swept.licensed)
     (subst (λ loses. AreScripted loses ms ns after) c.as_slice-loses.ensures swept.scripted) swept.whole
     c.sort_losses.ensures.same c.sort_losses.ensures.sorted
-    (subst (λ (l : List MachineState). AllZip (λ (m : MachineState) row. IsBy m.events row) l
-    (map (λ row. row.items) c.fill.new.by.items)) c.deref.ensures.value c.in_ok-fill.ensures)
+
+pub returns-clause-played : goal.returns-clause-played
+returns-clause-played c =
+    let swept = c.in_ok-sweep.ensures in
+    let ms = c.args.gathered.machines.items in
+    let ns = c.sweep.new.machines.items in
+    let before = c.args.gathered.losses.items in
+    let after = c.sweep.new.losses.items in
+    played_of c.args.script.now c.requires.lawful c.args.gathered.roster.machines ms ns c.args.gathered.waits.items
+    before after c.sort_losses.new.losses.items _ c.requires.gathered swept.grown swept.placed swept.makers
+    swept.balanced
+    (subst (λ loses. (lost : List Loss) × (after ≡ before ++ lost) × All (IsLicensed loses ns) lost)
+    c.as_slice-loses.ensures swept.licensed)
+    (subst (λ loses. AreScripted loses ms ns after) c.as_slice-loses.ensures swept.scripted) swept.whole
+    c.sort_losses.ensures.same c.sort_losses.ensures.sorted
+
+pub returns-clause-by : goal.returns-clause-by
+returns-clause-by c =
+    subst (λ (l : List MachineState). AreBy l (map (λ row. row.items) c.fill.new.by.items)) c.deref.ensures.value
+    c.in_ok-fill.ensures
