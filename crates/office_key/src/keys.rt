@@ -6,7 +6,7 @@ ghost use Rattle.office_key.specs.Endorsements.{top_id, top_seed};
 ghost use Rattle.office_key.specs.Offices.{max_signatures};
 
 use crate::office::Office;
-use hss_sign::{HssSecret, Memory};
+use hss_sign::{HssFault, HssSecret, Memory};
 use lms_ots::OtsKind;
 use sha2::{Digest, Sha256};
 use std::alloc::{AllocError, Global};
@@ -58,7 +58,9 @@ pub fn endorse(
     let mut secret = secret_of(alloc, name, office)?;
     match secret.sign(alloc, message) {
         Ok(signature) => Ok(signature),
-        Err(_) => Err(AllocError),
+        Err(HssFault::Memory) => Err(AllocError),
+        // The office has a number left.
+        Err(HssFault::Spent) => unreachable!(),
     }
 }
 
@@ -76,7 +78,9 @@ pub fn endorse_in<R: Threads + Sync>(
     let mut secret = secret_in(rt, alloc, name, office)?;
     match secret.sign_in(rt, alloc, message) {
         Ok(signature) => Ok(signature),
-        Err(_) => Err(AllocError),
+        Err(HssFault::Memory) => Err(AllocError),
+        // The office has a number left.
+        Err(HssFault::Spent) => unreachable!(),
     }
 }
 

@@ -79,6 +79,10 @@ const LINES: &str = "3 Form:|
 4 NotClosed:past 0|past 3|past 9|
 6 NotRising:past 0|past 1 0:1|past 3 2:3 1:3 0:2|past 2 0:2|
 6 Form:past 0|past 1 0:1|past 2 0:2|past 3 2:3 1:3 0:2
+7 Form:past 0|past 1 0:1|past 2 0:2|past 3 2:3 1:3 0:2||
+7 Form:past 0|past 1 0:1|past 2 0:2|past 3 2:3 1:3 0:2|end
+7 NotRising:past 0|past 1 0:1|past 2 0:2|past 3 2:3 1:3 0:2|past 3 2:3 1:3 0:2|
+7 OutOfRange:past 0|past 1 0:1|past 2 0:2|past 3 2:3 1:3 0:2|past 4|
 1 lines:past 3 2:3 1:3 0:1|
 2 lines:past 0|past 3 2:3 1:3 0:2|
 4 lines:past 0|past 1 0:1|past 2 0:2|past 3 2:3 1:3 0:1|";
