@@ -4,7 +4,7 @@ use auditorium_core::Status;
 use command_hints::{Hint, hint_on};
 use hall_outside::{FolderStore, read_file};
 use std::alloc::Global;
-use std::fs;
+use std::fs::{self, File};
 use std::io::{self, Eprint};
 use std::rt::Files;
 
@@ -13,7 +13,7 @@ const MOST: usize = 4_194_304;
 
 /// Writes the hint, if there is one, where the command line wasn't valid, or an input was refused
 /// or isn't there. What can't be written is left out.
-pub(crate) fn hint<R: Files + Eprint + AllocGlobal>(
+pub(crate) fn hint<R: Files<File = File> + Eprint + AllocGlobal>(
     rt: &R,
     status: Status,
     words: Option<&[String]>,
@@ -31,7 +31,10 @@ pub(crate) fn hint<R: Files + Eprint + AllocGlobal>(
 }
 
 /// Writes the hint, and the line of the file that it is on.
-fn write_hint<R: Files + Eprint + AllocGlobal>(rt: &R, hint: &Hint<'_>) -> io::Result<()> {
+fn write_hint<R: Files<File = File> + Eprint + AllocGlobal>(
+    rt: &R,
+    hint: &Hint<'_>,
+) -> io::Result<()> {
     eprint!(rt; "{hint}")?;
     let Hint::Refused(refusal) = hint else {
         return Ok(());
@@ -49,10 +52,11 @@ fn write_hint<R: Files + Eprint + AllocGlobal>(rt: &R, hint: &Hint<'_>) -> io::R
 }
 
 /// The text of the file, if it can be read once more: a pipe or a terminal can't.
-fn text_again<R: Files + AllocGlobal>(rt: &R, name: &str) -> Option<Vec<u8>> {
+fn text_again<R: Files<File = File> + AllocGlobal>(rt: &R, name: &str) -> Option<Vec<u8>> {
     let metadata = fs::metadata(rt, name).ok()?;
     if !metadata.is_file() {
         return None;
     }
-    read_file(rt.alloc(), &mut FolderStore::make(rt), name, MOST).ok()
+    let mut store = FolderStore::make(rt).ok()?;
+    read_file(rt.alloc(), &mut store, name, MOST).ok()
 }

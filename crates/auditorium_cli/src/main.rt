@@ -30,10 +30,11 @@ fn words_after_name<R: Env + AllocGlobal>(rt: &R) -> io::Result<Option<Vec<Strin
     }
 }
 
-/// Says on standard error what failed, where the status is that the system did. A line that can't
-/// be written changes no status.
+/// Says on standard error what failed, where the status is that the system did, and nobody gave up
+/// reading the output. A line that can't be written changes no status.
 fn report<R: Eprint>(rt: &R, status: Status, store: Option<&Failure>, out: Option<&Failure>) {
     let _ = match (status, store.or(out)) {
+        (Status::WriteFault, Some(failure)) if failure.is_broken_pipe() => Ok(()),
         (Status::ReadFault | Status::WriteFault, Some(failure)) => {
             eprintln!(rt; "auditorium: {failure}")
         }
@@ -44,14 +45,20 @@ fn report<R: Eprint>(rt: &R, status: Status, store: Option<&Failure>, out: Optio
     };
 }
 
+fn ended_without_memory<R: Eprint>(rt: &R) -> ExitCode {
+    report(rt, Status::Memory, None, None);
+    ExitCode::from(Status::Memory.exit_status())
+}
+
 fn main(rt: HostRuntime) -> ExitCode {
     let Ok(given) = words_after_name(&rt) else {
-        report(&rt, Status::Memory, None, None);
-        return ExitCode::from(Status::Memory.exit_status());
+        return ended_without_memory(&rt);
+    };
+    let Ok(mut store) = FolderStore::make(&rt) else {
+        return ended_without_memory(&rt);
     };
     // A word that isn't text counts as no words at all, which is a usage error.
     let words = given.as_ref().map(|words| words.as_slice());
-    let mut store = FolderStore::make(&rt);
     let mut out = KeptSink::make(&rt);
     let status = auditorium(
         &rt,

@@ -20,7 +20,7 @@ use Rattle.auditorium_core.proofs.ReportCommands.{outcome_done, outcome_status, 
 use Rattle.auditorium_core.proofs.ReportCommands.{report_statuses_some}
 
 -- a report has one answer
-same_told : (report other : AuditReport) → SameReport report other → report_answer report ≡ report_answer other
+pub same_told : (report other : AuditReport) → SameReport report other → report_answer report ≡ report_answer other
 same_told report other same =
     ap (λ (o : Outcome). record { status = status_by o; files = []; output = report_text report }) same.outcome
     ∙ ap (λ (t : List ℕ). record { status = status_by (outcome_of other); files = []; output = t }) same.text

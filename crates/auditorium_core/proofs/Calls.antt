@@ -1,11 +1,11 @@
 -- The calls by which files are put.
-use Rattle.std.proofs.Common.{◌≡◌, ◌∙◌, ℕ, ◌+◌, ◌<◌, List, ◌∷◌, get_or, drop, length, sym, subst, ap, Bool, true, false}
-use Rattle.std.proofs.Common.{Option, inr}
+use Rattle.std.proofs.Common.{◌≡◌, ◌∙◌, ℕ, ◌+◌, ◌<◌, List, [], ◌∷◌, get_or, drop, length, sym, subst, ap, Bool, true, false}
+use Rattle.std.proofs.Common.{Option, inr, refl}
 use Rattle.std.specs.Prelude.{Result}
 use Rattle.std.proofs.lemmas.List.{drop_more}
 use Rattle.hall_outside.specs.Writing.{PutsFile}
 use Rattle.hall_outside.specs.declared.stores.Failed.{Failed}
-use Rattle.auditorium_core.specs.Outcome.{with_files, SetsSome, PutsAll, puts, fails}
+use Rattle.auditorium_core.specs.Outcome.{with_files, SetsSome, PutsAll, puts, fails, PlacesAll, no_files, finishes}
 use Rattle.hall_outside.specs.Files.{Files, with_file}
 
 -- the rest of the files begins with the one at its place
@@ -60,3 +60,19 @@ some_next old mid new files i file within is set rest =
     let P : List (List ℕ × List ℕ) → Type 0 = λ fs. SetsSome old fs new in
     let Q : Option Files → Type 0 = λ m. SetsSome m (drop (i + 1) files) new in
     subst P (rest_from files i file within is) (inr (subst Q set rest))
+
+-- where there are no files, no call is made
+pub none_placed : {S : Type 0} (create : List ℕ → S → Bool → S → Type 0)
+    (append : List ℕ → S → List ℕ → Result ℕ Failed → S → Type 0) (finish : S → Bool → S → Type 0) (now : S)
+    (files : List (List ℕ × List ℕ)) → length files ≡ 0 → PlacesAll create append finish now files true now
+none_placed create append finish now [] none = no_files now
+none_placed create append finish now (file ∷ files) none = absurd (let no : ⊥ = cc in no)
+
+-- where there are some, they are put, and the last call says that they are all
+pub placed : {S : Type 0} (create : List ℕ → S → Bool → S → Type 0)
+    (append : List ℕ → S → List ℕ → Result ℕ Failed → S → Type 0) (finish : S → Bool → S → Type 0)
+    (old mid new : S) (files : List (List ℕ × List ℕ)) (ok : Bool) → (length files ≡ 0 → ⊥) →
+    PutsAll create append old files true mid → finish mid ok new → PlacesAll create append finish old files ok new
+placed create append finish old mid new [] ok some put done = absurd (some refl)
+placed create append finish old mid new (file ∷ files) ok some put done =
+    finishes old mid new file files ok put done

@@ -8,7 +8,7 @@ use Rattle.hex.proofs.HexLemmas.{decode_of-encode_lower}
 use Rattle.auditorium_core.specs.WordForms.{AreSessions}
 use Rattle.auditorium_core.specs.Office.{IsOfficeSeed}
 use Rattle.auditorium_core.specs.Words.{Command, audit, check, demonstrate, endorse, endorsed, gaps, generate, office}
-use Rattle.auditorium_core.specs.Words.{order, play, prove, repair, run, command_parts, IsStill, Means}
+use Rattle.auditorium_core.specs.Words.{order, play, prove, repair, run, watch, command_parts, IsStill, Means}
 use Rattle.auditorium_core.proofs.CitedLaws.{CitedLaws}
 use Rattle.auditorium_core.proofs.CommandProofs.{HasStatuses, IsCompleted, HasOneAnswer}
 use Rattle.auditorium_core.proofs.AuditCommand.{audit_has_statuses, audit_completed, audit_one}
@@ -25,6 +25,7 @@ use Rattle.auditorium_core.proofs.PlayCommand.{play_has_statuses, play_completed
 use Rattle.auditorium_core.proofs.ProveCommand.{prove_has_statuses, prove_completed, prove_one}
 use Rattle.auditorium_core.proofs.RepairCommand.{repair_has_statuses, repair_completed, repair_one}
 use Rattle.auditorium_core.proofs.RunCommand.{run_has_statuses, run_completed}
+use Rattle.auditorium_core.proofs.WatchCommand.{watch_has_statuses, watch_completed, watch_one}
 
 -- each command has its statuses
 pub have_statuses : (command : Command) → HasStatuses (command_parts command)
@@ -41,6 +42,7 @@ have_statuses (play script prefix) = play_has_statuses script prefix
 have_statuses (prove roster proof logs) = prove_has_statuses roster proof logs
 have_statuses (repair script prefix) = repair_has_statuses script prefix
 have_statuses (run script prefix) = run_has_statuses script prefix
+have_statuses (watch roster rules logs) = watch_has_statuses roster rules logs
 
 -- is carried out where its files are accepted
 pub are_completed : CitedLaws → (command : Command) → IsCompleted (command_parts command)
@@ -57,6 +59,8 @@ are_completed laws (play script prefix) = play_completed laws.plays script prefi
 are_completed laws (prove roster proof logs) = prove_completed laws.orders laws.proofs roster proof logs
 are_completed laws (repair script prefix) = repair_completed laws.plays script prefix
 are_completed laws (run script prefix) = run_completed laws.plays script prefix
+are_completed laws (watch roster rules logs) =
+    watch_completed laws.orders laws.proofs.rules laws.reports roster rules logs
 
 -- and, without threads, has one answer
 pub have_one_answer : CitedLaws → (command : Command) → IsStill command → HasOneAnswer (command_parts command)
@@ -73,6 +77,8 @@ have_one_answer laws (play script prefix) still = play_one laws.plays script pre
 have_one_answer laws (prove roster proof logs) still = prove_one laws.orders laws.proofs roster proof logs
 have_one_answer laws (repair script prefix) still = repair_one laws.plays script prefix
 have_one_answer laws (run script prefix) still = absurd still
+have_one_answer laws (watch roster rules logs) still =
+    watch_one laws.orders laws.proofs.rules laws.reports roster rules logs
 
 -- a byte of the first word
 abbrev name_byte : ℕ → List (List ℕ) → ℕ
@@ -124,6 +130,8 @@ same_command words (repair x y) (repair z w) m n =
     let e : codes "repair" ∷ x ∷ y ∷ [] ≡ codes "repair" ∷ z ∷ w ∷ [] = sym m.spelt ∙ n.spelt in cc
 same_command words (run x y) (run z w) m n =
     let e : codes "run" ∷ x ∷ y ∷ [] ≡ codes "run" ∷ z ∷ w ∷ [] = sym m.spelt ∙ n.spelt in cc
+same_command words (watch r u logs) (watch s w others) m n =
+    let e : codes "watch" ∷ r ∷ u ∷ logs ≡ codes "watch" ∷ s ∷ w ∷ others = sym m.spelt ∙ n.spelt in cc
 same_command words a b m n =
     let e : (command_parts a).words ≡ (command_parts b).words = sym m.spelt ∙ n.spelt in
     let first : name_byte 0 (command_parts a).words ≡ name_byte 0 (command_parts b).words = ap (name_byte 0) e in

@@ -61,7 +61,7 @@ complete laws IsDone words old how new = by how
     by : (how : Status) → HasDone IsDone words (λ _ _. ⊤) old how new → IsComplete IsDone words old how new
     by status.ReadFault (risen, unwritten) command done means fault = absurd (fault.reads risen)
     by status.WriteFault (answer, gives, calls, cut) command done means fault = absurd (no_cut old new fault cut.cause)
-    by status.Memory unwritten command done means fault = inr (refl, unwritten)
+    by status.Memory (unwritten, same) command done means fault = inr (refl, unwritten)
     by status.Done was command done means fault = answered status.Done was command done means fault
     by status.Findings was command done means fault = answered status.Findings was command done means fault
     by status.Unsettled was command done means fault = answered status.Unsettled was command done means fault

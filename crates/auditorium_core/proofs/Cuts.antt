@@ -14,6 +14,14 @@ pub all_set : (old : Option Files) (files : List (List ℕ × List ℕ)) → Set
 all_set old [] = refl
 all_set old (file ∷ files) = inr (all_set (with_file old file.0 file.1) files)
 
+-- so a call that failed when all were left some of them
+pub all_set_where : {T : Type 0} (result : Result T Failed) (old new : Option Files) (files : List (List ℕ × List ℕ))
+    → new ≡ with_files old files → OnErr result (SetsSome old files new)
+all_set_where (Ok done) old new files all = tt
+all_set_where (Err failed) old new files all =
+    let P : Option Files → Type 0 = λ now. SetsSome old files now in
+    subst P (sym all) (all_set old files)
+
 -- the output was cut short behind all files
 pub output_cut : (result : Result (Unit {0}) Failed) (answer : Answer) (old new : Outside)
     → new.store.files ≡ with_files old.store.files answer.files

@@ -5,6 +5,7 @@ use Rattle.hall_outside.specs.Counts.{HasRisen, ComesExactly}
 use Rattle.hall_outside.specs.Files.{Files}
 use Rattle.hall_outside.specs.Reading.{Answered}
 use Rattle.evidence.specs.Reading.{StoreSeen}
+use Rattle.evidence.proofs.Readings.{stands}
 use Rattle.auditorium_core.specs.declared.answer.Fault.{Fault}
 use Rattle.auditorium_core.specs.declared.answer.Fault.TheVariants as fault
 use Rattle.auditorium_core.specs.declared.status.Status.{Status}
@@ -108,15 +109,22 @@ module _ (IsDone : Command → Type 0) (words : List (List ℕ)) (is_told_by is_
         record {
           files = ap (λ (o : Outside). o.store.files) same ∙ made.files;
           output = ap (λ (o : Outside). o.output) same;
+          write_faults = ap (λ (o : Outside). o.store.write_faults) same ∙ made.write_faults;
+          output_faults = ap (λ (o : Outside). o.output_faults) same;
         },
       )
   was_done (Err fault.Memory) how made (is, same) =
       let P : Status → Type 0 = λ s. HasDone IsDone words is_written_by old s new in
-      subst P (sym is)
-      (record {
-        files = ap (λ (o : Outside). o.store.files) same ∙ made.files;
-        output = ap (λ (o : Outside). o.output) same;
-      })
+      subst P (sym is) (
+        record {
+          files = ap (λ (o : Outside). o.store.files) same ∙ made.files;
+          output = ap (λ (o : Outside). o.output) same;
+          write_faults = ap (λ (o : Outside). o.store.write_faults) same ∙ made.write_faults;
+          output_faults = ap (λ (o : Outside). o.output_faults) same;
+        },
+        ap (λ (o : Outside). o.store.read_faults) same
+            ∙ stands before.read_faults after.read_faults made.read_fault (λ e. cc),
+      )
 
 -- where the words are no run's, what was done without threads is what is to be done
 pub done_as_any : (words : List (List ℕ)) (is_written_by : Answer → Bool → Type 0) (old new : Outside) (how : Status) →

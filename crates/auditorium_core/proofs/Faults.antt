@@ -1,11 +1,12 @@
 -- The answers where what an audit goes on is refused.
-use Rattle.std.proofs.Common.{◌≡◌, ◌≢◌, ◌∙◌, Option, Some, None, inl, sym, ap, subst}
+use Rattle.std.proofs.Common.{◌≡◌, ◌≢◌, ◌∙◌, ◌↔◌, Option, Some, None, inl, sym, ap, subst}
 use Rattle.std.specs.Prelude.{Result, Ok, Err, IfOk, IfErr, IfSome, IsSomeAnd}
 use Rattle.hall_outside.specs.Files.{Files}
 use Rattle.evidence.specs.declared.fault.AuditFault.{AuditFault}
 use Rattle.evidence.specs.declared.fault.AuditFault.TheVariants as audit
 use Rattle.evidence.specs.Refusal.{Refusal, refusal_of, IsAbsent}
 use Rattle.evidence.specs.Reading.{StoreSeen, IsReadFrom}
+use Rattle.evidence.proofs.Readings.{stands, no_cause, cause_as}
 use Rattle.auditorium_core.specs.declared.answer.Fault.{Fault}
 use Rattle.auditorium_core.specs.declared.answer.Fault.TheVariants.{ReadFault, Memory}
 use Rattle.auditorium_core.specs.declared.status.Status.TheVariants as status
@@ -60,7 +61,7 @@ pub refused_answered : {T U : Type 0} (value : T → U) (IsFound : Option Files 
     (IsRight : Option Files → Answer → Type 0) (old new : StoreSeen) (fault : AuditFault)
     (result : Result Answer Fault) →
     IsReadFrom value IsFound old (Err fault) new → IfOk result (IsAnswerOfFault fault) →
-    IfErr result (λ why. why ≡ ReadFault → fault ≡ audit.ReadFault) →
+    IfErr result (λ why. (why ≡ ReadFault) ↔ (fault ≡ audit.ReadFault)) →
     ((refusal : Refusal) → IsFound old.files (Err refusal) → IsRight old.files (refusal_answer refusal)) →
     IsAnswered IsRight IsAbsentAnswer old result new
 refused_answered value IsFound IsRight old new fault (Ok answer) given told why right = record {
@@ -71,11 +72,17 @@ refused_answered value IsFound IsRight old new fault (Ok answer) given told why 
         only = λ is. comes.only (absent_status fault answer told is);
         always = λ more. status_absent fault answer told (comes.always more);
       };
-  read_fault = record { never_falls = given.read_fault.never_falls; only = λ e. cc };
+  read_fault = no_cause old.read_faults new.read_faults
+      (stands old.read_faults new.read_faults given.read_fault
+      (λ e. by_fault (let is : fault ≡ audit.ReadFault = cc in is))) (λ e. cc);
   files = given.files;
   write_faults = given.write_faults;
 }
   where
+    -- a failed read has no such answer
+    by_fault : fault ≡ audit.ReadFault → ⊥
+    by_fault e = subst (λ f. IsAnswerOfFault f answer) e told
+
     -- the refusal that is answered is the one that was found, and so right
     by : (refusal : Option Refusal) → IsSomeAnd refusal (λ r. answer ≡ refusal_answer r) →
         IfSome refusal (λ r. IsFound old.files (Err r)) → IsRight old.files answer
@@ -84,10 +91,9 @@ refused_answered value IsFound IsRight old new fault (Ok answer) given told why 
 refused_answered value IsFound IsRight old new fault (Err reason) given told why right = record {
   answer = tt;
   absent = tt;
-  read_fault = record {
-    never_falls = given.read_fault.never_falls;
-    only = λ e. given.read_fault.only (ap (λ f. Err f) (why (let same : reason ≡ ReadFault = cc in same)));
-  };
+  read_fault = cause_as old.read_faults new.read_faults
+      (λ e. ap (λ f. Err f) (why.1 (let same : fault ≡ audit.ReadFault = cc in same)))
+      (λ e. ap (λ f. Err f) (why.0 (let same : reason ≡ ReadFault = cc in same))) given.read_fault;
   files = given.files;
   write_faults = given.write_faults;
 }
@@ -103,17 +109,17 @@ found_answered value IsFound IsRight old new found (Ok answer) given right other
   absent =
       let comes = given.absent (λ e. cc) in
       record { only = λ is. absurd (other is); always = λ more. absurd (comes.always more) };
-  read_fault = record { never_falls = given.read_fault.never_falls; only = λ e. cc };
+  read_fault = no_cause old.read_faults new.read_faults
+      (stands old.read_faults new.read_faults given.read_fault (λ e. cc)) (λ e. cc);
   files = given.files;
   write_faults = given.write_faults;
 }
 found_answered value IsFound IsRight old new found (Err fault) given right other memory = record {
   answer = tt;
   absent = tt;
-  read_fault = record {
-    never_falls = given.read_fault.never_falls;
-    only = λ e. absurd (let no : Memory ≡ ReadFault = sym memory ∙ (let same : fault ≡ ReadFault = cc in same) in cc);
-  };
+  read_fault = no_cause old.read_faults new.read_faults
+      (stands old.read_faults new.read_faults given.read_fault (λ e. cc))
+      (λ e. let no : Memory ≡ ReadFault = sym memory ∙ (let same : fault ≡ ReadFault = cc in same) in cc);
   files = given.files;
   write_faults = given.write_faults;
 }

@@ -49,6 +49,13 @@ pub mod ProveCommand
 pub mod Repairs
 pub mod RepairCommand
 pub mod RunCommand
+pub mod Summaries
+pub mod OneWatch
+pub mod WatchReads
+pub mod WatchSteps
+pub mod WatchCommand
+pub mod WatchAgreement
+pub mod HonestWatches
 pub mod CitedLaws
 pub mod Commands
 pub mod OfficeCallsLeave

@@ -98,7 +98,7 @@ module _ (IsDone : Command → Type 0) (words : List (List ℕ)) (command : Comm
   pub set_or_not : Means words command → IsDone command → (how : Status) → HasDone IsDone words (λ _ _. ⊤) old how new →
       IsSetOrNot how
   set_or_not means has status.ReadFault (risen, unwritten) = inl (λ e. cc, unwritten.files)
-  set_or_not means has status.Memory unwritten = inl (λ e. cc, unwritten.files)
+  set_or_not means has status.Memory (unwritten, same) = inl (λ e. cc, unwritten.files)
   set_or_not means has status.WriteFault (answer, gives, calls, cut) = inr (record {
     answer = answer;
     right = of_command means answer gives.answers has;

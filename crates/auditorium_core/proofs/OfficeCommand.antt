@@ -1,5 +1,5 @@
 -- The command `office`.
-use Rattle.std.proofs.Common.{◌≡◌, ◌≢◌, ◌∙◌, ℕ, ◌≤◌, List, [], ◌∷◌, Option, Some, None, Bool, true, false, refl, sym, ap}
+use Rattle.std.proofs.Common.{◌≡◌, ◌≢◌, ◌∙◌, ℕ, List, [], ◌∷◌, Option, Some, None, Bool, true, false, refl, sym, ap}
 use Rattle.std.proofs.Common.{subst, arith}
 use Rattle.std.specs.Prelude.{Result, Ok, Err, codes, IsSome}
 use Rattle.std.specs.List.{Contains}
@@ -9,6 +9,7 @@ use Rattle.hall_outside.specs.Files.{Files, OnFile}
 use Rattle.hall_outside.specs.declared.stores.Failed.{Failed}
 use Rattle.hall_outside.proofs.SomeFile.{some_file}
 use Rattle.evidence.specs.Reading.{StoreSeen}
+use Rattle.evidence.proofs.Readings.{no_cause}
 use Rattle.auditorium_core.specs.declared.answer.Fault.{Fault}
 use Rattle.auditorium_core.specs.declared.answer.Fault.TheVariants.{ReadFault, Memory}
 use Rattle.auditorium_core.specs.declared.status.Status.TheVariants as status
@@ -88,14 +89,14 @@ SaysNone result = result ≡ Ok false
 pub office_answered : (name seed : List ℕ) (there : Bool) (answer : Answer) (old new : StoreSeen) →
     OnFile old.files (office_file name) (IsThere there) →
     ComesExactly old.answered.absences new.answered.absences (SaysNone (Ok there)) →
-    old.read_faults ≤ new.read_faults → new.files ≡ old.files → new.write_faults ≡ old.write_faults →
+    new.read_faults ≡ old.read_faults → new.files ≡ old.files → new.write_faults ≡ old.write_faults →
     answer ≡ answer_by name seed there → IsAnsweredBy (office name seed) old (Ok answer) new
-office_answered name seed there answer old new is comes low files writes told = record {
+office_answered name seed there answer old new is comes same files writes told = record {
   answer =
       let P : Answer → Type 0 = λ a. IsAnswerTo (office name seed) old.files a in
       subst P (sym told) (told_of name seed there old.files is);
   absent = by there comes told;
-  read_fault = record { never_falls = low; only = λ e. cc };
+  read_fault = no_cause old.read_faults new.read_faults same (λ e. cc);
   files = files;
   write_faults = writes;
 }

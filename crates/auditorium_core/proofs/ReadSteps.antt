@@ -7,6 +7,7 @@ use Rattle.evidence.specs.declared.fault.AuditFault.TheVariants.{ReadFault}
 use Rattle.evidence.specs.NamedFiles.{AreFiles}
 use Rattle.evidence.specs.Refusal.{Refusal, refusal_of, IsAbsent}
 use Rattle.evidence.specs.Reading.{StoreSeen, IsReadFrom}
+use Rattle.evidence.proofs.Readings.{no_cause}
 use Rattle.evidence.proofs.Steps.{on_refusal}
 
 -- what holds of an answer holds in another way
@@ -51,10 +52,8 @@ refused_unread value Whole seen fault err no_read no_absence = record {
     always = λ more. absurd (omega (arith, more));
   };
   absences = omega arith;
-  read_fault = record {
-    never_falls = omega arith;
-    only = λ e. absurd (no_read (let same : fault ≡ ReadFault = cc in same));
-  };
+  read_fault = no_cause seen.read_faults seen.read_faults refl
+      (λ e. no_read (let same : fault ≡ ReadFault = cc in same));
   files = refl;
   write_faults = refl;
 }

@@ -20,7 +20,7 @@ use Rattle.polling_world.specs.Machines.{MachineState}
 use Rattle.polling_world.specs.Playing.{ComesTo}
 use Rattle.polling_world.specs.Worlds.{world_of}
 use Rattle.polling_world.proofs.NextTold.{next_of, tells_next}
-use Rattle.finished_floor.specs.Floors.{IsFloorOf}
+use Rattle.finished_floor.specs.Floors.{ArePlayedAgain, IsFloorOf}
 use Rattle.auditorium_core.specs.Lines.{Answer}
 use Rattle.auditorium_core.specs.Play.{SayUndone}
 use Rattle.auditorium_core.specs.inside.Losses.{IsBetween}
@@ -28,8 +28,8 @@ use Rattle.auditorium_core.specs.Run.{IsRunOf, run_answer}
 use Rattle.auditorium_core.proofs.HonestPlaces.{leave_honest_files}
 
 module _ (prefix : List ℕ) (script : Script) (lawful : IsLawful script) (posts : List Post)
-    (machines : List MachineState) (losses : List Loss) (workers : List (List (Option ℕ)))
-    (floor : IsFloorOf script posts machines losses workers) where
+    (machines : List MachineState) (losses : List Loss) (floor : IsFloorOf script posts machines losses)
+    (played : ArePlayedAgain script machines) where
   -- the world's merged order
   abbrev merged : (xs : List (PlacedEvent SealedEntry)) × IsMergedOf node_of_sealed (world_of machines) xs
       × ((ys : List (PlacedEvent SealedEntry)) → IsMergedOf node_of_sealed (world_of machines) ys → ys ≡ xs)
@@ -49,7 +49,7 @@ module _ (prefix : List ℕ) (script : Script) (lawful : IsLawful script) (posts
 
   -- each machine has in it the history that it has after the run
   same : (m : ℕ) → history again m ≡ history (world_of machines) m
-  same m = floor.played merged.0 merged.1 again comes m
+  same m = played merged.0 merged.1 again comes m
 
   -- it has as many machines as the run
   many : length again ≡ length machines
@@ -77,11 +77,10 @@ module _ (prefix : List ℕ) (script : Script) (lawful : IsLawful script) (posts
   is_run undone answer left told = record {
     machines = machines;
     losses = losses;
-    workers = workers;
     steps = steps;
     w = again;
     undone = undone;
-    floor = subst (λ (p : List Post). IsFloorOf script p machines losses workers) floor.roster floor;
+    floor = subst (λ (p : List Post). IsFloorOf script p machines losses) floor.roster floor;
     again = record { merged = (merged.0, merged.1, refl); comes = comes; same = same };
     order = one_order node_of_sealed (world_of machines) floor.orderly;
     honest = leave_honest_files machines again many numbered same script lawful steps comes;

@@ -22,7 +22,9 @@ pub mod Office
 pub mod Order
 pub mod Play
 pub mod Prove
+pub mod Watch
 pub mod CheckAgrees
+pub mod WatchAgrees
 pub mod Repair
 pub mod Run
 pub mod Words

@@ -36,25 +36,41 @@ pub data PutsAll {S : Type 0} (create : List ℕ → S → Bool → S → Type 0
       → PutsFile (create file.0) (append file.0) old file.1 true mid → PutsAll create append mid files ok new
       → PutsAll create append old (file ∷ files) ok new
 
--- The calls by which an answer is written: each file by one create and by appends, and then the output by writes, each
--- append and write being offered all that is left. The first call that fails is the last.
-abbrev pub IsWrittenBy : {S K : Type 0} → (List ℕ → S → Bool → S → Type 0)
-    → (List ℕ → S → List ℕ → Result ℕ Failed → S → Type 0) → (K → List ℕ → Result ℕ Failed → K → Type 0) → Answer
-    → S → K → Bool → S → K → Type 0
-IsWrittenBy create append write answer store out ok store_after out_after =
-    (PutsAll create append store answer.files false store_after × (out_after ≡ out) × (ok ≡ false))
-    ⊎ (PutsAll create append store answer.files true store_after × OffersAll write out answer.output ok out_after)
+-- the same, and one call that says that they are all; where there is no file, there is no call
+pub data PlacesAll {S : Type 0} (create : List ℕ → S → Bool → S → Type 0)
+    (append : List ℕ → S → List ℕ → Result ℕ Failed → S → Type 0) (finish : S → Bool → S → Type 0)
+    : S → List (List ℕ × List ℕ) → Bool → S → Type 0 where
+  no_files : (now : S) → PlacesAll create append finish now [] true now
+  not_put : (old new : S) (files : List (List ℕ × List ℕ)) → PutsAll create append old files false new
+      → PlacesAll create append finish old files false new
+  finishes : (old mid new : S) (file : List ℕ × List ℕ) (files : List (List ℕ × List ℕ)) (ok : Bool)
+      → PutsAll create append old (file ∷ files) true mid → finish mid ok new
+      → PlacesAll create append finish old (file ∷ files) ok new
 
--- so it is written after reads, which change no file
+-- The calls by which an answer is written: each file by one create and by appends, one finish after the last file, and
+-- then the output by writes, each append and write being offered all that is left. The first call that fails is the last.
+abbrev pub IsWrittenBy : {S K : Type 0} → (List ℕ → S → Bool → S → Type 0)
+    → (List ℕ → S → List ℕ → Result ℕ Failed → S → Type 0) → (S → Bool → S → Type 0)
+    → (K → List ℕ → Result ℕ Failed → K → Type 0) → Answer → S → K → Bool → S → K → Type 0
+IsWrittenBy create append finish write answer store out ok store_after out_after =
+    (PlacesAll create append finish store answer.files false store_after × (out_after ≡ out) × (ok ≡ false))
+    ⊎ (PlacesAll create append finish store answer.files true store_after
+    × OffersAll write out answer.output ok out_after)
+
+-- so it is written after reads, which change no file, and in which no write failed
 abbrev pub IsWrittenAfterReads : {S K : Type 0} → StoreGhosts S → SinkGhosts K → S → K → S → K → Answer → Bool → Type 0
 IsWrittenAfterReads {S} of_store of_sink store out store_after out_after answer ok =
     (read : S) × (of_store.files read ≡ of_store.files store)
-    × IsWrittenBy of_store.creates of_store.appends of_sink.writes answer read out ok store_after out_after
+    × (of_store.write_faults read ≡ of_store.write_faults store)
+    × IsWrittenBy of_store.creates of_store.appends of_store.finishes of_sink.writes answer read out ok store_after
+    out_after
 
--- nothing was written
+-- nothing was written, and no write failed
 pub record IsUnwritten (old new : Outside) : Type 0 where
   pub files : new.store.files ≡ old.store.files
   pub output : new.output ≡ old.output
+  pub write_faults : new.store.write_faults ≡ old.store.write_faults
+  pub output_faults : new.output_faults ≡ old.output_faults
 
 -- all of the answer was written
 pub record IsWritten (answer : Answer) (old new : Outside) : Type 0 where
@@ -76,15 +92,16 @@ abbrev pub GivesAnswer : (Command → Type 0) → List (List ℕ) → Outside �
 GivesAnswer IsDone words old new answer =
     IsAnswerOf IsDone words old.store.files old.store.answered.absences new.store.answered.absences answer
 
--- What was done for words where these are the commands. A status that isn't a fault of the outside or want of memory is
--- that of the answer. An answer is written by these calls, all of which but the last, in the second case, do as they
--- are asked.
+-- What was done for words where these are the commands. Where memory is wanting, no read and no write failed. A status
+-- that isn't a fault of the outside or want of memory is that of the answer. An answer is written by these calls, all of
+-- which but the last, in the second case, do as they are asked.
 abbrev pub HasDone : (Command → Type 0) → List (List ℕ) → (Answer → Bool → Type 0) → Outside → Status → Outside → Type 0
 HasDone IsDone words is_written_by old ReadFault new =
     HasRisen old.store.read_faults new.store.read_faults × IsUnwritten old new
 HasDone IsDone words is_written_by old WriteFault new =
     (answer : Answer) × GivesAnswer IsDone words old new answer × is_written_by answer false × IsCutShort answer old new
-HasDone IsDone words is_written_by old Memory new = IsUnwritten old new
+HasDone IsDone words is_written_by old Memory new =
+    IsUnwritten old new × (new.store.read_faults ≡ old.store.read_faults)
 HasDone IsDone words is_written_by old status new =
     (answer : Answer) × GivesAnswer IsDone words old new answer × (status ≡ answer.status) × is_written_by answer true
     × IsWritten answer old new

@@ -56,11 +56,10 @@ pub record ArePlayedAgainBy (script : Script) (machines : List MachineState) (st
 pub record IsRunOf (prefix : List ℕ) (script : Script) (answer : Answer) : Type 0 where
   pub machines : List MachineState
   pub losses : List Loss
-  pub workers : List (List (Option ℕ))
   pub steps : List Step
   pub w : World SealedEntry
   pub undone : List ℕ
-  pub floor : IsFloorOf script (roster_of script) machines losses workers
+  pub floor : IsFloorOf script (roster_of script) machines losses
   pub again : ArePlayedAgainBy script machines steps w
   pub order : KeepOrder machines
   pub honest : LeaveHonestFiles script machines w

@@ -15,6 +15,7 @@ use Rattle.auditorium_core.specs.Play.{play_parts}
 use Rattle.auditorium_core.specs.Prove.{prove_parts}
 use Rattle.auditorium_core.specs.Repair.{repair_parts}
 use Rattle.auditorium_core.specs.Run.{run_parts}
+use Rattle.auditorium_core.specs.Watch.{watch_parts}
 
 -- what good words ask for
 pub data Command : Type 0 where
@@ -44,6 +45,8 @@ pub data Command : Type 0 where
   repair : (script prefix : List ℕ) → Command
   -- `run`: a script played in threads, and what the names of its files begin with
   run : (script prefix : List ℕ) → Command
+  -- `watch`: what an audit says after each entry that the logs keep, by a roster, rules and logs
+  watch : (roster rules : List ℕ) (logs : List (List ℕ)) → Command
 
 -- what each command is
 abbrev pub command_parts : Command → CommandParts
@@ -60,6 +63,7 @@ command_parts (play script prefix) = play_parts script prefix
 command_parts (prove roster proof logs) = prove_parts roster proof logs
 command_parts (repair script prefix) = repair_parts script prefix
 command_parts (run script prefix) = run_parts script prefix
+command_parts (watch roster rules logs) = watch_parts roster rules logs
 
 -- the words are this command's, and each has the form of a word
 pub record Means (words : List (List ℕ)) (command : Command) : Type 0 where

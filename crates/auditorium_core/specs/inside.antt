@@ -5,5 +5,6 @@ pub mod EntryNames
 pub mod Presence
 pub mod Endorsing
 pub mod Checking
+pub mod Watching
 pub mod Meaning
 pub mod Repaired

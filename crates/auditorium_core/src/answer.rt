@@ -1,5 +1,5 @@
 // Answers: what is to be written, and how the program ends then.
-ghost use Rattle.std.specs.Prelude.{◌≡◌, ◌++◌, [], IfErr, IfOk, IsSomeAnd, string_bytes};
+ghost use Rattle.std.specs.Prelude.{◌≡◌, ◌↔◌, ◌++◌, [], IfErr, IfOk, IsSomeAnd, string_bytes};
 ghost use Rattle.evidence.specs.Refusal.{refusal_of};
 ghost use Rattle.auditorium_core.specs.declared.status.Status.TheVariants.{Done};
 ghost use Rattle.auditorium_core.specs.Lines.{usage_answer, absent_answer, refused_answer};
@@ -184,8 +184,8 @@ impl Answer {
     pub fn of_fault(alloc: Global, fault: &AuditFault) -> Result<Answer, Fault>
         ensures ok { IfOk result (λ answer. IsSomeAnd (refusal_of fault.now)
             (λ refusal. answer ≡ refusal_answer refusal)) }
-        ensures err { IfErr result (λ why. why ≡ Fault.ReadFault →
-            fault.now ≡ AuditFault.ReadFault) }
+        ensures err { IfErr result (λ why. (why ≡ Fault.ReadFault) ↔
+            (fault.now ≡ AuditFault.ReadFault)) }
     {
         match fault {
             AuditFault::Absent(file) => Ok(Answer::absent(alloc, file.as_str())?),

@@ -31,6 +31,8 @@ mod rules_file;
 mod run;
 mod script_file;
 mod status;
+mod watch;
+mod watch_laws;
 mod word_forms;
 mod words;
 mod writing;
@@ -44,3 +46,4 @@ pub use office_laws::{
 };
 pub use program::{auditorium, auditorium_still};
 pub use status::Status;
+pub use watch_laws::{honest_watches_break_no_rule, watches_agree_with_audits};

@@ -22,6 +22,7 @@ use crate::prove::prove;
 use crate::repair::repair;
 use crate::run::run;
 use crate::status::Status;
+use crate::watch::watch;
 use crate::words::{Request, request_of};
 use hall_outside::{Gate, Sink, Store};
 use std::alloc::Global;
@@ -161,5 +162,6 @@ fn answer_to<S: Store>(alloc: Global, request: Request<'_>, store: &mut S) -> Re
         Request::Prove(roster, proof, logs) => prove(alloc, store, roster, proof, logs),
         Request::Repair(script, prefix) => repair(alloc, store, script, prefix),
         Request::Run(_, _) => unreachable!(),
+        Request::Watch(roster, rules, logs) => watch(alloc, store, roster, rules, logs),
     }
 }

@@ -1,7 +1,7 @@
 // The command `run`: a script's machines, in threads.
 ghost use Rattle.std.specs.Prelude.{◌≡◌, ◌++◌, All, IfOk, OnOk, codes, length, map, string_bytes};
 ghost use Rattle.election_script.specs.Lawful.{IsLawful};
-ghost use Rattle.finished_floor.specs.Floors.{IsFloorOf};
+ghost use Rattle.finished_floor.specs.Floors.{ArePlayedAgain, IsFloorOf};
 ghost use Rattle.auditorium_core.specs.Outside.{seen};
 ghost use Rattle.auditorium_core.specs.Run.{IsRunOf, loss_line, loss_lines};
 ghost use Rattle.auditorium_core.specs.Words.{run};
@@ -67,7 +67,8 @@ fn answer_of(
 ) -> Result<Answer, AllocError>
     requires lawful { IsLawful script.now }
     requires floor { IsFloorOf script.now floor.now.roster.machines floor.now.machines.items
-        floor.now.losses.items (map (λ row. row.items) floor.now.by.items) }
+        floor.now.losses.items }
+    requires played { ArePlayedAgain script.now floor.now.machines.items }
     ensures { IfOk result (IsRunOf prefix.now script.now) }
 {
     let machines = floor.machines.as_slice();

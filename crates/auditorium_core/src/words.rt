@@ -16,6 +16,7 @@ use crate::play::play_request;
 use crate::prove::prove_request;
 use crate::repair::repair_request;
 use crate::run::run_request;
+use crate::watch::watch_request;
 use crate::word_forms::have_form;
 
 /// What good words ask for.
@@ -52,6 +53,9 @@ pub(crate) enum Request<'a> {
     Repair(&'a str, &'a str),
     /// `run`: `play` in threads.
     Run(&'a str, &'a str),
+    /// `watch`: what an audit says after each entry, by the roster in the first file, the rules that
+    /// the second word names, and the logs in the other files.
+    Watch(&'a str, &'a str, &'a [String]),
 }
 
 /// What the words ask for; nothing where they aren't good.
@@ -87,6 +91,7 @@ fn request_named<'a>(name: &str, rest: &'a [String]) -> Option<Request<'a>>
         "prove" => prove_request(rest),
         "repair" => repair_request(rest),
         "run" => run_request(rest),
+        "watch" => watch_request(rest),
         _ => None,
     }
 }

@@ -2,7 +2,8 @@
 ghost use Rattle.std.specs.Prelude.{◌≡◌, is_ok, IsErr, OnOk, OnErr};
 ghost use Rattle.hall_outside.specs.Counts.{HasCause};
 ghost use Rattle.auditorium_core.specs.Outcome.{with_files, SetsSome};
-ghost use Rattle.auditorium_core.specs.Outcome.{PutsAll, IsWrittenBy, IsWritten, IsCutShort};
+ghost use Rattle.auditorium_core.specs.Outcome.{PutsAll, PlacesAll, IsWrittenBy};
+ghost use Rattle.auditorium_core.specs.Outcome.{IsWritten, IsCutShort};
 ghost use Rattle.auditorium_core.specs.Outside.{outside};
 
 use crate::answer::{Answer, OutputFile};
@@ -23,6 +24,23 @@ fn put_files<S: Store>(store: &mut S, files: &[OutputFile]) -> Result<(), Failed
     Ok(())
 }
 
+/// Writes the files in order and says that they are all, if there are any. It takes no memory.
+fn place_files<S: Store>(store: &mut S, files: &[OutputFile]) -> Result<(), Failed>
+    ensures ok { OnOk result (S.files store.new ≡ with_files (S.files store.old) files.now) }
+    ensures err { OnErr result (SetsSome (S.files store.old) files.now (S.files store.new)) }
+    ensures cause { HasCause (S.write_faults store.old) (S.write_faults store.new) (IsErr result) }
+    ensures answered { S.answered store.new ≡ S.answered store.old }
+    ensures read_faults { S.read_faults store.new ≡ S.read_faults store.old }
+    ensures calls { PlacesAll S.creates S.appends S.finishes store.old files.now (is_ok result)
+        store.new }
+{
+    if files.is_empty() {
+        return Ok(());
+    }
+    put_files(store, files)?;
+    store.finish()
+}
+
 /// Writes the answer: first its files, then its output. It takes no memory.
 pub(crate) fn write_answer<S: Store, K: Sink>(
     answer: &Answer,
@@ -36,9 +54,9 @@ pub(crate) fn write_answer<S: Store, K: Sink>(
         (outside S.Store K.Sink store.old out.old)
         (outside S.Store K.Sink store.new out.new)) }
     ensures answered { S.answered store.new ≡ S.answered store.old }
-    ensures calls { IsWrittenBy S.creates S.appends K.writes answer.now store.old out.old
-        (is_ok result) store.new out.new }
+    ensures calls { IsWrittenBy S.creates S.appends S.finishes K.writes answer.now store.old
+        out.old (is_ok result) store.new out.new }
 {
-    put_files(store, answer.files())?;
+    place_files(store, answer.files())?;
     write_all(out, answer.output())
 }

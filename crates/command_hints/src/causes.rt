@@ -125,7 +125,8 @@ pub fn sentence(cause: Cause) -> &'static str {
         Cause::TooWide => {
             "the rows of the rule's nested quantifiers multiply to more than 268,435,456"
         }
-        Cause::TooMany => "the logs have more than 16,384 distinct entries",
+        Cause::TooMany =>
+            "the logs have more than 16,384 distinct entries, or than 1,024 for watch",
         Cause::Collision => "two entries with different texts have one digest",
         Cause::NoEntry => "no entry that survives in the logs is the one that this word means",
         Cause::Exists => "an office's file is never overwritten; take another name",

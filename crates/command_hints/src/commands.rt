@@ -13,6 +13,7 @@ pub(crate) const COMMANDS: &[&str] = &[
     "repair SCRIPT PREFIX: plays, mends logs before the close, and finishes",
     "order ROSTER X Y LOG..: which of two entries came first, if it is known",
     "audit ROSTER RULES LOG..: the report on the logs that survive",
+    "watch ROSTER RULES LOG..: what an audit says after each entry",
     "prove ROSTER PROOF LOG..: writes a proof by which others check an audit",
     "check ROSTER RULES PROOF LOG..: what rules come to, by a proof",
     "make N: prints the script of a day of N sessions",

@@ -232,7 +232,7 @@ fn place_changed(alloc: Global, store: &mut MemoryStore) -> Result<(), Fail> {
 const PLAYED: &[(&str, &str)] = &[(TWO, "p"), (FORK, "f"), (OTHER, "o"), (THREE, "q")];
 
 /// A store with the files of all plays, and with cut and changed logs.
-fn hall(alloc: Global) -> Result<MemoryStore, Fail> {
+pub(super) fn hall(alloc: Global) -> Result<MemoryStore, Fail> {
     let mut store = empty(alloc);
     for (script, prefix) in PLAYED {
         play(alloc, script, prefix, &mut store)?;

@@ -97,7 +97,8 @@ fn place_files(alloc: Global, files: &MemoryStore, store: &mut MemoryStore) -> R
     Ok(())
 }
 
-/// A store with the same files, whose read, and whose create or append, with these numbers fail.
+/// A store with the same files, whose read, and whose create, append or finish, with these numbers
+/// fail.
 fn copied(alloc: Global, files: &MemoryStore, read: u64, write: u64) -> Result<MemoryStore, Fail> {
     let reads = vec![in alloc; read]?;
     let writes = vec![in alloc; write]?;
@@ -252,8 +253,9 @@ fn short_reads_change_no_answer(rt: HostRuntime) -> Result<(), Fail> {
     Ok(())
 }
 
-/// The creates and appends that fail, counted from 1, with the lengths of the files that are left.
-/// Each file is created, and takes its bytes in one piece; the seventh doesn't come.
+/// The creates, appends and finishes that fail, counted from 1, with the lengths of the files that are
+/// left. Each file is created, and takes its bytes in one piece; the seventh call says that they are
+/// all, and the eighth doesn't come.
 const STOPS: &[(u64, &str)] = &[
     (1, " - - -"),
     (2, " 0 - -"),
@@ -262,10 +264,11 @@ const STOPS: &[(u64, &str)] = &[
     (5, " 163 14907 -"),
     (6, " 163 14907 0"),
     (7, " 163 14907 14907"),
+    (8, " 163 14907 14907"),
 ];
 
-/// Whether the words, over a copy of the files, leave these lengths where this create or append
-/// fails.
+/// Whether the words, over a copy of the files, leave these lengths where this create, append or
+/// finish fails.
 fn stops_at<R: Threads + Wait + Sync>(
     rt: &R,
     alloc: Global,
@@ -273,7 +276,7 @@ fn stops_at<R: Threads + Wait + Sync>(
     words: &str,
     (failing, lengths): (u64, &str),
 ) -> Result<bool, Fail> {
-    let want: Ending<'_> = if failing < 7 {
+    let want: Ending<'_> = if failing < 8 {
         (Status::WriteFault, b"", lengths)
     } else {
         (Status::Done, PLAYED.as_bytes(), lengths)
@@ -283,9 +286,7 @@ fn stops_at<R: Threads + Wait + Sync>(
 }
 
 #[test]
-fn a_stop_at_each_create_and_append_leaves_the_files_before_it(
-    rt: HostRuntime,
-) -> Result<(), Fail> {
+fn a_stop_at_each_call_that_writes_leaves_the_files_before_it(rt: HostRuntime) -> Result<(), Fail> {
     let alloc = rt.alloc();
     let files = played(alloc)?;
     for words in ["play script q", "run script q"] {

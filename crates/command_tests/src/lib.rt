@@ -33,4 +33,6 @@ mod repair_tests;
 #[cfg(test)]
 mod run_tests;
 #[cfg(test)]
+mod watch_tests;
+#[cfg(test)]
 mod word_tests;

@@ -55,7 +55,7 @@ fn records_of(
 }
 
 /// Puts a log of the booth that has the entries of these sessions into a file.
-fn place_log(
+pub(super) fn place_log(
     alloc: Global,
     name: &str,
     election: &[u8; 32],

@@ -93,6 +93,9 @@ fn each_command_has_its_status_and_output(rt: HostRuntime) -> Result<(), Fail> {
         let text = answered(alloc, words, &mut store)?;
         assert!(rt; text.as_str() == want, "{words}: {text}");
     }
+    let key = octets_of(alloc, KEY)?;
+    assert!(rt; store.file("o.office").unwrap_or(b"").len() == 51);
+    assert!(rt; store.file("o.key") == Some(key.as_slice()));
     assert!(rt; store.file("e.office") == Some(b"") && store.file("e.key").is_none());
     assert!(rt; store.file("l.office").unwrap_or(b"").len() == 65_537);
     Ok(())
@@ -178,13 +181,14 @@ fn a_cut_office_is_none(rt: HostRuntime) -> Result<(), Fail> {
     Ok(())
 }
 
-/// The create or append that fails, where each file takes its bytes in one piece; the office's file
-/// after it; the length of the signature's file, or a hyphen; and what the next call answers.
+/// The create, append or finish that fails, where each file takes its bytes in one piece; the
+/// office's file after it; the length of the signature's file, or a hyphen; and what the next call answers.
 const STOPS: &str = "\
 1|0|-|0 endorsed f 0
 2||-|5 refused o.office 0 Office
 3|1|-|0 endorsed f 1
-4|1|0|0 endorsed f 1";
+4|1|0|0 endorsed f 1
+5|1|4916|0 endorsed f 1";
 
 /// Whether the office's file has this number, or nothing where there is none.
 fn has_number(alloc: Global, store: &MemoryStore, number: &str) -> Result<bool, Fail> {
@@ -207,7 +211,7 @@ fn signature_length(alloc: Global, store: &MemoryStore) -> Result<String, Fail> 
     }
 }
 
-/// A store as `numbered` makes it, whose create or append of this number fails.
+/// A store as `numbered` makes it, whose create, append or finish of this number fails.
 fn stopping(alloc: Global, failing: u64) -> Result<MemoryStore, Fail> {
     let writes = vec![in alloc; failing]?;
     let mut store = MemoryStore::make(alloc, Vec::new(alloc), writes);

@@ -164,15 +164,17 @@ fn proofs_list_the_ancestors_of_each_entry(rt: HostRuntime) -> Result<(), Fail> 
     Ok(())
 }
 
-/// The creates and appends that fail, counted from 1, with the status, and the length of the proof
-/// that is left, if there is one.
+/// The creates, appends and finishes that fail, counted from 1, with the status, and the length of
+/// the proof that is left, if there is one.
 const STOPS: &[(u64, Status, Option<usize>)] = &[
     (1, Status::WriteFault, None),
     (2, Status::WriteFault, Some(0)),
-    (3, Status::Done, Some(120)),
+    (3, Status::WriteFault, Some(120)),
+    (4, Status::Done, Some(120)),
 ];
 
-/// Copies the files of the first play into a store whose create or append with this number fails.
+/// Copies the files of the first play into a store whose create, append or finish with this number
+/// fails.
 fn failing(alloc: Global, files: &MemoryStore, write: u64) -> Result<MemoryStore, Fail> {
     let mut store = MemoryStore::make(alloc, Vec::new(alloc), vec![in alloc; write]?);
     for name in ["p.roster", "p.sv.log", "p.b1.log"] {

@@ -8,6 +8,10 @@ use hall_outside::{MemorySink, MemoryStore};
 use std::alloc::Global;
 use std::test::Fail;
 
+/// Each booth hears one entry of the supervisor, which then stops.
+const STOPPED: &str = "step act sv\nstep act sv\nstep act sv\n\
+    step hear b1 sv 1\nstep hear b2 sv 2\nstep stop sv\n";
+
 /// Scripts; the same with steps after their own, by which their logs are mended and their
 /// machines finish; the status, and the output.
 const REPAIRS: &[(Parts, Parts, Status, &str)] = &[
@@ -63,6 +67,43 @@ const REPAIRS: &[(Parts, Parts, Status, &str)] = &[
         Status::Undone,
         "machine sv sent 3 held 3\nmachine b1 sent 2 held 5\nmachine b2 sent 2 held 6\n\
             undone b2 2 LogNotWhole\n",
+    ),
+    (
+        &[
+            (1, "version 2\n"),
+            (1, THREE),
+            (1, SESSIONS),
+            (1, BALLOT),
+            (1, BALLOT_STEPS),
+            (1, "step stop b1\n"),
+        ],
+        &[
+            (1, "version 2\n"),
+            (1, THREE),
+            (1, SESSIONS),
+            (1, BALLOT),
+            (1, BALLOT_STEPS),
+            (1, "step stop b1\n"),
+        ],
+        Status::Undone,
+        "machine sv sent 3 held 3\nmachine b1 sent 2 held 5\nmachine b2 sent 2 held 6\n\
+            undone b2 2 LogNotWhole\n",
+    ),
+    // The maker of the missed entry has stopped, and another machine answers.
+    (
+        &[(1, THREE), (1, SESSIONS), (1, STOPPED)],
+        &[
+            (1, THREE),
+            (1, SESSIONS),
+            (1, STOPPED),
+            (
+                1,
+                "step hear b2 sv 1\nstep act b1\nstep act b1\nstep act b2\n",
+            ),
+        ],
+        Status::Done,
+        "machine sv sent 3 held 3\nmachine b1 sent 2 held 3\nmachine b2 sent 1 held 3\n\
+            mended b2 sv.1\n",
     ),
     // Nothing is missed, and nothing is left.
     (

@@ -12,12 +12,14 @@ audit,-h|usage|auditorium (unreleased)
 play,s,-V|usage|auditorium (unreleased)
 frobnicate|usage|auditorium: \"frobnicate\" is no command; the nearest is office
 aduit,r,standard,l|usage|auditorium: \"aduit\" is no command; the nearest is audit
+wacth,r,standard,l|usage|auditorium: \"wacth\" is no command; the nearest is watch
 Make,1|usage|auditorium: \"Make\" is no command; the nearest is make
 make,801|usage|auditorium: \"801\" isn't N: from 1 to 800 sessions, in digits
 demo,01|usage|auditorium: \"01\" isn't N: from 1 to 800 sessions, in digits
 make|usage|auditorium: make wants N; words given: 0
 play,s|usage|auditorium: play wants SCRIPT PREFIX; words given: 1
 audit,r,standard|usage|auditorium: audit wants ROSTER RULES LOG..; words given: 2
+watch,r,standard|usage|auditorium: watch wants ROSTER RULES LOG..; words given: 2
 prove,r,q|usage|auditorium: prove wants ROSTER PROOF LOG..; words given: 2
 check,r,c,q|usage|auditorium: check wants ROSTER RULES PROOF LOG..; words given: 3
 order,r,b1.0,b1.1|usage|auditorium: order wants ROSTER X Y LOG..; words given: 3
@@ -38,6 +40,7 @@ audit,r,c,l|refused c 9 SameName|auditorium: c, byte 9, counted from 0, SameName
 audit,r,c,l|refused r 0 SameName|auditorium: r, SameName: two machines have one name
 audit,r,c,l|refused r 5 NotCanonical|auditorium: r, byte 5, counted from 0, NotCanonical: a
 audit,r,c,l|refused c 3 TooWide|auditorium: c, rule 3, counted from 0, TooWide: the
+watch,r,c,l|refused c 3 TooWide|auditorium: c, rule 3, counted from 0, TooWide: the
 gaps,l|refused l 0 Header|auditorium: l, Header: a log begins with its header, as (3:log1:11:0);
 check,r,c,q,l|refused q 1 Form|auditorium: q, line 1, Form: the lines of a proof are proof 1,
 check,r,c,q,l|refused q 2 WrongCount|auditorium: q, line 2, WrongCount: the logs don't have so

@@ -3,7 +3,7 @@ use Rattle.std.specs.Prelude.{◌≡◌, ℕ, List, ◌∷◌, Option, Some, Non
 use Rattle.auditorium_core.specs.declared.words.Request.{Request}
 use Rattle.auditorium_core.specs.declared.words.Request.TheVariants as request
 use Rattle.auditorium_core.specs.Words.{Command, audit, check, demonstrate, endorse, endorsed, gaps, generate, office}
-use Rattle.auditorium_core.specs.Words.{order, play, prove, repair, run, command_parts}
+use Rattle.auditorium_core.specs.Words.{order, play, prove, repair, run, watch, command_parts}
 
 -- the command that a request is for
 abbrev pub asked : Request → Command
@@ -20,6 +20,7 @@ asked (request.Play script prefix) = play script.now prefix.now
 asked (request.Prove roster proof logs) = prove roster.now proof.now (map string_bytes logs.now)
 asked (request.Repair script prefix) = repair script.now prefix.now
 asked (request.Run script prefix) = run script.now prefix.now
+asked (request.Watch roster rules logs) = watch roster.now rules.now (map string_bytes logs.now)
 
 -- the command has threads where there is a runtime
 abbrev pub IsThreaded : Command → Type 0

@@ -1,6 +1,7 @@
 use Rattle.std.proofs.Common.{inr, refl}
 use Rattle.std.specs.Prelude.{Ok}
 use Rattle.evidence.proofs.FilesRead.{was_read, not_read}
+use Rattle.evidence.proofs.Readings.{stands}
 use Rattle.auditorium_core.specs.NamedBytes.{GivesBytes}
 use Rattle.auditorium_core.specs.Outside.{seen}
 use Rattle.auditorium_core.proofs.FileSteps.{long_bytes}
@@ -13,12 +14,8 @@ returns-in-Ok g c =
     was_read (λ bytes. bytes.items) (GivesBytes c.args.limit c.args.name.now) c.args.name.now
     (seen store c.args.store.now) (seen store c.read_file.new.store) c.in-Ok.bytes.items (Ok c.in-Ok.bytes)
     given.ok.whole (inr (given.ok.fits, refl)) tt tt (λ more. let no = given.absent.always more in cc)
-    (record {
-      absences = given.absences;
-      read_faults = given.read_fault.never_falls;
-      files = given.unchanged.0;
-      write_faults = given.unchanged.1;
-    })
+    (stands (store.read_faults c.args.store.now) (store.read_faults c.read_file.new.store) given.read_fault (λ e. cc))
+    (record { absences = given.absences; files = given.unchanged.0; write_faults = given.unchanged.1 })
 
 pub returns-in-Err : goal.returns-in-Err
 returns-in-Err g c =
@@ -27,9 +24,4 @@ returns-in-Err g c =
     not_read (λ bytes. bytes.items) (GivesBytes c.args.limit c.args.name.now) c.args.name.now
     (seen store c.args.store.now) (seen store c.read_file.new.store) c.args.limit c.in-Err.fault c.file_fault.result
     refl (long_bytes c.args.limit c.args.name.now) c.file_fault.ensures given.err given.absent given.read_fault
-    (record {
-      absences = given.absences;
-      read_faults = given.read_fault.never_falls;
-      files = given.unchanged.0;
-      write_faults = given.unchanged.1;
-    })
+    (record { absences = given.absences; files = given.unchanged.0; write_faults = given.unchanged.1 })

@@ -1,6 +1,7 @@
 use Rattle.std.proofs.Common.{◌≡◌, ◌∙◌, List, ℕ, true, false, ap, sym, subst, rules}
 use Rattle.std.specs.Prelude.{codes}
 use Rattle.hall_outside.specs.Files.{OnFile}
+use Rattle.evidence.proofs.Readings.{stands}
 use Rattle.auditorium_core.specs.Lines.{refused_answer}
 use Rattle.auditorium_core.specs.OfficeFile.{office_file}
 use Rattle.auditorium_core.specs.Outside.{seen}
@@ -21,7 +22,8 @@ returns-in_ok-refused-in-Ok-true g c =
     office_answered name c.args.seed there c.in_ok-refused-in-Ok-true.field-0 (seen store old)
     (seen store c.is_there.new.store)
     (subst (λ (n : List ℕ). OnFile (store.files old) n (IsThere there)) file given.there) given.absent
-    given.read_fault.never_falls given.files given.write_faults
+    (stands (store.read_faults old) (store.read_faults c.is_there.new.store) given.read_fault (λ e. cc)) given.files
+    given.write_faults
     (c.in_ok-refused-in-Ok-true.ensures ∙ ap (λ (n : List ℕ). refused_answer n 0 (codes "Exists")) again
     ∙ ap (answer_by name c.args.seed) (sym is))
 
@@ -37,5 +39,6 @@ returns-in_ok-made_of-in-Ok-false g c =
     office_answered name c.args.seed there c.in_ok-made_of-in-Ok-false.field-0 (seen store old)
     (seen store c.is_there.new.store)
     (subst (λ (n : List ℕ). OnFile (store.files old) n (IsThere there)) file given.there) given.absent
-    given.read_fault.never_falls given.files given.write_faults
+    (stands (store.read_faults old) (store.read_faults c.is_there.new.store) given.read_fault (λ e. cc)) given.files
+    given.write_faults
     (c.in_ok-made_of-in-Ok-false.ensures ∙ ap (answer_by name c.args.seed) (sym is))

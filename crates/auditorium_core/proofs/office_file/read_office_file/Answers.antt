@@ -1,6 +1,7 @@
 use Rattle.std.proofs.Common.{refl}
 use Rattle.office_key.specs.declared.office.Office.{Office}
 use Rattle.evidence.proofs.FilesRead.{was_read, not_read}
+use Rattle.evidence.proofs.Readings.{stands}
 use Rattle.auditorium_core.specs.NamedBytes.{max_small}
 use Rattle.auditorium_core.specs.OfficeFile.{GivesOffice}
 use Rattle.auditorium_core.specs.Outside.{seen}
@@ -16,12 +17,8 @@ returns-in-Ok g c =
     (rw (← c.as_slice.ensures.value) c.office_of.ensures.ok)
     (rw (← c.as_slice.ensures.value) c.office_of.ensures.err) c.office_of.ensures.only
     (λ more. let no = given.absent.always more in cc)
-    (record {
-      absences = given.absences;
-      read_faults = given.read_fault.never_falls;
-      files = given.unchanged.0;
-      write_faults = given.unchanged.1;
-    })
+    (stands (store.read_faults c.args.store.now) (store.read_faults c.read_file.new.store) given.read_fault (λ e. cc))
+    (record { absences = given.absences; files = given.unchanged.0; write_faults = given.unchanged.1 })
 
 pub returns-in-Err : goal.returns-in-Err
 returns-in-Err g c =
@@ -30,9 +27,4 @@ returns-in-Err g c =
     not_read (λ (office : Office). office) (GivesOffice c.args.file.now) c.args.file.now (seen store c.args.store.now)
     (seen store c.read_file.new.store) max_small c.in-Err.fault c.file_fault.result refl (long_office c.args.file.now)
     c.file_fault.ensures given.err given.absent given.read_fault
-    (record {
-      absences = given.absences;
-      read_faults = given.read_fault.never_falls;
-      files = given.unchanged.0;
-      write_faults = given.unchanged.1;
-    })
+    (record { absences = given.absences; files = given.unchanged.0; write_faults = given.unchanged.1 })

@@ -17,12 +17,12 @@ returns-in-Some g c =
     let out = c.args.out.now in
     let out_now = c.end_with.new.out in
     let is_told_by : Answer → Bool → Type 0 = λ answer ok.
-    IsWrittenBy store.creates store.appends sink.writes answer read out ok new out_now in
+    IsWrittenBy store.creates store.appends store.finishes sink.writes answer read out ok new out_now in
     let command = asked c.in-Some.request in
     was_done IsAny (map string_bytes c.args.words.now) is_told_by
     (IsWrittenAfterReads store sink old out new out_now) (seen store old) (seen store read) (sink.written out)
     (sink.faults out) (outside store sink new out_now)
-    (λ answer ok told. (read, c.answer_in-answer.ensures.files, told)) c.answer_in-answer.result c.end_with.result
+    (λ answer ok told. (read, c.answer_in-answer.ensures.files, c.answer_in-answer.ensures.write_faults, told)) c.answer_in-answer.result c.end_with.result
     (answered_words IsAny (map string_bytes c.args.words.now) command (seen store old) (seen store read)
     c.answer_in-answer.result tt c.in-Some.ensures.some c.answer_in-answer.ensures) c.end_with.ensures
 

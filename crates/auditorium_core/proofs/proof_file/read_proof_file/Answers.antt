@@ -1,6 +1,7 @@
 use Rattle.std.proofs.Common.{List, refl}
 use Rattle.audit_proof.specs.Lines.{Line}
 use Rattle.evidence.proofs.FilesRead.{was_read, not_read}
+use Rattle.evidence.proofs.Readings.{stands}
 use Rattle.auditor.specs.Judged.{nodes_of}
 use Rattle.auditorium_core.specs.Outside.{seen}
 use Rattle.auditorium_core.specs.ProofFile.{max_proof, GivesProof}
@@ -18,12 +19,8 @@ returns-in-Ok g c =
     (rw (← c.as_slice.ensures.value) c.proof_of.ensures.ok)
     (rw (← c.as_slice.ensures.value) c.proof_of.ensures.err) c.proof_of.ensures.only
     (λ more. let no = given.absent.always more in cc)
-    (record {
-      absences = given.absences;
-      read_faults = given.read_fault.never_falls;
-      files = given.unchanged.0;
-      write_faults = given.unchanged.1;
-    })
+    (stands (store.read_faults c.args.store.now) (store.read_faults c.read_file.new.store) given.read_fault (λ e. cc))
+    (record { absences = given.absences; files = given.unchanged.0; write_faults = given.unchanged.1 })
 
 pub returns-in-Err : goal.returns-in-Err
 returns-in-Err g c =
@@ -34,9 +31,4 @@ returns-in-Err g c =
     not_read (λ (lines : List Line). lines) (GivesProof c.args.name.now (nodes_of c.args.graph.now)) c.args.name.now before
     after max_proof c.in-Err.fault c.file_fault.result refl (long_proof c.args.name.now (nodes_of c.args.graph.now))
     c.file_fault.ensures given.err given.absent given.read_fault
-    (record {
-      absences = given.absences;
-      read_faults = given.read_fault.never_falls;
-      files = given.unchanged.0;
-      write_faults = given.unchanged.1;
-    })
+    (record { absences = given.absences; files = given.unchanged.0; write_faults = given.unchanged.1 })

@@ -1,6 +1,7 @@
 use Rattle.std.proofs.Common.{map, refl}
 use Rattle.rule_language.specs.Forms.{rule_tree}
 use Rattle.evidence.proofs.FilesRead.{was_read, not_read}
+use Rattle.evidence.proofs.Readings.{stands}
 use Rattle.auditor.specs.Sources.{max_rules, GivesRules}
 use Rattle.auditorium_core.specs.Outside.{seen}
 use Rattle.auditorium_core.proofs.CheckAnswers.{long_rules}
@@ -17,12 +18,8 @@ returns-in-Ok g c =
     (rw (← c.as_slice.ensures.value) c.rules_of.ensures.ok)
     (rw (← c.as_slice.ensures.value) c.rules_of.ensures.err) c.rules_of.ensures.only
     (λ more. let no = given.absent.always more in cc)
-    (record {
-      absences = given.absences;
-      read_faults = given.read_fault.never_falls;
-      files = given.unchanged.0;
-      write_faults = given.unchanged.1;
-    })
+    (stands (store.read_faults c.args.store.now) (store.read_faults c.read_file.new.store) given.read_fault (λ e. cc))
+    (record { absences = given.absences; files = given.unchanged.0; write_faults = given.unchanged.1 })
 
 pub returns-in-Err : goal.returns-in-Err
 returns-in-Err g c =
@@ -33,9 +30,4 @@ returns-in-Err g c =
     not_read (λ rules. map rule_tree rules.items) (GivesRules c.args.name.now) c.args.name.now before after max_rules
     c.in-Err.fault c.file_fault.result refl (long_rules c.args.name.now) c.file_fault.ensures given.err given.absent
     given.read_fault
-    (record {
-      absences = given.absences;
-      read_faults = given.read_fault.never_falls;
-      files = given.unchanged.0;
-      write_faults = given.unchanged.1;
-    })
+    (record { absences = given.absences; files = given.unchanged.0; write_faults = given.unchanged.1 })

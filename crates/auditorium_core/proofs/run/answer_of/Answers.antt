@@ -20,7 +20,7 @@ add_losses-requires c =
     let floor = c.args.floor.now in
     rw (c.as_slice.ensures.value)
     (between c.args.prefix.now c.args.script.now c.requires.lawful floor.roster.machines floor.machines.items
-    floor.losses.items (map (λ row. row.items) floor.by.items) c.requires.floor)
+    floor.losses.items c.requires.floor c.requires.played)
 
 pub returns : goal.returns
 returns c =
@@ -33,7 +33,7 @@ returns c =
     let undone = string_bytes c.in_ok-undone.undone in
     let P : List MachineState → Type 0 = λ ms. SayUndone ms undone in
     is_run c.args.prefix.now c.args.script.now c.requires.lawful posts machines losses
-    (map (λ row. row.items) floor.by.items) c.requires.floor undone c.in_ok-of_play.field-0
+    c.requires.floor c.requires.played undone c.in_ok-of_play.field-0
     (subst P there c.in_ok-undone.ensures)
     (told_of_run c.args.prefix.now posts machines losses c.in_ok-files.files.items (string_bytes c.new-lines.result)
     (string_bytes c.add_machines.new.lines) (string_bytes c.add_losses.new.lines) c.as_str.result.now undone

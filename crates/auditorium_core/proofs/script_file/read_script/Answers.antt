@@ -1,5 +1,6 @@
 use Rattle.std.proofs.Common.{refl}
 use Rattle.evidence.proofs.FilesRead.{was_read, not_read}
+use Rattle.evidence.proofs.Readings.{stands}
 use Rattle.auditorium_core.specs.Outside.{seen}
 use Rattle.auditorium_core.specs.ScriptFile.{max_script, GivesScript}
 use Rattle.auditorium_core.proofs.ScriptFiles.{itself, long_script}
@@ -18,12 +19,8 @@ returns-in-Ok-clause-read g c =
     (rw (← c.as_slice.ensures.value) c.script_of.ensures.ok)
     (rw (← c.as_slice.ensures.value) c.script_of.ensures.err) c.script_of.ensures.only
     (λ more. let no = given.absent.always more in cc)
-    (record {
-      absences = given.absences;
-      read_faults = given.read_fault.never_falls;
-      files = given.unchanged.0;
-      write_faults = given.unchanged.1;
-    })
+    (stands (store.read_faults old) (store.read_faults new) given.read_fault (λ e. cc))
+    (record { absences = given.absences; files = given.unchanged.0; write_faults = given.unchanged.1 })
 
 pub returns-in-Err-clause-read : goal.returns-in-Err-clause-read
 returns-in-Err-clause-read g c =
@@ -35,9 +32,4 @@ returns-in-Err-clause-read g c =
     let given = c.in-Err.ensures in
     not_read itself (GivesScript c.args.name.now) c.args.name.now before after max_script c.in-Err.fault
     c.file_fault.result refl (long_script c.args.name.now) c.file_fault.ensures given.err given.absent given.read_fault
-    (record {
-      absences = given.absences;
-      read_faults = given.read_fault.never_falls;
-      files = given.unchanged.0;
-      write_faults = given.unchanged.1;
-    })
+    (record { absences = given.absences; files = given.unchanged.0; write_faults = given.unchanged.1 })

@@ -1,6 +1,7 @@
 use Rattle.std.proofs.Common.{◌≡◌, ◌∙◌, List, ℕ, Bool, true, false, ap, sym, subst, rules}
 use Rattle.std.specs.Prelude.{is_ok}
 use Rattle.hall_outside.specs.Files.{with_file}
+use Rattle.hall_outside.proofs.Offers.{unrisen}
 use Rattle.auditorium_core.specs.Outcome.{PutsAll, all_put}
 use Rattle.auditorium_core.proofs.Calls.{as_put, put_next, put_fails, set_next, some_next}
 use Rattle.std.proofs.lemmas.List.{drop_all}
@@ -35,7 +36,7 @@ loop-file-preserved g c =
       some = λ new rest. c.loop-file.invariant.some new
           (some_next (store.files c.loop-file.store) (store.files mid) new c.args.files.now c.loop-file.file-index file
           c.loop-file-test.true c.file-item.is set rest);
-      write_faults = search rules;
+      write_faults = unrisen _ _ c.in_ok-put_file.ensures.cause ∙ c.loop-file.invariant.write_faults;
       answered = search rules;
       read_faults = search rules;
       calls = λ end ok rest. c.loop-file.invariant.calls end ok

@@ -1,4 +1,4 @@
-use Rattle.std.proofs.Common.{◌≡◌, ◌≤◌, Option, Bool, drop}
+use Rattle.std.proofs.Common.{◌≡◌, Option, Bool, drop}
 use Rattle.hall_outside.specs.Files.{Files}
 use Rattle.auditorium_core.specs.Outcome.{with_files, SetsSome, PutsAll}
 use Rattle.auditorium_core.proofs.writing.put_files.Given as goal
@@ -12,7 +12,7 @@ invariant-loop-file g l =
           ≡ with_files (store.files l.fn.store) l.files;
       some : (new : Option Files) → SetsSome (store.files l.store) (drop l.file-index l.files) new
           → SetsSome (store.files l.fn.store) l.files new;
-      write_faults : store.write_faults l.fn.store ≤ store.write_faults l.store;
+      write_faults : store.write_faults l.store ≡ store.write_faults l.fn.store;
       answered : store.answered l.store ≡ store.answered l.fn.store;
       read_faults : store.read_faults l.store ≡ store.read_faults l.fn.store;
       calls : (end : g.row.S.Denot) (ok : Bool)

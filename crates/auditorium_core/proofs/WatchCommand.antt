@@ -1,0 +1,141 @@
+-- The command `watch`.
+use Rattle.std.proofs.Common.{◌≡◌, ◌∙◌, ℕ, List, Option, inl, inr, refl, ap, sym, subst}
+use Rattle.std.specs.Prelude.{Result, Ok, Err}
+use Rattle.std.specs.List.{Contains}
+use Rattle.hall_outside.specs.Files.{Files}
+use Rattle.entry_format.specs.SealedEntry.{SealedEntry}
+use Rattle.entry_graph.specs.EntryGraph.{EntryGraph}
+use Rattle.evidence.specs.Graphs.{entries_of, GivesGraph}
+use Rattle.evidence.specs.Refusal.{Refusal}
+use Rattle.auditor.specs.Audits.{AndThen, WithGraph}
+use Rattle.auditor.specs.OneReport.{FilesGiveOneReport}
+use Rattle.auditor.specs.Outcomes.{outcome_of}
+use Rattle.auditor.specs.Report.{AuditReport}
+use Rattle.auditor.specs.Sources.{RuleSource}
+use Rattle.live_auditor.specs.Summary.{Summary}
+use Rattle.auditorium_core.specs.declared.status.Status.{Status}
+use Rattle.auditorium_core.specs.Lines.{Answer, refusal_answer}
+use Rattle.auditorium_core.specs.ReportAnswers.{status_by, report_statuses}
+use Rattle.auditorium_core.specs.Audit.{source_named}
+use Rattle.auditorium_core.specs.Watch.{Evidence, AreFewDistinct, AreSummaries, GivesEvidence, GivesSummaries}
+use Rattle.auditorium_core.specs.Watch.{GivesWatch, Watches, watch_answer, watch_parts}
+use Rattle.auditorium_core.specs.Words.{watch}
+use Rattle.auditorium_core.specs.Answer.{IsAnswerTo}
+use Rattle.auditorium_core.specs.Complete.{IsCarriedOut}
+use Rattle.auditorium_core.specs.inside.Watching.{GivesWatchIn}
+use Rattle.auditorium_core.proofs.CommandProofs.{HasStatuses, IsCompleted, HasOneAnswer, carried_out_as, contains_as}
+use Rattle.auditorium_core.proofs.CommandProofs.{of_refusal, status_is}
+use Rattle.auditorium_core.proofs.OneByOne.{RulesAreReadInOneWay}
+use Rattle.auditorium_core.proofs.OneOrderAnswer.{OrderOne}
+use Rattle.auditorium_core.proofs.OneWatch.{one_watch}
+use Rattle.auditorium_core.proofs.ReportCommands.{outcome_done, outcome_status, refused_status, absent_status}
+use Rattle.auditorium_core.proofs.ReportCommands.{report_statuses_some}
+use Rattle.auditorium_core.proofs.SameOr.{same_or}
+
+-- over files it has one answer
+pub watch_one : OrderOne → RulesAreReadInOneWay → FilesGiveOneReport → (roster rules : List ℕ)
+    (logs : List (List ℕ)) → HasOneAnswer (watch_parts roster rules logs)
+watch_one order readings reports roster rules logs files a b =
+    same_or (λ x y. x ≡ y) (GivesWatch roster (source_named rules) logs files) (λ told other. other ≡ told) a b
+    (one_watch order readings reports roster (source_named rules) logs files) (λ f g gives same x y. x ∙ same ∙ sym y)
+
+-- what an answer without a refusal is made of
+pub record IsToldOf (source : RuleSource) (names : List (List ℕ)) (evidence : Evidence) (told : Answer) : Type 0 where
+  pub graph : EntryGraph SealedEntry
+  pub graphed : GivesGraph (entries_of evidence.logs) (Ok graph)
+  pub summaries : List Summary
+  pub few : AreFewDistinct (entries_of evidence.logs)
+  pub said : AreSummaries evidence.machines evidence.rules (entries_of evidence.logs) summaries
+  pub report : AuditReport
+  pub reported : WithGraph evidence.machines source evidence.rules names evidence.logs graph (Ok report)
+  pub is : told ≡ watch_answer summaries report
+
+-- what two steps found, the first found and then the second
+pub found_by : {A B : Type 0} (First : Result A Refusal → Type 0) (Next : A → Result B Refusal → Type 0) (found : B) →
+    AndThen First Next (Ok found) → (first : A) × First (Ok first) × Next first (Ok found)
+found_by First Next found (inl (first, is, next)) = (first, is, next)
+found_by First Next found (inr (refusal, gives, e)) = cc
+
+-- two that are found are one where the answers are
+pub same_found : {A : Type 0} (a b : A) → ◌≡◌ {A = Result A Refusal} (Ok a) (Ok b) → a ≡ b
+same_found a b e = cc
+
+pub told_of : (source : RuleSource) (names : List (List ℕ)) (evidence : Evidence) (told : Answer) →
+    Watches source names evidence (Ok told) → IsToldOf source names evidence told
+told_of source names evidence told watched =
+    let entries = entries_of evidence.logs in
+    let (graph, graphed, rest) =
+    found_by (GivesGraph entries)
+    (λ graph. AndThen (GivesSummaries evidence.machines source evidence.rules entries)
+    (λ summaries. AndThen (WithGraph evidence.machines source evidence.rules names evidence.logs graph)
+    (λ report answer. answer ≡ Ok (watch_answer summaries report)))) told watched in
+    let (summaries, (few, said), last) =
+    found_by (GivesSummaries evidence.machines source evidence.rules entries)
+    (λ summaries. AndThen (WithGraph evidence.machines source evidence.rules names evidence.logs graph)
+    (λ report answer. answer ≡ Ok (watch_answer summaries report))) told rest in
+    let (report, reported, e) =
+    found_by (WithGraph evidence.machines source evidence.rules names evidence.logs graph)
+    (λ report answer. answer ≡ Ok (watch_answer summaries report)) told last in
+    record {
+      graph = graph;
+      graphed = graphed;
+      summaries = summaries;
+      few = few;
+      said = said;
+      report = report;
+      reported = reported;
+      is = same_found told (watch_answer summaries report) e;
+    }
+
+module _ (roster : List ℕ) (source : RuleSource) (names : List (List ℕ)) (files : List (Option (List ℕ)))
+    (told : Answer) where
+  -- its status is that of a report
+  status_of_report : GivesWatch roster source names files (Ok told) → (report : AuditReport)
+      × (told.status ≡ status_by (outcome_of report))
+  status_of_report given =
+      let (found, gives, watched) =
+      found_by (GivesEvidence roster source names files) (Watches source names) told given in
+      let of = told_of source names found told watched in
+      (of.report, status_is told (watch_answer of.summaries of.report) of.is)
+
+  -- so it is that of a command that was carried out
+  told_done : GivesWatch roster source names files (Ok told) → IsCarriedOut told.status
+  told_done gives =
+      let (report, is) = status_of_report gives in subst IsCarriedOut (sym is) (outcome_done (outcome_of report))
+
+  -- and one of a report's
+  told_status : GivesWatch roster source names files (Ok told) → Contains report_statuses told.status
+  told_status gives =
+      let (report, is) = status_of_report gives in
+      subst (λ (how : Status). Contains report_statuses how) (sym is) (outcome_status (outcome_of report))
+
+-- it is carried out over what gives such an answer
+pub watch_completed : OrderOne → RulesAreReadInOneWay → FilesGiveOneReport → (roster rules : List ℕ)
+    (logs : List (List ℕ)) → IsCompleted (watch_parts roster rules logs)
+watch_completed order readings reports roster rules logs files answer (inl (refusal, gives, e)) (other, given) =
+    absurd (one_watch order readings reports roster (source_named rules) logs files (Err refusal) (Ok other) gives given)
+watch_completed order readings reports roster rules logs files answer (inr (told, gives, is)) accepted =
+    carried_out_as answer told is (told_done roster (source_named rules) logs files told gives)
+
+-- and has its statuses
+pub watch_has_statuses : (roster rules : List ℕ) (logs : List (List ℕ)) → HasStatuses (watch_parts roster rules logs)
+watch_has_statuses roster rules logs = record { own = own; some = report_statuses_some }
+  where
+    own : (files : List (Option (List ℕ))) (answer : Answer) → (watch_parts roster rules logs).IsAnswer files answer →
+        Contains report_statuses answer.status
+    own files answer (inl (refusal, gives, e)) =
+        contains_as report_statuses answer (refusal_answer refusal) e
+        (of_refusal report_statuses refused_status absent_status refusal)
+    own files answer (inr (told, gives, is)) =
+        contains_as report_statuses answer told is (told_status roster (source_named rules) logs files told gives)
+
+module _ (roster rules : List ℕ) (logs : List (List ℕ)) (told : Option Files) where
+  -- a refusal is answered
+  pub watch_refused : (refusal : Refusal) → GivesWatchIn roster (source_named rules) logs told (Err refusal) →
+      IsAnswerTo (watch roster rules logs) told (refusal_answer refusal)
+  watch_refused refusal (files, are, gives) = (files, are, inl (refusal, gives, refl))
+
+  -- and so are the lines
+  pub watch_told : (answer : Answer) → GivesWatchIn roster (source_named rules) logs told (Ok answer) →
+      IsAnswerTo (watch roster rules logs) told answer
+  watch_told answer (files, are, gives) = (files, are, inr (answer, gives, refl))

@@ -1,0 +1,18 @@
+use Rattle.std.proofs.Common.{map, take, string_bytes}
+use Rattle.entry_format.specs.Nodes.{node_of_sealed}
+use Rattle.rule_language.specs.Forms.{rule_tree}
+use Rattle.evidence.specs.inside.Copies.{StandFor, text_of_sealed}
+use Rattle.live_auditor.specs.Adding.{IsOfSameAudit}
+use Rattle.live_auditor.specs.Live.{IsLive}
+use Rattle.auditorium_core.specs.inside.Watching.{AreLinesOf}
+use Rattle.auditorium_core.proofs.watch.watch_entries.Given as goal
+
+-- what was added stands for the entries so far, of which the lines are
+abbrev pub invariant-loop-k : goal.invariant-loop-k
+invariant-loop-k l = record {
+  stand : StandFor node_of_sealed text_of_sealed l.live.added (take l.k (map (λ e. e.now) l.entries));
+  same : IsOfSameAudit l.fn.live l.live;
+  kept : IsLive l.live;
+  told : AreLinesOf l.fn.live.machines (map rule_tree l.fn.live.rules) (take l.k (map (λ e. e.now) l.entries))
+      (string_bytes l.lines);
+}

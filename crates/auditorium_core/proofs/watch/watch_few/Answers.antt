@@ -1,0 +1,49 @@
+use Rattle.std.proofs.Common.{◌∙◌, map, subst, sym, string_bytes}
+use Rattle.std.specs.Prelude.{All}
+use Rattle.entry_format.specs.Nodes.{node_of_sealed}
+use Rattle.entry_format.specs.SealedEntry.{SealedEntry}
+use Rattle.entry_graph.specs.Given.{HasNoCollision}
+use Rattle.evidence.specs.Graphs.{entries_of}
+use Rattle.evidence.specs.inside.Copies.{text_of_sealed}
+use Rattle.live_auditor.specs.Live.{IsOfMachine}
+use Rattle.auditor.specs.declared.outcome.Outcome.{Outcome}
+use Rattle.auditorium_core.specs.Watch.{AreFewDistinct}
+use Rattle.auditorium_core.proofs.WatchSteps.{lines_told, told_there, too_wide, unwatched_there}
+use Rattle.auditorium_core.proofs.watch.watch_few.Goals as goal
+
+pub watch_entries-requires-clause-machines : goal.watch_entries-requires-clause-machines
+watch_entries-requires-clause-machines c =
+    subst (All (IsOfMachine c.in_ok-live.live.machines)) (sym c.requires.entries)
+    (subst (λ ms. All (IsOfMachine ms) (entries_of c.args.logs.now)) (sym c.in_ok-live.ensures.machines)
+    c.requires.machines)
+
+pub watch_entries-requires-clause-apart : goal.watch_entries-requires-clause-apart
+watch_entries-requires-clause-apart c =
+    subst (HasNoCollision node_of_sealed text_of_sealed) (sym c.requires.entries) c.requires.graphed.0
+
+pub watch_entries-requires-clause-few : goal.watch_entries-requires-clause-few
+watch_entries-requires-clause-few c = subst AreFewDistinct (sym c.requires.entries) c.requires.few
+
+pub returns-in-Ok-clause-ok : goal.returns-in-Ok-clause-ok
+returns-in-Ok-clause-ok c names =
+    let made = c.in_ok-live.ensures in
+    let live = c.in_ok-live.live in
+    let given = c.in-Ok.ensures in
+    lines_told c.args.roster.now.machines c.args.word.now c.args.rules.items c.args.logs.now names c.args.graph.now
+    c.requires.graphed (map (λ e. e.now) c.args.entries.now) c.requires.entries c.requires.few
+    c.entries_give_one_graph.ensures c.watch_entries.new.live (string_bytes c.in-Ok.lines) c.answer_of.result
+    (given.same.machines ∙ made.machines) (given.same.rules ∙ made.rules) given.kept given.added
+    (told_there live c.args.roster.now.machines c.args.rules.items (map (λ e. e.now) c.args.entries.now)
+    (string_bytes c.in-Ok.lines) made.machines made.rules given.ok)
+    c.answer_of.ensures
+
+pub returns-in-Err-TooWide-clause-err : goal.returns-in-Err-TooWide-clause-err
+returns-in-Err-TooWide-clause-err c names =
+    let made = c.in_ok-live.ensures in
+    too_wide c.args.roster.now.machines c.args.word.now c.args.rules.items c.args.logs.now names c.args.graph.now
+    c.requires.graphed (map (λ e. e.now) c.args.entries.now) c.requires.entries c.requires.few
+    c.in-Err-TooWide.field-0 c.refused.result c.in-Err-TooWide.place c.in-Err-TooWide.field-0-is
+    (unwatched_there c.in_ok-live.live c.args.roster.now.machines c.args.rules.items
+    (map (λ e. e.now) c.args.entries.now) c.in-Err-TooWide.field-0 made.machines made.rules
+    c.in-Err-TooWide.ensures.err)
+    c.refused.ensures

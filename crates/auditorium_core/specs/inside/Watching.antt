@@ -1,0 +1,95 @@
+-- What named files give `watch`: those that are told, or some where none are.
+use Rattle.std.specs.Prelude.{◌≡◌, ℕ, List, [], ◌∷◌, ◌++◌, map, Option, Result, Ok, Err, ◌⊎◌, codes}
+use Rattle.std.specs.Fmt.{decimal}
+use Rattle.std.specs.List.{Contains}
+use Rattle.hall_outside.specs.Files.{Files}
+use Rattle.roster.specs.declared.post.Post.{Post}
+use Rattle.entry_format.specs.Nodes.{node_of_sealed}
+use Rattle.entry_format.specs.SealedEntry.{SealedEntry}
+use Rattle.entry_order.specs.Naming.{IsNew}
+use Rattle.log_files.specs.declared.sealed_log.LogRead.{LogRead}
+use Rattle.rule_language.specs.declared.formula.Rule.{Rule}
+use Rattle.rule_language.specs.Forms.{rule_tree}
+use Rattle.rule_language.specs.Trees.{RuleTree}
+use Rattle.evidence.specs.declared.roster_file.RosterRead.{RosterRead}
+use Rattle.evidence.specs.Refusal.{Refusal}
+use Rattle.report_lines.specs.Lines.{line}
+use Rattle.auditor.specs.Audits.{OnFiles, audit_files}
+use Rattle.auditor.specs.Sources.{RuleSource, rule_files}
+use Rattle.live_auditor.specs.Adding.{IsTooWideOver}
+use Rattle.live_auditor.specs.Live.{LiveState}
+use Rattle.live_auditor.specs.Summary.{Summary}
+use Rattle.auditorium_core.specs.declared.watch.EvidenceRead.{EvidenceRead}
+use Rattle.auditorium_core.specs.declared.watch.Unwatched.{Unwatched}
+use Rattle.auditorium_core.specs.declared.watch.Unwatched.TheVariants.{TooWide, Memory}
+use Rattle.auditorium_core.specs.Lines.{Answer}
+use Rattle.auditorium_core.specs.Watch.{Evidence, ReadsLogs, ReadsRules, GivesEvidence, GivesWatch}
+use Rattle.auditorium_core.specs.Watch.{AreSummaries, IsTooWideAfter, watch_lines}
+
+-- these, with the rules as they were read
+abbrev pub evidence_by : List Post → List Rule → List LogRead → Evidence
+evidence_by machines rules logs = record {
+  machines = machines;
+  rules = map rule_tree rules;
+  logs = logs;
+}
+
+-- what was read
+abbrev pub evidence_of : EvidenceRead → Evidence
+evidence_of found = evidence_by found.roster.machines found.rules.items found.logs.items
+
+-- the named files
+abbrev pub ReadsLogsIn : RosterRead → List RuleTree → List (List ℕ) → Option Files →
+    Result Evidence Refusal → Type 0
+ReadsLogsIn read rules names told answer =
+    OnFiles names (λ files. ReadsLogs read rules names files answer) told
+
+abbrev pub ReadsRulesIn : RosterRead → RuleSource → List (List ℕ) → Option Files →
+    Result Evidence Refusal → Type 0
+ReadsRulesIn read source names told answer =
+    OnFiles (rule_files source ++ names) (λ files. ReadsRules read source names files answer) told
+
+abbrev pub GivesEvidenceIn : List ℕ → RuleSource → List (List ℕ) → Option Files →
+    Result Evidence Refusal → Type 0
+GivesEvidenceIn roster source names told answer =
+    OnFiles (audit_files roster source names)
+    (λ files. GivesEvidence roster source names files answer) told
+
+abbrev pub GivesWatchIn : List ℕ → RuleSource → List (List ℕ) → Option Files →
+    Result Answer Refusal → Type 0
+GivesWatchIn roster source names told answer =
+    OnFiles (audit_files roster source names)
+    (λ files. GivesWatch roster source names files answer) told
+
+-- what was added after e: it is there already, or it is new and comes last
+abbrev pub AddsTo : List SealedEntry → SealedEntry → List SealedEntry → Type 0
+AddsTo added e next =
+    (Contains added e × (next ≡ added)) ⊎ (IsNew node_of_sealed added e × (next ≡ added ++ e ∷ []))
+
+-- why e isn't added
+abbrev pub IsUnadded : LiveState → SealedEntry → Unwatched → Type 0
+IsUnadded live e (TooWide place) =
+    IsNew node_of_sealed live.added e
+    × IsTooWideOver live.machines (map rule_tree live.rules) (live.added ++ e ∷ []) place
+IsUnadded live e Memory = Unit {0}
+
+-- why the entries aren't watched
+abbrev pub IsUnwatched : List Post → List RuleTree → List SealedEntry → Unwatched → Type 0
+IsUnwatched machines rules entries (TooWide place) = IsTooWideAfter machines rules entries place
+IsUnwatched machines rules entries Memory = Unit {0}
+
+-- the text has the lines of these entries
+abbrev pub AreLinesOf : List Post → List RuleTree → List SealedEntry → List ℕ → Type 0
+AreLinesOf machines rules entries text =
+    (summaries : List Summary) × AreSummaries machines rules entries summaries
+    × (text ≡ watch_lines 1 summaries)
+
+-- the two halves of a line
+abbrev pub first_half : ℕ → ℕ → ℕ → List ℕ
+first_half n survivors gaps =
+    decimal n ++ codes " " ++ decimal survivors ++ codes " gaps " ++ decimal gaps
+
+abbrev pub second_half : ℕ → ℕ → ℕ → List ℕ
+second_half kept broken unsettled =
+    line (codes " kept " ++ decimal kept ++ codes " broken " ++ decimal broken
+    ++ codes " unsettled " ++ decimal unsettled)

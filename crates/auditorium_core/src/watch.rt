@@ -1,0 +1,528 @@
+// The command `watch`: what an audit says after each entry that the logs keep.
+ghost use Rattle.std.specs.Prelude.{◌≡◌, ◌≢◌, ◌<◌, ◌≤◌, ◌||◌, ◌++◌, ◌↔◌, [], All, IsTrue, codes};
+ghost use Rattle.std.specs.Prelude.{List, ℕ, Err, IfErr, IfOk, IfSome, Ok, OnOk, length, map};
+ghost use Rattle.std.specs.Prelude.{count_by, string_bytes};
+ghost use Rattle.std.specs.List.{list_any};
+ghost use Rattle.std.specs.Str.{bytes_eq};
+ghost use Rattle.entry_format.specs.Nodes.{node_of_sealed};
+ghost use Rattle.entry_graph.specs.Given.{HasNoCollision};
+ghost use Rattle.entry_order.specs.Naming.{IsNew};
+ghost use Rattle.rule_language.specs.Forms.{rule_tree};
+ghost use Rattle.evidence.specs.Graphs.{GivesGraph, entries_of, entries_of_records};
+ghost use Rattle.evidence.specs.Reading.{IsReadFrom};
+ghost use Rattle.evidence.specs.Refusal.{IsAbsent, refusal_of};
+ghost use Rattle.evidence.specs.inside.Copies.{StandFor, text_of_sealed};
+ghost use Rattle.auditor.specs.Outcomes.{graph_has_finding, is_broken, is_unsettled};
+ghost use Rattle.auditor.specs.Outcomes.{log_has_finding, outcome_by};
+ghost use Rattle.live_auditor.specs.Adding.{Collides, IsOfSameAudit};
+ghost use Rattle.live_auditor.specs.Live.{IsLive, IsOfMachine, max_added};
+ghost use Rattle.demonstration.specs.Shown.{is_kept};
+ghost use Rattle.auditorium_core.specs.Audit.{source_named};
+ghost use Rattle.auditorium_core.specs.Outside.{seen};
+ghost use Rattle.auditorium_core.specs.ReportAnswers.{status_by};
+ghost use Rattle.auditorium_core.specs.Watch.{AreFewDistinct, Watches, watch_line};
+ghost use Rattle.auditorium_core.specs.Words.{watch};
+ghost use Rattle.auditorium_core.specs.inside.Meaning.{IsReadAs};
+ghost use Rattle.auditorium_core.specs.inside.Promise.{IsAnsweredBy};
+ghost use Rattle.auditorium_core.specs.inside.Watching.{
+  AddsTo,
+  AreLinesOf,
+  GivesEvidenceIn,
+  GivesWatchIn,
+  IsUnadded,
+  IsUnwatched,
+  ReadsLogsIn,
+  ReadsRulesIn,
+  evidence_by,
+  evidence_of,
+  first_half,
+  second_half,
+};
+
+use crate::answer::{Answer, Fault};
+use crate::audit::{rules_from, status_by};
+use crate::rules_file::read_rules;
+use crate::status::Status;
+use crate::word_forms::are_logs;
+use crate::words::Request;
+use auditor::{Outcome, RulesFrom};
+use entry_format::Sealed;
+use entry_graph::Graph;
+use evidence::{AuditFault, RosterRead, entries_give_one_graph, graph_of, read_logs, read_roster};
+use hall_outside::Store;
+use live_auditor::{Live, LiveFault};
+use log_files::{End, Kept, LogRead};
+use roster::Roster;
+use rule_engine::Verdict;
+use rule_language::{Rule, standard};
+use std::alloc::{AllocError, Global};
+use std::fmt::Write;
+
+/// The request that the words after `watch` make.
+pub(crate) fn watch_request(rest: &[String]) -> Option<Request<'_>>
+    ensures { IsReadAs (codes "watch") (map string_bytes rest.now) result }
+{
+    match rest {
+        [roster, rules, logs @ ..] if are_logs(logs) => {
+            Some(Request::Watch(roster.as_str(), rules.as_str(), logs))
+        }
+        _ => None,
+    }
+}
+
+/// What an audit goes on: the roster, the rules and the logs.
+#[derive(Drop)]
+struct EvidenceRead {
+    roster: Roster,
+    rules: Vec<Rule>,
+    logs: Vec<LogRead>,
+}
+
+/// Reads the logs.
+fn read_with_rules<S: Store>(
+    alloc: Global,
+    store: &mut S,
+    read: RosterRead,
+    rules: Vec<Rule>,
+    names: &[String],
+) -> Result<EvidenceRead, AuditFault>
+    ensures { IsReadFrom evidence_of
+        (ReadsLogsIn read (map rule_tree rules.items) (map string_bytes names.now))
+        (seen S.Store store.old) result (seen S.Store store.new) }
+{
+    match read_logs(alloc, store, names, &read.roster, &read.election) {
+        Ok(logs) => Ok(EvidenceRead {
+            roster: read.roster,
+            rules,
+            logs,
+        }),
+        Err(fault) => Err(fault),
+    }
+}
+
+/// Reads the rules that the word names, and then the logs.
+fn read_with_roster<S: Store>(
+    alloc: Global,
+    store: &mut S,
+    read: RosterRead,
+    word: &str,
+    names: &[String],
+) -> Result<EvidenceRead, AuditFault>
+    ensures { IsReadFrom evidence_of
+        (ReadsRulesIn read (source_named word.now) (map string_bytes names.now))
+        (seen S.Store store.old) result (seen S.Store store.new) }
+{
+    match rules_from(word) {
+        RulesFrom::Standard => match standard(alloc) {
+            Ok(rules) => read_with_rules(alloc, store, read, rules, names),
+            Err(_) => Err(AuditFault::Memory),
+        },
+        RulesFrom::File(name) => match read_rules(alloc, store, name) {
+            Ok(rules) => read_with_rules(alloc, store, read, rules, names),
+            Err(fault) => Err(fault),
+        },
+    }
+}
+
+/// Reads the roster, the rules and the logs.
+fn read_evidence<S: Store>(
+    alloc: Global,
+    store: &mut S,
+    roster: &str,
+    word: &str,
+    names: &[String],
+) -> Result<EvidenceRead, AuditFault>
+    ensures { IsReadFrom evidence_of
+        (GivesEvidenceIn roster.now (source_named word.now) (map string_bytes names.now))
+        (seen S.Store store.old) result (seen S.Store store.new) }
+{
+    match read_roster(alloc, store, roster) {
+        Ok(read) => read_with_roster(alloc, store, read, word, names),
+        Err(fault) => Err(fault),
+    }
+}
+
+/// Adds the entries of these records.
+fn add_kept<'a>(entries: &mut Vec<&'a Sealed>, kept: &'a [Kept]) -> Result<(), AllocError>
+    ensures { OnOk result (map (λ e. e.now) entries.new.items
+        ≡ map (λ e. e.now) entries.old.items ++ entries_of_records kept.now) }
+{
+    for record in kept {
+        entries.push(&record.entry)?;
+    }
+    Ok(())
+}
+
+/// The entries that the logs keep, in the order of the logs and of their records.
+fn entries_in<'a>(alloc: Global, logs: &'a [LogRead]) -> Result<Vec<&'a Sealed>, AllocError>
+    ensures { IfOk result (λ entries. map (λ e. e.now) entries.items ≡ entries_of logs.now) }
+{
+    let mut entries = Vec::new(alloc);
+    for log in logs {
+        add_kept(&mut entries, log.kept.as_slice())?;
+    }
+    Ok(entries)
+}
+
+/// The most different entries.
+const MOST_WATCHED: usize = 1_024;
+
+/// Whether one of the entries has the digest.
+fn some_has(entries: &[&Sealed], digest: &[u8; 32]) -> bool
+    ensures { result ≡ list_any (λ e. bytes_eq e.now.digest digest.now) entries.now }
+{
+    entries.iter().any(|entry| entry.digest() == digest)
+}
+
+/// Whether at most 1,024 of the entries are different.
+fn are_few_distinct(alloc: Global, entries: &[&Sealed]) -> Result<bool, AllocError>
+    ensures { IfOk result (λ few.
+        IsTrue few ↔ AreFewDistinct (map (λ e. e.now) entries.now)) }
+{
+    let mut different: Vec<&Sealed> = Vec::new(alloc);
+    for k in 0..entries.len() {
+        let entry = entries[k];
+        if !some_has(different.as_slice(), entry.digest()) {
+            if different.len() == MOST_WATCHED {
+                return Ok(false);
+            }
+            different.push(entry)?;
+        }
+    }
+    Ok(true)
+}
+
+/// Why entries aren't watched.
+#[derive(Clone, Copy)]
+enum Unwatched {
+    /// The rule at this place, counted from 0, is the first that is too wide.
+    TooWide(usize),
+    Memory,
+}
+
+impl From<AllocError> for Unwatched {
+    ghost use Rattle.std.specs.Prelude.{◌≡◌};
+    ghost use Rattle.auditorium_core.specs.declared.watch.Unwatched.TheVariants.{Memory};
+
+    ghost from_gives = { λ _ e. e ≡ Memory };
+
+    fn from(_refused: AllocError) -> Unwatched {
+        Unwatched::Memory
+    }
+}
+
+/// Adds a copy of the entry, for which there is room, and which collides with none.
+fn add_entry(alloc: Global, live: &mut Live, entry: &Sealed) -> Result<(), Unwatched>
+    requires live { IsLive live.old }
+    requires machine { IsOfMachine live.old.machines entry.now }
+    requires apart { ¬ Collides live.old.added entry.now }
+    requires room { IsNew node_of_sealed live.old.added entry.now →
+        length live.old.added < max_added }
+    ensures ok { OnOk result (AddsTo live.old.added entry.now live.new.added) }
+    ensures err { IfErr result (IsUnadded live.old entry.now) }
+    ensures same { IsOfSameAudit live.old live.new }
+    ensures kept { IsLive live.new }
+{
+    let copy = entry.copy(alloc)?;
+    match live.add(alloc, copy) {
+        Ok(_) => Ok(()),
+        Err(LiveFault::TooWide(_, place)) => Err(Unwatched::TooWide(place)),
+        Err(LiveFault::Memory) => Err(Unwatched::Memory),
+        Err(LiveFault::Collision(_)) => unreachable!(),
+        Err(LiveFault::TooMany(_)) => unreachable!(),
+    }
+}
+
+/// How many of the verdicts are that a rule is kept.
+fn kept_in(verdicts: &[Verdict]) -> usize
+    ensures { result ≡ count_by is_kept verdicts.now }
+{
+    let kept = verdicts
+        .iter()
+        .filter(|verdict| matches!(verdict, Verdict::Kept));
+    kept.count()
+}
+
+/// How many are that one is broken.
+fn broken_in(verdicts: &[Verdict]) -> usize
+    ensures { result ≡ count_by is_broken verdicts.now }
+{
+    let broken = verdicts
+        .iter()
+        .filter(|verdict| matches!(verdict, Verdict::Broken(_)));
+    broken.count()
+}
+
+/// How many are that one is unsettled.
+fn unsettled_in(verdicts: &[Verdict]) -> usize
+    ensures { result ≡ count_by is_unsettled verdicts.now }
+{
+    let unsettled = verdicts
+        .iter()
+        .filter(|verdict| matches!(verdict, Verdict::Unsettled));
+    unsettled.count()
+}
+
+/// Adds the first half of a line.
+fn add_first_half(
+    lines: &mut String,
+    number: usize,
+    survivors: usize,
+    gaps: usize,
+) -> Result<(), AllocError>
+    ensures { OnOk result (string_bytes lines.new
+        ≡ string_bytes lines.old ++ first_half number survivors gaps) }
+{
+    write!(lines, "{number} {survivors} gaps {gaps}")
+}
+
+/// Adds the second half.
+fn add_second_half(
+    lines: &mut String,
+    kept: usize,
+    broken: usize,
+    unsettled: usize,
+) -> Result<(), AllocError>
+    ensures { OnOk result (string_bytes lines.new
+        ≡ string_bytes lines.old ++ second_half kept broken unsettled) }
+{
+    write!(
+        lines,
+        " kept {kept} broken {broken} unsettled {unsettled}\n"
+    )
+}
+
+/// Adds the line after so many entries.
+fn add_line(lines: &mut String, number: usize, live: &Live) -> Result<(), AllocError>
+    ensures { OnOk result (string_bytes lines.new
+        ≡ string_bytes lines.old ++ watch_line number live.now.summary) }
+{
+    let survivors = live.survivors();
+    let gaps = live.gaps().len();
+    let kept = kept_in(live.verdicts());
+    let broken = broken_in(live.verdicts());
+    let unsettled = unsettled_in(live.verdicts());
+    add_first_half(lines, number, survivors, gaps)?;
+    add_second_half(lines, kept, broken, unsettled)
+}
+
+/// Adds the entries one after another, and a line after each.
+fn watch_entries(alloc: Global, live: &mut Live, entries: &[&Sealed]) -> Result<String, Unwatched>
+    requires live { IsLive live.old }
+    requires empty { live.old.added ≡ [] }
+    requires machines { All (IsOfMachine live.old.machines) (map (λ e. e.now) entries.now) }
+    requires apart { HasNoCollision node_of_sealed text_of_sealed (map (λ e. e.now) entries.now) }
+    requires few { AreFewDistinct (map (λ e. e.now) entries.now) }
+    ensures ok { IfOk result (λ lines. AreLinesOf live.old.machines (map rule_tree live.old.rules)
+        (map (λ e. e.now) entries.now) (string_bytes lines)) }
+    ensures added { OnOk result (StandFor node_of_sealed text_of_sealed live.new.added
+        (map (λ e. e.now) entries.now)) }
+    ensures err { IfErr result (IsUnwatched live.old.machines (map rule_tree live.old.rules)
+        (map (λ e. e.now) entries.now)) }
+    ensures same { IsOfSameAudit live.old live.new }
+    ensures kept { IsLive live.new }
+{
+    let mut lines = String::new(alloc);
+    for k in 0..entries.len() {
+        match add_entry(alloc, live, entries[k]) {
+            Ok(()) => add_line(&mut lines, k + 1, live)?,
+            Err(why) => return Err(why),
+        }
+    }
+    Ok(lines)
+}
+
+/// The answer of these lines, with the status of what the report comes to.
+fn answer_of(alloc: Global, logs: &[LogRead], graph: &Graph, live: &Live, lines: String) -> Answer
+    ensures { result ≡ record {
+      status = status_by (outcome_by (list_any is_broken live.now.summary.verdicts)
+          (list_any is_unsettled live.now.summary.verdicts)
+          (list_any log_has_finding logs.now || graph_has_finding graph.now));
+      files = [];
+      output = string_bytes lines;
+    } }
+{
+    let outcome = outcome_of(logs, graph, live.verdicts());
+    Answer::of_text(alloc, status_by(outcome), lines.into_bytes())
+}
+
+/// What these entries give, which the logs keep, and of which at most 1,024 are different.
+fn watch_few(
+    alloc: Global,
+    roster: &Roster,
+    word: &str,
+    rules: Vec<Rule>,
+    logs: &[LogRead],
+    graph: &Graph,
+    entries: &[&Sealed],
+) -> Result<Answer, AuditFault>
+    requires entries { map (λ e. e.now) entries.now ≡ entries_of logs.now }
+    requires machines { All (IsOfMachine roster.now.machines) (entries_of logs.now) }
+    requires graphed { GivesGraph (entries_of logs.now) (Ok graph.now) }
+    requires few { AreFewDistinct (entries_of logs.now) }
+    ensures ok { (names : List (List ℕ)) → IfOk result (λ answer. Watches (source_named word.now)
+        names (evidence_by roster.now.machines rules.items logs.now) (Ok answer)) }
+    ensures err { (names : List (List ℕ)) → IfErr result (λ fault. IfSome (refusal_of fault)
+        (λ refusal. Watches (source_named word.now) names
+        (evidence_by roster.now.machines rules.items logs.now) (Err refusal))) }
+    ensures only { IfErr result (λ fault. (fault ≢ AuditFault.ReadFault) × (¬ IsAbsent fault)) }
+    ensures status { IfOk result (λ answer. answer.status ≢ Status.Absent) }
+{
+    entries_give_one_graph();
+    let mut live = Live::make(alloc, roster, rules)?;
+    match watch_entries(alloc, &mut live, entries) {
+        Ok(lines) => Ok(answer_of(alloc, logs, graph, &live, lines)),
+        Err(Unwatched::TooWide(place)) => {
+            Err(AuditFault::refused(alloc, word, place as u64, "TooWide"))
+        }
+        Err(Unwatched::Memory) => Err(AuditFault::Memory),
+    }
+}
+
+/// What the entries that the logs keep give, which have this graph.
+fn watch_graph(
+    alloc: Global,
+    roster: &Roster,
+    word: &str,
+    rules: Vec<Rule>,
+    logs: &[LogRead],
+    graph: &Graph,
+) -> Result<Answer, AuditFault>
+    requires machines { All (IsOfMachine roster.now.machines) (entries_of logs.now) }
+    requires graphed { GivesGraph (entries_of logs.now) (Ok graph.now) }
+    ensures ok { (names : List (List ℕ)) → IfOk result (λ answer. Watches (source_named word.now)
+        names (evidence_by roster.now.machines rules.items logs.now) (Ok answer)) }
+    ensures err { (names : List (List ℕ)) → IfErr result (λ fault. IfSome (refusal_of fault)
+        (λ refusal. Watches (source_named word.now) names
+        (evidence_by roster.now.machines rules.items logs.now) (Err refusal))) }
+    ensures only { IfErr result (λ fault. (fault ≢ AuditFault.ReadFault) × (¬ IsAbsent fault)) }
+    ensures status { IfOk result (λ answer. answer.status ≢ Status.Absent) }
+{
+    let entries = entries_in(alloc, logs)?;
+    if are_few_distinct(alloc, entries.as_slice())? {
+        watch_few(alloc, roster, word, rules, logs, graph, entries.as_slice())
+    } else {
+        Err(AuditFault::refused(alloc, "entries", 0, "TooMany"))
+    }
+}
+
+/// What the evidence gives.
+fn watch_evidence(alloc: Global, found: EvidenceRead, word: &str) -> Result<Answer, AuditFault>
+    requires { All (IsOfMachine found.roster.machines) (entries_of found.logs.items) }
+    ensures ok { (names : List (List ℕ)) → IfOk result
+        (λ answer. Watches (source_named word.now) names (evidence_of found) (Ok answer)) }
+    ensures err { (names : List (List ℕ)) → IfErr result (λ fault. IfSome (refusal_of fault)
+        (λ refusal. Watches (source_named word.now) names (evidence_of found) (Err refusal))) }
+    ensures only { IfErr result (λ fault. (fault ≢ AuditFault.ReadFault) × (¬ IsAbsent fault)) }
+    ensures status { IfOk result (λ answer. answer.status ≢ Status.Absent) }
+{
+    let EvidenceRead {
+        roster,
+        rules,
+        logs,
+    } = found;
+    match graph_of(alloc, logs.as_slice()) {
+        Ok(graph) => watch_graph(alloc, &roster, word, rules, logs.as_slice(), &graph),
+        Err(fault) => Err(fault),
+    }
+}
+
+/// Reads all files in order, and watches what the logs keep.
+fn watch_all<S: Store>(
+    alloc: Global,
+    store: &mut S,
+    roster: &str,
+    word: &str,
+    logs: &[String],
+) -> Result<Answer, AuditFault>
+    ensures read { IsReadFrom (λ answer. answer)
+        (GivesWatchIn roster.now (source_named word.now) (map string_bytes logs.now))
+        (seen S.Store store.old) result (seen S.Store store.new) }
+    ensures status { IfOk result (λ answer. answer.status ≢ Status.Absent) }
+{
+    match read_evidence(alloc, store, roster, word, logs) {
+        Ok(found) => watch_evidence(alloc, found, word),
+        Err(fault) => Err(fault),
+    }
+}
+
+/// The answer of `watch` for the roster, the rules and the logs in these files.
+pub(crate) fn watch<S: Store>(
+    alloc: Global,
+    store: &mut S,
+    roster: &str,
+    rules: &str,
+    logs: &[String],
+) -> Result<Answer, Fault>
+    ensures { IsAnsweredBy (watch roster.now rules.now (map string_bytes logs.now))
+        (seen S.Store store.old) result (seen S.Store store.new) }
+{
+    match watch_all(alloc, store, roster, rules, logs) {
+        Ok(answer) => Ok(answer),
+        Err(fault) => Answer::of_fault(alloc, &fault),
+    }
+}
+
+/// Whether the log has a refused record, an end that isn't clean, or a break.
+fn log_has_finding(log: &LogRead) -> bool
+    ensures { result ≡ log_has_finding log.now }
+{
+    !log.refused.is_empty() || !matches!(log.end, End::Clean) || log.broke.is_some()
+}
+
+/// Whether the graph has a stray, a fork or a gap.
+fn graph_has_finding(graph: &Graph) -> bool
+    ensures { result ≡ graph_has_finding graph.now }
+{
+    !graph.strays().is_empty() || !graph.forks().is_empty() || !graph.gaps().is_empty()
+}
+
+fn is_broken(verdict: &Verdict) -> bool
+    ensures { result ≡ is_broken verdict.now }
+{
+    matches!(verdict, Verdict::Broken(_))
+}
+
+fn is_unsettled(verdict: &Verdict) -> bool
+    ensures { result ≡ is_unsettled verdict.now }
+{
+    matches!(verdict, Verdict::Unsettled)
+}
+
+/// Whether one of the logs has a finding.
+fn logs_have_finding(logs: &[LogRead]) -> bool
+    ensures { result ≡ list_any log_has_finding logs.now }
+{
+    logs.iter().any(|log| log_has_finding(log))
+}
+
+/// Whether some rule is broken.
+fn some_are_broken(verdicts: &[Verdict]) -> bool
+    ensures { result ≡ list_any is_broken verdicts.now }
+{
+    verdicts.iter().any(|verdict| is_broken(verdict))
+}
+
+/// Whether some rule is unsettled.
+fn some_are_unsettled(verdicts: &[Verdict]) -> bool
+    ensures { result ≡ list_any is_unsettled verdicts.now }
+{
+    verdicts.iter().any(|verdict| is_unsettled(verdict))
+}
+
+/// What these logs, this graph and these verdicts come to.
+fn outcome_of(logs: &[LogRead], graph: &Graph, verdicts: &[Verdict]) -> Outcome
+    ensures { result ≡ outcome_by (list_any is_broken verdicts.now)
+        (list_any is_unsettled verdicts.now)
+        (list_any log_has_finding logs.now || graph_has_finding graph.now) }
+{
+    if some_are_broken(verdicts) {
+        Outcome::Broken
+    } else if some_are_unsettled(verdicts) {
+        Outcome::Unsettled
+    } else if logs_have_finding(logs) || graph_has_finding(graph) {
+        Outcome::Findings
+    } else {
+        Outcome::Kept
+    }
+}
