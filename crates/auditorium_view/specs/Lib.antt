@@ -1,0 +1,5 @@
+pub mod ExitNumbers
+pub mod ViewWords
+pub mod View
+pub mod Shown
+pub mod inside

@@ -1,0 +1,63 @@
+//! How the program ends with an answer.
+ghost use Rattle.std.specs.Prelude.{◌≡◌, map, string_bytes};
+ghost use Rattle.evidence.specs.Reading.{store_seen};
+ghost use Rattle.auditorium_view.specs.Shown.{EndsAs, HasShown};
+
+use crate::answer::{Answer, Fault};
+use crate::status::Status;
+use crate::viewing::view;
+use hall_outside::{Failed, Sink, Store, write_all};
+use std::alloc::Global;
+
+/// Writes the answer, if there is one, and tells how the program ends.
+fn end_with<K: Sink>(answer: &Result<Answer, Fault>, out: &mut K) -> Status
+    ensures { EndsAs answer.now (record { output = K.written out.old; faults = K.faults out.old })
+        result (record { output = K.written out.new; faults = K.faults out.new }) }
+{
+    match answer {
+        Ok(answer) => match write_all(out, answer.output()) {
+            Ok(()) => answer.status(),
+            Err(Failed) => Status::WriteFault,
+        },
+        Err(Fault::ReadFault) => Status::ReadFault,
+        Err(Fault::Memory) => Status::Memory,
+    }
+}
+
+/// How the program ended, and what it answered, if it did.
+#[derive(Drop)]
+pub(crate) struct Ended {
+    pub status: Status,
+    pub answer: Result<Answer, Fault>,
+}
+
+/// Does what the words ask for.
+pub(crate) fn show<S: Store, K: Sink>(
+    alloc: Global,
+    words: &[String],
+    store: &mut S,
+    out: &mut K,
+) -> Ended
+    ensures { HasShown (map string_bytes words.now)
+        (store_seen (S.files store.old) (S.answered store.old) (S.read_faults store.old)
+        (S.write_faults store.old))
+        (record { output = K.written out.old; faults = K.faults out.old })
+        result.status
+        (store_seen (S.files store.new) (S.answered store.new) (S.read_faults store.new)
+        (S.write_faults store.new))
+        (record { output = K.written out.new; faults = K.faults out.new }) }
+{
+    let answer = view(alloc, words, store);
+    let status = end_with(&answer, out);
+    Ended { status, answer }
+}
+
+impl Ended {
+    /// The output, if there is an answer.
+    pub fn output(&self) -> &[u8] {
+        match &self.answer {
+            Ok(answer) => answer.output(),
+            Err(_) => &[],
+        }
+    }
+}

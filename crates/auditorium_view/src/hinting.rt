@@ -1,0 +1,98 @@
+//! Lines on standard error: what failed, and hints for users whose command wasn't carried out.
+use crate::status::Status;
+use command_hints::{Hint, hint_on};
+use hall_outside::{Failure, FolderStore, read_file};
+use std::alloc::{AllocError, Global};
+use std::fs::{self, File};
+use std::io::{self, Eprint};
+use std::rt::Files;
+
+/// The most bytes of a text of which a line is shown, which is the limit of rules.
+const MOST: usize = 4_194_304;
+
+/// Says on standard error what failed, where the status is that the system did, and nobody gave up
+/// reading the output. A line that can't be written changes no status.
+pub(crate) fn report<R: Eprint>(
+    rt: &R,
+    status: Status,
+    store: Option<&Failure>,
+    out: Option<&Failure>,
+) {
+    let _ = match (status, store.or(out)) {
+        (Status::WriteFault, Some(failure)) if failure.is_broken_pipe() => Ok(()),
+        (Status::ReadFault | Status::WriteFault, Some(failure)) => {
+            eprintln!(rt; "auditorium_view: {failure}")
+        }
+        (Status::ReadFault, None) => eprintln!(rt; "auditorium_view: reading failed"),
+        (Status::WriteFault, None) => eprintln!(rt; "auditorium_view: writing failed"),
+        (Status::Memory, _) => eprintln!(rt; "auditorium_view: out of memory"),
+        _ => Ok(()),
+    };
+}
+
+/// The words with which `auditorium` would be asked for the report.
+fn audit_words(alloc: Global, words: &[String]) -> Result<Vec<String>, AllocError> {
+    let mut all = Vec::new(alloc);
+    all.push(String::from_str(alloc, "audit")?)?;
+    for word in words {
+        all.push(String::from_str(alloc, word.as_str())?)?;
+    }
+    Ok(all)
+}
+
+/// Writes the hint, if there is one, where the command line wasn't valid, or an input was refused
+/// or isn't there. What can't be written is left out.
+pub(crate) fn hint<R: Files<File = File> + Eprint + AllocGlobal>(
+    rt: &R,
+    status: Status,
+    words: &[String],
+    line: &[u8],
+) {
+    if matches!(status, Status::Usage) {
+        let _ = eprintln!(rt;
+            "usage: auditorium_view ROSTER RULES LOG..\n\
+prints a picture of what audit reports on; RULES is a file or standard, LOG.. 1 to 16 logs"
+        );
+        return;
+    }
+    if !matches!(status, Status::Refused | Status::Absent) {
+        return;
+    }
+    let (Ok(line), Ok(words)) = (str::from_utf8(line), audit_words(rt.alloc(), words)) else {
+        return;
+    };
+    if let Some(hint) = hint_on(rt.alloc(), Some(words.as_slice()), line) {
+        let _ = write_hint(rt, &hint);
+    }
+}
+
+/// Writes the hint, and the line of the file that it is on.
+fn write_hint<R: Files<File = File> + Eprint + AllocGlobal>(
+    rt: &R,
+    hint: &Hint<'_>,
+) -> io::Result<()> {
+    eprint!(rt; "{hint}")?;
+    let Hint::Refused(refusal) = hint else {
+        return Ok(());
+    };
+    let Some(name) = refusal.text_file() else {
+        return Ok(());
+    };
+    let Some(text) = text_again(rt, name) else {
+        return Ok(());
+    };
+    match refusal.excerpt(text.as_slice()) {
+        Some(excerpt) => eprint!(rt; "{excerpt}"),
+        None => Ok(()),
+    }
+}
+
+/// The text of the file, if it can be read once more: a pipe or a terminal can't.
+fn text_again<R: Files<File = File> + AllocGlobal>(rt: &R, name: &str) -> Option<Vec<u8>> {
+    let metadata = fs::metadata(rt, name).ok()?;
+    if !metadata.is_file() {
+        return None;
+    }
+    let mut store = FolderStore::make(rt).ok()?;
+    read_file(rt.alloc(), &mut store, name, MOST).ok()
+}

@@ -1,0 +1,12 @@
+use Rattle.std.proofs.Common.{◌≡◌, ◌++◌}
+use Rattle.std.specs.Prelude.{slice_get}
+use Rattle.std.specs.List.{flat_map, range_with_len}
+use Rattle.entangled_picture.specs.LogMarks.{log_at}
+use Rattle.entangled_picture.proofs.log_marks.add_logs.Given as goal
+
+-- the logs so far
+abbrev pub invariant-loop-i : goal.invariant-loop-i
+invariant-loop-i l =
+    l.shapes.items
+    ≡ l.fn.shapes.items
+    ++ flat_map (λ place. log_at l.logs l.machines l.column place (slice_get l.logs place)) (range_with_len 0 l.i)

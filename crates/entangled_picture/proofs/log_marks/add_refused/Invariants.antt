@@ -1,0 +1,13 @@
+use Rattle.std.proofs.Common.{◌≡◌, ◌++◌}
+use Rattle.std.specs.Prelude.{option_to_list, slice_get}
+use Rattle.std.specs.List.{flat_map, range_with_len}
+use Rattle.entangled_picture.specs.LogMarks.{refused_at}
+use Rattle.entangled_picture.proofs.log_marks.add_refused.Given as goal
+
+-- the marks so far
+abbrev pub invariant-loop-order : goal.invariant-loop-order
+invariant-loop-order l =
+    l.shapes.items
+    ≡ l.fn.shapes.items
+    ++ flat_map (λ order. option_to_list (refused_at l.log l.edge order (slice_get l.refused order)))
+    (range_with_len 0 l.order)

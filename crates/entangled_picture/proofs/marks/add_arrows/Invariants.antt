@@ -1,0 +1,9 @@
+use Rattle.std.proofs.Common.{◌≡◌, ◌++◌}
+use Rattle.std.specs.List.{flat_map, range_with_len}
+use Rattle.entangled_picture.specs.Marks.{arrows_from}
+use Rattle.entangled_picture.proofs.marks.add_arrows.Given as goal
+
+-- the arrows so far
+abbrev pub invariant-loop-i : goal.invariant-loop-i
+invariant-loop-i l =
+    l.shapes.items ≡ l.fn.shapes.items ++ flat_map (arrows_from l.graph l.placed) (range_with_len 0 l.i)

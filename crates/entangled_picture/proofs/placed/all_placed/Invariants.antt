@@ -1,0 +1,12 @@
+use Rattle.std.proofs.Common.{◌≡◌, ◌≤◌, ◌++◌, [], take, drop}
+use Rattle.std.specs.List.{zip}
+use Rattle.entangled_picture.specs.Places.{placed_after}
+use Rattle.entangled_picture.proofs.placed.all_placed.Given as goal
+
+-- the spots so far, and those of the rest after them
+abbrev pub invariant-loop-i : goal.invariant-loop-i
+invariant-loop-i l = record {
+  so_far : placed_after [] 0 0 (zip l.seen l.drawn)
+      ≡ l.placed.items ++ placed_after (take l.i l.seen) l.column l.stamp (drop l.i (zip l.seen l.drawn));
+  few : l.column ≤ l.i;
+}

@@ -1,0 +1,17 @@
+use Rattle.std.proofs.Common.{◌∙◌, ◌++◌, List, ℕ, ap, string_bytes}
+use Rattle.entangled_picture.specs.Layout.{x_of, y_of}
+use Rattle.entangled_picture.specs.Wording.{bar_line}
+use Rattle.entangled_picture.proofs.Pieces.{on_same}
+use Rattle.entangled_picture.proofs.wording.add_bar_line.Goals as goal
+
+pub returns : goal.returns
+returns c =
+    let before = string_bytes c.args.out.now in
+    on_same c.write.result (string_bytes c.write.new.self)
+    (before ++ bar_line c.x_of-x.result c.y_of-y.result c.x_of-to_x.result c.y_of-to_y.result)
+    (before ++ bar_line (x_of c.args.from) (y_of c.args.from) (x_of c.args.to) (y_of c.args.to))
+    (ap (λ (hole : ℕ). before ++ bar_line hole c.y_of-y.result c.x_of-to_x.result c.y_of-to_y.result) c.x_of-x.ensures.value
+    ∙ ap (λ (hole : ℕ). before ++ bar_line (x_of c.args.from) hole c.x_of-to_x.result c.y_of-to_y.result) c.y_of-y.ensures.value
+    ∙ ap (λ (hole : ℕ). before ++ bar_line (x_of c.args.from) (y_of c.args.from) hole c.y_of-to_y.result) c.x_of-to_x.ensures.value
+    ∙ ap (λ (hole : ℕ). before ++ bar_line (x_of c.args.from) (y_of c.args.from) (x_of c.args.to) hole) c.y_of-to_y.ensures.value)
+    c.write.ensures.bytes

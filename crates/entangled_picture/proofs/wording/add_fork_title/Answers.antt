@@ -1,0 +1,16 @@
+use Rattle.std.proofs.Common.{◌∙◌, ◌++◌, List, ℕ, ap, string_bytes}
+use Rattle.auditor.specs.Report.{report_of}
+use Rattle.entangled_picture.specs.Layout.{}
+use Rattle.entangled_picture.specs.Wording.{fork_title, machine_name}
+use Rattle.entangled_picture.proofs.Pieces.{on_same}
+use Rattle.entangled_picture.proofs.wording.add_fork_title.Goals as goal
+
+pub returns : goal.returns
+returns c =
+    let before = string_bytes c.args.out.now in
+    let report = report_of c.args.report.now in
+    on_same c.write.result (string_bytes c.write.new.self)
+    (before ++ fork_title (string_bytes c.in_ok-name.name) c.args.number)
+    (before ++ fork_title (machine_name report c.args.from.lane) c.args.number)
+    (ap (λ (hole : List ℕ). before ++ fork_title hole c.args.number) c.in_ok-name.ensures)
+    c.write.ensures.bytes

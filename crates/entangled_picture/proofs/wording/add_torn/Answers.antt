@@ -1,0 +1,18 @@
+use Rattle.std.proofs.Common.{◌∙◌, ◌++◌, List, ℕ, ap, string_bytes}
+use Rattle.auditor.specs.Report.{report_of}
+use Rattle.entangled_picture.specs.Layout.{x_behind, y_of}
+use Rattle.entangled_picture.specs.Wording.{log_title, torn_text}
+use Rattle.entangled_picture.proofs.Pieces.{on_same}
+use Rattle.entangled_picture.proofs.wording.add_torn.Goals as goal
+
+pub returns : goal.returns
+returns c =
+    let before = string_bytes c.args.out.now in
+    let report = report_of c.args.report.now in
+    on_same c.write.result (string_bytes c.write.new.self)
+    (before ++ torn_text c.x_behind-x.result c.y_of-y.result (string_bytes c.in_ok-name.name) c.args.offset)
+    (before ++ torn_text (x_behind c.args.place.0 c.args.place.1) (y_of c.args.place.0) (log_title report c.args.log) c.args.offset)
+    (ap (λ (hole : ℕ). before ++ torn_text hole c.y_of-y.result (string_bytes c.in_ok-name.name) c.args.offset) c.x_behind-x.ensures.value
+    ∙ ap (λ (hole : ℕ). before ++ torn_text (x_behind c.args.place.0 c.args.place.1) hole (string_bytes c.in_ok-name.name) c.args.offset) c.y_of-y.ensures.value
+    ∙ ap (λ (hole : List ℕ). before ++ torn_text (x_behind c.args.place.0 c.args.place.1) (y_of c.args.place.0) hole c.args.offset) c.in_ok-name.ensures)
+    c.write.ensures.bytes

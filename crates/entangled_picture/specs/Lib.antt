@@ -1,0 +1,9 @@
+pub mod Places
+pub mod ByStamps
+pub mod Marks
+pub mod LogMarks
+pub mod Shapes
+pub mod Layout
+pub mod Escaping
+pub mod Wording
+pub mod Document

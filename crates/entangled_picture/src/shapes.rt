@@ -1,0 +1,102 @@
+//! From a report to the shapes of its picture.
+ghost use Rattle.std.specs.Prelude.{◌≡◌, ◌++◌, ◌<◌, ◌^◌, IfOk, OnOk, length};
+ghost use Rattle.auditor.specs.Report.{report_of};
+ghost use Rattle.entangled_picture.specs.Places.{placed_of};
+ghost use Rattle.entangled_picture.specs.Shapes.{
+  graph_shapes,
+  last_column,
+  shapes_below,
+  shapes_beside,
+  shapes_of,
+};
+
+use crate::bars::add_bars;
+use crate::drawn::drawn_of;
+use crate::gap_marks::add_gaps;
+use crate::log_marks::{add_lanes, add_logs};
+use crate::marks::{add_arrows, add_entries, add_forks, add_lights, add_strays, spot_at};
+use crate::placed::{Placed, all_placed};
+use crate::seen::all_seen;
+use crate::shape::Shape;
+use auditor::Report;
+use std::alloc::{AllocError, Global};
+
+/// The survivors of the report with their spots.
+fn placed_of(alloc: Global, report: &Report) -> Result<Vec<Placed>, AllocError>
+    ensures { IfOk result (λ placed.
+        placed.items ≡ placed_of report.now.graph report.now.verdicts) }
+{
+    let seen = all_seen(alloc, report.graph())?;
+    let drawn = drawn_of(alloc, report.graph(), report.verdicts(), seen.as_slice())?;
+    all_placed(alloc, seen.as_slice(), drawn.as_slice())
+}
+
+/// The column of the last survivor.
+fn last_column(placed: &[Placed]) -> u32
+    ensures { result ≡ last_column placed.now }
+{
+    match spot_at(placed, placed.len().saturating_sub(1)) {
+        Some(at) => at.column,
+        None => 0,
+    }
+}
+
+/// Adds what is drawn below the entries.
+fn add_below(shapes: &mut Vec<Shape>, report: &Report, placed: &[Placed]) -> Result<(), AllocError>
+    ensures { OnOk result (shapes.new.items
+        ≡ shapes.old.items ++ shapes_below (report_of report.now) placed.now) }
+{
+    add_lights(shapes, placed, report.verdicts())?;
+    add_arrows(shapes, report.graph(), placed)?;
+    add_bars(shapes, placed)
+}
+
+/// Adds what is found beside the entries.
+fn add_beside(
+    shapes: &mut Vec<Shape>,
+    report: &Report,
+    placed: &[Placed],
+    machines: usize,
+) -> Result<(), AllocError>
+    requires { machines < 2 ^ 63 }
+    ensures { OnOk result (shapes.new.items
+        ≡ shapes.old.items ++ shapes_beside (report_of report.now) placed.now machines) }
+{
+    add_forks(shapes, placed, report.graph().forks())?;
+    add_gaps(shapes, report.graph(), placed, machines + 1)?;
+    add_strays(shapes, report.graph().strays(), machines)
+}
+
+/// Adds the shapes of the graph, those first over which others are drawn.
+fn add_graph(
+    shapes: &mut Vec<Shape>,
+    report: &Report,
+    placed: &[Placed],
+    machines: usize,
+) -> Result<(), AllocError>
+    requires { machines < 2 ^ 63 }
+    ensures { OnOk result (shapes.new.items
+        ≡ shapes.old.items ++ graph_shapes (report_of report.now) placed.now machines) }
+{
+    add_below(shapes, report, placed)?;
+    add_beside(shapes, report, placed, machines)?;
+    add_entries(shapes, placed)
+}
+
+/// The shapes of the report's picture.
+///
+/// # Errors
+///
+/// Want of memory.
+pub fn shapes_of(alloc: Global, report: &Report) -> Result<Vec<Shape>, AllocError>
+    ensures { IfOk result (λ shapes. shapes.items ≡ shapes_of (report_of report.now)) }
+{
+    let placed = placed_of(alloc, report)?;
+    let machines = report.roster().machines.as_slice().len();
+    let column = last_column(placed.as_slice());
+    let mut shapes = Vec::new(alloc);
+    add_lanes(&mut shapes, machines, column)?;
+    add_graph(&mut shapes, report, placed.as_slice(), machines)?;
+    add_logs(&mut shapes, report.logs(), machines, column)?;
+    Ok(shapes)
+}
