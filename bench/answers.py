@@ -17,7 +17,7 @@ FALLIBLE = re.compile(r"-> (?:Result|Option)<")
 # Crates that compare or measure, and serve no command.
 APART = {
     "small_worlds", "listed_graphs", "world_orders", "order_speed", "text_speed", "signature_speed",
-    "auditorium_cli",
+    "auditorium_cli", "auditorium_view",
 }
 
 

@@ -25,9 +25,10 @@ USED_FROM_BELOW = "entry_order"
 # The rows of boxes from the top down; `.` is an empty place, and a line of dashes parts two bands. Where the
 # ways go straight up there are empty places.
 PLACES = """
-command_hints  auditorium_cli  auditorium_core  demonstration   .
-report_lines   auditor         .                honest_reports  honest_rules
+command_hints  auditorium_cli  auditorium_core  demonstration   auditorium_view
+entangled_picture auditor      .                honest_reports  honest_rules
 evidence       live_auditor    .                short_logs      honest_logs
+report_lines   .               .                .               .
 -----
 floor_losses   .               finished_floor   log_lock        broadcast_queues
 ruled_queues   .               floor_sweep      machine_floor   floor_links

@@ -64,7 +64,8 @@ or
 .Dq absent FILE ,
 and a hint on standard error says what was expected; of a script and of a file
 of rules it shows the line.
-With 8, 9 and 10 a line on standard error says what failed.
+With 8, 9 and 10 a line on standard error says what failed, unless nobody reads
+the standard output any longer.
 """
 
 EXAMPLES = """\
