@@ -1,5 +1,5 @@
 -- What the events miss the entries held miss.
-use Rattle.std.proofs.Common.{◌≡◌, ◌∙◌, ℕ, List, sym, ap}
+use Rattle.std.proofs.Common.{◌≡◌, ◌∙◌, List, sym, ap}
 use Rattle.std.specs.Prelude.{not}
 use Rattle.std.specs.List.{filter, flat_map}
 use Rattle.std.proofs.lemmas.List.Elements.{filter_agree}

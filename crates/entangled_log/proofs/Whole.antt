@@ -1,8 +1,9 @@
 -- What the frontier answers of the events is so of the entries held.
 use Rattle.std.proofs.Common.{◌≡◌, ℕ, Bool, true, false, List, sym, ap, ◌∙◌, refl, subst}
-use Rattle.std.specs.Prelude.{◌↔◌, not, IsTrue}
+use Rattle.std.specs.Prelude.{◌↔◌, Some, not, option_map, slice_get, IsTrue}
 use Rattle.std.specs.List.{Contains}
 use Rattle.std.proofs.lemmas.Bool.{not-true, not_from_false, true≢false, false_from_ne_true}
+use Rattle.std.proofs.lemmas.Option.{same_Some}
 use Rattle.entry_order.specs.declared.event.Event.{Event}
 use Rattle.entry_order.specs.Node.{Node}
 use Rattle.entry_order.specs.History.{entry_of, held}
@@ -10,7 +11,8 @@ use Rattle.entry_order.specs.Naming.{IsBorneIn, has_digest}
 use Rattle.entry_order.proofs.Held.{has_digest_held}
 use Rattle.entry_order.proofs.Lists.{Contains-map, Contains-map_cases}
 use Rattle.entry_order.proofs.Naming.{has_digest_of, has_digest_from}
-use Rattle.log_frontier.specs.Places.{NamesUnborne}
+use Rattle.entry_order.proofs.Places.{member_at}
+use Rattle.log_frontier.specs.Places.{IsBorneAt, NamesUnborne}
 use Rattle.log_frontier.proofs.Tables.{lacks_decides}
 use Rattle.log_frontier.specs.inside.Noting.{lacks_some}
 use Rattle.entangled_log.specs.Whole.{NamesOnlyHeld}
@@ -62,3 +64,16 @@ module _ {T : Type 0} (node : T → Node) (h : List (Event T)) where
             (borne_held d).0 (events.0 t x d there (subst (λ (u : T). Contains (node u).names d) (sym same) n)),
         λ whole. events.1 (λ x d c n. (borne_held d).1 (whole (entry_of x) d (Contains-map entry_of h x c) n)),
       )
+
+  -- the entry at a place where an event bears a digest is held, and bears it
+  pub borne_at : (d : List ℕ) (p : ℕ) (e : T) → IsBorneAt (λ x. node (entry_of x)) h d p →
+      option_map entry_of (slice_get h p) ≡ Some e → Contains (held h) e × ((node e).digest ≡ d)
+  borne_at d p e (x, there, same) told =
+      let is : entry_of x ≡ e = same_Some (entry_of x) e (sym (ap (option_map entry_of) there) ∙ told) in (
+        subst (λ (u : T). Contains (held h) u) is (Contains-map entry_of h x (member_at h p x there)),
+        ap (λ (u : T). (node u).digest) (sym is) ∙ same,
+      )
+
+  -- a digest that no event bears none of the entries bears
+  pub none_bears : (d : List ℕ) → has_digest (λ x. node (entry_of x)) h d ≡ false → ¬ (IsBorneIn node (held h) d)
+  none_bears d none borne = true≢false (sym ((holds_entries d false (sym none)).1 borne))

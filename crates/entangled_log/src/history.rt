@@ -35,8 +35,8 @@ pub fn sent_at<'a, T>(events: &'a [Event<T>], own: &[usize], number: usize) -> O
     }
 }
 
-// The entry at the place.
-fn entry_at<T>(events: &[Event<T>], place: usize) -> &T
+/// The entry at the place.
+pub fn entry_at<T>(events: &[Event<T>], place: usize) -> &T
     requires { place < length events.now }
     ensures { option_map (λ x. entry_of x) (slice_get events.now place) ≡ Some result.now }
 {

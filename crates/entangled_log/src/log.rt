@@ -2,6 +2,7 @@
 
 ghost use Rattle.std.specs.Prelude.{◌≡◌, ◌↔◌, ◌<◌, ◌≤◌, ◌+◌, [], length, slice_get};
 ghost use Rattle.std.specs.Prelude.{Some, None, Err, IfNone, IfOk, IfSome, IsNone, IsTrue};
+ghost use Rattle.std.specs.List.{Contains};
 ghost use Rattle.entry_order.specs.declared.event.Event.TheVariants.{Sent};
 ghost use Rattle.entry_order.specs.History.{IsLegal, IsNext, MayFollow, greatest_stamp, held, sent};
 ghost use Rattle.entry_order.specs.Naming.{IsBorneIn, IsNew};
@@ -13,7 +14,7 @@ ghost use Rattle.entangled_log.specs.Nexts.{HasGreatestStamp, IsNextAfter};
 ghost use Rattle.entangled_log.specs.Whole.{NamesOnlyHeld};
 
 use crate::heard::Heard;
-use crate::history::{frontier_at, note_own, sent_at};
+use crate::history::{entry_at, frontier_at, note_own, sent_at};
 use crate::next::{Next, NextFault};
 use entry_order::{Event, Knot};
 use log_frontier::Frontier;
@@ -178,6 +179,18 @@ impl<T: Knot> Log<T> {
         ensures { IsTrue result ↔ IsBorneIn T.node (held self.now.events) digest.now }
     {
         self.frontier.bears(&self.events, digest)
+    }
+
+    /// The held entry with the digest, if there is one. A table has its place.
+    pub fn with_digest(&self, digest: &[u8; 32]) -> Option<&T>
+        ensures found { IfSome result (λ entry. Contains (held self.now.events) entry.now
+            × ((T.node entry.now).digest ≡ digest.now)) }
+        ensures none { IfNone result (¬ IsBorneIn T.node (held self.now.events) digest.now) }
+    {
+        match self.frontier.place_of(&self.events, digest) {
+            Some(place) => Some(entry_at(&self.events, place)),
+            None => None,
+        }
     }
 
     /// The entry with this number among those that the owner sent, if it sent so many.

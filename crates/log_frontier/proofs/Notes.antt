@@ -81,7 +81,7 @@ map_filter f q p (x ∷ xs) all =
     [ true ↦ ap (λ ys. f x ∷ ys) rest | false ↦ rest ]
 
 -- the front of a longer list is the list
-get_append : {A : Type 0} (xs ys : List A) (i : ℕ) → i < length xs → slice_get (xs ++ ys) i ≡ slice_get xs i
+pub get_append : {A : Type 0} (xs ys : List A) (i : ℕ) → i < length xs → slice_get (xs ++ ys) i ≡ slice_get xs i
 get_append [] ys i l = absurd (omega arith)
 get_append (x ∷ xs) ys zero l = refl
 get_append (x ∷ xs) ys (suc i) l = get_append xs ys i (omega arith)

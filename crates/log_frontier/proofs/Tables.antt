@@ -1,12 +1,13 @@
 -- What the tables say of the entries that were noted.
-use Rattle.std.proofs.Common.{◌≡◌, ℕ, ◌+◌, ◌<◌, Bool, true, false, List, [], ◌∷◌, ◌++◌, length, get_or, take, refl, sym}
-use Rattle.std.proofs.Common.{ap, subst, ◌∙◌, not, arith}
-use Rattle.std.specs.Prelude.{◌&&◌, ◌||◌, ◌↔◌, IsTrue}
+use Rattle.std.proofs.Common.{◌≡◌, ℕ, ◌+◌, ◌<◌, Bool, true, false, cond, List, [], ◌∷◌, ◌++◌, length, get_or, take}
+use Rattle.std.proofs.Common.{Option, Some, refl, sym, ap, subst, ◌∙◌, not, arith}
+use Rattle.std.specs.Prelude.{◌&&◌, ◌||◌, ◌↔◌, IsTrue, if◌then◌else◌, is_some, slice_get}
 use Rattle.std.specs.Str.{bytes_eq}
 use Rattle.std.proofs.lemmas.Bool.{true≢false, false_from_ne_true, and_parts, and_from, not_from_false, not_from_true}
 use Rattle.std.proofs.lemmas.Bool.{or_left, not-true}
 use Rattle.std.proofs.lemmas.List.Elements.{All-nil}
 use Rattle.std.proofs.lemmas.List.Folds.{list_any-append}
+use Rattle.std.proofs.lemmas.Option.{slice_get_read, slice_get_within}
 use Rattle.std.proofs.lemmas.Slice.Eq.{bytes_eq-Decides}
 use Rattle.std.proofs.Math.Bool.{and-true, or-false}
 use Rattle.entry_order.specs.Node.{Node}
@@ -14,10 +15,23 @@ use Rattle.entry_order.specs.Naming.{names_digest, is_named, has_digest, IsNew}
 use Rattle.entry_order.proofs.Lists.{list_any_some, list_any_of}
 use Rattle.entry_order.proofs.Naming.{names_digest_of, names_digest_from, is_named_of, is_named_from}
 use Rattle.entry_order.proofs.Naming.{has_digest_of, has_digest_from}
-use Rattle.log_frontier.specs.Digests.{has, Wanted}
+use Rattle.log_frontier.specs.Digests.{bears, has, place_by, Wanted}
 use Rattle.log_frontier.specs.inside.Noting.{lacks, lacks_some}
-use Rattle.log_frontier.specs.Places.{Places, AreWanted, IsFrontierAt, StandsFor, NamesUnborne, HasNoDigestTwice}
-use Rattle.log_frontier.proofs.Notes.{last_split}
+use Rattle.log_frontier.specs.Places.{Places, AreWanted, AreBorne, IsBorneAt, IsFrontierAt}
+use Rattle.log_frontier.specs.Places.{HasNoDigestTwice, NamesUnborne, StandsFor}
+use Rattle.log_frontier.proofs.Notes.{get_append, last_split}
+
+-- whether there is one, by whether one was put in place of another
+put_or : {A : Type 0} (b : Bool) (x : A) (o : Option A) → is_some (cond b (Some x) o) ≡ (b || is_some o)
+put_or true x o = refl
+put_or false x o = refl
+
+-- of two tests the first may be the last of more
+last_test : (b o : Bool) → (b || o) ≡ (o || (b || false))
+last_test true true = refl
+last_test true false = refl
+last_test false true = refl
+last_test false false = refl
 
 module _ {T : Type 0} (node : T → Node) where
   -- a digest of the table is named by an entry and borne by none
@@ -73,7 +87,10 @@ module _ {T : Type 0} (node : T → Node) where
   StandsFor-none places empty tables = record {
     front = subst (λ (ps : List ℕ). IsFrontierAt node [] ps) (sym empty)
         (record { inside = All-nil (λ p. p < 0); digests = refl });
-    noted = λ d. ap (λ (ds : List (List ℕ)). has ds d) tables.0;
+    noted = record {
+      all = λ d. ap (λ (ds : List (List ℕ × ℕ)). bears ds d) tables.0;
+      places = λ d p is. absurd (cc (is, ap (λ (ds : List (List ℕ × ℕ)). place_by ds d) tables.0));
+    };
     wanted = λ _ d. ap (λ (w : Wanted). has w.list d) tables.1;
   }
 
@@ -99,3 +116,38 @@ module _ {T : Type 0} (node : T → Node) where
         ∙ ap (λ b. is_named node es d || b) (sym (or-false (names_digest node e d)))
         ∙ sym (list_any-append (λ g. names_digest node g d) es (e ∷ []))
         ∙ sym (ap (λ (l : List T). is_named node l d) split)
+
+    -- with its place put in, all that are borne have places
+    pub noted_more : (old new : List (List ℕ × ℕ)) → AreBorne node (take place held) old →
+        ((d : List ℕ) → place_by new d ≡ (if bytes_eq (node e).digest d then Some place else place_by old d)) →
+        AreBorne node held new
+    noted_more old new borne put = record { all = all; places = places }
+      where
+        all : (d : List ℕ) → bears new d ≡ has_digest node held d
+        all d =
+            ap is_some (put d)
+            ∙ put_or (bytes_eq (node e).digest d) place (place_by old d)
+            ∙ ap (λ b. bytes_eq (node e).digest d || b) (borne.all d)
+            ∙ last_test (bytes_eq (node e).digest d) (has_digest node (take place held) d)
+            ∙ sym (list_any-append (λ g. bytes_eq (node g).digest d) (take place held) (e ∷ []))
+            ∙ sym (ap (λ (l : List T). has_digest node l d) split)
+
+        places : (d : List ℕ) (p : ℕ) → place_by new d ≡ Some p → IsBorneAt node held d p
+        places d p found = by (bytes_eq (node e).digest d) refl (sym (put d) ∙ found)
+          where
+            by : (b : Bool) → bytes_eq (node e).digest d ≡ b → cond b (Some place) (place_by old d) ≡ Some p →
+                IsBorneAt node held d p
+            by true same at =
+                let here : place ≡ p = cc at in (
+                  e,
+                  ap (slice_get held) (sym here) ∙ slice_get_read held (length held) place e refl (omega arith) is,
+                  (bytes_eq-Decides (node e).digest d).0 same,
+                )
+            by false apart at =
+                let (f, there, same) = borne.places d p at in (
+                  f,
+                  ap (λ (l : List T). slice_get l p) split
+                      ∙ get_append (take place held) (e ∷ []) p (slice_get_within (take place held) p f there)
+                      ∙ there,
+                  same,
+                )

@@ -5,14 +5,14 @@ use Rattle.std.specs.List.{All}
 use Rattle.entry_order.specs.Node.{Node}
 use Rattle.entry_order.specs.Naming.{IsNamedIn, IsBorneIn, IsNew, is_named, has_digest}
 use Rattle.entry_order.specs.Frontier.{frontier}
-use Rattle.log_frontier.specs.Digests.{has, Wanted}
+use Rattle.log_frontier.specs.Digests.{bears, has, place_by, Wanted}
 
 -- a frontier: places in a list of entries, counted from 0, how many more entries it notes without memory,
--- the digests that were noted, and those that are looked for
+-- the places of the digests that were noted, and the digests that are looked for
 pub record Places : Type 0 where
   pub list : List ℕ
   pub spare : ℕ
-  pub noted : List (List ℕ)
+  pub noted : List (List ℕ × ℕ)
   pub wanted : Wanted
 
 module _ {T : Type 0} (node : T → Node) where
@@ -35,9 +35,14 @@ module _ {T : Type 0} (node : T → Node) where
   HasNoDigestTwice es =
       (before : List T) (e : T) (later : List T) → es ≡ before ++ e ∷ later → IsNew node before e
 
-  -- these are exactly the digests that the entries bear
-  abbrev pub AreBorne : List T → List (List ℕ) → Type 0
-  AreBorne es noted = (d : List ℕ) → has noted d ≡ has_digest node es d
+  -- the entry at the place bears the digest
+  abbrev pub IsBorneAt : List T → List ℕ → ℕ → Type 0
+  IsBorneAt es d p = (e : T) × (slice_get es p ≡ Some e) × ((node e).digest ≡ d)
+
+  -- exactly the digests that the entries bear have places, and each is that of an entry that bears it
+  pub record AreBorne (es : List T) (noted : List (List ℕ × ℕ)) : Type 0 where
+    pub all : (d : List ℕ) → bears noted d ≡ has_digest node es d
+    pub places : (d : List ℕ) (p : ℕ) → place_by noted d ≡ Some p → IsBorneAt es d p
 
   -- one of the entries names a digest that none of them bears
   abbrev pub NamesUnborne : List T → Type 0
@@ -48,8 +53,8 @@ module _ {T : Type 0} (node : T → Node) where
   AreWanted es wanted = wanted.scans ≡ false → (d : List ℕ) →
       has wanted.list d ≡ (is_named node es d && not (has_digest node es d))
 
-  -- the frontier's places are their frontier, its noted digests those that the entries bear, and the digests that it
-  -- looks for those that they name and none bears
+  -- the frontier's places are their frontier, the digests that it noted those that the entries bear, at their
+  -- places, and the digests that it looks for those that they name and none bears
   pub record StandsFor (es : List T) (frontier : Places) : Type 0 where
     pub front : IsFrontierAt es frontier.list
     pub noted : AreBorne es frontier.noted

@@ -1,11 +1,12 @@
 //! The frontier as places.
 
-ghost use Rattle.std.specs.Prelude.{◌≡◌, ◌↔◌, ◌≤◌, ◌+◌, [], length, take, IfOk, IsTrue, false};
+ghost use Rattle.std.specs.Prelude.{◌≡◌, ◌↔◌, ◌≤◌, ◌+◌, [], length, take, false};
+ghost use Rattle.std.specs.Prelude.{IfNone, IfOk, IfSome, IsTrue};
 ghost use Rattle.entry_order.specs.Naming.{has_digest};
 ghost use Rattle.entry_order.specs.Survivors.{gaps as gaps_of};
-ghost use Rattle.log_frontier.specs.Places.{HasNoDigestTwice, NamesUnborne, StandsFor};
+ghost use Rattle.log_frontier.specs.Places.{HasNoDigestTwice, IsBorneAt, NamesUnborne, StandsFor};
 
-use crate::digests::Digests;
+use crate::digest_places::DigestPlaces;
 use crate::noting::{is_last_named, note_last, note_tables, wants_by_scan};
 use crate::wanted::Wanted;
 use entry_gaps::{ascending, gaps};
@@ -18,11 +19,11 @@ pub type Memory = AllocError;
 
 /// The places, counted from 0, of the entries that no held entry names, in ascending order of
 /// their digests. Auditorium (EVT 2007): what a machine names in the next entry that it sends.
-/// Tables answer which digests are held, and whether one is named that isn't.
+/// Tables answer where an entry with a digest stands, and whether a digest is named that none bears.
 #[derive(Drop)]
 pub struct Frontier {
     places: Vec<usize>,
-    noted: Digests,
+    noted: DigestPlaces,
     wanted: Wanted,
 }
 
@@ -50,7 +51,7 @@ impl Frontier {
     {
         Ok(Frontier {
             places: Vec::with_capacity(alloc, count)?,
-            noted: Digests::make(alloc, count)?,
+            noted: DigestPlaces::make(alloc, count)?,
             wanted: Wanted::make(alloc, count)?,
         })
     }
@@ -76,6 +77,15 @@ impl Frontier {
         ensures { result ≡ has_digest T.node held.now digest.now }
     {
         self.noted.has(digest)
+    }
+
+    /// The place, counted from 0, of an entry that bears the digest.
+    pub fn place_of<T: Knot>(&self, held: &[T], digest: &[u8; 32]) -> Option<usize>
+        requires { StandsFor T.node held.now self.now }
+        ensures found { IfSome result (IsBorneAt T.node held.now digest.now) }
+        ensures none { IfNone result (has_digest T.node held.now digest.now ≡ false) }
+    {
+        self.noted.get(digest)
     }
 
     /// Whether one of the entries names a digest that none of them bears. Where there was no room

@@ -11,7 +11,7 @@ ghost use Rattle.log_frontier.specs.Places.{NamesUnborne, digest_at};
 ghost use Rattle.log_frontier.specs.Digests.{has};
 ghost use Rattle.log_frontier.specs.inside.Noting.{count_below, is_left, lacks, lacks_some};
 
-use crate::digests::Digests;
+use crate::digest_places::DigestPlaces;
 use crate::wanted::Wanted;
 use entry_order::{Knot, has_digest, is_named, names_digest};
 
@@ -39,7 +39,7 @@ fn is_named_by_table<T: Knot>(wanted: &Wanted, entry: &T) -> bool
 }
 
 /// The tables when the last entry of these, at `place`, is held too.
-pub fn note_tables<T: Knot>(noted: &mut Digests, wanted: &mut Wanted, held: &[T], place: usize)
+pub fn note_tables<T: Knot>(noted: &mut DigestPlaces, wanted: &mut Wanted, held: &[T], place: usize)
     requires last { place + 1 ≡ length held.now }
     requires noted { AreBorne T.node (take place held.now) noted.old.list }
     requires wanted { AreWanted T.node (take place held.now) wanted.old }
@@ -49,7 +49,7 @@ pub fn note_tables<T: Knot>(noted: &mut Digests, wanted: &mut Wanted, held: &[T]
     ensures room { noted.old.spare ≤ noted.new.spare + 1 }
 {
     let entry = &held[place];
-    noted.insert(entry.digest());
+    noted.insert(entry.digest(), place);
     wanted.forget(entry.digest());
     wanted.want_all(entry.names(), noted);
 }

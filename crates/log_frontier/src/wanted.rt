@@ -4,8 +4,9 @@ ghost use Rattle.std.specs.Prelude.{◌≡◌, ◌↔◌, ◌&&◌, ◌||◌, �
 ghost use Rattle.std.specs.Prelude.{IfOk, IsTrue};
 ghost use Rattle.std.specs.List.{list_any};
 ghost use Rattle.std.specs.Str.{bytes_eq};
-ghost use Rattle.log_frontier.specs.Digests.{has};
+ghost use Rattle.log_frontier.specs.Digests.{bears, has};
 
+use crate::digest_places::DigestPlaces;
 use crate::digests::Digests;
 use std::alloc::{AllocError, Global};
 use std::marker::Model;
@@ -91,10 +92,10 @@ impl Wanted {
     }
 
     // Puts in the digest, unless it was found. It takes no memory.
-    fn want_unless_found(&mut self, digest: &[u8; 32], found: &Digests)
+    fn want_unless_found(&mut self, digest: &[u8; 32], found: &DigestPlaces)
         ensures has { self.new.scans ≡ false → (d : List ℕ) →
             has self.new.list d
-            ≡ (has self.old.list d || (bytes_eq digest.now d && not (has found.now.list d))) }
+            ≡ (has self.old.list d || (bytes_eq digest.now d && not (bears found.now.list d))) }
         ensures scans { self.new.scans ≡ false → self.old.scans ≡ false }
     {
         if found.has(digest) {
@@ -104,11 +105,11 @@ impl Wanted {
     }
 
     /// Puts in those of the digests that weren't found. It takes no memory.
-    pub fn want_all(&mut self, digests: &[[u8; 32]], found: &Digests)
+    pub fn want_all(&mut self, digests: &[[u8; 32]], found: &DigestPlaces)
         ensures has { self.new.scans ≡ false → (d : List ℕ) →
             has self.new.list d
             ≡ (has self.old.list d
-            || (list_any (λ c. bytes_eq c d) digests.now && not (has found.now.list d))) }
+            || (list_any (λ c. bytes_eq c d) digests.now && not (bears found.now.list d))) }
         ensures scans { self.new.scans ≡ false → self.old.scans ≡ false }
     {
         for digest in digests {

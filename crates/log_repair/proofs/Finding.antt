@@ -1,50 +1,48 @@
 -- Entries found by their digests, and machines that answer.
 use Rattle.std.proofs.Common.{◌≡◌, ◌∙◌, ℕ, zero, suc, ◌+◌, ◌<◌, arith, Bool, true, false, List, [], ◌∷◌, length, take}
-use Rattle.std.proofs.Common.{get_or, map, Option, Some, None, refl, sym, ap, subst, cond}
-use Rattle.std.specs.Prelude.{find, option_map}
+use Rattle.std.proofs.Common.{get_or, map, Option, Some, None, refl, sym, ap, subst, cond, ◌++◌, ◌⊎◌, inl, inr}
+use Rattle.std.specs.Prelude.{option_map}
 use Rattle.std.specs.Option.{option_or}
+use Rattle.std.specs.List.{Contains}
 use Rattle.std.specs.Str.{bytes_eq}
+use Rattle.std.proofs.lemmas.Bool.{true≢false}
+use Rattle.std.proofs.lemmas.Slice.Eq.{bytes_eq-Decides}
 use Rattle.entry_order.specs.declared.event.Event.{Event}
+use Rattle.entry_order.specs.Naming.{IsNew}
 use Rattle.entry_order.specs.Node.{Node}
-use Rattle.entry_order.specs.History.{entry_of, held}
+use Rattle.entry_order.specs.History.{entry_of, held, IsLegal}
 use Rattle.entry_order.specs.World.{Machine}
+use Rattle.entry_order.proofs.Lists.{Contains-none, Contains-head, Contains-later, Contains-cons_cases}
+use Rattle.entry_order.proofs.Lists.{Contains-map_cases}
+use Rattle.entry_order.proofs.Orders.{member_split}
+use Rattle.entangled_log.proofs.Kept.{no_digest_twice}
 use Rattle.log_repair.specs.Mending.{answer_of, bearer, found_by_digest}
 
-module _ {X : Type 0} (p : X → Bool) where
-  -- after some that don't pass, one that passes is the first
-  pub find_here : (xs : List X) (i : ℕ) (x : X) → i < length xs → x ≡ get_or xs i x → find p (take i xs) ≡ None →
-      p x ≡ true → find p xs ≡ Some x
-  find_here [] i x within is none passes = absurd (omega (arith, within))
-  find_here (y ∷ xs) zero x within is none passes =
-      ap (λ b. cond b (Some y) (find p xs)) (ap p (sym is) ∙ passes) ∙ ap Some (sym is)
-  find_here (y ∷ xs) (suc i) x within is none passes =
-      by (p y) none (λ rest. find_here xs i x (omega (arith, within)) is rest passes)
-    where
-      by : (b : Bool) → cond b (Some y) (find p (take i xs)) ≡ None →
-          (find p (take i xs) ≡ None → find p xs ≡ Some x) → cond b (Some y) (find p xs) ≡ Some x
-      by false rest later = later rest
-      by true rest later = absurd (cc rest)
+-- no entry bears the digest of one before it
+abbrev AreAllNew : {X : Type 0} → (X → Node) → List X → Type 0
+AreAllNew {X} node es = (before : List X) (e : X) (later : List X) → es ≡ before ++ e ∷ later → IsNew node before e
 
-  -- one more that doesn't pass
-  past : (xs : List X) (i : ℕ) (x : X) → i < length xs → x ≡ get_or xs i x → find p (take i xs) ≡ None →
-      p x ≡ false → find p (take (suc i) xs) ≡ None
-  past [] i x within is none fails = absurd (omega (arith, within))
-  past (y ∷ xs) zero x within is none fails =
-      ap (λ b. cond b (Some y) (find p (take 0 xs))) (ap p (sym is) ∙ fails)
-  past (y ∷ xs) (suc i) x within is none fails =
-      by (p y) none (λ rest. past xs i x (omega (arith, within)) is rest fails)
-    where
-      by : (b : Bool) → cond b (Some y) (find p (take i xs)) ≡ None →
-          (find p (take i xs) ≡ None → find p (take (suc i) xs) ≡ None) →
-          cond b (Some y) (find p (take (suc i) xs)) ≡ None
-      by false rest later = later rest
-      by true rest later = absurd (cc rest)
-
-  pub find_past : (xs : List X) (i : ℕ) (x : X) → i < length xs → x ≡ get_or xs i x → find p (take i xs) ≡ None →
-      p x ≡ false → find p (take (i + 1) xs) ≡ None
-  find_past xs i x within is none fails =
-      let one : suc i ≡ i + 1 = omega arith in
-      subst (λ n. find p (take n xs) ≡ None) one (past xs i x within is none fails)
+-- then an entry is the only one with its digest
+only_one : {X : Type 0} (node : X → Node) (d : List ℕ) (es : List X) (e : X) → Contains es e → (node e).digest ≡ d →
+    AreAllNew node es → found_by_digest node d es ≡ Some e
+only_one node d [] e c same once = absurd (Contains-none e c)
+only_one {X} node d (x ∷ es) e c same once =
+    by (bytes_eq (node x).digest d) refl (Contains-cons_cases x es e c)
+    (λ later. only_one node d es e later same
+    (λ before f after is g h. once (x ∷ before) f after (ap (λ (l : List X). x ∷ l) is) g (Contains-later x before g h)))
+  where
+    -- by whether the first has the digest
+    by : (b : Bool) → bytes_eq (node x).digest d ≡ b → (x ≡ e) ⊎ Contains es e →
+        (Contains es e → found_by_digest node d es ≡ Some e) → cond b (Some x) (found_by_digest node d es) ≡ Some e
+    by true has (inl is) rest = ap Some is
+    by true has (inr later) rest =
+        let (before, after, is) = member_split es e later in
+        absurd (once (x ∷ before) e after (ap (λ (l : List X). x ∷ l) is) x (Contains-head x before)
+        ((bytes_eq-Decides (node x).digest d).0 has ∙ sym same))
+    by false lacks (inl is) rest =
+        absurd (true≢false (sym ((bytes_eq-Decides (node x).digest d).1 (ap (λ (f : X). (node f).digest) is ∙ same))
+        ∙ lacks))
+    by false lacks (inr later) rest = rest later
 
 module _ {T : Type 0} (node : T → Node) (d : List ℕ) where
   -- what is found of the events is found of the entries held
@@ -60,6 +58,16 @@ module _ {T : Type 0} (node : T → Node) (d : List ℕ) where
           ≡ cond b (Some (entry_of x)) (found_by_digest node d (held h))
       by true rest = refl
       by false rest = rest
+
+  -- of what a legal history holds an entry is found by its digest
+  pub found_legal : (owner : ℕ) (h : List (Event T)) (e : T) → IsLegal node owner h → Contains (held h) e →
+      (node e).digest ≡ d → found_by_digest node d (held h) ≡ Some e
+  found_legal owner h e legal c same =
+      let (x, there, is) = Contains-map_cases entry_of h e c in
+      sym (found_held h)
+      ∙ ap (option_map entry_of)
+      (only_one (λ y. node (entry_of y)) d h x there (ap (λ (u : T). (node u).digest) is ∙ same)
+      (no_digest_twice node owner h legal)) ∙ ap Some is
 
   module _ {X : Type 0} (machine : X → Machine T) where
     -- the bearer is the first machine that answers

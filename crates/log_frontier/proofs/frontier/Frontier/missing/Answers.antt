@@ -1,5 +1,4 @@
-use Rattle.std.proofs.Common.{◌≡◌, ◌∙◌, sym, ap, subst}
-use Rattle.entry_order.specs.Survivors.{gaps}
+use Rattle.std.proofs.Common.{◌∙◌, sym, ap, subst}
 use Rattle.entry_order.specs.Ascending.{ascending}
 use Rattle.log_frontier.specs.Places.{Places, AreWanted}
 use Rattle.log_frontier.proofs.Missing.{gaps_by_table}
