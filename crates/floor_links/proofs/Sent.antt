@@ -94,6 +94,7 @@ module _ (loses : List Lose) (capacity : ℕ) where
     losses = λ k d lt. absurd (omega arith);
     queues = λ to d lt. (refl, refl);
     done = λ to d lt differs. absurd (omega arith);
+    own = λ d. refl;
     left = λ to d above lt. refl;
   }
 
@@ -108,6 +109,7 @@ module _ (loses : List Lose) (capacity : ℕ) where
         let (maker, number, below, apart) = is.losses k d lt in (maker, number, omega (arith, below), apart);
     queues = is.queues;
     done = λ to d lt differs. is.done to d (let n : to ≢ most = λ s. differs (s ∙ own) in omega arith) differs;
+    own = is.own;
     left = λ to d above lt. is.left to d (omega arith) lt;
   }
 
@@ -170,6 +172,7 @@ module _ (loses : List Lose) (capacity : ℕ) where
                       told = adds.others to n done.cause done.told;
                     })
               ];
+          own = λ d. get_or-set_other new most e.entry.maker end d (λ s. differs (sym s)) ∙ is.own d;
           left = λ to d above lt. get_or-set_other new most to end d (omega arith) ∙ is.left to d (omega arith) lt;
         },
       )

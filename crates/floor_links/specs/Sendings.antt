@@ -45,7 +45,7 @@ pub record IsSentOn (scripted : Bool) (capacity to : ℕ) (e : SealedEntry) (old
   pub told : IsTold lost e to cause
 
 -- The entry was sent to each of the first machines but its maker: it was put or is lost, and the losses are of this
--- entry alone, by ascending receivers, so at most one for each. The other ends stay.
+-- entry alone, by ascending receivers, so at most one for each. The other ends stay, the maker's own among them.
 pub record IsSentBelow (loses : List Lose) (capacity most : ℕ) (e : SealedEntry) (outs new : List (OutView SealedEntry))
     (lost : List Loss) : Type 0 where
   pub count : length new ≡ length outs
@@ -59,6 +59,7 @@ pub record IsSentBelow (loses : List Lose) (capacity most : ℕ) (e : SealedEntr
   pub done : (to : ℕ) (d : OutView SealedEntry) → to < most → to ≢ e.entry.maker →
       IsSentOn (is_scripted loses e.entry.maker e.entry.number to) capacity to e
       (slice_index_or outs to d) (slice_index_or new to d) lost
+  pub own : (d : OutView SealedEntry) → slice_index_or new e.entry.maker d ≡ slice_index_or outs e.entry.maker d
   pub left : (to : ℕ) (d : OutView SealedEntry) → most ≤ to → to < length outs →
       slice_index_or new to d ≡ slice_index_or outs to d
 
