@@ -1,20 +1,15 @@
 -- Two orders that agree on the survivors' places give a rule one answer.
 use mathlib.Core.Path.{fun_ext}
 use Rattle.std.proofs.Common.{◌≡◌, ◌∙◌, ap, sym, refl, subst, ℕ, ◌<◌, Bool, true, false, cond, Option, Some, None}
-use Rattle.std.proofs.Common.{List, [], ◌∷◌, ◌++◌, map, length}
-use Rattle.std.specs.Prelude.{slice_get, find, ◌==◌, ◌&&◌, Result, Ok, Err}
-use Rattle.std.specs.List.{Contains, filter, range_with_len}
-use Rattle.std.proofs.lemmas.Bool.{false≢true}
-use Rattle.std.proofs.lemmas.Option.{slice_get_within}
+use Rattle.std.proofs.Common.{List, [], ◌∷◌, length}
+use Rattle.std.specs.Prelude.{slice_get, find, ◌&&◌, Result, Ok, Err}
+use Rattle.std.specs.List.{range_with_len}
 use Rattle.entry_order.specs.declared.three.Three.{Three}
-use Rattle.entry_order.specs.declared.three.Three.TheVariants.{Unknown}
 use Rattle.entry_order.specs.Ancestors.{before, is_whole}
-use Rattle.entry_order.proofs.Lists.{Contains-head, Contains-later, Contains-filter_cases}
 use Rattle.precedence.specs.Graph.{Graph}
 use Rattle.precedence.specs.Known.{Known, IsKnownOf, known_before, known_count, known_whole}
 use Rattle.rule_language.specs.declared.row.Row.{Row}
 use Rattle.rule_language.specs.declared.kind.Kind.{Kind}
-use Rattle.rule_language.specs.declared.form.Form.{Form}
 use Rattle.rule_language.specs.declared.form.Form.TheVariants as form
 use Rattle.rule_language.specs.Trees.{Trees, no_trees, tree_then}
 use Rattle.rule_engine.specs.declared.verdict.Verdict.{Verdict}
@@ -25,7 +20,7 @@ use Rattle.rule_meaning.specs.Kleene.{is_false}
 use Rattle.rule_meaning.specs.Tests.{has_kind}
 use Rattle.rule_meaning.specs.Meaning.{bind, unbound}
 use Rattle.rule_meaning.specs.Values.{first_value, values}
-use Rattle.rule_meaning.proofs.SameOrders.{row_of_kind, IsRow, AreRows, one_more, same_values}
+use Rattle.rule_meaning.proofs.SameOrders.{row_of_kind, AreRows, one_more, same_values}
 use Rattle.rule_engine.specs.Verdicts.{broken, and_then, first_false, IsJudgeAnswer}
 
 -- what a search finds passes the test

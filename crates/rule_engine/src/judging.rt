@@ -117,7 +117,7 @@ fn over(some: bool, parts: &[Formula], scope: &Scope<'_>, survivors: &Survivors<
 
 /// The same of a formula at the rows that a quantifier goes over.
 #[cycle(judging)]
-fn over_rows(
+pub(crate) fn over_rows(
     quantifier: Quantifier,
     body: &Formula,
     scope: &Scope<'_>,
@@ -196,7 +196,7 @@ fn over_each(
 
 /// The value at a row that is meant, or its opposite, and true at any other.
 #[cycle(judging)]
-fn value_at(
+pub(crate) fn value_at(
     i: usize,
     quantifier: Quantifier,
     body: &Formula,

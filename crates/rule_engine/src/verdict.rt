@@ -2,7 +2,7 @@
 ghost use Rattle.std.specs.Prelude.{◌≡◌, ◌++◌, ◌<◌, length, IfErr, IfOk, OnOk, IfSome};
 ghost use Rattle.precedence.specs.Graph.{Graph};
 ghost use Rattle.precedence.specs.Known.{IsKnownOf, known_before, known_count, known_whole};
-ghost use Rattle.rule_meaning.specs.Meaning.{bind};
+ghost use Rattle.rule_meaning.specs.Meaning.{bind, unbound};
 ghost use Rattle.rule_engine.specs.Verdicts.{IsJudgeAnswer, IsJudged, IsVerdict, broken, first_false};
 ghost use Rattle.rule_engine.specs.inside.Index.{AreIndexesOf};
 ghost use Rattle.rule_meaning.specs.Judging.{value_of};
@@ -68,20 +68,34 @@ fn answer(alloc: Global, body: &Formula, rows: &[Row], order: &Rows) -> Result<V
     requires { length rows.now ≡ known_count order.now }
     ensures { IsJudgeAnswer rows.now (known_before order.now) (known_whole order.now) (tree_of body.now) result }
 {
-    if is_too_wide(body, 1, rows) {
-        return Err(JudgeFault::TooWide);
-    }
     let indexes = Indexes::make(alloc, body, rows, order)?;
     let survivors = Survivors {
         rows,
         order,
         indexes,
     };
-    verdict_of(alloc, body, &survivors)
+    answer_over(alloc, body, &survivors)
 }
 
-// The verdict on a rule that says this.
-fn verdict_of(
+/// The same over these survivors.
+pub(crate) fn answer_over(
+    alloc: Global,
+    body: &Formula,
+    survivors: &Survivors<'_>,
+) -> Result<Verdict, JudgeFault>
+    requires same { length survivors.now.rows.now ≡ known_count survivors.now.order.now }
+    requires indexed { AreIndexesOf survivors.now.rows.now survivors.now.indexes }
+    ensures { IsJudgeAnswer survivors.now.rows.now (known_before survivors.now.order.now)
+        (known_whole survivors.now.order.now) (tree_of body.now) result }
+{
+    if is_too_wide(body, 1, survivors.rows) {
+        return Err(JudgeFault::TooWide);
+    }
+    verdict_of(alloc, body, survivors)
+}
+
+/// The verdict on a rule that says this.
+pub(crate) fn verdict_of(
     alloc: Global,
     body: &Formula,
     survivors: &Survivors<'_>,
@@ -92,7 +106,30 @@ fn verdict_of(
         (known_whole survivors.now.order.now) (tree_of body.now)) }
     ensures err { IfErr result (λ fault. fault ≡ JudgeFault.Memory) }
 {
-    match value(body, &Scope::Empty, survivors) {
+    verdict_by(
+        alloc,
+        value(body, &Scope::Empty, survivors),
+        body,
+        survivors,
+    )
+}
+
+/// The verdict on a rule that says this, by its value.
+pub(crate) fn verdict_by(
+    alloc: Global,
+    value: Three,
+    body: &Formula,
+    survivors: &Survivors<'_>,
+) -> Result<Verdict, JudgeFault>
+    requires same { length survivors.now.rows.now ≡ known_count survivors.now.order.now }
+    requires indexed { AreIndexesOf survivors.now.rows.now survivors.now.indexes }
+    requires value { value ≡ value_of survivors.now.rows.now (known_before survivors.now.order.now)
+        (known_whole survivors.now.order.now) body.now unbound }
+    ensures ok { IfOk result (IsVerdict survivors.now.rows.now (known_before survivors.now.order.now)
+        (known_whole survivors.now.order.now) (tree_of body.now)) }
+    ensures err { IfErr result (λ fault. fault ≡ JudgeFault.Memory) }
+{
+    match value {
         Three::True => Ok(Verdict::Kept),
         Three::Unknown => Ok(Verdict::Unsettled),
         Three::False => {

@@ -1,0 +1,18 @@
+use Rattle.std.proofs.Common.{◌≡◌, ◌<◌, ◌≤◌, ℕ, true}
+use Rattle.std.specs.Prelude.{slice_get}
+use Rattle.entry_order.specs.declared.three.Three.TheVariants.{True}
+use Rattle.rule_meaning.specs.Judging.{over_rows}
+use Rattle.rule_meaning.specs.Meaning.{bind, unbound}
+use Rattle.rule_meaning.specs.Tests.{has_kind}
+use Rattle.precedence.specs.Known.{known_before, known_whole}
+use Rattle.rule_engine.proofs.growth.are_true_with.Given as goal
+
+-- it is true with each later row so far
+abbrev pub invariant-loop-j : goal.invariant-loop-j
+invariant-loop-j l =
+    let rows = l.survivors.rows.now in
+    let P = known_before l.survivors.order.now in
+    let R = known_whole l.survivors.order.now in
+    let q = l.quantifier in
+    (k : ℕ) → l.count ≤ k → k < l.j → has_kind l.kind (slice_get rows k) ≡ true →
+    over_rows rows P R q.some l.formula q.v q.kind q.within (bind l.u k unbound) ≡ True

@@ -1,0 +1,15 @@
+use Rattle.std.proofs.Common.{subst, sym}
+use Rattle.precedence.specs.Known.{IsKnownOf}
+use Rattle.rule_language.specs.Forms.{tree_of}
+use Rattle.rule_engine.specs.Growth.{Ready}
+use Rattle.rule_engine.specs.Verdicts.{IsJudged}
+use Rattle.rule_engine.proofs.Graphs.{answer_by_graph}
+use Rattle.rule_engine.proofs.ready.Judge.judge_grown.Goals as goal
+
+pub returns : goal.returns
+returns c graph is =
+    let rule = tree_of c.args.rule.now.body in
+    let known = subst (λ (r : Ready). IsKnownOf graph r.known) (sym c.self.view_is) is in
+    subst (λ (r : Ready). IsJudged r.rows graph rule c.answer_grown.result) c.self.view_is
+    (answer_by_graph c.self.inside.survivors.rows.now graph c.self.inside.survivors.order.now c.self.invariant.0 known
+    rule c.answer_grown.result c.answer_grown.ensures)
