@@ -19,6 +19,8 @@ use Rattle.evidence.specs.RosterFile.{GivesRosterIn}
 use Rattle.evidence.proofs.Readings.{of_refusal}
 use Rattle.auditor.specs.declared.judging.Unjudged.{Unjudged}
 use Rattle.auditor.specs.declared.judging.Unjudged.TheVariants.{TooWide}
+use Rattle.auditor.specs.declared.auditing.Begun.{Begun}
+use Rattle.auditor.specs.inside.Begun.{HasBegun, HasRules}
 use Rattle.auditor.specs.inside.Unjudged.{IsUnjudged}
 use Rattle.auditor.specs.Rows.{row_of}
 use Rattle.auditor.specs.Report.{ReportParts, report_of}
@@ -137,6 +139,16 @@ roster_joins roster source names old mid new read result first rest =
     (λ told answer. OnFiles (rule_files source ++ names) (λ files. WithRoster read source names files answer) told)
     (GivesReportIn roster source names) old mid new read result first rest
     (λ answer (this, at, gives) (files, are, with). (this ∷ files, (at, are), inl (read, gives, with)))
+
+-- so the roster and the rules are read
+pub begun_after : (roster : List ℕ) (source : RuleSource) (old mid : StoreSeen) (read : RosterRead)
+    (result : Result Begun AuditFault) (new : StoreSeen) →
+    IsReadFrom (λ (r : RosterRead). r) (GivesRosterIn roster) old (Ok read) mid → HasRules read source mid result new →
+    HasBegun roster source old result new
+begun_after roster source old mid read (Ok begun) new first rest = λ names answer last end.
+    roster_joins roster source names old mid last read answer first (rest names answer last end)
+begun_after roster source old mid read (Err fault) new first rest = λ names.
+    roster_joins roster source names old mid new read (Err fault) first (rest names)
 
 -- where the roster's file gives none, its fault is the answer
 pub roster_ends : (roster : List ℕ) (source : RuleSource) (names : List (List ℕ)) (old new : StoreSeen)

@@ -1,3 +1,4 @@
 -- Definitions that no public clause needs.
 pub mod Unjudged
 pub mod Places
+pub mod Begun

@@ -3,7 +3,6 @@ ghost use Rattle.std.specs.Prelude.{
   ◌≡◌,
   ◌≢◌,
   ◌≤◌,
-  ◌++◌,
   Err,
   IfErr,
   IfOk,
@@ -17,29 +16,25 @@ ghost use Rattle.std.specs.Prelude.{
 ghost use Rattle.hall_outside.specs.Files.{OnSomeFile};
 ghost use Rattle.rule_language.specs.Forms.{rule_tree};
 ghost use Rattle.evidence.specs.Graphs.{GivesGraph, entries_of};
-ghost use Rattle.evidence.specs.Reading.{IsReadFrom, store_seen};
+ghost use Rattle.evidence.specs.Reading.{IsReadFrom, StoreSeen, store_seen};
 ghost use Rattle.evidence.specs.Refusal.{IsAbsent, refusal_of};
 ghost use Rattle.auditor.specs.Rows.{HaveMakers, row_of};
 ghost use Rattle.auditor.specs.Judged.{AreJudged, nodes_of};
+ghost use Rattle.auditor.specs.inside.Begun.{AreLogsOf, HasBegun, HasRules, IsEndOf};
 ghost use Rattle.auditor.specs.inside.Unjudged.{IsUnjudged};
 ghost use Rattle.auditor.specs.Report.{report_of};
 ghost use Rattle.rule_language.specs.Standard.{standard_rules};
-ghost use Rattle.auditor.specs.Sources.{source_of, source_word, max_rules, GivesRules, rule_files};
+ghost use Rattle.auditor.specs.Sources.{source_of, source_word, max_rules, GivesRules};
 ghost use Rattle.auditor.specs.Sources.{standard as standard_source};
-ghost use Rattle.auditor.specs.Audits.{
-  OnFiles,
-  WithGraph,
-  WithLogs,
-  WithRules,
-  WithRoster,
-  GivesReportIn,
-};
+ghost use Rattle.auditor.specs.Audits.{WithGraph, WithLogs, GivesReportIn};
 
 use crate::judging::{Unjudged, judge_all};
 use crate::report::Report;
 use crate::row::rows;
 use entry_graph::Graph;
-use evidence::{AuditFault, RosterRead, file_fault, graph_of, read_logs, read_roster};
+use evidence::{
+    AuditFault, RosterRead, file_fault, graph_of, read_logs, read_logs_in, read_roster,
+};
 use hall_outside::{Store, read_file};
 use log_files::LogRead;
 use precedence::Rows;
@@ -47,6 +42,7 @@ use roster::Roster;
 use rule_engine::Verdict;
 use rule_language::{Rule, RuleFault, read, standard};
 use std::alloc::{AllocError, Global};
+use std::thread::Threads;
 
 /// Where the rules of an audit come from.
 #[derive(Clone, Copy)]
@@ -221,41 +217,21 @@ pub fn audit_logs(
     }
 }
 
-/// Reads the logs, and reports on them by the rules.
-fn with_rules<S: Store>(
-    alloc: Global,
-    store: &mut S,
+/// What an audit reads before the logs.
+#[derive(Drop)]
+pub(crate) struct Begun {
     read: RosterRead,
-    from: RulesFrom<'_>,
     rules: Vec<Rule>,
-    names: &[String],
-) -> Result<Report, AuditFault>
-    ensures { IsReadFrom report_of
-        (λ told answer. OnFiles (map string_bytes names.now) (λ files. WithRules read (source_of from.entry)
-        (map rule_tree rules.items) (map string_bytes names.now) files answer) told)
-        (store_seen (S.files store.old) (S.answered store.old) (S.read_faults store.old)
-        (S.write_faults store.old))
-        result
-        (store_seen (S.files store.new) (S.answered store.new) (S.read_faults store.new)
-        (S.write_faults store.new)) }
-{
-    match read_logs(alloc, store, names, &read.roster, &read.election) {
-        Ok(logs) => with_logs(alloc, read.roster, from, rules, names, logs),
-        Err(fault) => Err(fault),
-    }
 }
 
-/// Reads the rules and then the logs.
+/// Reads the rules, of which `read` is the roster.
 fn with_roster<S: Store>(
     alloc: Global,
     store: &mut S,
     read: RosterRead,
     from: RulesFrom<'_>,
-    names: &[String],
-) -> Result<Report, AuditFault>
-    ensures { IsReadFrom report_of
-        (λ told answer. OnFiles (rule_files (source_of from.entry) ++ map string_bytes names.now)
-        (λ files. WithRoster read (source_of from.entry) (map string_bytes names.now) files answer) told)
+) -> Result<Begun, AuditFault>
+    ensures { HasRules read (source_of from.entry)
         (store_seen (S.files store.old) (S.answered store.old) (S.read_faults store.old)
         (S.write_faults store.old))
         result
@@ -264,13 +240,53 @@ fn with_roster<S: Store>(
 {
     match from {
         RulesFrom::Standard => match standard(alloc) {
-            Ok(rules) => with_rules(alloc, store, read, from, rules, names),
+            Ok(rules) => Ok(Begun { read, rules }),
             Err(_) => Err(AuditFault::Memory),
         },
         RulesFrom::File(name) => match read_rules(alloc, store, name) {
-            Ok(rules) => with_rules(alloc, store, read, from, rules, names),
+            Ok(rules) => Ok(Begun { read, rules }),
             Err(fault) => Err(fault),
         },
+    }
+}
+
+/// Reads the roster and the rules.
+fn begin<S: Store>(
+    alloc: Global,
+    store: &mut S,
+    roster: &str,
+    from: RulesFrom<'_>,
+) -> Result<Begun, AuditFault>
+    ensures { HasBegun roster.now (source_of from.entry)
+        (store_seen (S.files store.old) (S.answered store.old) (S.read_faults store.old)
+        (S.write_faults store.old))
+        result
+        (store_seen (S.files store.new) (S.answered store.new) (S.read_faults store.new)
+        (S.write_faults store.new)) }
+{
+    match read_roster(alloc, store, roster) {
+        Ok(read) => with_roster(alloc, store, read, from),
+        Err(fault) => Err(fault),
+    }
+}
+
+/// The report on the logs of these names, as they were read.
+fn finish(
+    alloc: Global,
+    begun: Begun,
+    from: RulesFrom<'_>,
+    names: &[String],
+    logs: Result<Vec<LogRead>, AuditFault>,
+) -> Result<Report, AuditFault>
+    requires { (before : StoreSeen) × (after : StoreSeen)
+        × AreLogsOf begun (map string_bytes names.now) before logs after }
+    ensures { (before after : StoreSeen) →
+        AreLogsOf begun (map string_bytes names.now) before logs after →
+        IsEndOf begun (source_of from.entry) (map string_bytes names.now) before result after }
+{
+    match logs {
+        Ok(read) => with_logs(alloc, begun.read.roster, from, begun.rules, names, read),
+        Err(fault) => Err(fault),
     }
 }
 
@@ -300,8 +316,43 @@ pub fn audit<S: Store>(
         (store_seen (S.files store.new) (S.answered store.new) (S.read_faults store.new)
         (S.write_faults store.new)) }
 {
-    match read_roster(alloc, store, roster) {
-        Ok(read) => with_roster(alloc, store, read, rules, logs),
+    match begin(alloc, store, roster, rules) {
+        Ok(begun) => {
+            let election = &begun.read.election;
+            let read = read_logs(alloc, store, logs, &begun.read.roster, election);
+            finish(alloc, begun, rules, logs, read)
+        }
+        Err(fault) => Err(fault),
+    }
+}
+
+/// The audit of `audit`, for which the entries of the logs are unsealed in threads.
+///
+/// # Errors
+///
+/// Those of `audit`.
+pub fn audit_in<R: Threads + Sync, S: Store>(
+    rt: &R,
+    alloc: Global,
+    store: &mut S,
+    roster: &str,
+    rules: RulesFrom<'_>,
+    logs: &[String],
+) -> Result<Report, AuditFault>
+    ensures { IsReadFrom report_of
+        (GivesReportIn roster.now (source_of rules.entry) (map string_bytes logs.now))
+        (store_seen (S.files store.old) (S.answered store.old) (S.read_faults store.old)
+        (S.write_faults store.old))
+        result
+        (store_seen (S.files store.new) (S.answered store.new) (S.read_faults store.new)
+        (S.write_faults store.new)) }
+{
+    match begin(alloc, store, roster, rules) {
+        Ok(begun) => {
+            let election = &begun.read.election;
+            let read = read_logs_in(rt, alloc, store, logs, &begun.read.roster, election);
+            finish(alloc, begun, rules, logs, read)
+        }
         Err(fault) => Err(fault),
     }
 }

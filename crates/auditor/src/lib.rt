@@ -10,7 +10,7 @@ mod outcome;
 mod report;
 mod row;
 
-pub use auditing::{RulesFrom, audit, audit_logs};
+pub use auditing::{RulesFrom, audit, audit_in, audit_logs};
 pub use evidence::AuditFault;
 pub use laws::{files_give_one_report, plain_rules};
 pub use outcome::Outcome;

@@ -6,9 +6,10 @@ ghost use Rattle.evidence.specs.inside.Faults.{IsLogFault};
 
 use crate::fault::AuditFault;
 use hall_outside::Store;
-use log_files::{LogFault, LogRead, read_log_after};
+use log_files::{LogFault, LogRead, read_log_after, read_log_after_in};
 use roster::Roster;
 use std::alloc::Global;
+use std::thread::Threads;
 
 /// Reads the logs of these names, in their order, and verifies the signatures of their entries
 /// under the roster, of the election. An entry that stands in several logs is verified once. The
@@ -45,6 +46,45 @@ pub fn read_logs<S: Store>(
         ) {
             Ok(log) => logs.push(log)?,
             Err(fault) => return Err(log_fault(alloc, name.as_str(), fault)),
+        }
+    }
+    Ok(logs)
+}
+
+/// The logs of `read_logs`, of which threads verify the signatures.
+///
+/// # Errors
+///
+/// Those of `read_logs`.
+pub fn read_logs_in<R: Threads + Sync, S: Store>(
+    rt: &R,
+    alloc: Global,
+    store: &mut S,
+    names: &[String],
+    roster: &Roster,
+    election: &[u8; 32],
+) -> Result<Vec<LogRead>, AuditFault>
+    ensures { IsReadFrom (λ logs. logs.items)
+        (GivesLogsIn roster.now.machines election.now (map string_bytes names.now))
+        (store_seen (S.files store.old) (S.answered store.old) (S.read_faults store.old)
+        (S.write_faults store.old))
+        result
+        (store_seen (S.files store.new) (S.answered store.new) (S.read_faults store.new)
+        (S.write_faults store.new)) }
+{
+    let mut logs = Vec::new(alloc);
+    for name in names {
+        match read_log_after_in(
+            rt,
+            alloc,
+            store,
+            name.as_str(),
+            roster,
+            election,
+            logs.as_slice(),
+        ) {
+            Ok(log) => logs.push(log)?,
+            Err(why) => return Err(log_fault(alloc, name.as_str(), why)),
         }
     }
     Ok(logs)

@@ -1,16 +1,19 @@
 //! A log whose signatures are verified.
-ghost use Rattle.std.specs.Prelude.{◌≡◌, ◌+◌, ◌≤◌, length, IfOk, IfErr, IsErrOf, MatchOption};
+ghost use Rattle.std.specs.Prelude.{◌≡◌, ◌+◌, ◌≤◌, ℕ, List, length, MatchOption};
+ghost use Rattle.std.specs.Prelude.{IfOk, IfErr, IsErrOf};
 ghost use Rattle.std.specs.List.{All};
 ghost use Rattle.hall_outside.specs.Counts.{HasCause, ComesExactly};
 ghost use Rattle.hall_outside.specs.Files.{OnSomeFile};
 ghost use Rattle.hall_outside.specs.ReadFile.{ReadsOn};
 ghost use Rattle.log_files.specs.LogFile.{max_bytes, IsSealedLogOf, IsLogRefused};
-ghost use Rattle.log_files.specs.LogText.{HasHeader};
+ghost use Rattle.log_files.specs.LogText.{AreLog, HasHeader};
 ghost use Rattle.log_files.specs.SealedLog.{AreValid, SaysSealed};
 ghost use Rattle.log_files.specs.inside.Fed.{IsWithBreak};
+ghost use Rattle.log_files.specs.inside.Found.{IsFound};
 
 use crate::breaks::broke_at;
 use crate::feed::read_records;
+use crate::found::{Finder, Found, read_each_in, split_found};
 use crate::plain_log::{End, LogFault};
 use crate::records::{Records, log_of};
 use crate::sealed_reader::SealedReader;
@@ -20,6 +23,7 @@ use entry_order::Knot;
 use hall_outside::Store;
 use roster::Roster;
 use std::alloc::Global;
+use std::thread::Threads;
 
 /// A record whose entry is valid.
 #[derive(Drop)]
@@ -209,4 +213,89 @@ pub fn read_log_after<S: Store>(
         },
         Err(fault) => Err(fault),
     }
+}
+
+/// Reads a log's file as `read_log_after` does, and unseals its entries in threads.
+///
+/// # Errors
+///
+/// Those of `read_log`.
+pub fn read_log_after_in<R: Threads + Sync, S: Store>(
+    rt: &R,
+    alloc: Global,
+    store: &mut S,
+    name: &str,
+    roster: &Roster,
+    election: &[u8; 32],
+    before: &[LogRead],
+) -> Result<LogRead, LogFault>
+    requires { All (λ log. AreValid roster.now.machines election.now log.kept.items) before.now }
+    // The log is what the file says, or what some says where none is told, and so is a refusal.
+    ensures ok { IfOk result (λ log. OnSomeFile (S.files store.old) name.now
+        (IsSealedLogOf roster.now.machines election.now log)) }
+    ensures err { IfErr result (λ fault.
+        OnSomeFile (S.files store.old) name.now (IsLogRefused fault)) }
+
+    // So it may stand among those that were read before.
+    ensures valid { IfOk result (λ log.
+        AreValid roster.now.machines election.now log.kept.items) }
+
+    // Absent and TooLong come exactly where the store said so in this call, ReadFault only so.
+    ensures absent { ComesExactly (S.answered store.old).absences (S.answered store.new).absences
+        (IsErrOf result LogFault.Absent) }
+    ensures absences { (S.answered store.old).absences ≤ (S.answered store.new).absences }
+    ensures too_long { ComesExactly ((S.answered store.old).bytes + max_bytes)
+        (S.answered store.new).bytes (IsErrOf result LogFault.TooLong) }
+    ensures read_fault { HasCause (S.read_faults store.old) (S.read_faults store.new)
+        (IsErrOf result LogFault.ReadFault) }
+
+    // The file is read to its end, or to the first byte past the limit, in pieces of 65,536 bytes.
+    ensures pieces { (¬ IsErrOf result LogFault.Memory) →
+        ReadsOn (S.reads name.now) 65536 max_bytes 0 store.old store.new }
+
+    ensures unchanged { (S.files store.new ≡ S.files store.old)
+        × (S.write_faults store.new ≡ S.write_faults store.old) }
+{
+    let reader = match SealedReader::make(alloc, roster, election, before) {
+        Ok(reader) => reader,
+        Err(_) => return Err(LogFault::Memory),
+    };
+    match read_records(alloc, store, name, &Finder { reader: &reader }) {
+        Ok(log) => match unsealed_in(rt, alloc, &reader, log) {
+            Ok(log) => Ok(log),
+            Err(_) => Err(LogFault::Memory),
+        },
+        Err(fault) => Err(fault),
+    }
+}
+
+/// The log whose records were found, with their entries, which are unsealed in threads.
+fn unsealed_in<R: Threads + Sync>(
+    rt: &R,
+    alloc: Global,
+    reader: &SealedReader<'_>,
+    log: Records<Found>,
+) -> Result<LogRead, Memory>
+    ensures { IfOk result (λ sealed. (bytes : List ℕ) →
+        AreLog (IsFound reader.now.machines reader.now.election) bytes log.owner
+        log.kept.items log.refused.items log.end →
+        SaysSealed reader.now.machines reader.now.election bytes sealed) }
+{
+    let Records {
+        owner,
+        kept: mut found,
+        refused: early,
+        end,
+    } = log;
+    read_each_in(rt, alloc, reader, found.as_mut_slice());
+    let (kept, refused) = split_found(alloc, found, &early)?;
+    with_break(
+        alloc,
+        Records {
+            owner,
+            kept,
+            refused,
+            end,
+        },
+    )
 }

@@ -1,4 +1,4 @@
-use Rattle.std.proofs.Common.{ap, map, string_bytes}
+use Rattle.std.proofs.Common.{ap, map}
 use Rattle.rule_language.specs.Forms.{rule_tree}
 use Rattle.evidence.specs.Reading.{store_seen}
 use Rattle.auditor.specs.Sources.{source_of}
@@ -9,34 +9,29 @@ pub returns-in-Ok : goal.returns-in-Ok
 returns-in-Ok g c =
     let store = g.S.Store in
     let old = c.args.store.now in
-    let new = c.with_rules.new.store in
-    standard_joins (source_of c.args.from) c.args.read (map rule_tree c.in-Ok.rules.items)
-    (map string_bytes c.args.names.now)
-    (store_seen (store.files old) (store.answered old) (store.read_faults old) (store.write_faults old))
-    (store_seen (store.files new) (store.answered new) (store.read_faults new) (store.write_faults new))
-    c.with_rules.result (ap source_of c.in-Standard.is) c.in-Ok.ensures c.with_rules.ensures
+    λ names result new rest.
+    standard_joins (source_of c.args.from) c.args.read (map rule_tree c.in-Ok.rules.items) names
+    (store_seen (store.files old) (store.answered old) (store.read_faults old) (store.write_faults old)) new result
+    (ap source_of c.in-Standard.is) c.in-Ok.ensures rest
 
 pub returns-in-Ok-read_rules : goal.returns-in-Ok-read_rules
 returns-in-Ok-read_rules g c =
     let store = g.S.Store in
     let old = c.args.store.now in
     let mid = c.read_rules.new.store in
-    let new = c.with_rules-in-Ok-read_rules.new.store in
-    rules_join (λ rules. map rule_tree rules.items) (source_of c.args.from) c.in-File.name.now c.args.read
-    (map string_bytes c.args.names.now)
+    λ names result new rest.
+    rules_join (λ rules. map rule_tree rules.items) (source_of c.args.from) c.in-File.name.now c.args.read names
     (store_seen (store.files old) (store.answered old) (store.read_faults old) (store.write_faults old))
-    (store_seen (store.files mid) (store.answered mid) (store.read_faults mid) (store.write_faults mid))
-    (store_seen (store.files new) (store.answered new) (store.read_faults new) (store.write_faults new))
-    c.in-Ok-read_rules.rules c.with_rules-in-Ok-read_rules.result (ap source_of c.in-File.is)
-    c.in-Ok-read_rules.ensures c.with_rules-in-Ok-read_rules.ensures
+    (store_seen (store.files mid) (store.answered mid) (store.read_faults mid) (store.write_faults mid)) new
+    c.in-Ok-read_rules.rules result (ap source_of c.in-File.is) c.in-Ok-read_rules.ensures rest
 
 pub returns-in-Err-read_rules : goal.returns-in-Err-read_rules
 returns-in-Err-read_rules g c =
     let store = g.S.Store in
     let old = c.args.store.now in
     let new = c.read_rules.new.store in
-    rules_end (λ rules. map rule_tree rules.items) (source_of c.args.from) c.in-File.name.now c.args.read
-    (map string_bytes c.args.names.now)
+    λ names.
+    rules_end (λ rules. map rule_tree rules.items) (source_of c.args.from) c.in-File.name.now c.args.read names
     (store_seen (store.files old) (store.answered old) (store.read_faults old) (store.write_faults old))
     (store_seen (store.files new) (store.answered new) (store.read_faults new) (store.write_faults new))
     c.in-Err-read_rules.fault (ap source_of c.in-File.is) c.in-Err-read_rules.ensures

@@ -1,0 +1,52 @@
+-- What an audit reads before the logs. Once it has begun, whatever the logs give from there on is what the audit gives
+-- of all its files; and a fault before the logs is the audit's.
+use Rattle.std.specs.Prelude.{ℕ, List, ◌++◌, map, Option, Result, Ok, Err}
+use Rattle.std.specs.declared.vec.Vec.{Vec}
+use Rattle.std.specs.declared.alloc.Global.{Global}
+use Rattle.hall_outside.specs.Files.{Files}
+use Rattle.log_files.specs.declared.sealed_log.LogRead.{LogRead}
+use Rattle.rule_language.specs.Forms.{rule_tree}
+use Rattle.evidence.specs.declared.fault.AuditFault.{AuditFault}
+use Rattle.evidence.specs.declared.roster_file.RosterRead.{RosterRead}
+use Rattle.evidence.specs.Logs.{GivesLogsIn}
+use Rattle.evidence.specs.Refusal.{Refusal}
+use Rattle.evidence.specs.Reading.{StoreSeen, IsReadFrom}
+use Rattle.auditor.specs.declared.auditing.Begun.{Begun}
+use Rattle.auditor.specs.Report.{AuditReport, ReportParts, report_of}
+use Rattle.auditor.specs.Sources.{RuleSource, rule_files}
+use Rattle.auditor.specs.Audits.{OnFiles, WithRules, WithRoster, GivesReportIn}
+
+-- the logs of these names were read by the roster
+abbrev pub AreLogsOf : Begun → List (List ℕ) → StoreSeen → Result (Vec LogRead Global) AuditFault → StoreSeen → Type 0
+AreLogsOf begun names =
+    IsReadFrom (λ logs. logs.items) (GivesLogsIn begun.read.roster.machines begun.read.election names)
+
+-- this is what they give by the rules
+abbrev pub IsEndOf : Begun → RuleSource → List (List ℕ) → StoreSeen → Result ReportParts AuditFault → StoreSeen → Type 0
+IsEndOf begun source names =
+    IsReadFrom report_of
+    (λ told answer. OnFiles names
+    (λ files. WithRules begun.read source (map rule_tree begun.rules.items) names files answer) told)
+
+-- the rules are read after the roster
+abbrev pub HasRules : RosterRead → RuleSource → StoreSeen → Result Begun AuditFault → StoreSeen → Type 0
+HasRules read source old (Ok begun) mid =
+    (names : List (List ℕ)) (result : Result ReportParts AuditFault) (new : StoreSeen) →
+    IsEndOf begun source names mid result new →
+    IsReadFrom report_of
+    (λ told answer. OnFiles (rule_files source ++ names) (λ files. WithRoster read source names files answer) told)
+    old result new
+HasRules read source old (Err fault) new =
+    (names : List (List ℕ)) →
+    IsReadFrom report_of
+    (λ told answer. OnFiles (rule_files source ++ names) (λ files. WithRoster read source names files answer) told)
+    old (Err fault) new
+
+-- the roster and the rules are read
+abbrev pub HasBegun : List ℕ → RuleSource → StoreSeen → Result Begun AuditFault → StoreSeen → Type 0
+HasBegun roster source old (Ok begun) mid =
+    (names : List (List ℕ)) (result : Result ReportParts AuditFault) (new : StoreSeen) →
+    IsEndOf begun source names mid result new →
+    IsReadFrom report_of (GivesReportIn roster source names) old result new
+HasBegun roster source old (Err fault) new =
+    (names : List (List ℕ)) → IsReadFrom report_of (GivesReportIn roster source names) old (Err fault) new
