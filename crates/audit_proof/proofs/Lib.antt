@@ -1,6 +1,7 @@
 pub mod Ancestries
 pub mod Trusted
 pub mod Listings
+pub mod PackedFacts
 pub mod Checks
 pub mod Texts
 pub mod FirstFaults

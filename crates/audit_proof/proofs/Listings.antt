@@ -37,7 +37,7 @@ taken_at (y ∷ xs) (suc k) zero x at = (omega arith, at)
 taken_at (y ∷ xs) (suc k) (suc j) x at = let (low, there) = taken_at xs k j x at in (omega (arith, low), there)
 
 -- a test or true is true
-or_true : (b : Bool) → (b || true) ≡ true
+pub or_true : (b : Bool) → (b || true) ≡ true
 or_true true = refl
 or_true false = refl
 

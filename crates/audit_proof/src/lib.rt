@@ -10,11 +10,13 @@ mod laws;
 mod line;
 mod lines;
 mod listing;
+mod packed;
 mod proof;
 mod proving;
 mod reading;
 mod scene;
 mod step;
+mod steps;
 mod whole_text;
 
 pub use by_proof::check;

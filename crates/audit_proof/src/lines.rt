@@ -13,7 +13,7 @@ ghost use Rattle.audit_proof.specs.inside.LineAnswers.{
 ghost use Rattle.audit_proof.specs.inside.Unread.{line_with};
 
 use crate::fault::ProofWhy;
-use crate::line::ProofLine;
+use crate::packed::PackedLine;
 use crate::reading::{LineSteps, Unread, front, piece, read_words, rest_from, word_end};
 use crate::step::ProofStep;
 use canonical_sexp::number_of;
@@ -82,11 +82,13 @@ fn read_entry(line: &[u8]) -> Option<Entry>
 
 /// The line of the entry with these steps, where it is ended and lacks no parent.
 fn finish<A: Arrows>(
+    alloc: Global,
     graph: &A,
     entry: u32,
     read: LineSteps,
     is_ended: bool,
-) -> Result<ProofLine, Unread>
+) -> Result<PackedLine, Unread>
+    requires few { (A.graph graph.now).count ≤ 16384 }
     requires entry { entry < (A.graph graph.now).count }
     requires begun { IsBegun (A.graph graph.now) (line_with entry read.steps.items) }
     requires each { length read.listed.items ≡ (A.graph graph.now).count }
@@ -102,10 +104,7 @@ fn finish<A: Arrows>(
     if !are_closed(graph, &read.steps, &read.listed) {
         return Err(Unread::Why(ProofWhy::NotClosed));
     }
-    Ok(ProofLine {
-        entry,
-        steps: read.steps,
-    })
+    Ok(PackedLine::of(alloc, entry, read.steps)?)
 }
 
 /// The line that begins with this entry.
@@ -116,7 +115,7 @@ fn read_entry_line<A: Arrows>(
     entry: Entry,
     is_ended: bool,
     least: usize,
-) -> Result<ProofLine, Unread>
+) -> Result<PackedLine, Unread>
     requires few { (A.graph graph.now).count ≤ 16384 }
     requires entry { IsEntryOf line.now entry }
     ensures { IsLineAnswer (A.graph graph.now) line.now is_ended least result }
@@ -130,7 +129,7 @@ fn read_entry_line<A: Arrows>(
     }
     match read_words(alloc, graph, number, rest_from(line, entry.end)) {
         Err(unread) => Err(unread),
-        Ok(read) => finish(graph, entry.number, read, is_ended),
+        Ok(read) => finish(alloc, graph, entry.number, read, is_ended),
     }
 }
 
@@ -141,7 +140,7 @@ pub(crate) fn read_line<A: Arrows>(
     line: &[u8],
     is_ended: bool,
     least: usize,
-) -> Result<ProofLine, Unread>
+) -> Result<PackedLine, Unread>
     requires { (A.graph graph.now).count ≤ 16384 }
     ensures { IsLineAnswer (A.graph graph.now) line.now is_ended least result }
 {

@@ -25,7 +25,7 @@ ghost use Rattle.audit_proof.specs.inside.LineAnswers.{fault_of};
 
 use crate::fault::{ProofFault, ProofWhy};
 use crate::lines::read_line;
-use crate::listing::entry_of;
+use crate::packed::entry_of;
 use crate::proof::Proof;
 use crate::reading::{Unread, find_byte, front, piece, rest_from};
 use canonical_sexp::number_of;

@@ -51,7 +51,7 @@ pub(crate) fn reading_of(alloc: Global, graph: &ListedGraph, text: &[u8]) -> Res
         return Ok(String::new(alloc));
     }
     Ok(match read_proof(alloc, graph, text) {
-        Ok(proof) => format!(in alloc; "{} lines", proof.lines().len())?,
+        Ok(proof) => format!(in alloc; "{} lines", proof.count())?,
         Err(ProofFault::At { line, why }) => format!(in alloc; "{line} {why:?}")?,
         Err(ProofFault::Memory) => String::from_str(alloc, "memory")?,
     })

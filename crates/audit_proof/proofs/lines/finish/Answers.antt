@@ -4,10 +4,10 @@ use Rattle.std.specs.List.{list_all}
 use Rattle.std.proofs.lemmas.Bool.{false≢true}
 use Rattle.std.proofs.lemmas.Option.{slice_get-get_or}
 use Rattle.audit_proof.specs.declared.step.ProofStep.{ProofStep}
-use Rattle.audit_proof.specs.Lines.{listed_in}
+use Rattle.audit_proof.specs.Lines.{listed_in, IsLineOf}
 use Rattle.audit_proof.specs.inside.Closed.{closed_at}
 use Rattle.audit_proof.specs.inside.Unread.{line_with}
-use Rattle.audit_proof.proofs.LongerLines.{step_on_line}
+use Rattle.audit_proof.proofs.LongerLines.{step_on_line, reached_on_line}
 use Rattle.audit_proof.proofs.LineFacts.{line_own, line_each, closed_line}
 use Rattle.audit_proof.proofs.lines.finish.Goals as goal
 
@@ -76,6 +76,18 @@ returns-then-not-are_closed g c =
       ),
     )
 
+-- the steps are kept as they are
+pub of-requires-clause-falls : goal.of-requires-clause-falls
+of-requires-clause-falls g c = c.requires.begun.falls
+
+pub of-requires-clause-small : goal.of-requires-clause-small
+of-requires-clause-small g c k d low =
+    let line = line_with c.args.entry c.args.read.steps.items in
+    let step = get_or line.steps k d in
+    let reached = c.requires.begun.reached k step (slice_get-get_or line.steps k d low) in
+    let via = c.requires.begun.inside step.via (reached_on_line line k step.via reached) in
+    omega (arith, via, c.requires.few)
+
 pub returns : goal.returns
 returns g c =
     let graph = g.A.Arrows.graph c.args.graph.now in
@@ -85,8 +97,8 @@ returns g c =
     let own : c.are_listed.result ≡ true = search rules in
     let each : c.are_closed.result ≡ true = search rules in (
       ended,
-      refl,
-      record {
+      c.in_ok-of.ensures,
+      subst (IsLineOf graph) (sym c.in_ok-of.ensures) (record {
         begun = c.requires.begun;
         closed = closed_line graph c.args.entry steps listed c.requires.table
             (sym (c.are_listed.ensures
@@ -99,5 +111,5 @@ returns g c =
             ∙ ap (λ (bs : List Bool). list_all (λ y. closed_at bs (graph.parents y))
             (listed_in steps)) c.deref-3.ensures.value)
             ∙ each);
-      },
+      }),
     )

@@ -1,0 +1,12 @@
+use Rattle.std.proofs.Common.{sym, subst}
+use Rattle.audit_proof.specs.Lines.{Line}
+use Rattle.audit_proof.specs.inside.Falls.{Falls}
+use Rattle.audit_proof.specs.inside.Packing.{unpacked}
+use Rattle.audit_proof.proofs.PackedFacts.{second_falls}
+use Rattle.audit_proof.proofs.packed.lists.Goals as goal
+
+pub is_listed-requires : goal.is_listed-requires
+is_listed-requires c =
+    subst Falls (sym c.deref-else-has_code.ensures.value)
+    (second_falls (unpacked c.line.inside.table.items) c.line.inside.steps.items
+    (subst (λ (line : Line). Falls line.steps) (sym c.line.view_is) c.requires))

@@ -1,0 +1,14 @@
+use Rattle.std.proofs.Common.{◌<◌, List, sym, subst}
+use Rattle.std.specs.Prelude.{All}
+use Rattle.audit_proof.specs.declared.step.ProofStep.{ProofStep}
+use Rattle.audit_proof.specs.Lines.{Line}
+use Rattle.audit_proof.specs.inside.Packing.{unpacked}
+use Rattle.audit_proof.proofs.PackedFacts.{all_second}
+use Rattle.audit_proof.proofs.packed.lists_no_ragged.Goals as goal
+
+pub are_even-requires : goal.are_even-requires
+are_even-requires g c =
+    let Inside = λ (step : ProofStep). step.ancestor < (g.A.Arrows.graph c.args.graph.now).count in
+    subst (λ (steps : List ProofStep). All Inside steps) (sym c.deref-then-is_even.ensures.value)
+    (all_second (unpacked c.line.inside.table.items) c.line.inside.steps.items Inside
+    (subst (λ (line : Line). All Inside line.steps) (sym c.line.view_is) c.requires))
