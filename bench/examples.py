@@ -1,10 +1,11 @@
 #!/usr/bin/env python3
 """Runs the commands of examples/README.md and docs/REPORT.md and compares what they print and their exit statuses.
 
-usage: python3 bench/examples.py PROGRAM [WORD ..]
+usage: python3 bench/examples.py [--view VIEW] PROGRAM [WORD ..]
 
 PROGRAM, with these words before the command's, takes the place of `auditorium`, and its output may go into a file by
-`>`; any other command is the shell's. The
+`>`; VIEW takes the place of `auditorium_view`, and without it no picture is drawn; any other command is the shell's. A
+file that lies in examples/ is compared with what is written into it, byte for byte. The
 statuses are those of the headings, where these begin with one; where a heading has several commands, each ends with
 that status. Lines that begin with `auditorium: ` or with a space are compared with the first lines of standard error,
 the others with standard output. Where GNU parallel is installed, a county of twelve places is made and audited, too.
@@ -48,17 +49,39 @@ def agrees(run, lines, status):
             and errors[:len(hints)] == hints and bool(errors) == bool(hints))
 
 
-def ran(program, command, here):
+def ran(programs, command, here):
     """The run of a command in a folder."""
     line, _, file = command.partition(" > ")
     words = line.split()
-    if words[0] == "auditorium":
-        done = subprocess.run(program + words[1:], cwd=here, capture_output=True, text=True, timeout=120)
+    if words[0] in programs:
+        done = subprocess.run(programs[words[0]] + words[1:], cwd=here, capture_output=True, text=True, timeout=120)
         if file:
             (here / file).write_text(done.stdout)
             done.stdout = ""
         return done
     return subprocess.run(command, shell=True, cwd=here, capture_output=True, text=True, timeout=120)
+
+
+def changed_file(command, here):
+    """The file of examples/ into which a command has written something else; nothing if there is none."""
+    _, _, file = command.partition(" > ")
+    kept = ROOT / "examples" / file
+    if file and kept.is_file() and kept.read_bytes() != (here / file).read_bytes():
+        return f"{command}: {file} isn't what is kept\n"
+    return ""
+
+
+def fault_of(programs, command, lines, status, here):
+    """How a command differs from its example; nothing if it doesn't."""
+    run = ran(programs, command, here)
+    if agrees(run, lines, status):
+        return changed_file(command, here)
+    return f"{command}: status {run.returncode}, wanted {status}\n{run.stdout}{run.stderr}"
+
+
+def path_of(program):
+    """The words that run a program."""
+    return [str(pathlib.Path(shutil.which(program) or program).resolve())]
 
 
 def has_parallel():
@@ -94,9 +117,14 @@ def county_fault(program, here):
 
 
 def main():
-    program = [shutil.which(sys.argv[1]) or sys.argv[1]] + sys.argv[2:]
-    program[0] = str(pathlib.Path(program[0]).resolve())
-    faults = []
+    words, programs, faults = sys.argv[1:], {}, []
+    if words[:1] == ["--view"]:
+        programs["auditorium_view"] = path_of(words[1])
+        words = words[2:]
+    else:
+        print("no picture is drawn: there is no --view VIEW")
+    program = path_of(words[0]) + words[1:]
+    programs["auditorium"] = program
     with tempfile.TemporaryDirectory() as folder:
         # A copy, so that nothing is written into the repository.
         here = pathlib.Path(folder, "examples")
@@ -106,9 +134,8 @@ def main():
         (here / "out").mkdir(exist_ok=True)
         texts = [here / "README.md", ROOT / "docs" / "REPORT.md"]
         for command, lines, status in (case for text in texts for case in examples(text.read_text())):
-            run = ran(program, command, here)
-            faults.append("" if agrees(run, lines, status) else
-                          f"{command}: status {run.returncode}, wanted {status}\n{run.stdout}{run.stderr}")
+            if command.split()[0] != "auditorium_view" or "auditorium_view" in programs:
+                faults.append(fault_of(programs, command, lines, status, here))
         if has_parallel():
             faults.append(county_fault(program, here))
         else:

@@ -25,7 +25,7 @@ pub(crate) fn hint<R: Files<File = File> + Eprint + AllocGlobal>(
     let Ok(line) = str::from_utf8(line) else {
         return;
     };
-    if let Some(hint) = hint_on(rt.alloc(), words, line) {
+    if let Some(hint) = hint_on(rt.alloc(), "auditorium", words, line) {
         let _ = write_hint(rt, &hint);
     }
 }

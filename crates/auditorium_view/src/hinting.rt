@@ -61,7 +61,7 @@ prints a picture of what audit reports on; RULES is a file or standard, LOG.. 1 
     let (Ok(line), Ok(words)) = (str::from_utf8(line), audit_words(rt.alloc(), words)) else {
         return;
     };
-    if let Some(hint) = hint_on(rt.alloc(), Some(words.as_slice()), line) {
+    if let Some(hint) = hint_on(rt.alloc(), "auditorium_view", Some(words.as_slice()), line) {
         let _ = write_hint(rt, &hint);
     }
 }

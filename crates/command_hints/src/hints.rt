@@ -18,8 +18,14 @@ pub enum Hint<'a> {
 
 /// The hint for the words after the program's name, which are `None` where one isn't text, and the
 /// first line of the output, if that is `usage`, or says what was refused or isn't there. It is for
-/// the statuses 4, 5 and 6 alone, since a report on a log has lines of refused records too.
-pub fn hint_on<'a>(alloc: Global, words: Option<&'a [String]>, line: &'a str) -> Option<Hint<'a>> {
+/// the statuses 4, 5 and 6 alone, since a report on a log has lines of refused records too. The
+/// words are those of `auditorium`, or of another program as `auditorium` has them.
+pub fn hint_on<'a>(
+    alloc: Global,
+    program: &'static str,
+    words: Option<&'a [String]>,
+    line: &'a str,
+) -> Option<Hint<'a>> {
     let line = line.strip_suffix('\n').unwrap_or(line);
     let (word, rest) = line.split_once(' ').unwrap_or((line, ""));
     match word {
@@ -27,11 +33,11 @@ pub fn hint_on<'a>(alloc: Global, words: Option<&'a [String]>, line: &'a str) ->
             Some(words) => slip_in(alloc, words),
             None => Slip::NotText,
         })),
-        "refused" => match refusal_in(words.unwrap_or(&[]), rest) {
+        "refused" => match refusal_in(program, words.unwrap_or(&[]), rest) {
             Some(refusal) => Some(Hint::Refused(refusal)),
             None => None,
         },
-        "absent" => Some(Hint::Absent(absence_of(words.unwrap_or(&[]), rest))),
+        "absent" => Some(Hint::Absent(absence_of(program, words.unwrap_or(&[]), rest))),
         _ => None,
     }
 }

@@ -9,6 +9,8 @@ use std::fmt::{self, Display, Formatter};
 /// An input that was refused.
 #[derive(Clone, Copy)]
 pub struct Refusal<'a> {
+    /// The program that refused it.
+    program: &'static str,
     /// The file, the word for an entry, or `entries` for what the logs hold together.
     name: &'a str,
     /// What it counts is said by the cause.
@@ -21,6 +23,8 @@ pub struct Refusal<'a> {
 /// A file that isn't there.
 #[derive(Clone, Copy)]
 pub struct Absence<'a> {
+    /// The program that wanted it.
+    program: &'static str,
     name: &'a str,
     /// What the help calls the file, if the words name it.
     role: Option<&'static str>,
@@ -101,12 +105,18 @@ fn is_file_of(role: &str, word: &str, name: &str) -> bool {
     }
 }
 
-/// The refusal of which this stands after `refused`, or none where it isn't one of those words.
-pub(crate) fn refusal_in<'a>(words: &[String], line: &'a str) -> Option<Refusal<'a>> {
+/// The program's refusal of which this stands after `refused`, or none where it isn't one of those
+/// words.
+pub(crate) fn refusal_in<'a>(
+    program: &'static str,
+    words: &[String],
+    line: &'a str,
+) -> Option<Refusal<'a>> {
     let (name, line) = line.split_once(' ')?;
     let (place, line) = line.split_once(' ')?;
     let (cause, rest) = line.split_once(' ').unwrap_or((line, ""));
     Some(Refusal {
+        program,
         name,
         place: place.parse::<u64>().ok()?,
         cause: cause_of(words, name, cause)?,
@@ -114,9 +124,14 @@ pub(crate) fn refusal_in<'a>(words: &[String], line: &'a str) -> Option<Refusal<
     })
 }
 
-/// The absence of the file of this name.
-pub(crate) fn absence_of<'a>(words: &[String], name: &'a str) -> Absence<'a> {
+/// The absence of the file of this name, which the program wanted.
+pub(crate) fn absence_of<'a>(
+    program: &'static str,
+    words: &[String],
+    name: &'a str,
+) -> Absence<'a> {
     Absence {
+        program,
         name,
         role: role_of_file(words, name),
     }
@@ -158,10 +173,11 @@ impl<'a> Refusal<'a> {
 
 impl<'a> Display for Refusal<'a> {
     fn fmt<W: fmt::Write>(&self, f: &mut Formatter<W>) -> fmt::Result {
+        let program = self.program;
         let name = self.name;
         let cause = self.cause.word();
         let text = sentence(self.cause);
-        write!(f, "auditorium: {name}")?;
+        write!(f, "{program}: {name}")?;
         self.write_place(f)?;
         write!(f, ", {cause}: {text}")?;
         if !self.rest.is_empty() {
@@ -174,8 +190,9 @@ impl<'a> Display for Refusal<'a> {
 
 impl<'a> Display for Absence<'a> {
     fn fmt<W: fmt::Write>(&self, f: &mut Formatter<W>) -> fmt::Result {
+        let program = self.program;
         let name = self.name;
-        write!(f, "auditorium: there is no file {name}")?;
+        write!(f, "{program}: there is no file {name}")?;
         if let Some(role) = self.role {
             let meaning = meaning_of(role);
             write!(f, ", which is named as {role}: {meaning}")?;

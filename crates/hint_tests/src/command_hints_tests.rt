@@ -107,11 +107,16 @@ fn words_of(alloc: Global, text: &str) -> Result<Vec<String>, Fail> {
     Ok(words)
 }
 
-/// The hint for these words and this line of the output, or nothing.
-fn hint_text(alloc: Global, words: &str, line: &str) -> Result<String, Fail> {
+/// The hint of the program for these words and this line of the output, or nothing.
+fn hint_text(
+    alloc: Global,
+    program: &'static str,
+    words: &str,
+    line: &str,
+) -> Result<String, Fail> {
     let words = words_of(alloc, words)?;
     let line = format!(in alloc; "{line}\n")?;
-    match hint_on(alloc, Some(words.as_slice()), line.as_str()) {
+    match hint_on(alloc, program, Some(words.as_slice()), line.as_str()) {
         Some(hint) => Ok(format!(in alloc; "{hint}")?),
         None => Ok(String::new(alloc)),
     }
@@ -119,7 +124,7 @@ fn hint_text(alloc: Global, words: &str, line: &str) -> Result<String, Fail> {
 
 /// Whether the hint for these words, and for an output of `usage`, begins so.
 fn is_blamed(alloc: Global, words: Option<&[String]>, want: &str) -> Result<bool, Fail> {
-    let Some(hint) = hint_on(alloc, words, "usage\n") else {
+    let Some(hint) = hint_on(alloc, "auditorium", words, "usage\n") else {
         return Ok(false);
     };
     let text = format!(in alloc; "{hint}")?;
@@ -131,9 +136,27 @@ fn hints_say_what_was_expected(rt: HostRuntime) -> Result<(), Fail> {
     for row in ROWS.lines() {
         let (words, rest) = row.split_once('|').unwrap_or(("", ""));
         let (line, want) = rest.split_once('|').unwrap_or(("", ""));
-        let hint = hint_text(rt.alloc(), words, line)?;
+        let hint = hint_text(rt.alloc(), "auditorium", words, line)?;
         let begins_so = hint.as_str().starts_with(want) && hint.is_empty() == want.is_empty();
         assert!(rt; begins_so, "{row}");
+    }
+    Ok(())
+}
+
+/// What a program that has `audit`'s words answers, and how its hint begins.
+const PROGRAM_ROWS: &[(&str, &str)] = &[
+    (
+        "refused c 9 SameName",
+        "auditorium_view: c, byte 9, counted",
+    ),
+    ("absent c", "auditorium_view: there is no file c, which"),
+];
+
+#[test]
+fn a_hint_begins_with_the_name_of_its_program(rt: HostRuntime) -> Result<(), Fail> {
+    for &(line, want) in PROGRAM_ROWS {
+        let hint = hint_text(rt.alloc(), "auditorium_view", "audit,r,c,l", line)?;
+        assert!(rt; hint.as_str().starts_with(want), "{line}");
     }
     Ok(())
 }
@@ -150,7 +173,7 @@ fn lines_of(alloc: Global, text: &str) -> Result<String, Fail> {
 /// The excerpt of the text that shows the place of the refusal, or nothing.
 fn excerpt_of(alloc: Global, words: &[String], refusal: &str, text: &str) -> Result<String, Fail> {
     let line = format!(in alloc; "refused {refusal}\n")?;
-    if let Some(Hint::Refused(refusal)) = hint_on(alloc, Some(words), line.as_str()) {
+    if let Some(Hint::Refused(refusal)) = hint_on(alloc, "auditorium", Some(words), line.as_str()) {
         if let Some(excerpt) = refusal.excerpt(text.as_bytes()) {
             return Ok(format!(in alloc; "{excerpt}")?);
         }

@@ -1,0 +1,8 @@
+//! Tests of the public calls of `entangled_picture`. They stand in a crate of their own, so that
+//! what they test isn't proved once more with them.
+#![tactic(auto)]
+
+#[cfg(test)]
+mod picture_tests;
+#[cfg(test)]
+mod places;
