@@ -20,7 +20,7 @@ x_of_gap at = x_of at - 18
 
 -- how far down a spot is
 abbrev pub y_of : Spot → ℕ
-y_of at = 160 + 64 * at.lane + 22 * at.level
+y_of at = 160 + 96 * at.lane + 44 * at.level
 
 -- the right end of a shape
 abbrev pub right_of : Shape → ℕ

@@ -41,7 +41,7 @@ pub(crate) fn y_of(at: Spot) -> u128
     ensures value { result ≡ y_of at }
     ensures fits { result < 2 ^ 100 }
 {
-    160 + 64 * at.lane as u128 + 22 * at.level as u128
+    160 + 96 * at.lane as u128 + 44 * at.level as u128
 }
 
 /// The right end of a shape.
