@@ -7,10 +7,11 @@ use std::sync::Wait;
 use std::test::Fail;
 use std::thread;
 
+/// An item that is its sender and its number.
 #[derive(PartialEq, Eq, Drop)]
-struct Numbered {
-    from: u32,
-    number: u32,
+pub struct Numbered {
+    pub from: u32,
+    pub number: u32,
 }
 
 impl Parcel for Numbered {
@@ -27,9 +28,10 @@ impl Parcel for Numbered {
     }
 }
 
-const SENDER: u32 = 7;
+pub const SENDER: u32 = 7;
 
-fn item(number: u32) -> Numbered
+/// The sender's item with a number.
+pub fn item(number: u32) -> Numbered
     ensures { (result.from ≡ 7) × (result.number ≡ number) }
 {
     Numbered {

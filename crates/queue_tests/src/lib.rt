@@ -5,4 +5,6 @@
 #[cfg(test)]
 mod broadcast_queues_tests;
 #[cfg(test)]
+mod compared_ends_tests;
+#[cfg(test)]
 mod log_lock_tests;
