@@ -1,179 +1,335 @@
--- Rows in buckets, and values over the rows of one bucket in place of all.
-use Rattle.std.proofs.Common.{◌≡◌, ◌≢◌, ◌∙◌, ap, sym, refl, subst, ℕ, zero, suc, ◌+◌, ◌-◌, ◌<◌, ◌≤◌, ◌%◌, Bool, true}
-use Rattle.std.proofs.Common.{false, not, cond, Option, Some, None, List, length, get_or, replicate, arith, inl, inr}
-use Rattle.std.specs.Prelude.{slice_get, slice_set, slice_index_or, ◌&&◌}
+-- Rows in the order of their numbers, and values over some rows in place of all.
+use Rattle.std.proofs.Common.{◌≡◌, ◌≢◌, ◌∙◌, ap, sym, refl, subst, ℕ, zero, suc, ◌+◌, ◌-◌, ◌<◌, ◌≤◌, Bool, true}
+use Rattle.std.proofs.Common.{◌⊎◌, ◌++◌, ◌∷◌, [], false, not, cond, Option, Some, None, List, length, get_or, take, drop, arith, inl, inr}
+use Rattle.std.specs.Prelude.{slice_get, ◌&&◌, ◌==◌}
+use Rattle.std.specs.List.{AllWithin, Contains}
 use Rattle.std.proofs.lemmas.Option.{slice_get_within, slice_get_cases, slice_get-get_or}
-use Rattle.std.proofs.lemmas.Grind.{get_or_default_zero}
-use Rattle.std.proofs.lemmas.Bool.{cases_eq, cases_lt}
-use Rattle.std.proofs.lemmas.List.{get_or-set_same, get_or-set_other, get_or-replicate, length-set, length-replicate}
-use Rattle.std.proofs.lemmas.Nat.{mod_below}
+use Rattle.std.specs.List.Sorted.{IsPermutation}
+use Rattle.std.proofs.lemmas.List.Sorted.{IsPermutation-sym, Contains-permutation}
+use Rattle.std.proofs.lemmas.List.Elements.{Contains-push, Contains-push_cases, Contains-append_left}
+use Rattle.std.proofs.lemmas.List.Elements.{Contains-get_or}
+use Rattle.std.proofs.lemmas.Bool.{cases_eq, cases_lt, false≢true}
+use Rattle.std.proofs.lemmas.List.{get_or_default, get_or-drop, get_or-take, length-drop, length-take-le}
 use Rattle.entry_order.specs.declared.three.Three.{Three}
-use Rattle.entry_order.specs.declared.three.Three.TheVariants.{False, True}
+use Rattle.entry_order.specs.declared.three.Three.TheVariants.{False, Unknown, True}
 use Rattle.rule_language.specs.declared.row.Row.{Row}
 use Rattle.rule_language.specs.declared.kind.Kind.{Kind}
 use Rattle.rule_language.specs.declared.kind.Kind.TheVariants as kinds
 use Rattle.rule_language.specs.declared.formula.Formula.{Formula}
 use Rattle.rule_engine.specs.declared.index.Key.{Key}
+use Rattle.rule_engine.specs.declared.index.Key.TheVariants as by_kind
+use Rattle.rule_engine.specs.declared.index.Found.{Found}
+use Rattle.rule_engine.specs.declared.index.Index.{Index}
+use Rattle.rule_engine.specs.declared.index.Kinds.{Kinds}
+use Rattle.rule_engine.specs.declared.quantifier.Quantifier.{Quantifier}
 use Rattle.rule_meaning.specs.Kleene.{both, as_three, is_false}
 use Rattle.rule_meaning.specs.Tests.{is_kind, has_kind}
 use Rattle.rule_meaning.specs.Meaning.{bind}
 use Rattle.rule_meaning.specs.Judging.{signed, value_of, is_in, over_from, over_rows, if_meant}
-use Rattle.rule_engine.specs.inside.Bucket.{IsBucketFor}
-use Rattle.rule_engine.specs.declared.quantifier.Quantifier.{Quantifier}
-use Rattle.rule_engine.specs.declared.quantifier.Bucket.{Bucket}
-use Rattle.rule_engine.specs.inside.Index.{rank, number_in, first_in, IsFirst, HoldsFrom}
-use Rattle.rule_engine.proofs.Wants.{signed_true, false_is}
-use Rattle.rule_meaning.proofs.Judges.{both_true, over_step}
+use Rattle.rule_engine.specs.inside.Visited.{IsVisitedFor}
+use Rattle.rule_engine.specs.inside.Index.{rank, least_of, breadth, number_in, group_in, found_at}
+use Rattle.rule_engine.specs.inside.Index.{Rises, IsStart, AreStarts, AreRowsOf, IsIndexBy}
+use Rattle.rule_engine.proofs.Wants.{signed_true, false_is, both_false}
+use Rattle.rule_meaning.proofs.Judges.{both_true, both_assoc, over_step}
 
--- finds that are the same are of one row
-same_row : (a b : Row) → Some a ≡ Some b → a ≡ b
-same_row a b e = cc
+-- a rank is below 11
+rank_below : (k : Kind) → rank k < 11
+rank_below kinds.Any = omega arith
+rank_below kinds.Opened = omega arith
+rank_below kinds.Authorise = omega arith
+rank_below kinds.Override = omega arith
+rank_below kinds.Forced = omega arith
+rank_below kinds.Closed = omega arith
+rank_below kinds.Activate = omega arith
+rank_below kinds.Commit = omega arith
+rank_below kinds.Cast = omega arith
+rank_below kinds.Cancel = omega arith
+rank_below kinds.Challenge = omega arith
 
-module _ (rows : List Row) (by : Key) (count : ℕ) where
-  -- the row itself is the first from its place on
-  first_here : (i : ℕ) (row : Row) → slice_get rows i ≡ Some row →
-      IsFirst rows by count (number_in by row % count) i i
-  first_here i row at = record {
-    from = omega arith;
-    none = λ k other low high is. absurd (omega (arith, low, high));
-    here = λ other is. ap (λ (r : Row). number_in by r % count) (same_row other row (sym is ∙ at));
-  }
+-- the first rows are listed with their numbers, and nothing else is
+pub record AreListed (rows : List Row) (by : Key) (n : ℕ) (found : List Found) : Type 0 where
+  pub each : (j : ℕ) (row : Row) → j < n → slice_get rows j ≡ Some row → Contains found (found_at by row j)
+  pub only : (it : Found) → Contains found it →
+      (row : Row) × (slice_get rows it.place ≡ Some row) × (it.number ≡ number_in by row)
 
-  -- in another bucket than the row's the first stays
-  first_earlier : (i j bucket : ℕ) (row : Row) → slice_get rows i ≡ Some row → bucket ≢ number_in by row % count →
-      IsFirst rows by count bucket (i + 1) j → IsFirst rows by count bucket i j
-  first_earlier i j bucket row at apart first = record {
-    from = omega (arith, first.from);
-    none = λ k other low high is.
-        elim (cases_eq k i) [
-          | inl same ↦ λ e. apart (sym e ∙ ap (λ (r : Row). number_in by r % count)
-              (same_row other row (sym is ∙ ap (slice_get rows) same ∙ at)))
-          | inr later ↦ first.none k other (omega (arith, low, later)) high is
-        ];
-    here = first.here;
-  }
-
--- where no row is listed yet
-pub holds_none : (rows : List Row) (by : Key) (n : ℕ) → n ≡ length rows →
-    HoldsFrom rows by (replicate (n + 1) n) (replicate n n) n
-holds_none rows by n all = record {
-  firsts_are = λ bucket within. record {
-    from = subst (λ (v : ℕ). n ≤ v) (sym (get_or-replicate (n + 1) bucket n 0 (many bucket within))) (omega arith);
-    none = λ k row low high is. absurd (over k row low is);
-    here = λ row is. absurd (over _ row
-        (subst (λ (v : ℕ). n ≤ v) (sym (get_or-replicate (n + 1) bucket n 0 (many bucket within))) (omega arith)) is);
-  };
-  nexts_are = λ j row low is. absurd (over j row low is);
+-- no row is listed at first
+pub listed_none : (rows : List Row) (by : Key) → AreListed rows by 0 []
+listed_none rows by = record {
+  each = λ j row below at. absurd (omega (arith, below));
+  only = λ it there. absurd (none it there);
 }
   where
-    -- no row stands where the rows end
-    over : (k : ℕ) (row : Row) → n ≤ k → slice_get rows k ≡ Some row → ⊥
-    over k row low is = omega (arith, slice_get_within rows k row is, all, low)
-
-    -- there is a bucket more than there are rows
-    many : (bucket : ℕ) → bucket < length (replicate (n + 1) n) → bucket < n + 1
-    many bucket within = subst (λ (m : ℕ). bucket < m) (length-replicate (n + 1) n) within
+    -- nothing is in an empty list
+    none : (it : Found) → Contains [] it → ⊥
+    none it (k, within, is) = omega (arith, within)
 
 -- one row more
-module _ (rows : List Row) (by : Key) (firsts nexts : List ℕ) (i : ℕ) (row : Row) (at : slice_get rows i ≡ Some row)
-    (inside : i < length nexts) (some : 0 < length firsts) (before : HoldsFrom rows by firsts nexts (i + 1)) where
-  -- the number of buckets
-  abbrev count : ℕ
-  count = length firsts
-
-  -- the bucket of the row
-  abbrev own : ℕ
-  own = number_in by row % count
-
-  -- the first rows of the buckets with the row as the first of its own
-  abbrev grown : List ℕ
-  grown = slice_set firsts own i
-
-  -- the next rows with the row's own, which was the first in its bucket so far
-  abbrev linked : List ℕ
-  linked = slice_set nexts i (slice_index_or firsts own 0)
-
-  -- the row's bucket is one of those that there are
-  own_below : own < count
-  own_below = mod_below (number_in by row) count some
-
-  -- each bucket's first row is known from the row on
-  firsts_at : (bucket : ℕ) → bucket < count → IsFirst rows by count bucket i (slice_index_or grown bucket 0)
-  firsts_at bucket within =
-      elim (cases_eq bucket own) [
+pub listed_more : (rows : List Row) (by : Key) (n number : ℕ) (found : List Found) (d : Row) → n < length rows →
+    number ≡ number_in by (get_or rows n d) → AreListed rows by n found →
+    AreListed rows by (n + 1) (found ++ record { number = number; place = n } ∷ [])
+listed_more rows by n number found d within is listed = record {
+  each = λ j row below at.
+      elim (cases_eq j n) [
         | inl same ↦
-            subst (λ (b : ℕ). IsFirst rows by count b i (slice_index_or grown b 0)) (sym same)
-            (subst (λ (v : ℕ). IsFirst rows by count own i v) (sym (get_or-set_same firsts own i 0 own_below))
-            (first_here rows by count i row at))
+            let own : get_or rows n d ≡ row =
+            same_row (sym (slice_get-get_or rows n d within) ∙ ap (slice_get rows) (sym same) ∙ at) in
+            subst (λ (it : Found). Contains (found ++ added ∷ []) it) (as_listed j row same own)
+            (Contains-push found added)
         | inr apart ↦
-            subst (λ (v : ℕ). IsFirst rows by count bucket i v) (sym (get_or-set_other firsts own bucket i 0 apart))
-            (first_earlier rows by count i _ bucket row at apart (before.firsts_are bucket within))
-      ]
+            Contains-append_left found (added ∷ []) (found_at by row j)
+            (listed.each j row (omega (arith, below, apart)) at)
+      ];
+  only = λ it there.
+      elim (Contains-push_cases found added it there) [
+        | inl before ↦ listed.only it before
+        | inr new ↦ subst (λ (o : Found). (row : Row) × (slice_get rows o.place ≡ Some row)
+            × (o.number ≡ number_in by row)) new
+            (get_or rows n d, slice_get-get_or rows n d within, is)
+      ];
+}
+  where
+    -- what is listed of the row
+    added : Found
+    added = record { number = number; place = n }
 
-  -- and so is the next row in the bucket of each row from there on
-  nexts_at : (j : ℕ) (other : Row) → i ≤ j → slice_get rows j ≡ Some other →
-      IsFirst rows by count (number_in by other % count) (j + 1) (slice_index_or linked j 0)
-  nexts_at j other low is =
-      elim (cases_eq j i) [
-        | inl same ↦
-            let one : other ≡ row = same_row other row (sym is ∙ ap (slice_get rows) same ∙ at) in
-            subst (λ (r : Row). IsFirst rows by count (number_in by r % count) (j + 1) (slice_index_or linked j 0))
-            (sym one)
-            (subst (λ (n : ℕ). IsFirst rows by count own (n + 1) (slice_index_or linked n 0)) (sym same)
-            (subst (λ (v : ℕ). IsFirst rows by count own (i + 1) v)
-            (sym (get_or-set_same nexts i (slice_index_or firsts own 0) 0 inside)) (before.firsts_are own own_below)))
-        | inr apart ↦
-            subst (λ (v : ℕ). IsFirst rows by count (number_in by other % count) (j + 1) v)
-            (sym (get_or-set_other nexts i j (slice_index_or firsts own 0) 0 apart))
-            (before.nexts_are j other (omega (arith, low, apart)) is)
-      ]
+    -- finds that are the same are of one row
+    same_row : {a b : Row} → Some a ≡ Some b → a ≡ b
+    same_row e = cc
 
-  -- so the buckets are known from one row earlier on
-  holds_more : HoldsFrom rows by grown linked i
-  holds_more =
-      let long : length grown ≡ count = length-set firsts own i in
-      record {
-        firsts_are =
-            subst (λ (n : ℕ). (b : ℕ) → b < n → IsFirst rows by n b i (slice_index_or grown b 0)) (sym long) firsts_at;
-        nexts_are =
-            subst (λ (n : ℕ). (j : ℕ) (r : Row) → i ≤ j → slice_get rows j ≡ Some r →
-            IsFirst rows by n (number_in by r % n) (j + 1) (slice_index_or linked j 0)) (sym long) nexts_at;
-      }
+    -- it is what is listed of this row
+    as_listed : (j : ℕ) (row : Row) → j ≡ n → get_or rows n d ≡ row → added ≡ found_at by row j
+    as_listed j row same own =
+        ap (λ (m : ℕ). record { number = m; place = n }) (is ∙ ap (number_in by) own)
+        ∙ ap (found_at by row) (sym same)
 
--- the same, with the bucket and its first row as they were found
-pub holds_with : (rows : List Row) (by : Key) (firsts nexts : List ℕ) (i bucket number count first : ℕ) (d : Row) →
-    i < length rows → i < length nexts → 0 < length firsts → number ≡ number_in by (get_or rows i d) →
-    count ≡ length firsts → bucket ≡ number % count → first ≡ slice_index_or firsts bucket first →
-    HoldsFrom rows by firsts nexts (i + 1) → HoldsFrom rows by (slice_set firsts bucket i) (slice_set nexts i first) i
-holds_with rows by firsts nexts i bucket number count first d within inside some number_is count_is bucket_is
-    first_is before =
-    let row = get_or rows i d in
-    let own = number_in by row % length firsts in
-    let is : bucket ≡ own =
-    bucket_is ∙ ap (λ (n : ℕ). n % count) number_is ∙ ap (λ (n : ℕ). number_in by row % n) count_is in
-    let old : first ≡ slice_index_or firsts own 0 =
-    first_is ∙ ap (λ (b : ℕ). slice_index_or firsts b first) is
-    ∙ get_or_default_zero firsts own first (mod_below (number_in by row) (length firsts) some) in
-    subst (λ (b : ℕ). HoldsFrom rows by (slice_set firsts b i) (slice_set nexts i first) i) (sym is)
-    (subst (λ (n : ℕ). HoldsFrom rows by (slice_set firsts own i) (slice_set nexts i n) i) (sym old)
-    (holds_more rows by firsts nexts i row (slice_get-get_or rows i d within) inside some before))
+-- in the order of the numbers they are an index
+pub index_from : (rows : List Row) (by : Key) (n : ℕ) (found : List Found) (index : Index) → length rows ≤ n →
+    AreListed rows by n found → IsPermutation found index.found.items → Rises index.found.items → IsIndexBy rows by index
+index_from rows by n found index all listed moved rises = record {
+  each = λ j row at. Contains-permutation found index.found.items (found_at by row j) moved
+      (listed.each j row (omega (arith, all, slice_get_within rows j row at)) at);
+  only = λ it there. listed.only it (Contains-permutation index.found.items found it
+      (IsPermutation-sym found index.found.items moved) there);
+  rises = rises;
+}
 
--- kinds of another number are other kinds
-pub other_kind : (wanted k : Kind) → wanted ≢ kinds.Any → rank k ≢ rank wanted → is_kind wanted k ≡ false
-other_kind kinds.Any k some apart = absurd (some refl)
-other_kind kinds.Opened kinds.Opened some apart = absurd (apart refl)
-other_kind kinds.Authorise kinds.Authorise some apart = absurd (apart refl)
-other_kind kinds.Override kinds.Override some apart = absurd (apart refl)
-other_kind kinds.Forced kinds.Forced some apart = absurd (apart refl)
-other_kind kinds.Closed kinds.Closed some apart = absurd (apart refl)
-other_kind kinds.Activate kinds.Activate some apart = absurd (apart refl)
-other_kind kinds.Commit kinds.Commit some apart = absurd (apart refl)
-other_kind kinds.Cast kinds.Cast some apart = absurd (apart refl)
-other_kind kinds.Cancel kinds.Cancel some apart = absurd (apart refl)
-other_kind kinds.Challenge kinds.Challenge some apart = absurd (apart refl)
-other_kind wanted k some apart = refl
+-- where the greater of two numbers starts isn't before where the lesser does
+pub starts_rise : (found : List Found) (l h low high : ℕ) → l ≤ h → IsStart found l low → IsStart found h high →
+    low ≤ high
+starts_rise found l h low high rise first second = elim (cases_lt high low) [
+  | inl less ↦
+      let d : Found = record { number = 0; place = 0 } in
+      absurd (omega (
+        arith,
+        rise,
+        first.below high d (omega arith) less,
+        second.from high d (omega arith) (omega (arith, less, first.within)),
+      ))
+  | inr more ↦ omega (arith, more)
+]
 
--- values at rows, one by one and past those that count as true
+-- where the rows of a kind start, and where they end
+pub kind_starts : (held : Kinds) (k : Kind) (r low high : ℕ) → AreStarts held → r ≡ rank k →
+    low ≡ get_or held.starts.items r low → high ≡ get_or held.starts.items (r + 1) high →
+    IsStart held.index.found.items (rank k) low × IsStart held.index.found.items (rank k + 1) high
+kind_starts held k r low high starts is low_is high_is =
+    let below : r + 1 < 12 = omega (arith, is, rank_below k) in
+    let first : get_or held.starts.items r 0 ≡ low =
+    get_or_default held.starts.items r 0 low (omega (arith, below, starts.many)) ∙ sym low_is in
+    let second : get_or held.starts.items (r + 1) 0 ≡ high =
+    get_or_default held.starts.items (r + 1) 0 high (omega (arith, below, starts.many)) ∙ sym high_is in (
+      subst (λ (n : ℕ). IsStart held.index.found.items n low) is
+          (subst (λ (n : ℕ). IsStart held.index.found.items r n) first (starts.each r (omega (arith, below)))),
+      subst (λ (n : ℕ). IsStart held.index.found.items (n + 1) high) is
+          (subst (λ (n : ℕ). IsStart held.index.found.items (r + 1) n) second (starts.each (r + 1) below)),
+    )
+
+-- what stands between two starts are the rows with the numbers between
+pub between_starts : (rows : List Row) (by : Key) (index : Index) (l h low high : ℕ) → IsIndexBy rows by index →
+    l ≤ h → IsStart index.found.items l low → IsStart index.found.items h high →
+    AreRowsOf rows by l h (take (high - low) (drop low index.found.items))
+between_starts rows by index l h low high indexed rise first second = record {
+  each = λ j row at least most. inside (found_at by row j) (indexed.each j row at) least most;
+  only = λ it there. rows_at it (outside it there);
+}
+  where
+    found : List Found
+    found = index.found.items
+
+    -- what stands between them
+    part : List Found
+    part = take (high - low) (drop low found)
+
+    -- how much it is
+    many : length part ≡ high - low
+    many = length-take-le (high - low) (drop low found)
+        (subst (λ (n : ℕ). high - low ≤ n) (sym (length-drop low found)) (omega (arith, second.within)))
+
+    -- and in which order
+    same : (k : ℕ) (d : Found) → k < high - low → get_or part k d ≡ get_or found (low + k) d
+    same k d below = get_or-take (high - low) (drop low found) k d below ∙ get_or-drop low found k d
+
+    -- what has such a number stands there
+    inside : (it : Found) → Contains found it → l ≤ it.number → it.number < h → Contains part it
+    inside it (k, within, is) least most =
+        elim (cases_lt k low) [
+          | inl before ↦
+              absurd (omega (arith, least, ap (λ (o : Found). o.number) is, first.below k it (omega arith) before))
+          | inr from ↦ elim (cases_lt k high) [
+            | inl inner ↦
+                let less : k - low < high - low = omega (arith, from, inner) in
+                let again : low + (k - low) ≡ k = omega (arith, from) in (
+                  k - low,
+                  subst (λ (n : ℕ). k - low < n) (sym many) less,
+                  same (k - low) it less ∙ ap (λ (n : ℕ). get_or found n it) again ∙ is,
+                )
+            | inr over ↦
+                absurd (omega (arith, most, ap (λ (o : Found). o.number) is, second.from k it over within))
+          ]
+        ]
+
+    -- and what stands there has such a number
+    outside : (it : Found) → Contains part it → Contains found it × (l ≤ it.number) × (it.number < h)
+    outside it (k, within, is) =
+        let less : k < high - low = subst (λ (n : ℕ). k < n) many within in
+        let there : get_or found (low + k) it ≡ it = sym (same k it less) ∙ is in
+        let number : (get_or found (low + k) it).number ≡ it.number = ap (λ (o : Found). o.number) there in (
+          (low + k, omega (arith, less, second.within), there),
+          subst (λ (n : ℕ). l ≤ n) number (first.from (low + k) it (omega arith) (omega (arith, less, second.within))),
+          subst (λ (n : ℕ). n < h) number (second.below (low + k) it (omega arith) (omega (arith, less))),
+        )
+
+    -- so it is of a row with it
+    rows_at : (it : Found) → Contains found it × (l ≤ it.number) × (it.number < h) →
+        (row : Row) × (slice_get rows it.place ≡ Some row) × (l ≤ number_in by row) × (number_in by row < h)
+    rows_at it (there, least, most) =
+        let (row, at, is) = indexed.only it there in
+        (row, at, subst (λ (n : ℕ). l ≤ n) is least, subst (λ (n : ℕ). n < h) is most)
+
+-- the kind of a rank
+kind_at : ℕ → Kind
+kind_at n =
+    cond (n == 1) kinds.Opened (cond (n == 2) kinds.Authorise (cond (n == 3) kinds.Override
+    (cond (n == 4) kinds.Forced (cond (n == 5) kinds.Closed (cond (n == 6) kinds.Activate
+    (cond (n == 7) kinds.Commit (cond (n == 8) kinds.Cast (cond (n == 9) kinds.Cancel
+    (cond (n == 10) kinds.Challenge kinds.Any)))))))))
+
+-- no other kind has it
+kind_back : (k : Kind) → kind_at (rank k) ≡ k
+unfolding kind_at
+kind_back kinds.Any = refl
+kind_back kinds.Opened = refl
+kind_back kinds.Authorise = refl
+kind_back kinds.Override = refl
+kind_back kinds.Forced = refl
+kind_back kinds.Closed = refl
+kind_back kinds.Activate = refl
+kind_back kinds.Commit = refl
+kind_back kinds.Cast = refl
+kind_back kinds.Cancel = refl
+kind_back kinds.Challenge = refl
+
+-- each kind is of itself
+own_kind : (k : Kind) → is_kind k k ≡ true
+own_kind kinds.Any = refl
+own_kind kinds.Opened = refl
+own_kind kinds.Authorise = refl
+own_kind kinds.Override = refl
+own_kind kinds.Forced = refl
+own_kind kinds.Closed = refl
+own_kind kinds.Activate = refl
+own_kind kinds.Commit = refl
+own_kind kinds.Cast = refl
+own_kind kinds.Cancel = refl
+own_kind kinds.Challenge = refl
+
+-- a row of a kind has its rank
+same_rank : (wanted k : Kind) → wanted ≢ kinds.Any → is_kind wanted k ≡ true → rank k ≡ rank wanted
+same_rank kinds.Any k some is = absurd (some refl)
+same_rank kinds.Opened kinds.Opened some is = refl
+same_rank kinds.Authorise kinds.Authorise some is = refl
+same_rank kinds.Override kinds.Override some is = refl
+same_rank kinds.Forced kinds.Forced some is = refl
+same_rank kinds.Closed kinds.Closed some is = refl
+same_rank kinds.Activate kinds.Activate some is = refl
+same_rank kinds.Commit kinds.Commit some is = refl
+same_rank kinds.Cast kinds.Cast some is = refl
+same_rank kinds.Cancel kinds.Cancel some is = refl
+same_rank kinds.Challenge kinds.Challenge some is = refl
+same_rank wanted k some is = absurd (false≢true is)
+
+-- any kind has all of a group, and each other its own number
+breadth_cases : (wanted : Kind) → (wanted ≡ kinds.Any) ⊎ ((wanted ≢ kinds.Any) × (breadth wanted ≡ 1))
+breadth_cases kinds.Any = inl refl
+breadth_cases kinds.Opened = inr ((λ is. cc), refl)
+breadth_cases kinds.Authorise = inr ((λ is. cc), refl)
+breadth_cases kinds.Override = inr ((λ is. cc), refl)
+breadth_cases kinds.Forced = inr ((λ is. cc), refl)
+breadth_cases kinds.Closed = inr ((λ is. cc), refl)
+breadth_cases kinds.Activate = inr ((λ is. cc), refl)
+breadth_cases kinds.Commit = inr ((λ is. cc), refl)
+breadth_cases kinds.Cast = inr ((λ is. cc), refl)
+breadth_cases kinds.Cancel = inr ((λ is. cc), refl)
+breadth_cases kinds.Challenge = inr ((λ is. cc), refl)
+
+-- a number of the kind in the group is that of a row of the kind
+in_breadth : (wanted : Kind) (group g : ℕ) (k : Kind) → least_of group wanted ≤ least_of g k →
+    least_of g k < least_of group wanted + breadth wanted → is_kind wanted k ≡ true
+in_breadth wanted group g k least most = elim (breadth_cases wanted) [
+  | inl any ↦ ap (λ (w : Kind). is_kind w k) any
+  | inr (some, one) ↦
+      let same : rank k ≡ rank wanted = omega (arith, least, most, one, rank_below k, rank_below wanted) in
+      let is : k ≡ wanted = sym (kind_back k) ∙ ap kind_at same ∙ kind_back wanted in
+      ap (is_kind wanted) is ∙ own_kind wanted
+]
+
+-- another number in the group is that of a row of another kind
+out_of_breadth : (wanted : Kind) (group g : ℕ) (k : Kind) → g ≡ group →
+    (least_of group wanted ≤ least_of g k → least_of g k < least_of group wanted + breadth wanted → ⊥) →
+    is_kind wanted k ≡ false
+out_of_breadth wanted group g k same out = by (is_kind wanted k) refl
+  where
+    -- where it were of the kind, its number would be one of the kind
+    by : (b : Bool) → is_kind wanted k ≡ b → b ≡ false
+    by false is = refl
+    by true is = absurd (elim (breadth_cases wanted) [
+      | inl any ↦
+          let all : breadth wanted ≡ 16 = ap breadth any in
+          let first : rank wanted ≡ 0 = ap rank any in
+          out (omega (arith, same, first)) (omega (arith, same, first, all, rank_below k))
+      | inr (some, one) ↦
+          let rank_is : rank k ≡ rank wanted = same_rank wanted k some is in
+          out (omega (arith, same, rank_is)) (omega (arith, same, rank_is, one))
+    ])
+
+-- the least of two values in either order
+both_comm : (x y : Three) → both x y ≡ both y x
+both_comm False False = refl
+both_comm False Unknown = refl
+both_comm False True = refl
+both_comm Unknown False = refl
+both_comm Unknown Unknown = refl
+both_comm Unknown True = refl
+both_comm True False = refl
+both_comm True Unknown = refl
+both_comm True True = refl
+
+-- the least of a value and itself
+both_same : (x : Three) → both x x ≡ x
+both_same False = refl
+both_same Unknown = refl
+both_same True = refl
+
+-- what changes nothing changes nothing after another value
+both_kept : (x y z : Three) → both x z ≡ x → both (both x y) z ≡ both x y
+both_kept x y z is =
+    sym (both_assoc x y z) ∙ ap (both x) (both_comm y z) ∙ both_assoc x z y ∙ ap (λ (w : Three). both w y) is
+
+-- a value changes nothing the second time
+both_twice : (x y : Three) → both (both x y) y ≡ both x y
+both_twice x y = sym (both_assoc x y y) ∙ ap (both x) (both_same y)
+
+-- values at rows, one by one
 module _ (rows : List Row) (order : ℕ → ℕ → Three) (wholes : ℕ → Bool) (some : Bool) (body : Formula) (v : ℕ)
     (kind : Kind) (within : Option ℕ) (env : ℕ → Option ℕ) where
   -- the value that a row adds: the body's where the row is meant, and else true
@@ -207,11 +363,9 @@ module _ (rows : List Row) (order : ℕ → ℕ → Three) (wholes : ℕ → Boo
       by false = refl
 
   -- a row of another kind adds nothing
-  pub other_at : (j : ℕ) (row : Row) → slice_get rows j ≡ Some row → kind ≢ kinds.Any → rank row.kind ≢ rank kind →
-      at j ≡ True
-  other_at j row is any apart =
-      ap (λ (b : Bool). cond (b && is_in order within j) (signed some (value j)) True)
-      (ap (has_kind kind) is ∙ other_kind kind row.kind any apart)
+  pub other_at : (j : ℕ) (row : Row) → slice_get rows j ≡ Some row → is_kind kind row.kind ≡ false → at j ≡ True
+  other_at j row is other =
+      ap (λ (b : Bool). cond (b && is_in order within j) (signed some (value j)) True) (ap (has_kind kind) is ∙ other)
 
   -- the least so far and the rest is the least with the row, and the rest after it
   pub step_at : (i : ℕ) (acc : Three) → i < length rows → both acc (rest i) ≡ both (both acc (at i)) (rest (i + 1))
@@ -231,36 +385,6 @@ module _ (rows : List Row) (order : ℕ → ℕ → Three) (wholes : ℕ → Boo
       let none : length rows - i ≡ 0 = omega (arith, over) in
       ap (over_from rows order wholes some body v kind within env i) none
 
-  -- a row that adds nothing may be passed over
-  skip_one : (i : ℕ) → at i ≡ True → rest i ≡ rest (i + 1)
-  skip_one i is = elim (cases_lt i (length rows)) [
-    | inl inside ↦ step_at i True inside ∙ ap (λ (x : Three). both x (rest (i + 1))) is
-    | inr over ↦ no_rest i over ∙ sym (no_rest (i + 1) (omega (arith, over)))
-  ]
-
-  -- and so may any number of such rows
-  skip_by : (d i : ℕ) → ((k : ℕ) → i ≤ k → k < i + d → at k ≡ True) → rest i ≡ rest (i + d)
-  skip_by zero i each = let same : i ≡ i + 0 = omega arith in ap rest same
-  skip_by (suc d) i each =
-      let same : (i + 1) + d ≡ i + suc d = omega arith in
-      skip_one i (each i (omega arith) (omega arith))
-      ∙ skip_by d (i + 1) (λ k low high. each k (omega (arith, low)) (omega (arith, high))) ∙ ap rest same
-
-  -- past rows of other buckets, where each row outside the number counts as true
-  pub skip : (by : Key) (number count i j : ℕ) →
-      ((k : ℕ) (row : Row) → slice_get rows k ≡ Some row → number_in by row ≢ number → at k ≡ True) →
-      IsFirst rows by count (number % count) i j → rest i ≡ rest j
-  skip by number count i j others first =
-      let same : i + (j - i) ≡ j = omega (arith, first.from) in
-      skip_by (j - i) i (λ k low high. passed k (slice_get rows k) low (subst (λ (n : ℕ). k < n) same high) refl)
-      ∙ ap rest same
-    where
-      -- the same of each row in between, by whether there is one
-      passed : (k : ℕ) (o : Option Row) → i ≤ k → k < j → slice_get rows k ≡ o → at k ≡ True
-      passed k None low high is = no_row k is
-      passed k (Some row) low high is =
-          others k row is (λ e. first.none k row low high is (ap (λ (n : ℕ). n % count) e))
-
   -- one row more, by the values as they were found
   pub step_with : (i : ℕ) (acc x new total : Three) → i < length rows → x ≡ at i → new ≡ both acc x →
       total ≡ both acc (rest i) → total ≡ both new (rest (i + 1))
@@ -275,51 +399,160 @@ module _ (rows : List Row) (order : ℕ → ℕ → Three) (wholes : ℕ → Boo
       sym (step_with i acc x new total inside value_is new_is so_far
       ∙ ap (λ (y : Three). both y (rest (i + 1))) (false_is new lost))
 
--- a quantifier over the rows of a bucket
+  -- the least of the rows from a place on isn't above any of them
+  pub below_each : (d i j : ℕ) → i + d ≡ length rows → i ≤ j → j < length rows → both (rest i) (at j) ≡ rest i
+  below_each zero i j all low high = absurd (omega (arith, all, low, high))
+  below_each (suc d) i j all low high =
+      let step : rest i ≡ both (at i) (rest (i + 1)) = step_at i True (omega (arith, all)) in
+      let least : Three = both (at i) (rest (i + 1)) in
+      let kept : both least (at j) ≡ least = elim (cases_eq j i) [
+        | inl same ↦
+            ap (both least) (ap at same) ∙ ap (λ (x : Three). both x (at i)) (both_comm (at i) (rest (i + 1)))
+            ∙ both_twice (rest (i + 1)) (at i) ∙ both_comm (rest (i + 1)) (at i)
+        | inr apart ↦
+            sym (both_assoc (at i) (rest (i + 1)) (at j))
+            ∙ ap (both (at i)) (below_each d (i + 1) j (omega (arith, all)) (omega (arith, low, apart)) high)
+      ] in
+      ap (λ (x : Three). both x (at j)) step ∙ kept ∙ sym step
+
+  -- and a value that isn't above any of them isn't above their least
+  pub above_all : (x : Three) (d i : ℕ) → i + d ≡ length rows →
+      ((j : ℕ) → i ≤ j → j < length rows → both x (at j) ≡ x) → both x (rest i) ≡ x
+  above_all x zero i all each = ap (both x) (no_rest i (omega (arith, all))) ∙ both_true x
+  above_all x (suc d) i all each =
+      let step : rest i ≡ both (at i) (rest (i + 1)) = step_at i True (omega (arith, all)) in
+      ap (both x) step ∙ both_assoc x (at i) (rest (i + 1))
+      ∙ ap (λ (y : Three). both y (rest (i + 1))) (each i (omega arith) (omega (arith, all)))
+      ∙ above_all x d (i + 1) (omega (arith, all)) (λ j low high. each j (omega (arith, low)) high)
+
+-- a quantifier over the rows that it has to go over
 module _ (rows : List Row) (order : ℕ → ℕ → Three) (wholes : ℕ → Bool) (q : Quantifier) (body : Formula)
-    (env : ℕ → Option ℕ) (bucket : Bucket) (serves : IsBucketFor rows order wholes q body env bucket) where
-  -- the least over the rows from a place on
-  abbrev left : ℕ → Three
-  left = rest rows order wholes q.some body q.v q.kind q.within env
+    (env : ℕ → Option ℕ) where
+  -- the value that a row adds
+  abbrev adds : ℕ → Three
+  adds = at rows order wholes q.some body q.v q.kind q.within env
 
-  -- the number of buckets
-  abbrev size : ℕ
-  size = length bucket.index.now.firsts.items
+  -- the quantifier's value
+  abbrev total : Three
+  total = rest rows order wholes q.some body q.v q.kind q.within env 0
 
-  -- a row at the place is in the bucket
-  abbrev IsInside : ℕ → Type 0
-  IsInside i = (row : Row) → slice_get rows i ≡ Some row
-      → number_in bucket.index.now.key row % size ≡ bucket.number % size
+  -- the one that is defined
+  total_is : total ≡ over_rows rows order wholes q.some body q.v q.kind q.within env
+  total_is =
+      let all : length rows - 0 ≡ length rows = omega arith in
+      ap (over_from rows order wholes q.some body q.v q.kind q.within env 0) all
 
-  -- rows between two of the bucket add nothing
-  passed_over : (i j : ℕ) → IsFirst rows bucket.index.now.key size (bucket.number % size) i j → left i ≡ left j
-  passed_over i j first =
-      skip rows order wholes q.some body q.v q.kind q.within env bucket.index.now.key bucket.number size i j
-      serves.others first
+  -- the least so far isn't below the total, and isn't above what any of so many visited rows adds
+  abbrev pub IsLeastSoFar : List Found → ℕ → Three → Type 0
+  IsLeastSoFar found n least =
+      (both total least ≡ total) × AllWithin (λ it. both least (adds it.place) ≡ least) found 0 n
 
-  -- the quantifier's value is the least from the bucket's first row on
-  pub bucket_starts : (i : ℕ) → i ≡ first_in bucket.index.now.firsts.items bucket.number →
-      (over_rows rows order wholes q.some body q.v q.kind q.within env ≡ left i) × IsInside i
-  bucket_starts i is =
-      let index = serves.indexed in
-      let first : IsFirst rows bucket.index.now.key size (bucket.number % size) 0 i =
-      subst (λ (n : ℕ). IsFirst rows bucket.index.now.key size (bucket.number % size) 0 n) (sym is)
-      (index.holds.firsts_are (bucket.number % size) (mod_below bucket.number size index.some)) in
-      let all : length rows ≡ length rows - 0 = omega arith in (
-        ap (over_from rows order wholes q.some body q.v q.kind q.within env 0) all ∙ passed_over 0 i first,
-        first.here,
+  -- one visited row more
+  pub visit_one : (found : List Found) (i : ℕ) (d : Found) (least x new : Three) → i < length found →
+      (get_or found i d).place < length rows → x ≡ adds (get_or found i d).place → new ≡ both least x →
+      IsLeastSoFar found i least → IsLeastSoFar found (i + 1) new
+  visit_one found i d least x new within place value_is new_is (above, below) =
+      let y : Three = adds (get_or found i d).place in
+      let now : both least y ≡ new = sym (new_is ∙ ap (both least) value_is) in
+      subst (IsLeastSoFar found (i + 1)) now (
+        both_assoc total least y ∙ ap (λ (z : Three). both z y) above
+            ∙ below_each rows order wholes q.some body q.v q.kind q.within env (length rows) 0 (get_or found i d).place
+            (omega arith) (omega arith) place,
+        λ k e low high. elim (cases_eq k i) [
+          | inl same ↦
+              let here : get_or found k e ≡ get_or found i d =
+              ap (λ (n : ℕ). get_or found n e) same ∙ get_or_default found i e d within in
+              ap (both (both least y)) (ap (λ (o : Found). adds o.place) here) ∙ both_twice least y
+          | inr apart ↦ both_kept least y (adds (get_or found k e).place) (below k e low (omega (arith, high, apart)))
+        ],
       )
 
-  -- after a row of the bucket the least goes on at the next one in it
-  pub bucket_goes_on : (i next : ℕ) → i < length rows → next ≡ slice_index_or bucket.index.now.nexts.items i 0 →
-      IsInside i → (i < next) × (left (i + 1) ≡ left next) × IsInside next
-  bucket_goes_on i next inside is here = elim (slice_get_cases rows i).1 [
-    | inl (row, within, there, same) ↦
-        let first : IsFirst rows bucket.index.now.key size (bucket.number % size) (i + 1) next =
-        subst (λ (n : ℕ). IsFirst rows bucket.index.now.key size (bucket.number % size) (i + 1) n) (sym is)
-        (subst (λ (b : ℕ). IsFirst rows bucket.index.now.key size b (i + 1)
-        (slice_index_or bucket.index.now.nexts.items i 0)) (here row there)
-        (serves.indexed.holds.nexts_are i row (omega arith) there)) in
-        (omega (arith, first.from), passed_over (i + 1) next first, first.here)
-    | inr (over, none) ↦ absurd (omega (arith, inside, over))
+  -- once the least is false so is the total
+  pub visit_stops : (found : List Found) (i : ℕ) (d : Found) (least x new : Three) → i < length found →
+      (get_or found i d).place < length rows → x ≡ adds (get_or found i d).place → new ≡ both least x →
+      IsLeastSoFar found i least → is_false new ≡ true →
+      False ≡ over_rows rows order wholes q.some body q.v q.kind q.within env
+  visit_stops found i d least x new within place value_is new_is so_far lost =
+      let more : IsLeastSoFar found (i + 1) new =
+      visit_one found i d least x new within place value_is new_is so_far in
+      sym (both_false total) ∙ ap (both total) (sym (false_is new lost)) ∙ more.0 ∙ total_is
+
+  -- and after the last of them the least is the total
+  pub visit_ends : (found : List Found) (n : ℕ) (least : Three) → length found ≤ n →
+      IsVisitedFor rows order wholes q body env found → IsLeastSoFar found n least →
+      least ≡ over_rows rows order wholes q.some body q.v q.kind q.within env
+  visit_ends found n least all visited (above, below) =
+      sym (above_all rows order wholes q.some body q.v q.kind q.within env least (length rows) 0 (omega arith)
+      (λ j low high. changes_nothing j high))
+      ∙ both_comm least total ∙ above ∙ total_is
+    where
+      -- no row is below the least
+      changes_nothing : (j : ℕ) → j < length rows → both least (adds j) ≡ least
+      changes_nothing j high = elim (slice_get_cases rows j).1 [
+        | inl (row, within, there, same) ↦ elim (visited.others j row there) [
+          | inl (it, (k, inside, is), place) ↦
+              ap (both least) (ap adds (sym place ∙ ap (λ (o : Found). o.place) (sym is)))
+              ∙ below k it (omega arith) (omega (arith, inside, all))
+          | inr settles ↦ ap (both least) settles ∙ both_true least
+        ]
+        | inr (over, none) ↦ absurd (omega (arith, high, over))
+      ]
+
+  -- the place of a visited row is that of a row
+  pub visited_within : (found : List Found) (i : ℕ) (d : Found) → IsVisitedFor rows order wholes q body env found →
+      i < length found → (get_or found i d).place < length rows
+  visited_within found i d visited within = elim (slice_get_cases rows (get_or found i d).place).1 [
+    | inl (row, inside, there, same) ↦ inside
+    | inr (over, none) ↦
+        absurd (false≢true (sym (ap (has_kind q.kind) none)
+        ∙ visited.kind (get_or found i d) (Contains-get_or found i d within)))
   ]
+
+-- rows of a kind in a group are those to go over where in every other group the body is settled
+module _ (rows : List Row) (order : ℕ → ℕ → Three) (wholes : ℕ → Bool) (q : Quantifier) (body : Formula)
+    (env : ℕ → Option ℕ) (by : Key) (group : ℕ) (found : List Found)
+    (are : AreRowsOf rows by (least_of group q.kind) (least_of group q.kind + breadth q.kind) found)
+    (settled : (j : ℕ) (row : Row) → slice_get rows j ≡ Some row → group_in by row ≢ group →
+    value_of rows order wholes body (bind q.v j env) ≡ as_three (not q.some)) where
+  -- a row with such a number is of the kind
+  is_of_kind : (it : Found) → Contains found it → has_kind q.kind (slice_get rows it.place) ≡ true
+  is_of_kind it there =
+      let (row, at, least, most) = are.only it there in
+      ap (has_kind q.kind) at ∙ in_breadth q.kind group (group_in by row) row.kind least most
+
+  -- a row of another number is of another group or kind
+  elsewhere : (j : ℕ) (row : Row) → slice_get rows j ≡ Some row →
+      (least_of group q.kind ≤ number_in by row → number_in by row < least_of group q.kind + breadth q.kind → ⊥) →
+      at rows order wholes q.some body q.v q.kind q.within env j ≡ True
+  elsewhere j row there out = elim (cases_eq (group_in by row) group) [
+    | inl same ↦ other_at rows order wholes q.some body q.v q.kind q.within env j row there
+        (out_of_breadth q.kind group (group_in by row) row.kind same out)
+    | inr apart ↦ settled_at rows order wholes q.some body q.v q.kind q.within env j (settled j row there apart)
+  ]
+
+  pub visited_from : IsVisitedFor rows order wholes q body env found
+  visited_from = record {
+    kind = is_of_kind;
+    others = λ j row there.
+        elim (cases_lt (number_in by row) (least_of group q.kind)) [
+          | inl below ↦ inr (elsewhere j row there (λ least most. omega (arith, below, least)))
+          | inr least ↦ elim (cases_lt (number_in by row) (least_of group q.kind + breadth q.kind)) [
+            | inl most ↦ inl (found_at by row j, are.each j row there least most, refl)
+            | inr above ↦ inr (elsewhere j row there (λ least most. omega (arith, above, most)))
+          ]
+        ];
+  }
+
+-- rows of the quantifier's kind are those to go over, if it isn't any
+pub visited_by_kind : (rows : List Row) (order : ℕ → ℕ → Three) (wholes : ℕ → Bool) (q : Quantifier) (body : Formula)
+    (env : ℕ → Option ℕ) (found : List Found) → q.kind ≢ kinds.Any →
+    AreRowsOf rows by_kind.Kind (rank q.kind) (rank q.kind + 1) found → IsVisitedFor rows order wholes q body env found
+visited_by_kind rows order wholes q body env found some are = elim (breadth_cases q.kind) [
+  | inl any ↦ absurd (some any)
+  | inr (apart, one) ↦
+      let least : rank q.kind ≡ least_of 0 q.kind = omega arith in
+      visited_from rows order wholes q body env by_kind.Kind 0 found
+      (subst (λ (n : ℕ). AreRowsOf rows by_kind.Kind (least_of 0 q.kind) (least_of 0 q.kind + n) found) (sym one)
+      (subst (λ (n : ℕ). AreRowsOf rows by_kind.Kind n (n + 1) found) least are))
+      (λ j row there other. absurd (other refl))
+]

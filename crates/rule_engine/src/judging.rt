@@ -11,11 +11,12 @@ ghost use Rattle.rule_meaning.specs.Judging.{
   if_meant,
   unless_ragged,
 };
-ghost use Rattle.rule_engine.specs.inside.Bucket.{IsBucketFor};
 ghost use Rattle.rule_engine.specs.inside.Index.{AreIndexesOf};
+ghost use Rattle.rule_engine.specs.inside.Visited.{IsVisitedFor};
 ghost use Rattle.rule_meaning.specs.Scopes.{BindsRows, env_of};
 
-use crate::quantifier::{Bucket, Quantifier, bucket_for, is_meant, quantifier_over};
+use crate::index::Found;
+use crate::quantifier::{Quantifier, is_meant, quantifier_over, visited_for};
 use crate::survivors::Survivors;
 use entry_order::Three;
 use precedence::Rows;
@@ -131,16 +132,16 @@ pub(crate) fn over_rows(
         (known_whole survivors.now.order.now) quantifier.some body.now quantifier.v
         quantifier.kind quantifier.within (env_of scope.now) }
 {
-    match bucket_for(quantifier, body, scope, survivors) {
-        Some(bucket) => over_bucket(&bucket, quantifier, body, scope, survivors),
+    match visited_for(quantifier, body, scope, survivors) {
+        Some(found) => over_visited(found, quantifier, body, scope, survivors),
         None => over_each(quantifier, body, scope, survivors),
     }
 }
 
-/// The same, where at all rows outside the bucket the formula is settled.
+/// The same, where at all other rows than these the formula is settled.
 #[cycle(judging)]
-fn over_bucket(
-    bucket: &Bucket<'_>,
+fn over_visited(
+    found: &[Found],
     quantifier: Quantifier,
     body: &Formula,
     scope: &Scope<'_>,
@@ -150,20 +151,21 @@ fn over_bucket(
     requires within { BindsRows (length survivors.now.rows.now) scope.now }
     requires indexed { AreIndexesOf survivors.now.rows.now survivors.now.indexes }
     requires node { IfSome quantifier.within (λ u. u < length survivors.now.rows.now) }
-    requires bucket { IsBucketFor survivors.now.rows.now (known_before survivors.now.order.now)
-        (known_whole survivors.now.order.now) quantifier body.now (env_of scope.now) bucket.now }
+    requires visited { IsVisitedFor survivors.now.rows.now (known_before survivors.now.order.now)
+        (known_whole survivors.now.order.now) quantifier body.now (env_of scope.now) found.now }
     ensures { result ≡ over_rows survivors.now.rows.now (known_before survivors.now.order.now)
         (known_whole survivors.now.order.now) quantifier.some body.now quantifier.v
         quantifier.kind quantifier.within (env_of scope.now) }
 {
     let mut least = Three::True;
-    let mut i = bucket.first();
-    'bucket: while i < survivors.rows.len() {
-        least = both(least, value_at(i, quantifier, body, scope, survivors));
+    for it in found {
+        least = both(
+            least,
+            value_at(it.place, quantifier, body, scope, survivors),
+        );
         if is_false(least) {
             return Three::False;
         }
-        i = bucket.after(i);
     }
     least
 }
