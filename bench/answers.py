@@ -16,7 +16,7 @@ NAME = re.compile(r"`([^`]+)`")
 FALLIBLE = re.compile(r"-> (?:Result|Option)<")
 # Crates that compare or measure, and serve no command.
 APART = {
-    "small_worlds", "listed_graphs", "world_orders", "order_speed", "text_speed", "signature_speed",
+    "small_worlds", "listed_graphs", "world_orders", "order_speed", "text_speed", "rule_speed", "signature_speed",
     "auditorium_cli", "auditorium_view",
 }
 
