@@ -1,71 +1,118 @@
--- What is found of a usual entry.
-use Rattle.std.proofs.Common.{◌≡◌, ◌∙◌, ap, sym, subst, ℕ, ◌+◌, ◌<◌, List, [], ◌∷◌, ◌++◌, length, get_or, take}
-use Rattle.std.proofs.Common.{inl, inr, true, false, Some, None, Option}
-use Rattle.std.specs.Prelude.{slice_get, ◌&&◌, ◌==◌, nat_lt, Result, Ok, Err, IfOk, IfSome}
-use Rattle.std.specs.List.{Contains, list_all, list_any}
+-- What is found of the names of an entry, and of a usual one.
+use Rattle.std.proofs.Common.{◌≡◌, ◌∙◌, ap, sym, subst, ℕ, ◌+◌, ◌-◌, ◌<◌, ◌≤◌, List, [], ◌∷◌, ◌++◌, length, get_or}
+use Rattle.std.proofs.Common.{take, inl, inr, arith, false, Some}
+use Rattle.std.specs.Prelude.{slice_get, ◌⊎◌, Option, IfSome}
+use Rattle.std.specs.List.{Contains}
 use Rattle.std.specs.Str.{bytes_eq}
+use Rattle.std.proofs.lemmas.Bool.{cases_lt, true≢false}
 use Rattle.std.proofs.lemmas.List.{take_more}
 use Rattle.std.proofs.lemmas.List.Elements.{Contains-append_left, Contains-push, Contains-push_cases}
-use Rattle.entry_order.proofs.Lists.{Contains-none}
+use Rattle.std.proofs.lemmas.Option.{slice_get-get_or}
+use Rattle.std.proofs.lemmas.Slice.Eq.{bytes_eq-Decides}
 use Rattle.entry_format.specs.SealedEntry.{SealedEntry}
 use Rattle.rule_language.specs.declared.row.Row.{Row}
-use Rattle.live_auditor.specs.inside.Found.{FindsParents, IsUsualBy}
+use Rattle.live_auditor.specs.declared.usual.Usual.{Usual}
+use Rattle.live_auditor.specs.inside.Found.{FindsNames, IsUsualBy}
 
--- of no name there is none
-pub finds_none : (digests : List (List ℕ)) → FindsParents digests [] []
-finds_none digests = record {
-  stands = λ p has. absurd (Contains-none p has);
-  each = λ d has. absurd (Contains-none d has);
-}
+module _ (digests names : List (List ℕ)) (i : ℕ) (d : List ℕ) (within : i < length names) where
+  -- the next name
+  abbrev name : List ℕ
+  name = get_or names i d
 
--- and one name more has one more
-pub finds_more : (digests names : List (List ℕ)) (i : ℕ) (d : List ℕ) (place : ℕ) (parents new : List ℕ) →
-    i < length names → slice_get digests place ≡ Some (get_or names i d) → new ≡ parents ++ place ∷ [] →
-    FindsParents digests (take i names) parents → FindsParents digests (take (i + 1) names) new
-finds_more digests names i d place parents new within at added finds =
-    let name : List ℕ = get_or names i d in
-    let names_next : take (i + 1) names ≡ take i names ++ name ∷ [] = take_more names i d within in
-    record {
-      stands = λ p has. elim (Contains-push_cases parents place p (subst (λ ps. Contains ps p) added has)) [
-        | inl old ↦
-            (let (x, stands, there) = finds.stands p old in (
-              x,
-              stands,
-              subst (λ ds. Contains ds x) (sym names_next)
-                  (Contains-append_left (take i names) (name ∷ []) x there),
-            ))
-        | inr last ↦ (
-          name,
-          ap (slice_get digests) (sym last) ∙ at,
-          subst (λ ds. Contains ds name) (sym names_next) (Contains-push (take i names) name),
-        )
-      ];
-      each = λ x has. elim (Contains-push_cases (take i names) name x (subst (λ ds. Contains ds x) names_next has)) [
-        | inl old ↦
-            (let (p, there, stands) = finds.each x old in
-            (p, subst (λ ps. Contains ps p) (sym added) (Contains-append_left parents (place ∷ []) p there), stands))
-        | inr last ↦ (
-          place,
-          subst (λ ps. Contains ps place) (sym added) (Contains-push parents place),
-          at ∙ ap (λ (y : List ℕ). Some y) last,
-        )
-      ];
-    }
+  -- the names so far, and it
+  names_next : take (i + 1) names ≡ take i names ++ name ∷ []
+  names_next = take_more names i d within
 
--- what finds the parents of a usual entry says that it is one
-pub usual_found : {V E : Type 0} (items : V → List ℕ) (added : List SealedEntry) (gaps digests names : List (List ℕ))
-    (rows : List Row) (e : SealedEntry) (found : Result (Option V) E) → length digests < 16384 →
-    list_all (λ (f : SealedEntry). nat_lt f.entry.stamp e.entry.stamp) added ≡ true →
-    list_any (λ d. bytes_eq d e.digest) gaps ≡ false →
-    list_any (λ (row : Row). (row.maker == e.entry.maker) && (row.number == e.entry.number)) rows ≡ false →
-    names ≡ e.entry.names → IfOk found (λ o. IfSome o (λ v. FindsParents digests names (items v))) →
-    IfOk found (λ o. IfSome o (λ v. IsUsualBy added gaps digests rows e (items v)))
-usual_found items added gaps digests names rows e (Err fault) few latest closes fork same finds = tt
-usual_found items added gaps digests names rows e (Ok None) few latest closes fork same finds = tt
-usual_found items added gaps digests names rows e (Ok (Some v)) few latest closes fork same finds = record {
-  few = few;
-  latest = latest;
-  closes_none = closes;
-  no_fork = fork;
-  finds = subst (λ (ns : List (List ℕ)). FindsParents digests ns (items v)) same finds;
-}
+  -- one of those so far is one of these
+  still : (x : List ℕ) → Contains (take i names) x → Contains (take (i + 1) names) x
+  still x has =
+      subst (λ ds. Contains ds x) (sym names_next) (Contains-append_left (take i names) (name ∷ []) x has)
+
+  -- and so is the next
+  here : Contains (take (i + 1) names) name
+  here = subst (λ ds. Contains ds name) (sym names_next) (Contains-push (take i names) name)
+
+  -- one of these is one of those so far, or the next
+  either : (x : List ℕ) → Contains (take (i + 1) names) x → Contains (take i names) x ⊎ (name ≡ x)
+  either x has = Contains-push_cases (take i names) name x (subst (λ ds. Contains ds x) names_next has)
+
+  -- a name that stands at a place has a parent more
+  pub finds_place : (place : ℕ) (parents new : List ℕ) (missing also : List (List ℕ)) →
+      slice_get digests place ≡ Some name → new ≡ parents ++ place ∷ [] → also ≡ missing →
+      FindsNames digests (take i names) parents missing → FindsNames digests (take (i + 1) names) new also
+  finds_place place parents new missing also at added same finds =
+      subst (FindsNames digests (take (i + 1) names) new) (sym same) (record {
+        stands = λ p has. elim (Contains-push_cases parents place p (subst (λ ps. Contains ps p) added has)) [
+          | inl old ↦ (let (x, stands, there) = finds.stands p old in (x, stands, still x there))
+          | inr last ↦ (name, ap (slice_get digests) (sym last) ∙ at, here)
+        ];
+        each = λ x has. elim (either x has) [
+          | inl old ↦ elim (finds.each x old) [
+            | inl (p, there, stands) ↦
+                (let has = subst (λ ps. Contains ps p) (sym added)
+                (Contains-append_left parents (place ∷ []) p there) in
+                inl (p, has, stands))
+            | inr lacked ↦ inr lacked
+          ]
+          | inr last ↦ inl (
+            place,
+            subst (λ ps. Contains ps place) (sym added) (Contains-push parents place),
+            at ∙ ap (λ (y : List ℕ). Some y) last,
+          )
+        ];
+        lacks = λ x has. (still x (finds.lacks x has).0, (finds.lacks x has).1);
+      })
+
+  -- and one that stands at none is missing
+  pub finds_missing : (parents also : List ℕ) (missing new : List (List ℕ)) → (Contains digests name → ⊥) →
+      also ≡ parents → new ≡ missing ++ name ∷ [] → FindsNames digests (take i names) parents missing →
+      FindsNames digests (take (i + 1) names) also new
+  finds_missing parents also missing new none same added finds =
+      subst (λ ps. FindsNames digests (take (i + 1) names) ps new) (sym same) (record {
+        stands = λ p has. let (x, stands, there) = finds.stands p has in (x, stands, still x there);
+        each = λ x has. elim (either x has) [
+          | inl old ↦ elim (finds.each x old) [
+            | inl found ↦ inl found
+            | inr lacked ↦
+                inr (subst (λ ds. Contains ds x) (sym added) (Contains-append_left missing (name ∷ []) x lacked))
+          ]
+          | inr last ↦
+              inr (subst (λ y. Contains new y) last
+              (subst (λ ds. Contains ds name) (sym added) (Contains-push missing name)))
+        ];
+        lacks = λ x has. elim (Contains-push_cases missing name x (subst (λ ds. Contains ds x) added has)) [
+          | inl old ↦ (still x (finds.lacks x old).0, (finds.lacks x old).1)
+          | inr last ↦ subst (λ y. Contains (take (i + 1) names) y × (Contains digests y → ⊥)) last (here, none)
+        ];
+      })
+
+-- a digest that stands at no place isn't contained
+pub stands_nowhere : (digests : List (List ℕ)) (d : List ℕ) →
+    ((k : ℕ) → k < length digests → slice_get digests k ≡ Some d → ⊥) → Contains digests d → ⊥
+stands_nowhere digests d none (k, within, is) =
+    none k within (slice_get-get_or digests k d within ∙ ap (λ (x : List ℕ). Some x) is)
+
+-- a digest that stands at no later place, and not at the one before, stands at none from there on
+pub looked_at : (digests : List (List ℕ)) (d : List ℕ) (place : ℕ) (item : List ℕ) →
+    slice_get digests (place - 1) ≡ Some item → bytes_eq item d ≡ false →
+    ((k : ℕ) → place ≤ k → k < length digests → slice_get digests k ≡ Some d → ⊥) →
+    (k : ℕ) → place - 1 ≤ k → k < length digests → slice_get digests k ≡ Some d → ⊥
+looked_at digests d place item stands other none k past low at = elim (cases_lt k place) [
+  | inl under ↦
+      (let here : k ≡ place - 1 = omega (arith, under, past) in
+      let one : Some item ≡ Some d = sym stands ∙ ap (slice_get digests) (sym here) ∙ at in
+      let same : item ≡ d = cc in
+      true≢false (sym ((bytes_eq-Decides item d).1 same) ∙ other))
+  | inr later ↦ none k later low at
+]
+
+-- what is found of a usual entry says that it is one
+pub usual_found : (added : List SealedEntry) (seen gaps digests : List (List ℕ)) (rows : List Row) (e : SealedEntry)
+    (found : Option Usual) (usual : Usual) → seen ≡ gaps → found ≡ Some usual →
+    IfSome found (λ u. IsUsualBy added seen digests rows e u.named.parents.items u.named.missing.items) →
+    IsUsualBy added gaps digests rows e usual.named.parents.items usual.named.missing.items
+usual_found added seen gaps digests rows e found usual same is shown =
+    let there = subst (λ (o : Option Usual).
+    IfSome o (λ u. IsUsualBy added seen digests rows e u.named.parents.items u.named.missing.items)) is shown in
+    subst (λ (ds : List (List ℕ)).
+    IsUsualBy added ds digests rows e usual.named.parents.items usual.named.missing.items) same there

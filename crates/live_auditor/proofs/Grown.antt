@@ -1,47 +1,40 @@
 -- The graph with a usual entry more.
-use Rattle.std.proofs.Common.{◌≡◌, ◌∙◌, ap, sym, subst, ℕ, ◌<◌, true, false}
+use Rattle.std.proofs.Common.{◌≡◌, ◌∙◌, ap, refl, sym, subst, ℕ, suc, ◌<◌, true, false}
 use Rattle.std.proofs.Common.{Some, List, [], ◌∷◌, ◌++◌, length, get_or, arith, inl, inr}
 use Rattle.std.proofs.Common.{length-append}
-use Rattle.std.specs.Prelude.{slice_get, ◌↔◌, ◌⊎◌}
+use Rattle.std.specs.Prelude.{slice_get, not, ◌==◌, ◌↔◌, ◌⊎◌}
 use Rattle.std.specs.List.{Contains}
-use Rattle.std.proofs.lemmas.Bool.{cases_Bool, cases_order}
-use Rattle.std.proofs.lemmas.List.Elements.{Contains-append_left, Contains-push, Contains-push_cases, Contains-get_or}
+use Rattle.std.proofs.lemmas.Bool.{cases_Bool, cases_order, true≢false}
+use Rattle.std.proofs.lemmas.List.Elements.{Contains-append_left, Contains-append_right, Contains-append_cases}
+use Rattle.std.proofs.lemmas.List.Elements.{Contains-push, Contains-push_cases, Contains-get_or}
 use Rattle.std.proofs.lemmas.List.Quantifiers.{all_pairs_push}
-use Rattle.std.proofs.lemmas.Option.{slice_get_within, slice_get_past, get_or_from_slice_get}
+use Rattle.std.proofs.lemmas.Option.{slice_get_within, slice_get_past}
+use Rattle.entry_order.specs.Ascending.{ascending}
 use Rattle.entry_order.specs.Ancestors.{Descends}
 use Rattle.entry_order.specs.Node.{Node}
-use Rattle.entry_order.specs.Naming.{Names, IsNew, IsBorneIn}
+use Rattle.entry_order.specs.Naming.{Names, IsNew, IsBorneIn, IsNamedIn}
 use Rattle.entry_order.specs.Settled.{IsGraphOf, NamesNoGap}
 use Rattle.entry_order.specs.Survivors.{IsStray, is_stray, survivors, gaps, IsGaps}
+use Rattle.entry_order.proofs.Ascending.{Contains-ascending, Contains-ascending_cases, ascending_ascending}
 use Rattle.entry_order.proofs.Completions.{gaps_are_unique}
-use Rattle.entry_order.proofs.Lists.{Contains-none}
+use Rattle.entry_order.proofs.Lists.{Contains-head, Contains-none}
 use Rattle.entry_order.proofs.Strays.{is_stray_of, is_stray_from, survivors_are_no_strays}
 use Rattle.entry_graph.specs.EntryGraph.{EntryGraph, Links, parents_in, ragged_in, parents_of, ragged_of, IsLower}
 use Rattle.entry_graph.specs.EntryGraph.{AreStrays, IsFork, AreForks, IsGraphOfGiven}
-use Rattle.live_auditor.specs.inside.Usual.{IsUsual, AreParents, grown}
-use Rattle.live_auditor.proofs.Unreached.{slice_get_old, slice_get_last}
+use Rattle.live_auditor.specs.inside.Kept.{link_to}
+use Rattle.live_auditor.specs.inside.Usual.{IsUsual, AreParents, AreMissing, grown}
+use Rattle.live_auditor.proofs.Ends.{slice_get_old, slice_get_last, at_cases, at_contains}
 
--- a place of a list with one element more is one of the list, or the last
-at_cases : {X : Type 0} (xs : List X) (x : X) (i : ℕ) (y : X) → slice_get (xs ++ x ∷ []) i ≡ Some y →
-    ((i < length xs) × (slice_get xs i ≡ Some y)) ⊎ ((i ≡ length xs) × (y ≡ x))
-at_cases xs x i y at = by (cases_order i (length xs))
-  where
-    -- by how the place stands to the end of the list
-    by : (i ≡ length xs) ⊎ ((i < length xs) ⊎ (length xs < i)) →
-        ((i < length xs) × (slice_get xs i ≡ Some y)) ⊎ ((i ≡ length xs) × (y ≡ x))
-    by (inl end) =
-        let last : Some x ≡ Some y = sym (slice_get_last xs x) ∙ ap (slice_get (xs ++ x ∷ [])) (sym end) ∙ at in
-        let same : y ≡ x = cc in inr (end, same)
-    by (inr (inl low)) = inl (low, sym (slice_get_old xs x i low) ∙ at)
-    by (inr (inr past)) =
-        let within = slice_get_within (xs ++ x ∷ []) i y at in
-        absurd (omega (arith, length-append xs (x ∷ []), within, past))
+-- a list without members is empty, as its length shows
+empty_has_none : (ds : List (List ℕ)) → not (length ds == 0) ≡ false → (d : List ℕ) → Contains ds d → ⊥
+empty_has_none [] is d has = Contains-none d has
+empty_has_none (c ∷ ds) is d has =
+    let some : (suc (length ds) == 0) ≡ false = grind arith in
+    absurd (true≢false (sym (ap not some) ∙ is))
 
--- what stands at a place of a list is contained
-pub at_contains : {X : Type 0} (xs : List X) (i : ℕ) (x : X) → slice_get xs i ≡ Some x → Contains xs x
-at_contains xs i x at =
-    subst (λ y. Contains xs y) (get_or_from_slice_get xs i x x at)
-    (Contains-get_or xs i x (slice_get_within xs i x at))
+none_is_empty : (ds : List (List ℕ)) → ((d : List ℕ) → Contains ds d → ⊥) → not (length ds == 0) ≡ false
+none_is_empty [] none = refl
+none_is_empty (d ∷ ds) none = absurd (none d (Contains-head d ds))
 
 module _ {T : Type 0} (node : T → Node) (given : List T) (graph : EntryGraph T)
     (is : IsGraphOfGiven node given graph) (e : T) (new : IsNew node given e) (usual : IsUsual node given graph e) where
@@ -75,10 +68,6 @@ module _ {T : Type 0} (node : T → Node) (given : List T) (graph : EntryGraph T
   not_named : (x : T) → Contains S x → Names node x e → ⊥
   not_named x has names = usual.closes_none ((gaps_are.members (node e).digest).1 ((x, has, names), not_borne))
 
-  -- it doesn't name itself
-  not_itself : Names node e e → ⊥
-  not_itself names = not_borne (usual.names_survivors (node e).digest names)
-
   -- the others are strays as before
   stray_before : (x : T) → Contains given x → IsStray node more x → IsStray node given x
   stray_before x has (g, there, names, late) = elim (Contains-push_cases given e g there) [
@@ -105,7 +94,7 @@ module _ {T : Type 0} (node : T → Node) (given : List T) (graph : EntryGraph T
   itself_no_stray : IsStray node more e → ⊥
   itself_no_stray (g, there, names, late) = elim (Contains-push_cases given e g there) [
     | inl old ↦ (let low = usual.latest g old in omega (arith, low, late))
-    | inr same ↦ not_itself (subst (λ y. Contains (node e).names (node y).digest) (sym same) names)
+    | inr same ↦ usual.not_itself (subst (λ y. Contains (node e).names (node y).digest) (sym same) names)
   ]
 
   -- so the survivors are those before and it
@@ -147,34 +136,6 @@ module _ {T : Type 0} (node : T → Node) (given : List T) (graph : EntryGraph T
     );
   }
 
-  -- the gaps are those before
-  gaps_grown : graph.gaps ≡ gaps node next
-  gaps_grown = (gaps_are_unique node next graph.gaps).1 (record {
-    rises = gaps_are.rises;
-    members = λ d. (
-      λ has.
-          (let ((x, there, names), none) = (gaps_are.members d).0 has in (
-            (x, Contains-append_left S (e ∷ []) x there, names),
-            λ (y, at, same). elim (Contains-push_cases S e y at) [
-              | inl old ↦ none (y, old, same)
-              | inr last ↦
-                  usual.closes_none
-                  (subst (λ c. Contains graph.gaps c) (sym (ap (λ z. (node z).digest) last ∙ same)) has)
-            ],
-          )),
-      λ ((x, there, names), none).
-          elim (Contains-push_cases S e x there) [
-            | inl old ↦
-                (gaps_are.members d).1
-                ((x, old, names), λ (y, at, same). none (y, Contains-append_left S (e ∷ []) y at, same))
-            | inr last ↦
-                (let (y, at, same) =
-                usual.names_survivors d (subst (λ z. Contains (node z).names d) (sym last) names) in
-                absurd (none (y, Contains-append_left S (e ∷ []) y at, same)))
-          ],
-    );
-  })
-
   -- the forks are those before
   fork_before : (m n : ℕ) → IsFork node next m n → IsFork node S m n
   fork_before m n (f, g, has, also, differ, fm, fn, gm, gn) =
@@ -204,10 +165,72 @@ module _ {T : Type 0} (node : T → Node) (given : List T) (graph : EntryGraph T
     );
   }
 
-  module _ (parents : List ℕ) (are : AreParents node S e parents) where
+  module _ (parents : List ℕ) (are : AreParents node S e parents) (missing : List (List ℕ))
+      (lack : AreMissing node S e missing) where
+    -- a gap stays one
+    gap_stays : (d : List ℕ) → Contains graph.gaps d → IsNamedIn node next d × (¬ (IsBorneIn node next d))
+    gap_stays d has =
+        let ((x, there, names), none) = (gaps_are.members d).0 has in (
+          (x, Contains-append_left S (e ∷ []) x there, names),
+          λ (y, at, same). elim (Contains-push_cases S e y at) [
+            | inl old ↦ none (y, old, same)
+            | inr last ↦
+                usual.closes_none
+                (subst (λ c. Contains graph.gaps c) (sym (ap (λ z. (node z).digest) last ∙ same)) has)
+          ],
+        )
+
+    -- what it names and no survivor has is one
+    missing_is_gap : (d : List ℕ) → Contains missing d → IsNamedIn node next d × (¬ (IsBorneIn node next d))
+    missing_is_gap d has =
+        let (names, none) = (lack d).0 has in (
+          (e, Contains-push S e, names),
+          λ (y, at, same). elim (Contains-push_cases S e y at) [
+            | inl old ↦ none (y, old, same)
+            | inr last ↦
+                usual.not_itself
+                (subst (λ c. Contains (node e).names c) (sym (ap (λ z. (node z).digest) last ∙ same)) names)
+          ],
+        )
+
+    -- what none has then no survivor has
+    unborne : (d : List ℕ) → (IsBorneIn node next d → ⊥) → IsBorneIn node S d → ⊥
+    unborne d none (y, at, same) = none (y, Contains-append_left S (e ∷ []) y at, same)
+
+    -- so there are no other gaps
+    gap_is_one : (d : List ℕ) → IsNamedIn node next d → (IsBorneIn node next d → ⊥) → Contains (graph.gaps ++ missing) d
+    gap_is_one d (x, there, names) none = elim (Contains-push_cases S e x there) [
+      | inl old ↦
+          Contains-append_left graph.gaps missing d ((gaps_are.members d).1 ((x, old, names), unborne d none))
+      | inr last ↦
+          Contains-append_right graph.gaps missing d
+          ((lack d).1 (subst (λ z. Contains (node z).names d) (sym last) names, unborne d none))
+    ]
+
+    gaps_grown : ascending (graph.gaps ++ missing) ≡ gaps node next
+    gaps_grown = (gaps_are_unique node next (ascending (graph.gaps ++ missing))).1 (record {
+      rises = ascending_ascending (graph.gaps ++ missing);
+      members = λ d. (
+        λ has. elim (Contains-append_cases graph.gaps missing d
+            (Contains-ascending_cases (graph.gaps ++ missing) d has)) [
+              | inl old ↦ gap_stays d old
+              | inr lacked ↦ missing_is_gap d lacked
+            ],
+        λ (named, none). Contains-ascending (graph.gaps ++ missing) d (gap_is_one d named none),
+      );
+    })
+
+    -- a survivor that names a gap named it before
+    old_gap : (x : T) → Contains S x → (d : List ℕ) → Contains (node x).names d → Contains (gaps node next) d →
+        Contains (gaps node S) d
+    old_gap x has d names gap =
+        let all : IsGaps node next (gaps node next) = (gaps_are_unique node next (gaps node next)).0 refl in
+        subst (λ ds. Contains ds d) is.kept.gaps
+        ((gaps_are.members d).1 ((x, has, names), unborne d ((all.members d).0 gap).1))
+
     -- what is linked, with the last one
     abbrev links : List Links
-    links = graph.links ++ record { parents = parents; ragged = false } ∷ []
+    links = graph.links ++ link_to parents missing ∷ []
 
     -- there are as many links as survivors
     count : length graph.links ≡ length S
@@ -218,32 +241,32 @@ module _ {T : Type 0} (node : T → Node) (given : List T) (graph : EntryGraph T
     arrows = is.kept.linked.arrows
 
     -- the parents of the others are as before
-    pub parents_old : (i : ℕ) → i < length S → parents_of links i ≡ parents_of graph.links i
+    parents_old : (i : ℕ) → i < length S → parents_of links i ≡ parents_of graph.links i
     parents_old i low =
-        ap parents_in (slice_get_old graph.links (record { parents = parents; ragged = false }) i
+        ap parents_in (slice_get_old graph.links (link_to parents missing) i
         (subst (λ n. i < n) (sym count) low))
 
-    pub ragged_old : (i : ℕ) → i < length S → ragged_of links i ≡ ragged_of graph.links i
+    ragged_old : (i : ℕ) → i < length S → ragged_of links i ≡ ragged_of graph.links i
     ragged_old i low =
-        ap ragged_in (slice_get_old graph.links (record { parents = parents; ragged = false }) i
+        ap ragged_in (slice_get_old graph.links (link_to parents missing) i
         (subst (λ n. i < n) (sym count) low))
 
     -- those of the last are these
     parents_last : parents_of links (length S) ≡ parents
     parents_last =
         ap (parents_of links) (sym count)
-        ∙ ap parents_in (slice_get_last graph.links (record { parents = parents; ragged = false }))
+        ∙ ap parents_in (slice_get_last graph.links (link_to parents missing))
 
-    ragged_last : ragged_of links (length S) ≡ false
+    ragged_last : ragged_of links (length S) ≡ not (length missing == 0)
     ragged_last =
         ap (ragged_of links) (sym count)
-        ∙ ap ragged_in (slice_get_last graph.links (record { parents = parents; ragged = false }))
+        ∙ ap ragged_in (slice_get_last graph.links (link_to parents missing))
 
-    -- and behind it there is none
+    -- and after it there is none
     parents_past : (i : ℕ) → length S < i → parents_of links i ≡ []
     parents_past i past =
         ap parents_in (slice_get_past links i
-        (omega (arith, count, past, length-append graph.links (record { parents = parents; ragged = false } ∷ []))))
+        (omega (arith, count, past, length-append graph.links (link_to parents missing ∷ []))))
 
     -- a parent of one before is one of its parents before; one of the last is a survivor that it names
     parent_cases : (i p : ℕ) → Contains (parents_of links i) p →
@@ -320,11 +343,11 @@ module _ {T : Type 0} (node : T → Node) (given : List T) (graph : EntryGraph T
               let within = slice_get_within S p g at in
               absurd (omega (arith, within, there))),
           λ names.
-              absurd (not_itself (subst (λ y. Contains (node e).names (node y).digest) also
+              absurd (usual.not_itself (subst (λ y. Contains (node e).names (node y).digest) also
               (subst (λ y. Contains (node y).names (node f).digest) last names))),
         )
 
-    -- one before names a gap as before, and the last none
+    -- one before names a gap as before, and the last one if it names what no survivor has
     shown_grown : (i : ℕ) (x : T) → slice_get next i ≡ Some x → (ragged_of links i ≡ false) ↔ NamesNoGap node next x
     shown_grown i x at_x = by (at_cases S e i x at_x)
       where
@@ -334,15 +357,24 @@ module _ {T : Type 0} (node : T → Node) (given : List T) (graph : EntryGraph T
         by (inl (low, old)) = (
           λ sound d names has.
               (arrows.gaps_shown i x old).0 (sym (ragged_old i low) ∙ sound) d names
-              (subst (λ ds. Contains ds d) (sym gaps_grown ∙ is.kept.gaps) has),
+              (old_gap x (at_contains S i x old) d names has),
           λ none. ragged_old i low ∙ (arrows.gaps_shown i x old).1 (λ d names has.
-              none d names (subst (λ ds. Contains ds d) (sym is.kept.gaps ∙ gaps_grown) has)),
+              none d names (subst (λ ds. Contains ds d) gaps_grown
+              (Contains-ascending (graph.gaps ++ missing) d
+              (Contains-append_left graph.gaps missing d (subst (λ ds. Contains ds d) (sym is.kept.gaps) has))))),
         )
         by (inr (end, last)) = (
           λ sound d names has.
-              (let borne = usual.names_survivors d (subst (λ y. Contains (node y).names d) last names) in
-              ((gaps_are.members d).0 (subst (λ ds. Contains ds d) (sym gaps_grown) has)).1 borne),
-          λ none. ap (ragged_of links) end ∙ ragged_last,
+              (let all : IsGaps node next (gaps node next) = (gaps_are_unique node next (gaps node next)).0 refl in
+              empty_has_none missing (sym (ap (ragged_of links) end ∙ ragged_last) ∙ sound) d
+              ((lack d).1 (
+                subst (λ y. Contains (node y).names d) last names,
+                unborne d ((all.members d).0 has).1,
+              ))),
+          λ none. ap (ragged_of links) end ∙ ragged_last ∙ none_is_empty missing (λ d has.
+              none d (subst (λ y. Contains (node y).names d) (sym last) ((lack d).0 has).0)
+              (subst (λ ds. Contains ds d) gaps_grown
+              (Contains-ascending (graph.gaps ++ missing) d (Contains-append_right graph.gaps missing d has)))),
         )
 
     single_grown : (i j : ℕ) (x : T) → slice_get next i ≡ Some x → slice_get next j ≡ Some x → i ≡ j
@@ -361,7 +393,7 @@ module _ {T : Type 0} (node : T → Node) (given : List T) (graph : EntryGraph T
         by (inr (end, last)) (inr (there, also)) = end ∙ sym there
 
     -- so it is the graph of the entries and this one
-    pub is_grown : length S < 16384 → IsGraphOfGiven node more (grown graph e parents)
+    pub is_grown : length S < 16384 → IsGraphOfGiven node more (grown graph e parents missing)
     is_grown room = record {
       kept = record {
         few = omega (arith, length-append S (e ∷ []), room);
@@ -373,7 +405,7 @@ module _ {T : Type 0} (node : T → Node) (given : List T) (graph : EntryGraph T
             arith,
             count,
             length-append S (e ∷ []),
-            length-append graph.links (record { parents = parents; ragged = false } ∷ []),
+            length-append graph.links (link_to parents missing ∷ []),
           );
           arrows = record {
             descends = descends_grown;

@@ -1,5 +1,5 @@
 -- What is kept of survivors, read off a graph.
-use Rattle.std.proofs.Common.{◌≡◌, ◌∙◌, ap, refl, sym, subst, ℕ, zero, suc, Bool, ◌+◌, ◌<◌, ◌≤◌, List, [], ◌∷◌, ◌++◌}
+use Rattle.std.proofs.Common.{◌≡◌, ◌∙◌, ap, refl, sym, subst, ℕ, zero, suc, Bool, ◌+◌, ◌<◌, List, [], ◌∷◌, ◌++◌}
 use Rattle.std.proofs.Common.{map, length}
 use Rattle.std.proofs.Common.{get_or, take, arith, length-append, inl, inr, Some, None, Option}
 use Rattle.std.specs.Prelude.{slice_get, Result, Ok, Err, All, IfOk, IfSome}
@@ -20,17 +20,18 @@ use Rattle.rule_language.specs.declared.formula.Rule.{Rule}
 use Rattle.rule_language.specs.declared.row.Row.{Row}
 use Rattle.rule_language.specs.Forms.{rule_tree}
 use Rattle.rule_language.specs.Trees.{RuleTree}
+use Rattle.rule_engine.specs.declared.verdict.Verdict.{Verdict}
 use Rattle.auditor.specs.Rows.{HaveMakers, row_of}
 use Rattle.live_auditor.specs.Adding.{HasRoomFor}
 use Rattle.live_auditor.specs.Live.{IsOfMachine}
 use Rattle.live_auditor.specs.Summary.{Summary}
 use Rattle.live_auditor.specs.declared.summary.Summed.{Summed}
+use Rattle.live_auditor.specs.inside.Grown.{said_with, kept_with}
 use Rattle.live_auditor.specs.inside.Kept.{SurvivorsKept, IsKept, IsSummed}
 use Rattle.live_auditor.specs.inside.KeptOf.{IsSummedBy, kept_of}
 use Rattle.live_auditor.proofs.Additions.{once_more}
-use Rattle.live_auditor.proofs.Grown.{at_contains}
+use Rattle.live_auditor.proofs.Ends.{at_contains}
 use Rattle.live_auditor.proofs.Steps.{mapped_at}
-use Rattle.live_auditor.proofs.Unreached.{slice_get_old, slice_get_last}
 
 -- the first elements, mapped, and one more
 pub mapped_more : {X Y : Type 0} (f : X → Y) (xs : List X) (i : ℕ) (x : X) (y : Y) (ys new : List Y) → i < length xs →
@@ -109,6 +110,25 @@ kept_more machines rules trees added entries now before summary old kept e is of
       survivors = moved.survivors;
     }
 
+-- so it does with a survivor more, as what is said and kept is then put together
+pub kept_grown : (machines : List Post) (rules seen : List Rule) (added listed now : List SealedEntry)
+    (before summary : Summary) (old kept : SurvivorsKept) (e : SealedEntry) (gaps : List (List ℕ))
+    (verdicts : List Verdict) (rows : List Row) (link : Links) →
+    IsKept (record { machines = machines; rules = rules; added = added; summary = before }) old →
+    IsOfMachine machines e → HasRoomFor added e → seen ≡ rules → listed ≡ added → now ≡ added ++ e ∷ [] →
+    summary ≡ said_with before gaps verdicts → kept ≡ kept_with old e.digest rows link →
+    IsSummed machines (map rule_tree seen) (listed ++ e ∷ []) (said_with before gaps verdicts)
+    (kept_with old e.digest rows link) →
+    IsKept (record { machines = machines; rules = rules; added = now; summary = summary }) kept
+kept_grown machines rules seen added listed now before summary old kept e gaps verdicts rows link is of_machine room
+    same all stands said held summed =
+    let trees = map rule_tree seen in
+    let moved = subst (λ (k : SurvivorsKept). IsSummed machines trees (listed ++ e ∷ []) summary k) (sym held)
+    (subst (λ (s : Summary). IsSummed machines trees (listed ++ e ∷ []) s (kept_with old e.digest rows link)) (sym said)
+    summed) in
+    kept_more machines rules trees added (listed ++ e ∷ []) now before summary old kept e is of_machine room
+    (ap (λ (es : List SealedEntry). es ++ e ∷ []) all) stands (ap (map rule_tree) same) moved
+
 -- the only survivor of one entry is this entry
 alone : (e x : SealedEntry) (entries : List SealedEntry) (graph : EntryGraph SealedEntry) → entries ≡ e ∷ [] →
     IsSealedGraph entries (Ok graph) → Contains graph.survivors x → x ≡ e
@@ -133,18 +153,6 @@ row_is machines e entries graph (Ok (Some row)) one graphed first =
 pub same_links : (parents others : List ℕ) (ragged torn : Bool) → parents ≡ others → ragged ≡ torn →
     ◌≡◌ {A = Links} (record { parents = parents; ragged = ragged }) (record { parents = others; ragged = torn })
 same_links parents others ragged torn p r = λ j. record { parents = p j; ragged = r j }
-
--- the parents at a place before the last are those of the link there
-pub parents_at : (links : List Links) (last : Links) (i : ℕ) (d : Links) → i < length links →
-    (get_or links i d).parents ≡ parents_of (links ++ last ∷ []) i
-parents_at links last i d low = sym (ap parents_in (slice_get_old links last i low ∙ slice_get-get_or links i d low))
-
--- and at the last place those of the last
-pub parents_end : (links : List Links) (last : Links) (i : ℕ) → length links ≤ i →
-    i < length (links ++ last ∷ []) → last.parents ≡ parents_of (links ++ last ∷ []) i
-parents_end links last i past within =
-    let end : length links ≡ i = omega (arith, past, within, length-append links (last ∷ [])) in
-    sym (ap (parents_of (links ++ last ∷ [])) (sym end) ∙ ap parents_in (slice_get_last links last))
 
 -- one entry of a machine has a maker
 pub makers_one : (machines : List Post) (e : SealedEntry) (entries : List SealedEntry) → entries ≡ e ∷ [] →

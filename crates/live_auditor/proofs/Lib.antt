@@ -1,11 +1,10 @@
 pub mod OneEntry
 pub mod Additions
 pub mod OneSummary
-pub mod Unreached
+pub mod Ends
 pub mod Grown
 pub mod Agreements
-pub mod Changed
+pub mod Judged
 pub mod Steps
 pub mod Kept
-pub mod Reaches
 pub mod Finds

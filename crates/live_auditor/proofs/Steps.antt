@@ -1,22 +1,22 @@
 -- A usual entry more: what is kept, and what is said then.
-use Rattle.std.proofs.Common.{◌≡◌, ◌∙◌, ap, refl, sym, subst, ℕ, ◌+◌, ◌<◌, ◌≤◌, Bool, true, false}
+use Rattle.std.proofs.Common.{◌≡◌, ◌∙◌, ap, refl, sym, subst, ℕ, ◌<◌, ◌≤◌, Bool, true, false}
 use Rattle.std.proofs.Common.{Option, Some, None, List, [], ◌∷◌, ◌++◌, map, length, arith, length-append, inl, inr}
 use Rattle.std.proofs.Common.{eq-eqb}
 use Rattle.std.specs.Prelude.{slice_get, ◌&&◌, ◌==◌, ◌⊎◌, nat_lt, Ok}
-use Rattle.std.specs.List.{Contains, list_all}
+use Rattle.std.specs.List.{Contains, list_all, list_any}
 use Rattle.std.specs.Str.{bytes_eq}
 use Rattle.std.specs.Option.{option_map}
 use Rattle.std.proofs.lemmas.Bool.{true≢false, ltb-true, and_from}
 use Rattle.std.proofs.lemmas.List.{length-map, map-append}
-use Rattle.std.proofs.lemmas.List.Elements.{All-push}
 use Rattle.std.proofs.lemmas.Option.{slice_get-map}
 use Rattle.std.proofs.lemmas.Slice.Eq.{bytes_eq-Decides}
 use Rattle.entry_order.specs.Ancestors.{Descends}
+use Rattle.entry_order.specs.Ascending.{ascending}
 use Rattle.entry_order.proofs.Lists.{Contains-cons_cases, Contains-none, Contains-map, list_any_of}
 use Rattle.entry_order.proofs.Strays.{survivors_are_no_strays}
 use Rattle.entry_format.specs.SealedEntry.{SealedEntry}
 use Rattle.entry_format.specs.Nodes.{node_of_sealed}
-use Rattle.entry_graph.specs.EntryGraph.{EntryGraph, Links, IsGraphOfGiven, parents_of, ragged_of}
+use Rattle.entry_graph.specs.EntryGraph.{EntryGraph, Links, IsGraphOfGiven, parents_of}
 use Rattle.entry_graph.specs.Given.{distinct}
 use Rattle.entry_graph.proofs.DistinctFacts.{no_collision_new}
 use Rattle.evidence.specs.Graphs.{IsSealedGraph}
@@ -26,16 +26,18 @@ use Rattle.rule_language.specs.Forms.{rule_tree}
 use Rattle.rule_engine.specs.declared.verdict.Verdict.{Verdict}
 use Rattle.auditor.specs.Judged.{AreJudged, IsFirstTooWide, nodes_of}
 use Rattle.auditor.specs.Rows.{row_of}
-use Rattle.live_auditor.specs.Adding.{HasRoomFor, IsTooWideOver}
-use Rattle.live_auditor.specs.Live.{LiveState, IsOfMachine}
-use Rattle.live_auditor.specs.Summary.{Summary}
-use Rattle.live_auditor.specs.inside.Changes.{AreChanges, changed}
+use Rattle.live_auditor.specs.Adding.{HasRoomFor}
+use Rattle.live_auditor.specs.Live.{LiveState}
+use Rattle.live_auditor.specs.declared.summary.Unsummed.{Unsummed}
+use Rattle.live_auditor.specs.declared.summary.Unsummed.TheVariants.{TooWide, Memory}
 use Rattle.live_auditor.specs.inside.Found.{IsUsualBy}
-use Rattle.live_auditor.specs.inside.Kept.{SurvivorsKept, IsKept, link_to, nodes_by}
-use Rattle.live_auditor.specs.inside.Usual.{IsUsual, AreParents, grown}
+use Rattle.live_auditor.specs.inside.Grown.{said_with, kept_with}
+use Rattle.live_auditor.specs.inside.Kept.{SurvivorsKept, IsKept, IsSummed, link_to, nodes_by}
+use Rattle.live_auditor.specs.inside.Unsummed.{IsUnjudged, IsUnsummed}
+use Rattle.live_auditor.specs.inside.Usual.{IsUsual, AreParents, AreMissing, grown}
 use Rattle.live_auditor.proofs.Additions.{once_more}
-use Rattle.live_auditor.proofs.Changed.{judged_changed}
-use Rattle.live_auditor.proofs.Grown.{parents_old, ragged_old, is_grown, at_contains}
+use Rattle.live_auditor.proofs.Ends.{at_contains}
+use Rattle.live_auditor.proofs.Grown.{is_grown}
 
 -- what holds of all holds of each member
 each_passes : {X : Type 0} (p : X → Bool) (xs : List X) (x : X) → list_all p xs ≡ true → Contains xs x → p x ≡ true
@@ -61,8 +63,8 @@ mapped_at {X} f xs p y at = by (slice_get xs p) refl (sym (slice_get-map f xs p)
     by (Some x) is some = let same : f x ≡ y = cc in (x, is, same)
 
 module _ (live : LiveState) (kept : SurvivorsKept) (is : IsKept live kept) (e : SealedEntry)
-    (room : HasRoomFor live.added e) (parents : List ℕ)
-    (usual : IsUsualBy live.added live.summary.gaps kept.digests kept.rows e parents) where
+    (room : HasRoomFor live.added e) (parents : List ℕ) (missing : List (List ℕ))
+    (usual : IsUsualBy live.added live.summary.gaps kept.digests kept.rows e parents missing) where
   -- the graph of the entries before
   abbrev graph : EntryGraph SealedEntry
   graph = is.live.after.graph
@@ -85,20 +87,27 @@ module _ (live : LiveState) (kept : SurvivorsKept) (is : IsKept live kept) (e : 
       mapped_at (λ (f : SealedEntry). f.digest) graph.survivors p d
       (ap (λ (ds : List (List ℕ)). slice_get ds p) (sym is.survivors.digests) ∙ at)
 
+  -- the digest of a survivor is kept
+  digest_kept : (f : SealedEntry) → Contains graph.survivors f → Contains kept.digests f.digest
+  digest_kept f has =
+      subst (λ (ds : List (List ℕ)). Contains ds f.digest) (sym is.survivors.digests)
+      (Contains-map (λ (g : SealedEntry). g.digest) graph.survivors f has)
+
+  -- a digest that is none of these isn't found among them
+  none_found : (ds : List (List ℕ)) → list_any (λ d. bytes_eq d e.digest) ds ≡ false → Contains ds e.digest → ⊥
+  none_found ds none has =
+      let found = list_any_of (λ d. bytes_eq d e.digest) ds e.digest has
+      ((bytes_eq-Decides e.digest e.digest).1 refl) in
+      true≢false (sym found ∙ none)
+
   -- the entry is usual
   is_usual : IsUsual node_of_sealed live.added graph e
   is_usual = record {
     latest = λ f has. ltb-true f.entry.stamp e.entry.stamp
         (each_passes (λ (g : SealedEntry). nat_lt g.entry.stamp e.entry.stamp) live.added f usual.latest has);
-    closes_none = λ has.
-        let found = list_any_of (λ d. bytes_eq d e.digest) live.summary.gaps e.digest
-        (subst (λ ds. Contains ds e.digest) (sym is.live.after.gaps) has)
-        ((bytes_eq-Decides e.digest e.digest).1 refl) in
-        true≢false (sym found ∙ usual.closes_none);
-    names_survivors = λ d names.
-        let (p, has, at) = usual.finds.each d names in
-        let (f, stands, same) = at_digest p d at in
-        (f, at_contains graph.survivors p f stands, same);
+    closes_none = λ has. none_found live.summary.gaps usual.closes_none
+        (subst (λ ds. Contains ds e.digest) (sym is.live.after.gaps) has);
+    not_itself = none_found e.entry.names usual.not_itself;
     no_fork = λ f has maker number.
         let row = row_of live.machines f in
         let there = subst (λ rows. Contains rows row) (sym is.survivors.rows)
@@ -117,14 +126,31 @@ module _ (live : LiveState) (kept : SurvivorsKept) (is : IsKept live kept) (e : 
         (let (d, at, names) = usual.finds.stands p has in
         let (f, stands, same) = at_digest p d at in
         (f, stands, subst (λ c. Contains e.entry.names c) (sym same) names)),
-    λ f stands names.
-        (let (q, has, at) = usual.finds.each f.digest names in
-        let (g, there, same) = at_digest q f.digest at in
-        let one : g ≡ f =
-        one_digest g f (at_contains graph.survivors q g there) (at_contains graph.survivors p f stands) same in
-        let place : q ≡ p =
-        graphed.kept.single q p f (subst (λ h. slice_get graph.survivors q ≡ Some h) one there) stands in
-        subst (λ n. Contains parents n) place has),
+    λ f stands names. elim (usual.finds.each f.digest names) [
+      | inl (q, has, at) ↦
+          (let (g, there, same) = at_digest q f.digest at in
+          let one : g ≡ f =
+          one_digest g f (at_contains graph.survivors q g there) (at_contains graph.survivors p f stands) same in
+          let place : q ≡ p =
+          graphed.kept.single q p f (subst (λ h. slice_get graph.survivors q ≡ Some h) one there) stands in
+          subst (λ n. Contains parents n) place has)
+      | inr lacked ↦
+          absurd ((usual.finds.lacks f.digest lacked).1 (digest_kept f (at_contains graph.survivors p f stands)))
+    ],
+  )
+
+  -- and these the digests that it names and no survivor has
+  are_missing : AreMissing node_of_sealed graph.survivors e missing
+  are_missing d = (
+    λ has.
+        (let (names, none) = usual.finds.lacks d has in
+        (names, λ (f, there, same). none (subst (λ c. Contains kept.digests c) same (digest_kept f there)))),
+    λ (names, none). elim (usual.finds.each d names) [
+      | inl (p, has, at) ↦
+          (let (f, stands, same) = at_digest p d at in
+          absurd (none (f, at_contains graph.survivors p f stands, same)))
+      | inr lacked ↦ lacked
+    ],
   )
 
   -- there is room for a survivor more
@@ -134,17 +160,18 @@ module _ (live : LiveState) (kept : SurvivorsKept) (is : IsKept live kept) (e : 
       omega (arith, count, usual.few)
 
   -- the graph with it is that of all
-  is_next : IsGraphOfGiven node_of_sealed (live.added ++ e ∷ []) (grown graph e parents)
-  is_next = is_grown node_of_sealed live.added graph graphed e room.0 is_usual parents are_parents few
+  is_next : IsGraphOfGiven node_of_sealed (live.added ++ e ∷ []) (grown graph e parents missing)
+  is_next =
+      is_grown node_of_sealed live.added graph graphed e room.0 is_usual parents are_parents missing are_missing few
 
-  sealed_next : IsSealedGraph (live.added ++ e ∷ []) (Ok (grown graph e parents))
+  sealed_next : IsSealedGraph (live.added ++ e ∷ []) (Ok (grown graph e parents missing))
   sealed_next =
       let once : distinct node_of_sealed (live.added ++ e ∷ []) ≡ live.added ++ e ∷ [] =
       once_more live.added e is.live.once room.0 in (
         no_collision_new node_of_sealed (λ (s : SealedEntry). s.text) live.added e is.live.after.graphed.0 room.0,
         subst (λ es. length es ≤ 16384) (sym once)
             (omega (arith, length-append live.added (e ∷ []), room.1)),
-        subst (λ es. IsGraphOfGiven node_of_sealed es (grown graph e parents)) (sym once) is_next,
+        subst (λ es. IsGraphOfGiven node_of_sealed es (grown graph e parents missing)) (sym once) is_next,
       )
 
   -- the rows and one more
@@ -156,119 +183,52 @@ module _ (live : LiveState) (kept : SurvivorsKept) (is : IsKept live kept) (e : 
       ∙ sym (map-append (row_of live.machines) graph.survivors (e ∷ []))
 
   -- the links and one more
-  links_next : kept.links ++ link_to parents ∷ [] ≡ graph.links ++ link_to parents ∷ []
-  links_next = ap (λ (links : List Links). links ++ link_to parents ∷ []) is.survivors.links
+  links_next : kept.links ++ link_to parents missing ∷ [] ≡ graph.links ++ link_to parents missing ∷ []
+  links_next = ap (λ (links : List Links). links ++ link_to parents missing ∷ []) is.survivors.links
 
   -- what refuses the rules over the rows refuses them over the entries
-  pub wide_next : (row : Row) → row ≡ row_of live.machines e → (place : ℕ) →
-      IsFirstTooWide (kept.rows ++ row ∷ []) (map rule_tree live.rules) place →
-      IsTooWideOver live.machines (map rule_tree live.rules) (live.added ++ e ∷ []) place
-  wide_next row same place first = (
-    grown graph e parents,
+  pub unsummed_next : (row : Row) → row ≡ row_of live.machines e → (fault : Unsummed) →
+      IsUnjudged (kept.rows ++ row ∷ []) (map rule_tree live.rules) fault →
+      IsUnsummed live.machines (map rule_tree live.rules) (live.added ++ e ∷ []) fault
+  unsummed_next row same (TooWide place) first = (
+    grown graph e parents missing,
     sealed_next,
     subst (λ rows. IsFirstTooWide rows (map rule_tree live.rules) place) (rows_next row same) first,
   )
-
-  -- the verdicts by the changes
-  judged_next : (row : Row) → row ≡ row_of live.machines e → (changes : List (Option Verdict)) →
-      AreChanges (kept.rows ++ row ∷ []) (nodes_by (kept.links ++ link_to parents ∷ [])) row (map rule_tree live.rules)
-      changes →
-      AreJudged (map (row_of live.machines) (graph.survivors ++ e ∷ []))
-      (nodes_of (grown graph e parents)) (map rule_tree live.rules)
-      (changed live.summary.verdicts changes)
-  judged_next row same changes are =
-      let seen = map (row_of live.machines) graph.survivors in
-      let count : length seen ≡ length graph.survivors = length-map graph.survivors (row_of live.machines) in
-      let links : List Links = graph.links ++ link_to parents ∷ [] in
-      let by_links = subst (λ (ls : List Links). AreChanges (kept.rows ++ row ∷ []) (nodes_by ls) row
-      (map rule_tree live.rules) changes) links_next are in
-      let by_rows = subst (λ (rows : List Row). AreChanges (rows ++ row ∷ []) (nodes_by links) row
-      (map rule_tree live.rules) changes) is.survivors.rows by_links in
-      let judged = judged_changed seen row (parents_of graph.links) (parents_of links) (ragged_of graph.links)
-      (ragged_of links) graphed.kept.linked.arrows.descends is_next.kept.linked.arrows.descends
-      (λ x low. sym (parents_old node_of_sealed live.added graph graphed e room.0 is_usual parents are_parents x
-      (subst (λ n. x < n) count low)))
-      (λ x low. sym (ragged_old node_of_sealed live.added graph graphed e room.0 is_usual parents are_parents x
-      (subst (λ n. x < n) count low)))
-      (length graph.survivors) (length links) (map rule_tree live.rules) live.summary.verdicts changes
-      is.live.after.judged by_rows in
-      subst (λ (rows : List Row). AreJudged rows
-      (nodes_of (grown graph e parents)) (map rule_tree live.rules)
-      (changed live.summary.verdicts changes))
-      (ap (λ (r : Row). seen ++ r ∷ []) same ∙ sym (map-append (row_of live.machines) graph.survivors (e ∷ []))) judged
-
-  -- the audit with the entry
-  abbrev pub live_next : List (Option Verdict) → LiveState
-  live_next changes = record {
-    machines = live.machines;
-    rules = live.rules;
-    added = live.added ++ e ∷ [];
-    summary = record {
-      survivors = live.summary.survivors + 1;
-      gaps = live.summary.gaps;
-      strays = live.summary.strays;
-      forks = live.summary.forks;
-      verdicts = changed live.summary.verdicts changes;
-    };
-  }
-
-  -- and what is kept then
-  abbrev pub kept_next : Row → SurvivorsKept
-  kept_next row = record {
-    digests = kept.digests ++ e.digest ∷ [];
-    rows = kept.rows ++ row ∷ [];
-    links = kept.links ++ link_to parents ∷ [];
-  }
-
-  -- belong together
-  pub is_kept_next : IsOfMachine live.machines e → (row : Row) → row ≡ row_of live.machines e →
-      (changes : List (Option Verdict)) →
-      AreChanges (kept.rows ++ row ∷ []) (nodes_by (kept.links ++ link_to parents ∷ [])) row (map rule_tree live.rules)
-      changes → IsKept (live_next changes) (kept_next row)
-  is_kept_next of_machine row same changes are = record {
-    live = record {
-      few = omega (arith, length-append live.added (e ∷ []), room.1);
-      of_machines = All-push (IsOfMachine live.machines) live.added e is.live.of_machines of_machine;
-      once = once_more live.added e is.live.once room.0;
-      after = record {
-        graph = grown graph e parents;
-        graphed = sealed_next;
-        survivors = omega (arith, is.live.after.survivors, length-append graph.survivors (e ∷ []));
-        gaps = is.live.after.gaps;
-        strays = is.live.after.strays;
-        forks = is.live.after.forks;
-        judged = judged_next row same changes are;
-      };
-    };
-    survivors = record {
-      digests = ap (λ (ds : List (List ℕ)). ds ++ e.digest ∷ []) is.survivors.digests
-          ∙ sym (map-append (λ (f : SealedEntry). f.digest) graph.survivors (e ∷ []));
-      rows = rows_next row same;
-      links = links_next;
-    };
-  }
+  unsummed_next row same Memory first = tt
 
   -- the parents of survivors and of the entry are below them
-  pub falls_next : Descends (parents_of (kept.links ++ link_to parents ∷ []))
+  pub falls_next : Descends (parents_of (kept.links ++ link_to parents missing ∷ []))
   falls_next =
       subst (λ (links : List Links). Descends (parents_of links)) (sym links_next)
       is_next.kept.linked.arrows.descends
 
-  -- the same of what is equal to these
-  pub is_kept_after : (added : List SealedEntry) (summary : Summary) (digests : List (List ℕ)) (rows : List Row)
-      (links : List Links) (row : Row) (changes : List (Option Verdict)) → added ≡ live.added ++ e ∷ [] →
-      summary ≡ (live_next changes).summary → digests ≡ kept.digests ++ e.digest ∷ [] → rows ≡ kept.rows ++ row ∷ [] →
-      links ≡ kept.links ++ link_to parents ∷ [] → IsOfMachine live.machines e → row ≡ row_of live.machines e →
-      AreChanges (kept.rows ++ row ∷ []) (nodes_by (kept.links ++ link_to parents ∷ [])) row (map rule_tree live.rules)
-      changes →
-      IsKept (record { machines = live.machines; rules = live.rules; added = added; summary = summary })
-      (record { digests = digests; rows = rows; links = links })
-  is_kept_after added summary digests rows links row changes a s d r l of_machine same are =
-      let state : ◌≡◌ {A = LiveState} (live_next changes)
-      (record { machines = live.machines; rules = live.rules; added = added; summary = summary }) =
-      λ j. record { machines = live.machines; rules = live.rules; added = sym a j; summary = sym s j } in
-      let lists : ◌≡◌ {A = SurvivorsKept} (kept_next row) (record { digests = digests; rows = rows; links = links }) =
-      λ j. record { digests = sym d j; rows = sym r j; links = sym l j } in
-      subst (λ (k : SurvivorsKept).
-      IsKept (record { machines = live.machines; rules = live.rules; added = added; summary = summary }) k) lists
-      (subst (λ (next : LiveState). IsKept next (kept_next row)) state (is_kept_next of_machine row same changes are))
+  -- so this is said and kept of the entries and this one
+  pub summed_next : (row : Row) (rows : List Row) (link : Links) (gaps : List (List ℕ)) (verdicts : List Verdict) →
+      row ≡ row_of live.machines e → rows ≡ kept.rows ++ row ∷ [] → link ≡ link_to parents missing →
+      gaps ≡ ascending (live.summary.gaps ++ missing) →
+      AreJudged (kept.rows ++ row ∷ []) (nodes_by (kept.links ++ link_to parents missing ∷ []))
+      (map rule_tree live.rules) verdicts →
+      IsSummed live.machines (map rule_tree live.rules) (live.added ++ e ∷ []) (said_with live.summary gaps verdicts)
+      (kept_with kept e.digest rows link)
+  summed_next row rows link gaps verdicts same all linked are judged = record {
+    after = record {
+      graph = grown graph e parents missing;
+      graphed = sealed_next;
+      survivors = omega (arith, is.live.after.survivors, length-append graph.survivors (e ∷ []));
+      gaps = are ∙ ap (λ (ds : List (List ℕ)). ascending (ds ++ missing)) is.live.after.gaps;
+      strays = is.live.after.strays;
+      forks = is.live.after.forks;
+      judged =
+          subst (λ (seen : List Row). AreJudged seen (nodes_of (grown graph e parents missing))
+          (map rule_tree live.rules) verdicts) (rows_next row same)
+          (subst (λ (links : List Links). AreJudged (kept.rows ++ row ∷ []) (nodes_by links)
+          (map rule_tree live.rules) verdicts) links_next judged);
+    };
+    survivors = record {
+      digests = ap (λ (ds : List (List ℕ)). ds ++ e.digest ∷ []) is.survivors.digests
+          ∙ sym (map-append (λ (f : SealedEntry). f.digest) graph.survivors (e ∷ []));
+      rows = all ∙ rows_next row same;
+      links = ap (λ (l : Links). kept.links ++ l ∷ []) linked ∙ links_next;
+    };
+  }

@@ -3,8 +3,8 @@
 #![tactic(auto)]
 
 mod borrowed;
-mod changes;
 mod fresh;
+mod growth;
 mod laws;
 mod live;
 mod seen;

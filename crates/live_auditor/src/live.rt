@@ -4,12 +4,11 @@ ghost use Rattle.live_auditor.specs.Adding.{Becomes, HasRoomFor, IsAddAnswer, Is
 ghost use Rattle.live_auditor.specs.Live.{IsLive, IsOfMachine};
 
 use crate::borrowed::borrowed_with;
-use crate::changes::growth_by;
 use crate::fresh::{Fresh, LiveFault};
+use crate::growth::growth_of;
 use crate::seen::{Seen, seen_among};
 use crate::summary::{Summary, Unsummed, summed_of};
 use crate::survivors::Survivors;
-use crate::usual::usual_in;
 use entry_format::Sealed;
 use roster::Roster;
 use rule_engine::Verdict;
@@ -101,7 +100,7 @@ impl Live {
         }
     }
 
-    /// Adds an entry whose digest no added one has. What is kept of the survivors serves where it
+    /// Adds an entry whose digest no added one has. What is known of the survivors serves where it
     /// comes after all others.
     fn add_new(&mut self, alloc: Global, s: Sealed) -> Result<Fresh, LiveFault>
         requires machine { IsOfMachine self.old.machines s }
@@ -111,26 +110,29 @@ impl Live {
         ensures same { IsOfSameAudit self.old self.new }
         ensures kept { IsLive self.new }
     {
+        let rules = self.rules.as_slice();
         let added = self.added.as_slice();
-        let gaps = self.summary.gaps();
-        match usual_in(alloc, &self.roster, added, gaps, &self.survivors, &s)? {
-            None => self.add_anew(alloc, s),
-            Some(usual) => {
-                let rules = self.rules.as_slice();
-                let parents = usual.parents.as_slice();
-                match growth_by(alloc, rules, &self.survivors, usual.row, parents) {
-                    Ok(growth) => {
-                        self.added.reserve(1)?;
-                        self.survivors.reserve()?;
-                        self.survivors.push(*s.digest(), growth.rows, usual.parents);
-                        self.summary.grow(growth.changes);
-                        self.added.push_reserved(s);
-                        Ok(Fresh::New)
-                    }
-                    Err(Unsummed::TooWide(place)) => Err(LiveFault::TooWide(s, place)),
-                    Err(Unsummed::Memory) => Err(LiveFault::Memory),
-                }
+        let summary = &self.summary;
+        match growth_of(
+            alloc,
+            &self.roster,
+            rules,
+            added,
+            summary,
+            &self.survivors,
+            &s,
+        ) {
+            Ok(None) => self.add_anew(alloc, s),
+            Ok(Some(growth)) => {
+                self.added.reserve(1)?;
+                self.survivors.reserve()?;
+                self.survivors.push(*s.digest(), growth.rows, growth.link);
+                self.summary.grow(growth.gaps, growth.verdicts);
+                self.added.push_reserved(s);
+                Ok(Fresh::New)
             }
+            Err(Unsummed::TooWide(place)) => Err(LiveFault::TooWide(s, place)),
+            Err(Unsummed::Memory) => Err(LiveFault::Memory),
         }
     }
 

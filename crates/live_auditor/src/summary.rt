@@ -3,7 +3,7 @@ ghost use Rattle.std.specs.Prelude.{◌≡◌, ◌+◌, ◌<◌, ◌≤◌, leng
 ghost use Rattle.rule_language.specs.Forms.{rule_tree};
 ghost use Rattle.auditor.specs.Judged.{AreJudged};
 ghost use Rattle.auditor.specs.Rows.{HaveMakers, row_of};
-ghost use Rattle.live_auditor.specs.inside.Changes.{changed};
+ghost use Rattle.live_auditor.specs.inside.Grown.{said_with};
 ghost use Rattle.live_auditor.specs.inside.Kept.{IsSummed};
 ghost use Rattle.live_auditor.specs.inside.KeptOf.{IsSummedBy, kept_of};
 ghost use Rattle.live_auditor.specs.inside.Unsummed.{IsUnjudged, IsUnsummed};
@@ -11,13 +11,12 @@ ghost use Rattle.precedence.specs.Graph.{Graph as PathGraph};
 ghost use Rattle.precedence.specs.Known.{IsKnownOf, known_count};
 
 use crate::borrowed::Borrowed;
-use crate::changes::make_changes;
 use crate::survivors::Survivors;
 use auditor::rows;
 use entry_graph::Graph;
 use precedence::{Arrows, Rows};
 use roster::Roster;
-use rule_engine::{JudgeFault, Verdict, judge};
+use rule_engine::{Judge, JudgeFault, Verdict};
 use rule_language::{Row, Rule};
 use std::alloc::{AllocError, AllocFailed, Global};
 use std::marker::Model;
@@ -54,19 +53,21 @@ impl Summary {
         &self.gaps
     }
 
-    /// The summary after one survivor more, which changes these verdicts and nothing else.
-    pub(crate) fn grow(&mut self, changes: Vec<Option<Verdict>>)
-        requires { self.old.survivors < 16384 }
-        ensures { self.new ≡ record {
-          survivors = self.old.survivors + 1;
-          gaps = self.old.gaps;
-          strays = self.old.strays;
-          forks = self.old.forks;
-          verdicts = changed self.old.verdicts changes.items;
-        } }
+    /// The verdicts.
+    pub(crate) fn verdicts(&self) -> &[Verdict]
+        ensures { result.now ≡ self.now.verdicts }
+    {
+        &self.verdicts
+    }
+
+    /// The summary after one survivor more, by these gaps and verdicts.
+    pub(crate) fn grow(&mut self, gaps: Vec<[u8; 32]>, verdicts: Vec<Verdict>)
+        requires { self.old.survivors ≤ 16384 }
+        ensures { self.new ≡ said_with self.old gaps.items verdicts.items }
     {
         self.survivors += 1;
-        make_changes(&mut self.verdicts, changes);
+        self.gaps = gaps;
+        self.verdicts = verdicts;
     }
 }
 
@@ -114,9 +115,10 @@ fn judge_all(
     ensures err { IfErr result (λ fault. (graph : PathGraph) → IsKnownOf graph order.now →
         IsUnjudged rows.now (map rule_tree rules.now) fault) }
 {
-    let mut verdicts = Vec::new(alloc);
+    let judge = Judge::over(alloc, rows, order)?;
+    let mut verdicts = Vec::with_capacity(alloc, rules.len())?;
     for place in 0..rules.len() {
-        match judge(alloc, &rules[place], rows, order) {
+        match judge.judge(alloc, &rules[place]) {
             Ok(verdict) => verdicts.push(verdict)?,
             Err(JudgeFault::TooWide) => return Err(Unsummed::TooWide(place)),
             Err(JudgeFault::Memory) => return Err(Unsummed::Memory),

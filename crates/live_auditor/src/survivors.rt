@@ -1,8 +1,10 @@
 //! What is kept of the survivors, beside what is said of them.
-ghost use Rattle.std.specs.Prelude.{◌≡◌, ◌++◌, ◌∷◌, [], length, map, IfOk, OnOk};
+ghost use Rattle.std.specs.Prelude.{◌≡◌, ◌<◌, ◌++◌, ◌∷◌, [], length, map, slice_get};
+ghost use Rattle.std.specs.Prelude.{IfOk, OnOk, Some};
 ghost use Rattle.entry_format.specs.SealedEntry.{SealedEntry};
 ghost use Rattle.entry_graph.specs.EntryGraph.{parents_of};
 ghost use Rattle.entry_order.specs.Ancestors.{Descends};
+ghost use Rattle.live_auditor.specs.inside.Grown.{kept_with};
 ghost use Rattle.live_auditor.specs.inside.Kept.{link_to};
 ghost use Rattle.live_auditor.specs.inside.KeptOf.{HasRoom, kept_of};
 
@@ -54,13 +56,13 @@ impl Link {
         self.ragged
     }
 
-    /// The link to these parents, and to no gap.
-    fn to(parents: Vec<u32>) -> Link
-        ensures { result ≡ link_to parents.items }
+    /// The link of what names these survivors, and these digests that none of them has.
+    pub(crate) fn to(parents: Vec<u32>, missing: &[[u8; 32]]) -> Link
+        ensures { result ≡ link_to parents.items missing.now }
     {
         Link {
             parents,
-            ragged: false,
+            ragged: !missing.is_empty(),
         }
     }
 }
@@ -102,16 +104,14 @@ impl Survivors {
         self.links.reserve(1)
     }
 
-    /// Puts one with this digest and these parents behind the others, all of which have these rows.
-    pub(crate) fn push(&mut self, digest: [u8; 32], rows: Vec<Row>, parents: Vec<u32>)
+    /// Puts one with this digest and link after the others. All have these rows.
+    pub(crate) fn push(&mut self, digest: [u8; 32], rows: Vec<Row>, link: Link)
         requires { HasRoom self.old }
-        ensures digests { self.new.digests.items ≡ self.old.digests.items ++ digest ∷ [] }
-        ensures rows { self.new.rows.items ≡ rows.items }
-        ensures links { self.new.links.items ≡ self.old.links.items ++ link_to parents.items ∷ [] }
+        ensures { kept_of self.new ≡ kept_with (kept_of self.old) digest rows.items link }
     {
         self.digests.push_reserved(digest);
         self.rows = rows;
-        self.links.push_reserved(Link::to(parents));
+        self.links.push_reserved(link);
     }
 }
 
@@ -139,33 +139,45 @@ fn links_of(alloc: Global, graph: &Graph<Borrowed<'_>>) -> Result<Vec<Link>, All
     Ok(links)
 }
 
-/// The graph of survivors and one more after them, which has these parents and names no gap.
+/// The graph of survivors and one more after them.
 #[derive(Drop)]
 pub(crate) struct Grown<'a> {
     links: &'a [Link],
-    parents: &'a [u32],
+    last: &'a Link,
 }
 
 impl<'a> Model for Grown<'a> {
     ghost use Rattle.std.specs.Prelude.{◌++◌, ◌∷◌, [], List};
     ghost use Rattle.entry_graph.specs.EntryGraph.{Links, parents_of};
     ghost use Rattle.entry_order.specs.Ancestors.{Descends};
-    ghost use Rattle.live_auditor.specs.inside.Kept.{link_to};
 
     ghost Value = { List Links };
 
-    ghost view = { λ g. g.links.now ++ link_to g.parents.now ∷ [] };
+    ghost view = { λ g. g.links.now ++ g.last.now ∷ [] };
 
-    ghost invariant = { λ g. Descends (parents_of (g.links.now ++ link_to g.parents.now ∷ [])) };
+    ghost invariant = { λ g. Descends (parents_of (g.links.now ++ g.last.now ∷ [])) };
 }
 
 impl<'a> Grown<'a> {
-    /// The graph of survivors with these links and one with these parents.
-    pub(crate) fn over(links: &'a [Link], parents: &'a [u32]) -> Grown<'a>
-        requires { Descends (parents_of (links.now ++ link_to parents.now ∷ [])) }
-        ensures { result ≡ links.now ++ link_to parents.now ∷ [] }
+    /// The graph of survivors with these links and one with the last link.
+    pub(crate) fn over(links: &'a [Link], last: &'a Link) -> Grown<'a>
+        requires { Descends (parents_of (links.now ++ last.now ∷ [])) }
+        ensures { result ≡ links.now ++ last.now ∷ [] }
     {
-        Grown { links, parents }
+        Grown { links, last }
+    }
+
+    /// The link of a survivor.
+    fn link(&self, node: usize) -> &Link
+        requires { node < length self.now }
+        ensures value { slice_get self.now node ≡ Some result.now }
+        ensures falls { Descends (parents_of self.now) }
+    {
+        if node < self.links.len() {
+            &self.links[node]
+        } else {
+            self.last
+        }
     }
 }
 
@@ -179,14 +191,10 @@ impl<'a> Arrows for Grown<'a> {
     }
 
     fn parents(&self, node: usize) -> &[u32] {
-        if node < self.links.len() {
-            self.links[node].parents()
-        } else {
-            self.parents
-        }
+        self.link(node).parents()
     }
 
     fn ragged(&self, node: usize) -> bool {
-        node < self.links.len() && self.links[node].ragged()
+        self.link(node).ragged()
     }
 }

@@ -1,10 +1,10 @@
 //! Whether an entry is usual: one after which nothing needs to be said anew of the other survivors.
 ghost use Rattle.std.specs.Prelude.{◌≡◌, ◌<◌, ◌≤◌, ◌&&◌, ◌==◌, nat_lt, length, map, slice_get};
-ghost use Rattle.std.specs.Prelude.{IfOk, IfSome, Some};
-ghost use Rattle.std.specs.List.{list_all, list_any};
+ghost use Rattle.std.specs.Prelude.{IfNone, IfOk, IfSome, Some};
+ghost use Rattle.std.specs.List.{Contains, list_all, list_any};
 ghost use Rattle.std.specs.Str.{bytes_eq};
 ghost use Rattle.auditor.specs.Rows.{HaveMakers, row_of};
-ghost use Rattle.live_auditor.specs.inside.Found.{FindsParents, IsUsualBy};
+ghost use Rattle.live_auditor.specs.inside.Found.{FindsNames, IsUsualBy};
 
 use crate::borrowed::Borrowed;
 use crate::survivors::Survivors;
@@ -43,7 +43,8 @@ fn is_numbered(rows: &[Row], maker: u32, number: u32) -> bool
 
 /// Where the digest stands, the last place of several.
 fn place_of(digests: &[[u8; 32]], digest: &[u8; 32]) -> Option<usize>
-    ensures { IfSome result (λ place. slice_get digests.now place ≡ Some digest.now) }
+    ensures some { IfSome result (λ place. slice_get digests.now place ≡ Some digest.now) }
+    ensures none { IfNone result (Contains digests.now digest.now → ⊥) }
 {
     for place in (0..digests.len()).rev() {
         if digests[place] == *digest {
@@ -53,45 +54,52 @@ fn place_of(digests: &[[u8; 32]], digest: &[u8; 32]) -> Option<usize>
     None
 }
 
-/// Where these names stand, or none where one of them doesn't.
-fn parents_in(
-    alloc: Global,
-    digests: &[[u8; 32]],
-    names: &[[u8; 32]],
-) -> Result<Option<Vec<u32>>, AllocError>
+/// Where the names of an entry stand, and those of them that stand nowhere.
+#[derive(Drop)]
+pub(crate) struct Named {
+    pub(crate) parents: Vec<u32>,
+    pub(crate) missing: Vec<[u8; 32]>,
+}
+
+/// The same of these names among the digests.
+fn named_in(alloc: Global, digests: &[[u8; 32]], names: &[[u8; 32]]) -> Result<Named, AllocError>
     requires { length digests.now ≤ 16384 }
-    ensures { IfOk result (λ found. IfSome found
-        (λ parents. FindsParents digests.now names.now parents.items)) }
+    ensures { IfOk result (λ named.
+        FindsNames digests.now names.now named.parents.items named.missing.items) }
 {
     let mut parents = Vec::with_capacity(alloc, names.len())?;
+    let mut missing = Vec::new(alloc);
     for name in names {
         match place_of(digests, name) {
             Some(place) => parents.push(place as u32)?,
-            None => return Ok(None),
+            None => missing.push(*name)?,
         }
     }
-    Ok(Some(parents))
+    Ok(Named { parents, missing })
 }
 
-/// The parents of the entry among the survivors, if it is usual.
-fn parents_of(
+/// What the entry names among the survivors, if it is usual.
+fn usual_names(
     alloc: Global,
     added: &[Sealed],
     gaps: &[[u8; 32]],
     survivors: &Survivors,
     entry: &Sealed,
-) -> Result<Option<Vec<u32>>, AllocError>
-    ensures { IfOk result (λ found. IfSome found (λ parents. IsUsualBy added.now gaps.now
-        survivors.now.digests.items survivors.now.rows.items entry.now parents.items)) }
+) -> Result<Option<Named>, AllocError>
+    ensures { IfOk result (λ found. IfSome found (λ named. IsUsualBy added.now gaps.now
+        survivors.now.digests.items survivors.now.rows.items entry.now
+        named.parents.items named.missing.items)) }
 {
     if survivors.digests.len() >= MOST_SURVIVORS
         || !is_latest(added, entry)
         || is_among(gaps, entry.digest())
+        || is_among(entry.names(), entry.digest())
         || is_numbered(survivors.rows.as_slice(), entry.maker(), entry.number())
     {
         return Ok(None);
     }
-    parents_in(alloc, survivors.digests.as_slice(), entry.names())
+    let named = named_in(alloc, survivors.digests.as_slice(), entry.names())?;
+    Ok(Some(named))
 }
 
 /// The row of the entry, unless it names itself.
@@ -122,10 +130,10 @@ fn first_row(
     Ok(rows.as_slice().first().copied())
 }
 
-/// What a usual entry is for the survivors: its parents among them, and its row.
+/// What a usual entry is for the survivors: what it names among them, and its row.
 #[derive(Drop)]
 pub(crate) struct Usual {
-    pub(crate) parents: Vec<u32>,
+    pub(crate) named: Named,
     pub(crate) row: Row,
 }
 
@@ -139,16 +147,17 @@ pub(crate) fn usual_in(
     entry: &Sealed,
 ) -> Result<Option<Usual>, AllocError>
     requires { entry.now.entry.maker < length roster.now.machines }
-    ensures parents { IfOk result (λ found. IfSome found (λ usual. IsUsualBy added.now gaps.now
-        survivors.now.digests.items survivors.now.rows.items entry.now usual.parents.items)) }
+    ensures named { IfOk result (λ found. IfSome found (λ usual. IsUsualBy added.now gaps.now
+        survivors.now.digests.items survivors.now.rows.items entry.now
+        usual.named.parents.items usual.named.missing.items)) }
     ensures row { IfOk result (λ found. IfSome found
         (λ usual. usual.row ≡ row_of roster.now.machines entry.now)) }
 {
-    let Some(parents) = parents_of(alloc, added, gaps, survivors, entry)? else {
+    let Some(named) = usual_names(alloc, added, gaps, survivors, entry)? else {
         return Ok(None);
     };
     match row_alone(alloc, roster, entry)? {
-        Some(row) => Ok(Some(Usual { parents, row })),
+        Some(row) => Ok(Some(Usual { named, row })),
         None => Ok(None),
     }
 }

@@ -1,9 +1,10 @@
 -- What is kept of the survivors, beside what is said of them.
-use Rattle.std.specs.Prelude.{◌≡◌, ℕ, false, List, length, map}
+use Rattle.std.specs.Prelude.{◌≡◌, ℕ, ◌==◌, not, List, length, map}
 use Rattle.entry_format.specs.SealedEntry.{SealedEntry}
 use Rattle.entry_graph.specs.EntryGraph.{EntryGraph, Links, parents_of, ragged_of}
 use Rattle.precedence.specs.Graph.{Graph}
 use Rattle.roster.specs.declared.post.Post.{Post}
+use Rattle.rule_language.specs.declared.formula.Rule.{Rule}
 use Rattle.rule_language.specs.declared.row.Row.{Row}
 use Rattle.auditor.specs.Rows.{row_of}
 use Rattle.rule_language.specs.Trees.{RuleTree}
@@ -29,14 +30,23 @@ pub record IsSummed (machines : List Post) (rules : List RuleTree) (entries : Li
   pub after : After machines rules entries summary
   pub survivors : AreSurvivorsOf machines after.graph kept
 
+-- an audit of these
+abbrev pub live_of : List Post → List Rule → List SealedEntry → Summary → LiveState
+live_of machines rules added summary = record {
+  machines = machines;
+  rules = rules;
+  added = added;
+  summary = summary;
+}
+
 -- what always holds of an audit and of what is kept of its survivors
 pub record IsKept (state : LiveState) (kept : SurvivorsKept) : Type 0 where
   pub live : IsLive state
   pub survivors : AreSurvivorsOf state.machines live.after.graph kept
 
--- what one names that names no gap
-abbrev pub link_to : List ℕ → Links
-link_to parents = record { parents = parents; ragged = false }
+-- what one names that names these survivors, and these digests that none of them has
+abbrev pub link_to : List ℕ → List (List ℕ) → Links
+link_to parents missing = record { parents = parents; ragged = not (length missing == 0) }
 
 -- the graph of survivors with these links
 abbrev pub nodes_by : List Links → Graph

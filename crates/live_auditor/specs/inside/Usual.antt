@@ -1,19 +1,20 @@
--- The usual entry: one that comes after all that it names, and after which nothing needs to be said
--- anew of the others.
-use Rattle.std.specs.Prelude.{◌≡◌, ◌<◌, ◌++◌, ◌∷◌, [], ℕ, List, false, Some, slice_get}
+-- The usual entry: one that comes after all that were given, and after which nothing needs to be
+-- said anew of the others.
+use Rattle.std.specs.Prelude.{◌≡◌, ◌↔◌, ◌<◌, ◌++◌, ◌∷◌, [], ℕ, List, Some, slice_get}
 use Rattle.std.specs.List.{Contains}
+use Rattle.entry_order.specs.Ascending.{ascending}
 use Rattle.entry_order.specs.Naming.{IsBorneIn}
 use Rattle.entry_order.specs.Node.{Node}
 use Rattle.entry_graph.specs.EntryGraph.{EntryGraph}
+use Rattle.live_auditor.specs.inside.Kept.{link_to}
 
 module _ {T : Type 0} (node : T → Node) where
-  -- e has a higher stamp than all that were given; it has no gap's digest, and names survivors
-  -- alone; and no survivor has its maker and its number
+  -- e has a higher stamp than all that were given; it has no gap's digest, and doesn't name itself;
+  -- and no survivor has its maker and its number
   pub record IsUsual (given : List T) (graph : EntryGraph T) (e : T) : Type 0 where
     pub latest : (f : T) → Contains given f → (node f).stamp < (node e).stamp
     pub closes_none : Contains graph.gaps (node e).digest → ⊥
-    pub names_survivors : (d : List ℕ) → Contains (node e).names d →
-        IsBorneIn node graph.survivors d
+    pub not_itself : Contains (node e).names (node e).digest → ⊥
     pub no_fork : (f : T) → Contains graph.survivors f → (node f).maker ≡ (node e).maker →
         (node f).number ≡ (node e).number → ⊥
 
@@ -25,12 +26,18 @@ module _ {T : Type 0} (node : T → Node) where
       × ((f : T) → slice_get S p ≡ Some f →
       Contains (node e).names (node f).digest → Contains parents p)
 
--- the graph with one survivor more, which has the last number and these parents
-abbrev pub grown : {T : Type 0} → EntryGraph T → T → List ℕ → EntryGraph T
-grown graph e parents = record {
+  -- the digests are those that e names and no survivor has
+  abbrev pub AreMissing : List T → T → List (List ℕ) → Type 0
+  AreMissing S e missing =
+      (d : List ℕ) → Contains missing d ↔ (Contains (node e).names d × (IsBorneIn node S d → ⊥))
+
+-- the graph with one survivor more, which has the last number and these parents, and names these
+-- digests, too, which no survivor has
+abbrev pub grown : {T : Type 0} → EntryGraph T → T → List ℕ → List (List ℕ) → EntryGraph T
+grown graph e parents missing = record {
   survivors = graph.survivors ++ e ∷ [];
-  links = graph.links ++ record { parents = parents; ragged = false } ∷ [];
-  gaps = graph.gaps;
+  links = graph.links ++ link_to parents missing ∷ [];
+  gaps = ascending (graph.gaps ++ missing);
   strays = graph.strays;
   forks = graph.forks;
 }

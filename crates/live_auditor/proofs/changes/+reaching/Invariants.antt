@@ -1,8 +1,0 @@
-use Rattle.std.proofs.Common.{◌≡◌, drop}
-use Rattle.rule_language.specs.Forms.{trees_of}
-use Rattle.live_auditor.specs.inside.Reach.{reaches_row}
-use Rattle.live_auditor.proofs.changes.+reaching.Given as goal
-
-abbrev pub invariant-some_reach-loop-part : goal.invariant-some_reach-loop-part
-invariant-some_reach-loop-part l =
-    reaches_row l.row (trees_of l.parts) ≡ reaches_row l.row (trees_of (drop l.part-index l.parts))

@@ -1,0 +1,39 @@
+use Rattle.std.proofs.Common.{◌+◌, List, map, take, arith, sym, subst}
+use Rattle.std.proofs.lemmas.List.{length-map}
+use Rattle.precedence.specs.Known.{known_before, known_whole}
+use Rattle.rule_language.specs.Forms.{rule_tree}
+use Rattle.rule_engine.specs.declared.verdict.Verdict.{Verdict}
+use Rattle.auditor.specs.Judged.{AreJudged}
+use Rattle.auditor.proofs.OneByOne.{judged_more, first_too_wide, wide_by}
+use Rattle.live_auditor.proofs.Judged.{judged_at, one_each}
+use Rattle.live_auditor.proofs.growth.judge_each.Goals as goal
+
+pub bounds-before-place : goal.bounds-before-place
+bounds-before-place c =
+    let known = c.args.judge.now.known in
+    let same = one_each (take c.args.count c.args.judge.now.rows) (known_before known) (known_whole known)
+    (map rule_tree c.args.rules.now) c.args.before.now c.requires.before in
+    omega (arith, c.loop-place-test.true, same, length-map c.args.rules.now rule_tree)
+
+pub judge_grown-requires-clause-before : goal.judge_grown-requires-clause-before
+judge_grown-requires-clause-before c =
+    let known = c.args.judge.now.known in
+    judged_at (take c.args.count c.args.judge.now.rows) (known_before known) (known_whole known) c.args.rules.now
+    c.args.before.now c.loop-place.place c.index-rules-place.result c.index-before-place.result c.requires.before
+    c.loop-place-test.true (sym c.index-rules-place.is) (sym c.index-before-place.is)
+
+pub returns-in-Err-TooWide-clause-err : goal.returns-in-Err-TooWide-clause-err
+returns-in-Err-TooWide-clause-err c = λ graph known.
+    first_too_wide c.args.judge.now.rows graph c.args.rules.now c.loop-place.place c.index-rules-place.result
+    c.loop-place.verdicts.items c.loop-place-test.true c.index-rules-place.is (c.loop-place.invariant graph known)
+    (wide_by c.args.judge.now.rows graph (rule_tree c.index-rules-place.result) c.in-Err-TooWide.field-0
+    (c.in-Err-TooWide.ensures graph known) c.in-Err-TooWide.field-0-is)
+
+pub loop-place-preserved : goal.loop-place-preserved
+loop-place-preserved c = λ graph known.
+    let P : List Verdict → Type 0 = λ verdicts.
+    AreJudged c.args.judge.now.rows graph (map rule_tree (take (c.loop-place.place + 1) c.args.rules.now)) verdicts in
+    subst P (sym c.in_ok-push-in-Ok.ensures.items)
+    (judged_more c.args.judge.now.rows graph c.args.rules.now c.loop-place.place c.index-rules-place.result
+    c.loop-place.verdicts.items c.in-Ok.verdict c.loop-place-test.true c.index-rules-place.is
+    (c.loop-place.invariant graph known) (c.in-Ok.ensures graph known))

@@ -1,0 +1,12 @@
+use Rattle.std.proofs.Common.{map, take}
+use Rattle.precedence.specs.Graph.{Graph}
+use Rattle.precedence.specs.Known.{IsKnownOf}
+use Rattle.rule_language.specs.Forms.{rule_tree}
+use Rattle.auditor.specs.Judged.{AreJudged}
+use Rattle.live_auditor.proofs.growth.judge_each.Given as goal
+
+-- the verdicts on the rules so far
+abbrev pub invariant-loop-place : goal.invariant-loop-place
+invariant-loop-place l =
+    (graph : Graph) → IsKnownOf graph l.judge.known →
+    AreJudged l.judge.rows graph (map rule_tree (take l.place l.rules)) l.verdicts.items

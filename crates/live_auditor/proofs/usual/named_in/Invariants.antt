@@ -1,0 +1,7 @@
+use Rattle.std.proofs.Common.{take}
+use Rattle.live_auditor.specs.inside.Found.{FindsNames}
+use Rattle.live_auditor.proofs.usual.named_in.Given as goal
+
+-- what is found of the names so far
+abbrev pub invariant-loop-name : goal.invariant-loop-name
+invariant-loop-name l = FindsNames l.digests (take l.name-index l.names) l.parents.items l.missing.items
