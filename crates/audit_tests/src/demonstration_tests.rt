@@ -4,6 +4,7 @@ ghost use Rattle.election_script.specs.Lawful.{IsLawful};
 
 use demonstration::{Demonstration, demonstrate, write_demonstration};
 use election_script::{Script, read};
+use polling_world::keys_of;
 use std::alloc::Global;
 use std::test::Fail;
 
@@ -92,7 +93,8 @@ fn script_of(alloc: Global, parts: &[&str]) -> Result<Script, Fail>
 /// What is shown of the script of these parts.
 fn shown_for(alloc: Global, parts: &[&str], session: u32) -> Result<Demonstration, Fail> {
     let script = script_of(alloc, parts)?;
-    match demonstrate(alloc, &script, session) {
+    let keys = keys_of(alloc, &script)?;
+    match demonstrate(alloc, &script, keys, session) {
         Ok(shown) => Ok(shown),
         Err(_) => Err(Fail::from("the log is audited")),
     }

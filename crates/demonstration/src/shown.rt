@@ -11,6 +11,7 @@ ghost use Rattle.std.specs.Prelude.{
   IfSome,
   count_by,
   length,
+  map,
 };
 ghost use Rattle.std.specs.Prelude.{Err, Ok, Some, slice_get};
 ghost use Rattle.canonical_sexp.specs.Text.{text_of};
@@ -21,6 +22,7 @@ ghost use Rattle.election_script.specs.Lawful.{IsLawful};
 ghost use Rattle.log_files.specs.LogFile.{IsSealedLogOf};
 ghost use Rattle.log_files.specs.LogText.{HasHeader};
 ghost use Rattle.sha2.specs.Sha256.{sha256};
+ghost use Rattle.polling_world.specs.Keys.{key_of};
 ghost use Rattle.polling_world.specs.Machines.{MachineState};
 ghost use Rattle.polling_world.specs.Worlds.{world_of};
 ghost use Rattle.rule_language.specs.Standard.{standard_rules};
@@ -40,6 +42,7 @@ ghost use Rattle.demonstration.specs.Shown.{is_kept, log_name};
 use crate::kept::kept_text;
 use auditor::{AuditFault, Outcome, Report, audit_logs};
 use election_script::Script;
+use lms_sign::LmsSecret;
 use log_files::{LogRead, MAX_BYTES, sealed_log_of};
 use polling_world::{Machine, play};
 use precedence::Arrows;
@@ -193,10 +196,10 @@ fn first_kept(alloc: Global, machines: &[Machine], session: u32) -> Result<Vec<u
     kept_text(alloc, machines[0].log(), session)
 }
 
-/// Plays the script in memory, and keeps the log of its first machine alone, cut one byte behind
-/// the record of the last Cast, Challenge or Cancel of the session, or whole where it has none or
-/// nothing stands behind it. What is shown is counted of the report on that log by the standard
-/// rules.
+/// Plays the script in memory on machines with these keys, and keeps the log of its first machine
+/// alone, cut one byte behind the record of the last Cast, Challenge or Cancel of the session, or
+/// whole where it has none or nothing stands behind it. What is shown is counted of the report on
+/// that log by the standard rules.
 ///
 /// # Errors
 ///
@@ -205,15 +208,17 @@ fn first_kept(alloc: Global, machines: &[Machine], session: u32) -> Result<Vec<u
 pub fn demonstrate(
     alloc: Global,
     script: &Script,
+    keys: Vec<LmsSecret>,
     session: u32,
 ) -> Result<Demonstration, AuditFault>
-    requires { IsLawful script.now }
+    requires lawful { IsLawful script.now }
+    requires keys { keys.items ≡ map (key_of script.now) script.now.machines }
     ensures ok { IfOk result (IsDemonstrationOf script.now session) }
     ensures err { IfErr result (λ fault.
         IfSome (refusal_of fault) (IsRefusedSo script.now session)) }
     ensures only { IfErr result (λ fault. (fault ≢ AuditFault.ReadFault) × (¬ IsAbsent fault)) }
 {
-    let world = play(alloc, script)?;
+    let world = play(alloc, script, keys)?;
     let machines = world.machines.as_slice();
     let entries = count_sent(machines);
     let bytes = first_kept(alloc, machines, session)?;

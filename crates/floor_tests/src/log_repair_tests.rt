@@ -3,7 +3,7 @@
 use crate::merge_tests::are_steps;
 use crate::polling_world_tests::script_of;
 use log_repair::{finish, repair};
-use polling_world::{World, play};
+use polling_world::{World, keys_of, play};
 use std::alloc::Global;
 use std::test::Fail;
 
@@ -77,7 +77,8 @@ const MENDED: &[(u32, &str, &str, &str)] = &[
 fn stepped(alloc: Global, log: u32, steps: &str) -> Result<World, Fail> {
     let lines = format!(in alloc; "{SESSIONS}{steps}")?;
     let script = script_of(alloc, 1, log, lines.as_str())?;
-    Ok(play(alloc, &script)?)
+    let keys = keys_of(alloc, &script)?;
+    Ok(play(alloc, &script, keys)?)
 }
 
 /// Whether the logs are mended by these steps, and the machines finish by those.

@@ -6,7 +6,7 @@ ghost use Rattle.polling_world.specs.Keys.{roster_of};
 use election_script::{Script, read};
 use entangled_log::Event;
 use entry_format::Sealed;
-use polling_world::{Acted, Machine, Memory, World, key_of, keys_of, play, roster_of};
+use polling_world::{Acted, Machine, Memory, World, key_of, keys_in, keys_of, play, roster_of};
 use roster::Roster;
 use std::alloc::{AllocError, Global};
 use std::test::Fail;
@@ -265,7 +265,8 @@ const PLAYS: &[(u32, &str, &str)] = &[
 /// The world after the steps of the script of these lines in this version, with logs of 64 events.
 pub(crate) fn played(alloc: Global, version: u32, lines: &str) -> Result<World, Fail> {
     let script = script_of(alloc, version, 64, lines)?;
-    Ok(play(alloc, &script)?)
+    let keys = keys_of(alloc, &script)?;
+    Ok(play(alloc, &script, keys)?)
 }
 
 /// Whether those lines come to this.
@@ -278,6 +279,19 @@ fn comes_to(alloc: Global, version: u32, lines: &str, want: &str) -> Result<bool
 fn scripts_of_both_versions_are_played(rt: HostRuntime) -> Result<(), Fail> {
     for &(version, lines, want) in PLAYS {
         assert!(rt; comes_to(rt.alloc(), version, lines, want)?, "{lines}");
+    }
+    Ok(())
+}
+
+#[test]
+fn keys_made_in_threads_are_the_same(rt: HostRuntime) -> Result<(), Fail> {
+    let alloc = rt.alloc();
+    let script = script_of(alloc, 1, 64, SESSION)?;
+    let made = keys_of(alloc, &script)?;
+    let in_threads = keys_in(&rt, alloc, &script)?;
+    assert!(rt; made.len() == 2 && in_threads.len() == 2);
+    for (one, other) in made.iter().zip(in_threads.iter()) {
+        assert!(rt; one.public().bytes() == other.public().bytes());
     }
     Ok(())
 }

@@ -17,4 +17,3 @@ pub mod Rests
 pub mod Collected
 pub mod Worked
 pub mod Counted
-mod MadeKeys

@@ -5,7 +5,6 @@
 
 mod finishing;
 mod gathering;
-mod keys;
 mod laws;
 mod making;
 mod news;

@@ -6,6 +6,10 @@ use std::time::Duration;
 // How long a worker waits at most before it looks again, in microseconds.
 const LONGEST: u64 = 1000;
 
+// How often those that run wait at most for one that has not begun. Where the system refuses a
+// thread, its work begins only when another has ended.
+const PATIENCE: u64 = 32;
+
 // The workers that wait and had the same count of turns when they began their last look.
 #[derive(Drop)]
 struct Waiting {
@@ -19,6 +23,10 @@ struct Waiting {
 pub(crate) struct News {
     workers: u64,
     turns: AtomicU64,
+    /// How many workers have begun.
+    begun: AtomicU64,
+    /// How often all that ran had found nothing while some had not begun.
+    early: AtomicU64,
     /// How many workers sleep.
     asleep: AtomicU64,
     /// How many workers have ended.
@@ -34,6 +42,8 @@ impl News {
         News {
             workers,
             turns: AtomicU64::new(0),
+            begun: AtomicU64::new(0),
+            early: AtomicU64::new(0),
             asleep: AtomicU64::new(0),
             ended: AtomicU64::new(0),
             waiting: Mutex::new(Waiting {
@@ -57,20 +67,25 @@ impl News {
         }
     }
 
+    /// Tells that a worker has begun.
+    pub(crate) fn begin(&self) {
+        self.begun.fetch_add(1, Ordering::SeqCst);
+    }
+
     /// Tells that a worker has ended.
     pub(crate) fn end(&self) {
         self.ended.fetch_add(1, Ordering::SeqCst);
     }
 
     /// Waits after a turn that found nothing until another has done something, for a while at most.
-    /// Once every worker has found nothing since the last turn that did something, nobody waits.
+    /// Once every worker that runs has found nothing since the last turn that did something, nobody
+    /// waits, but for a short while where some have not begun.
     pub(crate) fn wait<R: Wait>(&self, rt: &R, seen: u64) {
         if self.settled.load(Ordering::SeqCst) == seen.wrapping_add(1) {
             return;
         }
         let waiting = self.add(rt, seen);
-        let ended = self.ended.load(Ordering::SeqCst);
-        if waiting.wrapping_add(ended) >= self.workers {
+        if self.is_idle(waiting) {
             self.settled.store(seen.wrapping_add(1), Ordering::SeqCst);
         } else {
             self.asleep.fetch_add(1, Ordering::SeqCst);
@@ -80,6 +95,14 @@ impl News {
             self.asleep.fetch_sub(1, Ordering::SeqCst);
         }
         self.take(rt, seen);
+    }
+
+    // Whether nobody is left to wait for, where so many wait.
+    fn is_idle(&self, waiting: u64) -> bool {
+        let begun = self.begun.load(Ordering::SeqCst);
+        let ended = self.ended.load(Ordering::SeqCst);
+        waiting.wrapping_add(ended) >= begun
+            && (begun == self.workers || self.early.fetch_add(1, Ordering::SeqCst) >= PATIENCE)
     }
 
     // Counts one that waits among those that have seen as much, and tells how many these are. One

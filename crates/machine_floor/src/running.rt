@@ -5,13 +5,12 @@ ghost use Rattle.election_script.specs.Lawful.{IsLawful};
 ghost use Rattle.finished_floor.specs.Floors.{AreBy, ArePlayedAgain, IsFloorOf};
 
 use crate::gathering::gather;
-use crate::keys::make_keys;
 use crate::making::{Prepared, prepare};
 use crate::work::work_all;
 use election_script::Script;
 use finished_floor::{Floor, finish_floor};
 use hall_outside::Gate;
-use polling_world::Memory;
+use polling_world::{Memory, keys_in};
 use std::alloc::Global;
 use std::sync::Wait;
 use std::thread::Threads;
@@ -36,7 +35,7 @@ pub fn run_floor<R: Threads + Wait + Sync, G: Gate + Sync>(
         roster,
         stations,
         links,
-    } = prepare(alloc, script, make_keys(rt, alloc, script)?)?;
+    } = prepare(alloc, script, keys_in(rt, alloc, script)?)?;
     let stations = work_all(rt, alloc, gate, &links, turns_of(script), stations)?;
     let gathered = gather(rt, alloc, roster, links, stations)?;
     finish_floor(alloc, script, gathered)

@@ -35,6 +35,7 @@ fn hand<R: Wait, G: Gate>(
     ensures number { result.0.number ≡ 0 }
     ensures brand { result.0.brand ≡ pass.brand }
 {
+    news.begin();
     for turn in 0..turns {
         let seen = news.turns();
         gate.pass(machine, false, turn);
@@ -78,6 +79,7 @@ fn ear<R: Wait, G: Gate>(
     ensures number { result.number ≡ 1 }
     ensures brand { result.brand ≡ pass.brand }
 {
+    news.begin();
     for turn in 0..turns {
         let seen = news.turns();
         gate.pass(machine, true, turn);

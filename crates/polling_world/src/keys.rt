@@ -10,6 +10,7 @@ use lms_sign::LmsSecret;
 use roster::{Name, Post, Posts, Roster};
 use sha2::{Digest, Sha256};
 use std::alloc::{AllocError, Global};
+use std::thread::Threads;
 
 /// The key of the script's machine at this place, which has signed nothing.
 pub fn key_of(alloc: Global, script: &Script, at: u32) -> Result<LmsSecret, AllocError>
@@ -33,6 +34,23 @@ pub fn keys_of(alloc: Global, script: &Script) -> Result<Vec<LmsSecret>, AllocEr
     Ok(keys)
 }
 
+/// The keys of `keys_of`, the leaves of each of which are made in threads.
+pub fn keys_in<R: Threads + Sync>(
+    rt: &R,
+    alloc: Global,
+    script: &Script,
+) -> Result<Vec<LmsSecret>, AllocError>
+    requires { IsLawful script.now }
+    ensures { IfOk result (λ keys. keys.items ≡ map (key_of script.now) script.now.machines) }
+{
+    let mut keys = Vec::new(alloc);
+    for cast in script.machines.as_slice() {
+        let (id, seed) = id_and_seed(script, cast);
+        keys.push(LmsSecret::make_in(rt, alloc, script.kind, script.height, id, seed)?)?;
+    }
+    Ok(keys)
+}
+
 /// The roster of the script, whose machines have these keys.
 pub fn roster_of(alloc: Global, script: &Script, keys: &[LmsSecret]) -> Result<Roster, AllocError>
     requires { keys.now ≡ map (key_of script.now) script.now.machines }
@@ -52,16 +70,18 @@ fn key_of_cast(alloc: Global, script: &Script, cast: &Cast0) -> Result<LmsSecret
     requires { IsLawful script.now }
     ensures { IfOk result (λ key. key ≡ key_of script.now cast.now) }
 {
+    let (id, seed) = id_and_seed(script, cast);
+    LmsSecret::make(alloc, script.kind, script.height, id, seed)
+}
+
+/// The identifier and the seed of the key of a machine of the script.
+fn id_and_seed(script: &Script, cast: &Cast0) -> ([u8; 16], [u8; 32])
+    ensures id { result.0 ≡ machine_id script.now.seed cast.now.name }
+    ensures seed { result.1 ≡ machine_seed script.now.seed cast.now.name }
+{
     let name = cast.name.as_str().as_bytes();
     let seed = script.seed.as_slice();
-    let id = machine_id(seed, name);
-    LmsSecret::make(
-        alloc,
-        script.kind,
-        script.height,
-        id,
-        machine_seed(seed, name),
-    )
+    (machine_id(seed, name), machine_seed(seed, name))
 }
 
 /// The machine in the roster, with the public key of this key.

@@ -1,5 +1,17 @@
 //! The machines of a polling place, stepped one at a time in one thread.
-ghost use Rattle.std.specs.Prelude.{◌≡◌, ◌↔◌, ◌<◌, ℕ, List, Option, length, IfOk, IsTrue, OnErr};
+ghost use Rattle.std.specs.Prelude.{
+  ◌≡◌,
+  ◌↔◌,
+  ◌<◌,
+  ℕ,
+  List,
+  Option,
+  length,
+  map,
+  IfOk,
+  IsTrue,
+  OnErr,
+};
 ghost use Rattle.entry_format.specs.Nodes.{node_of_sealed};
 ghost use Rattle.entry_format.specs.SealedEntry.{SealedEntry};
 ghost use Rattle.entry_order.specs.declared.event.Event.{Event};
@@ -12,7 +24,7 @@ ghost use Rattle.entry_order.specs.World.{happens, history, sent_in};
 ghost use Rattle.held_counts.specs.Places.{IsSentAt};
 ghost use Rattle.election_script.specs.Lawful.{IsLawful};
 ghost use Rattle.polling_world.specs.Configs.{script_configs};
-ghost use Rattle.polling_world.specs.Keys.{roster_of};
+ghost use Rattle.polling_world.specs.Keys.{key_of, roster_of};
 ghost use Rattle.polling_world.specs.Steps.{IsStepOf};
 ghost use Rattle.polling_world.specs.Worlds.{
   AreFresh,
@@ -24,7 +36,7 @@ ghost use Rattle.polling_world.specs.Worlds.{
   world_of,
 };
 
-use crate::keys::{keys_of, roster_of};
+use crate::keys::roster_of;
 use crate::machine::{Machine, Memory};
 use crate::stepped::Stepped;
 use crate::steps::step_in;
@@ -33,6 +45,7 @@ use entangled_log::Event;
 use entry_format::Sealed;
 use entry_order::Step;
 use held_counts::{Recorder, held_before};
+use lms_sign::LmsSecret;
 use roster::Roster;
 use std::alloc::Global;
 use std::marker::Model;
@@ -68,16 +81,16 @@ impl Model for World {
 }
 
 impl World {
-    /// The machines of the script, before anything happens. Nothing is said to them of the script's
-    /// lines on threads. Making their keys takes a while.
-    pub fn make(alloc: Global, script: &Script) -> Result<World, Memory>
-        requires { IsLawful script.now }
+    /// The machines of the script, which have these keys, before anything happens. Nothing is said
+    /// to them of the script's lines on threads.
+    pub fn make(alloc: Global, script: &Script, keys: Vec<LmsSecret>) -> Result<World, Memory>
+        requires lawful { IsLawful script.now }
+        requires keys { keys.items ≡ map (key_of script.now) script.now.machines }
         ensures machines { IfOk result (λ world. AreFresh script.now world.machines) }
         ensures roster { IfOk result (λ world. world.roster ≡ roster_of script.now) }
         ensures configs { IfOk result (λ world.
             configs_of world.machines ≡ script_configs script.now) }
     {
-        let keys = keys_of(alloc, script)?;
         let roster = roster_of(alloc, script, &keys)?;
         let mut machines = Vec::new(alloc);
         for key in keys {

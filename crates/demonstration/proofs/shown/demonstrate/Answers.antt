@@ -22,14 +22,14 @@ use Rattle.demonstration.proofs.shown.demonstrate.Goals as goal
 pub report_on-requires-clause-roster : goal.report_on-requires-clause-roster
 report_on-requires-clause-roster c =
     let same = ap (λ (w : WorldState). w.roster) c.world.view_is ∙ c.in_ok-world.ensures.roster in
-    subst HaveText (sym same) (roster_has_text c.args.script.now c.requires)
+    subst HaveText (sym same) (roster_has_text c.args.script.now c.requires.lawful)
 
 pub report_on-requires-clause-short : goal.report_on-requires-clause-short
 report_on-requires-clause-short c =
     let same = ap (λ (w : WorldState). w.roster) c.world.view_is ∙ c.in_ok-world.ensures.roster in
     let P : List Post → Type 0 = λ posts. length (text_of (roster_tree posts)) ≤ max_roster in
     subst P (sym same)
-    (roster_short c.args.script.now c.requires c.in_ok-world.world.machines c.in_ok-world.ensures.machines)
+    (roster_short c.args.script.now c.requires.lawful c.in_ok-world.world.machines c.in_ok-world.ensures.machines)
 
 pub report_on-requires-clause-header : goal.report_on-requires-clause-header
 report_on-requires-clause-header c =

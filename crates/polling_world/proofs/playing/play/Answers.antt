@@ -15,7 +15,7 @@ loop-step-init c = record {
 pub step-requires : goal.step-requires
 step-requires c =
     step_of c.args.script.now c.in_ok-world.world.machines c.loop-step.world.machines c.as_slice-steps.result.now
-    c.loop-step.step-index (Act 0) c.requires c.loop-step.invariant.stays c.loop-step.invariant.same
+    c.loop-step.step-index (Act 0) c.requires.lawful c.loop-step.invariant.stays c.loop-step.invariant.same
     c.loop-step-test.true
 
 pub loop-step-preserved : goal.loop-step-preserved

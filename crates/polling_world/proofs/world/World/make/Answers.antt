@@ -18,7 +18,7 @@ loop-key-preserved c =
 pub invariant_of-result : goal.invariant_of-result
 invariant_of-result c =
     subst (λ (posts : List Post). IsWorld posts c.loop-key.machines.items) (sym c.in_ok-roster.ensures)
-    (fresh_world c.args.script.now c.loop-key.machines.items c.loop-key.invariant.each c.requires
+    (fresh_world c.args.script.now c.loop-key.machines.items c.loop-key.invariant.each c.requires.lawful
     c.loop-key.invariant.within)
 
 pub returns-clause-machines : goal.returns-clause-machines

@@ -1,0 +1,7 @@
+use Rattle.std.proofs.Common.{◌≡◌, map, take}
+use Rattle.polling_world.specs.Keys.{key_of}
+use Rattle.polling_world.proofs.keys.keys_in.Given as goal
+
+-- the keys so far
+abbrev pub invariant-loop-cast : goal.invariant-loop-cast
+invariant-loop-cast g l = l.keys.items ≡ map (key_of l.script) (take l.cast-index l.cast-items)
