@@ -3,6 +3,7 @@ pub mod Ending
 pub mod Losses
 pub mod EntryNames
 pub mod Presence
+pub mod Demonstrating
 pub mod Endorsing
 pub mod Checking
 pub mod Watching

@@ -1,5 +1,7 @@
 // The command `audit`: the report on a polling place from whatever logs survive.
-ghost use Rattle.std.specs.Prelude.{◌≡◌, ◌≢◌, codes, map, IfOk, string_bytes};
+ghost use Rattle.std.specs.Prelude.{◌≡◌, ◌≢◌, ℕ, List, codes, map, IfOk, string_bytes};
+ghost use Rattle.evidence.specs.Reading.{IsReadFrom, StoreSeen};
+ghost use Rattle.auditor.specs.Audits.{GivesReportIn};
 ghost use Rattle.auditor.specs.Report.{report_of};
 ghost use Rattle.auditor.specs.Sources.{source_of};
 ghost use Rattle.auditorium_core.specs.Audit.{source_named, IsAuditOf};
@@ -17,9 +19,11 @@ use crate::words::Request;
 use auditor::{Outcome, Report, RulesFrom, write_report};
 use entry_format::Sealed;
 use entry_order::gaps_are_unique;
+use evidence::AuditFault;
 use hall_outside::Store;
 use rule_meaning::rules_are_settled;
 use std::alloc::{AllocError, Global};
+use std::thread::Threads;
 
 /// The request that the words after `audit` make.
 pub(crate) fn audit_request(rest: &[String]) -> Option<Request<'_>>
@@ -68,6 +72,19 @@ fn answer_of(alloc: Global, report: &Report) -> Result<Answer, AllocError>
     Ok(Answer::of_text(alloc, status_by(outcome), text))
 }
 
+/// The answer of an audit, of whatever files.
+fn answered(alloc: Global, audited: Result<Report, AuditFault>) -> Result<Answer, Fault>
+    ensures { (roster rules : List ℕ) (logs : List (List ℕ)) (before after : StoreSeen) →
+        IsReadFrom report_of (GivesReportIn roster (source_named rules) logs) before audited after →
+        IsAnsweredBy (audit roster rules logs) before result after }
+{
+    audits_are_honest();
+    match audited {
+        Ok(report) => Ok(answer_of(alloc, &report)?),
+        Err(fault) => Answer::of_fault(alloc, &fault),
+    }
+}
+
 /// The answer of `audit` for the roster, the rules and the logs in these files.
 pub(crate) fn audit<S: Store>(
     alloc: Global,
@@ -79,9 +96,22 @@ pub(crate) fn audit<S: Store>(
     ensures { IsAnsweredBy (audit roster.now rules.now (map string_bytes logs.now))
         (seen S.Store store.old) result (seen S.Store store.new) }
 {
-    audits_are_honest();
-    match auditor::audit(alloc, store, roster, rules_from(rules), logs) {
-        Ok(report) => Ok(answer_of(alloc, &report)?),
-        Err(fault) => Answer::of_fault(alloc, &fault),
-    }
+    let audited = auditor::audit(alloc, store, roster, rules_from(rules), logs);
+    answered(alloc, audited)
+}
+
+/// The same answer, for which signatures are verified in threads.
+pub(crate) fn audit_in<R: Threads + Sync, S: Store>(
+    rt: &R,
+    alloc: Global,
+    store: &mut S,
+    roster: &str,
+    rules: &str,
+    logs: &[String],
+) -> Result<Answer, Fault>
+    ensures { IsAnsweredBy (audit roster.now rules.now (map string_bytes logs.now))
+        (seen S.Store store.old) result (seen S.Store store.new) }
+{
+    let audited = auditor::audit_in(rt, alloc, store, roster, rules_from(rules), logs);
+    answered(alloc, audited)
 }

@@ -1,22 +1,26 @@
 // The command `demo`: what an audit shows of a generated day, of which one log is left, cut.
-ghost use Rattle.std.specs.Prelude.{◌≡◌, ◌≢◌, ℕ, IfErr, IfOk, codes, map, string_bytes};
+ghost use Rattle.std.specs.Prelude.{◌≡◌, ℕ, IfOk, codes, map, string_bytes};
 ghost use Rattle.election_script.specs.Generated.{generated};
 ghost use Rattle.election_script.specs.Lawful.{IsLawful};
+ghost use Rattle.polling_world.specs.Keys.{key_of};
 ghost use Rattle.auditorium_core.specs.Demonstrated.{IsAnswerOfShown, IsDemonstrationAnswer};
 ghost use Rattle.auditorium_core.specs.Demonstrated.{IsHalfOf, demonstration_answer};
 ghost use Rattle.auditorium_core.specs.Lines.{Answer};
 ghost use Rattle.auditorium_core.specs.WordForms.{AreSessions};
+ghost use Rattle.auditorium_core.specs.inside.Demonstrating.{IsShown};
 ghost use Rattle.auditorium_core.specs.inside.Meaning.{IsReadAs};
 
 use crate::answer::{Answer, Fault};
 use crate::audit::status_by;
-use crate::status::Status;
 use crate::word_forms::sessions_of;
 use crate::words::Request;
 use demonstration::{Demonstration, write_demonstration};
+use election_script::Script;
 use honest_reports::{honest_audits_are_refused_only_so, honest_places_keep_the_standard_rules};
-use polling_world::scripts_are_played_in_one_way;
+use lms_sign::LmsSecret;
+use polling_world::{keys_in, keys_of, scripts_are_played_in_one_way};
 use std::alloc::{AllocError, Global};
+use std::thread::Threads;
 
 /// The request that the words after `demo` make.
 pub(crate) fn demonstration_request(rest: &[String]) -> Option<Request<'_>>
@@ -54,17 +58,45 @@ fn answer_of(alloc: Global, sessions: u32, shown: &Demonstration) -> Result<Answ
     Ok(Answer::of_text(alloc, status_by(shown.outcome), lines.into_bytes()))
 }
 
-/// The answer of `demo` for this many sessions.
-pub(crate) fn demonstrate(alloc: Global, sessions: u32) -> Result<Answer, Fault>
-    requires { AreSessions sessions }
-    ensures told { IfOk result (IsDemonstrationAnswer sessions) }
-    ensures status { IfOk result (λ answer. answer.status ≢ Status.Absent) }
-    ensures fault { IfErr result (λ fault. fault ≡ Fault.Memory) }
+/// The answer of what is shown of the script of so many sessions, whose machines have these keys.
+fn answered(
+    alloc: Global,
+    sessions: u32,
+    script: &Script,
+    keys: Vec<LmsSecret>,
+) -> Result<Answer, Fault>
+    requires script { script.now ≡ generated sessions }
+    requires lawful { IsLawful script.now }
+    requires keys { keys.items ≡ map (key_of script.now) script.now.machines }
+    ensures { IsShown sessions result }
 {
     demonstrations_are_honest();
-    let script = election_script::make(alloc, sessions)?;
-    match demonstration::demonstrate(alloc, &script, half_of(sessions)) {
+    match demonstration::demonstrate(alloc, script, keys, half_of(sessions)) {
         Ok(shown) => Ok(answer_of(alloc, sessions, &shown)?),
         Err(fault) => Answer::of_fault(alloc, &fault),
     }
+}
+
+/// The answer of `demo` for this many sessions.
+pub(crate) fn demonstrate(alloc: Global, sessions: u32) -> Result<Answer, Fault>
+    requires { AreSessions sessions }
+    ensures { IsShown sessions result }
+{
+    let script = election_script::make(alloc, sessions)?;
+    let keys = keys_of(alloc, &script)?;
+    answered(alloc, sessions, &script, keys)
+}
+
+/// The same answer, for which the machines' keys are made in threads.
+pub(crate) fn demonstrate_in<R: Threads + Sync>(
+    rt: &R,
+    alloc: Global,
+    sessions: u32,
+) -> Result<Answer, Fault>
+    requires { AreSessions sessions }
+    ensures { IsShown sessions result }
+{
+    let script = election_script::make(alloc, sessions)?;
+    let keys = keys_in(rt, alloc, &script)?;
+    answered(alloc, sessions, &script, keys)
 }

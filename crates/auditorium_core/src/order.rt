@@ -4,6 +4,9 @@ ghost use Rattle.std.specs.Prelude.{
   ◌≢◌,
   ◌<◌,
   ◌↔◌,
+  ℕ,
+  List,
+  Ok,
   codes,
   map,
   length,
@@ -19,6 +22,9 @@ ghost use Rattle.roster.specs.declared.post.Post.{Post};
 ghost use Rattle.entry_format.specs.Nodes.{node_of_sealed};
 ghost use Rattle.entry_graph.specs.EntryGraph.{IsEntryGraph};
 ghost use Rattle.evidence.specs.Graphs.{entries_of};
+ghost use Rattle.evidence.specs.Logs.{GivesLogsIn};
+ghost use Rattle.evidence.specs.Reading.{IsReadFrom, StoreSeen};
+ghost use Rattle.evidence.specs.RosterFile.{GivesRosterIn};
 ghost use Rattle.auditorium_core.specs.Outside.{seen};
 ghost use Rattle.auditorium_core.specs.Words.{order};
 ghost use Rattle.auditorium_core.specs.EntryWords.{IsNamedBy, IsNumbered, MeansEntry, by_number};
@@ -37,12 +43,13 @@ use crate::words::Request;
 use entry_format::Sealed;
 use entry_graph::Graph;
 use entry_order::{Knot, Three, order_is_settled};
-use evidence::{graph_from, read_logs, read_roster};
+use evidence::{AuditFault, RosterRead, graph_from, read_logs, read_logs_in, read_roster};
 use hall_outside::Store;
 use log_files::LogRead;
 use precedence::{Arrows, Rows};
 use roster::Roster;
 use std::alloc::{AllocError, Global};
+use std::thread::Threads;
 
 /// The request that the words after `order` make.
 pub(crate) fn order_request(rest: &[String]) -> Option<Request<'_>>
@@ -75,12 +82,53 @@ pub(crate) fn order<S: Store>(
     ensures { IsAnsweredBy (order roster.now x.now y.now (map string_bytes logs.now))
         (seen S.Store store.old) result (seen S.Store store.new) }
 {
-    let read = match read_roster(alloc, store, roster) {
-        Ok(read) => read,
-        Err(fault) => return Answer::of_fault(alloc, &fault),
-    };
+    match read_roster(alloc, store, roster) {
+        Ok(read) => {
+            let found = read_logs(alloc, store, logs, &read.roster, &read.election);
+            order_of(alloc, &read, x, y, found)
+        }
+        Err(fault) => Answer::of_fault(alloc, &fault),
+    }
+}
+
+/// The same answer, for which signatures are verified in threads.
+pub(crate) fn order_in<R: Threads + Sync, S: Store>(
+    rt: &R,
+    alloc: Global,
+    store: &mut S,
+    roster: &str,
+    x: &str,
+    y: &str,
+    logs: &[String],
+) -> Result<Answer, Fault>
+    ensures { IsAnsweredBy (order roster.now x.now y.now (map string_bytes logs.now))
+        (seen S.Store store.old) result (seen S.Store store.new) }
+{
+    match read_roster(alloc, store, roster) {
+        Ok(read) => {
+            let found = read_logs_in(rt, alloc, store, logs, &read.roster, &read.election);
+            order_of(alloc, &read, x, y, found)
+        }
+        Err(fault) => Answer::of_fault(alloc, &fault),
+    }
+}
+
+/// The answer once the roster and the logs were read, of whatever files.
+fn order_of(
+    alloc: Global,
+    read: &RosterRead,
+    x: &str,
+    y: &str,
+    logs: Result<Vec<LogRead>, AuditFault>,
+) -> Result<Answer, Fault>
+    ensures { (roster : List ℕ) (names : List (List ℕ)) (old mid new : StoreSeen) →
+        IsReadFrom (λ found. found) (GivesRosterIn roster) old (Ok read.now) mid →
+        IsReadFrom (λ found. found.items)
+        (GivesLogsIn read.now.roster.machines read.now.election names) mid logs new →
+        IsAnsweredBy (order roster x.now y.now names) old result new }
+{
     orders_are_honest();
-    match read_logs(alloc, store, logs, &read.roster, &read.election) {
+    match logs {
         Ok(logs) => order_over(alloc, &read.roster, x, y, logs),
         Err(fault) => Answer::of_fault(alloc, &fault),
     }

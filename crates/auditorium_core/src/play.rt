@@ -2,6 +2,7 @@
 ghost use Rattle.std.specs.Prelude.{◌≡◌, ◌++◌, codes, map, IfOk, OnOk, string_bytes};
 ghost use Rattle.roster.specs.Machines.{HaveText};
 ghost use Rattle.election_script.specs.Lawful.{IsLawful};
+ghost use Rattle.polling_world.specs.Keys.{key_of};
 ghost use Rattle.auditorium_core.specs.Outside.{seen};
 ghost use Rattle.auditorium_core.specs.Words.{play};
 ghost use Rattle.auditorium_core.specs.inside.Meaning.{IsReadAs};
@@ -21,11 +22,13 @@ use crate::script_file::read_script;
 use crate::words::Request;
 use election_script::Script;
 use hall_outside::Store;
+use lms_sign::LmsSecret;
 use log_files::log_text;
-use polling_world::{Left, Machine};
+use polling_world::{Left, Machine, keys_in, keys_of};
 use roster::Roster;
 use std::alloc::{AllocError, Global};
 use std::fmt::Write;
+use std::thread::Threads;
 
 /// The request that the words after `play` make.
 pub(crate) fn play_request(rest: &[String]) -> Option<Request<'_>>
@@ -136,12 +139,18 @@ pub(crate) fn files_of(
     Ok(files)
 }
 
-/// The answer of the script's machines once they have played.
-fn played(alloc: Global, prefix: &str, script: &Script) -> Result<Answer, AllocError>
-    requires { IsLawful script.now }
+/// The answer of the script's machines, which have these keys, once they have played.
+fn played(
+    alloc: Global,
+    prefix: &str,
+    script: &Script,
+    keys: Vec<LmsSecret>,
+) -> Result<Answer, AllocError>
+    requires lawful { IsLawful script.now }
+    requires keys { keys.items ≡ map (key_of script.now) script.now.machines }
     ensures { IfOk result (IsPlayOf prefix.now script.now) }
 {
-    let world = polling_world::play(alloc, script)?;
+    let world = polling_world::play(alloc, script, keys)?;
     let files = files_of(alloc, prefix, &world.roster, &world.machines)?;
     let mut lines = String::new(alloc);
     add_machines(&mut lines, &world.machines)?;
@@ -161,7 +170,30 @@ pub(crate) fn play<S: Store>(
         (seen S.Store store.old) result (seen S.Store store.new) }
 {
     match read_script(alloc, store, name) {
-        Ok(script) => Ok(played(alloc, prefix, &script)?),
+        Ok(script) => {
+            let keys = keys_of(alloc, &script)?;
+            Ok(played(alloc, prefix, &script, keys)?)
+        }
+        Err(fault) => Answer::of_fault(alloc, &fault),
+    }
+}
+
+/// The same answer, for which the machines' keys are made in threads. They play on one.
+pub(crate) fn play_in<R: Threads + Sync, S: Store>(
+    rt: &R,
+    alloc: Global,
+    store: &mut S,
+    name: &str,
+    prefix: &str,
+) -> Result<Answer, Fault>
+    ensures { IsAnsweredBy (play name.now prefix.now)
+        (seen S.Store store.old) result (seen S.Store store.new) }
+{
+    match read_script(alloc, store, name) {
+        Ok(script) => {
+            let keys = keys_in(rt, alloc, &script)?;
+            Ok(played(alloc, prefix, &script, keys)?)
+        }
         Err(fault) => Answer::of_fault(alloc, &fault),
     }
 }

@@ -7,19 +7,19 @@ ghost use Rattle.auditorium_core.specs.inside.Meaning.{IsThreaded, asked};
 ghost use Rattle.auditorium_core.specs.inside.Promise.{AreAnswered, IsAnsweredBy};
 
 use crate::answer::{Answer, Fault};
-use crate::audit::audit;
+use crate::audit::{audit, audit_in};
 use crate::check::check;
-use crate::demonstrating::demonstrate;
+use crate::demonstrating::{demonstrate, demonstrate_in};
 use crate::ending::end_with;
 use crate::endorse::{endorse, endorse_in};
 use crate::endorsed::endorsed;
 use crate::gaps::gaps;
 use crate::make::make;
 use crate::office::{office, office_in};
-use crate::order::order;
-use crate::play::play;
+use crate::order::{order, order_in};
+use crate::play::{play, play_in};
 use crate::prove::prove;
-use crate::repair::repair;
+use crate::repair::{repair, repair_in};
 use crate::run::run;
 use crate::status::Status;
 use crate::watch::watch;
@@ -29,9 +29,10 @@ use std::alloc::Global;
 use std::sync::Wait;
 use std::thread::Threads;
 
-/// Does what the words ask for, and answers how the program ends: each command, of which `run` plays
-/// a script in threads, and `office` and `endorse` make their trees in threads. It reads the files
-/// that the words name, and takes all its memory before it writes. It may wait.
+/// Does what the words ask for, and answers how the program ends: each command. `run` plays a
+/// script in threads; `play`, `repair`, `demo`, `run`, `office` and `endorse` make their keys in
+/// threads, and `audit` and `order` verify signatures in threads. It reads the files that the words
+/// name, and takes all its memory before it writes. It may wait.
 pub fn auditorium<R: Threads + Wait + Sync, S: Store, K: Sink, G: Gate + Sync>(
     rt: &R,
     alloc: Global,
@@ -90,8 +91,13 @@ fn threaded(request: Request<'_>) -> Option<Request<'_>>
     ensures none { IfNone result (IsStill (asked request.entry)) }
 {
     match request {
+        Request::Audit(_, _, _) => Some(request),
+        Request::Demonstrate(_) => Some(request),
         Request::Endorse(_, _) => Some(request),
         Request::Office(_, _) => Some(request),
+        Request::Order(_, _, _, _) => Some(request),
+        Request::Play(_, _) => Some(request),
+        Request::Repair(_, _) => Some(request),
         Request::Run(_, _) => Some(request),
         _ => None,
     }
@@ -105,13 +111,19 @@ fn answer_in<R: Threads + Wait + Sync, S: Store, G: Gate + Sync>(
     request: Request<'_>,
     store: &mut S,
 ) -> Result<Answer, Fault>
-    requires { IsThreaded (asked request) }
+    requires threaded { IsThreaded (asked request) }
+    requires allowed { (command_parts (asked request)).IsAllowed }
     ensures { IsAnsweredBy (asked request.entry)
         (seen S.Store store.old) result (seen S.Store store.new) }
 {
     match request {
+        Request::Audit(roster, rules, logs) => audit_in(rt, alloc, store, roster, rules, logs),
+        Request::Demonstrate(sessions) => demonstrate_in(rt, alloc, sessions),
         Request::Endorse(name, file) => endorse_in(rt, alloc, store, name, file),
         Request::Office(name, seed) => office_in(rt, alloc, store, name, seed),
+        Request::Order(roster, x, y, logs) => order_in(rt, alloc, store, roster, x, y, logs),
+        Request::Play(script, prefix) => play_in(rt, alloc, store, script, prefix),
+        Request::Repair(script, prefix) => repair_in(rt, alloc, store, script, prefix),
         Request::Run(script, prefix) => run(rt, alloc, gate, store, script, prefix),
         _ => unreachable!(),
     }

@@ -1,6 +1,7 @@
 // The command `repair`: a script's machines, whose logs are mended before the close.
 ghost use Rattle.std.specs.Prelude.{◌≡◌, ◌++◌, All, IfOk, OnOk, codes, length, map, string_bytes};
 ghost use Rattle.election_script.specs.Lawful.{IsLawful};
+ghost use Rattle.polling_world.specs.Keys.{key_of};
 ghost use Rattle.polling_world.specs.Steps.{IsStepOf};
 ghost use Rattle.auditorium_core.specs.Outside.{seen};
 ghost use Rattle.auditorium_core.specs.Repair.{IsRepairOf, mended_line, mended_lines};
@@ -16,10 +17,12 @@ use crate::words::Request;
 use election_script::Script;
 use entry_order::Step;
 use hall_outside::Store;
-use polling_world::World;
+use lms_sign::LmsSecret;
+use polling_world::{World, keys_in, keys_of};
 use roster::Roster;
 use std::alloc::{AllocError, Global};
 use std::fmt::Write;
+use std::thread::Threads;
 
 /// The request that the words after `repair` make.
 pub(crate) fn repair_request(rest: &[String]) -> Option<Request<'_>>
@@ -82,13 +85,19 @@ fn answer_of(
     Ok(Answer::of_play(files, lines, undone.as_str())?)
 }
 
-/// The answer of the script's machines once they have played, their logs are mended, and they have
-/// finished.
-fn repaired(alloc: Global, prefix: &str, script: &Script) -> Result<Answer, AllocError>
-    requires { IsLawful script.now }
+/// The answer of the script's machines, which have these keys, once they have played, their logs
+/// are mended, and they have finished.
+fn repaired(
+    alloc: Global,
+    prefix: &str,
+    script: &Script,
+    keys: Vec<LmsSecret>,
+) -> Result<Answer, AllocError>
+    requires lawful { IsLawful script.now }
+    requires keys { keys.items ≡ map (key_of script.now) script.now.machines }
     ensures { IfOk result (IsRepairOf prefix.now script.now) }
 {
-    let mut world = polling_world::play(alloc, script)?;
+    let mut world = polling_world::play(alloc, script, keys)?;
     let mended = log_repair::repair(alloc, &mut world)?;
     let _finishing = log_repair::finish(alloc, &mut world)?;
     answer_of(alloc, prefix, script, &world, mended.as_slice())
@@ -105,7 +114,30 @@ pub(crate) fn repair<S: Store>(
         (seen S.Store store.old) result (seen S.Store store.new) }
 {
     match read_script(alloc, store, name) {
-        Ok(script) => Ok(repaired(alloc, prefix, &script)?),
+        Ok(script) => {
+            let keys = keys_of(alloc, &script)?;
+            Ok(repaired(alloc, prefix, &script, keys)?)
+        }
+        Err(fault) => Answer::of_fault(alloc, &fault),
+    }
+}
+
+/// The same answer, for which the machines' keys are made in threads.
+pub(crate) fn repair_in<R: Threads + Sync, S: Store>(
+    rt: &R,
+    alloc: Global,
+    store: &mut S,
+    name: &str,
+    prefix: &str,
+) -> Result<Answer, Fault>
+    ensures { IsAnsweredBy (repair name.now prefix.now)
+        (seen S.Store store.old) result (seen S.Store store.new) }
+{
+    match read_script(alloc, store, name) {
+        Ok(script) => {
+            let keys = keys_in(rt, alloc, &script)?;
+            Ok(repaired(alloc, prefix, &script, keys)?)
+        }
         Err(fault) => Answer::of_fault(alloc, &fault),
     }
 }

@@ -108,7 +108,7 @@ fn copied(alloc: Global, files: &MemoryStore, read: u64, write: u64) -> Result<M
 }
 
 /// The program's status for words that stand in one text.
-fn ends<R: Threads + Wait + Sync>(
+pub(super) fn ends<R: Threads + Wait + Sync>(
     rt: &R,
     alloc: Global,
     words: &str,

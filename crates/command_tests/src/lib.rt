@@ -33,6 +33,8 @@ mod repair_tests;
 #[cfg(test)]
 mod run_tests;
 #[cfg(test)]
+mod thread_tests;
+#[cfg(test)]
 mod watch_tests;
 #[cfg(test)]
 mod word_tests;

@@ -241,7 +241,10 @@ const PARTED_ENTRIES: &[Expected] = &[
 /// The world after the script's steps.
 fn world_of(alloc: Global, script: &str) -> Result<World, Fail> {
     match election_script::read(alloc, script.as_bytes()) {
-        Ok(script) => Ok(polling_world::play(alloc, &script)?),
+        Ok(script) => {
+            let keys = polling_world::keys_of(alloc, &script)?;
+            Ok(polling_world::play(alloc, &script, keys)?)
+        }
         Err(_) => Err(Fail::from("the script is read")),
     }
 }

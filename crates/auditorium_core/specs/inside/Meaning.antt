@@ -24,8 +24,13 @@ asked (request.Watch roster rules logs) = watch roster.now rules.now (map string
 
 -- the command has threads where there is a runtime
 abbrev pub IsThreaded : Command → Type 0
+IsThreaded (audit roster rules logs) = ⊤
+IsThreaded (demonstrate sessions) = ⊤
 IsThreaded (endorse name file) = ⊤
 IsThreaded (office name seed) = ⊤
+IsThreaded (order roster x y logs) = ⊤
+IsThreaded (play script prefix) = ⊤
+IsThreaded (repair script prefix) = ⊤
 IsThreaded (run script prefix) = ⊤
 IsThreaded other = ⊥
 

@@ -27,7 +27,7 @@ returns-in_ok-played-in-Ok g c =
     let script = c.in-Ok.script in
     let answer = c.in_ok-played-in-Ok.field-0 in
     let given = c.in-Ok.ensures.read in
-    found_answered itself (GivesScriptIn name) (IsAnswerTo (play name prefix)) (seen store old) (seen store c.read_script.new.store)
-    script (Ok answer) given
+    found_answered itself (GivesScriptIn name) (IsAnswerTo (play name prefix)) (seen store old)
+    (seen store c.read_script.new.store) script (Ok answer) given
     (play_told name prefix (store.files old) script answer given.ok c.in_ok-played-in-Ok.ensures)
     (play_is_there prefix script answer c.in_ok-played-in-Ok.ensures) tt

@@ -16,7 +16,7 @@ files_of-requires c =
     let same : c.world.inside.roster.machines ≡ roster_of c.args.script.now =
     ap (λ (w : WorldState). w.roster) c.world.view_is ∙ c.in_ok-world.ensures.roster in
     let P : List Post → Type 0 = λ posts. HaveText posts in
-    subst P (sym same) (roster_has_text c.args.script.now c.requires)
+    subst P (sym same) (roster_has_text c.args.script.now c.requires.lawful)
 
 pub returns : goal.returns
 returns c =
@@ -36,7 +36,7 @@ returns c =
       undone = undone;
       played = c.in_ok-world.ensures.machines;
       order = c.order_is_receipt.ensures.order;
-      honest = players_leave_honest_files script machines c.requires c.in_ok-world.ensures.machines;
+      honest = players_leave_honest_files script machines c.requires.lawful c.in_ok-world.ensures.machines;
       left = subst P left_there c.in_ok-undone.ensures;
       told = told_of_play prefix (roster_of script) machines c.in_ok-files.files.items
           (string_bytes c.new-lines.result) (string_bytes c.add_machines.new.lines) c.as_str.result.now undone

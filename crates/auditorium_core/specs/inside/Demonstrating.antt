@@ -1,0 +1,13 @@
+-- What `demo` promises of its answer, for which it needs no store.
+use Rattle.std.specs.Prelude.{◌≡◌, ◌≢◌, ℕ, Result, IfErr, IfOk}
+use Rattle.auditorium_core.specs.declared.answer.Fault.{Fault}
+use Rattle.auditorium_core.specs.declared.answer.Fault.TheVariants.{Memory}
+use Rattle.auditorium_core.specs.declared.status.Status.TheVariants as status
+use Rattle.auditorium_core.specs.Demonstrated.{IsDemonstrationAnswer}
+use Rattle.auditorium_core.specs.Lines.{Answer}
+
+-- The answer is right for so many sessions. It tells of no absence, and nothing fails but for memory.
+pub record IsShown (sessions : ℕ) (result : Result Answer Fault) : Type 0 where
+  pub told : IfOk result (IsDemonstrationAnswer sessions)
+  pub status : IfOk result (λ answer. answer.status ≢ status.Absent)
+  pub fault : IfErr result (λ fault. fault ≡ Memory)
