@@ -27,11 +27,10 @@ USED_FROM_BELOW = "entry_order"
 PLACES = """
 command_hints  auditorium_cli  auditorium_core  demonstration   auditorium_view
 entangled_picture auditor      .                honest_reports  honest_rules
-evidence       live_auditor    .                short_logs      honest_logs
-report_lines   .               .                .               .
+evidence       live_auditor    .                counterexamples honest_logs
 -----
-floor_losses   .               finished_floor   log_lock        broadcast_queues
-ruled_queues   .               floor_sweep      machine_floor   floor_links
+.              .               finished_floor   log_lock        broadcast_queues
+ruled_queues   .               .                machine_floor   floor_links
 -----
 log_repair     .               election_script  polling_world   .
 deed_history   .               .                booth_core      supervisor_core
@@ -44,7 +43,7 @@ roster         .               entry_format     .               .
 -----
 .              .               .                .               office_key
 item_list      canonical_sexp  .                lms_sign        hss_sign
-first_cause    hall_outside    hall_text        lms_ots         .
+.              hall_outside    hall_text        lms_ots         .
 """
 
 # Blue, vermilion and bluish green can be told apart by everybody (Okabe and Ito).

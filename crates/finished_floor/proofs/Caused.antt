@@ -1,32 +1,20 @@
--- What was lost before a sweep and in it: each loss keeps its cause, in whatever order they are told.
-use Rattle.std.proofs.Common.{◌≡◌, ◌⊎◌, ◌∙◌, ℕ, ◌<◌, ◌≤◌, inl, inr, Bool, true, List}
-use Rattle.std.proofs.Common.{◌++◌, length, Option, Some, get_or, refl, sym, ap, subst, arith, length-append}
-use Rattle.std.specs.Prelude.{nat_lt, ◌&&◌, not, All}
-use Rattle.std.specs.List.{Contains, filter}
-use Rattle.std.specs.List.Sorted.{IsPermutation}
-use Rattle.std.proofs.lemmas.Bool.{cases_Bool, cases_lt, and_parts, and_from, true≢false}
-use Rattle.std.proofs.lemmas.List.Elements.{All-contains, Contains-append_cases, Contains-append_left, Contains-get_or}
-use Rattle.std.proofs.lemmas.List.Elements.{filter-append}
-use Rattle.std.proofs.lemmas.List.Sorted.{Contains-permutation, IsPermutation-sym}
-use Rattle.entry_format.specs.SealedEntry.{SealedEntry}
-use Rattle.entry_order.specs.History.{sent}
-use Rattle.entry_order.specs.World.{history}
-use Rattle.entry_order.proofs.Lists.{list_any_of, list_any_some}
-use Rattle.election_script.specs.declared.script.Script.{Script}
-use Rattle.floor_losses.specs.declared.loss.Loss.{Loss}
-use Rattle.floor_losses.specs.declared.loss.LossWhy.{LossWhy}
-use Rattle.floor_losses.specs.declared.loss.LossWhy.TheVariants.{Scripted, LinkFull, ToStopped, LogFull, SameDigest}
-use Rattle.floor_losses.specs.Losses.{is_of}
-use Rattle.floor_losses.proofs.Arriving.{is_of_parts, itself}
-use Rattle.floor_losses.proofs.Lists.{filter_same}
-use Rattle.floor_sweep.specs.Places.{ArePlaced, HaveGrown, count_sent}
-use Rattle.floor_sweep.specs.Swept.{AreScripted, IsLossCause, IsLicensed}
-use Rattle.floor_sweep.proofs.Handed.{legal_at}
-use Rattle.floor_losses.proofs.Numbers.{numbers_below}
-use Rattle.polling_world.specs.Machines.{MachineState, IsWithinStop}
-use Rattle.polling_world.specs.Worlds.{world_of}
-use Rattle.finished_floor.specs.Places.{AreMachinesOf}
-use Rattle.finished_floor.specs.Losses.{AreLostAsScripted, IsCauseOf, IsOnWay, is_before_link, is_kept_off, put_before}
+-- What was lost before a sweep and in it: each loss keeps its cause, in whatever order losses are reported.
+use Rattle.finished_floor.proofs.Imports.{◌≡◌, ◌⊎◌, ◌∙◌, ℕ, ◌<◌, ◌≤◌, inl, inr, Bool, true, List, ◌++◌, length}
+use Rattle.finished_floor.proofs.Imports.{Option, Some, get_or, refl, sym, ap, subst, arith, length-append, nat_lt}
+use Rattle.finished_floor.proofs.Imports.{◌&&◌, not, Contains, filter, IsPermutation, cases_Bool, cases_lt, and_parts}
+use Rattle.finished_floor.proofs.Imports.{and_from, true≢false, All-contains, Contains-append_cases}
+use Rattle.finished_floor.proofs.Imports.{Contains-append_left, Contains-get_or, filter-append, Contains-permutation}
+use Rattle.finished_floor.proofs.Imports.{IsPermutation-sym, SealedEntry, sent, history, list_any_of, list_any_some}
+use Rattle.finished_floor.proofs.Imports.{Script, Loss, LossWhy, Scripted, LinkFull, ToStopped, LogFull, SameDigest}
+use Rattle.finished_floor.proofs.Imports.{is_of, ArePlaced, HaveGrown, count_sent, AreScripted, IsLossCause}
+use Rattle.finished_floor.proofs.Imports.{IsLicensed, MachineState, IsWithinStop, world_of, AreMachinesOf}
+use Rattle.finished_floor.proofs.Imports.{AreLostAsScripted, IsCauseOf, IsOnWay, is_before_link, is_kept_off}
+use Rattle.finished_floor.proofs.Imports.{put_before}
+use Rattle.std.specs.Prelude.{All}
+use Rattle.finished_floor.proofs.Arriving.{is_of_parts, itself}
+use Rattle.finished_floor.proofs.Lists.{filter_same}
+use Rattle.finished_floor.proofs.Handed.{legal_at}
+use Rattle.finished_floor.proofs.Numbers.{numbers_below}
 use Rattle.finished_floor.proofs.Grown.{are_placed, count_more, held_still, log_is, longer, machines_still}
 use Rattle.finished_floor.proofs.Grown.{now_at, sent_more, sent_still}
 
@@ -43,14 +31,14 @@ module _ (script : Script) (ms ns : List MachineState) (of : AreMachinesOf scrip
   now_of : AreMachinesOf script ns
   now_of = machines_still ms ns grown script of placed
 
-  -- what is told was lost before, or since
+  -- what is reported was lost before, or since
   pub told_cases : (l : Loss) → Contains told l → Contains before l ⊎ Contains lost l
   told_cases l c =
       Contains-append_cases before lost l
       (subst (λ (xs : List Loss). Contains xs l) losses
       (Contains-permutation told after l (IsPermutation-sym after told moved) c))
 
-  -- what was lost before the sweep is told
+  -- what was lost before the sweep is reported
   told_before : (l : Loss) → Contains before l → Contains told l
   told_before l c =
       Contains-permutation after told l moved
@@ -70,7 +58,7 @@ module _ (script : Script) (ms ns : List MachineState) (of : AreMachinesOf scrip
   on_way_new : (l : Loss) → IsLicensed script.loses ns l → IsOnWay ns l
   on_way_new l is = record { from = is.from; to = is.to; other = is.other; number = is.number }
 
-  -- and so is each that is told
+  -- each loss that is reported is on a way between two machines
   pub all_on_way : All (IsOnWay ns) told
   all_on_way =
       all_by (IsOnWay ns) told
@@ -103,7 +91,7 @@ module _ (script : Script) (ms ns : List MachineState) (of : AreMachinesOf scrip
     scripted_before l is of_this LogFull cause off = cc
     scripted_before l is of_this SameDigest cause off = cc
 
-    -- so after the sweep an entry that was sent before is kept off the link exactly where it was
+    -- so after the sweep an entry that was sent before is kept off the link exactly when it was
     kept_off_same : is_kept_off told from number to ≡ is_kept_off before from number to
     kept_off_same =
         elim (cases_Bool (is_kept_off before from number to)) [
@@ -182,7 +170,7 @@ module _ (script : Script) (ms ns : List MachineState) (of : AreMachinesOf scrip
       (m, is, full ∙ log_is script l.to m (now_of.each l.to m is))
   cause_new l SameDigest cause = cause
 
-  -- so each loss that is told has its cause
+  -- each loss that is reported has its cause
   pub all_caused : All (λ loss. IsCauseOf script ns told loss loss.why) told
   all_caused =
       all_by (λ loss. IsCauseOf script ns told loss loss.why) told

@@ -1,17 +1,12 @@
 -- How many members a list has at most.
-use Rattle.std.proofs.Common.{◌≡◌, ◌∙◌, ℕ, suc, ◌+◌, ◌-◌, ◌<◌, ◌≤◌, inl, inr, Bool, true, false, List, []}
-use Rattle.std.proofs.Common.{◌∷◌, ◌++◌, length, get_or, refl, sym, ap, subst, arith, length-append, append_assoc}
-use Rattle.std.specs.Prelude.{nat_lt, ◌&&◌, cond}
-use Rattle.std.specs.List.{AllPairs, Contains, filter}
-use Rattle.std.proofs.lemmas.Bool.{cases_lt, and_left, le-ltb}
-use Rattle.std.proofs.lemmas.List.Elements.{Contains-append_left, Contains-append_right, Contains-append_cases}
-use Rattle.entry_order.specs.declared.event.Event.{Event}
-use Rattle.entry_order.specs.Node.{Node}
-use Rattle.entry_order.specs.History.{IsLegal, entry_of, held}
-use Rattle.entry_order.proofs.Histories.{new_from_may}
-use Rattle.entry_order.proofs.Lists.{Contains-head, Contains-later, Contains-cons_cases, Contains-map}
-use Rattle.entry_order.proofs.Lists.{Contains-map_cases}
-use Rattle.entry_order.proofs.Orders.{member_split}
+use Rattle.finished_floor.proofs.Imports.{◌≡◌, ◌∙◌, ℕ, suc, ◌+◌, ◌-◌, ◌<◌, ◌≤◌, inl, inr, Bool, true, false, List, []}
+use Rattle.finished_floor.proofs.Imports.{◌∷◌, ◌++◌, length, get_or, refl, sym, ap, subst, arith, length-append}
+use Rattle.finished_floor.proofs.Imports.{nat_lt, ◌&&◌, AllPairs, Contains, filter, cases_lt, and_left, le-ltb}
+use Rattle.finished_floor.proofs.Imports.{Contains-append_left, Contains-append_right, Contains-append_cases, Event}
+use Rattle.finished_floor.proofs.Imports.{Node, IsLegal, entry_of, held, new_from_may, Contains-head, Contains-later}
+use Rattle.finished_floor.proofs.Imports.{Contains-cons_cases, Contains-map, Contains-map_cases, member_split}
+use Rattle.std.proofs.Common.{append_assoc}
+use Rattle.std.specs.Prelude.{cond}
 
 module _ {X : Type 0} where
   -- no member is among the later ones
@@ -82,6 +77,6 @@ module _ {T : Type 0} (node : T → Node) where
     different_from owner h (p ++ x ∷ []) q (is ∙ sym (append_assoc p (x ∷ []) q)) legal,
   )
 
-  -- so the entries of a legal history are all different
+  -- the entries held by a legal history are all different
   pub held_different : (owner : ℕ) (h : List (Event T)) → IsLegal node owner h → AreDifferent (held h)
   held_different owner h legal = different_from owner h [] h refl legal

@@ -1,22 +1,11 @@
 -- A whole run of a floor's machines has no stamp that is spent.
-use Rattle.std.proofs.Common.{◌≡◌, ℕ, ◌*◌, ◌≤◌, inl, inr, List, length, Some, ap, arith}
-use Rattle.std.specs.Prelude.{slice_get, All}
-use Rattle.std.proofs.lemmas.Option.{slice_get-get_or}
-use Rattle.std.specs.Prelude.{slice_index_or}
-use Rattle.entry_format.specs.Nodes.{node_of_sealed}
-use Rattle.entry_format.specs.SealedEntry.{SealedEntry}
-use Rattle.entry_order.specs.Receipt.{IsOrderly, StampsAreFew}
-use Rattle.entry_order.specs.World.{Machine, sent_in}
-use Rattle.election_script.specs.declared.script.Script.{Script}
-use Rattle.election_script.specs.Lawful.{IsLawful, max_events}
-use Rattle.floor_sweep.specs.Wholes.{IsWholeRun}
-use Rattle.floor_sweep.proofs.Places.{length_world}
-use Rattle.polling_world.specs.Machines.{MachineState}
-use Rattle.polling_world.specs.Waiting.{IsStampSpent}
-use Rattle.polling_world.specs.Worlds.{machine_of, world_of}
-use Rattle.polling_world.proofs.Growing.{sent_in_few}
-use Rattle.polling_world.proofs.Placing.{get-map_from}
-use Rattle.finished_floor.specs.Places.{AreMachinesOf, IsAtEnd}
+use Rattle.finished_floor.proofs.Imports.{◌≡◌, ℕ, ◌*◌, ◌≤◌, inl, inr, List, length, Some, ap, arith, slice_get}
+use Rattle.finished_floor.proofs.Imports.{slice_get-get_or, slice_index_or, node_of_sealed, SealedEntry, IsOrderly}
+use Rattle.finished_floor.proofs.Imports.{StampsAreFew, Machine, sent_in, Script, IsLawful, max_events, IsWholeRun}
+use Rattle.finished_floor.proofs.Imports.{MachineState, IsStampSpent, machine_of, world_of, sent_in_few, get-map_from}
+use Rattle.finished_floor.proofs.Imports.{AreMachinesOf, IsAtEnd}
+use Rattle.std.specs.Prelude.{All}
+use Rattle.finished_floor.proofs.Places.{length_world}
 use Rattle.finished_floor.proofs.Grown.{are_placed, log_is}
 use Rattle.finished_floor.proofs.Roomy.{held_sent}
 
@@ -57,7 +46,7 @@ module _ (script : Script) (lawful : IsLawful script) (ms : List MachineState) (
         | inr (inr (inr (inr (inr (inr before))))) ↦ inr (inr (inr (inr (inr before))))
       ]
 
-  -- so where the run of each machine is whole, each is at its end
+  -- each machine is at its end if the run of each is whole
   pub all_at_end : ((place : ℕ) (m : MachineState) → slice_get ms place ≡ Some m → IsWholeRun m) → All IsAtEnd ms
   all_at_end whole k d lt =
       let m : MachineState = slice_index_or ms k d in

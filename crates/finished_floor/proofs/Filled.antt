@@ -1,19 +1,12 @@
 -- Lists that are filled up, and lists place by place.
-use Rattle.std.proofs.Common.{◌≡◌, ◌≢◌, ◌∙◌, ℕ, zero, suc, ◌+◌, ◌-◌, ◌<◌, ◌≤◌, inl, inr, List, [], ◌∷◌, ◌++◌, length}
-use Rattle.std.proofs.Common.{map, replicate, Option, Some, None, refl, sym, ap, subst, arith, get_or, length-append}
-use Rattle.std.specs.Prelude.{slice_get, slice_set}
-use Rattle.std.specs.List.{AllZip}
-use Rattle.std.proofs.lemmas.Bool.{cases_eq}
-use Rattle.std.proofs.lemmas.List.{append_assoc, length-map, replicate-append-replicate}
-use Rattle.std.proofs.lemmas.Option.{slice_get_within, slice_get-get_or}
-use Rattle.entry_format.specs.SealedEntry.{SealedEntry}
-use Rattle.entry_order.specs.declared.event.Event.{Event}
-use Rattle.entry_order.proofs.Places.{one_at}
-use Rattle.polling_world.specs.Machines.{MachineState}
-use Rattle.polling_world.proofs.Placing.{set_cases, set_get}
-use Rattle.finished_floor.specs.Floors.{IsBy, pass_of, passes_of}
-use Rattle.finished_floor.specs.inside.Begun.{IsBegunBy}
-use Rattle.floor_sweep.proofs.Places.{length_set}
+use Rattle.finished_floor.proofs.Imports.{◌≡◌, ◌≢◌, ◌∙◌, ℕ, zero, suc, ◌+◌, ◌-◌, ◌<◌, ◌≤◌, inl, inr, List, [], ◌∷◌}
+use Rattle.finished_floor.proofs.Imports.{◌++◌, length, map, replicate, Option, Some, None, refl, sym, ap, subst}
+use Rattle.finished_floor.proofs.Imports.{arith, get_or, length-append, slice_get, slice_set, AllZip, cases_eq}
+use Rattle.finished_floor.proofs.Imports.{length-map, replicate-append-replicate, slice_get_within, slice_get-get_or}
+use Rattle.finished_floor.proofs.Imports.{SealedEntry, Event, one_at, MachineState, set_cases, set_get, IsBy, pass_of}
+use Rattle.finished_floor.proofs.Imports.{passes_of, IsBegunBy}
+use Rattle.std.proofs.lemmas.List.{append_assoc}
+use Rattle.finished_floor.proofs.Places.{length_set}
 
 module _ {X : Type 0} (row : List X) (x : X) where
   -- one more is added
@@ -49,7 +42,7 @@ module _ {A B C : Type 0} (R : A → C → Type 0) (f : B → C) where
   zip_many (u ∷ xs) [] all = absurd all
   zip_many (u ∷ xs) (v ∷ ys) all = ap suc (zip_many xs ys all.1)
 
-  -- and the other way round
+  -- two lists are paired by a relation if it holds at each place
   pub zip_from : (xs : List A) (ys : List B) → length ys ≡ length xs →
       ((k : ℕ) (x : A) (y : B) → slice_get xs k ≡ Some x → slice_get ys k ≡ Some y → R x (f y)) →
       AllZip R xs (map f ys)
@@ -61,7 +54,7 @@ module _ {A B C : Type 0} (R : A → C → Type 0) (f : B → C) where
     zip_from xs ys (omega arith) (λ k x y is there. each (suc k) x y is there),
   )
 
--- what the workers did is told, and that none did the rest
+-- what the workers did is reported, and that none did the rest
 by_filled : (events : List (Event SealedEntry)) (row filled : List (Option ℕ)) → IsBegunBy events row →
     filled ≡ row ++ replicate (length events - length row) None → IsBy events filled
 by_filled events row filled (first, later, whole, row_is) is =
@@ -77,7 +70,7 @@ by_filled events row filled (first, later, whole, row_is) is =
           ∙ ap (λ n. passes_of first ++ replicate n None) rest,
     )
 
--- it tells of no more events than there are
+-- it reports on no more events than there are
 pub begun_few : (events : List (Event SealedEntry)) (row : List (Option ℕ)) → IsBegunBy events row →
     length row ≤ length events
 begun_few events row (first, later, whole, row_is) =
@@ -92,10 +85,10 @@ module _ {B : Type 0} (f : B → List (Option ℕ)) (ms : List MachineState) whe
   pub record Filling (at : ℕ) (by : List B) : Type 0 where
     -- there is a list for each machine
     pub many : length by ≡ length ms
-    -- those below `at` tell of each event who did it, or that no worker did
+    -- those below `at` report of each event who did it, or that no worker did
     pub done : (k : ℕ) (m : MachineState) (row : B) → slice_get ms k ≡ Some m → slice_get by k ≡ Some row → k < at →
         IsBy m.events (f row)
-    -- the others tell who did the first events
+    -- the others report who did the first events
     pub rest : (k : ℕ) (m : MachineState) (row : B) → slice_get ms k ≡ Some m → slice_get by k ≡ Some row → at ≤ k →
         IsBegunBy m.events (f row)
 

@@ -1,29 +1,12 @@
 -- What the sweep leaves, sorted, is what a run comes to.
-use Rattle.std.proofs.Common.{◌≡◌, ◌∙◌, ℕ, List, [], ◌++◌, length, map, Option, Some, sym}
-use Rattle.std.specs.Prelude.{slice_get, All}
-use Rattle.std.specs.List.{AllPairs, AllZip}
-use Rattle.std.specs.List.Sorted.{IsPermutation}
-use Rattle.entry_format.specs.Nodes.{node_of_sealed}
-use Rattle.entry_order.specs.Receipt.{IsOrderly}
-use Rattle.entry_order.specs.World.{history}
-use Rattle.election_script.specs.Lawful.{IsLawful}
-use Rattle.election_script.specs.declared.script.Script.{Script}
-use Rattle.floor_losses.specs.declared.loss.Loss.{Loss}
-use Rattle.floor_losses.specs.Balance.{IsBalanced}
-use Rattle.floor_losses.specs.Losses.{AreOnce}
-use Rattle.floor_losses.proofs.Once.{each_is_heard_or_lost}
-use Rattle.entry_order.proofs.FewStamps.{stamps_are_few}
-use Rattle.floor_sweep.specs.declared.sweeping.Waiting.{Waiting}
-use Rattle.floor_sweep.specs.Places.{AreMadeByThese, ArePlaced, HaveGrown}
-use Rattle.floor_sweep.specs.Swept.{AreScripted, IsLicensed}
-use Rattle.floor_sweep.specs.Wholes.{IsWholeRun}
-use Rattle.polling_world.specs.Machines.{MachineState}
-use Rattle.polling_world.specs.Worlds.{world_of}
-use Rattle.roster.specs.declared.post.Post.{Post}
-use Rattle.finished_floor.specs.Floors.{AreGathered, ArePlayedAgain, IsFloorOf, passes_of}
-use Rattle.finished_floor.specs.Losses.{IsToldBefore}
-use Rattle.finished_floor.specs.Places.{AreMachinesOf}
-use Rattle.finished_floor.specs.inside.Begun.{IsBegunBy}
+use Rattle.finished_floor.proofs.Imports.{◌≡◌, ◌∙◌, ℕ, List, [], ◌++◌, length, map, Option, Some, sym, slice_get}
+use Rattle.finished_floor.proofs.Imports.{AllPairs, AllZip, IsPermutation, node_of_sealed, IsOrderly, history}
+use Rattle.finished_floor.proofs.Imports.{IsLawful, Script, Loss, IsBalanced, AreOnce, stamps_are_few, Waiting}
+use Rattle.finished_floor.proofs.Imports.{AreMadeByThese, ArePlaced, HaveGrown, AreScripted, IsLicensed, IsWholeRun}
+use Rattle.finished_floor.proofs.Imports.{MachineState, world_of, Post, AreGathered, ArePlayedAgain, IsFloorOf}
+use Rattle.finished_floor.proofs.Imports.{passes_of, IsToldBefore, AreMachinesOf, IsBegunBy}
+use Rattle.std.specs.Prelude.{All}
+use Rattle.finished_floor.proofs.Once.{each_is_heard_or_lost}
 use Rattle.finished_floor.proofs.Caused.{all_caused, all_on_way, all_scripted}
 use Rattle.finished_floor.proofs.Ended.{all_at_end}
 use Rattle.finished_floor.proofs.Filled.{zip_from, zip_at, zip_many}
@@ -33,7 +16,7 @@ use Rattle.finished_floor.proofs.Played.{are_orderly, played_again}
 use Rattle.finished_floor.proofs.Roomy.{loses_nothing}
 use Rattle.finished_floor.proofs.Sorted.{told_once}
 
--- the lists of workers tell of the first events of the machines that have grown
+-- the lists of workers report on the first events of the machines that have grown
 pub rows_begun : {B : Type 0} (f : B → List (Option ℕ)) (ms ns : List MachineState) (rows : List B) →
     HaveGrown ms ns → AllZip (λ (m : MachineState) row. row ≡ passes_of m.events) ms (map f rows) →
     AllZip (λ (n : MachineState) row. IsBegunBy n.events row) ns (map f rows)
@@ -62,7 +45,7 @@ module _ (script : Script) (lawful : IsLawful script) (roster : List Post) (ms n
   now_of : AreMachinesOf script ns
   now_of = machines_still ms ns grown script left.machines placed
 
-  -- no two losses that are told are of one entry on one way
+  -- no two losses that are reported are of one entry on one way
   once : AreOnce told
   once = told_once told sorted
 

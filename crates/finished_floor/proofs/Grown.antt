@@ -1,27 +1,12 @@
 -- Machines that have grown: what they are made of stays, and so does what they sent and held.
-use Rattle.std.proofs.Common.{◌≡◌, ◌∙◌, ℕ, zero, suc, ◌≤◌, inl, inr, Bool, List, [], ◌∷◌, ◌++◌, length, Some, None}
-use Rattle.std.proofs.Common.{refl, sym, ap, subst, arith, length-append}
-use Rattle.std.specs.Prelude.{slice_get}
-use Rattle.std.specs.List.{Contains}
-use Rattle.std.proofs.lemmas.List.{map-append}
-use Rattle.std.proofs.lemmas.List.Elements.{Contains-append_left}
-use Rattle.std.proofs.lemmas.Option.{slice_get_cases, slice_get_past, slice_get_within}
-use Rattle.entry_format.specs.Nodes.{node_of_sealed}
-use Rattle.entry_format.specs.SealedEntry.{SealedEntry}
-use Rattle.entry_order.specs.declared.event.Event.{Event}
-use Rattle.entry_order.specs.History.{entry_of, held, sent}
-use Rattle.entry_order.specs.Naming.{IsBorneIn}
-use Rattle.entry_order.specs.World.{history}
-use Rattle.entry_order.proofs.Histories.{sent-append}
-use Rattle.election_script.specs.declared.script.Cast0.{Cast0}
-use Rattle.election_script.specs.declared.script.Script.{Script}
-use Rattle.floor_sweep.specs.Places.{IsAt, ArePlaced, HasGrown, HaveGrown, count_sent}
-use Rattle.floor_sweep.proofs.Places.{get_within}
-use Rattle.polling_world.specs.Configs.{Config, config_of}
-use Rattle.polling_world.specs.Machines.{MachineState}
-use Rattle.polling_world.specs.Worlds.{world_of}
-use Rattle.polling_world.proofs.Placing.{history_there}
-use Rattle.finished_floor.specs.Places.{IsStopOf, IsMachineOf, AreMachinesOf}
+use Rattle.finished_floor.proofs.Imports.{◌≡◌, ◌∙◌, ℕ, zero, suc, ◌≤◌, inl, inr, Bool, List, [], ◌∷◌, ◌++◌, length}
+use Rattle.finished_floor.proofs.Imports.{Some, None, refl, sym, ap, subst, arith, length-append, slice_get, Contains}
+use Rattle.finished_floor.proofs.Imports.{map-append, Contains-append_left, slice_get_cases, slice_get_past}
+use Rattle.finished_floor.proofs.Imports.{slice_get_within, node_of_sealed, SealedEntry, Event, entry_of, held, sent}
+use Rattle.finished_floor.proofs.Imports.{IsBorneIn, history, sent-append, Cast0, Script, IsAt, ArePlaced, HasGrown}
+use Rattle.finished_floor.proofs.Imports.{HaveGrown, count_sent, Config, config_of, MachineState, world_of}
+use Rattle.finished_floor.proofs.Imports.{history_there, IsStopOf, IsMachineOf, AreMachinesOf}
+use Rattle.finished_floor.proofs.Places.{get_within}
 
 -- where there is no machine there is no history
 pub nothing_at : (ms : List MachineState) (k : ℕ) → slice_get ms k ≡ None → history (world_of ms) k ≡ []
@@ -51,7 +36,7 @@ module _ (script : Script) (place : ℕ) (m : MachineState) (of : IsMachineOf sc
     unmarked = ap (λ (u : MachineState). u.marked) of.made.2;
   }
 
-  -- so is what has grown of it
+  -- a machine that has grown is still the script's machine at its place
   pub grown_of : (n : MachineState) → HasGrown m n → IsAt place n → IsMachineOf script place n
   grown_of n grown at =
       let fresh : Config → Bool → MachineState =
@@ -95,7 +80,7 @@ module _ (ms ns : List MachineState) (grown : HaveGrown ms ns) where
       let lt = slice_get_within ms k m is in
       let (n, there) = get_within ns k (let c = grown.count in omega arith) in (n, there, grown.each k m n is there)
 
-  -- and the one that it was
+  -- each machine at a place has grown from the machine that was there
   pub was_at : (k : ℕ) (n : MachineState) → slice_get ns k ≡ Some n →
       (m : MachineState) × (slice_get ms k ≡ Some m) × HasGrown m n
   was_at k n is =
@@ -135,7 +120,7 @@ module _ (ms ns : List MachineState) (grown : HaveGrown ms ns) where
       let (later, grows) = history_more k in
       (sent later, ap sent grows ∙ sent-append (history (world_of ms) k) later)
 
-  -- so what was sent is still among it
+  -- what a machine has sent stays sent as it grows
   pub sent_still : (k : ℕ) (e : SealedEntry) → Contains (sent (history (world_of ms) k)) e →
       Contains (sent (history (world_of ns) k)) e
   sent_still k e c =
@@ -143,7 +128,7 @@ module _ (ms ns : List MachineState) (grown : HaveGrown ms ns) where
       subst (λ (l : List SealedEntry). Contains l e) (sym grows)
       (Contains-append_left (sent (history (world_of ms) k)) later e c)
 
-  -- and no fewer entries were sent
+  -- a machine that has grown has sent no fewer entries
   pub count_more : (k : ℕ) → count_sent ms k ≤ count_sent ns k
   count_more k =
       let more = sent_more k in

@@ -1,37 +1,19 @@
 -- An entry that is lost on its way isn't held where it was to go.
-use Rattle.std.proofs.Common.{◌≡◌, ◌∙◌, ℕ, inl, inr, cond, List, [], length, Some, refl, sym, ap, subst, arith}
-use Rattle.std.specs.Prelude.{slice_get, ◌==◌, All}
-use Rattle.std.specs.List.{Contains}
-use Rattle.std.specs.List.Sorted.{IsPermutation}
-use Rattle.std.proofs.lemmas.Bool.{eq-eqb}
-use Rattle.std.proofs.lemmas.List.Elements.{All-contains}
-use Rattle.std.proofs.lemmas.List.Sorted.{list_any-IsPermutation}
-use Rattle.entry_format.specs.Nodes.{node_of_sealed}
-use Rattle.entry_format.specs.SealedEntry.{SealedEntry}
-use Rattle.entry_order.specs.declared.event.Event.{Event}
-use Rattle.entry_order.specs.declared.event.Event.TheVariants.{Sent, Got}
-use Rattle.entry_order.specs.Node.{Node}
-use Rattle.entry_order.specs.History.{entry_of, held, sent}
-use Rattle.entry_order.specs.World.{history}
-use Rattle.entry_order.proofs.Lists.{Contains-filter, Contains-map_cases, list_any_of}
-use Rattle.entry_order.proofs.Orders.{Contains-sent}
-use Rattle.floor_losses.specs.declared.loss.Loss.{Loss}
-use Rattle.floor_losses.specs.declared.loss.LossWhy.TheVariants.{SameDigest}
-use Rattle.floor_losses.specs.Balance.{IsBalanced}
-use Rattle.floor_losses.specs.Losses.{AreOnce, got, is_of}
-use Rattle.floor_losses.specs.Laws.{EachIsHeardOrLost, times_lost}
-use Rattle.floor_losses.proofs.Arriving.{arriving_same, itself}
-use Rattle.floor_losses.proofs.Once.{lost_once}
-use Rattle.floor_losses.proofs.Orderly.{Contains-got}
-use Rattle.floor_sweep.specs.Places.{ArePlaced}
-use Rattle.floor_sweep.proofs.Handed.{balance_same, legal_at}
-use Rattle.floor_losses.proofs.Numbers.{numbers_below}
-use Rattle.floor_sweep.proofs.Places.{length_world}
-use Rattle.polling_world.specs.Machines.{MachineState}
-use Rattle.polling_world.specs.Worlds.{world_of}
-use Rattle.polling_world.proofs.Placing.{history_there}
-use Rattle.election_script.specs.declared.script.Script.{Script}
-use Rattle.finished_floor.specs.Losses.{HoldsAnother, IsCauseOf, IsGotOrLost, IsOnWay}
+use Rattle.std.proofs.Common.{cond}
+use Rattle.std.specs.Prelude.{All}
+use Rattle.finished_floor.proofs.Imports.{◌≡◌, ◌∙◌, ℕ, inl, inr, List, [], length, Some, refl, sym, ap, subst, arith}
+use Rattle.finished_floor.proofs.Imports.{slice_get, ◌==◌, Contains, IsPermutation, eq-eqb, All-contains}
+use Rattle.finished_floor.proofs.Imports.{list_any-IsPermutation, node_of_sealed, SealedEntry, Event, Sent, Got, Node}
+use Rattle.finished_floor.proofs.Imports.{entry_of, held, sent, history, Contains-filter, Contains-map_cases}
+use Rattle.finished_floor.proofs.Imports.{list_any_of, Contains-sent, Loss, SameDigest, IsBalanced, AreOnce, got}
+use Rattle.finished_floor.proofs.Imports.{is_of, EachIsHeardOrLost, times_lost, ArePlaced, MachineState, world_of}
+use Rattle.finished_floor.proofs.Imports.{history_there, Script, HoldsAnother, IsCauseOf, IsGotOrLost, IsOnWay}
+use Rattle.finished_floor.proofs.Arriving.{arriving_same, itself}
+use Rattle.finished_floor.proofs.Once.{lost_once}
+use Rattle.finished_floor.proofs.Orderly.{Contains-got}
+use Rattle.finished_floor.proofs.Handed.{balance_same, legal_at}
+use Rattle.finished_floor.proofs.Numbers.{numbers_below}
+use Rattle.finished_floor.proofs.Places.{length_world}
 use Rattle.finished_floor.proofs.Caused.{all_by}
 
 -- losses that change places lose the same
@@ -54,7 +36,7 @@ got_or_lost ms told law once balanced from to e lf lt apart c =
 
 module _ (ms : List MachineState) (placed : ArePlaced ms) (told : List Loss) (once : AreOnce told)
     (each : IsGotOrLost ms told) (only : All (IsOnWay ms) told) where
-  -- a loss that is told is one
+  -- a loss that is reported is one
   lost_then : (l : Loss) → Contains told l → times_lost told l.from l.number l.to ≡ 1
   lost_then l c =
       lost_once told l.from l.number l.to once
@@ -97,7 +79,7 @@ module _ (ms : List MachineState) (placed : ArePlaced ms) (told : List Loss) (on
           | inr not ↦ not.0 got_it
         ]
 
-    -- so it doesn't hold it
+    -- the receiver doesn't hold the lost entry
     pub not_held : Contains (held m.events) e → ⊥
     not_held there =
         let (event, inside, same) = Contains-map_cases entry_of m.events e there in by event inside same

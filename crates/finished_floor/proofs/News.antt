@@ -1,27 +1,12 @@
 -- Machines of a script before anything happened, of which nothing is gathered.
-use Rattle.std.proofs.Common.{◌≡◌, ◌∙◌, ℕ, zero, suc, ◌+◌, inl, inr, List, [], ◌∷◌, ◌++◌, length, map, Option, Some}
-use Rattle.std.proofs.Common.{refl, sym, ap, subst, arith, length-append}
-use Rattle.std.specs.Prelude.{slice_get, All}
-use Rattle.std.specs.List.{Contains}
-use Rattle.std.proofs.lemmas.List.Elements.{All-nil}
-use Rattle.std.proofs.lemmas.Option.{slice_get_cases}
-use Rattle.entry_format.specs.SealedEntry.{SealedEntry}
-use Rattle.entry_order.specs.declared.event.Event.{Event}
-use Rattle.entry_order.specs.declared.event.Event.TheVariants.{Got}
-use Rattle.entry_order.specs.History.{sent}
-use Rattle.entry_order.proofs.Lists.{Contains-none}
-use Rattle.election_script.specs.declared.script.Script.{Script}
-use Rattle.floor_losses.specs.declared.loss.Loss.{Loss}
-use Rattle.floor_sweep.specs.Places.{count_sent}
-use Rattle.floor_sweep.specs.declared.sweeping.Waiting.{Waiting}
-use Rattle.floor_sweep.proofs.News.{each_push, start_balanced, start_on_way, start_once}
-use Rattle.polling_world.specs.Keys.{roster_of}
-use Rattle.polling_world.specs.Machines.{MachineState, IsFresh, IsMachine}
-use Rattle.polling_world.proofs.Placing.{history_there}
-use Rattle.roster.specs.declared.post.Post.{Post}
-use Rattle.finished_floor.specs.Floors.{AreGathered, passes_of}
-use Rattle.finished_floor.specs.Losses.{IsCauseOf, IsOnWay}
-use Rattle.finished_floor.specs.Places.{IsMachineOf, IsStopOf}
+use Rattle.finished_floor.proofs.Imports.{◌≡◌, ◌∙◌, ℕ, zero, suc, ◌+◌, inl, inr, List, [], ◌∷◌, ◌++◌, length, map}
+use Rattle.finished_floor.proofs.Imports.{Option, Some, refl, sym, ap, subst, arith, length-append, slice_get}
+use Rattle.finished_floor.proofs.Imports.{Contains, All-nil, slice_get_cases, SealedEntry, Event, Got, sent}
+use Rattle.finished_floor.proofs.Imports.{Contains-none, Script, Loss, count_sent, Waiting, roster_of, MachineState}
+use Rattle.finished_floor.proofs.Imports.{IsFresh, IsMachine, history_there, Post, AreGathered, passes_of, IsCauseOf}
+use Rattle.finished_floor.proofs.Imports.{IsOnWay, IsMachineOf, IsStopOf}
+use Rattle.std.specs.Prelude.{All}
+use Rattle.finished_floor.proofs.Beginnings.{each_push, start_balanced, start_on_way, start_once}
 use Rattle.finished_floor.proofs.Filled.{zip_from}
 use Rattle.finished_floor.proofs.Grown.{nothing_at}
 

@@ -1,38 +1,16 @@
 -- The merged events of machines can be played on one thread.
-use Rattle.std.proofs.Common.{◌≡◌, ◌∙◌, ℕ, ◌≤◌, List, [], ◌∷◌, ◌++◌, length, map, refl, sym, ap}
-use Rattle.std.proofs.Common.{subst, arith, false, Option, Some, None, inl, inr}
-use Rattle.std.specs.Prelude.{slice_get}
-use Rattle.std.specs.List.{Contains}
-use Rattle.std.proofs.lemmas.List.{length-map}
-use Rattle.std.proofs.lemmas.Option.{slice_get_cases, same_Some}
-use Rattle.entry_format.specs.Nodes.{node_of_sealed}
-use Rattle.entry_format.specs.SealedEntry.{SealedEntry}
-use Rattle.entry_order.specs.declared.event.Event.{Event}
-use Rattle.entry_order.specs.declared.event.Event.TheVariants.{Sent, Got}
-use Rattle.entry_order.specs.declared.step.Step.{Step}
-use Rattle.entry_order.specs.History.{IsLegal}
-use Rattle.entry_order.specs.World.{World, history, start, play}
-use Rattle.entry_order.specs.Made.{IsMadeBy}
-use Rattle.entry_order.specs.Merged.{PlacedEvent, step_of}
-use Rattle.entry_order.specs.Receipt.{IsOrderly}
-use Rattle.entry_order.proofs.Machines.{in_world}
-use Rattle.entry_order.proofs.Merged.{merged_is_played_again}
-use Rattle.floor_losses.specs.declared.loss.Loss.{Loss}
-use Rattle.floor_losses.specs.Balance.{IsBalanced}
-use Rattle.floor_losses.proofs.Orderly.{IsOrderly-balanced}
-use Rattle.floor_sweep.specs.Places.{AreMadeByThese, ArePlaced}
-use Rattle.floor_sweep.proofs.Handed.{balance_same}
-use Rattle.floor_sweep.proofs.Places.{get_within, length_world}
-use Rattle.polling_world.specs.Configs.{Config, script_configs}
-use Rattle.polling_world.specs.Machines.{MachineState}
-use Rattle.polling_world.specs.Making.{next_entry}
-use Rattle.polling_world.specs.Sending.{MaySend}
-use Rattle.polling_world.specs.Worlds.{world_of, configs_of, TellsNext, IsNextAt, IsNextOf}
-use Rattle.polling_world.proofs.Placing.{get-map, get-map_from, history_there}
-use Rattle.polling_world.proofs.WorldMaking.{fresh_configs}
-use Rattle.election_script.specs.declared.script.Script.{Script}
-use Rattle.finished_floor.specs.Floors.{ArePlayedAgain}
-use Rattle.finished_floor.specs.Places.{AreMachinesOf}
+use Rattle.finished_floor.proofs.Imports.{◌≡◌, ◌∙◌, ℕ, ◌≤◌, List, [], ◌∷◌, ◌++◌, length, map, refl, sym, ap, subst}
+use Rattle.finished_floor.proofs.Imports.{arith, false, Option, Some, None, inl, inr, slice_get, Contains, length-map}
+use Rattle.finished_floor.proofs.Imports.{slice_get_cases, same_Some, node_of_sealed, SealedEntry, Event, Sent, Got}
+use Rattle.finished_floor.proofs.Imports.{Step, IsLegal, World, history, start, play, IsMadeBy, PlacedEvent, step_of}
+use Rattle.finished_floor.proofs.Imports.{IsOrderly, in_world, merged_is_played_again, Loss, IsBalanced}
+use Rattle.finished_floor.proofs.Imports.{AreMadeByThese, ArePlaced, Config, script_configs, MachineState, next_entry}
+use Rattle.finished_floor.proofs.Imports.{MaySend, world_of, configs_of, TellsNext, IsNextAt, IsNextOf, get-map}
+use Rattle.finished_floor.proofs.Imports.{get-map_from, history_there, fresh_configs, Script, ArePlayedAgain}
+use Rattle.finished_floor.proofs.Imports.{AreMachinesOf}
+use Rattle.finished_floor.proofs.Orderly.{IsOrderly-balanced}
+use Rattle.finished_floor.proofs.Handed.{balance_same}
+use Rattle.finished_floor.proofs.Places.{get_within, length_world}
 use Rattle.finished_floor.proofs.Grown.{config_is, log_is, nothing_at}
 
 -- a machine may send one entry at most
@@ -42,7 +20,7 @@ sends_one config h e f a b =
     let same : a.deed ≡ b.deed = same_Some a.deed b.deed (sym a.action ∙ b.action) in
     a.made ∙ ap (next_entry config h) same ∙ sym b.made
 
--- so what tells the next entry tells the one that the machine may send
+-- so what gives the next entry gives the one that the machine may send
 told_by : (config : Config) (h : List (Event SealedEntry)) (e : SealedEntry) (told : Option SealedEntry) →
     MaySend config h e → IsNextOf config h told → told ≡ Some e
 told_by config h e None may is = absurd (is e may)

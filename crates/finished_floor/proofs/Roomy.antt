@@ -1,43 +1,19 @@
 -- Where there is room for all, no line loses or stops, and digests differ, nothing is lost.
-use Rattle.std.proofs.Common.{◌≡◌, ◌∙◌, ℕ, zero, suc, ◌<◌, ◌≤◌, inl, inr, List, [], ◌∷◌}
-use Rattle.std.proofs.Common.{length, Option, Some, None, refl, sym, ap, subst, arith, length-append}
-use Rattle.std.specs.Prelude.{slice_get, All, not}
-use Rattle.std.specs.List.{Contains, flat_map}
-use Rattle.std.proofs.lemmas.Bool.{cases_lt, true≢false}
-use Rattle.std.proofs.lemmas.List.{length-map}
-use Rattle.std.proofs.lemmas.List.Elements.{All-contains}
-use Rattle.std.proofs.lemmas.Option.{slice_get_cases, slice_get_within, get_or_from_slice_get}
-use Rattle.entry_format.specs.Nodes.{node_of_sealed}
-use Rattle.entry_format.specs.SealedEntry.{SealedEntry}
-use Rattle.entry_order.specs.declared.event.Event.{Event}
-use Rattle.entry_order.specs.declared.event.Event.TheVariants.{Sent, Got}
-use Rattle.entry_order.specs.History.{entry_of, held, sent}
-use Rattle.entry_order.specs.Naming.{Distinct}
-use Rattle.entry_order.specs.Receipt.{IsOrderly}
-use Rattle.entry_order.specs.World.{history, sent_in}
-use Rattle.entry_order.proofs.Histories.{nth_split}
-use Rattle.entry_order.proofs.Lists.{Contains-none, Contains-head, Contains-cons_cases, Contains-map_cases}
-use Rattle.entry_order.proofs.Orders.{Contains-sent_cases, sent_in_from}
-use Rattle.election_script.specs.declared.script.Cast0.{Cast0}
-use Rattle.election_script.specs.declared.script.Lose.{Lose}
-use Rattle.election_script.specs.declared.script.StopAt.{StopAt}
-use Rattle.election_script.specs.declared.script.Script.{Script}
-use Rattle.floor_losses.specs.declared.loss.Loss.{Loss}
-use Rattle.floor_losses.specs.declared.loss.LossWhy.{LossWhy}
-use Rattle.floor_losses.specs.declared.loss.LossWhy.TheVariants.{Scripted, LinkFull, ToStopped, LogFull, SameDigest}
-use Rattle.floor_losses.specs.Losses.{AreOnce}
-use Rattle.floor_sweep.specs.Places.{ArePlaced}
-use Rattle.floor_losses.specs.Scripted.{is_scripted}
-use Rattle.floor_sweep.proofs.Handed.{legal_at}
-use Rattle.floor_losses.proofs.Numbers.{rising_sent}
-use Rattle.floor_sweep.proofs.Places.{get_within}
-use Rattle.polling_world.specs.Configs.{Config}
-use Rattle.polling_world.specs.Machines.{MachineState, IsMachine}
-use Rattle.polling_world.specs.Worlds.{world_of}
-use Rattle.polling_world.proofs.Placing.{history_there}
-use Rattle.finished_floor.specs.Places.{AreMachinesOf, IsStopOf}
-use Rattle.finished_floor.specs.Losses.{HoldsAnother, IsCauseOf, IsGotOrLost, IsOnWay, LosesNothing}
-use Rattle.finished_floor.specs.Losses.{is_kept_off, put_before}
+use Rattle.finished_floor.proofs.Imports.{◌≡◌, ◌∙◌, ℕ, zero, suc, ◌<◌, ◌≤◌, inl, inr, List, [], ◌∷◌, length, Option}
+use Rattle.finished_floor.proofs.Imports.{Some, None, refl, sym, ap, subst, arith, length-append, slice_get, not}
+use Rattle.finished_floor.proofs.Imports.{Contains, flat_map, cases_lt, true≢false, length-map, All-contains}
+use Rattle.finished_floor.proofs.Imports.{slice_get_cases, slice_get_within, get_or_from_slice_get, node_of_sealed}
+use Rattle.finished_floor.proofs.Imports.{SealedEntry, Event, Sent, Got, entry_of, held, sent, Distinct, IsOrderly}
+use Rattle.finished_floor.proofs.Imports.{history, sent_in, nth_split, Contains-none, Contains-head}
+use Rattle.finished_floor.proofs.Imports.{Contains-cons_cases, Contains-map_cases, Contains-sent_cases, sent_in_from}
+use Rattle.finished_floor.proofs.Imports.{Cast0, Lose, StopAt, Script, Loss, LossWhy, Scripted, LinkFull, ToStopped}
+use Rattle.finished_floor.proofs.Imports.{LogFull, SameDigest, AreOnce, ArePlaced, is_scripted, Config, MachineState}
+use Rattle.finished_floor.proofs.Imports.{IsMachine, world_of, history_there, AreMachinesOf, IsStopOf, HoldsAnother}
+use Rattle.finished_floor.proofs.Imports.{IsCauseOf, IsGotOrLost, IsOnWay, LosesNothing, is_kept_off, put_before}
+use Rattle.std.specs.Prelude.{All}
+use Rattle.finished_floor.proofs.Handed.{legal_at}
+use Rattle.finished_floor.proofs.Numbers.{rising_sent}
+use Rattle.finished_floor.proofs.Places.{get_within}
 use Rattle.finished_floor.proofs.Counts.{different_few, held_different, rising_few}
 use Rattle.finished_floor.proofs.Grown.{are_placed, config_is}
 use Rattle.finished_floor.proofs.Heard.{not_held}
@@ -199,7 +175,7 @@ module _ (script : Script) (ms : List MachineState) (of : AreMachinesOf script m
           (sent_in_from (world_of ms) l.from h.entry
           (Contains-sent_cases (history (world_of ms) l.from) h.entry h.was_sent)) h.same)
 
-  -- so nothing is lost
+  -- nothing is lost with room for all, no losses or stops in the script, and distinct digests
   pub loses_nothing : LosesNothing script ms told
   loses_nothing links logs no_loses no_stops distinct =
       none_in told (none_told links logs no_loses no_stops distinct)

@@ -1,23 +1,13 @@
 -- Losses that are sorted.
-use Rattle.std.proofs.Common.{◌≡◌, ◌∙◌, ℕ, suc, inl, inr, Bool, false, List, [], ◌∷◌, get_or, refl, sym, ap, arith}
-use Rattle.std.specs.List.{AllPairs, IsDistinct}
-use Rattle.std.specs.List.Sorted.{IsPermutation, IsSortedByKey}
-use Rattle.std.specs.Cmp.{IsTotalOrder, on_total, then_total}
-use Rattle.std.specs.Ordering.{nat_cmp, ordering_then, is_lt}
-use Rattle.std.specs.declared.cmp.Ordering.{Ordering}
-use Rattle.std.specs.declared.cmp.Ordering.TheVariants.{Less, Equal, Greater}
-use Rattle.std.proofs.lemmas.Bool.{cases_Bool, cases_order, true≢false}
-use Rattle.std.proofs.lemmas.Cmp.{nat_cmp_total}
-use Rattle.std.proofs.lemmas.List.Elements.{All-from_recursion, recursion_from_All}
-use Rattle.std.proofs.lemmas.List.Kept.{AllPairs-cons}
-use Rattle.std.proofs.lemmas.List.Sorted.{sorted_far, ranks_by}
-use Rattle.std.proofs.lemmas.Map.Keys.{IsDistinct-IsPermutation}
-use Rattle.floor_losses.specs.declared.loss.Loss.{Loss}
-use Rattle.floor_losses.specs.Losses.{is_of, Differ, AreOnce}
-use Rattle.floor_losses.proofs.Arriving.{is_of_parts, itself}
-use Rattle.floor_losses.proofs.Once.{differ_sym}
-use Rattle.finished_floor.specs.Losses.{IsToldBefore}
-use Rattle.entry_order.proofs.Comparisons.{level, less}
+use Rattle.finished_floor.proofs.Imports.{◌≡◌, ◌∙◌, ℕ, suc, inl, inr, Bool, false, List, [], ◌∷◌, get_or, refl, sym}
+use Rattle.finished_floor.proofs.Imports.{ap, arith, AllPairs, IsDistinct, IsPermutation, IsSortedByKey, IsTotalOrder}
+use Rattle.finished_floor.proofs.Imports.{on_total, then_total, nat_cmp, ordering_then, is_lt, Ordering, Less, Equal}
+use Rattle.finished_floor.proofs.Imports.{Greater, cases_Bool, cases_order, true≢false, nat_cmp_total}
+use Rattle.finished_floor.proofs.Imports.{All-from_recursion, recursion_from_All, AllPairs-cons, sorted_far, ranks_by}
+use Rattle.finished_floor.proofs.Imports.{IsDistinct-IsPermutation, Loss, is_of, Differ, AreOnce, IsToldBefore, level}
+use Rattle.finished_floor.proofs.Imports.{less}
+use Rattle.finished_floor.proofs.Arriving.{is_of_parts, itself}
+use Rattle.finished_floor.proofs.Once.{differ_sym}
 
 -- a sender, a receiver and a number, and their order
 abbrev pub Key : Type 0
@@ -44,7 +34,7 @@ regroup Less b c = refl
 regroup Equal b c = refl
 regroup Greater b c = refl
 
--- of two losses on different ways or of different entries, the one that isn't above is told first
+-- of two losses on different ways or of different entries, the one that isn't above is reported first
 told_from : (a b : Loss) → is_lt (compare (key_of b) (key_of a)) ≡ false → Differ a b → IsToldBefore a b
 told_from a b not_lt differ =
     let last : Ordering = nat_cmp b.number a.number in
@@ -73,18 +63,18 @@ told_from a b not_lt differ =
           absurd (true≢false (sym (ap (λ o. is_lt (ordering_then o second)) (less b.from a.from higher)) ∙ first_not))
     ]
 
--- sorted losses are told in order
+-- sorted losses are reported in order
 pub told_from_sorted : (xs : List Loss) → AreOnce xs → IsSortedByKey key_of compare xs → AllPairs IsToldBefore xs
 told_from_sorted xs once sorted i j d lt within =
     told_from (get_or xs i d) (get_or xs j d)
     (sorted_far (λ x y. is_lt (compare (key_of x) (key_of y))) (ranks_by compare_total key_of) xs sorted i j d
     (omega arith) within) (once i j d lt within)
 
--- what is told in order is told once
+-- what is reported in order is reported once
 pub told_once : (xs : List Loss) → AllPairs IsToldBefore xs → AreOnce xs
 told_once xs told i j d lt within = by (get_or xs i d) (get_or xs j d) (told i j d lt within)
   where
-    -- a loss that is told before another is of another entry, or on another way
+    -- a loss that is reported before another is of another entry, or on another way
     by : (a b : Loss) → IsToldBefore a b → Differ a b
     by a b before =
         elim (cases_Bool (is_of a.from a.number a.to b)) [

@@ -10,12 +10,12 @@ use Rattle.entry_order.specs.Receipt.{IsOrderly}
 use Rattle.entry_order.specs.World.{World, history}
 use Rattle.roster.specs.declared.post.Post.{Post}
 use Rattle.election_script.specs.declared.script.Script.{Script}
-use Rattle.floor_losses.specs.declared.loss.Loss.{Loss}
-use Rattle.floor_losses.specs.Balance.{IsBalanced}
-use Rattle.floor_losses.specs.Losses.{AreOnce}
-use Rattle.floor_sweep.specs.declared.sweeping.Waiting.{Waiting}
-use Rattle.floor_sweep.specs.Places.{AreMadeByThese}
-use Rattle.floor_sweep.specs.Waits.{AreOnWay, waits_of}
+use Rattle.finished_floor.specs.declared.loss.Loss.{Loss}
+use Rattle.finished_floor.specs.Balance.{IsBalanced}
+use Rattle.finished_floor.specs.Arrivals.{AreOnce}
+use Rattle.finished_floor.specs.declared.sweeping.Waiting.{Waiting}
+use Rattle.finished_floor.specs.Placed.{AreMadeByThese}
+use Rattle.finished_floor.specs.Waits.{AreOnWay, waits_of}
 use Rattle.polling_world.specs.Keys.{roster_of}
 use Rattle.polling_world.specs.Machines.{MachineState}
 use Rattle.polling_world.specs.Playing.{ComesTo}

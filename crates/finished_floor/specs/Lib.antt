@@ -1,3 +1,14 @@
+pub mod Arrivals
+pub mod Balance
+pub mod Laws
+pub mod CauseWords
+pub mod Scripted
+pub mod OfEntries
+pub mod Waits
+pub mod Placed
+pub mod Swept
+pub mod Wholes
+pub mod Done
 pub mod Places
 pub mod Losses
 pub mod Floors

@@ -8,14 +8,14 @@ use Rattle.entry_order.specs.History.{held, sent}
 use Rattle.entry_order.specs.Naming.{Distinct}
 use Rattle.entry_order.specs.World.{history, sent_in}
 use Rattle.election_script.specs.declared.script.Script.{Script}
-use Rattle.floor_losses.specs.declared.loss.Loss.{Loss}
-use Rattle.floor_losses.specs.declared.loss.LossWhy.{LossWhy}
-use Rattle.floor_losses.specs.declared.loss.LossWhy.TheVariants.{Scripted, LinkFull, ToStopped, LogFull, SameDigest}
-use Rattle.floor_losses.specs.Losses.{got_from, is_of}
-use Rattle.floor_losses.specs.Laws.{times_lost}
-use Rattle.floor_sweep.specs.Places.{count_sent}
-use Rattle.floor_losses.specs.Scripted.{is_scripted}
-use Rattle.floor_sweep.specs.Swept.{HoldsSame}
+use Rattle.finished_floor.specs.declared.loss.Loss.{Loss}
+use Rattle.finished_floor.specs.declared.loss.LossWhy.{LossWhy}
+use Rattle.finished_floor.specs.declared.loss.LossWhy.TheVariants.{Scripted, LinkFull, ToStopped, LogFull, SameDigest}
+use Rattle.finished_floor.specs.Arrivals.{got_from, is_of}
+use Rattle.finished_floor.specs.Laws.{times_lost}
+use Rattle.finished_floor.specs.Placed.{count_sent}
+use Rattle.finished_floor.specs.Scripted.{is_scripted}
+use Rattle.finished_floor.specs.Swept.{HoldsSame}
 use Rattle.polling_world.specs.Machines.{MachineState}
 use Rattle.polling_world.specs.Worlds.{world_of}
 
@@ -91,8 +91,8 @@ abbrev pub IsToldBefore : Loss → Loss → Type 0
 IsToldBefore a b =
     (a.from < b.from) ⊎ ((a.from ≡ b.from) × ((a.to < b.to) ⊎ ((a.to ≡ b.to) × (a.number < b.number))))
 
--- The losses are told once each, in order; they are of all entries that weren't got, and of no others; and each has its
--- cause.
+-- The losses are reported once each, in order; they are of all entries that weren't got, and of no others; and each has
+-- its cause.
 pub record AreLosses (script : Script) (machines : List MachineState) (losses : List Loss) : Type 0 where
   pub sorted : AllPairs IsToldBefore losses
   pub each : IsGotOrLost machines losses

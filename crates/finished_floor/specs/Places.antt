@@ -6,7 +6,7 @@ use Rattle.election_script.specs.declared.script.StopAt.{StopAt}
 use Rattle.election_script.specs.declared.script.Script.{Script}
 use Rattle.polling_world.specs.Machines.{MachineState, IsMachine, IsFresh}
 use Rattle.polling_world.specs.Sending.{next_action}
-use Rattle.floor_sweep.specs.Wholes.{IsNextRefused, IsHeldBefore}
+use Rattle.finished_floor.specs.Wholes.{IsNextRefused, IsHeldBefore}
 
 -- the number of events at which the machine stops, if a line says so
 abbrev pub IsStopOf : List StopAt → ℕ → Option ℕ → Type 0

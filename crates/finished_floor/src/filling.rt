@@ -5,11 +5,11 @@ ghost use Rattle.polling_world.specs.Machines.{MachineState};
 ghost use Rattle.finished_floor.specs.Floors.{IsBy};
 ghost use Rattle.finished_floor.specs.inside.Begun.{IsBegunBy};
 
-use floor_sweep::Memory;
 use polling_world::Machine;
+use std::alloc::AllocError;
 
-// Makes the list so long, with `None` at its end.
-fn fill_up(row: &mut Vec<Option<u32>>, count: usize) -> Result<(), Memory>
+// Makes the list this long, with `None` at its end.
+fn fill_up(row: &mut Vec<Option<u32>>, count: usize) -> Result<(), AllocError>
     requires { length row.old.items ≤ count }
     ensures { IfOk result (λ _. row.new.items
         ≡ row.old.items ++ replicate (count - length row.old.items) None) }
@@ -21,7 +21,7 @@ fn fill_up(row: &mut Vec<Option<u32>>, count: usize) -> Result<(), Memory>
 }
 
 /// Adds `None` for each further event of each machine.
-pub fn fill(by: &mut Vec<Vec<Option<u32>>>, machines: &[Machine]) -> Result<(), Memory>
+pub fn fill(by: &mut Vec<Vec<Option<u32>>>, machines: &[Machine]) -> Result<(), AllocError>
     requires { AllZip (λ (m : MachineState) row. IsBegunBy m.events row) machines.now
         (map (λ row. row.items) by.old.items) }
     ensures { IfOk result (λ _. AllZip (λ (m : MachineState) row. IsBy m.events row) machines.now

@@ -6,13 +6,13 @@ ghost use Rattle.finished_floor.specs.Floors.{AreBy, AreGathered, ArePlayedAgain
 use crate::filling::fill;
 use crate::floor::{Floor, Gathered};
 use crate::sorting::sort_losses;
+use crate::sweeping::sweep;
 use election_script::Script;
-use floor_sweep::{Memory, sweep};
-use std::alloc::Global;
+use std::alloc::{AllocError, Global};
 
 /// What waits is heard or lost, each machine does what it can, the losses are put in order, and
-/// the events that no worker did are told so.
-pub fn finish_floor(alloc: Global, script: &Script, gathered: Gathered) -> Result<Floor, Memory>
+/// the events that no worker did are reported as such.
+pub fn finish_floor(alloc: Global, script: &Script, gathered: Gathered) -> Result<Floor, AllocError>
     requires lawful { IsLawful script.now }
     requires gathered { AreGathered script.now gathered.roster.machines gathered.machines.items
         gathered.waits.items gathered.losses.items (map (λ row. row.items) gathered.by.items) }

@@ -1,6 +1,6 @@
 //! What threads leave, and what a run comes to.
-use floor_losses::Loss;
-use floor_sweep::Waiting;
+use crate::loss::Loss;
+use crate::sweeping::Waiting;
 use polling_world::Machine;
 use roster::Roster;
 

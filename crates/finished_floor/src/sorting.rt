@@ -1,10 +1,10 @@
 //! Losses in order.
 ghost use Rattle.std.specs.List.{AllPairs};
 ghost use Rattle.std.specs.List.Sorted.{IsPermutation};
-ghost use Rattle.floor_losses.specs.Losses.{AreOnce};
+ghost use Rattle.finished_floor.specs.Arrivals.{AreOnce};
 ghost use Rattle.finished_floor.specs.Losses.{IsToldBefore};
 
-use floor_losses::Loss;
+use crate::loss::Loss;
 
 /// Sorts the losses by sender, receiver and number. It takes no memory.
 pub fn sort_losses(losses: &mut Vec<Loss>)

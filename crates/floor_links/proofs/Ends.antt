@@ -1,22 +1,10 @@
 -- What a turn does to what was put, and to what was taken.
-use Rattle.std.proofs.Common.{◌≡◌, ◌≢◌, ℕ, ◌<◌, true, false, cond, List, [], ◌∷◌, ◌++◌}
-use Rattle.std.proofs.Common.{sym, ap, ◌∙◌, arith, ◌⊎◌, inl, inr, get_or}
-use Rattle.std.specs.Prelude.{All, ◌==◌, ◌||◌}
-use Rattle.std.specs.List.{Contains, filter}
-use Rattle.std.proofs.lemmas.Bool.{cases_eq, eq-eqb, ne_eqb}
-use Rattle.std.proofs.lemmas.List.{append-nil}
-use Rattle.std.proofs.lemmas.List.Elements.{All-contains, filter-append}
-use Rattle.std.proofs.lemmas.List.Folds.{list_any_none}
-use Rattle.std.proofs.Math.Bool.{or-false}
-use Rattle.entry_format.specs.Nodes.{node_of_sealed}
-use Rattle.entry_format.specs.SealedEntry.{SealedEntry}
-use Rattle.entry_order.specs.declared.event.Event.{Event}
-use Rattle.entry_order.specs.declared.event.Event.TheVariants.{Sent, Got}
-use Rattle.floor_losses.specs.declared.loss.Loss.{Loss}
-use Rattle.floor_losses.specs.Losses.{is_lost, is_of, arriving, got, got_from}
-use Rattle.floor_losses.proofs.Arriving.{lost_either, lost_push, lost_now, other_number, other_from, other_to}
-use Rattle.floor_losses.proofs.Pushes.{got-push, got-sent}
-use Rattle.floor_losses.proofs.Arriving.{arriving_same, arriving_kept, arriving_lost}
+use Rattle.floor_links.proofs.Imports.{◌≡◌, ◌≢◌, ℕ, ◌<◌, true, false, cond, List, [], ◌∷◌, ◌++◌, sym, ap, ◌∙◌, arith}
+use Rattle.floor_links.proofs.Imports.{◌⊎◌, inl, inr, get_or, All, ◌==◌, ◌||◌, Contains, filter, cases_eq, eq-eqb}
+use Rattle.floor_links.proofs.Imports.{ne_eqb, append-nil, All-contains, filter-append, list_any_none, or-false}
+use Rattle.floor_links.proofs.Imports.{node_of_sealed, SealedEntry, Event, Sent, Got, Loss, is_lost, is_of, arriving}
+use Rattle.floor_links.proofs.Imports.{got, got_from, lost_either, lost_push, lost_now, other_number, other_from}
+use Rattle.floor_links.proofs.Imports.{other_to, got-push, got-sent, arriving_same, arriving_kept, arriving_lost}
 
 -- no loss is of this entry
 pub none_of : (losses : List Loss) (from number to : ℕ) →
@@ -89,7 +77,7 @@ got_from-other h x from maker =
     ∙ ap (λ b. got_from node_of_sealed from h ++ cond b (x ∷ []) []) (ne_eqb x.entry.maker from maker)
     ∙ append-nil (got_from node_of_sealed from h)
 
--- nor is what was sent
+-- a history that goes on with a sent entry has got the same from each machine
 pub got_from-sent : (h : List (Event SealedEntry)) (x : SealedEntry) (from : ℕ) →
     got_from node_of_sealed from (h ++ Sent x ∷ []) ≡ got_from node_of_sealed from h
 got_from-sent h x from = ap (filter (λ (e : SealedEntry). e.entry.maker == from)) (got-sent h x)
@@ -104,7 +92,7 @@ takes_heard losses from own taken x heard none is =
     ap (λ l. l ++ x ∷ []) is
     ∙ sym (arriving_kept node_of_sealed losses from own taken x (none_of losses from x.entry.number own none))
 
--- or lost
+-- the entry that was taken last is lost, and what was heard stays
 pub takes_lost : (losses : List Loss) (loss : Loss) (from own : ℕ) (taken : List SealedEntry) (x : SealedEntry)
     (heard : List SealedEntry) →
     is_of from x.entry.number own loss ≡ true → loss.number ≡ x.entry.number →

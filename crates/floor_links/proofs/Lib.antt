@@ -1,3 +1,4 @@
+mod Imports
 pub mod Sent
 pub mod Ends
 pub mod Ways

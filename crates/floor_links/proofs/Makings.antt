@@ -1,16 +1,9 @@
 -- Links are added row by row, each with its ends.
-use Rattle.std.proofs.Common.{◌≡◌, ℕ, ◌+◌, ◌<◌, zero, suc, List, [], ◌∷◌, ◌++◌, length, map, refl, sym}
-use Rattle.std.proofs.Common.{ap, ◌∙◌, subst, arith, inl, inr, set, get_or, get_or-set_same, get_or-set_other}
-use Rattle.std.proofs.Common.{length-append, Vec, Global}
-use Rattle.std.specs.Prelude.{All}
-use Rattle.std.proofs.lemmas.Bool.{cases_eq}
-use Rattle.std.proofs.lemmas.List.{map-append, get_or_default, get_or_append_left}
-use Rattle.std.proofs.lemmas.List.Elements.{All-push}
-use Rattle.std.proofs.Math.ListN.{length-set}
-use Rattle.entry_format.specs.SealedEntry.{SealedEntry}
-use Rattle.broadcast_queues.specs.Ends.{LinkView, OutView, InView, IsNewOut, IsNewIn}
-use Rattle.floor_links.specs.Fresh.{out_of, in_of, IsLinkOf, AreNewRows}
-use Rattle.floor_links.specs.inside.Growing.{IsRowBelow}
+use Rattle.floor_links.proofs.Imports.{◌≡◌, ℕ, ◌+◌, ◌<◌, zero, suc, List, [], ◌∷◌, ◌++◌, length, map, refl, sym, ap}
+use Rattle.floor_links.proofs.Imports.{◌∙◌, subst, arith, inl, inr, set, get_or, get_or-set_same, get_or-set_other}
+use Rattle.floor_links.proofs.Imports.{length-append, Vec, Global, All, cases_eq, map-append, get_or_default}
+use Rattle.floor_links.proofs.Imports.{get_or_append_left, All-push, length-set, SealedEntry, LinkView, OutView}
+use Rattle.floor_links.proofs.Imports.{InView, IsNewOut, IsNewIn, out_of, in_of, IsLinkOf, AreNewRows, IsRowBelow}
 
 -- the ends of one machine that put
 abbrev pub Outs : Type 0
@@ -79,9 +72,9 @@ row_more from capacity most row outs before after link out inn is within of new_
       left = λ b d above. get_or-set_other after most b added d (omega arith) ∙ is.left b d (omega arith);
     }
 
--- so many lists, all of them empty
+-- this many lists, all of them empty
 pub record AreEmpty (many : ℕ) (inns : List Inns) : Type 0 where
-  -- there are so many lists
+  -- there are this many lists
   pub count : length inns ≡ many
   -- each of them is empty
   pub empty : All (λ (l : Inns). l ≡ []) inns

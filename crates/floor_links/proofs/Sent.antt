@@ -1,26 +1,12 @@
 -- Sending to one machine after another.
-use Rattle.std.proofs.Common.{◌≡◌, ◌≢◌, ℕ, ◌+◌, ◌<◌, ◌≤◌, Bool, false, List, [], ◌∷◌, ◌++◌, length, refl, sym}
-use Rattle.std.proofs.Common.{ap, ◌∙◌, subst, arith, inl, inr, set, get_or, Option, Some, None, get_or-set_same}
-use Rattle.std.proofs.Common.{get_or-set_other, length-append}
-use Rattle.std.specs.Prelude.{All, AllPairs}
-use Rattle.std.proofs.lemmas.List.Quantifiers.{all_pairs_push}
-use Rattle.std.proofs.lemmas.Bool.{cases_eq}
-use Rattle.std.proofs.lemmas.List.{append_assoc, append-nil}
-use Rattle.std.proofs.lemmas.List.Elements.{All-append, All-push, All-nil, All-pop, Contains-append_left, Contains-push}
-use Rattle.std.proofs.lemmas.List.Folds.{list_any_none}
-use Rattle.std.proofs.Math.ListN.{length-set}
-use Rattle.entry_format.specs.SealedEntry.{SealedEntry}
-use Rattle.broadcast_queues.specs.Ends.{OutView, LinkView}
-use Rattle.election_script.specs.declared.script.Lose.{Lose}
-use Rattle.election_script.specs.Lawful.{max_actions}
-use Rattle.floor_losses.specs.declared.loss.Loss.{Loss}
-use Rattle.floor_losses.specs.declared.loss.LossWhy.{LossWhy}
-use Rattle.floor_losses.specs.Losses.{is_lost, is_of}
-use Rattle.floor_losses.proofs.Arriving.{lost_push, other_to}
-use Rattle.floor_links.specs.Rows.{HaveCapacity, link_at}
-use Rattle.floor_losses.specs.OfEntries.{loss_of, lost_by}
-use Rattle.floor_losses.specs.Scripted.{is_scripted}
-use Rattle.floor_links.specs.Sendings.{IsWay, IsSentTo, IsTold, IsSentOn, IsSentBelow, AreCopies}
+use Rattle.floor_links.proofs.Imports.{◌≡◌, ◌≢◌, ℕ, ◌+◌, ◌<◌, ◌≤◌, Bool, false, List, [], ◌∷◌, ◌++◌, length, refl}
+use Rattle.floor_links.proofs.Imports.{sym, ap, ◌∙◌, subst, arith, inl, inr, set, get_or, Option, Some, None}
+use Rattle.floor_links.proofs.Imports.{get_or-set_same, get_or-set_other, length-append, All, AllPairs}
+use Rattle.floor_links.proofs.Imports.{all_pairs_push, cases_eq, append_assoc, append-nil, All-append, All-push}
+use Rattle.floor_links.proofs.Imports.{All-nil, All-pop, Contains-append_left, Contains-push, list_any_none}
+use Rattle.floor_links.proofs.Imports.{length-set, SealedEntry, OutView, LinkView, Lose, max_actions, Loss, LossWhy}
+use Rattle.floor_links.proofs.Imports.{is_lost, is_of, lost_push, other_to, HaveCapacity, link_at, loss_of, lost_by}
+use Rattle.floor_links.proofs.Imports.{is_scripted, IsWay, IsSentTo, IsTold, IsSentOn, IsSentBelow, AreCopies}
 
 -- the end of a link that puts
 abbrev End : Type 0
@@ -44,15 +30,15 @@ record AddsOne (lost : List Loss) (most : ℕ) (e : SealedEntry) (cause : Option
   short : length (lost_by e most cause) ≤ 1
   -- it is of this entry, on its way to this machine
   are : AreOn e most (lost_by e most cause)
-  -- what became of the entry on this way is told
+  -- what became of the entry on this way is reported
   told : IsTold (lost ++ lost_by e most cause) e most cause
-  -- what became of it on other ways is told as before
+  -- what became of it on other ways is reported as before
   others : (to : ℕ) → to ≢ most → (c : Option LossWhy) → IsTold lost e to c
       → IsTold (lost ++ lost_by e most cause) e to c
   -- the losses ascend by their receivers
   rising : AllPairs (λ (a b : Loss). a.to < b.to) (lost ++ lost_by e most cause)
 
--- a loss on another way is told as before
+-- a loss on another way is reported as before
 told_kept : (lost : List Loss) (e : SealedEntry) (most to : ℕ) (why : LossWhy) → to ≢ most → (c : Option LossWhy) →
     IsTold lost e to c → IsTold (lost ++ loss_of e most why ∷ []) e to c
 told_kept lost e most to why n None told =
@@ -61,7 +47,7 @@ told_kept lost e most to why n None told =
 told_kept lost e most to why n (Some w) told =
     Contains-append_left lost (loss_of e most why ∷ []) (loss_of e to w) told
 
--- one machine more adds one loss at most, which leaves all others as they are told
+-- one machine more adds one loss at most, which leaves all others as they are reported
 adds_one : (lost : List Loss) (most : ℕ) (e : SealedEntry) (cause : Option LossWhy) →
     All (λ (loss : Loss). loss.to < most) lost → AllPairs (λ (a b : Loss). a.to < b.to) lost →
     AddsOne lost most e cause
@@ -195,7 +181,7 @@ pub record Sending (links : List (List LinkView)) (loses : List Lose) (own numbe
   pub are_copies : AreCopies own number copies
   -- up to the maker itself there is a copy for each machine that is left but it
   pub before : to ≤ own → length copies + to + 1 ≡ count
-  -- behind it there is one for each that is left
+  -- after it there is one for each that is left
   pub behind : own < to → length copies + to ≡ count
   -- the ends of the machines that are left are as they were
   pub left : (k : ℕ) (d : End) → to ≤ k → k < count → get_or outs k d ≡ get_or outs0 k d

@@ -1,21 +1,9 @@
 -- What became of an entry on its way to a machine.
-use Rattle.std.proofs.Common.{◌≡◌, ℕ, ◌<◌, Bool, true, false, List, [], ◌∷◌, ◌++◌, refl, sym, ap, ◌∙◌}
-use Rattle.std.proofs.Common.{subst, arith, ◌⊎◌, inl, inr, Option, Some, None, get_or}
-use Rattle.std.specs.Prelude.{AllPairs}
-use Rattle.std.specs.List.{Contains}
-use Rattle.std.proofs.lemmas.Bool.{cases_lt, true≢false}
-use Rattle.std.proofs.lemmas.List.{append-nil}
-use Rattle.std.proofs.lemmas.List.Elements.{at_from_Contains}
-use Rattle.entry_format.specs.SealedEntry.{SealedEntry}
-use Rattle.entry_order.proofs.Lists.{list_any_of}
-use Rattle.broadcast_queues.specs.Ends.{OutView}
-use Rattle.floor_losses.specs.declared.loss.Loss.{Loss}
-use Rattle.floor_losses.specs.declared.loss.LossWhy.{LossWhy}
-use Rattle.floor_losses.specs.declared.loss.LossWhy.TheVariants.{Scripted, LinkFull, ToStopped, LogFull, SameDigest}
-use Rattle.floor_losses.specs.Losses.{is_lost, is_of}
-use Rattle.floor_losses.proofs.Arriving.{itself}
-use Rattle.floor_losses.specs.OfEntries.{loss_of}
-use Rattle.floor_links.specs.Sendings.{IsWay, IsTold, IsSentOn}
+use Rattle.floor_links.proofs.Imports.{◌≡◌, ℕ, ◌<◌, Bool, true, false, List, [], ◌∷◌, ◌++◌, refl, sym, ap, ◌∙◌, subst}
+use Rattle.floor_links.proofs.Imports.{arith, ◌⊎◌, inl, inr, Option, Some, None, get_or, AllPairs, Contains, cases_lt}
+use Rattle.floor_links.proofs.Imports.{true≢false, append-nil, at_from_Contains, SealedEntry, list_any_of, OutView}
+use Rattle.floor_links.proofs.Imports.{Loss, LossWhy, Scripted, LinkFull, ToStopped, LogFull, SameDigest, is_lost}
+use Rattle.floor_links.proofs.Imports.{is_of, itself, loss_of, IsWay, IsTold, IsSentOn}
 
 -- of losses by ascending receivers, two with one receiver are one
 pub once_there : (xs : List Loss) → AllPairs (λ (a b : Loss). a.to < b.to) xs → (x y : Loss) → Contains xs x →
@@ -35,7 +23,7 @@ once_there xs rises x y c d s =
       ]
     ]
 
--- a loss that is told is one of the entry
+-- a loss that is reported is one of the entry
 told_lost : (lost : List Loss) (e : SealedEntry) (to : ℕ) (why : LossWhy) → Contains lost (loss_of e to why) →
     is_lost lost e.entry.maker e.entry.number to ≡ true
 told_lost lost e to why c =
@@ -79,7 +67,7 @@ module _ (scripted : Bool) (capacity to : ℕ) (e : SealedEntry) (old new : OutV
       (more : List SealedEntry) × (new.put ≡ old.put ++ more)
   put_grows lost on = grows_by on.cause on.way
 
-  -- the same by the cause that is told of this way
+  -- the same by the cause that is reported for this way
   found_by : (lost : List Loss) → AllPairs (λ (a b : Loss). a.to < b.to) lost → (loss : Loss) → Contains lost loss →
       loss.from ≡ e.entry.maker → loss.number ≡ e.entry.number → loss.to ≡ to →
       (cause : Option LossWhy) → IsWay scripted capacity e old new cause → IsTold lost e to cause →
@@ -101,7 +89,7 @@ module _ (scripted : Bool) (capacity to : ℕ) (e : SealedEntry) (old new : OutV
   way_of_loss lost rises loss c from number there on =
       found_by lost rises loss c from number there on.cause on.way on.told
 
-  -- the same by the cause that is told of this way
+  -- the same by the cause that is reported for this way
   named_by : (lost : List Loss) (cause : Option LossWhy) → IsWay scripted capacity e old new cause →
       IsTold lost e to cause → scripted ≡ true → Contains lost (loss_of e to Scripted)
   named_by lost None way told is = absurd (true≢false (sym is ∙ way.0))

@@ -11,12 +11,12 @@ out_of link = record { queue = link.queue; from = link.from; put = []; seen_take
 abbrev pub in_of : LinkView → InView SealedEntry
 in_of link = record { queue = link.queue; from = link.from; taken = []; seen_put = 0; bares = 0 }
 
--- the link carries this machine's entries, and holds at most so many
+-- the link carries this machine's entries, and holds at most this many
 abbrev pub IsLinkOf : ℕ → ℕ → LinkView → Type 0
 IsLinkOf from capacity link = (link.from ≡ from) × (link.capacity ≡ capacity)
 
 -- Links from each of the first senders to each of `count` machines, with all their ends: those that put by senders, and
--- those that take by receivers. The ends of the link from a to b stand in row a at b, and in row b at a.
+-- those that take by receivers. The ends of the link from a to b are in row a at b, and in row b at a.
 pub record AreNewRows (senders count capacity : ℕ) (links : List (List LinkView))
     (outs : List (List (OutView SealedEntry))) (inns : List (List (InView SealedEntry))) : Type 0 where
   pub rows : length links ≡ senders
@@ -29,7 +29,7 @@ pub record AreNewRows (senders count capacity : ℕ) (links : List (List LinkVie
   pub takes : (b : ℕ) (d : List (InView SealedEntry)) (l : LinkView) → b < count →
       slice_index_or inns b d ≡ map (λ row. in_of (slice_index_or row b l)) links
 
--- the same from each of the machines
+-- all links between the machines are new, and the ends are theirs
 abbrev pub AreNewLinks : ℕ → ℕ → List (List LinkView) → List (List (OutView SealedEntry))
     → List (List (InView SealedEntry)) → Type 0
 AreNewLinks count capacity links outs inns = AreNewRows count count capacity links outs inns

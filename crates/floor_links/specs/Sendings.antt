@@ -6,12 +6,12 @@ use Rattle.entry_format.specs.SealedEntry.{SealedEntry}
 use Rattle.election_script.specs.declared.script.Lose.{Lose}
 use Rattle.election_script.specs.Lawful.{max_actions}
 use Rattle.broadcast_queues.specs.Ends.{OutView, PutItem, FoundLinkFull}
-use Rattle.floor_losses.specs.declared.loss.Loss.{Loss}
-use Rattle.floor_losses.specs.declared.loss.LossWhy.{LossWhy}
-use Rattle.floor_losses.specs.declared.loss.LossWhy.TheVariants.{Scripted, LinkFull, ToStopped, LogFull, SameDigest}
-use Rattle.floor_losses.specs.Losses.{is_lost}
-use Rattle.floor_losses.specs.OfEntries.{loss_of, lost_by}
-use Rattle.floor_losses.specs.Scripted.{is_scripted}
+use Rattle.finished_floor.specs.declared.loss.Loss.{Loss}
+use Rattle.finished_floor.specs.declared.loss.LossWhy.{LossWhy}
+use Rattle.finished_floor.specs.declared.loss.LossWhy.TheVariants.{Scripted, LinkFull, ToStopped, LogFull, SameDigest}
+use Rattle.finished_floor.specs.Arrivals.{is_lost}
+use Rattle.finished_floor.specs.OfEntries.{loss_of, lost_by}
+use Rattle.finished_floor.specs.Scripted.{is_scripted}
 
 -- What becomes of an entry at the end that leads to a machine, by the cause of its loss: where a line of the script
 -- says so it is lost and the end stays; otherwise it is put, or it is lost because the link was found full.
@@ -32,12 +32,12 @@ pub record IsSentTo (scripted : Bool) (capacity to : ℕ) (e : SealedEntry) (old
   pub way : IsWay scripted capacity e old new cause
   pub losses : after ≡ before ++ lost_by e to cause
 
--- the losses tell this cause of the entry on its way to a machine, or none
+-- the losses report this cause of the entry on its way to a machine, or none
 abbrev pub IsTold : List Loss → SealedEntry → ℕ → Option LossWhy → Type 0
 IsTold lost e to None = is_lost lost e.entry.maker e.entry.number to ≡ false
 IsTold lost e to (Some why) = Contains lost (loss_of e to why)
 
--- what became of the entry on its way to one machine, as the losses tell
+-- what became of the entry on its way to one machine, as the losses report
 pub record IsSentOn (scripted : Bool) (capacity to : ℕ) (e : SealedEntry) (old new : OutView SealedEntry)
     (lost : List Loss) : Type 0 where
   pub cause : Option LossWhy

@@ -8,6 +8,6 @@ mod parcel;
 mod sending;
 
 pub use links::Links;
-pub use making::{Memory, NewLinks, make_links};
+pub use making::{NewLinks, make_links};
 pub use parcel::Broadcast;
 pub use sending::send_all;

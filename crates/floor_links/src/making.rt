@@ -11,9 +11,6 @@ use crate::parcel::Broadcast;
 use broadcast_queues::{Link, LinkIn, LinkOut};
 use std::alloc::{AllocError, Global};
 
-/// Want of memory.
-pub type Memory = AllocError;
-
 /// The links of a place, and their ends: those that put by senders, those that take by receivers.
 pub struct NewLinks {
     pub links: Links,
@@ -23,7 +20,7 @@ pub struct NewLinks {
 
 /// Links from each of `count` machines to each, which hold at most `capacity` entries. All memory
 /// that they need is taken here.
-pub fn make_links(alloc: Global, count: usize, capacity: usize) -> Result<NewLinks, Memory>
+pub fn make_links(alloc: Global, count: usize, capacity: usize) -> Result<NewLinks, AllocError>
     requires few { count ≤ max_machines }
     requires capacity { (0 < capacity) × (capacity ≤ max_link) }
     ensures { IfOk result (λ new. AreNewLinks count capacity new.links
@@ -53,7 +50,7 @@ fn make_row(
     from: u32,
     capacity: usize,
     inns: &mut Vec<Vec<LinkIn<Broadcast>>>,
-) -> Result<(Vec<Link<Broadcast>>, Vec<LinkOut<Broadcast>>), Memory>
+) -> Result<(Vec<Link<Broadcast>>, Vec<LinkOut<Broadcast>>), AllocError>
     requires capacity { (0 < capacity) × (capacity ≤ max_link) }
     ensures { IfOk result (λ r. IsRowBelow from capacity (vec_len inns.old) r.0.items r.1.items
         (map (λ row. row.items) inns.old.items) (map (λ row. row.items) inns.new.items)) }
@@ -75,7 +72,7 @@ fn push_at(
     inns: &mut Vec<Vec<LinkIn<Broadcast>>>,
     to: usize,
     inn: LinkIn<Broadcast>,
-) -> Result<(), Memory>
+) -> Result<(), AllocError>
     requires { to < vec_len inns.old }
     ensures { IfOk result (λ _. map (λ row. row.items) inns.new.items
         ≡ slice_set (map (λ row. row.items) inns.old.items) to

@@ -5,7 +5,7 @@ ghost use Rattle.election_script.specs.Lawful.{max_actions};
 ghost use Rattle.roster.specs.Machines.{max_machines};
 ghost use Rattle.entry_format.specs.SealedEntry.{SealedEntry};
 ghost use Rattle.broadcast_queues.specs.Ends.{IsOutOf, OutView};
-ghost use Rattle.floor_losses.specs.declared.loss.Loss.{Loss};
+ghost use Rattle.finished_floor.specs.declared.loss.Loss.{Loss};
 ghost use Rattle.floor_links.specs.Sendings.{AreCopies, IsSentBelow, IsSentTo};
 ghost use Rattle.floor_links.specs.Rows.{HaveCapacity, IsRowOf};
 
@@ -15,7 +15,7 @@ use broadcast_queues::{Link, LinkOut};
 use election_script::Lose;
 use entry_format::Sealed;
 use entry_order::Knot;
-use floor_losses::{Loss, LossWhy, is_scripted};
+use finished_floor::{Loss, LossWhy, is_scripted};
 use std::sync::Wait;
 
 // Sends one copy, or notes why it isn't sent.

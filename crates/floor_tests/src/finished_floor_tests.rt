@@ -6,8 +6,7 @@ ghost use Rattle.finished_floor.specs.Floors.{AreGathered};
 
 use crate::sessions::{machine_at, script_of};
 use election_script::Script;
-use finished_floor::{Floor, Gathered, finish_floor};
-use floor_losses::Loss;
+use finished_floor::{Floor, Gathered, Loss, finish_floor};
 use polling_world::{Machine, keys_of, roster_of};
 use std::alloc::{AllocError, Global};
 use std::test::Fail;
@@ -85,7 +84,7 @@ fn finished(alloc: Global, script: &Script) -> Result<String, Fail>
     outcome(alloc, &floor)
 }
 
-/// Whether the script with logs of so many events and these lines more comes to this.
+/// Whether the script with logs of this many events and these lines more comes to this.
 fn comes_to(alloc: Global, log: u32, lines: &str, want: &str) -> Result<bool, Fail> {
     let script = script_of(alloc, log, lines)?;
     Ok(finished(alloc, &script)?.as_str() == want)

@@ -1,12 +1,9 @@
-//! Tests of the public calls of `polling_world`, `log_repair`, `floor_sweep`, `finished_floor` and
-//! `machine_floor`. They stand in a crate of their own, so that what they test isn't proved once
-//! more with them.
+//! Tests of the public calls of `polling_world`, `log_repair`, `finished_floor` and `machine_floor`.
+//! They are in a crate of their own, so that what they test isn't proved once more with them.
 #![tactic(auto)]
 
 #[cfg(test)]
 mod finished_floor_tests;
-#[cfg(test)]
-mod floor_sweep_tests;
 #[cfg(test)]
 mod log_repair_tests;
 #[cfg(test)]
@@ -17,5 +14,7 @@ mod merge_tests;
 mod polling_world_tests;
 #[cfg(test)]
 mod sessions;
+#[cfg(test)]
+mod sweep_tests;
 #[cfg(test)]
 mod world_tests;

@@ -73,7 +73,7 @@ const MENDED: &[(u32, &str, &str, &str)] = &[
     ),
 ];
 
-/// The world after the steps of the script of these sessions, with logs of so many events.
+/// The world after the steps of the script of these sessions, with logs of this many events.
 fn stepped(alloc: Global, log: u32, steps: &str) -> Result<World, Fail> {
     let lines = format!(in alloc; "{SESSIONS}{steps}")?;
     let script = script_of(alloc, 1, log, lines.as_str())?;

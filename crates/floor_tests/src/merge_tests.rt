@@ -22,7 +22,7 @@ const MERGED: &[(&str, &str, &str)] = &[
             step act b1\nstep hear sv b1 0\nstep act b1\nstep hear sv b1 1\n\
             step act b1\nstep hear sv b1 2\nstep act sv\nstep hear b1 sv 2\n",
     ),
-    // Entries with lower stamps are heard behind others.
+    // Entries with lower stamps are heard after others.
     (
         "machine sv supervisor\nmachine b1 booth\nmachine b2 booth\n\
             do sv open\ndo sv authorise b1 1\ndo sv authorise b2 2\ndo b1 activate 1\n\

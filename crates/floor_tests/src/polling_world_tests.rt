@@ -11,7 +11,7 @@ use roster::Roster;
 use std::alloc::{AllocError, Global};
 use std::test::Fail;
 
-/// The script of these lines in this version, with logs of so many events.
+/// The script of these lines in this version, with logs of this many events.
 pub(crate) fn script_of(alloc: Global, version: u32, log: u32, lines: &str) -> Result<Script, Fail>
     ensures { IfOk result IsLawful }
 {
@@ -54,7 +54,7 @@ fn machine_in(
     Machine::make(alloc, script, &roster, at, key, stop_at)
 }
 
-/// The session's machine at the place, with a log of so many events.
+/// The session's machine at the place, with a log of this many events.
 fn machine_of(alloc: Global, log: u32, at: u32, stop_at: Option<u32>) -> Result<Machine, Fail> {
     let script = script_of(alloc, 1, log, SESSION)?;
     if at as usize >= script.machines.as_slice().len() {
@@ -78,7 +78,7 @@ fn word_of(acted: &Acted) -> &'static str {
     }
 }
 
-/// The word of what stands against the next action.
+/// The word of what prevents the next action.
 fn left_word(machine: &Machine) -> &'static str {
     match machine.left() {
         Some(left) => left.why.word(),
@@ -86,7 +86,7 @@ fn left_word(machine: &Machine) -> &'static str {
     }
 }
 
-/// What becomes of the next action, which is also what was told of it before.
+/// What becomes of the next action, which is also what was reported of it before.
 fn act_word(alloc: Global, machine: &mut Machine) -> Result<&'static str, AllocError> {
     let told = left_word(machine);
     let acted = machine.act(alloc, 1)?;
@@ -117,7 +117,7 @@ const ACTS: &[(u32, u32, Option<u32>, u32, &str)] = &[
     (64, 0, Some(1), 1, "Stopped"),
 ];
 
-/// Whether the machine does so many actions by itself, and this is the cause against the next.
+/// Whether the machine does this many actions by itself, and this is what prevents the next.
 fn does(
     alloc: Global,
     log: u32,

@@ -2,7 +2,7 @@
 ghost use Rattle.std.specs.Prelude.{◌≡◌, ◌<◌, [], IfOk, length};
 ghost use Rattle.election_script.specs.Lawful.{IsLawful};
 ghost use Rattle.polling_world.specs.Keys.{roster_of};
-ghost use Rattle.floor_sweep.specs.Places.{IsAt};
+ghost use Rattle.finished_floor.specs.Placed.{IsAt};
 ghost use Rattle.finished_floor.specs.Places.{IsMachineOf, IsStopOf};
 
 use election_script::{Script, StopAt, read};
@@ -20,7 +20,7 @@ const SESSIONS: &str = "machine sv supervisor\nmachine b1 booth\nmachine b2 boot
     do b2 commit 2 0707070707070707070707070707070707070707070707070707070707070707\n\
     do b2 cast 2 0707070707070707070707070707070707070707070707070707070707070707\n";
 
-/// The sessions' script with logs of so many events and these lines more.
+/// The sessions' script with logs of this many events and these lines more.
 pub(crate) fn script_of(alloc: Global, log: u32, lines: &str) -> Result<Script, Fail>
     ensures { IfOk result IsLawful }
 {

@@ -1,12 +1,9 @@
 -- Texts one after another that are cut at some byte.
-use Rattle.std.proofs.Common.{◌≡◌, ◌∙◌, ℕ, zero, suc, ◌-◌, ◌<◌, ◌≤◌, ◌⊎◌, inl, inr, List, [], ◌∷◌, ◌++◌, length}
-use Rattle.std.proofs.Common.{take, drop, Some, refl, ap, sym, arith, append_assoc}
-use Rattle.std.specs.Prelude.{slice_get}
-use Rattle.std.specs.List.{flat_map}
-use Rattle.std.proofs.lemmas.Bool.{cases_lt}
-use Rattle.std.proofs.lemmas.List.{take-append-le, take-append-drop, length-drop}
+use Rattle.honest_logs.proofs.Imports.{◌≡◌, ◌∙◌, ℕ, zero, suc, ◌-◌, ◌<◌, ◌≤◌, ◌⊎◌, inl, inr, List, [], ◌∷◌, ◌++◌}
+use Rattle.honest_logs.proofs.Imports.{length, take, drop, Some, refl, ap, sym, arith, append_assoc, slice_get}
+use Rattle.honest_logs.proofs.Imports.{flat_map, cases_lt, take-append-le, take-append-drop, length-drop}
 
--- bytes behind a front that is kept are cut by as many bytes less
+-- bytes after a front that is kept are cut by as many bytes less
 pub take_behind : (front rest : List ℕ) (n : ℕ) → length front ≤ n →
     take n (front ++ rest) ≡ front ++ take (n - length front) rest
 take_behind [] rest n le = let same : n ≡ n - 0 = omega arith in ap (λ (k : ℕ). take k rest) same
@@ -17,7 +14,7 @@ take_behind (b ∷ front) rest (suc n) le =
     ∙ ap (λ (k : ℕ). b ∷ (front ++ take k rest)) same
 
 module _ {X : Type 0} (text : X → List ℕ) where
-  -- where the first n bytes of the texts end: behind so many whole texts, with a rest that is a proper prefix of the
+  -- where the first n bytes of the texts end: after this many whole texts, with a rest that is a proper prefix of the
   -- next one's text, if there is a next one
   pub record IsCut (xs : List X) (n : ℕ) : Type 0 where
     pub count : ℕ
@@ -26,7 +23,7 @@ module _ {X : Type 0} (text : X → List ℕ) where
     pub some_of : count ≤ length xs
     -- the bytes that are left are the whole texts and the rest
     pub spelt : take n (flat_map text xs) ≡ flat_map text (take count xs) ++ rest
-    -- behind the last text there is no rest, and otherwise the rest is a proper prefix of the next one
+    -- after the last text there is no rest, and otherwise the rest is a proper prefix of the next one
     pub inside : ((count ≡ length xs) × (rest ≡ []))
         ⊎ ((x : X) × (slice_get xs count ≡ Some x) × ((more : List ℕ) × (0 < length more) × (text x ≡ rest ++ more)))
 

@@ -1,14 +1,7 @@
 -- How many distinct entries there are at most.
-use Rattle.std.proofs.Common.{◌∙◌, ◌≤◌, Bool, true, false, cond, List, [], ◌∷◌, length, sym}
-use Rattle.std.specs.Prelude.{not}
-use Rattle.std.specs.List.{Contains, filter}
-use Rattle.std.specs.Str.{bytes_eq}
-use Rattle.std.proofs.lemmas.Bool.{true≢false, not_from_true}
-use Rattle.std.proofs.lemmas.Slice.Eq.{bytes_eq-Decides}
-use Rattle.entry_order.specs.Node.{Node}
-use Rattle.entry_order.proofs.Lists.{Contains-filter_cases}
-use Rattle.entry_order.proofs.Apart.{DigestsDiffer, few_among}
-use Rattle.entry_graph.specs.Given.{distinct}
+use Rattle.honest_logs.proofs.Imports.{◌∙◌, ◌≤◌, Bool, true, false, cond, List, [], ◌∷◌, length, sym, not, Contains}
+use Rattle.honest_logs.proofs.Imports.{filter, bytes_eq, true≢false, not_from_true, bytes_eq-Decides, Node}
+use Rattle.honest_logs.proofs.Imports.{Contains-filter_cases, DigestsDiffer, few_among, distinct}
 
 module _ {T : Type 0} (node : T → Node) where
   -- where digests differ, so do those of the entries that pass a test
@@ -33,7 +26,7 @@ module _ {T : Type 0} (node : T → Node) where
         apart_filter p (distinct node es) (distinct_apart es),
       )
 
-  -- and no more are distinct entries
+  -- a list that contains all distinct entries is at least as long as the list of them
   pub few_distinct : (given all : List T) → ((e : T) → Contains (distinct node given) e → Contains all e) →
       length (distinct node given) ≤ length all
   few_distinct given all among = few_among node (distinct node given) all (distinct_apart given) among

@@ -1,53 +1,23 @@
 -- What is given by what is left of an honest world's logs.
-use Rattle.std.proofs.Common.{◌≡◌, ◌≢◌, ◌∙◌, ℕ, zero, suc, ◌<◌, inl, inr, List, [], ◌∷◌}
-use Rattle.std.proofs.Common.{length, map, take, Ok, Err, refl, ap, sym, subst, ◌≤◌, arith}
-use Rattle.std.specs.Prelude.{◌↔◌}
-use Rattle.std.specs.List.{Contains}
-use Rattle.std.proofs.lemmas.List.Elements.{All-contains, Contains-append_left, Contains-append_right}
-use Rattle.entry_order.specs.declared.event.Event.{Event}
-use Rattle.entry_order.specs.declared.event.Event.TheVariants.{Sent, Got}
-use Rattle.entry_order.specs.declared.three.Three.{Three}
-use Rattle.entry_order.specs.declared.three.Three.TheVariants.{False, Unknown, True}
-use Rattle.entry_order.specs.Ancestors.{before}
-use Rattle.entry_order.specs.HeldBefore.{HeldBefore}
-use Rattle.entry_order.specs.History.{entry_of}
-use Rattle.entry_order.specs.Honest.{AgreesWith}
-use Rattle.entry_order.specs.Naming.{Distinct}
-use Rattle.entry_order.specs.Receipt.{IsOrderly}
-use Rattle.entry_order.specs.Survivors.{IsStray, survivors}
-use Rattle.entry_order.specs.World.{World, history, sent_in}
-use Rattle.entry_order.proofs.Honest.{honest_entries_agree_in_orderly_worlds}
-use Rattle.entry_order.proofs.Lists.{Contains-none, Contains-at, Contains-head, Contains-cons_cases}
-use Rattle.entry_order.proofs.Lists.{Contains-later, Contains-map, Contains-map_cases, Contains-flat_map}
-use Rattle.entry_order.proofs.Lists.{Contains-flat_map_cases}
-use Rattle.entry_order.proofs.Orders.{sent_in_from, sent_in_cases, member_split}
-use Rattle.entry_order.proofs.Machines.{in_world}
-use Rattle.entry_order.proofs.Strays.{survivors_are_no_strays}
-use Rattle.entry_graph.specs.declared.fault.GraphFault.{GraphFault}
-use Rattle.entry_graph.specs.declared.fault.GraphFault.TheVariants.{Collision, TooMany, Memory}
-use Rattle.entry_graph.specs.Answers.{IsGraphAnswer}
-use Rattle.entry_graph.specs.EntryGraph.{EntryGraph, IsGraphOfGiven, parents_of, ragged_of}
-use Rattle.entry_graph.specs.Given.{distinct, HasNoCollision}
-use Rattle.entry_graph.proofs.DistinctFacts.{distinct_given, distinct_bears}
-use Rattle.roster.specs.declared.post.Post.{Post}
-use Rattle.entry_format.specs.Nodes.{node_of_sealed}
-use Rattle.entry_format.specs.SealedEntry.{SealedEntry}
-use Rattle.entry_format.specs.Unsealing.{Unseals}
-use Rattle.entry_format.proofs.Unsealings.{one_unsealing}
-use Rattle.polling_world.specs.Making.{election_of}
-use Rattle.log_files.specs.declared.sealed_log.Kept.{Kept}
-use Rattle.log_files.specs.declared.sealed_log.LogRead.{LogRead}
-use Rattle.log_files.specs.SealedLog.{event_of}
-use Rattle.evidence.specs.Graphs.{entries_of}
-use Rattle.honest_logs.specs.Agreement.{HaveAll, IsAllGiven, IsAllTold, IsHonestGraph, IsHonestlyGiven}
-use Rattle.honest_logs.specs.HonestWorld.{IsHonestWorld}
+use Rattle.honest_logs.proofs.Imports.{◌≡◌, ◌≢◌, ◌∙◌, ℕ, zero, suc, ◌<◌, inl, inr, List, [], ◌∷◌, length, map, take}
+use Rattle.honest_logs.proofs.Imports.{refl, ap, sym, subst, ◌≤◌, arith, ◌↔◌, Contains, All-contains}
+use Rattle.honest_logs.proofs.Imports.{Contains-append_left, Contains-append_right, Event, Sent, Got, Three, False}
+use Rattle.honest_logs.proofs.Imports.{Unknown, True, before, HeldBefore, entry_of, AgreesWith, Distinct, IsOrderly}
+use Rattle.honest_logs.proofs.Imports.{IsStray, survivors, World, history, sent_in}
+use Rattle.honest_logs.proofs.Imports.{honest_entries_agree_in_orderly_worlds, Contains-none, Contains-at}
+use Rattle.honest_logs.proofs.Imports.{Contains-head, Contains-cons_cases, Contains-later, Contains-map}
+use Rattle.honest_logs.proofs.Imports.{Contains-map_cases, Contains-flat_map, Contains-flat_map_cases, sent_in_from}
+use Rattle.honest_logs.proofs.Imports.{sent_in_cases, member_split, in_world, survivors_are_no_strays, GraphFault}
+use Rattle.honest_logs.proofs.Imports.{Collision, TooMany, Memory, IsGraphAnswer, EntryGraph, IsGraphOfGiven}
+use Rattle.honest_logs.proofs.Imports.{parents_of, ragged_of, distinct, HasNoCollision, distinct_given}
+use Rattle.honest_logs.proofs.Imports.{distinct_bears, Post, node_of_sealed, SealedEntry, Unseals, one_unsealing}
+use Rattle.honest_logs.proofs.Imports.{election_of, Kept, LogRead, event_of, entries_of, HaveAll, IsAllGiven}
+use Rattle.honest_logs.proofs.Imports.{IsAllTold, IsHonestGraph, IsHonestlyGiven, IsHonestWorld, IsPrefixRead}
+use Rattle.honest_logs.proofs.Imports.{IsReadIn, AreReadIn, none_inside, entry_is, max_actions}
+use Rattle.std.proofs.Common.{Ok, Err}
 use Rattle.honest_logs.proofs.Few.{few_distinct}
-use Rattle.honest_logs.specs.WhatIsLeft.{IsPrefixRead, IsReadIn, AreReadIn}
-use Rattle.entry_order.proofs.Honest.{none_inside}
-use Rattle.log_files.proofs.KeptRecords.{entry_is}
-use Rattle.election_script.specs.Lawful.{max_actions}
 
--- what is never unknown is told exactly
+-- an order that is never unknown is reported exactly
 told_exactly : (told : Three) (P : Type 0) → (told ≡ True → P) → (told ≡ False → ¬ P) → told ≢ Unknown →
     ((told ≡ True) ↔ P) × ((told ≡ False) ↔ (¬ P))
 told_exactly True P held free known = ((held, λ p. refl), (free, λ none. absurd (none (held refl))))
@@ -139,7 +109,7 @@ module _ (w : World SealedEntry) (orderly : IsOrderly node_of_sealed w) where
           honest_entries_agree_in_orderly_worlds node_of_sealed w orderly apart graph.survivors
           (λ e c. sent e ((members e).0 c))
 
-      -- where all that was sent is given, all is told
+      -- where all that was sent is given, all is reported
       all_told : IsAllGiven w given → IsAllTold w graph
       all_told all =
           let known = agrees.all_known (λ e c. (members e).1 (all e c)) in
@@ -169,7 +139,7 @@ module _ (w : World SealedEntry) (orderly : IsOrderly node_of_sealed w) where
 
     -- they are few and don't collide
     module _ (few : length (sent_in w) ≤ max_actions) where
-      -- a graph of so few entries without a collision fails for want of memory alone
+      -- a graph of at most that number of entries without a collision fails only when out of memory
       not_refused : (fault : GraphFault SealedEntry) →
           IsGraphAnswer node_of_sealed (λ e. e.text) given (Err fault) → fault ≡ Memory
       not_refused (Collision e f) (earlier, later, is, before, there, same, differ) =

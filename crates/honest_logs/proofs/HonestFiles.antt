@@ -1,24 +1,12 @@
 -- What the files that are left of the logs of a script's world give, under the roster and the election that were read.
-use Rattle.std.proofs.Common.{ℕ, List, Option, subst}
+use Rattle.honest_logs.proofs.Imports.{ℕ, List, Option, subst, Post, node_of_sealed, SealedEntry, EntryGraph, Distinct}
+use Rattle.honest_logs.proofs.Imports.{World, sent_in, LogRead, election_of, GivesGraph, entries_of, GivesLogs, Refusal}
+use Rattle.honest_logs.proofs.Imports.{IsHonestlyRead, IsHonestWorld, AreAllFilesOf, AreFilesOf}
+use Rattle.honest_logs.proofs.Imports.{IsOfScript}
 use Rattle.std.specs.Prelude.{Result, Ok, Err}
-use Rattle.roster.specs.declared.post.Post.{Post}
-use Rattle.entry_format.specs.Nodes.{node_of_sealed}
-use Rattle.entry_format.specs.SealedEntry.{SealedEntry}
-use Rattle.entry_graph.specs.EntryGraph.{EntryGraph}
-use Rattle.entry_order.specs.Naming.{Distinct}
-use Rattle.entry_order.specs.World.{World, sent_in}
-use Rattle.log_files.specs.declared.sealed_log.LogRead.{LogRead}
-use Rattle.polling_world.specs.Making.{election_of}
-use Rattle.evidence.specs.Graphs.{GivesGraph, entries_of}
-use Rattle.evidence.specs.Logs.{GivesLogs}
-use Rattle.evidence.specs.Refusal.{Refusal}
-use Rattle.honest_logs.specs.HonestReading.{IsHonestlyRead}
-use Rattle.honest_logs.specs.HonestWorld.{IsHonestWorld}
-use Rattle.honest_logs.specs.LeftFiles.{AreAllFilesOf, AreFilesOf, IsOverLimit}
-use Rattle.honest_logs.specs.OfScript.{IsOfScript}
 use Rattle.honest_logs.proofs.HonestGraphs.{graph_is_given, graph_is_honest, graph_shows_distinct, of_script_election}
 use Rattle.honest_logs.proofs.HonestGraphs.{of_script_is_honest}
-use Rattle.honest_logs.proofs.LeftFileFacts.{each_is_read, files_are_over, files_are_read, files_have_all}
+use Rattle.honest_logs.proofs.LeftFileFacts.{each_is_read, files_are_given, files_are_read, files_have_all}
 
 module _ (machines : List Post) (election : List ℕ) (w : World SealedEntry) (is : IsOfScript machines election w) where
   -- the world of a script's machines is an honest one under the roster that was read
@@ -47,11 +35,11 @@ module _ (machines : List Post) (election : List ℕ) (w : World SealedEntry) (i
             (files_are_read machines w honest names files left logs here) graph made;
       }
 
-  -- files that are left of a script's logs are refused only where one is over the limit
-  pub script_over : (names : List (List ℕ)) (files : List (Option (List ℕ))) → AreFilesOf w files →
-      (refusal : Refusal) → GivesLogs machines election names files (Err refusal) → IsOverLimit names files refusal
-  script_over names files left refusal gives =
-      files_are_over machines w honest names files left refusal (in_its names files (Err refusal) gives)
+  -- files that are left of a script's logs are never refused
+  pub script_given : (names : List (List ℕ)) (files : List (Option (List ℕ))) → AreFilesOf w files →
+      (refusal : Refusal) → ¬ GivesLogs machines election names files (Err refusal)
+  script_given names files left refusal gives =
+      files_are_given machines w honest names files left refusal (in_its names files (Err refusal) gives)
 
   -- the graph of what they give isn't refused
   pub script_not_refused : Distinct node_of_sealed (sent_in w) → (names : List (List ℕ))

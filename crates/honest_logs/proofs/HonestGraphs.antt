@@ -1,29 +1,11 @@
 -- The graph of what is read of an honest world's logs, and the worlds of a script whose roster was read.
-use Rattle.std.proofs.Common.{◌≡◌, ◌∙◌, ℕ, inl, inr, List, Option, Some, None, refl, ap, sym, subst}
+use Rattle.honest_logs.proofs.Imports.{◌≡◌, ◌∙◌, ℕ, inl, inr, List, Option, Some, None, refl, ap, sym, subst, sha256}
+use Rattle.honest_logs.proofs.Imports.{text_of, Post, RosterFault, Roster, Reads, roster_tree, node_of_sealed}
+use Rattle.honest_logs.proofs.Imports.{SealedEntry, Memory, EntryGraph, Distinct, World, sent_in, LogRead}
+use Rattle.honest_logs.proofs.Imports.{election_of, RosterRead, GivesGraph, entries_of, graph_refusal, Refusal}
+use Rattle.honest_logs.proofs.Imports.{GivesRoster, roster_read, HaveAll, IsHonestGraph, IsHonestWorld, IsOfScript}
+use Rattle.honest_logs.proofs.Imports.{AreReadIn}
 use Rattle.std.specs.Prelude.{Result, Ok, Err}
-use Rattle.sha2.specs.Sha256.{sha256}
-use Rattle.canonical_sexp.specs.Text.{text_of}
-use Rattle.roster.specs.declared.post.Post.{Post}
-use Rattle.roster.specs.declared.faults.RosterFault.{RosterFault}
-use Rattle.roster.specs.declared.rosters.Roster.{Roster}
-use Rattle.roster.specs.Reading.{Reads}
-use Rattle.roster.specs.RosterText.{roster_tree}
-use Rattle.entry_format.specs.Nodes.{node_of_sealed}
-use Rattle.entry_format.specs.SealedEntry.{SealedEntry}
-use Rattle.entry_graph.specs.declared.fault.GraphFault.TheVariants.{Memory}
-use Rattle.entry_graph.specs.EntryGraph.{EntryGraph}
-use Rattle.entry_order.specs.Naming.{Distinct}
-use Rattle.entry_order.specs.World.{World, sent_in}
-use Rattle.log_files.specs.declared.sealed_log.LogRead.{LogRead}
-use Rattle.polling_world.specs.Making.{election_of}
-use Rattle.evidence.specs.declared.roster_file.RosterRead.{RosterRead}
-use Rattle.evidence.specs.Graphs.{GivesGraph, entries_of, graph_refusal}
-use Rattle.evidence.specs.Refusal.{Refusal}
-use Rattle.evidence.specs.RosterFile.{GivesRoster, roster_read}
-use Rattle.honest_logs.specs.Agreement.{HaveAll, IsHonestGraph}
-use Rattle.honest_logs.specs.HonestWorld.{IsHonestWorld}
-use Rattle.honest_logs.specs.OfScript.{IsOfScript}
-use Rattle.honest_logs.specs.WhatIsLeft.{AreReadIn}
 use Rattle.honest_logs.proofs.Given.{all_given, left_agrees, shows_distinct}
 use Rattle.honest_logs.proofs.Scripts.{scripts_are_honest}
 
@@ -69,7 +51,7 @@ pub of_script_election : (machines : List Post) (election : List ℕ) (w : World
 of_script_election machines election w is =
     text_election machines (text_of (roster_tree machines)) election refl is.in_election
 
--- a reading that is told is that of its roster
+-- a reading that is reported is that of its roster
 read_election : (name bytes : List ℕ) (reading : Result Roster RosterFault) (read : RosterRead) → Reads bytes reading →
     Ok read ≡ roster_read name bytes reading → read.election ≡ election_of read.roster.machines
 read_election name bytes (Ok roster) read reads told =

@@ -1,68 +1,28 @@
 -- What the files that are left of an honest world's logs give.
-use Rattle.std.proofs.Common.{◌≡◌, ℕ, zero, suc, ◌<◌, inl, inr, List, [], ◌∷◌, Option, Some, None, length, refl}
-use Rattle.std.proofs.Common.{subst}
-use Rattle.std.specs.Prelude.{Ok, Err, IsSomeAnd}
-use Rattle.std.specs.List.{Contains}
-use Rattle.std.proofs.lemmas.List.Elements.{All-nil, All-cons, All-head, All-tail}
-use Rattle.entry_order.specs.World.{World, history}
-use Rattle.entry_order.proofs.Lists.{Contains-none, Contains-head, Contains-later, Contains-cons_cases}
-use Rattle.roster.specs.declared.post.Post.{Post}
-use Rattle.entry_format.specs.SealedEntry.{SealedEntry}
-use Rattle.polling_world.specs.Making.{election_of}
+use Rattle.honest_logs.proofs.Imports.{◌≡◌, ℕ, ◌<◌, ◌≤◌, inl, inr, List, [], ◌∷◌, Option, Some, None, length, refl, ap}
+use Rattle.honest_logs.proofs.Imports.{subst, arith, IsSomeAnd, Contains, All-nil, All-cons, All-head, All-tail, World}
+use Rattle.honest_logs.proofs.Imports.{history, Contains-none, Contains-head, Contains-later, Contains-cons_cases, Post}
+use Rattle.honest_logs.proofs.Imports.{SealedEntry, election_of, LogRead, max_bytes, IsSealedLogOf, HasHeader, log_text}
+use Rattle.honest_logs.proofs.Imports.{GivesLogs, IsLogRefusal, Refusal, HaveAll, IsHonestWorld, AreAllFilesOf}
+use Rattle.honest_logs.proofs.Imports.{AreFilesOf, AreReadOf, IsReadOf, IsLeftIn, IsReadIn, AreReadIn}
+use Rattle.std.specs.Prelude.{Ok, Err}
+use Rattle.std.proofs.lemmas.List.{length-take}
 use Rattle.log_files.specs.declared.plain_log.LogFault.TheVariants as fault
-use Rattle.log_files.specs.declared.sealed_log.LogRead.{LogRead}
-use Rattle.log_files.specs.LogFile.{max_bytes, IsSealedLogOf}
-use Rattle.log_files.specs.LogText.{HasHeader}
-use Rattle.log_files.specs.Written.{log_text}
-use Rattle.evidence.specs.Logs.{GivesLogs, IsLogRefusal}
-use Rattle.evidence.specs.Refusal.{Refusal, too_long}
-use Rattle.honest_logs.specs.Agreement.{HaveAll}
-use Rattle.honest_logs.specs.HonestWorld.{IsHonestWorld}
-use Rattle.honest_logs.specs.LeftFiles.{AreAllFilesOf, AreFilesOf, AreReadOf, IsOverLimit, IsReadOf}
-use Rattle.honest_logs.specs.WhatIsLeft.{IsLeftIn, IsReadIn, AreReadIn}
 use Rattle.honest_logs.proofs.LeftInWorlds.{header_in, read_in, whole_in}
+use Rattle.honest_logs.proofs.ShortLogs.{logs_are_short}
 
 -- what is left of a log of w is in the file
 abbrev pub IsFileOf : World SealedEntry → Option (List ℕ) → Type 0
 IsFileOf w file = IsSomeAnd file (IsLeftIn w)
 
--- the refusal of the first file is one of all files
-over_here : (name : List ℕ) (names : List (List ℕ)) (bytes : List ℕ) (files : List (Option (List ℕ)))
-    (refusal : Refusal) → max_bytes < length bytes → refusal ≡ too_long name →
-    IsOverLimit (name ∷ names) (Some bytes ∷ files) refusal
-over_here name names bytes files refusal over told = record {
-  place = zero;
-  name = name;
-  bytes = bytes;
-  named = refl;
-  file = refl;
-  over = over;
-  told = told;
-}
-
--- and so is that of a later one
-over_later : (name : List ℕ) (names : List (List ℕ)) (file : Option (List ℕ)) (files : List (Option (List ℕ)))
-    (refusal : Refusal) → IsOverLimit names files refusal → IsOverLimit (name ∷ names) (file ∷ files) refusal
-over_later name names file files refusal is = record {
-  place = suc is.place;
-  name = is.name;
-  bytes = is.bytes;
-  named = is.named;
-  file = is.file;
-  over = is.over;
-  told = is.told;
-}
-
 -- a file with a header is refused only where it is too long
-refused_over : (name : List ℕ) (names : List (List ℕ)) (bytes : List ℕ) (files : List (Option (List ℕ)))
-    (refusal : Refusal) → HasHeader bytes → IsLogRefusal name (Some bytes) refusal →
-    IsOverLimit (name ∷ names) (Some bytes ∷ files) refusal
-refused_over name names bytes files refusal header (fault.Absent, why, told) = cc
-refused_over name names bytes files refusal header (fault.TooLong, why, told) =
-    over_here name names bytes files refusal why cc
-refused_over name names bytes files refusal header (fault.Header, why, told) = absurd (why.1 header)
-refused_over name names bytes files refusal header (fault.ReadFault, why, told) = cc
-refused_over name names bytes files refusal header (fault.Memory, why, told) = cc
+not_refused : (name bytes : List ℕ) (refusal : Refusal) → HasHeader bytes → length bytes ≤ max_bytes →
+    ¬ IsLogRefusal name (Some bytes) refusal
+not_refused name bytes refusal header short (fault.Absent, why, told) = cc
+not_refused name bytes refusal header short (fault.TooLong, why, told) = omega (arith, why, short)
+not_refused name bytes refusal header short (fault.Header, why, told) = why.1 header
+not_refused name bytes refusal header short (fault.ReadFault, why, told) = cc
+not_refused name bytes refusal header short (fault.Memory, why, told) = cc
 
 -- what files are read as are logs of the world
 read_of_read : (w : World SealedEntry) (files : List (Option (List ℕ))) (logs : List LogRead) → AreReadOf w files logs →
@@ -76,7 +36,7 @@ read_of_read w (file ∷ files) (log ∷ logs) (first, rest) =
     (read_of_read w files logs rest)
 
 module _ (posts : List Post) (w : World SealedEntry) (honest : IsHonestWorld posts w) where
-  -- each file is read as the events that stand whole in it
+  -- each file is read as the events that are complete in it
   file_is_read : (file : Option (List ℕ)) (log : LogRead) → IsFileOf w file →
       IsSealedLogOf posts (election_of posts) log file → IsReadOf w file log
   file_is_read None log left said = absurd left
@@ -102,7 +62,7 @@ module _ (posts : List Post) (w : World SealedEntry) (honest : IsHonestWorld pos
     each_is_read names files (All-tail (IsFileOf w) file files left) logs gives.1,
   )
 
-  -- so they are logs of the world
+  -- the logs that the files give are logs of the world
   pub files_are_read : (names : List (List ℕ)) (files : List (Option (List ℕ))) → AreFilesOf w files →
       (logs : List LogRead) → GivesLogs posts (election_of posts) names files (Ok logs) → AreReadIn w logs
   files_are_read names files left logs gives = read_of_read w files logs (each_is_read names files left logs gives)
@@ -135,24 +95,31 @@ module _ (posts : List Post) (w : World SealedEntry) (honest : IsHonestWorld pos
       log_of_file names files logs gives (Some (log_text m (history w m))) (all m below) in
       (log, inside, whole_in posts w honest m below log said.1)
 
-  -- a first file that is refused is over the limit
-  first_refused : (name : List ℕ) (names : List (List ℕ)) (file : Option (List ℕ))
-      (files : List (Option (List ℕ))) (refusal : Refusal) → IsFileOf w file → IsLogRefusal name file refusal →
-      IsOverLimit (name ∷ names) (file ∷ files) refusal
-  first_refused name names None files refusal left why = absurd left
-  first_refused name names (Some bytes) files refusal left why =
-      refused_over name names bytes files refusal
-      (header_in posts w honest left.machine left.there bytes left.left) why
+  -- what is left of a log of an honest world is within the limit of a log's file, since the whole log is
+  within_limit : (bytes : List ℕ) → IsLeftIn w bytes → length bytes ≤ max_bytes
+  within_limit bytes left =
+      let text = log_text left.machine (history w left.machine) in
+      let short =
+      logs_are_short posts (election_of posts) w honest.orderly
+      (omega (arith, honest.one_each, honest.few_machines)) honest.few_sent honest.valid left.machine
+      (omega (arith, left.there, honest.one_each, honest.few_machines)) in
+      omega (arith, short, ap length left.left.cut, length-take left.left.place text)
 
-  -- they are refused only where one is too long
-  pub files_are_over : (names : List (List ℕ)) (files : List (Option (List ℕ))) → AreFilesOf w files →
-      (refusal : Refusal) → GivesLogs posts (election_of posts) names files (Err refusal) →
-      IsOverLimit names files refusal
-  files_are_over [] [] left refusal gives = absurd gives
-  files_are_over [] (file ∷ files) left refusal gives = absurd gives
-  files_are_over (name ∷ names) [] left refusal gives = absurd gives
-  files_are_over (name ∷ names) (file ∷ files) left refusal (inl why) =
-      first_refused name names file files refusal (All-head (IsFileOf w) file files left) why
-  files_are_over (name ∷ names) (file ∷ files) left refusal (inr (log, rest)) =
-      over_later name names file files refusal
-      (files_are_over names files (All-tail (IsFileOf w) file files left) refusal rest)
+  -- no file that is left of a log of an honest world is refused
+  file_given : (name : List ℕ) (file : Option (List ℕ)) (refusal : Refusal) → IsFileOf w file →
+      ¬ IsLogRefusal name file refusal
+  file_given name None refusal left why = left
+  file_given name (Some bytes) refusal left why =
+      not_refused name bytes refusal (header_in posts w honest left.machine left.there bytes left.left)
+      (within_limit bytes left) why
+
+  -- files that are left of the logs of an honest world are never refused
+  pub files_are_given : (names : List (List ℕ)) (files : List (Option (List ℕ))) → AreFilesOf w files →
+      (refusal : Refusal) → ¬ GivesLogs posts (election_of posts) names files (Err refusal)
+  files_are_given [] [] left refusal gives = gives
+  files_are_given [] (file ∷ files) left refusal gives = gives
+  files_are_given (name ∷ names) [] left refusal gives = gives
+  files_are_given (name ∷ names) (file ∷ files) left refusal (inl why) =
+      file_given name file refusal (All-head (IsFileOf w) file files left) why
+  files_are_given (name ∷ names) (file ∷ files) left refusal (inr (log, rest)) =
+      files_are_given names files (All-tail (IsFileOf w) file files left) refusal rest

@@ -1,22 +1,9 @@
 -- What is left of the logs of an honest world's machines is read as what they did.
-use Rattle.std.proofs.Common.{◌≡◌, ℕ, ◌^◌, ◌<◌, List, [], length, Some, arith, subst}
-use Rattle.std.specs.Prelude.{slice_get, get_or}
-use Rattle.std.specs.List.{Contains}
-use Rattle.std.proofs.lemmas.List.Elements.{All-get_or}
-use Rattle.std.proofs.lemmas.Option.{slice_get-get_or}
-use Rattle.entry_order.specs.History.{entry_of}
-use Rattle.entry_order.specs.World.{World, history, sent_in}
-use Rattle.entry_order.proofs.Lists.{Contains-map_cases}
-use Rattle.roster.specs.declared.post.Post.{Post}
-use Rattle.entry_format.specs.SealedEntry.{SealedEntry}
-use Rattle.polling_world.specs.Making.{election_of}
-use Rattle.log_files.specs.declared.sealed_log.LogRead.{LogRead}
-use Rattle.log_files.specs.LogText.{HasHeader}
-use Rattle.log_files.specs.SealedLog.{SaysSealed}
-use Rattle.log_files.specs.Written.{log_text}
-use Rattle.honest_logs.specs.HonestWorld.{IsHonestWorld}
-use Rattle.honest_logs.specs.WhatIsLeft.{IsLeftOf, IsPrefixRead, IsUnbrokenLog, IsWholeRead, IsLeftIn, IsReadIn}
-use Rattle.honest_logs.specs.WhatIsLeft.{AreLeftOf, AreReadIn}
+use Rattle.honest_logs.proofs.Imports.{◌≡◌, ℕ, ◌^◌, ◌<◌, List, [], length, Some, arith, subst, slice_get, get_or}
+use Rattle.honest_logs.proofs.Imports.{Contains, All-get_or, slice_get-get_or, entry_of, World, history, sent_in}
+use Rattle.honest_logs.proofs.Imports.{Contains-map_cases, Post, SealedEntry, election_of, LogRead, HasHeader}
+use Rattle.honest_logs.proofs.Imports.{SaysSealed, log_text, IsHonestWorld, IsLeftOf, IsPrefixRead, IsUnbrokenLog}
+use Rattle.honest_logs.proofs.Imports.{IsWholeRead, IsLeftIn, IsReadIn, AreLeftOf, AreReadIn}
 use Rattle.honest_logs.proofs.Given.{event_was_sent}
 use Rattle.honest_logs.proofs.ReadLogs.{AreValid, left_has_header, left_is_log, left_is_read, whole_is_read}
 
@@ -39,7 +26,7 @@ module _ (posts : List Post) (w : World SealedEntry) (honest : IsHonestWorld pos
   pub header_in : (m : ℕ) → m < length w → (bytes : List ℕ) → IsLeftOf m (history w m) bytes → HasHeader bytes
   header_in m below bytes left = left_has_header m (owner_small m below) (history w m) bytes left
 
-  -- it is read as the events that stand whole in it
+  -- it is read as the events that are complete in it
   pub read_in : (m : ℕ) → m < length w → (bytes : List ℕ) → IsLeftOf m (history w m) bytes → (log : LogRead) →
       SaysSealed posts (election_of posts) bytes log → IsPrefixRead m (history w m) bytes log
   read_in m below =

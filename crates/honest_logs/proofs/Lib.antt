@@ -1,3 +1,4 @@
+mod Imports
 pub mod Cuts
 pub mod ReadLogs
 pub mod OneReading
@@ -6,6 +7,10 @@ pub mod Given
 pub mod LeftInWorlds
 pub mod MadeValid
 pub mod Scripts
+pub mod NamedOnce
+pub mod HeldSums
+pub mod TextSizes
+pub mod ShortLogs
 pub mod LeftFileFacts
 pub mod HonestGraphs
 pub mod HonestFiles

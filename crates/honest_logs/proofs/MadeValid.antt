@@ -1,27 +1,10 @@
 -- The entries that a script's machines make are valid under its roster.
-use Rattle.std.proofs.Common.{◌≡◌, ℕ, ◌^◌, ◌<◌, ◌≤◌, List, length, refl, arith}
-use Rattle.std.proofs.lemmas.Option.{slice_get_within}
-use Rattle.sha2.proofs.Facts256.{length-sha256}
-use Rattle.canonical_sexp.specs.Text.{text_of}
-use Rattle.entry_order.specs.Ascending.{IsAscending}
-use Rattle.lms_sign.specs.Height.{IsHeight}
-use Rattle.lms_sign.specs.Secret.{public_of, signed_by}
-use Rattle.lms_sign.specs.Signs.{Signs}
-use Rattle.lms_sign.proofs.Signatures.{index-signed, signed_signs}
-use Rattle.roster.specs.declared.post.Post.{Post}
-use Rattle.roster.specs.Machines.{max_machines}
-use Rattle.entry_format.specs.declared.deed.Deed.{Deed}
-use Rattle.entry_format.specs.declared.deed.Deed.TheVariants.{Opened, Authorise, Override, Closed, Activate, Commit}
-use Rattle.entry_format.specs.declared.deed.Deed.TheVariants.{Cast, Cancel, Challenge}
-use Rattle.entry_format.specs.EntryText.{body_tree, IsDeed, IsEntry}
-use Rattle.entry_format.specs.Sealing.{IsSealed}
-use Rattle.entry_format.specs.Unsealing.{key_at, IsValid}
-use Rattle.entry_format.proofs.Keys.{signature_small, signature_some}
-use Rattle.entry_format.proofs.Limits.{signed_fits}
-use Rattle.election_script.specs.declared.script.Cast0.{Cast0}
-use Rattle.election_script.specs.Lawful.{IsDeedAmong}
-use Rattle.polling_world.specs.Configs.{Config}
-use Rattle.polling_world.specs.Making.{election_of, entry_with, made}
+use Rattle.honest_logs.proofs.Imports.{◌≡◌, ℕ, ◌^◌, ◌<◌, ◌≤◌, List, length, refl, arith, slice_get_within}
+use Rattle.honest_logs.proofs.Imports.{length-sha256, text_of, IsAscending, IsHeight, public_of, signed_by, Signs}
+use Rattle.honest_logs.proofs.Imports.{index-signed, signed_signs, Post, max_machines, Deed, Opened, Authorise}
+use Rattle.honest_logs.proofs.Imports.{Override, Closed, Activate, Commit, Cast, Cancel, Challenge, body_tree, IsDeed}
+use Rattle.honest_logs.proofs.Imports.{IsEntry, IsSealed, key_at, IsValid, signature_small, signature_some}
+use Rattle.honest_logs.proofs.Imports.{signed_fits, Cast0, IsDeedAmong, Config, election_of, entry_with, made}
 
 -- a script's deed can be written
 pub deed_lawful : (machines : List Cast0) (deed : Deed) → length machines ≤ max_machines →
@@ -76,7 +59,7 @@ module _ (config : Config) (k stamp : ℕ) (names : List (List ℕ)) (deed : Dee
         signs = signs;
       }
 
-  -- and valid, where the maker has its key in the roster
+  -- an entry made with a key is valid where the maker has that key in the roster
   pub made_valid : IsEntry (entry_with config k stamp names deed) → length names ≤ 16384 → IsAscending names →
       IsHeight config.key.height → length config.key.id ≡ 16 → k < 2 ^ config.key.height →
       config.number < length config.roster → public_of config.key ≡ key_at config.roster config.number →

@@ -1,20 +1,9 @@
 -- Bytes that are left of a log are read in one way.
-use Rattle.std.proofs.Common.{◌≡◌, ◌∙◌, ℕ, zero, suc, ◌+◌, ◌<◌, inl, inr, Bool, true, false, List, [], ◌∷◌}
-use Rattle.std.proofs.Common.{length, map, take, Some, refl, ap, sym, subst, arith}
-use Rattle.std.specs.Prelude.{slice_get, if◌then◌else◌}
-use Rattle.std.proofs.lemmas.Bool.{cases_lt}
-use Rattle.std.proofs.lemmas.List.{take-take}
-use Rattle.entry_order.specs.declared.event.Event.{Event}
-use Rattle.entry_order.specs.declared.event.Event.TheVariants.{Sent, Got}
-use Rattle.entry_format.specs.SealedEntry.{SealedEntry}
-use Rattle.log_files.specs.declared.plain_log.End.{End}
-use Rattle.log_files.specs.declared.plain_log.End.TheVariants.{Clean, Torn, Malformed}
-use Rattle.log_files.specs.declared.sealed_log.Kept.{Kept}
-use Rattle.log_files.specs.declared.sealed_log.LogRead.{LogRead}
-use Rattle.log_files.specs.SealedLog.{event_of}
-use Rattle.log_files.specs.Written.{log_text}
-use Rattle.log_files.proofs.SealedLogs.{kept_with}
-use Rattle.honest_logs.specs.WhatIsLeft.{IsPrefixRead, StandWhole, IsCutAt, end_of}
+use Rattle.honest_logs.proofs.Imports.{◌≡◌, ◌∙◌, ℕ, zero, suc, ◌+◌, ◌<◌, inl, inr, Bool, true, false, List, [], ◌∷◌}
+use Rattle.honest_logs.proofs.Imports.{length, map, take, Some, refl, ap, sym, subst, arith, slice_get, if◌then◌else◌}
+use Rattle.honest_logs.proofs.Imports.{cases_lt, take-take, Event, Sent, Got, SealedEntry, End, Clean, Torn}
+use Rattle.honest_logs.proofs.Imports.{Malformed, Kept, LogRead, event_of, log_text, kept_with, IsPrefixRead}
+use Rattle.honest_logs.proofs.Imports.{StandWhole, IsCutAt, end_of}
 use Rattle.honest_logs.proofs.ReadLogs.{end_within}
 
 module _ (owner : ℕ) (events : List (Event SealedEntry)) (size : ℕ) where
@@ -34,7 +23,7 @@ module _ (owner : ℕ) (events : List (Event SealedEntry)) (size : ℕ) where
         end_within owner (take j events) (k + 1),
       )
 
-  -- so many stand whole in one way
+  -- only one number of records is complete
   one_count : (k j : ℕ) → StandWhole owner events size k → StandWhole owner events size j → k ≡ j
   one_count k j one two =
       elim (cases_lt k j) [
@@ -63,7 +52,7 @@ one_event true false e f same = cc
 one_event false true e f same = cc
 one_event false false e f same = (refl, cc)
 
--- a record is told by its place and its event
+-- a record is determined by its place and its event
 one_record : (k j : Kept) → event_of k ≡ event_of j → k.place ≡ j.place → k ≡ j
 one_record k j same place =
     let parts = one_event k.sent j.sent k.entry j.entry same in
@@ -75,7 +64,7 @@ one_record k j same place =
 abbrev AreAt : ℕ → List Kept → Type 0
 AreAt n ks = (i : ℕ) (kept : Kept) → slice_get ks i ≡ Some kept → kept.place ≡ n + i
 
--- the records behind the first are at the places behind it
+-- the records after the first are at the places after it
 later_at : (n : ℕ) (k : Kept) (ks : List Kept) → AreAt n (k ∷ ks) → AreAt (n + 1) ks
 later_at n k ks at i kept there = let place = at (suc i) kept there in omega (arith, place)
 
@@ -97,7 +86,7 @@ module _ (owner : ℕ) (events : List (Event SealedEntry)) (bytes : List ℕ) (l
   counts : one.count ≡ two.count
   counts = one_count owner events (length bytes) one.count two.count one.whole two.whole
 
-  -- and the same records
+  -- two readings of the same bytes have the same records
   pub same_kept : log.kept.items ≡ other.kept.items
   same_kept =
       one_list 0 log.kept.items other.kept.items
@@ -105,7 +94,7 @@ module _ (owner : ℕ) (events : List (Event SealedEntry)) (bytes : List ℕ) (l
       (λ i k at. (let place = two.places i k at in omega (arith, place)))
       (one.kept ∙ ap (λ n. take n events) counts ∙ sym two.kept)
 
-  -- and the same end
+  -- two readings of the same bytes have the same end
   pub same_end : log.end ≡ other.end
   same_end =
       one_end (end_of owner events two.count) (length bytes) log.end other.end

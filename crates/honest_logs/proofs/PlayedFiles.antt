@@ -1,21 +1,9 @@
 -- The logs of machines that have played are all logs of their world.
-use Rattle.std.proofs.Common.{◌≡◌, ◌∙◌, ℕ, inl, inr, List, Option, Some, None, refl, ap, sym, subst, arith}
-use Rattle.std.specs.Prelude.{slice_get, option_map}
-use Rattle.std.specs.List.{Contains}
-use Rattle.std.proofs.lemmas.List.{length-map}
-use Rattle.std.proofs.lemmas.Option.{slice_get_cases, slice_get_within, slice_get-map}
-use Rattle.entry_order.specs.declared.event.Event.{Event}
-use Rattle.entry_order.specs.World.{history}
-use Rattle.entry_order.proofs.Lists.{Contains-map}
-use Rattle.entry_order.proofs.Places.{all_from_places, member_at}
-use Rattle.entry_format.specs.SealedEntry.{SealedEntry}
-use Rattle.log_files.specs.Written.{log_text}
-use Rattle.election_script.specs.declared.script.Script.{Script}
-use Rattle.polling_world.specs.Machines.{MachineState}
-use Rattle.polling_world.specs.Playing.{AreOf}
-use Rattle.polling_world.specs.Worlds.{machine_of, world_of}
-use Rattle.polling_world.proofs.Placing.{history_there}
-use Rattle.honest_logs.specs.LeftFiles.{AreAllFilesOf, AreFilesOf, written_logs}
+use Rattle.honest_logs.proofs.Imports.{◌≡◌, ◌∙◌, ℕ, inl, inr, List, Option, Some, None, refl, ap, sym, subst, arith}
+use Rattle.honest_logs.proofs.Imports.{slice_get, option_map, Contains, length-map, slice_get_cases, slice_get_within}
+use Rattle.honest_logs.proofs.Imports.{slice_get-map, Event, history, Contains-map, all_from_places, member_at}
+use Rattle.honest_logs.proofs.Imports.{SealedEntry, log_text, Script, MachineState, AreOf, machine_of, world_of}
+use Rattle.honest_logs.proofs.Imports.{history_there, AreAllFilesOf, AreFilesOf, written_logs}
 use Rattle.honest_logs.proofs.LeftFileFacts.{IsFileOf}
 use Rattle.honest_logs.proofs.ReadLogs.{whole_is_left}
 
@@ -56,7 +44,7 @@ module _ (script : Script) (machines : List MachineState) (are : AreOf script ma
       all_from_places (IsFileOf (world_of machines)) (written_logs machines) (λ place file at.
       left_from place file (slice_get machines place) refl (sym (slice_get-map file_of machines place) ∙ at))
 
-  -- and all of them are there, whole
+  -- all written logs are there, complete
   pub written_are_all : AreAllFilesOf (world_of machines) (written_logs machines)
   written_are_all place below =
       elim (slice_get_cases machines place).1 [

@@ -1,43 +1,21 @@
 -- What is left of a log is read as its events.
-use Rattle.std.proofs.Common.{◌≡◌, ◌∙◌, ℕ, zero, suc, ◌+◌, ◌-◌, ◌^◌, ◌<◌, ◌≤◌, ◌⊎◌, inl, inr, true, false, List}
-use Rattle.std.proofs.Common.{[], ◌∷◌, ◌++◌, length, map, take, drop, Some, None, Result, Ok, refl, ap, sym}
-use Rattle.std.proofs.Common.{subst, arith, append_assoc, append-nil, length-append}
-use Rattle.std.specs.Prelude.{slice_get, All}
-use Rattle.std.specs.List.{Contains, flat_map}
-use Rattle.std.proofs.lemmas.Grind.{flat_map-append}
-use Rattle.std.proofs.lemmas.Bool.{cases_lt}
-use Rattle.std.proofs.lemmas.List.{take-append-drop, take-append-le, take_all, length-drop}
-use Rattle.std.proofs.lemmas.List.Elements.{All-nil, All-cons}
-use Rattle.std.proofs.lemmas.Option.{slice_get_within, get_or_from_slice_get}
-use Rattle.canonical_sexp.specs.Text.{text_of, Fits, IsProperPrefixOfText}
-use Rattle.canonical_sexp.proofs.Unique.{one_tree}
-use Rattle.entry_order.specs.declared.event.Event.{Event}
-use Rattle.entry_order.specs.declared.event.Event.TheVariants.{Sent, Got}
-use Rattle.entry_order.specs.History.{entry_of, held, IsLegal}
-use Rattle.entry_order.proofs.Lists.{Contains-none, Contains-at, Contains-head, Contains-later, Contains-map}
-use Rattle.entry_order.proofs.Lists.{Contains-cons_cases}
-use Rattle.entry_order.proofs.Places.{member_at, taken_more}
-use Rattle.roster.specs.declared.post.Post.{Post}
-use Rattle.entry_format.specs.declared.plain.EntryFault.{EntryFault}
-use Rattle.entry_format.specs.EntryText.{signed_tree}
-use Rattle.entry_format.specs.Nodes.{node_of_sealed}
-use Rattle.entry_format.specs.SealedEntry.{SealedEntry}
-use Rattle.entry_format.specs.Unsealing.{Unseals}
-use Rattle.log_files.specs.declared.plain_log.End.{End}
-use Rattle.log_files.specs.declared.plain_log.End.TheVariants.{Clean, Torn, Malformed}
-use Rattle.log_files.specs.declared.sealed_log.Kept.{Kept}
-use Rattle.log_files.specs.declared.sealed_log.LogRead.{LogRead}
-use Rattle.log_files.specs.LogText.{header_tree, HasHeader, IsEnd, Gives, EachGives, kept_of, refused_of, AreLog}
-use Rattle.log_files.specs.SealedLog.{event_of, BreaksAt, IsReadSealed, SaysSealed}
-use Rattle.log_files.specs.Written.{record_text, log_text}
-use Rattle.log_files.proofs.Headers.{header_fits}
-use Rattle.log_files.proofs.OneBreak.{breaks_once}
-use Rattle.log_files.proofs.OneLog.{one_said}
-use Rattle.honest_logs.specs.WhatIsLeft.{IsLeftOf, IsPrefixRead, IsWholeRead, StandWhole, IsCutAt, end_of}
+use Rattle.honest_logs.proofs.Imports.{◌≡◌, ◌∙◌, ℕ, zero, suc, ◌+◌, ◌-◌, ◌^◌, ◌<◌, ◌≤◌, ◌⊎◌, inl, inr, true, false}
+use Rattle.honest_logs.proofs.Imports.{List, [], ◌∷◌, ◌++◌, length, map, take, drop, Some, None, refl, ap, sym, subst}
+use Rattle.honest_logs.proofs.Imports.{arith, append_assoc, slice_get, All, Contains, flat_map, flat_map-append}
+use Rattle.honest_logs.proofs.Imports.{cases_lt, take-append-drop, take-append-le, take_all, length-drop, All-nil}
+use Rattle.honest_logs.proofs.Imports.{All-cons, slice_get_within, get_or_from_slice_get, text_of, Fits}
+use Rattle.honest_logs.proofs.Imports.{IsProperPrefixOfText, one_tree, Event, Sent, Got, entry_of, held, IsLegal}
+use Rattle.honest_logs.proofs.Imports.{Contains-none, Contains-at, Contains-head, Contains-later, Contains-map}
+use Rattle.honest_logs.proofs.Imports.{Contains-cons_cases, member_at, taken_more, Post, EntryFault, signed_tree}
+use Rattle.honest_logs.proofs.Imports.{node_of_sealed, SealedEntry, Unseals, End, Clean, Torn, Malformed, Kept}
+use Rattle.honest_logs.proofs.Imports.{LogRead, header_tree, HasHeader, IsEnd, Gives, EachGives, kept_of, refused_of}
+use Rattle.honest_logs.proofs.Imports.{AreLog, event_of, BreaksAt, IsReadSealed, SaysSealed, record_text, log_text}
+use Rattle.honest_logs.proofs.Imports.{header_fits, breaks_once, one_said, IsLeftOf, IsPrefixRead, IsWholeRead}
+use Rattle.honest_logs.proofs.Imports.{StandWhole, IsCutAt, end_of, members_in, tree_of, records_fit, records_spelt}
+use Rattle.honest_logs.proofs.Imports.{one_sealed, kept_with}
+use Rattle.std.proofs.Common.{Result, Ok}
+use Rattle.std.proofs.Common.{append-nil, length-append}
 use Rattle.honest_logs.proofs.Cuts.{IsCut, cut_of, take_behind}
-use Rattle.entry_format.proofs.Limits.{members_in}
-use Rattle.log_files.proofs.RecordTexts.{tree_of, records_fit, records_spelt}
-use Rattle.log_files.proofs.SealedLogs.{one_sealed, kept_with}
 
 -- ---- lists of events
 
@@ -45,7 +23,7 @@ use Rattle.log_files.proofs.SealedLogs.{one_sealed, kept_with}
 take_one : {X : Type 0} (xs : List X) (k : ℕ) (x : X) → slice_get xs k ≡ Some x → take (k + 1) xs ≡ take k xs ++ x ∷ []
 take_one xs k x at = taken_more xs k x (slice_get_within xs k x at) (sym (get_or_from_slice_get xs k x x at))
 
--- the first so many events of a legal history are one
+-- the first n events of a legal history are one
 pub legal_prefix : (owner : ℕ) (h : List (Event SealedEntry)) (k : ℕ) → IsLegal node_of_sealed owner h →
     IsLegal node_of_sealed owner (take k h)
 legal_prefix owner h k legal before x later is =
@@ -53,7 +31,7 @@ legal_prefix owner h k legal before x later is =
     (sym (take-append-drop k h) ∙ ap (λ (p : List (Event SealedEntry)). p ++ drop k h) is
     ∙ append_assoc before (x ∷ later) (drop k h))
 
--- what is held by the first so many events is held
+-- what is held by the first n events is held
 held_prefix : (h : List (Event SealedEntry)) (k : ℕ) (e : SealedEntry) → Contains (held (take k h)) e →
     Contains (held h) e
 held_prefix [] zero e c = c
@@ -65,7 +43,7 @@ held_prefix (x ∷ h) (suc k) e c =
       | inr later ↦ Contains-later (entry_of x) (held h) e (held_prefix h k e later)
     ]
 
--- the text of the first so many events is no longer than that of all
+-- the text of the first n events is no longer than that of all
 pub end_within : (owner : ℕ) (events : List (Event SealedEntry)) (k : ℕ) →
     end_of owner events k ≤ length (log_text owner events)
 end_within owner events k =
@@ -152,12 +130,12 @@ none_refused : (ks : List Kept) (place : ℕ) → refused_of place (readings_of 
 none_refused [] place = refl
 none_refused (k ∷ ks) place = none_refused ks (place + 1)
 
--- the end of the bytes, where the rest behind the whole records is this
+-- the end of the bytes, where the rest after the whole records is this
 abbrev end_at : ℕ → List ℕ → End
 end_at offset [] = Clean
 end_at offset (b ∷ rest) = Torn offset
 
--- the end is told by the rest: clean without one, and else torn
+-- the end is determined by the rest: clean without one, and else torn
 is_end : (offset : ℕ) (rest : List ℕ) → (rest ≡ []) ⊎ IsProperPrefixOfText rest → IsEnd offset rest (end_at offset rest)
 is_end offset [] h = refl
 is_end offset (b ∷ rest) (inl none) = cc
@@ -174,7 +152,7 @@ module _ (posts : List Post) (election : List ℕ) where
   abbrev pub IsValidly : SealedEntry → Type 0
   IsValidly e = Unseals posts election e.text (Ok e)
 
-  -- so is that of each entry that is held
+  -- each entry that is held has a text of its own, which is valid
   abbrev pub AreValid : List (Event SealedEntry) → Type 0
   AreValid events = (e : SealedEntry) → Contains (held events) e → IsValidly e
 
@@ -183,7 +161,7 @@ module _ (posts : List Post) (election : List ℕ) where
       IsValidly (entry_of x)
   first_valid x events valid = valid (entry_of x) (Contains-head (entry_of x) (held events))
 
-  -- and so are those behind it
+  -- and so are those after it
   later_valid : (x : Event SealedEntry) (events : List (Event SealedEntry)) → AreValid (x ∷ events) → AreValid events
   later_valid x events valid e c = valid e (Contains-later (entry_of x) (held events) e c)
 
@@ -227,7 +205,7 @@ module _ (posts : List Post) (election : List ℕ) where
       (legal : IsLegal node_of_sealed owner events) (bytes : List ℕ) (n : ℕ)
       (is : bytes ≡ text_of (header_tree owner) ++ take n (flat_map record_text events))
       (cut : IsCut record_text events n) where
-    -- the events whose records stand whole are valid
+    -- the events whose records are complete are valid
     first_valid_ones : AreValid (take cut.count events)
     first_valid_ones e c = valid e (held_prefix events cut.count e c)
 
@@ -256,14 +234,14 @@ module _ (posts : List Post) (election : List ℕ) where
     abbrev offset : ℕ
     offset = length (text_of (header_tree owner)) + length (flat_map text_of (map tree_of (take cut.count events)))
 
-    -- that is where the text of so many events ends
+    -- that is where the text of this many events ends
     offset_is : offset ≡ end_of owner events cut.count
     offset_is =
         ap (λ (bs : List ℕ). length (text_of (header_tree owner)) + length bs)
         (all_spelt (take cut.count events) first_valid_ones)
         ∙ sym (length-append (text_of (header_tree owner)) (flat_map record_text (take cut.count events)))
 
-    -- behind it stand as many bytes as the rest has
+    -- as many bytes follow it as the rest has
     size_is : length bytes ≡ end_of owner events cut.count + length cut.rest
     size_is =
         let front = text_of (header_tree owner) in
@@ -321,7 +299,7 @@ module _ (posts : List Post) (election : List ℕ) where
               ))
         ]
 
-    -- so many records stand whole in bytes of this size
+    -- this many records are complete in bytes of this size
     stand_whole : StandWhole owner events (length bytes) cut.count
     stand_whole = record { some_of = cut.some_of; fit = omega (arith, size_is); no_more = no_more }
 
@@ -331,7 +309,7 @@ module _ (posts : List Post) (election : List ℕ) where
         subst (λ (h : List (Event SealedEntry)). IsLegal node_of_sealed owner h)
         (sym (events_kept 0 (take cut.count events))) (legal_prefix owner events cut.count legal)
 
-    -- so the bytes are a log
+    -- the bytes are a log without a break or a refused record
     pub log_so : (kept : List Kept) × (end : End) × BreaksAt owner kept None
         × AreLog (IsReadSealed posts election) bytes owner kept [] end
     log_so = (kept_from 0 (take cut.count events), end_at offset cut.rest, no_break, are_log)
@@ -363,11 +341,11 @@ module _ (posts : List Post) (election : List ℕ) where
   module _ (owner : ℕ) (small : owner < 2 ^ 32) (events : List (Event SealedEntry)) (valid : AreValid events)
       (legal : IsLegal node_of_sealed owner events) where
     module _ (bytes : List ℕ) (left : IsLeftOf owner events bytes) where
-      -- how many bytes are left behind the header
+      -- how many bytes are left after the header
       abbrev cut_at : ℕ
       cut_at = left.place - length (text_of (header_tree owner))
 
-      -- what is left is the header and the first so many bytes of the records
+      -- what is left is the header and the first n bytes of the records
       cut_behind_header : bytes ≡ text_of (header_tree owner) ++ take cut_at (flat_map record_text events)
       cut_behind_header =
           left.cut
@@ -379,13 +357,13 @@ module _ (posts : List Post) (election : List ℕ) where
       left_is_log =
           log_so owner small events valid legal bytes cut_at cut_behind_header (cut_of record_text events cut_at)
 
-      -- and is read as its events
+      -- what is left is read as the events that are complete in it
       pub left_is_read : (log : LogRead) → SaysSealed posts election bytes log → IsPrefixRead owner events bytes log
       left_is_read log said =
           read_so owner small events valid legal bytes cut_at cut_behind_header (cut_of record_text events cut_at) log
           said
 
-    -- and a whole log as all of them
+    -- a whole log is read as all of its events
     pub whole_is_read : (log : LogRead) → SaysSealed posts election (log_text owner events) log →
         IsWholeRead owner events log
     whole_is_read log said =
@@ -400,7 +378,7 @@ module _ (posts : List Post) (election : List ℕ) where
               (ap (λ (h : List (Event SealedEntry)). length (log_text owner h)) kept) read.ends;
         }
       where
-        -- where all bytes are there, all records stand whole
+        -- where all bytes are there, all records are complete
         all_of : (k : ℕ) → (k < length events → length (log_text owner events) < end_of owner events (k + 1)) →
             length events ≤ k
         all_of k none =

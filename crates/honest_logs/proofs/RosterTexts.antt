@@ -1,36 +1,15 @@
 -- The text of a script's roster is read as that roster.
-use Rattle.std.proofs.Common.{◌≡◌, ◌∙◌, ℕ, ◌+◌, ◌*◌, ◌^◌, ◌<◌, ◌≤◌, inl, inr, List, [], ◌∷◌, ◌++◌, length, map}
-use Rattle.std.proofs.Common.{Some, refl, ap, sym, subst, arith, length-append}
-use Rattle.std.specs.Prelude.{All, Result, Ok, Err, IsOkAnd, codes}
-use Rattle.std.specs.Fmt.{decimal}
-use Rattle.std.proofs.lemmas.Fmt.{length-decimal-le_succ}
-use Rattle.std.proofs.lemmas.List.Elements.{All-head, All-tail}
-use Rattle.sha2.specs.Sha256.{sha256}
-use Rattle.canonical_sexp.specs.declared.sexp.Sexp.TheVariants.{Atom}
-use Rattle.canonical_sexp.specs.Sexp.{forest_of}
-use Rattle.canonical_sexp.specs.Text.{atom_text, text_of, texts_of}
-use Rattle.roster.specs.declared.faults.RosterFault.{RosterFault}
-use Rattle.roster.specs.declared.post.Post.{Post}
-use Rattle.roster.specs.declared.post.Role.{Role}
-use Rattle.roster.specs.declared.post.Role.TheVariants.{Supervisor, Booth}
-use Rattle.roster.specs.declared.rosters.Roster.{Roster}
-use Rattle.roster.specs.Machines.{HaveText, IsName, max_machines, max_name}
-use Rattle.roster.specs.Reading.{Reads}
-use Rattle.roster.specs.RosterText.{HasKey, post_tree, role_word, roster_tree}
-use Rattle.roster.proofs.Fits.{roster_fits}
-use Rattle.roster.proofs.One.{one_reading}
-use Rattle.election_script.specs.declared.script.Script.{Script}
-use Rattle.election_script.specs.Lawful.{IsLawful}
-use Rattle.entry_format.specs.SealedEntry.{SealedEntry}
-use Rattle.entry_order.specs.declared.step.Step.{Step}
-use Rattle.entry_order.specs.World.{World}
-use Rattle.polling_world.specs.Keys.{roster_of}
-use Rattle.polling_world.specs.Playing.{ComesTo}
-use Rattle.polling_world.proofs.Rosters.{roster_has_text}
-use Rattle.evidence.specs.declared.roster_file.RosterRead.{RosterRead}
-use Rattle.evidence.specs.Refusal.{Refusal}
-use Rattle.evidence.specs.RosterFile.{GivesRoster, max_roster, roster_read}
-use Rattle.honest_logs.specs.OfScript.{IsOfScript}
+use Rattle.honest_logs.proofs.Imports.{◌≡◌, ◌∙◌, ℕ, ◌+◌, ◌*◌, ◌^◌, ◌<◌, ◌≤◌, inl, inr, List, [], ◌∷◌, ◌++◌, length}
+use Rattle.honest_logs.proofs.Imports.{map, Some, refl, ap, sym, subst, arith, All, IsOkAnd, decimal}
+use Rattle.honest_logs.proofs.Imports.{length-decimal-le_succ, All-head, All-tail, Atom, forest_of, atom_text}
+use Rattle.honest_logs.proofs.Imports.{text_of, texts_of, RosterFault, Post, Role, Supervisor, Booth, Roster}
+use Rattle.honest_logs.proofs.Imports.{HaveText, IsName, max_machines, max_name, Reads, HasKey, post_tree, role_word}
+use Rattle.honest_logs.proofs.Imports.{roster_tree, roster_fits, one_reading, Script, IsLawful, SealedEntry, Step}
+use Rattle.honest_logs.proofs.Imports.{World, roster_of, ComesTo, roster_has_text, RosterRead, Refusal, GivesRoster}
+use Rattle.honest_logs.proofs.Imports.{max_roster, roster_read, IsOfScript}
+use Rattle.std.proofs.Common.{length-append}
+use Rattle.std.specs.Prelude.{Result, Ok, Err, codes}
+use Rattle.polling_world.specs.Making.{election_of}
 
 -- an octet string's text is no longer than twice the string and two bytes
 atom_short : (octets : List ℕ) → length octets < 2 ^ 64 → length (atom_text octets) ≤ length octets + length octets + 2
@@ -97,41 +76,59 @@ roster_reads : (machines : List Post) → HaveText machines →
 roster_reads machines have =
     (record { keys = have.keys; within = roster_fits machines have; spelt = refl }, have.roster)
 
-module _ (script : Script) (lawful : IsLawful script) (steps : List Step) (w : World SealedEntry)
-    (comes : ComesTo script steps w) where
+module _ (script : Script) (lawful : IsLawful script) where
   -- the text of the script's roster
   abbrev text : List ℕ
   text = text_of (roster_tree (roster_of script))
 
-  -- where this roster and its election were read, the world is of the script
-  of_this : (read : RosterRead) →
-      read ≡ record { roster = record { machines = roster_of script }; election = sha256 text } →
-      IsOfScript read.roster.machines read.election w
-  of_this read is =
-      subst (λ (r : RosterRead). IsOfScript r.roster.machines r.election w) (sym is)
-      (record { script = script; steps = steps; lawful = lawful; comes = comes; roster = refl; in_election = refl })
+  -- the script's roster, in its election
+  abbrev pub read_of_script : RosterRead
+  read_of_script = record {
+    roster = record { machines = roster_of script };
+    election = election_of (roster_of script);
+  }
 
-  -- what the reading gives is that roster
+  -- a reading of the text is the script's roster
   reading_is : (name : List ℕ) (reading : Result Roster RosterFault) (answer : Result RosterRead Refusal) →
-      Reads text reading → answer ≡ roster_read name text reading →
-      answer ≡ Ok (record { roster = record { machines = roster_of script }; election = sha256 text })
+      Reads text reading → answer ≡ roster_read name text reading → answer ≡ Ok read_of_script
+  unfolding election_of
   reading_is name reading answer reads told =
       told
       ∙ ap (roster_read name text)
       (one_reading text reading (Ok (record { machines = roster_of script })) reads
       (roster_reads (roster_of script) (roster_has_text script lawful)))
 
-  -- an answer that gives this roster is for the script's world
-  answer_is : (answer : Result RosterRead Refusal) →
-      answer ≡ Ok (record { roster = record { machines = roster_of script }; election = sha256 text }) →
-      IsOkAnd answer (λ read. IsOfScript read.roster.machines read.election w)
-  answer_is (Ok read) is = of_this read cc
-  answer_is (Err refusal) is = cc
-
-  -- the file of a script's roster gives that roster, and the world is of the script
-  pub script_roster_is_read : (name : List ℕ) (answer : Result RosterRead Refusal) →
-      GivesRoster name (Some text) answer → IsOkAnd answer (λ read. IsOfScript read.roster.machines read.election w)
-  script_roster_is_read name answer (inl (long, told)) =
+  -- the file of a script's roster gives that roster
+  pub script_roster_given : (name : List ℕ) (answer : Result RosterRead Refusal) → GivesRoster name (Some text) answer →
+      answer ≡ Ok read_of_script
+  script_roster_given name answer (inl (long, told)) =
       absurd (omega (arith, long, roster_short (roster_of script) (roster_has_text script lawful)))
-  script_roster_is_read name answer (inr (short, (reading, reads, told))) =
-      answer_is answer (reading_is name reading answer reads told)
+  script_roster_given name answer (inr (short, (reading, reads, told))) = reading_is name reading answer reads told
+
+  module _ (steps : List Step) (w : World SealedEntry) (comes : ComesTo script steps w) where
+    -- under the script's roster, and in its election, the world is of the script
+    pub world_of_script : IsOfScript (roster_of script) (election_of (roster_of script)) w
+    unfolding election_of
+    world_of_script = record {
+      script = script;
+      steps = steps;
+      lawful = lawful;
+      comes = comes;
+      roster = refl;
+      in_election = refl;
+    }
+
+    -- where the script's roster was read, the world is of the script
+    of_this : (read : RosterRead) → read ≡ read_of_script → IsOfScript read.roster.machines read.election w
+    of_this read is = subst (λ (r : RosterRead). IsOfScript r.roster.machines r.election w) (sym is) world_of_script
+
+    -- an answer that gives the script's roster is for the script's world
+    answer_is : (answer : Result RosterRead Refusal) → answer ≡ Ok read_of_script →
+        IsOkAnd answer (λ read. IsOfScript read.roster.machines read.election w)
+    answer_is (Ok read) is = of_this read cc
+    answer_is (Err refusal) is = cc
+
+    -- the file of a script's roster gives that roster, and the world is of the script
+    pub script_roster_is_read : (name : List ℕ) (answer : Result RosterRead Refusal) →
+        GivesRoster name (Some text) answer → IsOkAnd answer (λ read. IsOfScript read.roster.machines read.election w)
+    script_roster_is_read name answer gives = answer_is answer (script_roster_given name answer gives)

@@ -1,48 +1,19 @@
 -- The machines of a script come to an honest world.
-use Rattle.std.proofs.Common.{◌≡◌, ◌∙◌, ℕ, zero, suc, ◌+◌, ◌^◌, ◌<◌, ◌≤◌, ◌⊎◌, inl, inr, List, [], ◌∷◌, length, map}
-use Rattle.std.proofs.Common.{Option, Some, None, refl, ap, sym, subst, arith}
-use Rattle.std.specs.Prelude.{slice_get, get_or, All}
-use Rattle.std.specs.List.{Contains, enumerate_from, flat_map}
-use Rattle.std.proofs.lemmas.List.{length-append, length-map}
-use Rattle.std.proofs.lemmas.List.Elements.{All-from_get_or, Contains-get_or}
-use Rattle.std.proofs.lemmas.Option.{slice_get_within, slice_get_cases}
-use Rattle.entry_order.specs.declared.event.Event.{Event}
-use Rattle.entry_order.specs.declared.step.Step.{Step}
-use Rattle.entry_order.specs.Frontier.{frontier}
-use Rattle.entry_order.specs.HeldBefore.{WasSentAfter}
-use Rattle.entry_order.specs.History.{held, sent, greatest_stamp}
-use Rattle.entry_order.specs.Receipt.{IsOrderly}
-use Rattle.entry_order.specs.World.{Machine, World, history_of, start, sent_in, IsLegalNext, play}
-use Rattle.entry_order.proofs.Frontiers.{frontier_entry}
-use Rattle.entry_order.proofs.Histories.{nth_split}
-use Rattle.entry_order.proofs.Machines.{length_play, length_start}
-use Rattle.entry_order.proofs.MadePlays.{plays_are_made}
-use Rattle.entry_order.proofs.Orders.{was_sent, held_was_sent, next_of}
-use Rattle.entry_order.proofs.Plays.{IsOrderly-play, IsOrderly-start}
-use Rattle.entry_order.proofs.Places.{all_at}
-use Rattle.entry_order.proofs.FewStamps.{stamps_are_few}
-use Rattle.lms_sign.proofs.Heights.{leaves_of}
-use Rattle.entry_format.specs.Deeds.{IsDeedOf}
-use Rattle.entry_format.specs.EntryText.{IsDigest, IsDeedIn, IsEntry}
-use Rattle.entry_format.specs.Nodes.{node_of_sealed}
-use Rattle.entry_format.specs.SealedEntry.{SealedEntry}
-use Rattle.entry_format.specs.Unsealing.{IsValid}
-use Rattle.election_script.specs.declared.script.Cast0.{Cast0}
-use Rattle.election_script.specs.declared.script.Script.{Script}
-use Rattle.election_script.specs.Lawful.{IsCast, IsDeedAmong, IsLawful, max_actions}
-use Rattle.polling_world.specs.Configs.{Config, config_of, script_configs}
-use Rattle.polling_world.specs.Keys.{post_of, roster_of}
-use Rattle.polling_world.specs.Making.{election_of, entry_with}
-use Rattle.polling_world.specs.Playing.{ComesTo}
-use Rattle.polling_world.specs.Sending.{MaySend}
-use Rattle.polling_world.specs.Worlds.{IsNextAt, IsNextOf, TellsNext}
-use Rattle.polling_world.proofs.Histories.{frontier_rises, few_in_frontier}
-use Rattle.polling_world.proofs.MadeEntries.{may_follow}
-use Rattle.polling_world.proofs.Rosters.{key_in_roster}
-use Rattle.honest_logs.specs.HonestWorld.{IsHonestWorld}
-use Rattle.polling_world.proofs.Rosters.{length-id}
+use Rattle.honest_logs.proofs.Imports.{◌≡◌, ◌∙◌, ℕ, zero, suc, ◌+◌, ◌^◌, ◌<◌, ◌≤◌, ◌⊎◌, inl, inr, List, [], ◌∷◌}
+use Rattle.honest_logs.proofs.Imports.{length, map, Option, Some, None, refl, ap, sym, subst, arith, slice_get}
+use Rattle.honest_logs.proofs.Imports.{get_or, All, Contains, enumerate_from, flat_map, length-map, All-from_get_or}
+use Rattle.honest_logs.proofs.Imports.{Contains-get_or, slice_get_within, slice_get_cases, Event, Step, frontier}
+use Rattle.honest_logs.proofs.Imports.{WasSentAfter, held, sent, greatest_stamp, IsOrderly, Machine, World}
+use Rattle.honest_logs.proofs.Imports.{history_of, start, sent_in, IsLegalNext, play, frontier_entry, nth_split}
+use Rattle.honest_logs.proofs.Imports.{length_play, length_start, plays_are_made, was_sent, held_was_sent, next_of}
+use Rattle.honest_logs.proofs.Imports.{IsOrderly-play, IsOrderly-start, all_at, stamps_are_few, leaves_of, IsDeedOf}
+use Rattle.honest_logs.proofs.Imports.{IsDigest, IsDeedIn, IsEntry, node_of_sealed, SealedEntry, IsValid, Cast0}
+use Rattle.honest_logs.proofs.Imports.{Script, IsCast, IsDeedAmong, IsLawful, max_actions, Config, config_of}
+use Rattle.honest_logs.proofs.Imports.{script_configs, post_of, roster_of, election_of, entry_with, ComesTo, MaySend}
+use Rattle.honest_logs.proofs.Imports.{IsNextAt, IsNextOf, TellsNext, frontier_rises, few_in_frontier, may_follow}
+use Rattle.honest_logs.proofs.Imports.{key_in_roster, IsHonestWorld, length-id, max_machines}
+use Rattle.std.proofs.lemmas.List.{length-append}
 use Rattle.honest_logs.proofs.MadeValid.{deed_lawful, length-digest, length-election, made_valid}
-use Rattle.roster.specs.Machines.{max_machines}
 
 -- the configuration at a place, if there is a machine
 abbrev IsConfigAt : Script → List Cast0 → ℕ → ℕ → Option Config → Type 0
@@ -80,7 +51,7 @@ sums_few (a ∷ w) (cast ∷ casts) count each =
       length-append cast.actions (flat_map (λ (c : Cast0). c.actions) casts),
     )
 
--- what is told to be sent may be sent
+-- what is given to be sent may be sent
 may_of : (config : Config) (h : List (Event SealedEntry)) (o : Option SealedEntry) (e : SealedEntry) →
     IsNextOf config h o → o ≡ Some e → MaySend config h e
 may_of config h None e told is = cc

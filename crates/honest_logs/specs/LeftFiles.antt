@@ -4,10 +4,8 @@ use Rattle.std.specs.List.{AllZip, Contains}
 use Rattle.entry_format.specs.SealedEntry.{SealedEntry}
 use Rattle.entry_order.specs.World.{World, history}
 use Rattle.log_files.specs.declared.sealed_log.LogRead.{LogRead}
-use Rattle.log_files.specs.LogFile.{max_bytes}
 use Rattle.log_files.specs.Written.{log_text}
 use Rattle.polling_world.specs.Machines.{MachineState}
-use Rattle.evidence.specs.Refusal.{Refusal, too_long}
 use Rattle.honest_logs.specs.WhatIsLeft.{IsLeftIn, IsLeftOf, IsPrefixRead}
 
 -- each of the files is there and is what is left of the log of a machine of w
@@ -34,13 +32,3 @@ pub record IsReadOf (w : World SealedEntry) (file : Option (List ℕ)) (log : Lo
 -- there is a log for each of the files, in their order
 abbrev pub AreReadOf : World SealedEntry → List (Option (List ℕ)) → List LogRead → Type 0
 AreReadOf w files logs = AllZip (IsReadOf w) files logs
-
--- one of the files, of these names, is over the limit of a log's, and that is what is refused
-pub record IsOverLimit (names : List (List ℕ)) (files : List (Option (List ℕ))) (refusal : Refusal) : Type 0 where
-  pub place : ℕ
-  pub name : List ℕ
-  pub bytes : List ℕ
-  pub named : slice_get names place ≡ Some name
-  pub file : slice_get files place ≡ Some (Some bytes)
-  pub over : max_bytes < length bytes
-  pub told : refusal ≡ too_long name

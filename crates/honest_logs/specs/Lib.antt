@@ -4,3 +4,4 @@ pub mod WhatIsLeft
 pub mod LeftFiles
 pub mod Agreement
 pub mod HonestReading
+pub mod Named

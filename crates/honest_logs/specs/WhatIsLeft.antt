@@ -14,17 +14,17 @@ use Rattle.log_files.specs.SealedLog.{event_of, BreaksAt, IsReadSealed}
 use Rattle.log_files.specs.Written.{log_text}
 use Rattle.polling_world.specs.Making.{election_of}
 
--- the bytes are the owner's log up to some place at or behind the end of its header: all behind it is gone
+-- the bytes are the owner's log up to some place at or after the end of its header: everything after it is gone
 pub record IsLeftOf (owner : ℕ) (events : List (Event SealedEntry)) (bytes : List ℕ) : Type 0 where
   pub place : ℕ
   pub behind_header : length (text_of (header_tree owner)) ≤ place
   pub cut : bytes ≡ take place (log_text owner events)
 
--- where the header and the records of the first so many events end in the text of the log
+-- where the header and the records of the first n events end in the text of the log
 abbrev pub end_of : ℕ → List (Event SealedEntry) → ℕ → ℕ
 end_of owner events count = length (log_text owner (take count events))
 
--- of bytes of this size so many records stand whole: these fit, and there is none more, or it doesn't fit
+-- of bytes of this size this many records are complete: these fit, and there is none more, or it doesn't fit
 pub record StandWhole (owner : ℕ) (events : List (Event SealedEntry)) (size count : ℕ) : Type 0 where
   pub some_of : count ≤ length events
   pub fit : end_of owner events count ≤ size
@@ -37,8 +37,8 @@ IsCutAt place size Clean = size ≡ place
 IsCutAt place size (Torn at) = (place < size) × (at ≡ place)
 IsCutAt place size (Malformed at why) = ⊥
 
--- The log that was read is the owner's, and its records are the events that stand whole in the bytes, in order, each at
--- its place. None is refused, and they break nowhere.
+-- The log that was read is the owner's, and its records are the events that are complete in the bytes, in order, each
+-- at its place. None is refused, and they break nowhere.
 pub record IsPrefixRead (owner : ℕ) (events : List (Event SealedEntry)) (bytes : List ℕ) (log : LogRead) : Type 0 where
   pub count : ℕ
   pub whole : StandWhole owner events (length bytes) count
@@ -49,7 +49,7 @@ pub record IsPrefixRead (owner : ℕ) (events : List (Event SealedEntry)) (bytes
   pub ends : IsCutAt (end_of owner events count) (length bytes) log.end
   pub no_break : log.broke ≡ None
 
--- the same of a log that is whole: its records are all of the events, and it ends behind the last
+-- a complete log is read: its records are all of the events, and it ends after the last
 pub record IsWholeRead (owner : ℕ) (events : List (Event SealedEntry)) (log : LogRead) : Type 0 where
   pub prefix : IsPrefixRead owner events (log_text owner events) log
   pub kept : map event_of log.kept.items ≡ events

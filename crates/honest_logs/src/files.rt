@@ -30,7 +30,6 @@ ghost use Rattle.honest_logs.specs.LeftFiles.{
   AreAllFilesOf,
   AreFilesOf,
   AreReadOf,
-  IsOverLimit,
   written_logs,
 };
 ghost use Rattle.honest_logs.specs.OfScript.{IsOfScript};
@@ -65,7 +64,7 @@ pub fn written_logs_are_of_their_world()
 {}
 
 /// What is left of the logs of an honest world, under its roster, gives logs that are read as what
-/// the machines did. It is refused only where a file is over the limit.
+/// the machines did. None of them is refused, since each is within the limit of a log's file.
 pub fn left_files_give_their_logs()
     ensures read { (posts : List Post) (w : World SealedEntry) → IsHonestWorld posts w →
         (names : List (List ℕ)) (files : List (Option (List ℕ))) → AreFilesOf w files →
@@ -81,10 +80,9 @@ pub fn left_files_give_their_logs()
         (names : List (List ℕ)) (files : List (Option (List ℕ))) → AreAllFilesOf w files →
         (logs : List LogRead) → GivesLogs posts (election_of posts) names files (Ok logs) →
         HaveAll w logs }
-    ensures refused { (posts : List Post) (w : World SealedEntry) → IsHonestWorld posts w →
+    ensures given { (posts : List Post) (w : World SealedEntry) → IsHonestWorld posts w →
         (names : List (List ℕ)) (files : List (Option (List ℕ))) → AreFilesOf w files →
-        (refusal : Refusal) → GivesLogs posts (election_of posts) names files (Err refusal) →
-        IsOverLimit names files refusal }
+        (refusal : Refusal) → ¬ GivesLogs posts (election_of posts) names files (Err refusal) }
 {}
 
 /// Where different entries have different digests, the graph of what is read of an honest world's
@@ -117,12 +115,12 @@ pub fn files_of_a_script_are_honestly_read()
         GivesLogs machines election names files (Ok logs) →
         (graph : EntryGraph SealedEntry) → GivesGraph (entries_of logs) (Ok graph) →
         IsHonestlyRead machines election w names files logs graph }
-    // Of the logs only one over the limit is refused, and the graph never.
-    ensures over { (machines : List Post) (election : List ℕ) (w : World SealedEntry) →
+    // Neither a log nor the graph is refused.
+    ensures given { (machines : List Post) (election : List ℕ) (w : World SealedEntry) →
         IsOfScript machines election w →
         (names : List (List ℕ)) (files : List (Option (List ℕ))) →
         AreFilesOf w files → (refusal : Refusal) →
-        GivesLogs machines election names files (Err refusal) → IsOverLimit names files refusal }
+        ¬ GivesLogs machines election names files (Err refusal) }
     ensures not_refused { (machines : List Post) (election : List ℕ) (w : World SealedEntry) →
         IsOfScript machines election w → Distinct node_of_sealed (sent_in w) →
         (names : List (List ℕ)) (files : List (Option (List ℕ))) →

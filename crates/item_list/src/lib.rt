@@ -1,13 +1,17 @@
-//! Lists that contracts see by their items alone.
+//! Lists that contracts see by their items alone, and the first cause that applies of a row of
+//! causes.
 #![tactic(auto)]
 
 ghost use Rattle.std.specs.Prelude.{◌≡◌, ◌++◌, ◌∷◌, [], List, OnOk, OnErr};
 
+mod causes;
+
+pub use causes::first_of;
 use std::alloc::{AllocError, Global};
 use std::marker::Model;
 
-/// A list of items in order. Contracts see the list, whatever room is reserved, so lists of the same
-/// items are equal.
+/// A list of items in order. Contracts see the list, whatever room is reserved, so lists of the
+/// same items are equal.
 #[derive(Debug, Drop)]
 pub struct Items<T> {
     items: Vec<T>,

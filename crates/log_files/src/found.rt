@@ -24,7 +24,7 @@ const SHORTEST: usize = 1292;
 /// The record of an entry, and what the entry's text is read as.
 #[derive(Drop)]
 pub(crate) struct Found {
-    /// The record's place, counted from 0 behind the header.
+    /// The record's place, counted from 0 after the header.
     pub(crate) place: u32,
     /// Whether the owner of the log sent the entry.
     pub(crate) sent: bool,

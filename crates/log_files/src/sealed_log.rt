@@ -28,7 +28,7 @@ use std::thread::Threads;
 /// A record whose entry is valid.
 #[derive(Drop)]
 pub struct Kept {
-    /// The record's place, counted from 0 behind the header.
+    /// The record's place, counted from 0 after the header.
     pub place: u32,
     /// Whether the owner of the log sent the entry, or else got it.
     pub sent: bool,
@@ -68,7 +68,7 @@ pub struct LogRead {
     pub owner: u32,
     /// The records whose entries are valid, in the order of the file.
     pub kept: Vec<Kept>,
-    /// The other records: the place of each, counted from 0 behind the header, and why.
+    /// The other records: the place of each, counted from 0 after the header, and why.
     pub refused: Vec<(u32, EntryFault)>,
     /// How the file ends.
     pub end: End,
@@ -123,7 +123,8 @@ pub fn sealed_log_of(
     sealed_log_by(alloc, &reader, bytes)
 }
 
-/// Reads a log's file, and verifies the signatures of its entries under the roster. No file changes.
+/// Reads a log's file, and verifies the signatures of its entries under the roster. No file
+/// changes.
 ///
 /// # Errors
 ///
@@ -136,13 +137,14 @@ pub fn read_log<S: Store>(
     roster: &Roster,
     election: &[u8; 32],
 ) -> Result<LogRead, LogFault>
-    // The log is what the file says, or what some says where none is told, and so is a refusal.
+    // The log is what the file says, or what some says where no file is exposed, and so is a
+    // refusal.
     ensures ok { IfOk result (λ log. OnSomeFile (S.files store.old) name.now
         (IsSealedLogOf roster.now.machines election.now log)) }
     ensures err { IfErr result (λ fault.
         OnSomeFile (S.files store.old) name.now (IsLogRefused fault)) }
 
-    // Absent and TooLong come exactly where the store said so in this call, ReadFault only so.
+    // Absent and TooLong come exactly when the store said so in this call, ReadFault only so.
     ensures absent { ComesExactly (S.answered store.old).absences (S.answered store.new).absences
         (IsErrOf result LogFault.Absent) }
     ensures absences { (S.answered store.old).absences ≤ (S.answered store.new).absences }
@@ -176,17 +178,18 @@ pub fn read_log_after<S: Store>(
     before: &[LogRead],
 ) -> Result<LogRead, LogFault>
     requires { All (λ log. AreValid roster.now.machines election.now log.kept.items) before.now }
-    // The log is what the file says, or what some says where none is told, and so is a refusal.
+    // The log is what the file says, or what some says where no file is exposed, and so is a
+    // refusal.
     ensures ok { IfOk result (λ log. OnSomeFile (S.files store.old) name.now
         (IsSealedLogOf roster.now.machines election.now log)) }
     ensures err { IfErr result (λ fault.
         OnSomeFile (S.files store.old) name.now (IsLogRefused fault)) }
 
-    // So it may stand among those that were read before.
+    // So it may be among those that were read before.
     ensures valid { IfOk result (λ log.
         AreValid roster.now.machines election.now log.kept.items) }
 
-    // Absent and TooLong come exactly where the store said so in this call, ReadFault only so.
+    // Absent and TooLong come exactly when the store said so in this call, ReadFault only so.
     ensures absent { ComesExactly (S.answered store.old).absences (S.answered store.new).absences
         (IsErrOf result LogFault.Absent) }
     ensures absences { (S.answered store.old).absences ≤ (S.answered store.new).absences }
@@ -230,17 +233,18 @@ pub fn read_log_after_in<R: Threads + Sync, S: Store>(
     before: &[LogRead],
 ) -> Result<LogRead, LogFault>
     requires { All (λ log. AreValid roster.now.machines election.now log.kept.items) before.now }
-    // The log is what the file says, or what some says where none is told, and so is a refusal.
+    // The log is what the file says, or what some says where no file is exposed, and so is a
+    // refusal.
     ensures ok { IfOk result (λ log. OnSomeFile (S.files store.old) name.now
         (IsSealedLogOf roster.now.machines election.now log)) }
     ensures err { IfErr result (λ fault.
         OnSomeFile (S.files store.old) name.now (IsLogRefused fault)) }
 
-    // So it may stand among those that were read before.
+    // So it may be among those that were read before.
     ensures valid { IfOk result (λ log.
         AreValid roster.now.machines election.now log.kept.items) }
 
-    // Absent and TooLong come exactly where the store said so in this call, ReadFault only so.
+    // Absent and TooLong come exactly when the store said so in this call, ReadFault only so.
     ensures absent { ComesExactly (S.answered store.old).absences (S.answered store.new).absences
         (IsErrOf result LogFault.Absent) }
     ensures absences { (S.answered store.old).absences ≤ (S.answered store.new).absences }

@@ -1,5 +1,4 @@
-use Rattle.std.proofs.Common.{◌≡◌, ◌∙◌, ◌++◌, ◌-◌, None, length, replicate, ap, arith, subst}
-use Rattle.polling_world.proofs.Taking.{stands_at}
+use Rattle.finished_floor.proofs.Imports.{◌≡◌, ◌∙◌, ◌++◌, ◌-◌, None, length, replicate, ap, arith, subst, stands_at}
 use Rattle.finished_floor.proofs.Filled.{begun_few, filling_all, filling_more, filling_none, stands}
 use Rattle.finished_floor.proofs.filling.fill.Goals as goal
 

@@ -1,4 +1,4 @@
-use Rattle.std.proofs.Common.{None, arith}
+use Rattle.finished_floor.proofs.Imports.{None, arith}
 use Rattle.finished_floor.proofs.Filled.{filled_more}
 use Rattle.finished_floor.proofs.filling.fill_up.Goals as goal
 

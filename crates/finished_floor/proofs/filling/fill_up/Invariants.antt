@@ -1,7 +1,7 @@
-use Rattle.std.proofs.Common.{◌≡◌, ◌≤◌, ◌-◌, ◌++◌, None, length, replicate}
+use Rattle.finished_floor.proofs.Imports.{◌≡◌, ◌≤◌, ◌-◌, ◌++◌, None, length, replicate}
 use Rattle.finished_floor.proofs.filling.fill_up.Given as goal
 
--- so many have been added
+-- how many have been added
 abbrev pub invariant-loop : goal.invariant-loop
 invariant-loop l = record {
   begun : length l.initial.row.items ≤ l.counter;

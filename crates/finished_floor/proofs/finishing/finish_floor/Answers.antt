@@ -1,10 +1,6 @@
-use Rattle.std.proofs.Common.{◌≡◌, ◌++◌, List, map, subst, sym}
-use Rattle.std.specs.List.{All, AllZip}
-use Rattle.floor_losses.specs.declared.loss.Loss.{Loss}
-use Rattle.floor_sweep.specs.Swept.{AreScripted, IsLicensed}
-use Rattle.polling_world.specs.Machines.{MachineState}
-use Rattle.finished_floor.specs.Floors.{AreBy}
-use Rattle.finished_floor.specs.inside.Begun.{IsBegunBy}
+use Rattle.finished_floor.proofs.Imports.{◌≡◌, ◌++◌, List, map, subst, sym, AllZip, Loss, AreScripted, IsLicensed}
+use Rattle.finished_floor.proofs.Imports.{MachineState, AreBy, IsBegunBy}
+use Rattle.std.specs.List.{All}
 use Rattle.finished_floor.proofs.Finished.{floor_of, played_of, rows_begun}
 use Rattle.finished_floor.proofs.Grown.{are_placed}
 use Rattle.finished_floor.proofs.finishing.finish_floor.Goals as goal

@@ -1,5 +1,4 @@
-use Rattle.std.proofs.Common.{rules, ◌≡◌}
-use Rattle.std.proofs.lemmas.Fn.{always_returns_same}
+use Rattle.finished_floor.proofs.Imports.{rules, ◌≡◌, always_returns_same}
 use Rattle.finished_floor.proofs.Sorted.{key_of, once_moved, told_from_sorted}
 use Rattle.finished_floor.proofs.sorting.sort_losses.Goals as goal
 

@@ -1,10 +1,5 @@
-use Rattle.std.proofs.Common.{◌≡◌, ◌+◌, ◌++◌, [], ◌∷◌, List, Vec, Global, refl, sym, ap}
-use Rattle.std.proofs.Common.{◌∙◌, subst, arith, vec_len}
-use Rattle.std.proofs.lemmas.List.{length-map}
-use Rattle.entry_format.specs.SealedEntry.{SealedEntry}
-use Rattle.broadcast_queues.specs.Ends.{InView, LinkView}
-use Rattle.floor_links.specs.Fresh.{AreNewRows}
-use Rattle.floor_links.specs.inside.Growing.{IsRowBelow}
+use Rattle.floor_links.proofs.Imports.{◌≡◌, ◌+◌, ◌++◌, [], ◌∷◌, List, Vec, Global, refl, sym, ap, ◌∙◌, subst, arith}
+use Rattle.floor_links.proofs.Imports.{vec_len, length-map, SealedEntry, InView, LinkView, AreNewRows, IsRowBelow}
 use Rattle.floor_links.proofs.Makings.{AreEmpty, Inns, Outs, lists_of, lists_push, empty_more, rows_none, rows_more}
 use Rattle.floor_links.proofs.making.make_links.Goals as goal
 

@@ -1,4 +1,4 @@
-use Rattle.floor_links.specs.Fresh.{AreNewRows}
+use Rattle.floor_links.proofs.Imports.{AreNewRows}
 use Rattle.floor_links.proofs.Makings.{AreEmpty, lists_of}
 use Rattle.floor_links.proofs.making.make_links.Given as goal
 

@@ -1,9 +1,5 @@
-use Rattle.std.proofs.Common.{◌≡◌, ◌+◌, ◌<◌, ◌++◌, [], ◌∷◌, List, length, Vec, Global, sym}
-use Rattle.std.proofs.Common.{subst, arith, vec_len}
-use Rattle.std.proofs.lemmas.List.{length-map}
-use Rattle.entry_format.specs.SealedEntry.{SealedEntry}
-use Rattle.broadcast_queues.specs.Ends.{InView, LinkView}
-use Rattle.floor_links.specs.inside.Growing.{IsRowBelow}
+use Rattle.floor_links.proofs.Imports.{◌≡◌, ◌+◌, ◌<◌, ◌++◌, [], ◌∷◌, List, length, Vec, Global, sym, subst, arith}
+use Rattle.floor_links.proofs.Imports.{vec_len, length-map, SealedEntry, InView, LinkView, IsRowBelow}
 use Rattle.floor_links.proofs.Makings.{Inns, Outs, lists_of, row_none, row_more}
 use Rattle.floor_links.proofs.making.make_row.Goals as goal
 

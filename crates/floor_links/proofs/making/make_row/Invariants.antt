@@ -1,4 +1,4 @@
-use Rattle.floor_links.specs.inside.Growing.{IsRowBelow}
+use Rattle.floor_links.proofs.Imports.{IsRowBelow}
 use Rattle.floor_links.proofs.Makings.{lists_of}
 use Rattle.floor_links.proofs.making.make_row.Given as goal
 

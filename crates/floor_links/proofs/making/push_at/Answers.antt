@@ -1,7 +1,5 @@
-use Rattle.std.proofs.Common.{◌≡◌, ◌++◌, [], ◌∷◌, set, get_or, Vec, Global, sym, ap, ◌∙◌, arith}
-use Rattle.std.proofs.lemmas.List.{map-set, get_or-map}
-use Rattle.entry_format.specs.SealedEntry.{SealedEntry}
-use Rattle.broadcast_queues.specs.Ends.{InView}
+use Rattle.floor_links.proofs.Imports.{◌≡◌, ◌++◌, [], ◌∷◌, set, get_or, Vec, Global, sym, ap, ◌∙◌, arith, map-set}
+use Rattle.floor_links.proofs.Imports.{get_or-map, SealedEntry, InView}
 use Rattle.floor_links.proofs.Makings.{Inns, lists_of}
 use Rattle.floor_links.proofs.making.push_at.Goals as goal
 

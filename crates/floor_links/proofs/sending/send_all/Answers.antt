@@ -1,17 +1,7 @@
-use Rattle.std.proofs.Common.{◌≡◌, ◌≢◌, ◌<◌, ◌+◌, ◌++◌, [], ◌∷◌, ℕ, List, Some, length, vec_capacity, vec_len}
-use Rattle.std.proofs.Common.{refl, sym, ap, ◌∙◌, subst, arith, get_or, Vec, Global, inl, inr}
-use Rattle.std.specs.Prelude.{All}
-use Rattle.std.specs.Vec.{with_item}
-use Rattle.std.proofs.lemmas.List.{get_or_default}
-use Rattle.std.proofs.lemmas.Bool.{cases_lt}
-use Rattle.std.proofs.lemmas.List.Elements.{All-pop}
-use Rattle.entry_format.specs.SealedEntry.{SealedEntry}
-use Rattle.election_script.specs.declared.script.Lose.{Lose}
-use Rattle.election_script.specs.Lawful.{max_actions}
-use Rattle.broadcast_queues.specs.Ends.{OutView, LinkView, IsOutOf}
-use Rattle.floor_losses.specs.declared.loss.Loss.{Loss}
-use Rattle.floor_links.specs.Rows.{IsRowOf, link_at}
-use Rattle.floor_links.specs.Sendings.{IsSentBelow}
+use Rattle.floor_links.proofs.Imports.{◌≡◌, ◌≢◌, ◌<◌, ◌+◌, ◌++◌, [], ◌∷◌, ℕ, List, Some, length, vec_capacity}
+use Rattle.floor_links.proofs.Imports.{vec_len, refl, sym, ap, ◌∙◌, subst, arith, get_or, Vec, Global, inl, inr, All}
+use Rattle.floor_links.proofs.Imports.{with_item, get_or_default, cases_lt, All-pop, SealedEntry, Lose, max_actions}
+use Rattle.floor_links.proofs.Imports.{OutView, LinkView, IsOutOf, Loss, IsRowOf, link_at, IsSentBelow}
 use Rattle.floor_links.proofs.Sent.{Sending, sending_none, sending_past, sending_more}
 use Rattle.floor_links.proofs.sending.send_all.Goals as goal
 use Rattle.floor_links.proofs.sending.send_all.Goals.{then-to-own+in-Some, else-to-own}

@@ -1,4 +1,4 @@
-use Rattle.std.proofs.Common.{◌≡◌, vec_capacity}
+use Rattle.floor_links.proofs.Imports.{◌≡◌, vec_capacity}
 use Rattle.floor_links.proofs.Sent.{Sending}
 use Rattle.floor_links.proofs.sending.send_all.Given as goal
 

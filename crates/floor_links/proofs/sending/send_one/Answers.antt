@@ -1,9 +1,5 @@
-use Rattle.std.proofs.Common.{◌≡◌, ℕ, List, [], ◌∷◌, ◌++◌, Some, refl, sym, ap, ◌∙◌}
-use Rattle.entry_format.specs.SealedEntry.{SealedEntry}
-use Rattle.floor_losses.specs.declared.loss.Loss.{Loss}
-use Rattle.floor_losses.specs.declared.loss.LossWhy.{LossWhy}
-use Rattle.floor_losses.specs.declared.loss.LossWhy.TheVariants.{Scripted, LinkFull}
-use Rattle.floor_losses.specs.OfEntries.{loss_of}
+use Rattle.floor_links.proofs.Imports.{◌≡◌, ℕ, List, [], ◌∷◌, ◌++◌, Some, refl, sym, ap, ◌∙◌, SealedEntry, Loss}
+use Rattle.floor_links.proofs.Imports.{LossWhy, Scripted, LinkFull, loss_of}
 use Rattle.floor_links.proofs.sending.send_one.Goals as goal
 
 -- the loss that was written is that of the entry

@@ -1,5 +1,5 @@
 use Rattle.std.proofs.Common.{subst}
-use Rattle.floor_sweep.proofs.News.{fresh_at, fresh_events}
+use Rattle.finished_floor.proofs.Beginnings.{fresh_at, fresh_events}
 use Rattle.finished_floor.specs.Places.{IsStopOf}
 use Rattle.finished_floor.proofs.News.{new_of}
 use Rattle.floor_tests.proofs.sessions.machine_at.Goals as goal

@@ -1,4 +1,4 @@
-use Rattle.honest_logs.proofs.LeftFileFacts.{each_is_read, files_are_over, files_are_read, files_have_all}
+use Rattle.honest_logs.proofs.LeftFileFacts.{each_is_read, files_are_given, files_are_read, files_have_all}
 use Rattle.honest_logs.proofs.files.left_files_give_their_logs.Goals as goal
 
 pub returns-clause-read : goal.returns-clause-read
@@ -10,5 +10,5 @@ returns-clause-each c = each_is_read
 pub returns-clause-all : goal.returns-clause-all
 returns-clause-all c = files_have_all
 
-pub returns-clause-refused : goal.returns-clause-refused
-returns-clause-refused c = files_are_over
+pub returns-clause-given : goal.returns-clause-given
+returns-clause-given c = files_are_given

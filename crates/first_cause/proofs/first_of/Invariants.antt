@@ -1,6 +1,0 @@
-use Rattle.first_cause.proofs.Rows.{IsDecidedFrom}
-use Rattle.first_cause.proofs.first_of.Given as goal
-
--- no test so far is true
-abbrev pub invariant-loop-applies : goal.invariant-loop-applies
-invariant-loop-applies g l = IsDecidedFrom l.row l.applies-index

@@ -1,4 +1,0 @@
-pub mod NamedOnce
-pub mod HeldSums
-pub mod TextSizes
-pub mod ShortLogs
