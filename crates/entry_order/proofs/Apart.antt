@@ -1,9 +1,7 @@
 -- Entries with different digests, among others.
-use Rattle.std.proofs.Common.{◌≡◌, ◌≢◌, ℕ, ◌≤◌, inl, inr, List, [], ◌∷◌, ◌++◌, length, refl, sym, ap, subst, arith}
-use Rattle.std.specs.List.{Contains, sum_by}
-use Rattle.std.proofs.lemmas.List.Elements.{Contains-append_left, Contains-append_right, Contains-append_cases}
-use Rattle.std.proofs.lemmas.List.Sums.{sum_by-append, sum_by-cons}
-use Rattle.entry_order.specs.Node.{Node}
+use Rattle.entry_order.proofs.Imports.{◌≡◌, ◌≢◌, ℕ, ◌≤◌, inl, inr, List, [], ◌∷◌, ◌++◌, length, refl, sym, ap, subst}
+use Rattle.entry_order.proofs.Imports.{arith, Contains, sum_by, Contains-append_left, Contains-append_right}
+use Rattle.entry_order.proofs.Imports.{Contains-append_cases, sum_by-append, sum_by-cons, Node}
 use Rattle.entry_order.proofs.Lists.{Contains-head, Contains-later, Contains-cons_cases}
 use Rattle.entry_order.proofs.Orders.{member_split}
 
@@ -39,7 +37,7 @@ module _ {T : Type 0} (node : T → Node) where
         sum_by-append f before later,
       )
 
-  -- so they are no more than the entries that they are among
+  -- entries with different digests are no more than the entries that they are among
   pub few_among : (xs ys : List T) → DigestsDiffer xs → ((x : T) → Contains xs x → Contains ys x) →
       length xs ≤ length ys
   few_among xs ys apart among = omega (arith, sum_among (λ e. 1) xs ys apart among, ones xs, ones ys)

@@ -1,15 +1,9 @@
 -- Ascending digests: what is in such a list, and that its members say which list it is.
-use Rattle.std.proofs.Common.{◌≡◌, ℕ, Bool, true, false, cond, List, [], ◌∷◌, refl, sym, ap, subst, ◌∙◌, ◌⊎◌, inl, inr}
-use Rattle.std.proofs.Common.{◌+◌, ◌≤◌, length, arith}
-use Rattle.std.specs.List.{Contains, filter}
-use Rattle.std.specs.Cmp.Lexicographic.{slice_cmp}
-use Rattle.std.specs.Ordering.{nat_cmp, ordering_reverse}
-use Rattle.std.specs.declared.cmp.Ordering.{Ordering}
-use Rattle.std.specs.declared.cmp.Ordering.TheVariants.{Less, Equal, Greater}
-use Rattle.std.proofs.lemmas.Cmp.{nat_list_cmp_total}
-use Rattle.std.proofs.lemmas.Map.Lookups.{exact_bytes}
-use Rattle.entry_order.specs.Ascending.{inserted, insert_digest, ascending, IsAscending, IsAscendingOf}
-use Rattle.entry_order.specs.Ascending.{AscendingIsUnique}
+use Rattle.entry_order.proofs.Imports.{◌≡◌, ℕ, Bool, true, false, cond, List, [], ◌∷◌, refl, sym, ap, subst, ◌∙◌, ◌⊎◌}
+use Rattle.entry_order.proofs.Imports.{inl, inr, ◌+◌, ◌≤◌, length, arith, Contains, filter, slice_cmp, nat_cmp}
+use Rattle.entry_order.proofs.Imports.{ordering_reverse, Ordering, Less, Equal, Greater, nat_list_cmp_total}
+use Rattle.entry_order.proofs.Imports.{exact_bytes, inserted, insert_digest, ascending, IsAscending, IsAscendingOf}
+use Rattle.entry_order.proofs.Imports.{AscendingIsUnique}
 use Rattle.entry_order.proofs.Lists.{Contains-none, Contains-later, Contains-at, Contains-cons_cases}
 use Rattle.entry_order.proofs.Lists.{Contains-filter_cases}
 use Rattle.entry_order.proofs.Rising.{Rises, same_rising}
@@ -30,7 +24,7 @@ added Greater d c cs y is h rest =
           (Contains-cons_cases c cs y g) [ inl e ↦ Contains-at c (insert_digest d cs) y e | inr f ↦ deeper (inr f) ]
     ]
 
--- what is put in is in the list, and so is all that was
+-- a list into which a digest was put has that digest and all that it had
 pub Contains-insert_digest : (d : List ℕ) (ds : List (List ℕ)) (y : List ℕ) → (d ≡ y) ⊎ Contains ds y →
     Contains (insert_digest d ds) y
 Contains-insert_digest d [] y h = elim h [ inl e ↦ Contains-at d [] y e | inr g ↦ absurd (Contains-none y g) ]
@@ -64,7 +58,7 @@ Contains-ascending (d ∷ ds) y h =
     λ g. Contains-insert_digest d (ascending ds) y (inr (Contains-ascending ds y g)) in
     elim (Contains-cons_cases d ds y h) [ inl e ↦ Contains-insert_digest d (ascending ds) y (inl e) | inr g ↦ deeper g ]
 
--- and no others
+-- sorting adds no digest to a list
 pub Contains-ascending_cases : (ds : List (List ℕ)) (y : List ℕ) → Contains (ascending ds) y → Contains ds y
 Contains-ascending_cases [] y h = h
 Contains-ascending_cases (d ∷ ds) y h =

@@ -1,19 +1,13 @@
 -- Numbers and digests as the order compares them.
-use Rattle.std.proofs.Common.{◌≡◌, ◌≢◌, ◌∙◌, ℕ, ◌<◌, false, List, refl, sym, ap, arith}
-use Rattle.std.specs.Cmp.Lexicographic.{slice_cmp}
-use Rattle.std.specs.Ordering.{nat_cmp, ordering_reverse, is_lt}
-use Rattle.std.specs.declared.cmp.Ordering.{Ordering}
-use Rattle.std.specs.declared.cmp.Ordering.TheVariants.{Less, Equal, Greater}
-use Rattle.std.proofs.lemmas.Bool.{true≢false}
-use Rattle.std.proofs.lemmas.Bool.Decides.{nat_tests}
-use Rattle.std.proofs.lemmas.Cmp.{nat_list_cmp_total}
-use Rattle.std.proofs.lemmas.Map.Lookups.{exact_bytes}
+use Rattle.entry_order.proofs.Imports.{◌≡◌, ◌≢◌, ◌∙◌, ℕ, ◌<◌, false, List, refl, sym, ap, arith, slice_cmp, nat_cmp}
+use Rattle.entry_order.proofs.Imports.{ordering_reverse, is_lt, Ordering, Less, Equal, Greater, true≢false, nat_tests}
+use Rattle.entry_order.proofs.Imports.{nat_list_cmp_total, exact_bytes}
 
 -- a lower number compares as less
 pub less : (m n : ℕ) → m < n → nat_cmp m n ≡ Less
 less m n lower = grind (arith, nat_tests)
 
--- the same number as equal
+-- numbers that are the same compare as equal
 pub level : (m n : ℕ) → m ≡ n → nat_cmp m n ≡ Equal
 level m n same = grind (arith, nat_tests)
 

@@ -1,21 +1,15 @@
 -- What is the same in every completion.
-use Rattle.std.proofs.Common.{◌≡◌, ℕ, Bool, true, false, List, [], ◌∷◌, refl, sym, subst, ◌∙◌, ◌⊎◌, inl, inr}
-use Rattle.std.specs.Prelude.{◌↔◌, not}
-use Rattle.std.specs.List.{Contains, filter, flat_map}
-use Rattle.std.proofs.lemmas.Bool.{not_from_false, not-true, true≢false, false_from_ne_true}
-use Rattle.entry_order.specs.Node.{Node}
-use Rattle.entry_order.specs.Naming.{Names, IsNamedIn, IsBorneIn, has_digest}
-use Rattle.entry_order.specs.Precedes.{IsPath, Precedes}
-use Rattle.entry_order.specs.Survivors.{gaps, IsGaps}
-use Rattle.entry_order.specs.Completion.{Completion}
-use Rattle.entry_order.specs.Settled.{NamesNoGap, IsWhole, PathsAreSettled}
+use Rattle.entry_order.proofs.Imports.{◌≡◌, ℕ, Bool, true, false, List, [], ◌∷◌, refl, sym, subst, ◌∙◌, ◌⊎◌, inl, inr}
+use Rattle.entry_order.proofs.Imports.{◌↔◌, not, Contains, filter, flat_map, not_from_false, not-true, true≢false}
+use Rattle.entry_order.proofs.Imports.{false_from_ne_true, Node, Names, IsNamedIn, IsBorneIn, has_digest, IsPath}
+use Rattle.entry_order.proofs.Imports.{Precedes, gaps, IsGaps, Completion, NamesNoGap, IsWhole, PathsAreSettled}
 use Rattle.entry_order.proofs.Lists.{Contains-filter, Contains-filter_cases, Contains-flat_map, Contains-flat_map_cases}
 use Rattle.entry_order.proofs.Ascending.{Contains-ascending, Contains-ascending_cases, same_ascending}
 use Rattle.entry_order.proofs.Ascending.{ascending_ascending}
 use Rattle.entry_order.proofs.Naming.{has_digest_of, has_digest_from}
 
 module _ {T : Type 0} (node : T → Node) (S : List T) where
-  -- the gaps are the digests that are named and not borne
+  -- the gaps are the digests that an entry names and none has
   gap_members : (d : List ℕ) → Contains (gaps node S) d ↔ (IsNamedIn node S d × (¬ (IsBorneIn node S d)))
   gap_members d =
       let names = flat_map (λ y. (node y).names) S in
@@ -32,7 +26,7 @@ module _ {T : Type 0} (node : T → Node) (S : List T) where
             (Contains-filter free names d there (not_from_false (has_digest node S d) none)),
       )
 
-  -- a gap is named by an entry and borne by none
+  -- an entry names a gap and none has it
   pub gap_cases : (d : List ℕ) → Contains (gaps node S) d → IsNamedIn node S d × (¬ (IsBorneIn node S d))
   gap_cases d c = (gap_members d).0 c
 

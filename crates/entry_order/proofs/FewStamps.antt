@@ -1,14 +1,8 @@
 -- In an orderly world a stamp is at most how many entries were sent.
-use Rattle.std.proofs.Common.{◌≡◌, ℕ, zero, suc, ◌≤◌, max, List, [], ◌∷◌, ◌++◌, length, map, refl, sym}
-use Rattle.std.proofs.Common.{ap, ◌∙◌, subst, arith, ◌⊎◌, inl, inr, length-append}
-use Rattle.std.specs.List.{Contains, fold}
-use Rattle.std.proofs.lemmas.Bool.{cases_eq, cases_lt}
-use Rattle.std.proofs.lemmas.List.{length-map}
-use Rattle.std.proofs.lemmas.List.Elements.{Contains-append_left, Contains-append_right, Contains-append_cases}
-use Rattle.entry_order.specs.Node.{Node}
-use Rattle.entry_order.specs.History.{held}
-use Rattle.entry_order.specs.World.{World, sent_in}
-use Rattle.entry_order.specs.Receipt.{IsOrderly}
+use Rattle.entry_order.proofs.Imports.{◌≡◌, ℕ, zero, suc, ◌≤◌, max, List, [], ◌∷◌, ◌++◌, length, map, refl, sym, ap}
+use Rattle.entry_order.proofs.Imports.{◌∙◌, subst, arith, ◌⊎◌, inl, inr, length-append, Contains, fold, cases_eq}
+use Rattle.entry_order.proofs.Imports.{cases_lt, length-map, Contains-append_left, Contains-append_right}
+use Rattle.entry_order.proofs.Imports.{Contains-append_cases, Node, held, World, sent_in, IsOrderly}
 use Rattle.entry_order.proofs.Lists.{Contains-head, Contains-later, Contains-cons_cases, Contains-map}
 use Rattle.entry_order.proofs.Orders.{member_split, was_sent, held_was_sent, next_of}
 
@@ -71,7 +65,7 @@ module _ {T : Type 0} (node : T → Node) where
               ])
         ]
 
-    -- so a stamp is at most how many were sent
+    -- a stamp is at most the number of entries that were sent
     pub stamps_are_few : (e : T) → Contains (sent_in w) e → (node e).stamp ≤ length (sent_in w)
     stamps_are_few e c =
         let all = many (node e).stamp (map (λ (x : T). (node x).stamp) (sent_in w))

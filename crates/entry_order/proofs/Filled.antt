@@ -1,16 +1,10 @@
 -- The survivors with one entry more for each gap.
-use Rattle.std.proofs.Common.{◌≡◌, ◌∙◌, ℕ, ◌<◌, ◌++◌, List, [], ◌∷◌, map, sym, ap, subst, inl, inr, arith}
-use Rattle.std.specs.List.{Contains}
-use Rattle.std.proofs.lemmas.List.Elements.{Contains-append_left, Contains-append_right, Contains-append_cases}
-use Rattle.entry_order.specs.Node.{Node}
-use Rattle.entry_order.specs.Naming.{Names, IsNamedIn, IsBorneIn, Distinct}
-use Rattle.entry_order.specs.Precedes.{IsPath, Precedes}
-use Rattle.entry_order.specs.Survivors.{gaps}
-use Rattle.entry_order.specs.Settled.{IsWhole}
-use Rattle.entry_order.specs.Completion.{Completion}
+use Rattle.entry_order.proofs.Imports.{◌≡◌, ◌∙◌, ℕ, ◌<◌, ◌++◌, List, [], ◌∷◌, map, sym, ap, subst, inl, inr, arith}
+use Rattle.entry_order.proofs.Imports.{Contains, Contains-append_left, Contains-append_right, Contains-append_cases}
+use Rattle.entry_order.proofs.Imports.{Node, Names, IsNamedIn, IsBorneIn, Distinct, IsPath, Precedes, gaps, IsWhole}
+use Rattle.entry_order.proofs.Imports.{Completion, AreSurvivors, CompletionsExist, OrderIsExact}
 use Rattle.entry_order.proofs.Lists.{Contains-none, Contains-head, Contains-cons_cases, Contains-map, Contains-map_cases}
 use Rattle.entry_order.proofs.Completions.{gap_cases, gap_or_bearer, before_in_completion, before_among_survivors}
-use Rattle.entry_order.specs.Exact.{AreSurvivors, CompletionsExist, OrderIsExact}
 
 -- an entry for each digest, of machine 0, which names this of the survivors
 pub record Fills {T : Type 0} (node : T → Node) (S : List T) (fill : List ℕ → T) : Type 0 where
@@ -45,7 +39,7 @@ module _ {T : Type 0} (node : T → Node) (machines : ℕ) (S : List T) (fill : 
             omega (arith, some, maker)
       ]
 
-  -- one that fills a gap bears what no survivor does
+  -- an entry that fills a gap has a digest that no survivor has
   apart : (e f : T) → Contains S e → Contains (map fill (gaps node S)) f → (node e).digest ≡ (node f).digest → ⊥
   apart e f old new is =
       let (d, gap, same) = filling f new in
@@ -72,7 +66,7 @@ module _ {T : Type 0} (node : T → Node) (machines : ℕ) (S : List T) (fill : 
             ]
       ]
 
-  -- what a survivor bears is borne
+  -- the filled entries have every digest that the survivors have
   borne : (d : List ℕ) → IsBorneIn node S d → IsBorneIn node filled d
   borne d (e, there, is) = (e, Contains-append_left S (map fill (gaps node S)) e there, is)
 
@@ -117,7 +111,7 @@ module _ {T : Type 0} (node : T → Node) (machines : ℕ) (S : List T) (fill : 
               (subst (λ (x : T). Contains (node x).names (node f).digest) (sym same) names))
         ]
 
-    -- so nothing precedes a survivor that doesn't among survivors
+    -- nothing precedes a survivor in the completion that doesn't among survivors
     pub old_order : (y x : T) → Contains S y → Contains S x → Precedes node filled y x → Precedes node S y x
     old_order y x cy cx (_, _, between, path) = (cy, cx, between, old_path y between x cy path)
 
@@ -185,7 +179,7 @@ module _ {T : Type 0} (node : T → Node) (made : List (List ℕ) → List ℕ �
               );
         }
 
-  -- what is told of the order is exact
+  -- what is reported of the order is exact
   pub order_is_exact : OrderIsExact node
   order_is_exact machines S are y x cy cx = (
     (

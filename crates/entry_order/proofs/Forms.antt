@@ -1,10 +1,7 @@
 -- The forms of being held before are one.
-use Rattle.std.proofs.Common.{ℕ, zero, suc, ◌≤◌, List, [], ◌∷◌, ◌++◌, inl, inr, arith}
-use Rattle.entry_order.specs.Node.{Node}
-use Rattle.entry_order.specs.World.{World, start, play}
-use Rattle.entry_order.specs.HeldBefore.{HeldBefore, HeldBefore.itself, HeldBefore.descendant}
-use Rattle.entry_order.specs.Receipt.{IsOrderly}
-use Rattle.entry_order.specs.Forms.{HeldItself, IsChain, HeldByChain, HeldWithin, FormsAgree}
+use Rattle.entry_order.proofs.Imports.{ℕ, zero, suc, ◌≤◌, List, [], ◌∷◌, ◌++◌, inl, inr, arith, Node, World, start}
+use Rattle.entry_order.proofs.Imports.{play, HeldBefore, HeldBefore.itself, HeldBefore.descendant, IsOrderly}
+use Rattle.entry_order.proofs.Imports.{HeldItself, IsChain, HeldByChain, HeldWithin, FormsAgree}
 use Rattle.entry_order.proofs.Orders.{along, held_lower}
 use Rattle.entry_order.proofs.Plays.{IsOrderly-play, IsOrderly-start}
 

@@ -1,16 +1,10 @@
 -- What is in a frontier, and what it becomes when one entry more is held.
-use Rattle.std.proofs.Common.{◌≡◌, ℕ, Bool, true, false, cond, List, [], ◌∷◌, ◌++◌, map, refl, sym, ap, subst, ◌∙◌}
-use Rattle.std.proofs.Common.{◌⊎◌, inl, inr}
-use Rattle.std.specs.Prelude.{◌↔◌, not, ◌||◌}
-use Rattle.std.specs.List.{Contains, filter}
-use Rattle.std.proofs.lemmas.Bool.{not-true, not_from_false, or_parts, or_from, true≢false, false_from_ne_true}
-use Rattle.std.proofs.lemmas.List.Folds.{list_any-append}
-use Rattle.std.proofs.lemmas.List.Elements.{Contains-append_left, Contains-append_cases, Contains-push}
-use Rattle.std.proofs.Math.Bool.{or-false}
-use Rattle.entry_order.specs.Node.{Node}
-use Rattle.entry_order.specs.Naming.{IsNamedIn, IsBorneIn, names_digest, is_named}
-use Rattle.entry_order.specs.Ascending.{insert_digest, IsAscending}
-use Rattle.entry_order.specs.Frontier.{frontier, IsFrontier, FrontierIsUnique}
+use Rattle.entry_order.proofs.Imports.{◌≡◌, ℕ, Bool, true, false, cond, List, [], ◌∷◌, ◌++◌, map, refl, sym, ap}
+use Rattle.entry_order.proofs.Imports.{subst, ◌∙◌, ◌⊎◌, inl, inr, ◌↔◌, not, ◌||◌, Contains, filter, not-true}
+use Rattle.entry_order.proofs.Imports.{not_from_false, or_parts, or_from, true≢false, false_from_ne_true}
+use Rattle.entry_order.proofs.Imports.{list_any-append, Contains-append_left, Contains-append_cases, Contains-push}
+use Rattle.entry_order.proofs.Imports.{or-false, Node, IsNamedIn, IsBorneIn, names_digest, is_named, insert_digest}
+use Rattle.entry_order.proofs.Imports.{IsAscending, frontier, IsFrontier, FrontierIsUnique}
 use Rattle.entry_order.proofs.Lists.{Contains-none, Contains-cons_cases, Contains-map, Contains-map_cases}
 use Rattle.entry_order.proofs.Lists.{Contains-filter, Contains-filter_cases}
 use Rattle.entry_order.proofs.Naming.{is_named_of, is_named_from}
@@ -35,7 +29,7 @@ module _ {T : Type 0} (node : T → Node) where
       (Contains-filter (λ d. not (is_named node es d)) (map (λ e. (node e).digest) es) (node e).digest
       (Contains-map (λ e. (node e).digest) es e c) (not_from_false (is_named node es (node e).digest) free))
 
-  -- a digest of the frontier is borne and not named
+  -- an entry has each digest of the frontier, and none names it
   pub frontier_cases : (es : List T) (d : List ℕ) → Contains (frontier node es) d →
       Contains (map (λ e. (node e).digest) es) d × (is_named node es d ≡ false)
   frontier_cases es d h =
@@ -43,7 +37,7 @@ module _ {T : Type 0} (node : T → Node) where
       (Contains-ascending_cases (filter (λ d. not (is_named node es d)) (map (λ e. (node e).digest) es)) d h) in
       (r.0, not-true (is_named node es d) r.1)
 
-  -- a digest that is borne and not named is in the frontier
+  -- a digest that an entry has and none names is in the frontier
   pub frontier_from : (es : List T) (d : List ℕ) → Contains (map (λ e. (node e).digest) es) d →
       is_named node es d ≡ false → Contains (frontier node es) d
   frontier_from es d c free =
@@ -51,7 +45,7 @@ module _ {T : Type 0} (node : T → Node) where
       (Contains-filter (λ d. not (is_named node es d)) (map (λ e. (node e).digest) es) d c
       (not_from_false (is_named node es d) free))
 
-  -- the frontier is the digests that are borne and not named
+  -- the frontier is the digests that an entry has and none names
   frontier_members : (es : List T) (d : List ℕ) →
       Contains (frontier node es) d ↔ (IsBorneIn node es d × (¬ (IsNamedIn node es d)))
   frontier_members es d = (

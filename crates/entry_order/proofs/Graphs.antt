@@ -1,18 +1,11 @@
 -- Survivors that are sorted by stamp have a graph whose nodes are their places.
-use Rattle.std.proofs.Common.{◌≡◌, ℕ, zero, suc, ◌<◌, Bool, true, false, List, [], ◌∷◌, ◌++◌, length, refl, sym, ap}
-use Rattle.std.proofs.Common.{subst}
-use Rattle.std.proofs.Common.{◌∙◌, inl, inr, arith, Some, None, Option}
-use Rattle.std.specs.Prelude.{◌↔◌, slice_get}
-use Rattle.std.specs.List.{Contains, filter, list_any}
-use Rattle.std.specs.Str.{bytes_eq}
-use Rattle.std.proofs.lemmas.Bool.{true≢false, false_from_ne_true, cases_eq}
-use Rattle.std.proofs.lemmas.List.Elements.{Contains-append_left, Contains-append_right}
-use Rattle.std.proofs.lemmas.Option.{slice_get_within}
-use Rattle.std.proofs.lemmas.Slice.Eq.{bytes_eq-Decides}
-use Rattle.entry_order.specs.Node.{Node}
-use Rattle.entry_order.specs.Naming.{Names, names_digest}
-use Rattle.entry_order.specs.Survivors.{IsStray, gaps}
-use Rattle.entry_order.specs.Settled.{NamesNoGap, SurvivorsHaveAGraph}
+use Rattle.entry_order.proofs.Imports.{◌≡◌, ℕ, zero, suc, ◌<◌, Bool, true, false, List, [], ◌∷◌, ◌++◌, length, refl}
+use Rattle.entry_order.proofs.Imports.{sym, ap, subst, ◌∙◌, inl, inr, arith, None, Option, ◌↔◌, slice_get, Contains}
+use Rattle.entry_order.proofs.Imports.{filter, list_any, bytes_eq, true≢false, false_from_ne_true, cases_eq}
+use Rattle.entry_order.proofs.Imports.{Contains-append_left, Contains-append_right, slice_get_within}
+use Rattle.entry_order.proofs.Imports.{bytes_eq-Decides, Node, Names, names_digest, IsStray, gaps, NamesNoGap}
+use Rattle.entry_order.proofs.Imports.{SurvivorsHaveAGraph}
+use Rattle.std.proofs.Common.{Some}
 use Rattle.entry_order.proofs.Lists.{Contains-head, Contains-filter, Contains-filter_cases, list_any_some, list_any_of}
 use Rattle.entry_order.proofs.Naming.{names_digest_of, names_digest_from}
 use Rattle.entry_order.proofs.Strays.{survivors_are_no_strays}

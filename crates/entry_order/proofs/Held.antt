@@ -1,22 +1,14 @@
 -- What is asked of the events is asked of their entries.
-use Rattle.std.proofs.Common.{◌≡◌, ℕ, map, ◌∙◌, List, [], ◌∷◌, refl, ap, max}
-use Rattle.std.specs.Prelude.{◌||◌, not}
-use Rattle.std.specs.List.{fold, filter}
-use Rattle.std.specs.Str.{bytes_eq}
-use Rattle.std.proofs.lemmas.List.Elements.{filter_agree}
-use Rattle.entry_order.specs.declared.event.Event.{Event}
-use Rattle.entry_order.specs.Node.{Node}
-use Rattle.entry_order.specs.Naming.{has_digest, is_named, names_digest}
-use Rattle.entry_order.specs.Ascending.{ascending}
-use Rattle.entry_order.specs.Frontier.{frontier}
-use Rattle.entry_order.specs.History.{entry_of, held, greatest_stamp}
+use Rattle.entry_order.proofs.Imports.{◌≡◌, ℕ, map, ◌∙◌, List, [], ◌∷◌, refl, ap, max, ◌||◌, not, fold, filter}
+use Rattle.entry_order.proofs.Imports.{bytes_eq, filter_agree, Event, Node, has_digest, is_named, names_digest}
+use Rattle.entry_order.proofs.Imports.{ascending, frontier, entry_of, held, greatest_stamp}
 
 module _ {T : Type 0} (node : T → Node) where
   -- what an event shows is what its entry shows
   abbrev pub node_of_event : Event T → Node
   node_of_event x = node (entry_of x)
 
-  -- a digest is borne by an event where it is borne by its entry
+  -- an event has a digest where its entry has it
   pub has_digest_held : (h : List (Event T)) (d : List ℕ) → has_digest node_of_event h d ≡ has_digest node (held h) d
   has_digest_held [] d = refl
   has_digest_held (x ∷ h) d = ap (λ b. bytes_eq (node (entry_of x)).digest d || b) (has_digest_held h d)

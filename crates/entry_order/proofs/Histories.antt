@@ -1,16 +1,9 @@
 -- Histories with one event more: what is sent and held then, and whether they stay legal.
-use Rattle.std.proofs.Common.{◌≡◌, ℕ, zero, suc, ◌+◌, ◌≤◌, max, List, [], ◌∷◌, ◌++◌, length, refl, sym, ap, subst}
-use Rattle.std.proofs.Common.{◌∙◌, ◌⊎◌, inl, inr, append_assoc, arith}
-use Rattle.std.specs.Prelude.{slice_get, Some}
-use Rattle.std.specs.List.{Contains}
-use Rattle.std.proofs.lemmas.List.{append-nil}
-use Rattle.std.proofs.lemmas.List.Sums.{fold-append}
-use Rattle.std.proofs.lemmas.List.{map-append}
-use Rattle.entry_order.specs.declared.event.Event.{Event}
-use Rattle.entry_order.specs.declared.event.Event.TheVariants.{Sent, Got}
-use Rattle.entry_order.specs.Node.{Node}
-use Rattle.entry_order.specs.Naming.{IsNew}
-use Rattle.entry_order.specs.History.{entry_of, held, sent, greatest_stamp, MayFollow, IsLegal}
+use Rattle.entry_order.proofs.Imports.{◌≡◌, ℕ, zero, suc, ◌+◌, ◌≤◌, max, List, [], ◌∷◌, ◌++◌, length, refl, sym, ap}
+use Rattle.entry_order.proofs.Imports.{subst, ◌∙◌, ◌⊎◌, inl, inr, append_assoc, arith, slice_get, Contains}
+use Rattle.entry_order.proofs.Imports.{append-nil, fold-append, map-append, Event, Sent, Got, Node, IsNew, entry_of}
+use Rattle.entry_order.proofs.Imports.{held, sent, greatest_stamp, MayFollow, IsLegal}
+use Rattle.std.specs.Prelude.{Some}
 use Rattle.entry_order.proofs.Lists.{Contains-at, Contains-later}
 
 -- ---- one more at the end
@@ -30,7 +23,7 @@ last_or_earlier {X} (a ∷ xs) x (b ∷ before) y later e =
       | inr (is, same) ↦ inr (cc (is, head), same)
     ]
 
--- of two members of a list one stands before the other, or they are one
+-- of two members of a list one is before the other, or they are one
 pub split_two : {X : Type 0} (p q : List X) (x y : X) (l m : List X) → p ++ x ∷ l ≡ q ++ y ∷ m →
     (x ≡ y) ⊎ (Contains q x ⊎ Contains p y)
 split_two [] [] x y l m e = inl cc
@@ -53,7 +46,7 @@ module _ {T : Type 0} where
   sent-append (Sent e ∷ p) q = ap (λ (es : List T). e ∷ es) (sent-append p q)
   sent-append (Got e ∷ p) q = sent-append p q
 
-  -- a sending is one entry more that was sent
+  -- a step that sends adds one entry to those sent
   pub sent_one_more : (p : List (Event T)) (e : T) → length (sent (p ++ Sent e ∷ [])) ≡ length (sent p) + 1
   sent_one_more [] e = refl
   sent_one_more (Sent g ∷ p) e = omega (arith, sent_one_more p e)
@@ -71,7 +64,7 @@ module _ {T : Type 0} where
   sent_few (Sent e ∷ h) = omega (arith, sent_few h)
   sent_few (Got e ∷ h) = omega (arith, sent_few h)
 
-  -- an entry among those sent stands in the history after as many others
+  -- an entry among those sent is in the history after as many others
   pub nth_split : (h : List (Event T)) (i : ℕ) (x : T) → slice_get (sent h) i ≡ Some x →
       (p : List (Event T)) × (l : List (Event T)) × (h ≡ p ++ Sent x ∷ l) × (length (sent p) ≡ i)
   nth_split [] i x e = cc

@@ -1,20 +1,10 @@
 -- What is left of an honest place.
-use Rattle.std.proofs.Common.{◌≡◌, ℕ, ◌<◌, false, List, [], ◌∷◌, ◌++◌, length, refl, sym, ap, subst, ◌∙◌, arith}
-use Rattle.std.specs.Prelude.{not}
-use Rattle.std.specs.List.{Contains}
-use Rattle.std.proofs.lemmas.Bool.{not_from_false}
-use Rattle.entry_order.specs.declared.event.Event.{Event}
-use Rattle.entry_order.specs.declared.event.Event.TheVariants.{Sent, Got}
-use Rattle.entry_order.specs.Node.{Node}
-use Rattle.entry_order.specs.Naming.{IsNamedIn, IsBorneIn, Distinct}
-use Rattle.entry_order.specs.History.{held, sent}
-use Rattle.entry_order.specs.World.{World, start, history, sent_in, play}
-use Rattle.entry_order.specs.Receipt.{IsOrderly}
-use Rattle.entry_order.specs.Survivors.{is_stray, gaps}
-use Rattle.entry_order.specs.Completion.{Completion}
-use Rattle.entry_order.specs.Honest.{HasNoFork, OrderIsHeld, IsAllKnown, AgreesWith, HonestEntriesAgree}
-use Rattle.entry_order.specs.Honest.{HonestEntriesAgreeInOrderlyWorlds}
-use Rattle.entry_order.specs.Made.{NumberedIsDistinct}
+use Rattle.entry_order.proofs.Imports.{◌≡◌, ℕ, ◌<◌, false, List, [], ◌∷◌, ◌++◌, length, refl, sym, ap, subst, ◌∙◌}
+use Rattle.entry_order.proofs.Imports.{arith, not, Contains, not_from_false, Event, Sent, Got, Node, IsNamedIn}
+use Rattle.entry_order.proofs.Imports.{IsBorneIn, Distinct, held, sent, World, start, history, sent_in, play}
+use Rattle.entry_order.proofs.Imports.{IsOrderly, is_stray, gaps, Completion, HasNoFork, OrderIsHeld, IsAllKnown}
+use Rattle.entry_order.proofs.Imports.{AgreesWith, HonestEntriesAgree, HonestEntriesAgreeInOrderlyWorlds}
+use Rattle.entry_order.proofs.Imports.{NumberedIsDistinct}
 use Rattle.entry_order.proofs.Lists.{Contains-head, filter_all}
 use Rattle.entry_order.proofs.Frontiers.{frontier_entry}
 use Rattle.entry_order.proofs.Strays.{no_stray_from}
@@ -25,7 +15,7 @@ use Rattle.entry_order.proofs.Plays.{IsOrderly-play, IsOrderly-start}
 use Rattle.entry_order.proofs.Settled.{settled}
 use Rattle.entry_order.proofs.Places.{member_at}
 
--- in one history, the entry that was sent after so many others is one
+-- in one history, the entry that was sent after a given number of others is one
 nth_sent : {T : Type 0} (p q : List (Event T)) (e f : T) (l m : List (Event T)) →
     p ++ Sent e ∷ l ≡ q ++ Sent f ∷ m → length (sent p) ≡ length (sent q) → e ≡ f
 nth_sent [] [] e f l m s n = cc
@@ -56,7 +46,7 @@ module _ {T : Type 0} (node : T → Node) (w : World T) (orderly : IsOrderly nod
       let one : m ≡ k = sym na.maker ∙ made ∙ nb.maker in
       nth_sent past before e f later rest (sym at ∙ ap (history w) one ∙ there) (sym na.number ∙ number ∙ nb.number)
 
-  -- what was sent bears all that it names
+  -- the sent entries have every digest that they name
   lacks_nothing : (d : List ℕ) → IsNamedIn node (sent_in w) d → IsBorneIn node (sent_in w) d
   lacks_nothing d (e, c, n) =
       let (past, s) = was_sent w e c in
@@ -91,7 +81,7 @@ module _ {T : Type 0} (node : T → Node) (w : World T) (orderly : IsOrderly nod
               lacks_nothing;
         }
 
-    -- the order that is told is that of receipt
+    -- the order that is reported is that of receipt
     order : OrderIsHeld node w given
     order parents ragged graph y x f e fy ex =
         let s = settled node machines given parents ragged graph y x f e fy ex in
@@ -101,7 +91,7 @@ module _ {T : Type 0} (node : T → Node) (w : World T) (orderly : IsOrderly nod
         (λ t. same.0 (s.0 t (sent_in w) completed), λ t h. s.1 t (sent_in w) completed (same.1 h))
 
     module _ (all : (e : T) → Contains (sent_in w) e → Contains given e) where
-      -- what a given entry names, a given entry bears
+      -- a given entry has each digest that a given entry names
       no_gap : (d : List ℕ) → Contains (gaps node given) d → ⊥
       no_gap d c =
           let ((e, there, names), unborne) = gap_cases node given d c in
@@ -134,7 +124,7 @@ pub honest_entries_agree_in_orderly_worlds : {T : Type 0} (node : T → Node) �
 honest_entries_agree_in_orderly_worlds node w orderly distinct given were_sent =
     agrees node w orderly distinct (length w) refl given were_sent
 
--- and of a world that was played
+-- the law, of a world that any list of steps made
 pub honest_entries_agree : {T : Type 0} (node : T → Node) → HonestEntriesAgree node
 honest_entries_agree {T} node next log machines steps lawful distinct given were_sent =
     let w = play node next log (start machines) steps in
@@ -142,7 +132,7 @@ honest_entries_agree {T} node next log machines steps lawful distinct given were
     let count = length_play node next log (start {T = T} machines) steps ∙ length_start T machines in
     agrees node w orderly distinct machines count given were_sent
 
--- where a digest tells maker and number, two entries with one digest were sent at one place
+-- where a digest determines maker and number, two entries with one digest were sent at one place
 pub numbered_is_distinct : {T : Type 0} (node : T → Node) → NumberedIsDistinct node
 numbered_is_distinct node next log machines steps lawful tells e f ce cf is =
     let orderly = IsOrderly-play node next log lawful (start machines) steps (IsOrderly-start node machines) in

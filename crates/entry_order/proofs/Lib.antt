@@ -1,3 +1,4 @@
+mod Imports
 pub mod Lists
 pub mod Places
 pub mod Comparisons
@@ -21,8 +22,6 @@ pub mod Images
 pub mod Machines
 pub mod Honest
 pub mod Made
-pub mod ExampleFacts
-pub mod WrongFacts
 pub mod Ranks
 pub mod Merged
 pub mod MergedOrder

@@ -1,14 +1,9 @@
 -- Worlds of which one machine is changed, and how many machines they have.
-use Rattle.std.proofs.Common.{◌≡◌, ℕ, zero, suc, ◌<◌, true, false, cond, List, [], ◌∷◌, ◌++◌, length, Option, Some}
-use Rattle.std.proofs.Common.{refl, ap, ◌∙◌, arith}
-use Rattle.std.specs.Prelude.{slice_get, ◌==◌}
-use Rattle.entry_order.specs.declared.event.Event.{Event}
-use Rattle.entry_order.specs.declared.event.Event.TheVariants.{Sent, Got}
-use Rattle.entry_order.specs.declared.step.Step.{Step}
-use Rattle.entry_order.specs.declared.step.Step.TheVariants.{Act, Hear, Stop}
-use Rattle.entry_order.specs.Node.{Node}
-use Rattle.entry_order.specs.History.{sent}
-use Rattle.entry_order.specs.World.{Machine, World, start, history, with_machine, stop, send, hear, happens, play}
+use Rattle.std.proofs.Common.{Some}
+use Rattle.entry_order.proofs.Imports.{◌≡◌, ℕ, zero, suc, ◌<◌, true, false, cond, List, [], ◌∷◌, ◌++◌, length, Option}
+use Rattle.entry_order.proofs.Imports.{refl, ap, ◌∙◌, arith, slice_get, ◌==◌, Event, Sent, Got, Step, Act, Hear, Stop}
+use Rattle.entry_order.proofs.Imports.{Node, sent, Machine, World, start, history, with_machine, stop, send, hear}
+use Rattle.entry_order.proofs.Imports.{happens, play}
 
 -- a world has as many machines as it was started with
 pub length_start : (T : Type 0) (n : ℕ) → length (start {T = T} n) ≡ n
@@ -72,7 +67,7 @@ module _ {T : Type 0} (node : T → Node) (next : ℕ → List (Event T) → Opt
       [ true ↦ refl | false ↦ length-with_machine at (hear node log (slice_get (sent (history v from)) number)) v ]
   length_happens v (Stop m) = length-with_machine m stop v
 
-  -- nor do steps change it
+  -- steps leave the number of machines as it was
   pub length_play : (v : World T) (steps : List Step) → length (play node next log v steps) ≡ length v
   length_play v [] = refl
   length_play v (s ∷ steps) = length_play (happens node next log v s) steps ∙ length_happens v s

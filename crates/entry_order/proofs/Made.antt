@@ -1,13 +1,8 @@
 -- What is made of the frontier is what a legal history asks.
-use Rattle.std.proofs.Common.{◌≡◌, ℕ, ◌+◌, Bool, true, false, cond, List, Some, None, length, refl, subst}
-use Rattle.std.specs.Prelude.{not, ◌&&◌}
-use Rattle.std.proofs.lemmas.Bool.{and_parts, not-true}
-use Rattle.entry_order.specs.declared.event.Event.TheVariants.{Sent}
-use Rattle.entry_order.specs.Node.{Node}
-use Rattle.entry_order.specs.Naming.{has_digest}
-use Rattle.entry_order.specs.Frontier.{frontier}
-use Rattle.entry_order.specs.History.{held, sent, greatest_stamp, MayFollow}
-use Rattle.entry_order.specs.Made.{made_after, MadeIsLawful}
+use Rattle.std.proofs.Common.{Some}
+use Rattle.entry_order.proofs.Imports.{◌≡◌, ℕ, ◌+◌, Bool, true, false, cond, List, None, length, refl, subst, not}
+use Rattle.entry_order.proofs.Imports.{◌&&◌, and_parts, not-true, Sent, Node, has_digest, frontier, held, sent}
+use Rattle.entry_order.proofs.Imports.{greatest_stamp, MayFollow, made_after, MadeIsLawful}
 use Rattle.entry_order.proofs.Plays.{IsNew-from_test}
 
 -- its digest is tested, and its parts are what is asked

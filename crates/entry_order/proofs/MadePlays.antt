@@ -1,16 +1,9 @@
 -- In a play each entry was its machine's next when it was sent.
-use Rattle.std.proofs.Common.{◌≡◌, ℕ, Bool, true, false, cond, List, [], ◌∷◌, ◌++◌, Option, Some, None, ◌⊎◌, inl, inr}
-use Rattle.std.proofs.Common.{refl, sym, ap, subst, ◌∙◌}
-use Rattle.std.specs.Prelude.{slice_get, ◌==◌}
-use Rattle.entry_order.specs.declared.event.Event.{Event}
-use Rattle.entry_order.specs.declared.event.Event.TheVariants.{Sent, Got}
-use Rattle.entry_order.specs.declared.step.Step.{Step}
-use Rattle.entry_order.specs.declared.step.Step.TheVariants.{Act, Hear, Stop}
-use Rattle.entry_order.specs.Node.{Node}
-use Rattle.entry_order.specs.History.{sent}
-use Rattle.entry_order.specs.World.{Machine, World, start, history, with_machine, append, stop, send, hear, cannot_hear}
-use Rattle.entry_order.specs.World.{happens, play}
-use Rattle.entry_order.specs.Made.{IsMadeBy, PlaysAreMade}
+use Rattle.std.proofs.Common.{Some}
+use Rattle.entry_order.proofs.Imports.{◌≡◌, ℕ, Bool, true, false, cond, List, [], ◌∷◌, ◌++◌, Option, None, ◌⊎◌, inl}
+use Rattle.entry_order.proofs.Imports.{inr, refl, sym, ap, subst, ◌∙◌, slice_get, ◌==◌, Event, Sent, Got, Step, Act}
+use Rattle.entry_order.proofs.Imports.{Hear, Stop, Node, sent, Machine, World, start, history, with_machine, append}
+use Rattle.entry_order.proofs.Imports.{stop, send, hear, cannot_hear, happens, play, IsMadeBy, PlaysAreMade}
 use Rattle.entry_order.proofs.Histories.{last_or_earlier}
 use Rattle.entry_order.proofs.Plays.{changed, start_is_empty}
 
@@ -42,7 +35,7 @@ module _ {T : Type 0} (node : T → Node) (next : ℕ → List (Event T) → Opt
       by true = inl refl
       by false = inr (Sent e, refl, λ f same. let one : e ≡ f = cc in is ∙ ap Some one)
 
-  -- a machine that hears has no sending more
+  -- a machine that hears sends nothing more
   grows_hear : (m : ℕ) (a : Machine T) (o : Option T) → Grows m a.history (hear node log o a).history
   grows_hear m a None = inl refl
   grows_hear m a (Some e) = by (cannot_hear node log a (node e).digest)

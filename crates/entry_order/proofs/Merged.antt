@@ -1,27 +1,15 @@
 -- Playing the moments of an orderly world in their order gives its histories again.
-use Rattle.std.proofs.Common.{◌≡◌, ℕ, ◌<◌, ◌≤◌, Bool, true, false, cond, leb, List, [], ◌∷◌, ◌++◌, map, length}
-use Rattle.std.proofs.Common.{Option, Some, refl, sym, ap, subst, ◌∙◌, inl, inr, append_assoc, length-append, arith}
-use Rattle.std.specs.Prelude.{slice_get, ◌==◌}
-use Rattle.std.specs.List.{Contains, filter}
-use Rattle.std.proofs.lemmas.Option.{slice_get_past}
-use Rattle.std.proofs.lemmas.List.{append-nil}
+use Rattle.entry_order.proofs.Imports.{◌≡◌, ℕ, ◌<◌, ◌≤◌, Bool, true, false, cond, leb, List, [], ◌∷◌, ◌++◌, map}
+use Rattle.entry_order.proofs.Imports.{length, Option, refl, sym, ap, subst, ◌∙◌, inl, inr, append_assoc}
+use Rattle.entry_order.proofs.Imports.{length-append, arith, slice_get, ◌==◌, Contains, filter, slice_get_past}
+use Rattle.entry_order.proofs.Imports.{append-nil, slice_cmp, nat_cmp, Less, cases_eq, cases_lt, eq-eqb, ne_eqb}
+use Rattle.entry_order.proofs.Imports.{eqb-true, false_from_ne_true, or_from, lt-leb, Event, Sent, Got, Step, Node}
+use Rattle.entry_order.proofs.Imports.{has_digest, held, sent, IsLegal, Machine, World, start, history, history_of}
+use Rattle.entry_order.proofs.Imports.{with_machine, append, send, cannot_hear, hear, happens, play, IsOrderly}
+use Rattle.entry_order.proofs.Imports.{PlacedEvent, sort_key, IsInSortOrder, placed, IsMergedOf, step_of, IsMadeBy}
+use Rattle.entry_order.proofs.Imports.{MergedIsPlayedAgain}
+use Rattle.std.proofs.Common.{Some}
 use Rattle.entry_order.proofs.Naming.{has_digest_from}
-use Rattle.std.specs.Cmp.Lexicographic.{slice_cmp}
-use Rattle.std.specs.Ordering.{nat_cmp}
-use Rattle.std.specs.declared.cmp.Ordering.TheVariants.{Less}
-use Rattle.std.proofs.lemmas.Bool.{cases_eq, cases_lt, eq-eqb, ne_eqb, eqb-true, false_from_ne_true, or_from, lt-leb}
-use Rattle.entry_order.specs.declared.event.Event.{Event}
-use Rattle.entry_order.specs.declared.event.Event.TheVariants.{Sent, Got}
-use Rattle.entry_order.specs.declared.step.Step.{Step}
-use Rattle.entry_order.specs.Node.{Node}
-use Rattle.entry_order.specs.Naming.{has_digest}
-use Rattle.entry_order.specs.History.{held, sent, IsLegal}
-use Rattle.entry_order.specs.World.{Machine, World, start, history, history_of, with_machine, append, send, cannot_hear}
-use Rattle.entry_order.specs.World.{hear, happens, play}
-use Rattle.entry_order.specs.Receipt.{IsOrderly}
-use Rattle.entry_order.specs.Merged.{PlacedEvent, sort_key, IsInSortOrder, placed, IsMergedOf, step_of}
-use Rattle.entry_order.specs.Made.{IsMadeBy}
-use Rattle.entry_order.specs.Merged.{MergedIsPlayedAgain}
 use Rattle.entry_order.proofs.Lists.{Contains-none, Contains-head, Contains-later, Contains-at, Contains-cons_cases}
 use Rattle.entry_order.proofs.Lists.{Contains-filter, Contains-filter_cases}
 use Rattle.entry_order.proofs.Machines.{length_start, get_same, get_other, get_start, in_world, nth_of_sent}
@@ -61,7 +49,7 @@ module _ {T : Type 0} where
         | false ↦ filter_sorted p xs xs_rise
       ]
 
-  -- what is lower than a member stands before it
+  -- what is lower than a member is before it
   lower_is_before : (d : List (PlacedEvent T)) (x : PlacedEvent T) (r : List (PlacedEvent T)) (y : PlacedEvent T) →
       IsInSortOrder (d ++ x ∷ r) → Contains (d ++ x ∷ r) y → Lower y x → Contains d y
   lower_is_before [] x r y a c l =

@@ -1,20 +1,10 @@
 -- Every world has a merged order: its events, each put in its place by rank.
-use Rattle.std.proofs.Common.{◌≡◌, ℕ, zero, suc, ◌<◌, List, [], ◌∷◌, ◌++◌, length, refl, sym, ap, subst}
-use Rattle.std.proofs.Common.{◌∙◌, ◌⊎◌, inl, inr, arith}
-use Rattle.std.specs.List.{Contains}
-use Rattle.std.specs.Cmp.Lexicographic.{slice_cmp}
-use Rattle.std.specs.Ordering.{nat_cmp, ordering_reverse}
-use Rattle.std.specs.declared.cmp.Ordering.{Ordering}
-use Rattle.std.specs.declared.cmp.Ordering.TheVariants.{Less, Equal, Greater}
-use Rattle.std.proofs.lemmas.Cmp.{nat_list_cmp_total}
-use Rattle.std.proofs.lemmas.Map.Lookups.{exact_bytes}
-use Rattle.std.proofs.lemmas.List.Elements.{Contains-append_left, Contains-append_right, Contains-append_cases}
-use Rattle.std.proofs.lemmas.Bool.{cases_lt}
-use Rattle.entry_order.specs.declared.event.Event.{Event}
-use Rattle.entry_order.specs.Node.{Node}
-use Rattle.entry_order.specs.World.{World, history}
-use Rattle.entry_order.specs.Merged.{PlacedEvent, sort_key, IsInSortOrder, placed, IsEventOf, IsMergedOf}
-use Rattle.entry_order.specs.Merged.{WorldsHaveOneMergedOrder}
+use Rattle.entry_order.proofs.Imports.{◌≡◌, ℕ, zero, suc, ◌<◌, List, [], ◌∷◌, ◌++◌, length, refl, sym, ap, subst, ◌∙◌}
+use Rattle.entry_order.proofs.Imports.{◌⊎◌, inl, inr, arith, Contains, slice_cmp, nat_cmp, ordering_reverse, Ordering}
+use Rattle.entry_order.proofs.Imports.{Less, Equal, Greater, nat_list_cmp_total, exact_bytes, Contains-append_left}
+use Rattle.entry_order.proofs.Imports.{Contains-append_right, Contains-append_cases, cases_lt, Event, Node, World}
+use Rattle.entry_order.proofs.Imports.{history, PlacedEvent, sort_key, IsInSortOrder, placed, IsEventOf, IsMergedOf}
+use Rattle.entry_order.proofs.Imports.{WorldsHaveOneMergedOrder}
 use Rattle.entry_order.proofs.Lists.{Contains-none, Contains-at, Contains-later, Contains-cons_cases}
 use Rattle.entry_order.proofs.Machines.{in_world}
 use Rattle.entry_order.proofs.Merged.{Lower, same_sorted, placed_of, has_placed, placed_cases}

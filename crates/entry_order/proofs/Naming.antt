@@ -1,11 +1,7 @@
 -- The tests of names and digests say what they test.
-use Rattle.std.proofs.Common.{◌≡◌, ℕ, true, List, refl, ap, subst, ◌∙◌}
-use Rattle.std.specs.List.{Contains}
-use Rattle.std.specs.Str.{bytes_eq}
-use Rattle.std.proofs.lemmas.List.Folds.{list_any_at}
-use Rattle.std.proofs.lemmas.Slice.Eq.{bytes_eq-Decides}
-use Rattle.entry_order.specs.Node.{Node}
-use Rattle.entry_order.specs.Naming.{IsNamedIn, IsBorneIn, names_digest, is_named, has_digest}
+use Rattle.entry_order.proofs.Imports.{◌≡◌, ℕ, true, List, refl, ap, subst, ◌∙◌, Contains, bytes_eq, list_any_at}
+use Rattle.entry_order.proofs.Imports.{bytes_eq-Decides, Node, IsNamedIn, IsBorneIn, names_digest, is_named}
+use Rattle.entry_order.proofs.Imports.{has_digest}
 use Rattle.entry_order.proofs.Lists.{list_any_some}
 
 module _ {T : Type 0} (node : T → Node) where
@@ -31,13 +27,13 @@ module _ {T : Type 0} (node : T → Node) where
       let (g, there, names) = list_any_some (λ g. names_digest node g d) E t in
       (g, there, names_digest_from g d names)
 
-  -- a digest that an entry bears is found
+  -- a digest that an entry has is found
   pub has_digest_of : (E : List T) (d : List ℕ) → IsBorneIn node E d → has_digest node E d ≡ true
   has_digest_of E d (e, (i, l, at), is) =
       let here = (bytes_eq-Decides (node e).digest d).1 is in
       list_any_at (λ g. bytes_eq (node g).digest d) E i e l (ap (λ g. bytes_eq (node g).digest d) at ∙ here)
 
-  -- what is found is borne
+  -- an entry has the digest that is found
   pub has_digest_from : (E : List T) (d : List ℕ) → has_digest node E d ≡ true → IsBorneIn node E d
   has_digest_from E d t =
       let (g, there, same) = list_any_some (λ g. bytes_eq (node g).digest d) E t in

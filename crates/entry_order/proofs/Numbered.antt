@@ -1,19 +1,13 @@
 -- Where the survivors are numbered by stamp, each parent is below its child.
-use Rattle.std.proofs.Common.{◌≡◌, ℕ, ◌≤◌, List, ap, inl, inr, Some, arith}
-use Rattle.std.specs.Prelude.{slice_get}
-use Rattle.std.specs.List.{Contains}
-use Rattle.std.specs.List.Sorted.{IsNonDecreasingBy}
-use Rattle.std.proofs.lemmas.Bool.{cases_lt}
-use Rattle.std.proofs.lemmas.Option.{slice_get_within, get_or_from_slice_get}
-use Rattle.entry_order.specs.Node.{Node}
-use Rattle.entry_order.specs.Naming.{Names}
-use Rattle.entry_order.specs.Survivors.{IsStray}
-use Rattle.entry_order.specs.Ancestors.{Descends}
+use Rattle.std.proofs.Common.{Some}
+use Rattle.entry_order.proofs.Imports.{◌≡◌, ℕ, ◌≤◌, List, ap, inl, inr, arith, slice_get, Contains, IsNonDecreasingBy}
+use Rattle.entry_order.proofs.Imports.{cases_lt, slice_get_within, get_or_from_slice_get, Node, Names, IsStray}
+use Rattle.entry_order.proofs.Imports.{Descends}
 use Rattle.entry_order.proofs.Strays.{stamp_rises}
 use Rattle.entry_order.proofs.Places.{member_at}
 
 module _ {T : Type 0} (node : T → Node) where
-  -- where places go by stamps, what an entry names stands below it
+  -- where places go by stamps, what an entry names is below it
   pub descends_by_stamp : (S : List T) (parents : ℕ → List ℕ) → IsNonDecreasingBy (λ e. (node e).stamp) S →
       ((e : T) → Contains S e → ¬ (IsStray node S e)) →
       ((i p : ℕ) → Contains (parents i) p →

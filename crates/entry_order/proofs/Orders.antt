@@ -1,19 +1,12 @@
 -- The two orders are one, in each world whose histories are legal and whose entries were sent before they were got.
-use Rattle.std.proofs.Common.{◌≡◌, ℕ, zero, suc, ◌+◌, ◌<◌, Bool, true, false, List, [], ◌∷◌, ◌++◌, length, refl, sym}
-use Rattle.std.proofs.Common.{ap, subst, inl, inr, Some, Option, arith}
-use Rattle.std.specs.Prelude.{slice_get, ◌↔◌}
-use Rattle.std.specs.List.{Contains}
-use Rattle.std.proofs.lemmas.List.Elements.{Contains-append_left, Contains-append_right}
-use Rattle.std.proofs.lemmas.Option.{slice_get_read}
-use Rattle.entry_order.specs.declared.event.Event.{Event}
-use Rattle.entry_order.specs.declared.event.Event.TheVariants.{Sent, Got}
-use Rattle.entry_order.specs.Node.{Node}
-use Rattle.entry_order.specs.Naming.{Names, is_named, Distinct}
-use Rattle.entry_order.specs.History.{entry_of, held, sent, greatest_stamp, IsNext}
-use Rattle.entry_order.specs.World.{Machine, World, history, history_of, sent_in}
-use Rattle.entry_order.specs.HeldBefore.{WasSentAfter, HeldBefore, HeldBefore.itself, HeldBefore.descendant}
-use Rattle.entry_order.specs.Precedes.{IsPath, Precedes}
-use Rattle.entry_order.specs.Receipt.{IsOrderly, NamesWereHeld, StampsRise}
+use Rattle.entry_order.proofs.Imports.{◌≡◌, ℕ, zero, suc, ◌+◌, ◌<◌, Bool, true, false, List, [], ◌∷◌, ◌++◌, length}
+use Rattle.entry_order.proofs.Imports.{refl, sym, ap, subst, inl, inr, Option, arith, slice_get, ◌↔◌, Contains}
+use Rattle.entry_order.proofs.Imports.{Contains-append_left, Contains-append_right, slice_get_read, Event, Sent, Got}
+use Rattle.entry_order.proofs.Imports.{Node, Names, is_named, Distinct, entry_of, held, sent, greatest_stamp, IsNext}
+use Rattle.entry_order.proofs.Imports.{Machine, World, history, history_of, sent_in, WasSentAfter, HeldBefore}
+use Rattle.entry_order.proofs.Imports.{HeldBefore.itself, HeldBefore.descendant, IsPath, Precedes, IsOrderly}
+use Rattle.entry_order.proofs.Imports.{NamesWereHeld, StampsRise}
+use Rattle.std.proofs.Common.{Some}
 use Rattle.entry_order.proofs.Lists.{Contains-none, Contains-head, Contains-later, Contains-at, Contains-cons_cases}
 use Rattle.entry_order.proofs.Lists.{Contains-map_cases, Contains-flat_map_cases}
 use Rattle.entry_order.proofs.Frontiers.{frontier_entry, in_frontier}
@@ -22,7 +15,7 @@ use Rattle.entry_order.proofs.Stamps.{stamp_below}
 
 -- ---- what was sent
 
--- a member stands between what is before it and what is later
+-- a member is between what is before it and what is later
 pub member_split : {X : Type 0} (xs : List X) (x : X) → Contains xs x →
     (before : List X) × (later : List X) × (xs ≡ before ++ x ∷ later)
 member_split [] x c = absurd (Contains-none x c)
@@ -120,7 +113,7 @@ module _ {T : Type 0} (node : T → Node) (w : World T) (orderly : IsOrderly nod
       (node f).stamp < (node e).stamp
   held_lower past e s f c = omega (arith, stamp_below node (held past) f c, (next_of past e s).stamp)
 
-  -- and so along all that was held before
+  -- an entry that is held before another has a lower stamp
   pub held_rises : (f e : T) → HeldBefore w f e → (node f).stamp < (node e).stamp
   held_rises f e (itself past s c) = held_lower past e s f c
   held_rises f e (descendant {g = g} past s c h) = omega (arith, held_rises f g h, held_lower past e s g c)

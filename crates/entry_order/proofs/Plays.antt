@@ -1,24 +1,13 @@
 -- Each world that steps lead to has legal histories, and each entry that was got had been sent.
-use Rattle.std.proofs.Common.{◌≡◌, ◌≢◌, ℕ, zero, suc, Bool, true, false, cond, List, [], ◌∷◌, ◌++◌, length, refl, sym}
-use Rattle.std.proofs.Common.{ap, subst, ◌∙◌, ◌⊎◌, inl, inr, Some, None, Option}
-use Rattle.std.specs.Prelude.{slice_get, ◌||◌, nat_le, ◌==◌}
-use Rattle.std.specs.List.{Contains}
-use Rattle.std.specs.Str.{bytes_eq}
-use Rattle.std.proofs.lemmas.Bool.{or_parts, eqb-false, false≢true}
-use Rattle.std.proofs.lemmas.Option.{slice_get_within, get_or_from_slice_get}
-use Rattle.std.proofs.lemmas.Slice.Eq.{bytes_eq-Decides}
-use Rattle.std.proofs.lemmas.List.Elements.{Contains-append_left, Contains-append_cases}
-use Rattle.std.proofs.lemmas.List.Folds.{list_any_at}
-use Rattle.entry_order.specs.declared.event.Event.{Event}
-use Rattle.entry_order.specs.declared.event.Event.TheVariants.{Sent, Got}
-use Rattle.entry_order.specs.declared.step.Step.{Step}
-use Rattle.entry_order.specs.declared.step.Step.TheVariants.{Act, Hear, Stop}
-use Rattle.entry_order.specs.Node.{Node}
-use Rattle.entry_order.specs.Naming.{has_digest, IsNew}
-use Rattle.entry_order.specs.History.{held, sent, MayFollow, IsLegal}
-use Rattle.entry_order.specs.World.{Machine, World, start, history, sent_in, with_machine, append, stop, send}
-use Rattle.entry_order.specs.World.{cannot_hear, hear, IsLegalNext, happens, play}
-use Rattle.entry_order.specs.Receipt.{IsOrderly, OrderIsReceipt}
+use Rattle.entry_order.proofs.Imports.{◌≡◌, ◌≢◌, ℕ, zero, suc, Bool, true, false, cond, List, [], ◌∷◌, ◌++◌, length}
+use Rattle.entry_order.proofs.Imports.{refl, sym, ap, subst, ◌∙◌, ◌⊎◌, inl, inr, None, Option, slice_get, ◌||◌}
+use Rattle.entry_order.proofs.Imports.{nat_le, ◌==◌, Contains, bytes_eq, or_parts, eqb-false, false≢true}
+use Rattle.entry_order.proofs.Imports.{slice_get_within, get_or_from_slice_get, bytes_eq-Decides}
+use Rattle.entry_order.proofs.Imports.{Contains-append_left, Contains-append_cases, list_any_at, Event, Sent, Got}
+use Rattle.entry_order.proofs.Imports.{Step, Act, Hear, Stop, Node, has_digest, IsNew, held, sent, MayFollow, IsLegal}
+use Rattle.entry_order.proofs.Imports.{Machine, World, start, history, sent_in, with_machine, append, stop, send}
+use Rattle.entry_order.proofs.Imports.{cannot_hear, hear, IsLegalNext, happens, play, IsOrderly, OrderIsReceipt}
+use Rattle.std.proofs.Common.{Some}
 use Rattle.entry_order.proofs.Lists.{Contains-none, Contains-cons_cases}
 use Rattle.entry_order.proofs.Histories.{IsLegal-push, IsLegal-none}
 use Rattle.entry_order.proofs.Orders.{Contains-sent_cases, member_split, sent_in_from, sent_in_cases, one_order}

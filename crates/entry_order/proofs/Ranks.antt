@@ -1,18 +1,9 @@
--- Ranks rise along a history, and from a sending to each receipt of it.
-use Rattle.std.proofs.Common.{◌≡◌, ℕ, ◌+◌, ◌<◌, ◌≤◌, max, List, [], ◌∷◌, ◌++◌, length, refl, sym, ap, subst, ◌∙◌}
-use Rattle.std.proofs.Common.{inl, inr, append_assoc, length-append, arith}
-use Rattle.std.specs.Cmp.Lexicographic.{slice_cmp}
-use Rattle.std.specs.Ordering.{nat_cmp, ordering_then}
-use Rattle.std.specs.declared.cmp.Ordering.TheVariants.{Less}
-use Rattle.std.proofs.lemmas.Bool.{cases_order}
-use Rattle.std.proofs.lemmas.List.Elements.{Contains-append_right}
-use Rattle.std.proofs.lemmas.List.{map-append}
-use Rattle.std.proofs.lemmas.List.Sums.{fold-append}
-use Rattle.entry_order.specs.declared.event.Event.{Event}
-use Rattle.entry_order.specs.declared.event.Event.TheVariants.{Sent, Got}
-use Rattle.entry_order.specs.Node.{Node}
-use Rattle.entry_order.specs.History.{entry_of, held, greatest_stamp, IsLegal}
-use Rattle.entry_order.specs.Merged.{kind, sort_key, placed}
+-- Ranks rise along a history, and from an entry's sending to each of its receipts.
+use Rattle.entry_order.proofs.Imports.{◌≡◌, ℕ, ◌+◌, ◌<◌, ◌≤◌, max, List, [], ◌∷◌, ◌++◌, length, refl, sym, ap, subst}
+use Rattle.entry_order.proofs.Imports.{◌∙◌, inl, inr, append_assoc, length-append, arith, slice_cmp, nat_cmp}
+use Rattle.entry_order.proofs.Imports.{ordering_then, Less, cases_order, Contains-append_right, map-append}
+use Rattle.entry_order.proofs.Imports.{fold-append, Event, Sent, Got, Node, entry_of, held, greatest_stamp, IsLegal}
+use Rattle.entry_order.proofs.Imports.{kind, sort_key, placed}
 use Rattle.entry_order.proofs.Lists.{Contains-head, Contains-map}
 use Rattle.entry_order.proofs.Histories.{greatest_push}
 use Rattle.entry_order.proofs.Stamps.{stamp_below, top_at_least}
@@ -43,7 +34,7 @@ module _ {T : Type 0} (node : T → Node) where
       stamp_below node (held (p ++ x ∷ [])) (entry_of x)
       (Contains-map entry_of (p ++ x ∷ []) x (Contains-append_right p (x ∷ []) x (Contains-head x [])))
 
-  -- after a sending the greatest stamp is the entry's
+  -- after an entry is sent the greatest stamp is its own
   pub top_of_sent : (p : List (Event T)) (e : T) → (node e).stamp ≡ 1 + greatest_stamp node (held p) →
       greatest_stamp node (held (p ++ Sent e ∷ [])) ≡ (node e).stamp
   top_of_sent p e is = omega (arith, greatest_push node p (Sent e), is)
@@ -108,7 +99,7 @@ module _ {T : Type 0} (node : T → Node) where
       let stamp = may.1.stamp in
       by_later m before x b (Sent e) (omega arith) (λ same. absurd (omega arith))
 
-  -- a receipt has a higher rank than the sending
+  -- the receipt of an entry has a higher rank than its sending
   pub receipt_rank : (s : ℕ) (past : List (Event T)) (e : T) →
       (node e).stamp ≡ 1 + greatest_stamp node (held past) → (m : ℕ) (before : List (Event T)) →
       slice_cmp nat_cmp (sort_key (placed node s past (Sent e))) (sort_key (placed node m before (Got e))) ≡ Less

@@ -1,10 +1,9 @@
 -- Lists in which each member is below all later ones.
-use Rattle.std.proofs.Common.{◌≡◌, ◌∙◌, List, [], ◌∷◌, refl, sym, subst, inl, inr}
-use Rattle.std.specs.List.{Contains}
+use Rattle.entry_order.proofs.Imports.{◌≡◌, ◌∙◌, List, [], ◌∷◌, refl, sym, subst, inl, inr, Contains}
 use Rattle.entry_order.proofs.Lists.{Contains-none, Contains-head, Contains-later, Contains-cons_cases}
 
 module _ {X : Type 0} (Below : X → X → Type 0) where
-  -- each is below all behind it
+  -- each is below all after it
   abbrev pub Rises : List X → Type 0
   Rises [] = Unit {0}
   Rises (x ∷ xs) = ((y : X) → Contains xs y → Below x y) × Rises xs

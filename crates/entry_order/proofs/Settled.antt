@@ -1,23 +1,17 @@
 -- The three values are the ancestors by walks, and so what holds in every completion.
-use Rattle.std.proofs.Common.{◌≡◌, ℕ, zero, suc, ◌≤◌, Bool, true, false, cond, List, [], ◌∷◌, ◌++◌, refl, sym}
-use Rattle.std.proofs.Common.{subst, ◌∙◌, inl, inr, Some, arith}
-use Rattle.std.specs.Prelude.{slice_get, not, ◌||◌, ◌==◌}
-use Rattle.std.specs.List.{Contains, list_all}
-use Rattle.std.proofs.lemmas.Bool.{or_cases, or_left, or_right, and_parts, and_from, eqb-true, eq-eqb, not-true}
-use Rattle.std.proofs.lemmas.Bool.{not_from_false, true≢false, false≢true}
-use Rattle.entry_order.specs.declared.three.Three.TheVariants.{False, Unknown, True}
-use Rattle.entry_order.specs.Node.{Node}
-use Rattle.entry_order.specs.Naming.{Names}
-use Rattle.entry_order.specs.Precedes.{IsPath, Precedes}
-use Rattle.entry_order.specs.Completion.{Completion}
-use Rattle.entry_order.specs.Ancestors.{IsWalk, IsAncestor, Descends, reaches, is_whole, before}
-use Rattle.entry_order.specs.Settled.{IsWhole, IsGraphOf, GraphsAreExact, OrderIsSettled}
+use Rattle.entry_order.proofs.Imports.{◌≡◌, ℕ, zero, suc, ◌≤◌, Bool, true, false, cond, List, [], ◌∷◌, ◌++◌, refl}
+use Rattle.entry_order.proofs.Imports.{sym, subst, ◌∙◌, inl, inr, arith, slice_get, not, ◌||◌, ◌==◌, Contains}
+use Rattle.entry_order.proofs.Imports.{list_all, or_cases, or_left, or_right, and_parts, and_from, eqb-true, eq-eqb}
+use Rattle.entry_order.proofs.Imports.{not-true, not_from_false, true≢false, false≢true, False, Unknown, True, Node}
+use Rattle.entry_order.proofs.Imports.{Names, IsPath, Precedes, Completion, IsWalk, IsAncestor, Descends, reaches}
+use Rattle.entry_order.proofs.Imports.{is_whole, before, IsWhole, IsGraphOf, GraphsAreExact, OrderIsSettled}
+use Rattle.std.proofs.Common.{Some}
 use Rattle.entry_order.proofs.Lists.{Contains-none, Contains-head, Contains-later, Contains-cons_cases, list_any_some}
 use Rattle.entry_order.proofs.Lists.{list_any_of}
 use Rattle.entry_order.proofs.Completions.{before_in_completion, before_among_survivors}
 use Rattle.entry_order.proofs.Places.{member_at, place_of}
 
--- each passes, and the other way round
+-- a test that passes all members passes each
 pub list_all_each : {X : Type 0} (p : X → Bool) (xs : List X) → list_all p xs ≡ true → (x : X) → Contains xs x →
     p x ≡ true
 list_all_each p [] e x c = absurd (Contains-none x c)
@@ -50,7 +44,7 @@ module _ (parents : ℕ → List ℕ) where
       elim (or_cases (z == y) (reaches parents n y z) test) [ inl h ↦ here h | inr h ↦ deeper h ]
 
   module _ (descends : Descends parents) where
-    -- and an ancestor is reached within as many arrows as the place's number
+    -- an ancestor is reached in no more arrows than the place's number
     pub reaches_from_walk : (n y x : ℕ) (zs : List ℕ) → x ≤ n → IsWalk parents x zs y → reaches parents n y x ≡ true
     reaches_from_walk zero y x [] l w = absurd (let d = descends x y w in omega arith)
     reaches_from_walk zero y x (z ∷ zs) l w = absurd (let d = descends x z w.0 in omega arith)
@@ -73,7 +67,7 @@ module _ (parents : ℕ → List ℕ) where
       abbrev pub IsClean : ℕ → Type 0
       IsClean x = (ragged x ≡ false) × ((y : ℕ) → IsAncestor parents y x → ragged y ≡ false)
 
-      -- nor is an ancestor of it
+      -- no ancestor of a place that is whole is ragged
       pub clean_ancestor : (n x : ℕ) → x ≤ n → is_whole parents ragged n x ≡ true → (y : ℕ) (zs : List ℕ) →
           IsWalk parents x zs y → ragged y ≡ false
       clean_ancestor zero x l e y [] w = absurd (let d = descends x y w in omega arith)
@@ -87,7 +81,7 @@ module _ (parents : ℕ → List ℕ) where
           clean_ancestor n z (omega arith)
           (list_all_each (λ z. is_whole parents ragged n z) (parents x) parts.1 z arrow) y zs walk
 
-      -- and where none is, the place is whole
+      -- a place without a ragged ancestor is whole
       pub is_whole_from_clean : (n x : ℕ) → IsClean x → is_whole parents ragged n x ≡ true
       is_whole_from_clean zero x (not_ragged, _) = not_from_false (ragged x) not_ragged
       is_whole_from_clean (suc n) x (not_ragged, none_above) =
@@ -176,7 +170,7 @@ module _ {T : Type 0} (node : T → Node) (machines : ℕ) (S : List T) (parents
       λ z a. clean_ancestor parents graph.descends ragged x x (omega arith) ec z a.0 a.1,
     )
 
-    -- and where x is whole, the graph finds it so
+    -- where x is whole, the graph finds it so
     pub whole_test_from : IsWhole node S e → is_whole parents ragged x x ≡ true
     whole_test_from whole = is_whole_from_clean parents graph.descends ragged x x (clean_from_whole whole)
 
@@ -208,12 +202,12 @@ module _ {T : Type 0} (node : T → Node) (machines : ℕ) (S : List T) (parents
               (sym ec ∙ whole_test_from whole),
         )
 
--- the same, of any survivors and their graph
+-- the order is settled of any survivors and their graph
 pub order_is_settled : {T : Type 0} (node : T → Node) → OrderIsSettled node
 order_is_settled node machines S parents ragged graph y x f e fy ex =
     settled node machines S parents ragged graph y x f e fy ex
 
--- and what it computes is what is meant
+-- what a graph of the survivors computes is what the definitions say
 pub graphs_are_exact : {T : Type 0} (node : T → Node) → GraphsAreExact node
 graphs_are_exact node S parents ragged graph y x f e fy ex = (
   (

@@ -1,8 +1,6 @@
 -- The greatest stamp is at least each stamp.
-use Rattle.std.proofs.Common.{◌≡◌, ℕ, ◌≤◌, max, List, [], ◌∷◌, ap, inl, inr, arith}
-use Rattle.std.specs.List.{Contains, fold}
-use Rattle.entry_order.specs.Node.{Node}
-use Rattle.entry_order.specs.History.{greatest_stamp}
+use Rattle.entry_order.proofs.Imports.{◌≡◌, ℕ, ◌≤◌, max, List, [], ◌∷◌, ap, inl, inr, arith, Contains, fold, Node}
+use Rattle.entry_order.proofs.Imports.{greatest_stamp}
 use Rattle.entry_order.proofs.Lists.{Contains-none, Contains-cons_cases}
 
 module _ {T : Type 0} (node : T → Node) where

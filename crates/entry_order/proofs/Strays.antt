@@ -1,14 +1,9 @@
 -- Survivors are no strays, and so stamps rise along their names.
-use Rattle.std.proofs.Common.{◌≡◌, ◌<◌, true, false, List, [], ◌∷◌, sym, ap, ◌∙◌, inl, inr, arith}
-use Rattle.std.specs.Prelude.{not, ◌&&◌, nat_le}
-use Rattle.std.specs.List.{Contains}
-use Rattle.std.proofs.lemmas.Bool.{cases_lt, and_parts, and_from, le-leb, leb-true, not-true, not_from_false}
-use Rattle.std.proofs.lemmas.Bool.{true≢false, false_from_ne_true}
-use Rattle.std.proofs.lemmas.List.Folds.{list_any_at}
-use Rattle.entry_order.specs.Node.{Node}
-use Rattle.entry_order.specs.Naming.{Names, names_digest}
-use Rattle.entry_order.specs.Precedes.{IsPath}
-use Rattle.entry_order.specs.Survivors.{IsStray, is_stray, survivors, SurvivorsAreNoStrays, SurvivorsHaveNoCycle}
+use Rattle.entry_order.proofs.Imports.{◌≡◌, ◌<◌, true, false, List, [], ◌∷◌, sym, ap, ◌∙◌, inl, inr, arith, not, ◌&&◌}
+use Rattle.entry_order.proofs.Imports.{nat_le, Contains, cases_lt, and_parts, and_from, le-leb, leb-true, not-true}
+use Rattle.entry_order.proofs.Imports.{not_from_false, true≢false, false_from_ne_true, list_any_at, Node, Names}
+use Rattle.entry_order.proofs.Imports.{names_digest, IsPath, IsStray, is_stray, survivors, SurvivorsAreNoStrays}
+use Rattle.entry_order.proofs.Imports.{SurvivorsHaveNoCycle}
 use Rattle.entry_order.proofs.Lists.{Contains-filter, Contains-filter_cases, list_any_some}
 use Rattle.entry_order.proofs.Naming.{names_digest_of, names_digest_from}
 
@@ -65,7 +60,7 @@ module _ {T : Type 0} (node : T → Node) where
       let rest = rises_along given g gs e there ce path in
       omega arith
 
-  -- so no path leads back
+  -- no path among survivors leads from an entry back to itself
   pub survivors_have_no_cycle : SurvivorsHaveNoCycle node
   survivors_have_no_cycle given e (there, here, gs, path) =
       absurd (omega (arith, rises_along given e gs e there here path))

@@ -10,7 +10,7 @@ abbrev pub frontier : {T : Type 0} → (T → Node) → List T → List (List �
 frontier node es =
     ascending (filter (λ d. not (is_named node es d)) (map (λ e. (node e).digest) es))
 
--- the list is ascending and has exactly the digests that an entry of es bears and none of es names
+-- the list is ascending and has exactly the digests that an entry of es has and none of es names
 pub record IsFrontier {T : Type 0} (node : T → Node) (es : List T) (ds : List (List ℕ))
     : Type 0 where
   pub rises : IsAscending ds

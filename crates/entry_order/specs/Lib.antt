@@ -16,7 +16,3 @@ pub mod Honest
 pub mod Merged
 pub mod Made
 pub mod Forms
-pub mod Example
-pub mod WrongNames
-pub mod WrongFrontier
-pub mod WrongStrays

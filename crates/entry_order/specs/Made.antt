@@ -16,7 +16,7 @@ IsMadeBy {T} next w =
     (m : ℕ) (before : List (Event T)) (e : T) (later : List (Event T)) →
     history w m ≡ before ++ Sent e ∷ later → next m before ≡ Some e
 
--- so it is after every list of steps, whatever is sent next
+-- after every list of steps, each sent entry is what its machine sends next, whatever that is
 abbrev pub PlaysAreMade : {T : Type 0} → (T → Node) → Type 0
 PlaysAreMade {T} node =
     (next : ℕ → List (Event T) → Option T) (log machines : ℕ) (steps : List Step) →
@@ -42,7 +42,7 @@ module _ {T : Type 0} (node : T → Node) (made : ℕ → ℕ → ℕ → List (
     pub stamp : (m n s : ℕ) (names : List (List ℕ)) → (node (made m n s names)).stamp ≡ s
     pub names : (m n s : ℕ) (names : List (List ℕ)) → (node (made m n s names)).names ≡ names
 
-  -- so whatever the rules allow, it is what a legal history asks
+  -- whatever the rules allow, the entry that is made is what a legal history asks
   abbrev pub MadeIsLawful : Type 0
   MadeIsLawful =
       ShowsItsParts → (allowed : ℕ → List (Event T) → Bool) → IsLegalNext node (next_made allowed)

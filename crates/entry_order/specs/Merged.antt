@@ -21,7 +21,7 @@ pub record PlacedEvent (T : Type 0) : Type 0 where
   pub place : ℕ
   pub event : Event T
 
--- a sending goes before a receipt
+-- a sent entry goes before a received one
 abbrev pub kind : {T : Type 0} → Event T → ℕ
 kind (Sent e) = 0
 kind (Got e) = 1

@@ -13,7 +13,7 @@ module _ {T : Type 0} (node : T → Node) where
   abbrev pub IsNamedIn : List T → List ℕ → Type 0
   IsNamedIn E d = (e : T) × Contains E e × Contains (node e).names d
 
-  -- an entry of E bears the digest
+  -- an entry of E has the digest
   abbrev pub IsBorneIn : List T → List ℕ → Type 0
   IsBorneIn E d = (e : T) × Contains E e × ((node e).digest ≡ d)
 
@@ -25,11 +25,11 @@ module _ {T : Type 0} (node : T → Node) where
   abbrev pub is_named : List T → List ℕ → Bool
   is_named es d = list_any (λ e. names_digest e d) es
 
-  -- whether one of the entries bears the digest
+  -- whether one of the entries has the digest
   abbrev pub has_digest : List T → List ℕ → Bool
   has_digest es d = list_any (λ e. bytes_eq (node e).digest d) es
 
-  -- none of the entries bears e's digest
+  -- none of the entries has e's digest
   abbrev pub IsNew : List T → T → Type 0
   IsNew es e = (g : T) → Contains es g → (node g).digest ≢ (node e).digest
 

@@ -16,18 +16,18 @@ pub record IsOrderly {T : Type 0} (node : T → Node) (w : World T) : Type 0 whe
   pub legal : (m : ℕ) → IsLegal node m (history w m)
   pub heard : (m : ℕ) (e : T) → Contains (history w m) (Got e) → Contains (sent_in w) e
 
--- of the entries that were sent in w, one precedes another exactly where it was held before it
+-- of the entries that were sent in w, one precedes another exactly when it was held before it
 abbrev pub OrderIsReceiptIn : {T : Type 0} → (T → Node) → World T → Type 0
 OrderIsReceiptIn {T} node w =
     (f e : T) → Contains (sent_in w) f → Contains (sent_in w) e →
     Precedes node (sent_in w) f e ↔ HeldBefore w f e
 
--- so it is in every orderly world, where different entries have different digests
+-- the order is that of receipt in every orderly world, where different entries have different digests
 abbrev pub OrderIsReceiptInOrderlyWorlds : {T : Type 0} → (T → Node) → Type 0
 OrderIsReceiptInOrderlyWorlds {T} node =
     (w : World T) → IsOrderly node w → Distinct node (sent_in w) → OrderIsReceiptIn node w
 
--- and after every list of steps of any number of machines, each log of any size
+-- the order is that of receipt after every list of steps of any number of machines, each log of any size
 abbrev pub OrderIsReceipt : {T : Type 0} → (T → Node) → Type 0
 OrderIsReceipt {T} node =
     (next : ℕ → List (Event T) → Option T) (log machines : ℕ) (steps : List Step) →

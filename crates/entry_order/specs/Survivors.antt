@@ -23,11 +23,11 @@ module _ {T : Type 0} (node : T → Node) where
   abbrev pub survivors : List T → List T
   survivors given = filter (λ e. not (is_stray given e)) given
 
-  -- the digests that an entry of E names and no entry of E bears, ascending
+  -- the digests that an entry of E names and no entry of E has, ascending
   abbrev pub gaps : List T → List (List ℕ)
   gaps E = ascending (filter (λ d. not (has_digest node E d)) (flat_map (λ e. (node e).names) E))
 
-  -- the list is ascending and has exactly the digests that an entry of E names and none of E bears
+  -- the list is ascending and has exactly the digests that an entry of E names and none of E has
   pub record IsGaps (E : List T) (ds : List (List ℕ)) : Type 0 where
     pub rises : IsAscending ds
     pub members : (d : List ℕ) → Contains ds d ↔ (IsNamedIn node E d × (¬ (IsBorneIn node E d)))
@@ -41,6 +41,6 @@ module _ {T : Type 0} (node : T → Node) where
   SurvivorsAreNoStrays = (given : List T) (e : T) →
       Contains (survivors given) e ↔ (Contains given e × (¬ (IsStray given e)))
 
-  -- so no survivor is its own ancestor
+  -- no survivor is its own ancestor
   abbrev pub SurvivorsHaveNoCycle : Type 0
   SurvivorsHaveNoCycle = (given : List T) (e : T) → ¬ (Precedes node (survivors given) e e)

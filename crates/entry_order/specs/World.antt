@@ -20,7 +20,7 @@ pub record Machine (T : Type 0) : Type 0 where
 abbrev pub World : Type 0 → Type 0
 World T = List (Machine T)
 
--- a world with so many machines, before anything happens
+-- a world with this number of machines, before anything happens
 abbrev pub start : {T : Type 0} → ℕ → World T
 start count = replicate count (record { history = []; stopped = false })
 

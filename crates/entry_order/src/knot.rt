@@ -5,7 +5,7 @@ ghost use Rattle.entry_order.specs.Node.{Node};
 
 use crate::Event;
 
-/// An entry that can stand in a log: it bears a digest and names the digests of others.
+/// An entry that a log can hold: it has a digest and names the digests of others.
 pub trait Knot {
     /// What the entry shows.
     ghost node: { Self → Node };

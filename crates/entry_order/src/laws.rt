@@ -115,14 +115,13 @@ pub fn ascending_is_unique()
     ensures { AscendingIsUnique }
 {}
 
-/// A list is the frontier exactly when it rises and has the digests that are borne and that no
-/// entry names.
+/// A list is the frontier exactly when it rises and has the digests that an entry has and none
+/// names.
 pub fn frontier_is_unique<T: Knot>()
     ensures { FrontierIsUnique T.node }
 {}
 
-/// A list is the gaps exactly when it rises and has the digests that are named and that no entry
-/// bears.
+/// A list is the gaps exactly when it rises and has the digests that an entry names and none has.
 pub fn gaps_are_unique<T: Knot>()
     ensures { GapsAreUnique T.node }
 {}

@@ -1,10 +1,9 @@
 //! The order of entries that name one another by digest: what machines hold, what precedes what,
-//! and what an auditor can say of it when entries are lost. The definitions stand in `specs/`, and
+//! and what an auditor can say of it when entries are lost. The definitions are in `specs/`, and
 //! each law about them is the contract of a function with an empty body.
 #![tactic(auto)]
 
 mod event;
-mod examples;
 mod knot;
 mod laws;
 mod names;
@@ -12,9 +11,6 @@ mod step;
 mod three;
 
 pub use event::Event;
-pub use examples::{
-    frontier_by_arrival_fails, naming_own_last_fails, strays_by_others_fail, three_machines,
-};
 pub use knot::Knot;
 pub use laws::{
     ascending_is_unique, forms_agree, frontier_is_unique, gaps_are_unique, honest_entries_agree,

@@ -1,4 +1,4 @@
-//! What entries name and bear, by search.
+//! What entries have and name, by search.
 ghost use Rattle.std.specs.Prelude.{◌≡◌};
 ghost use Rattle.entry_order.specs.Naming.{names_digest, is_named, has_digest};
 
@@ -18,7 +18,7 @@ pub fn is_named<T: Knot>(entries: &[T], digest: &[u8; 32]) -> bool
     entries.iter().any(|e| names_digest(e, digest))
 }
 
-/// Whether one of the entries bears the digest.
+/// Whether one of the entries has the digest.
 pub fn has_digest<T: Knot>(entries: &[T], digest: &[u8; 32]) -> bool
     ensures { result ≡ has_digest T.node entries.now digest.now }
 {

@@ -1,24 +1,12 @@
 -- The example's facts: its lists compute, and a path would begin where an entry is named.
-use Rattle.std.proofs.Common.{◌≡◌, ◌<◌, ◌≤◌, true, false, List, [], ◌∷◌, refl, sym, subst, ◌∙◌, inl, inr, arith}
-use Rattle.std.specs.List.{Contains}
-use Rattle.std.proofs.lemmas.Bool.{true≢false}
-use Rattle.entry_order.specs.declared.event.Event.TheVariants.{Sent, Got}
-use Rattle.entry_order.specs.declared.step.Step.TheVariants.{Act, Hear}
-use Rattle.entry_order.specs.Node.{Node}
-use Rattle.entry_order.specs.Naming.{is_named, Distinct}
-use Rattle.entry_order.specs.World.{sent_in, IsLegalNext}
-use Rattle.entry_order.specs.HeldBefore.{HeldBefore, HeldBefore.itself, HeldBefore.descendant}
-use Rattle.entry_order.specs.Precedes.{Precedes}
-use Rattle.entry_order.specs.Settled.{NamesNoGap, IsWhole}
-use Rattle.entry_order.specs.Made.{DigestTellsNumber}
-use Rattle.entry_order.specs.Example.{Entry, digest_of, shown, example_entry, next_example, world, a0, a1, b0, b1, c0}
-use Rattle.entry_order.specs.Example.{c1, without_b0}
-use Rattle.entry_order.specs.Example.{IsExample}
-use Rattle.entry_order.proofs.Lists.{Contains-none, Contains-cons_cases}
-use Rattle.entry_order.proofs.Naming.{is_named_of}
-use Rattle.entry_order.proofs.Strays.{rises_along}
-use Rattle.entry_order.proofs.Made.{made_is_lawful}
-use Rattle.entry_order.proofs.Honest.{numbered_is_distinct}
+use Rattle.counterexamples.proofs.Imports.{◌≡◌, ◌<◌, ◌≤◌, true, false, List, [], ◌∷◌, refl, sym, subst, ◌∙◌, inl, inr}
+use Rattle.counterexamples.proofs.Imports.{arith, Contains, true≢false, Sent, Got, Act, Hear, Node, is_named}
+use Rattle.counterexamples.proofs.Imports.{Distinct, sent_in, IsLegalNext, HeldBefore, HeldBefore.itself}
+use Rattle.counterexamples.proofs.Imports.{HeldBefore.descendant, Precedes, NamesNoGap, IsWhole, DigestTellsNumber}
+use Rattle.counterexamples.proofs.Imports.{digest_of, shown, example_entry, next_example, a0, a1, b0, b1, c0, c1}
+use Rattle.counterexamples.proofs.Imports.{without_b0, IsExample, Contains-none, Contains-cons_cases, is_named_of}
+use Rattle.counterexamples.proofs.Imports.{rises_along, made_is_lawful, numbered_is_distinct}
+use Rattle.counterexamples.specs.Example.{Entry, world}
 
 -- the machines of the example follow the rules
 lawful : IsLegalNext shown next_example
@@ -27,7 +15,7 @@ lawful =
     (record { maker = λ m n s ns. refl; number = λ m n s ns. refl; stamp = λ m n s ns. refl; names = λ m n s ns. refl })
     (λ m h. true)
 
--- the digests of the example tell maker and number
+-- the digests of the example determine maker and number
 pub tells_number : DigestTellsNumber shown
 tells_number e f is = (cc, cc)
 

@@ -4,7 +4,7 @@ use Rattle.std.specs.List.{Contains, filter, fold}
 use Rattle.entry_order.specs.Naming.{IsNamedIn, names_digest}
 use Rattle.entry_order.specs.Ascending.{ascending}
 use Rattle.entry_order.specs.Frontier.{frontier, IsFrontier}
-use Rattle.entry_order.specs.Example.{Entry, digest_of, shown, b0, b1}
+use Rattle.counterexamples.specs.Example.{Entry, digest_of, shown, b0, b1}
 
 -- what e names goes out of the digests, and its own comes in
 abbrev pub arrived : List (List ℕ) → Entry → List (List ℕ)
@@ -18,7 +18,7 @@ frontier_by_arrival es = ascending (fold arrived [] es)
 abbrev pub heard : List Entry
 heard = b1 ∷ b0 ∷ []
 
--- it keeps b0, which b1 names, and so is not the frontier
+-- the frontier by arrival keeps b0, which b1 names, and so is not the frontier
 pub record ArrivalFails : Type 0 where
   pub right : frontier shown heard ≡ digest_of 1 1 ∷ []
   pub keeps : Contains (frontier_by_arrival heard) (digest_of 1 0)

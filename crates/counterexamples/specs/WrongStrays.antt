@@ -4,7 +4,7 @@ use Rattle.std.specs.List.{filter, list_any}
 use Rattle.std.specs.Str.{bytes_eq}
 use Rattle.entry_order.specs.Precedes.{Precedes}
 use Rattle.entry_order.specs.Survivors.{names_later, survivors}
-use Rattle.entry_order.specs.Example.{Entry, digest_of, shown, example_entry}
+use Rattle.counterexamples.specs.Example.{Entry, digest_of, shown, example_entry}
 
 -- whether e names the digest of another given entry, whose stamp isn't lower than its own
 abbrev pub is_stray_by_others : List Entry → Entry → Bool
@@ -19,7 +19,7 @@ survivors_by_others given = filter (λ e. not (is_stray_by_others given e)) give
 abbrev pub cyclic : Entry
 cyclic = example_entry 0 0 1 (digest_of 0 0 ∷ [])
 
--- it survives such a test and precedes itself
+-- the entry that names itself survives such a test and precedes itself
 pub record ByOthersFails : Type 0 where
   pub right : survivors shown (cyclic ∷ []) ≡ []
   pub fails : Precedes shown (survivors_by_others (cyclic ∷ [])) cyclic cyclic

@@ -48,19 +48,23 @@ world =
     (Act 0 ∷ Hear 1 0 0 ∷ Act 1 ∷ Act 1
     ∷ Hear 2 0 0 ∷ Hear 2 1 1 ∷ Act 2 ∷ Hear 2 1 0 ∷ Act 2 ∷ Act 0 ∷ [])
 
--- what they send names what each then holds and nothing that it holds names
+-- what A sends first, which names nothing; each entry names what its machine then holds and nothing held names
 abbrev pub a0 : Entry
 a0 = example_entry 0 0 1 []
 
+-- what A sends second: it names a0
 abbrev pub a1 : Entry
 a1 = example_entry 0 1 2 (digest_of 0 0 ∷ [])
 
+-- what B sends first: it names a0
 abbrev pub b0 : Entry
 b0 = example_entry 1 0 2 (digest_of 0 0 ∷ [])
 
+-- what B sends second: it names b0
 abbrev pub b1 : Entry
 b1 = example_entry 1 1 3 (digest_of 1 0 ∷ [])
 
+-- what C sends first: it names a0 and b1
 abbrev pub c0 : Entry
 c0 = example_entry 2 0 4 (digest_of 0 0 ∷ digest_of 1 1 ∷ [])
 

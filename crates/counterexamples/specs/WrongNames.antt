@@ -6,7 +6,7 @@ use Rattle.entry_order.specs.Naming.{Distinct}
 use Rattle.entry_order.specs.History.{held, sent, greatest_stamp}
 use Rattle.entry_order.specs.World.{World, start, sent_in, play}
 use Rattle.entry_order.specs.Receipt.{OrderIsReceiptIn}
-use Rattle.entry_order.specs.Example.{Entry, shown, example_entry}
+use Rattle.counterexamples.specs.Example.{Entry, shown, example_entry}
 
 -- the digest of the last entry, where there is one
 abbrev pub last_digest : List Entry → List (List ℕ)

@@ -1,9 +1,9 @@
 //! A computed example of the definitions, and why three of them are as they are.
 
-ghost use Rattle.entry_order.specs.Example.{IsExample};
-ghost use Rattle.entry_order.specs.WrongFrontier.{ArrivalFails};
-ghost use Rattle.entry_order.specs.WrongNames.{OwnLastFails};
-ghost use Rattle.entry_order.specs.WrongStrays.{ByOthersFails};
+ghost use Rattle.counterexamples.specs.Example.{IsExample};
+ghost use Rattle.counterexamples.specs.WrongFrontier.{ArrivalFails};
+ghost use Rattle.counterexamples.specs.WrongNames.{OwnLastFails};
+ghost use Rattle.counterexamples.specs.WrongStrays.{ByOthersFails};
 
 /// A world of three machines and an entry that one of them hears late, and what is left where it
 /// is lost.

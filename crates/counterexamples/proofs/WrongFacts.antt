@@ -1,18 +1,11 @@
 -- The wrong definitions fail at their examples.
-use Rattle.std.proofs.Common.{[], ◌∷◌, refl, sym, ◌∙◌, inl, inr, arith}
-use Rattle.std.specs.List.{Contains}
-use Rattle.entry_order.specs.declared.event.Event.TheVariants.{Got}
-use Rattle.entry_order.specs.Naming.{IsNamedIn, Distinct}
-use Rattle.entry_order.specs.World.{sent_in}
-use Rattle.entry_order.specs.HeldBefore.{HeldBefore.itself}
-use Rattle.entry_order.specs.Receipt.{OrderIsReceiptIn}
-use Rattle.entry_order.specs.Frontier.{IsFrontier}
-use Rattle.entry_order.specs.Example.{Entry, digest_of, shown, example_entry, b1}
-use Rattle.entry_order.specs.WrongNames.{world, OwnLastFails}
-use Rattle.entry_order.specs.WrongFrontier.{frontier_by_arrival, heard, ArrivalFails}
-use Rattle.entry_order.specs.WrongStrays.{ByOthersFails}
-use Rattle.entry_order.proofs.Lists.{Contains-none, Contains-cons_cases}
-use Rattle.entry_order.proofs.ExampleFacts.{no_path}
+use Rattle.counterexamples.proofs.Imports.{[], ◌∷◌, refl, sym, ◌∙◌, inl, inr, arith, Contains, Got, IsNamedIn}
+use Rattle.counterexamples.proofs.Imports.{Distinct, sent_in, HeldBefore.itself, OrderIsReceiptIn, IsFrontier}
+use Rattle.counterexamples.proofs.Imports.{digest_of, shown, example_entry, b1, OwnLastFails, frontier_by_arrival}
+use Rattle.counterexamples.proofs.Imports.{heard, ArrivalFails, ByOthersFails, Contains-none, Contains-cons_cases}
+use Rattle.counterexamples.specs.Example.{Entry}
+use Rattle.counterexamples.specs.WrongNames.{world}
+use Rattle.counterexamples.proofs.ExampleFacts.{no_path}
 
 -- what A sends
 abbrev sent_by_a : Entry

@@ -1,0 +1,10 @@
+mod Imports
+mod ExampleFacts
+mod WrongFacts
+mod NotHeld
+mod SmallPlaces
+mod ClosingEarly
+mod OtherBooth
+mod OwnBooth
+mod CastOverGaps
+mod NoChain

@@ -1,0 +1,102 @@
+-- A rule that compares the booth of the wrong entry.
+use Rattle.counterexamples.proofs.Imports.{◌≡◌, ℕ, zero, suc, List, [], ◌∷◌, inr, refl, arith, Deed, node_of_sealed}
+use Rattle.counterexamples.proofs.Imports.{SealedEntry, Event, Step, Act, Hear, World, history, sent_in, Post}
+use Rattle.counterexamples.proofs.Imports.{Supervisor, Booth, Holds, row_of, IsHonest, MayAs, role_at, FailsAtSome}
+use Rattle.counterexamples.proofs.Imports.{own_booth}
+use Rattle.entry_format.specs.declared.deed.Deed.TheVariants as deed
+use Rattle.counterexamples.proofs.NotHeld.{not_opened, not_closed_own, not_used, not_busy}
+use Rattle.counterexamples.proofs.NotHeld.{not_ended_own, not_activated, not_overridden, not_closed}
+use Rattle.counterexamples.proofs.SmallPlaces.{EachSent, each_sent, machine, made, place, place_orderly, place_distinct}
+
+-- a supervisor and a booth
+abbrev posts : List Post
+posts = machine Supervisor ∷ machine Booth ∷ []
+
+-- a booth is authorised and activates
+abbrev deeds : List (List Deed)
+deeds = (deed.Opened ∷ deed.Authorise 1 7 ∷ []) ∷ (deed.Activate 7 ∷ []) ∷ []
+
+-- the booth hears of its authorising before it acts
+abbrev steps : List Step
+steps = Act 0 ∷ Act 0 ∷ Hear 1 0 0 ∷ Hear 1 0 1 ∷ Act 1 ∷ []
+
+-- what they come to
+abbrev w : World SealedEntry
+w = place deeds steps
+
+-- what is sent
+abbrev opened : SealedEntry
+opened = made deeds 0 0 1 []
+
+-- the authorising of the booth
+abbrev authorised : SealedEntry
+authorised = made deeds 0 1 2 (opened.digest ∷ [])
+
+-- the booth's activation of its session
+abbrev activated : SealedEntry
+activated = made deeds 1 0 3 (authorised.digest ∷ [])
+
+-- these three are all that was sent
+all_sent : sent_in w ≡ opened ∷ authorised ∷ activated ∷ []
+all_sent = refl
+
+-- each is allowed
+abbrev May : ℕ → List (Event SealedEntry) → SealedEntry → Type 0
+May m past e = MayAs (role_at posts m) m past e
+
+-- so each machine sends what it may
+allowed : (m : ℕ) → EachSent (May m) [] (history w m)
+allowed zero =
+    let one = opened.entry ∷ [] in (
+      record { of_role = tt; no_cause = inr (not_opened 0 [] refl, refl) },
+      (
+        record {
+          of_role = tt;
+          no_cause = inr (
+            λ unopened. unopened (0, opened.entry, omega arith, refl, (refl, refl)),
+            inr (
+              not_closed_own 0 one refl,
+              inr (not_used 7 0 one refl, inr (not_busy 1 0 one refl, refl)),
+            ),
+          );
+        },
+        tt,
+      ),
+    )
+allowed (suc zero) =
+    let two = opened.entry ∷ authorised.entry ∷ [] in (
+      record {
+        of_role = tt;
+        no_cause = inr (
+          λ unnamed. unnamed (1, authorised.entry, omega arith, refl, refl),
+          inr (
+            not_ended_own 7 1 two refl,
+            inr (
+              not_activated 7 1 two refl,
+              inr (not_overridden 7 two refl, inr (not_closed two refl, refl)),
+            ),
+          ),
+        );
+      },
+      tt,
+    )
+allowed (suc (suc m)) = tt
+
+-- an activation names no booth, so that its field is 0
+fails : ¬ (Holds node_of_sealed (row_of posts) (sent_in w) (sent_in w) own_booth)
+fails holds =
+    let (f, authorises, before, (_, (names, _))) = holds activated (2, omega arith, refl) refl in cc
+
+-- the rule that compares the wrong entry's booth fails at an honest place
+pub looking_for_its_own_booth_fails : FailsAtSome IsHonest own_booth
+looking_for_its_own_booth_fails = (
+  posts,
+  w,
+  record {
+    supervisor = refl;
+    orderly = place_orderly deeds steps;
+    allowed = λ m. each_sent (May m) (history w m) (allowed m);
+  },
+  place_distinct deeds steps,
+  fails,
+)
