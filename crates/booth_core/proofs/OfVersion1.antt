@@ -20,7 +20,7 @@ use Rattle.booth_core.specs.VersionOne.{HasEndedInVersion1, IsOverriddenInVersio
 abbrev AreOfVersion1 : List Entry → Type 0
 AreOfVersion1 entries = All (λ entry. IsDeedIn 1 entry.deed) entries
 
--- the booth has ended a session by the table exactly where it has by that of version 1
+-- the booth has ended a session by the table exactly when it has by that of version 1
 ended_alike : (owner : ℕ) (entries : List Entry) (session : ℕ) → AreOfVersion1 entries →
     HasEndedOwn owner entries session ↔ HasEndedInVersion1 owner entries session
 ended_alike owner entries session all =
@@ -31,7 +31,7 @@ ended_alike owner entries session all =
       λ (own, ends). (own, (ends_alike entry.deed session one).1 ends),
     ))
 
--- a session is overridden by the table exactly where it is by that of version 1
+-- a session is overridden by the table exactly when it is by that of version 1
 overridden_alike : (entries : List Entry) (session : ℕ) → AreOfVersion1 entries →
     IsOverridden entries session ↔ IsOverriddenInVersion1 entries session
 overridden_alike entries session all =

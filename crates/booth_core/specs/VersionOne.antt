@@ -8,7 +8,7 @@ use Rattle.entry_format.specs.declared.deed.How.TheVariants as word
 use Rattle.entry_format.specs.declared.entry.Entry.{Entry}
 use Rattle.deed_history.specs.Held.{HoldsOwn}
 use Rattle.deed_history.specs.VersionOne.{EndsInVersion1}
-use Rattle.first_cause.specs.Causes.{IsFirstOf}
+use Rattle.item_list.specs.Causes.{IsFirstOf}
 use Rattle.booth_core.specs.declared.state.BoothNot.{BoothNot}
 use Rattle.booth_core.specs.declared.state.BoothNot.TheVariants as cause
 use Rattle.booth_core.specs.Causes.{IsAuthorised, IsOverriddenTo, IsClosed, HasActivated}

@@ -1,4 +1,5 @@
-//! Laws about a booth's rules, which hold of the definitions alone. Each is the contract of a function
+//! Laws about a booth's rules, which hold of the definitions alone. Each is the contract of a
+//! function that does nothing.
 //! that does nothing.
 ghost use Rattle.std.specs.Prelude.{◌≡◌, ◌↔◌, ℕ, Bool, List, All, Result, Err, IsTrue};
 ghost use Rattle.entry_format.specs.declared.deed.Deed.{Deed};
@@ -19,7 +20,8 @@ pub fn each_deed_has_one_answer()
         Refuses owner entries (IsTrue whole) deed other → answer ≡ other }
 {}
 
-/// Where every entry that is held and the deed are of version 1, the answer is that of version 1's own
+/// Where every entry that is held and the deed are of version 1, the answer is that of version 1's
+/// own rules, and the cause that came with version 2 never comes.
 /// rules, and the cause that came with version 2 never comes.
 pub fn version_1_has_its_own_answers()
     ensures same { (owner : ℕ) (entries : List Entry) (whole : Bool) (deed : Deed)

@@ -11,7 +11,7 @@ ghost use Rattle.booth_core.specs.CauseWords.{booth_not_word};
 
 use crate::commitment::{Commitment, has_commitment, has_committed};
 use entry_format::{Deed, Entry, How};
-use first_cause::first_of;
+use item_list::first_of;
 use std::alloc::{AllocError, Global};
 use std::marker::Model;
 use thiserror::Error;

@@ -1,4 +1,4 @@
-//! Histories that are told in words, one for each entry.
+//! Histories that are described in words, one for each entry.
 ghost use Rattle.entry_format.specs.Deeds.{IsDeedOf};
 ghost use Rattle.roster.specs.declared.post.Role.TheVariants.{Supervisor};
 
@@ -19,7 +19,7 @@ pub(crate) fn override_by(session: u32, how: How) -> Deed
     Deed::Override { session, how }
 }
 
-/// The entry in which a maker tells a deed.
+/// The entry in which a maker reports a deed.
 pub(crate) fn entry_of(alloc: Global, event: (u32, Deed)) -> Entry {
     let (maker, deed) = event;
     Entry {

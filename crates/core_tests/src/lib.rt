@@ -1,4 +1,4 @@
-//! Tests of the public calls of `supervisor_core` and `booth_core`. They stand in a crate of their
+//! Tests of the public calls of `supervisor_core` and `booth_core`. They are in a crate of their
 //! own, so that what they test isn't proved once more with them.
 #![tactic(auto)]
 

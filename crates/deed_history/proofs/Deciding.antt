@@ -1,10 +1,10 @@
 -- Tests that decide what entries say, and so which cause is the first.
-use Rattle.std.proofs.Common.{◌≡◌, ℕ, Bool, true, false, ◌&&◌, ◌==◌, List, [], ◌∷◌, refl, inl, inr, ap}
+use Rattle.std.proofs.Common.{◌≡◌, ℕ, Bool, true, false, not, ◌&&◌, ◌==◌, List, [], ◌∷◌, refl, inl, inr, ap}
 use Rattle.std.specs.Prelude.{Any, Result, Ok, Err}
 use Rattle.std.specs.Bool.{Decides}
 use Rattle.std.specs.List.{list_any}
 use Rattle.std.specs.Str.{bytes_eq}
-use Rattle.std.proofs.lemmas.Bool.Decides.{Decides-eqb, Decides-and}
+use Rattle.std.proofs.lemmas.Bool.Decides.{Decides-eqb, Decides-and, Decides-not}
 use Rattle.std.proofs.lemmas.List.Folds.{Any-from_list_any, list_any-from_Any}
 use Rattle.std.proofs.lemmas.Slice.Eq.{bytes_eq-Decides}
 use Rattle.entry_format.specs.declared.deed.Deed.{Deed}
@@ -15,7 +15,7 @@ use Rattle.entry_format.specs.declared.deed.How.TheVariants as word
 use Rattle.entry_format.specs.declared.entry.Entry.{Entry}
 use Rattle.deed_history.specs.Deeds.{Authorises, Overrides, Commits, Ends}
 use Rattle.deed_history.specs.Held.{HoldsSome, HoldsOwn, HasEnded}
-use Rattle.first_cause.specs.Causes.{IsFirstOf, tests_of}
+use Rattle.item_list.specs.Causes.{IsFirstOf, tests_of}
 
 -- where a test decides a sentence of each member, one decides whether it holds of any
 pub any_decides : {X : Type 0} (p : X → Bool) (P : X → Type 0) → ((x : X) → Decides (p x) (P x)) → (xs : List X)
@@ -55,7 +55,7 @@ abbrev pub is_opened : Deed → Bool
 is_opened Opened = true
 is_opened _ = false
 
--- it is so exactly for that deed
+-- `is_opened` decides whether a deed is Opened
 pub opened_decides : (deed : Deed) → Decides (is_opened deed) (deed ≡ Opened)
 opened_decides Opened = (λ yes. refl, λ is. refl)
 opened_decides _ = (λ yes. cc, λ is. cc)
@@ -65,7 +65,7 @@ abbrev pub is_closed : Deed → Bool
 is_closed Closed = true
 is_closed _ = false
 
--- it is so exactly for that deed
+-- `is_closed` decides whether a deed is Closed
 pub closed_decides : (deed : Deed) → Decides (is_closed deed) (deed ≡ Closed)
 closed_decides Closed = (λ yes. refl, λ is. refl)
 closed_decides _ = (λ yes. cc, λ is. cc)
@@ -75,7 +75,7 @@ abbrev pub authorises : ℕ → Deed → Bool
 authorises session (Authorise booth s) = s == session
 authorises session _ = false
 
--- it is so exactly for such deeds
+-- `authorises` decides whether a deed authorises a session
 pub authorises_decides : (session : ℕ) (deed : Deed) → Decides (authorises session deed) (Authorises session deed)
 authorises_decides session (Authorise booth s) =
     let same = Decides-eqb s session in
@@ -87,7 +87,7 @@ abbrev pub authorises_booth : ℕ → ℕ → Deed → Bool
 authorises_booth booth session (Authorise b s) = (b == booth) && (s == session)
 authorises_booth booth session _ = false
 
--- it is so exactly for that deed
+-- `authorises_booth` decides whether a deed authorises this booth for this session
 pub authorises_booth_decides : (booth session : ℕ) (deed : Deed)
     → Decides (authorises_booth booth session deed) (deed ≡ Authorise booth session)
 authorises_booth_decides booth session (Authorise b s) =
@@ -100,7 +100,7 @@ abbrev pub overrides : ℕ → Deed → Bool
 overrides session (Override s how) = s == session
 overrides session _ = false
 
--- it is so exactly for such deeds
+-- `overrides` decides whether a deed overrides a session
 pub overrides_decides : (session : ℕ) (deed : Deed) → Decides (overrides session deed) (Overrides session deed)
 overrides_decides session (Override s how) =
     let same = Decides-eqb s session in
@@ -126,7 +126,7 @@ abbrev pub overrides_by : ℕ → How → Deed → Bool
 overrides_by session how (Override s h) = (s == session) && is_word h how
 overrides_by session how _ = false
 
--- it is so exactly for that deed
+-- `overrides_by` decides whether a deed overrides a session in this way
 pub overrides_by_decides : (session : ℕ) (how : How) (deed : Deed)
     → Decides (overrides_by session how deed) (deed ≡ Override session how)
 overrides_by_decides session how (Override s h) =
@@ -139,7 +139,7 @@ abbrev pub activates : ℕ → Deed → Bool
 activates session (Activate s) = s == session
 activates session _ = false
 
--- it is so exactly for that deed
+-- `activates` decides whether a deed activates a session
 pub activates_decides : (session : ℕ) (deed : Deed) → Decides (activates session deed) (deed ≡ Activate session)
 activates_decides session (Activate s) =
     let same = Decides-eqb s session in
@@ -151,7 +151,7 @@ abbrev pub commits : ℕ → Deed → Bool
 commits session (Commit s ballot) = s == session
 commits session _ = false
 
--- it is so exactly for such deeds
+-- `commits` decides whether a deed commits in a session
 pub commits_decides : (session : ℕ) (deed : Deed) → Decides (commits session deed) (Commits session deed)
 commits_decides session (Commit s ballot) =
     let same = Decides-eqb s session in
@@ -163,7 +163,7 @@ abbrev pub commits_to : ℕ → List ℕ → Deed → Bool
 commits_to session ballot (Commit s x) = (s == session) && bytes_eq x ballot
 commits_to session ballot _ = false
 
--- it is so exactly for that deed
+-- `commits_to` decides whether a deed commits to this ballot in this session
 pub commits_to_decides : (session : ℕ) (ballot : List ℕ) (deed : Deed)
     → Decides (commits_to session ballot deed) (deed ≡ Commit session ballot)
 commits_to_decides session ballot (Commit s x) =
@@ -178,7 +178,7 @@ ends session (Cancel s) = s == session
 ends session (Challenge s ballot) = s == session
 ends session _ = false
 
--- it is so exactly for a Cast, a Cancel and a Challenge of the session
+-- `ends` decides whether a deed ends a session: a Cast, a Cancel and a Challenge of it do
 pub ends_decides : (session : ℕ) (deed : Deed) → Decides (ends session deed) (Ends session deed)
 ends_decides session (Cast s ballot) =
     let (same, passes) = Decides-eqb s session in (
@@ -207,14 +207,55 @@ ends_decides session _ = (
 abbrev pub has_ended : List Entry → ℕ → Bool
 has_ended entries session = list_any (λ entry. ends session entry.deed) entries
 
--- it is so exactly where the session has ended
+-- `has_ended` decides whether a session has ended
 pub ended_decides : (entries : List Entry) (session : ℕ)
     → Decides (has_ended entries session) (HasEnded entries session)
 ended_decides entries session = holds_decides (ends session) (Ends session) (ends_decides session) entries
 
--- of each row of tests one answer is the first
-pub first_test : {Cause : Type 0} (tests : List (Bool × Cause))
-    → (answer : Result (Unit {0}) Cause) × IsFirstOf (tests_of tests) answer
-first_test [] = (Ok tt, refl)
-first_test ((true, cause) ∷ tests) = (Err cause, inl (refl, refl))
-first_test ((false, cause) ∷ tests) = let rest = first_test tests in (rest.0, inr (λ yes. cc, rest.1))
+-- a sentence with a test that decides it
+abbrev pub Decided : Type 0 → Type 0
+Decided A = (test : Bool) × Decides test A
+
+-- a test of deeds decides whether an entry with such a deed is held
+pub some_is : (p : Deed → Bool) (P : Deed → Type 0) → ((deed : Deed) → Decides (p deed) (P deed)) →
+    (entries : List Entry) → Decided (HoldsSome entries P)
+some_is p P each entries = (list_any (λ entry. p entry.deed) entries, holds_decides p P each entries)
+
+-- a test of deeds decides whether an own one is held
+pub own_is : (owner : ℕ) (p : Deed → Bool) (P : Deed → Type 0) → ((deed : Deed) → Decides (p deed) (P deed)) →
+    (entries : List Entry) → Decided (HoldsOwn owner entries P)
+own_is owner p P each entries = (holds_own owner p entries, own_decides owner p P each entries)
+
+-- where a sentence is decided, so is its negation
+abbrev pub not_is : {A : Type 0} → Decided A → Decided (A → ⊥)
+not_is (test, is) = (not test, Decides-not test is)
+
+-- where two sentences are decided, so is that both hold
+abbrev pub both_are : {A B : Type 0} → Decided A → Decided B → Decided (A × B)
+both_are (test, is) (other, also) = (test && other, Decides-and test other is also)
+
+-- each cause of a row is decided
+abbrev pub AreDecided : {Cause : Type 0} → List (Type 0 × Cause) → Type 0
+AreDecided [] = Unit {0}
+AreDecided (cause ∷ row) = Decided cause.0 × AreDecided row
+
+-- of such a row one answer is the first
+pub first_decided : {Cause : Type 0} (row : List (Type 0 × Cause)) → AreDecided row →
+    (answer : Result (Unit {0}) Cause) × IsFirstOf row answer
+first_decided [] tests = (Ok tt, refl)
+first_decided ((applies, cause) ∷ row) ((true, is), tests) = (Err cause, inl (is.0 refl, refl))
+first_decided ((applies, cause) ∷ row) ((false, is), tests) =
+    let (answer, first) = first_decided row tests in (answer, inr (λ a. cc (is.1 a), first))
+
+-- the tests of such a row
+abbrev pub tests_in : {Cause : Type 0} (row : List (Type 0 × Cause)) → AreDecided row → List (Bool × Cause)
+tests_in [] tests = []
+tests_in (cause ∷ row) ((test, is), tests) = (test, cause.1) ∷ tests_in row tests
+
+-- the first test that is true gives the first cause that applies
+pub first_by : {Cause : Type 0} (row : List (Type 0 × Cause)) (tests : AreDecided row)
+    (answer : Result (Unit {0}) Cause) → IsFirstOf (tests_of (tests_in row tests)) answer → IsFirstOf row answer
+first_by [] tests answer first = first
+first_by (cause ∷ row) ((test, is), tests) answer (inl (holds, told)) = inl (is.0 holds, told)
+first_by (cause ∷ row) ((test, is), tests) answer (inr (fails, later)) =
+    inr (λ applies. fails (is.1 applies), first_by row tests answer later)

@@ -1,5 +1,5 @@
 pub mod Entries
-pub mod Ending
+pub mod Told
 pub mod Members
 pub mod Deciding
 pub mod VersionOne

@@ -5,8 +5,9 @@ use Rattle.std.specs.List.{list_any}
 use Rattle.std.proofs.lemmas.Bool.{eqb-true, eq-eqb}
 use Rattle.std.proofs.lemmas.List.Folds.{Any-from_list_any, list_any-from_Any}
 use Rattle.std.proofs.lemmas.List.Elements.{Contains-append_right, Contains-append_cases, Contains-push_cases}
+use Rattle.deed_history.proofs.Deciding.{Decided}
 
--- a place where the member stands
+-- a place where the member is
 at_place : (xs : List ℕ) (x y : ℕ) → Contains xs y → y ≡ x → Contains xs x
 at_place xs x y at same = subst (Contains xs) same at
 
@@ -55,10 +56,17 @@ pub is_kept : {X : Type 0} (p : X → Bool) (xs : List X) (x : X) →
 is_kept p [] x = (λ at. absurd (omega arith), λ at. at.0)
 is_kept p (y ∷ xs) x = is_kept_by p y xs x (p y) refl (is_kept p xs x)
 
--- the same, where the slice is lent of a vector
+-- a test of the members of a vector's slice decides what the vector contains
 pub is_listed : (test : Bool) (lent xs : List ℕ) (x : ℕ) → test ≡ list_any (λ y. nat_eq y x) lent → lent ≡ xs →
     IsTrue test ↔ Contains xs x
 is_listed test lent xs x answer same =
     let P : Bool → Type 0 = λ t. IsTrue t ↔ Contains xs x in
     let Q : List ℕ → Type 0 = λ l. IsTrue (list_any (λ y. nat_eq y x) l) ↔ Contains xs x in
     subst P (sym answer) (subst Q (sym same) (is_member xs x))
+
+-- so it decides what the vector notes
+abbrev pub listed_is : {A : Type 0} {test : Bool} {lent xs : List ℕ} {x : ℕ} → test ≡ list_any (λ y. nat_eq y x) lent →
+    lent ≡ xs → Contains xs x ↔ A → Decided A
+listed_is {A} {test} {lent} {xs} {x} answer same noted =
+    let (to, from) = is_listed test lent xs x answer same in
+    (test, (λ yes. noted.0 (to yes), λ a. from (noted.1 a)))

@@ -6,7 +6,7 @@ use Rattle.entry_format.specs.declared.deed.Deed.TheVariants.{Override, Challeng
 use Rattle.entry_format.specs.declared.deed.How.{How}
 use Rattle.entry_format.specs.declared.deed.How.TheVariants as word
 use Rattle.entry_format.specs.EntryText.{IsDeedIn}
-use Rattle.first_cause.specs.Causes.{IsFirstOf}
+use Rattle.item_list.specs.Causes.{IsFirstOf}
 use Rattle.deed_history.specs.Deeds.{Overrides, Ends}
 use Rattle.deed_history.specs.VersionOne.{EndsInVersion1}
 
@@ -30,7 +30,7 @@ no_challenge deed session ballot in_version is = not_2 1 refl (subst (IsDeedIn 1
 pub no_cast_override : (deed : Deed) (session : ℕ) → IsDeedIn 1 deed → deed ≡ Override session word.Cast → ⊥
 no_cast_override deed session in_version is = not_2 1 refl (subst (IsDeedIn 1) is in_version)
 
--- a deed of version 1 ends a session exactly where the table of version 1 says so
+-- a deed of version 1 ends a session exactly when the table of version 1 says so
 pub ends_alike : (deed : Deed) (session : ℕ) → IsDeedIn 1 deed → Ends session deed ↔ EndsInVersion1 session deed
 ends_alike deed session in_version = (
   λ ends. elim ends [
@@ -49,7 +49,7 @@ says_cancel : (deed : Deed) (session : ℕ) (how : How) → IsDeedIn 1 deed → 
 says_cancel deed session word.Cancel in_version is = is
 says_cancel deed session word.Cast in_version is = absurd (no_cast_override deed session in_version is)
 
--- so to override is to override by cancelling
+-- in version 1 every override of a session cancels
 pub overrides_alike : (deed : Deed) (session : ℕ) → IsDeedIn 1 deed →
     Overrides session deed ↔ (deed ≡ Override session word.Cancel)
 overrides_alike deed session in_version =
@@ -74,7 +74,7 @@ first_to (cause ∷ row) (other ∷ others) answer (both, same, rest) (inl (appl
 first_to (cause ∷ row) (other ∷ others) answer (both, same, rest) (inr (not, later)) =
     inr (λ applies. not (both.1 applies), first_to row others answer rest later)
 
--- and the other way round
+-- an answer that is the first cause of the second of two rows that are alike is that of the first
 first_from : {Cause : Type 0} (row others : List (Type 0 × Cause)) (answer : Result (Unit {0}) Cause) →
     IsAlike row others → IsFirstOf others answer → IsFirstOf row answer
 first_from [] [] answer alike first = first
@@ -85,7 +85,7 @@ first_from (cause ∷ row) (other ∷ others) answer (both, same, rest) (inl (ap
 first_from (cause ∷ row) (other ∷ others) answer (both, same, rest) (inr (not, later)) =
     inr (λ applies. not (both.0 applies), first_from row others answer rest later)
 
--- so both rows have the same first cause
+-- rows that are alike have the same first cause
 pub first_alike : {Cause : Type 0} (row others : List (Type 0 × Cause)) (answer : Result (Unit {0}) Cause) →
     IsAlike row others → IsFirstOf row answer ↔ IsFirstOf others answer
 first_alike row others answer alike = (first_to row others answer alike, first_from row others answer alike)

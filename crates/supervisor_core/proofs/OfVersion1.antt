@@ -21,14 +21,14 @@ use Rattle.supervisor_core.specs.VersionOne.{causes_in_version_1}
 abbrev AreOfVersion1 : List Entry → Type 0
 AreOfVersion1 entries = All (λ entry. IsDeedIn 1 entry.deed) entries
 
--- a session has ended by the table exactly where it has by that of version 1
+-- a session has ended by the table exactly when it has by that of version 1
 ended_alike : (entries : List Entry) (session : ℕ) → AreOfVersion1 entries →
     HasEnded entries session ↔ HasEndedInVersion1 entries session
 ended_alike entries session all =
     any_alike (λ entry. IsDeedIn 1 entry.deed) (λ entry. Ends session entry.deed)
     (λ entry. EndsInVersion1 session entry.deed) entries all (λ entry one. ends_alike entry.deed session one)
 
--- a booth is busy by the table exactly where it is by that of version 1
+-- a booth is busy by the table exactly when it is by that of version 1
 busy_alike : (owner : ℕ) (entries : List Entry) (booth : ℕ) → AreOfVersion1 entries →
     IsBusy owner entries booth ↔ IsBusyInVersion1 owner entries booth
 busy_alike owner entries booth all = (
@@ -36,7 +36,7 @@ busy_alike owner entries booth all = (
   λ (session, (runs, lasts)). (session, (runs, λ ended. lasts ((ended_alike entries session all).0 ended))),
 )
 
--- sessions are left by the table exactly where they are by that of version 1
+-- sessions are left by the table exactly when they are by that of version 1
 left_alike : (owner : ℕ) (entries : List Entry) → AreOfVersion1 entries →
     HasSessionsLeft owner entries ↔ HasSessionsLeftInVersion1 owner entries
 left_alike owner entries all = (
@@ -91,7 +91,7 @@ no_other_override owner entries (Override session how) = (λ e. cc, (λ e. cc, t
 no_other_override owner entries Closed = (λ e. cc, (λ e. cc, (λ e. cc, tt)))
 no_other_override owner entries _ = tt
 
--- nor because nothing was committed
+-- no deed of version 1 is refused because nothing was committed
 pub no_nothing_committed : (owner : ℕ) (entries : List Entry) (deed : Deed) →
     IsNoneOf (causes_in_version_1 owner entries deed) NothingCommitted
 no_nothing_committed owner entries Opened = (λ e. cc, tt)

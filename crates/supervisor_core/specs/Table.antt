@@ -6,7 +6,7 @@ use Rattle.entry_format.specs.declared.deed.Deed.TheVariants.{Cast, Cancel, Chal
 use Rattle.entry_format.specs.declared.deed.How.TheVariants as word
 use Rattle.entry_format.specs.declared.entry.Entry.{Entry}
 use Rattle.deed_history.specs.Held.{HasEnded}
-use Rattle.first_cause.specs.Causes.{IsFirstOf}
+use Rattle.item_list.specs.Causes.{IsFirstOf}
 use Rattle.supervisor_core.specs.declared.state.SupervisorNot.{SupervisorNot}
 use Rattle.supervisor_core.specs.declared.state.SupervisorNot.TheVariants as cause
 use Rattle.supervisor_core.specs.Causes.{HasOpened, HasClosed, HasAuthorised, HasOverridden, other}

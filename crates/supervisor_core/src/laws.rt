@@ -1,4 +1,5 @@
-//! Laws about the supervisor's rules, which hold of the definitions alone. Each is the contract of a
+//! Laws about the supervisor's rules, which hold of the definitions alone. Each is the contract of
+//! a function that does nothing.
 //! function that does nothing.
 ghost use Rattle.std.specs.Prelude.{◌≡◌, ◌↔◌, ℕ, List, All, Result, Err};
 ghost use Rattle.entry_format.specs.declared.deed.Deed.{Deed};
@@ -21,7 +22,8 @@ pub fn each_deed_has_one_answer()
         Refuses owner entries deed answer → Refuses owner entries deed other → answer ≡ other }
 {}
 
-/// Where every entry that is held and the deed are of version 1, the answer is that of version 1's own
+/// Where every entry that is held and the deed are of version 1, the answer is that of version 1's
+/// own rules, and the causes that came with version 2 never come.
 /// rules, and the causes that came with version 2 never come.
 pub fn version_1_has_its_own_answers()
     ensures same { (owner : ℕ) (entries : List Entry) (deed : Deed)

@@ -45,7 +45,7 @@ pub fn end_session(running: &mut Vec<Running>, ended: &mut Vec<u32>, session: u3
     ensures len { vec_len running.new ≤ vec_len running.old }
     ensures capacity { vec_capacity running.new ≡ vec_capacity running.old }
 
-    // It stands among those that ended.
+    // It is among those that ended.
     ensures ended { ended.new.items ≡ ended.old.items ++ session ∷ [] }
     ensures ended_len { vec_len ended.new ≡ vec_len ended.old + 1 }
     ensures ended_capacity { vec_capacity ended.old ≤ vec_capacity ended.new }

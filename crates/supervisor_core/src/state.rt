@@ -25,7 +25,7 @@ ghost use Rattle.supervisor_core.specs.CauseWords.{supervisor_not_word};
 
 use crate::running::{Running, end_session, is_any_left, is_busy};
 use entry_format::{Deed, Entry, How};
-use first_cause::first_of;
+use item_list::first_of;
 use std::alloc::{AllocError, Global};
 use std::marker::Model;
 use thiserror::Error;

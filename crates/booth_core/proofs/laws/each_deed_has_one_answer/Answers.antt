@@ -1,5 +1,5 @@
 use Rattle.std.specs.Prelude.{IsTrue}
-use Rattle.first_cause.proofs.Rows.{one_first}
+use Rattle.item_list.proofs.Rows.{one_first}
 use Rattle.booth_core.specs.Table.{causes_of}
 use Rattle.booth_core.proofs.Answered.{answered}
 use Rattle.booth_core.proofs.laws.each_deed_has_one_answer.Goals as goal

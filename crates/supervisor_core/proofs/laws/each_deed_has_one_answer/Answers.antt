@@ -1,4 +1,4 @@
-use Rattle.first_cause.proofs.Rows.{one_first}
+use Rattle.item_list.proofs.Rows.{one_first}
 use Rattle.supervisor_core.specs.Table.{causes_of}
 use Rattle.supervisor_core.proofs.Answered.{answered}
 use Rattle.supervisor_core.proofs.laws.each_deed_has_one_answer.Goals as goal

@@ -1,6 +1,6 @@
 use Rattle.std.proofs.Common.{sym, subst}
 use Rattle.std.specs.Prelude.{Contains, ◌↔◌}
-use Rattle.first_cause.proofs.Rows.{iff_trans}
+use Rattle.item_list.proofs.Rows.{iff_trans}
 use Rattle.deed_history.proofs.Members.{is_listed}
 use Rattle.supervisor_core.specs.Causes.{HasOverridden, other}
 use Rattle.supervisor_core.specs.State.{StandsFor}

@@ -1,6 +1,6 @@
 use Rattle.std.proofs.Common.{subst}
 use Rattle.std.specs.Prelude.{IsTrue, Contains, ◌↔◌}
-use Rattle.first_cause.proofs.Rows.{is_not}
+use Rattle.item_list.proofs.Rows.{is_not}
 use Rattle.deed_history.proofs.Members.{is_listed}
 use Rattle.supervisor_core.proofs.state.SupervisorState.lacks_commitment.Goals as goal
 
