@@ -1,20 +1,14 @@
 -- The lines of a proof list exactly the ancestors of their entries, and so they say of them what the graph does.
-use Rattle.std.proofs.Common.{◌≡◌, ℕ, zero, suc, ◌+◌, ◌<◌, Bool, true, false, List, [], ◌∷◌, ◌++◌, refl, sym, subst, ap}
-use Rattle.std.proofs.Common.{◌∙◌, inl, inr, arith, cond, Some}
-use Rattle.std.specs.Prelude.{slice_get, not, ◌==◌}
-use Rattle.std.specs.List.{Contains, list_all}
-use Rattle.std.proofs.lemmas.Bool.{eqb-true, eq-eqb, and_parts, and_from, not-true, not_from_false}
-use Rattle.entry_order.specs.declared.three.Three.TheVariants.{False, Unknown, True}
-use Rattle.entry_order.specs.Ancestors.{IsWalk, IsAncestor, Descends, reaches, is_whole, before}
-use Rattle.entry_order.proofs.Lists.{Contains-map_cases, list_any_some, list_any_of}
-use Rattle.entry_order.proofs.Places.{place_of}
-use Rattle.entry_order.proofs.Settled.{list_all_each, list_all_from_each, ancestor_from_reaches, reaches_from_walk}
-use Rattle.entry_order.proofs.Settled.{clean_itself, clean_ancestor, is_whole_from_clean, walk_on}
-use Rattle.precedence.specs.Graph.{Graph}
-use Rattle.audit_proof.specs.declared.step.ProofStep.{ProofStep}
-use Rattle.audit_proof.specs.Lines.{Line, listed_in, IsOnLine, IsLineOf}
-use Rattle.audit_proof.specs.KnownBy.{lists, is_whole_line, before_on}
-use Rattle.audit_proof.specs.Trust.{LinesListAncestors}
+use Rattle.std.proofs.Common.{Bool, false}
+use Rattle.audit_proof.proofs.Imports.{◌≡◌, ℕ, zero, suc, ◌+◌, ◌<◌, true, List, [], ◌∷◌, ◌++◌, refl, sym, subst, ap}
+use Rattle.audit_proof.proofs.Imports.{◌∙◌, inl, inr, arith, cond, Some, slice_get, not, ◌==◌, Contains, list_all}
+use Rattle.audit_proof.proofs.Imports.{eqb-true, eq-eqb, and_parts, and_from, not-true, not_from_false, False}
+use Rattle.audit_proof.proofs.Imports.{Unknown, True, IsWalk, IsAncestor, Descends, reaches, is_whole, before}
+use Rattle.audit_proof.proofs.Imports.{Contains-map_cases, list_any_some, list_any_of, place_of, list_all_each}
+use Rattle.audit_proof.proofs.Imports.{list_all_from_each, ancestor_from_reaches, reaches_from_walk, clean_itself}
+use Rattle.audit_proof.proofs.Imports.{clean_ancestor, is_whole_from_clean, walk_on, Graph, ProofStep, Line}
+use Rattle.audit_proof.proofs.Imports.{listed_in, IsOnLine, IsLineOf, lists, is_whole_line, before_on}
+use Rattle.audit_proof.proofs.Imports.{LinesListAncestors}
 
 -- tests of which each implies the other are one
 pub same_test : (a b : Bool) → (a ≡ true → b ≡ true) → (b ≡ true → a ≡ true) → a ≡ b
@@ -38,7 +32,7 @@ module _ (graph : Graph) (line : Line) (is : IsLineOf graph line) where
             )
       ]
 
-  -- so each that is listed is
+  -- each survivor that is listed is an ancestor of the line's entry
   pub listed_ancestor : (y : ℕ) → Contains (listed_in line.steps) y → IsAncestor graph.parents y line.entry
   listed_ancestor y c =
       let (step, among, same) = Contains-map_cases (λ (s : ProofStep). s.ancestor) line.steps y c in
@@ -55,7 +49,7 @@ module _ (graph : Graph) (line : Line) (is : IsLineOf graph line) where
   ancestor_listed y (zs, walk) = walked_listed line.entry y zs (inl refl) walk
 
   module _ (descends : Descends graph.parents) where
-    -- y is listed exactly where it is reached
+    -- y is listed if and only if it is reached
     lists_same : (y : ℕ) → lists (Some line) y ≡ reaches graph.parents line.entry y line.entry
     lists_same y =
         same_test (lists (Some line) y) (reaches graph.parents line.entry y line.entry)
@@ -65,7 +59,7 @@ module _ (graph : Graph) (line : Line) (is : IsLineOf graph line) where
         (λ r. list_any_of (λ z. z == y) (listed_in line.steps) y
         (ancestor_listed y (ancestor_from_reaches graph.parents line.entry y line.entry r)) (eq-eqb y y refl))
 
-    -- the line is whole exactly where its entry is
+    -- the line is whole if and only if its entry is
     pub whole_same : is_whole_line graph.ragged (Some line) ≡ is_whole graph.parents graph.ragged line.entry line.entry
     whole_same =
         let rest = list_all (λ y. not (graph.ragged y)) (listed_in line.steps) in
@@ -85,7 +79,7 @@ module _ (graph : Graph) (line : Line) (is : IsLineOf graph line) where
         not_from_false (graph.ragged y)
         (clean_ancestor graph.parents descends graph.ragged line.entry line.entry (omega arith) w y zs walk))))
 
-    -- so the line says of the order before its entry what the graph says
+    -- the line says of the order before its entry what the graph says
     pub order_same : (y : ℕ) →
         before_on (Some line) (is_whole_line graph.ragged (Some line)) y
         ≡ before graph.parents graph.ragged y line.entry

@@ -1,22 +1,13 @@
 -- A graph has one canonical proof.
-use Rattle.std.proofs.Common.{◌≡◌, ℕ, zero, suc, ◌<◌, ◌≤◌, List, [], ◌∷◌, ◌++◌, refl, sym, ap, ◌∙◌, subst, inl, inr}
-use Rattle.std.proofs.Common.{arith}
-use Rattle.std.proofs.Common.{append-nil, length, Some}
-use Rattle.std.specs.Prelude.{slice_get, Ok, Err}
-use Rattle.std.specs.List.{Contains, flat_map}
-use Rattle.entry_order.specs.Ancestors.{IsWalk}
-use Rattle.entry_order.proofs.Lists.{Contains-none, Contains-head, Contains-later, Contains-cons_cases, Contains-map}
-use Rattle.entry_order.proofs.Lists.{Contains-map_cases}
-use Rattle.entry_order.proofs.Places.{all_at, place_of, element_at, member_at}
-use Rattle.precedence.specs.Graph.{Graph}
-use Rattle.audit_proof.specs.declared.step.ProofStep.{ProofStep}
-use Rattle.audit_proof.specs.Lines.{Line, listed_in, IsOnLine, IsLineOf, HasEachLine}
-use Rattle.audit_proof.specs.declared.fault.ProofFault.TheVariants.{At, Memory}
-use Rattle.audit_proof.specs.ProofText.{line_text, head_text, proof_text}
-use Rattle.audit_proof.specs.Reads.{IsTextFor}
-use Rattle.audit_proof.specs.Trust.{WrittenProofsSayAll}
-use Rattle.audit_proof.specs.Canonical.{IsGreatest, IsCanonicalProof, OneTextIsCanonical}
-use Rattle.audit_proof.specs.inside.Falls.{Falls}
+use Rattle.audit_proof.proofs.Imports.{◌≡◌, ℕ, zero, suc, ◌<◌, ◌≤◌, List, [], ◌∷◌, ◌++◌, refl, sym, ap, ◌∙◌, subst}
+use Rattle.audit_proof.proofs.Imports.{inl, inr, arith, length, Some, slice_get, Ok, Err, Contains, flat_map, IsWalk}
+use Rattle.audit_proof.proofs.Imports.{Contains-none, Contains-head, Contains-later, Contains-cons_cases}
+use Rattle.audit_proof.proofs.Imports.{Contains-map, Contains-map_cases, all_at, place_of, element_at, member_at}
+use Rattle.audit_proof.proofs.Imports.{Graph, ProofStep, Line, listed_in, IsOnLine, IsLineOf, HasEachLine, At}
+use Rattle.audit_proof.proofs.Imports.{line_text, head_text, proof_text, IsTextFor, WrittenProofsSayAll, IsGreatest}
+use Rattle.audit_proof.proofs.Imports.{IsCanonicalProof, OneTextIsCanonical, Falls}
+use Rattle.std.proofs.Common.{append-nil}
+use Rattle.audit_proof.specs.declared.fault.ProofFault.TheVariants.{Memory}
 use Rattle.audit_proof.proofs.Ancestries.{listed_ancestor, ancestor_listed}
 use Rattle.audit_proof.proofs.Listings.{pair_at}
 use Rattle.audit_proof.proofs.LongerLines.{reached_on_line}

@@ -1,30 +1,16 @@
 -- Values over lists of places are those over the rows of a kind.
-use Rattle.std.proofs.Common.{◌≡◌, ℕ, zero, suc, ◌+◌, ◌-◌, ◌<◌, Bool, true, false, cond, List, [], ◌∷◌, length, get_or}
-use Rattle.std.proofs.Common.{drop, map, refl, sym, ap, ◌∙◌, subst, Option, Some, arith}
-use Rattle.std.specs.Prelude.{slice_get, ◌&&◌, All}
-use Rattle.std.specs.List.{filter, range_with_len}
-use Rattle.std.proofs.lemmas.List.{drop_more}
-use Rattle.std.proofs.lemmas.Option.{get_or_from_slice_get, slice_get-get_or}
-use Rattle.entry_order.specs.declared.three.Three.{Three}
-use Rattle.entry_order.specs.declared.three.Three.TheVariants.{False, Unknown, True}
-use Rattle.entry_order.proofs.Lists.{Contains-filter_cases}
-use Rattle.entry_order.proofs.Places.{all_at, all_from_places, member_at}
-use Rattle.precedence.specs.Graph.{Graph}
-use Rattle.rule_language.specs.Trees.{Trees}
-use Rattle.rule_meaning.specs.Values.{first_value, values}
-use Rattle.rule_language.specs.declared.row.Row.{Row}
-use Rattle.rule_language.specs.declared.kind.Kind.{Kind}
-use Rattle.rule_language.specs.declared.formula.Formula.{Formula}
-use Rattle.rule_meaning.specs.Kleene.{both, least, is_false}
-use Rattle.rule_meaning.specs.Tests.{has_kind}
-use Rattle.rule_meaning.specs.Meaning.{bind, unbound}
-use Rattle.rule_meaning.specs.Judging.{signed, value_of, is_in, over_rows}
-use Rattle.rule_meaning.proofs.SameOrders.{row_of_kind, same_values}
-use Rattle.audit_proof.specs.declared.listing.Listing.{Listing}
-use Rattle.audit_proof.specs.Lines.{Line}
-use Rattle.audit_proof.specs.KnownBy.{own_line, before_on, before_by, whole_by, three_by}
-use Rattle.audit_proof.specs.inside.Listing.{IsListingOf, listing_before, listing_whole}
-use Rattle.audit_proof.specs.inside.Checking.{places_of, at_place, over_list}
+use Rattle.std.proofs.Common.{Bool, false}
+use Rattle.std.proofs.Common.{map}
+use Rattle.std.specs.Prelude.{All}
+use Rattle.audit_proof.proofs.Imports.{◌≡◌, ℕ, zero, suc, ◌+◌, ◌-◌, ◌<◌, true, cond, List, [], ◌∷◌, length, get_or}
+use Rattle.audit_proof.proofs.Imports.{drop, refl, sym, ap, ◌∙◌, subst, Option, Some, arith, slice_get, ◌&&◌, filter}
+use Rattle.audit_proof.proofs.Imports.{range_with_len, drop_more, get_or_from_slice_get, slice_get-get_or, Three}
+use Rattle.audit_proof.proofs.Imports.{False, Unknown, True, Contains-filter_cases, all_at, all_from_places}
+use Rattle.audit_proof.proofs.Imports.{member_at, Graph, Trees, first_value, values, Row, Kind, Formula, both, least}
+use Rattle.audit_proof.proofs.Imports.{is_false, has_kind, bind, unbound, signed, value_of, is_in, over_rows}
+use Rattle.audit_proof.proofs.Imports.{row_of_kind, same_values, Listing, Line, own_line, before_on, before_by}
+use Rattle.audit_proof.proofs.Imports.{whole_by, three_by, IsListingOf, listing_before, listing_whole, places_of}
+use Rattle.audit_proof.proofs.Imports.{at_place, over_list}
 
 -- a value that is found false is false
 pub false_is : (x : Three) → is_false x ≡ true → x ≡ False
@@ -45,7 +31,7 @@ places_within rows kind =
     (Contains-filter_cases (λ j. has_kind kind (slice_get rows j)) (range_with_len 0 (length rows)) i
     (member_at (places_of rows kind) k i at)).1)
 
--- so is one of them
+-- one of the places of a kind is that of a row
 pub place_within : (rows : List Row) (kind : Kind) (places : List ℕ) (k i : ℕ) → places ≡ places_of rows kind →
     slice_get places k ≡ Some i → i < length rows
 place_within rows kind places k i are at =
@@ -81,7 +67,7 @@ module _ (rows : List Row) (order : ℕ → ℕ → Three) (wholes : ℕ → Boo
       by (p j) (is_in order within j) (filter (λ k. p k && is_in order within k) js) (filter p js) (meant_only p js)
       refl
     where
-      -- the same by whether the place is of those, and whether it is meant
+      -- by cases: whether the place is of those, and whether it is meant
       by : (b c : Bool) (few many : List ℕ) →
           least (map f few) ≡ least (map (at_place rows order wholes some body v within env) many) →
           is_in order within j ≡ c →
@@ -97,7 +83,7 @@ module _ (rows : List Row) (order : ℕ → ℕ → Three) (wholes : ℕ → Boo
           (sym (ap (λ (c : Bool). cond c (f j) True) at))
       by false c few many rest at = rest
 
-  -- so the least over the rows of a kind is that over the list of their places
+  -- the least over the rows of a kind is that over the list of their places
   pub over_rows_by_list : (kind : Kind) →
       over_rows rows order wholes some body v kind within env
       ≡ over_list rows order wholes some body v within env (places_of rows kind)

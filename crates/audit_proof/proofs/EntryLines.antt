@@ -1,16 +1,10 @@
 -- The line of an entry, read.
-use Rattle.std.proofs.Common.{◌≡◌, ◌∙◌, ap, ℕ, ◌≤◌, Bool, true, List, sym, refl, subst, inl, arith, drop}
-use Rattle.std.specs.Prelude.{Result, Ok, Err}
-use Rattle.std.specs.List.{flat_map}
-use Rattle.precedence.specs.Graph.{Graph}
-use Rattle.audit_proof.specs.declared.step.ProofStep.{ProofStep}
-use Rattle.audit_proof.specs.declared.reading.Unread.{Unread}
-use Rattle.audit_proof.specs.declared.reading.Unread.TheVariants.{Why, Memory}
-use Rattle.audit_proof.specs.declared.lines.Entry.{Entry}
-use Rattle.audit_proof.specs.Lines.{Line, IsBegun, IsLineOf}
-use Rattle.audit_proof.specs.ProofText.{step_text, line_words}
-use Rattle.audit_proof.specs.inside.LineAnswers.{IsEntryOf, IsFinished, IsLineAnswer}
-use Rattle.audit_proof.specs.inside.Unread.{line_with, IsWordFault, IsWordsAnswer}
+use Rattle.std.proofs.Common.{Bool}
+use Rattle.audit_proof.proofs.Imports.{◌≡◌, ◌∙◌, ap, ℕ, ◌≤◌, true, List, sym, refl, subst, inl, arith, drop, Result}
+use Rattle.audit_proof.proofs.Imports.{Ok, Err, flat_map, Graph, ProofStep, Unread, Why, Entry, Line, IsBegun}
+use Rattle.audit_proof.proofs.Imports.{IsLineOf, step_text, line_words, IsEntryOf, IsFinished, IsLineAnswer}
+use Rattle.audit_proof.proofs.Imports.{line_with, IsWordFault, IsWordsAnswer}
+use Rattle.audit_proof.specs.declared.reading.Unread.TheVariants.{Memory}
 use Rattle.audit_proof.proofs.FirstFaults.{word_fault_of_line, end_fault_of_line, end_refuses, line_whole}
 use Rattle.audit_proof.proofs.LinesRead.{begun_small, line_begun}
 use Rattle.audit_proof.proofs.LineFacts.{entry_same, same_steps}

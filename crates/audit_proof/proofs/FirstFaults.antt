@@ -1,31 +1,18 @@
 -- The first cause that applies, of rows of causes; and what words say.
-use Rattle.std.proofs.Common.{◌≡◌, ℕ, ◌+◌, ◌<◌, ◌≤◌, ◌^◌, Bool, false, cond, List, [], ◌∷◌, ◌++◌}
-use Rattle.std.proofs.Common.{refl, sym, ap, ◌∙◌, subst, inl, inr, arith, take, drop, length, get_or, append-nil}
-use Rattle.std.proofs.Common.{append_assoc}
-use Rattle.std.specs.Prelude.{Result, Ok, Err, ◌==◌, not, codes}
-use Rattle.std.specs.List.{Contains, flat_map, before_first, position_or_len, prefix_len, list_any}
-use Rattle.std.specs.Fmt.{decimal}
-use Rattle.std.proofs.lemmas.Bool.{eq-eqb, ne_eqb}
-use Rattle.std.proofs.lemmas.Fmt.{decimal_injective}
-use Rattle.std.proofs.lemmas.List.{take_at, take_all, take-append-drop, drop_more}
-use Rattle.std.proofs.lemmas.List.Elements.{Contains-append_right, Contains-append_cases}
-use Rattle.std.proofs.lemmas.Option.{slice_get-get_or}
-use Rattle.entry_order.proofs.Lists.{Contains-head, Contains-later, list_any_of}
-use Rattle.entry_order.proofs.Places.{member_at}
-use Rattle.first_cause.specs.Causes.{IsFirstOf}
-use Rattle.precedence.specs.Graph.{Graph}
-use Rattle.audit_proof.specs.declared.step.ProofStep.{ProofStep}
-use Rattle.audit_proof.specs.declared.fault.ProofWhy.{ProofWhy}
-use Rattle.audit_proof.specs.declared.fault.ProofWhy.TheVariants.{Form, OutOfRange, NotRising}
-use Rattle.audit_proof.specs.declared.lines.Entry.{Entry}
-use Rattle.audit_proof.specs.Lines.{IsBegun, IsLineOf}
-use Rattle.audit_proof.specs.ProofText.{step_word, step_text, line_words, form_line, survivors_line}
-use Rattle.audit_proof.specs.Faults.{ProofCauses, SaysNumber, SaysStep, word_in, line_in, form_causes, count_causes}
-use Rattle.audit_proof.specs.Faults.{past_causes, end_causes, IsLineFault}
-use Rattle.audit_proof.specs.inside.Bytes.{HasNo, Follows}
-use Rattle.audit_proof.specs.inside.Begun.{IsWordStep}
-use Rattle.audit_proof.specs.inside.LineAnswers.{IsEntryOf, IsNoEntry}
-use Rattle.audit_proof.specs.inside.Unread.{line_with, IsWordFault}
+use Rattle.std.proofs.Common.{Bool, false}
+use Rattle.std.proofs.Common.{append-nil}
+use Rattle.audit_proof.proofs.Imports.{◌≡◌, ℕ, ◌+◌, ◌<◌, ◌≤◌, ◌^◌, cond, List, [], ◌∷◌, ◌++◌, refl, sym, ap, ◌∙◌}
+use Rattle.audit_proof.proofs.Imports.{subst, inl, inr, arith, take, drop, length, get_or, append_assoc, Result, Ok}
+use Rattle.audit_proof.proofs.Imports.{Err, ◌==◌, not, codes, Contains, flat_map, before_first, position_or_len}
+use Rattle.audit_proof.proofs.Imports.{prefix_len, list_any, decimal, eq-eqb, ne_eqb, decimal_injective, take_at}
+use Rattle.audit_proof.proofs.Imports.{take_all, take-append-drop, drop_more, Contains-append_right}
+use Rattle.audit_proof.proofs.Imports.{Contains-append_cases, slice_get-get_or, Contains-head, Contains-later}
+use Rattle.audit_proof.proofs.Imports.{list_any_of, member_at, IsFirstOf, Graph, ProofStep, ProofWhy, Form}
+use Rattle.audit_proof.proofs.Imports.{OutOfRange, NotRising, Entry, IsBegun, IsLineOf, step_word, step_text}
+use Rattle.audit_proof.proofs.Imports.{line_words, form_line, survivors_line, ProofCauses, SaysNumber, SaysStep}
+use Rattle.audit_proof.proofs.Imports.{word_in, line_in, form_causes, count_causes, past_causes, end_causes}
+use Rattle.audit_proof.proofs.Imports.{IsLineFault, HasNo, Follows, IsWordStep, IsEntryOf, IsNoEntry, line_with}
+use Rattle.audit_proof.proofs.Imports.{IsWordFault}
 use Rattle.audit_proof.proofs.Texts.{same_step, decimal_has_no}
 
 -- ---- rows
@@ -36,7 +23,7 @@ SayTheSame [] [] = Unit {0}
 SayTheSame (x ∷ xs) (y ∷ ys) = (x.1 ≡ y.1) × (x.0 → y.0) × (y.0 → x.0) × ((x.0 → ⊥) → SayTheSame xs ys)
 SayTheSame xs ys = ⊥
 
--- so they have the same first cause
+-- rows that say the same have the same first cause
 pub same_first : (xs ys : ProofCauses) → SayTheSame xs ys → (answer : Result (Unit {0}) ProofWhy) →
     IsFirstOf xs answer →
     IsFirstOf ys answer
@@ -53,7 +40,7 @@ abbrev pub NoneApplies : ProofCauses → Type 0
 NoneApplies [] = Unit {0}
 NoneApplies (x ∷ xs) = (x.0 → ⊥) × NoneApplies xs
 
--- so there is no first
+-- a row of which no cause applies has no first cause
 pub no_first : (xs : ProofCauses) → NoneApplies xs → (why : ProofWhy) → IsFirstOf xs (Err why) → ⊥
 no_first [] none why first = cc
 no_first (x ∷ xs) (fails, none) why (inl (applies, is)) = fails applies
@@ -65,7 +52,7 @@ first_of_more [] ys why first = cc
 first_of_more (x ∷ xs) ys why (inl here) = inl here
 first_of_more (x ∷ xs) ys why (inr (fails, later)) = inr (fails, first_of_more xs ys why later)
 
--- and where none of a row applies, it is that of the rest
+-- where no cause of a row applies, the first cause of a longer row is that of the rest
 pub first_of_rest : (xs ys : ProofCauses) (answer : Result (Unit {0}) ProofWhy) → IsFirstOf xs (Ok tt) →
     IsFirstOf ys answer →
     IsFirstOf (xs ++ ys) answer
@@ -75,7 +62,7 @@ first_of_rest (x ∷ xs) ys answer (inr (fails, none)) first = inr (fails, first
 
 -- ---- parts up to a byte
 
--- the byte first stands after what doesn't have it, or nowhere
+-- the byte is first after what doesn't have it, or nowhere
 first_at : (s : ℕ) (xs ys : List ℕ) → HasNo s xs → Follows s ys →
     position_or_len (λ (byte : ℕ). byte == s) (xs ++ ys) ≡ length xs
 first_at s [] [] none follows = refl
@@ -90,26 +77,26 @@ first_at s (x ∷ xs) ys none follows =
     one_more : 1 + length xs ≡ length (x ∷ xs)
     one_more = omega arith
 
--- so that is the part before it
+-- what is before a byte that it doesn't have is the part before the first such byte
 pub part_before : (s : ℕ) (xs ys : List ℕ) → HasNo s xs → Follows s ys →
     before_first (λ (byte : ℕ). byte == s) (xs ++ ys) ≡ xs
 part_before s xs ys none follows =
     ap (λ (n : ℕ). take n (xs ++ ys)) (first_at s xs ys none follows) ∙ take_at xs ys (length xs) refl
 
--- the same by the place where the byte first stands
+-- the part before the first such byte, by the place of that byte
 pub part_taken : (s : ℕ) (xs : List ℕ) (n : ℕ) → HasNo s (take n xs) → Follows s (drop n xs) →
     before_first (λ (byte : ℕ). byte == s) xs ≡ take n xs
 part_taken s xs n none follows =
     ap (before_first (λ (byte : ℕ). byte == s)) (sym (take-append-drop n xs))
     ∙ part_before s (take n xs) (drop n xs) none follows
 
--- a byte that follows stands there
+-- a byte that follows is there
 pub byte_stands : (s : ℕ) (xs : List ℕ) (n : ℕ) → n < length xs → Follows s (drop n xs) → Contains xs s
 byte_stands s xs n within follows =
     let byte : get_or xs n 0 ≡ s = subst (Follows s) (drop_more xs n 0 within) follows in
     subst (Contains xs) byte (member_at xs n (get_or xs n 0) (slice_get-get_or xs n 0 within))
 
--- and one that nothing is before doesn't
+-- a byte isn't in a list if it isn't in its first bytes and there are no more
 pub byte_stands_not : (s : ℕ) (xs : List ℕ) (n : ℕ) → length xs ≤ n → HasNo s (take n xs) → Contains xs s → ⊥
 byte_stands_not s xs n over none c = subst (HasNo s) (take_all n xs over) none s c refl
 
@@ -125,17 +112,18 @@ module _ (Holds : ℕ → Type 0) (word : List ℕ) (number : ℕ) (small : numb
   pub says_number : Holds number → SaysNumber Holds word
   says_number holds = (number, small, is, holds)
 
-  -- and nothing else
+  -- a number's text says nothing that doesn't hold of the number
   pub said_number : SaysNumber Holds word → Holds number
   said_number (other, low, also, holds) =
       subst Holds (decimal_injective other number (omega (arith, low)) (omega (arith, small)) (sym also ∙ is)) holds
 
 module _ (Holds : ProofStep → Type 0) (word : List ℕ) (step : ProofStep) (small : IsWordStep step)
     (is : word ≡ step_word step) where
-  -- so with a step's text
+  -- a step's text says what holds of the step
   pub says_step : Holds step → SaysStep Holds word
   says_step holds = (step, small.0, small.1, is, holds)
 
+  -- a step's text says nothing that doesn't hold of the step
   pub said_step : SaysStep Holds word → Holds step
   said_step (other, low_ancestor, low_via, also, holds) =
       subst Holds
@@ -205,7 +193,7 @@ module _ (graph : Graph) (Rises : ℕ → Type 0) (line : List ℕ) where
   no_entry_fault (inr (past, none)) = inr ((λ other. other past), inl (none, refl))
 
   module _ (entry : Entry) (is : IsEntryOf line entry) where
-    -- `past` stands in front
+    -- `past` is in front
     past_is : take 5 line ≡ codes "past "
     past_is = ap (take 5) is.text
 
@@ -264,7 +252,7 @@ module _ (graph : Graph) (Rises : ℕ → Type 0) (line : List ℕ) where
         ∙ ap (λ (xs : List ℕ). codes "past " ++ xs)
         (sym (append_assoc (decimal entry.number) (flat_map step_text steps) more))
 
-    -- with nothing more it is whole
+    -- with nothing more it is complete
     pub line_whole : (steps : List ProofStep) → drop entry.end line ≡ flat_map step_text steps →
         line ≡ line_words (line_with entry.number steps)
     line_whole steps rest =
@@ -277,7 +265,7 @@ module _ (graph : Graph) (Rises : ℕ → Type 0) (line : List ℕ) where
     word_fault_of_line IsEnded why rises (steps, more, text, begun, first) =
         inr (line_with entry.number steps, begun, rises, inl (more, line_from steps (32 ∷ more) text, first))
 
-    -- and so is that of its end
+    -- the fault of a line's end, after all its steps, is the line's
     pub end_fault_of_line : (IsEnded : Type 0) (why : ProofWhy) → Rises entry.number → (steps : List ProofStep) →
         drop entry.end line ≡ flat_map step_text steps → IsBegun graph (line_with entry.number steps) →
         IsFirstOf (end_causes graph (line_with entry.number steps) IsEnded) (Err why) →
@@ -292,7 +280,7 @@ module _ (graph : Graph) (Rises : ℕ → Type 0) (line : List ℕ) where
 
 -- ---- a line among others
 
--- a line's fault by what is the same of its entry and its end
+-- a line keeps its fault where what is asked of its entry and of its end means the same
 pub same_line_fault : (graph : Graph) (Rises Above : ℕ → Type 0) (line : List ℕ) (IsEnded HasEnd : Type 0)
     (why : ProofWhy) → ((n : ℕ) → Rises n → Above n) → ((n : ℕ) → Above n → Rises n) → (IsEnded → HasEnd) →
     (HasEnd → IsEnded) → IsLineFault graph Rises line IsEnded why → IsLineFault graph Above line HasEnd why

@@ -1,19 +1,10 @@
 -- The first two lines of a proof's text, read.
-use Rattle.std.proofs.Common.{◌≡◌, ℕ, ◌+◌, ◌<◌, ◌≤◌, ◌^◌, List, [], ◌∷◌, ◌++◌, append_assoc}
-use Rattle.std.proofs.Common.{refl, sym, ap, ◌∙◌, subst, inl, inr, arith, take, drop, length, get_or}
-use Rattle.std.specs.Prelude.{codes, Ok, Err}
-use Rattle.std.specs.List.{Contains, flat_map}
-use Rattle.std.specs.Fmt.{decimal}
-use Rattle.std.proofs.lemmas.List.{take-append-drop, take_all, drop_more}
-use Rattle.first_cause.specs.Causes.{IsFirstOf}
-use Rattle.precedence.specs.Graph.{Graph}
-use Rattle.audit_proof.specs.declared.fault.ProofWhy.{ProofWhy}
-use Rattle.audit_proof.specs.declared.fault.ProofWhy.TheVariants.{Form, WrongCount}
-use Rattle.audit_proof.specs.declared.fault.ProofFault.TheVariants.{At}
-use Rattle.audit_proof.specs.ProofText.{line_text, form_line, survivors_line, head_text}
-use Rattle.audit_proof.specs.Faults.{line_in, word_in, SaysNumber, form_causes, survivors_causes, count_causes}
-use Rattle.audit_proof.specs.Reads.{IsReadAnswer}
-use Rattle.audit_proof.specs.inside.Bytes.{HasNo, Follows}
+use Rattle.audit_proof.proofs.Imports.{◌≡◌, ℕ, ◌+◌, ◌<◌, ◌≤◌, ◌^◌, List, [], ◌∷◌, ◌++◌, append_assoc, refl, sym, ap}
+use Rattle.audit_proof.proofs.Imports.{◌∙◌, subst, inl, inr, arith, take, drop, length, get_or, codes, Ok, Err}
+use Rattle.audit_proof.proofs.Imports.{Contains, flat_map, decimal, take-append-drop, take_all, drop_more, IsFirstOf}
+use Rattle.audit_proof.proofs.Imports.{Graph, ProofWhy, Form, WrongCount, At, line_text, form_line, survivors_line}
+use Rattle.audit_proof.proofs.Imports.{head_text, line_in, word_in, SaysNumber, form_causes, survivors_causes}
+use Rattle.audit_proof.proofs.Imports.{count_causes, IsReadAnswer, HasNo, Follows}
 use Rattle.audit_proof.proofs.FirstFaults.{no_first, first_of_more, first_of_rest, part_taken, byte_stands}
 use Rattle.audit_proof.proofs.FirstFaults.{byte_stands_not}
 use Rattle.audit_proof.proofs.FirstFaults.{says_number, said_number, form_good, count_good}
@@ -121,7 +112,7 @@ module _ (words : List ℕ) (end count : ℕ) (within : end ≤ length words) (n
       the_number : SaysNumber (λ n. n ≡ count) (word_in words)
       the_number = says_number (λ n. n ≡ count) (word_in words) number small (number_word ∙ is) wanted
 
-      -- and more
+      -- the wanted number with more after it isn't of the form
       pub number_and_more : end < length words → IsFirstOf (survivors_causes count words) (Err Form)
       number_and_more inside =
           inr (
@@ -133,7 +124,7 @@ module _ (words : List ℕ) (end count : ℕ) (within : end ≤ length words) (n
             ),
           )
 
-      -- and nothing more
+      -- the wanted number with nothing after it has no fault
       pub number_alone : length words ≤ end → IsFirstOf (survivors_causes count words) (Ok tt)
       number_alone over =
           inr (
@@ -158,7 +149,7 @@ no_form graph bytes why first = (
       (text ∙ append_assoc form_line (survivors_line graph.count) (flat_map line_text lines))) why first,
 )
 
--- and without the second there is none
+-- without the second line there is no proof
 pub no_count : (graph : Graph) → graph.count ≤ 16384 → (bytes rest : List ℕ) (why : ProofWhy) →
     bytes ≡ form_line ++ rest → IsFirstOf (count_causes graph.count rest) (Err why) →
     IsReadAnswer graph bytes (Err (At 2 why))

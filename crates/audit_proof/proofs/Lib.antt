@@ -1,3 +1,4 @@
+mod Imports
 pub mod Ancestries
 pub mod Trusted
 pub mod Listings

@@ -1,25 +1,13 @@
 -- A line of a proof's text, read.
-use Rattle.std.proofs.Common.{◌≡◌, ◌≢◌, ℕ, ◌+◌, ◌-◌, ◌<◌, ◌≤◌, ◌^◌, true, List, [], ◌∷◌, ◌++◌}
-use Rattle.std.proofs.Common.{refl, sym, ap, ◌∙◌, subst, inl, inr, arith, take, drop, length, append-nil}
-use Rattle.std.specs.Prelude.{codes, ◌==◌, slice_index_or, Bool, false}
-use Rattle.std.specs.List.{Contains, flat_map, list_all}
-use Rattle.std.specs.Fmt.{decimal}
-use Rattle.std.proofs.lemmas.Bool.{eqb-true, eq-eqb}
-use Rattle.std.proofs.lemmas.Fmt.{decimal_injective}
-use Rattle.std.proofs.lemmas.List.{take-append-drop, drop-drop, take_all}
-use Rattle.entry_order.proofs.Lists.{list_any_some, list_any_of}
-use Rattle.entry_order.proofs.Settled.{list_all_each, list_all_from_each}
-use Rattle.precedence.specs.Graph.{Graph}
-use Rattle.audit_proof.specs.declared.step.ProofStep.{ProofStep}
-use Rattle.audit_proof.specs.declared.lines.Entry.{Entry}
-use Rattle.audit_proof.specs.Lines.{Line, listed_in, LacksNoParent}
-use Rattle.audit_proof.specs.ProofText.{step_text, line_words}
-use Rattle.audit_proof.specs.inside.Bytes.{HasNo, Follows}
-use Rattle.audit_proof.specs.inside.Begun.{IsListedTable}
-use Rattle.audit_proof.specs.inside.Closed.{closed_at}
-use Rattle.audit_proof.specs.Faults.{word_in}
-use Rattle.audit_proof.specs.inside.LineAnswers.{IsEntryOf, IsNoEntry}
-use Rattle.audit_proof.specs.inside.Unread.{line_with}
+use Rattle.audit_proof.proofs.Imports.{◌≡◌, ◌≢◌, ℕ, ◌+◌, ◌-◌, ◌<◌, ◌≤◌, ◌^◌, true, List, [], ◌∷◌, ◌++◌, refl, sym, ap}
+use Rattle.audit_proof.proofs.Imports.{◌∙◌, subst, inl, inr, arith, take, drop, length, codes, ◌==◌, slice_index_or}
+use Rattle.audit_proof.proofs.Imports.{Contains, flat_map, list_all, decimal, eqb-true, eq-eqb, decimal_injective}
+use Rattle.audit_proof.proofs.Imports.{take-append-drop, drop-drop, take_all, list_any_some, list_any_of}
+use Rattle.audit_proof.proofs.Imports.{list_all_each, list_all_from_each, Graph, ProofStep, Entry, Line, listed_in}
+use Rattle.audit_proof.proofs.Imports.{LacksNoParent, step_text, line_words, HasNo, Follows, IsListedTable, closed_at}
+use Rattle.audit_proof.proofs.Imports.{word_in, IsEntryOf, IsNoEntry, line_with}
+use Rattle.std.proofs.Common.{append-nil}
+use Rattle.std.specs.Prelude.{Bool, false}
 use Rattle.audit_proof.proofs.FirstFaults.{says_number, part_before, part_taken}
 use Rattle.audit_proof.proofs.Texts.{AreSmall, prefix_steps, same_word, decimal_has_no}
 
@@ -39,7 +27,7 @@ listed_from_each steps listed table numbers each =
 
 module _ (graph : Graph) (entry : ℕ) (steps : List ProofStep) (listed : List Bool)
     (table : IsListedTable steps listed) where
-  -- where no parent of the entry and of its ancestors is lacking the line is closed
+  -- where no parent of the entry or of its ancestors is missing the line is closed
   pub closed_line : closed_at listed (graph.parents entry) ≡ true →
       list_all (λ y. closed_at listed (graph.parents y)) (listed_in steps) ≡ true →
       LacksNoParent graph (line_with entry steps)
@@ -50,7 +38,7 @@ module _ (graph : Graph) (entry : ℕ) (steps : List ProofStep) (listed : List B
       listed_each steps listed table (graph.parents x)
       (list_all_each (λ y. closed_at listed (graph.parents y)) (listed_in steps) each x there) p c
 
-  -- and the other way round
+  -- on a closed line each parent of the entry is in the table
   pub line_own : LacksNoParent graph (line_with entry steps) → closed_at listed (graph.parents entry) ≡ true
   line_own closed = listed_from_each steps listed table (graph.parents entry) (λ p c. closed entry p (inl refl) c)
 

@@ -1,29 +1,19 @@
 -- A line's words, read one by one.
-use Rattle.std.proofs.Common.{◌≡◌, ℕ, zero, suc, ◌+◌, ◌-◌, ◌<◌, ◌≤◌, ◌^◌, Bool, true, false, List, [], ◌∷◌, ◌++◌}
-use Rattle.std.proofs.Common.{refl, sym, ap, ◌∙◌, subst, inl, inr, arith, take, drop, length, get_or, Some}
-use Rattle.std.proofs.Common.{append_assoc}
+use Rattle.std.proofs.Common.{Bool, false}
+use Rattle.audit_proof.proofs.Imports.{◌≡◌, ℕ, zero, suc, ◌+◌, ◌-◌, ◌<◌, ◌≤◌, ◌^◌, true, List, [], ◌∷◌, ◌++◌, refl}
+use Rattle.audit_proof.proofs.Imports.{sym, ap, ◌∙◌, subst, inl, inr, arith, take, drop, length, get_or, Some}
+use Rattle.audit_proof.proofs.Imports.{append_assoc, slice_get, slice_set, ◌⊎◌, ◌==◌, Err, Contains, flat_map}
+use Rattle.audit_proof.proofs.Imports.{list_any, cases_eq, cases_lt, false≢true, eqb-true, eq-eqb, take-append-drop}
+use Rattle.audit_proof.proofs.Imports.{drop_more, drop-drop, length-set, get_or-set_same, get_or-set_other}
+use Rattle.audit_proof.proofs.Imports.{get_or_past, flat_map-append, all_pairs_push, slice_get-get_or}
+use Rattle.audit_proof.proofs.Imports.{slice_get_within, Contains-map_cases, list_any_some, list_any_of, place_of}
+use Rattle.audit_proof.proofs.Imports.{last_at, all_at, all_from_places, IsFirstOf, Graph, ProofStep, ProofWhy, Form}
+use Rattle.audit_proof.proofs.Imports.{OutOfRange, NotFalling, NotReached, NotParent, Line, listed_in, IsOnLine}
+use Rattle.audit_proof.proofs.Imports.{IsReached, IsBegun, IsLineOf, step_word, step_text, ProofCauses, SaysStep}
+use Rattle.audit_proof.proofs.Imports.{ancestor_causes, HasNo, Follows, IsWordStep, GoesOn, IsReading, IsNextWord}
+use Rattle.audit_proof.proofs.Imports.{IsListedTable, step_tests, line_with, IsWordFault}
 use Rattle.std.proofs.Common.{append-nil}
-use Rattle.std.specs.Prelude.{slice_get, slice_set, ◌⊎◌, ◌==◌, All, Err}
-use Rattle.std.specs.List.{Contains, flat_map, list_any}
-use Rattle.std.proofs.lemmas.Bool.{cases_eq, cases_lt, false≢true, eqb-true, eq-eqb}
-use Rattle.std.proofs.lemmas.List.{take-append-drop, drop_more, drop-drop, length-set, get_or-set_same}
-use Rattle.std.proofs.lemmas.List.{get_or-set_other, get_or_past}
-use Rattle.std.proofs.lemmas.List.Concat.{flat_map-append}
-use Rattle.std.proofs.lemmas.List.Quantifiers.{all_pairs_push}
-use Rattle.std.proofs.lemmas.Option.{slice_get-get_or, slice_get_within}
-use Rattle.entry_order.proofs.Lists.{Contains-map_cases, list_any_some, list_any_of}
-use Rattle.entry_order.proofs.Places.{place_of, last_at, all_at, all_from_places}
-use Rattle.first_cause.specs.Causes.{IsFirstOf}
-use Rattle.precedence.specs.Graph.{Graph}
-use Rattle.audit_proof.specs.declared.step.ProofStep.{ProofStep}
-use Rattle.audit_proof.specs.declared.fault.ProofWhy.{ProofWhy}
-use Rattle.audit_proof.specs.declared.fault.ProofWhy.TheVariants.{Form, OutOfRange, NotFalling, NotReached, NotParent}
-use Rattle.audit_proof.specs.Lines.{Line, listed_in, IsOnLine, IsReached, IsBegun, IsLineOf}
-use Rattle.audit_proof.specs.ProofText.{step_word, step_text}
-use Rattle.audit_proof.specs.Faults.{ProofCauses, SaysStep, ancestor_causes}
-use Rattle.audit_proof.specs.inside.Bytes.{HasNo, Follows}
-use Rattle.audit_proof.specs.inside.Begun.{IsWordStep, GoesOn, IsReading, IsNextWord, IsListedTable, step_tests}
-use Rattle.audit_proof.specs.inside.Unread.{line_with, IsWordFault}
+use Rattle.std.specs.Prelude.{All}
 use Rattle.audit_proof.proofs.LongerLines.{step_on_line, reached_on_line, on_more, listed_new, more_on, reach_more}
 use Rattle.audit_proof.proofs.LongerLines.{reach_new}
 use Rattle.audit_proof.proofs.LongerLines.{push_places}
@@ -32,21 +22,21 @@ use Rattle.audit_proof.proofs.Listings.{pair_at}
 use Rattle.audit_proof.proofs.Ancestries.{same_test}
 use Rattle.audit_proof.proofs.Texts.{AreSmall, prefix_steps, same_word, step_has_no}
 
--- what stands in the first of two lists stands there in both
+-- what is at a place of the first of two lists is there in both together
 pub at_front : (xs ys : List ProofStep) (k : ℕ) (x : ProofStep) → slice_get xs k ≡ Some x →
     slice_get (xs ++ ys) k ≡ Some x
 at_front [] ys k x at = cc
 at_front (y ∷ xs) ys zero x at = at
 at_front (y ∷ xs) ys (suc k) x at = at_front xs ys k x at
 
--- and what stands in both before the first's end stands in it
+-- what is in two lists together before the first one's end is in the first
 pub in_front : (xs ys : List ProofStep) (k : ℕ) (x : ProofStep) → k < length xs → slice_get (xs ++ ys) k ≡ Some x →
     slice_get xs k ≡ Some x
 in_front [] ys k x low at = absurd (omega (arith, low))
 in_front (y ∷ xs) ys zero x low at = at
 in_front (y ∷ xs) ys (suc k) x low at = in_front xs ys k x (omega (arith, low)) at
 
--- after the first stands the second's first
+-- the first element of the second list comes right after the first list
 pub at_seam : (xs ys : List ProofStep) (x : ProofStep) → slice_get (xs ++ x ∷ ys) (length xs) ≡ Some x
 at_seam [] ys x = refl
 at_seam (y ∷ xs) ys x = at_seam xs ys x
@@ -96,7 +86,7 @@ module _ (graph : Graph) (few : graph.count ≤ 16384) (entry : ℕ) where
         begun.inside s.via (reached_on_line (line_with entry steps) k s.via (begun.reached k s at)),
       ))
 
-  -- and a whole line has begun
+  -- a complete line has begun
   pub line_begun : (steps : List ProofStep) → IsLineOf graph (line_with entry steps) →
       IsBegun graph (line_with entry steps)
   line_begun steps is = is.begun
@@ -127,7 +117,7 @@ module _ (graph : Graph) (few : graph.count ≤ 16384) (entry : ℕ) where
         (sym is ∙ reading.text) in
         by more are (text ∙ left_is) small
       where
-        -- the same by the steps that follow
+        -- by cases: the steps that follow
         by : (more : List ProofStep) → all ≡ steps ++ more → flat_map step_text more ≡ 32 ∷ (word ++ drop end words) →
             AreSmall all →
             (step : ProofStep) × IsWordStep step × (word ≡ step_word step) × GoesOn graph reached bound step
@@ -204,7 +194,7 @@ module _ (graph : Graph) (few : graph.count ≤ 16384) (entry : ℕ) where
     form_fault none =
         word_fault Form (inl (λ says. none says.0 ((says.1, says.2), says.3), refl))
 
-    -- and a step's first cause by the tables is that of its word
+    -- a step's first cause by the tables is that of its word
     pub step_fault : (step : ProofStep) → IsWordStep step → word ≡ step_word step → (why : ProofWhy) →
         IsFirstOf (step_tests graph reached bound step) (Err why) → IsWordFault graph entry words why
     step_fault step small is why first =

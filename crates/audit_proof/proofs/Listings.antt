@@ -1,24 +1,17 @@
 -- Tables of a proof's lines, step by step.
-use Rattle.std.proofs.Common.{◌≡◌, ◌≢◌, ℕ, zero, suc, ◌+◌, ◌-◌, ◌<◌, ◌≤◌, Bool, true, false, cond, List, [], ◌∷◌, ◌++◌}
-use Rattle.std.proofs.Common.{length, get_or, take, drop, refl, sym, ap, ◌∙◌, subst, inl, inr, Option, Some, None}
-use Rattle.std.proofs.Common.{arith, append_assoc, replicate, ◌||◌}
-use Rattle.std.specs.Prelude.{slice_get, slice_set, not, ◌==◌, ◌&&◌, AllPairs}
-use Rattle.std.specs.Option.{option_or}
-use Rattle.std.specs.List.{filter, range_with_len, list_any, list_all}
-use Rattle.std.proofs.lemmas.List.{drop_more, get_or-set_same, get_or-set_other, length-set, length-replicate}
-use Rattle.std.proofs.lemmas.List.{get_or-replicate}
-use Rattle.std.proofs.lemmas.List.Folds.{find-append}
-use Rattle.std.proofs.lemmas.Option.{slice_get_past, slice_get_within, get_or_from_slice_get, same_Some}
-use Rattle.std.proofs.lemmas.Bool.{eqb-true, eq-eqb, ne_eqb, cases_eq, cases_lt}
-use Rattle.entry_order.proofs.Lists.{Contains-map_cases, list_any_some}
-use Rattle.entry_order.proofs.Places.{place_of, taken_more}
-use Rattle.audit_proof.specs.declared.step.ProofStep.{ProofStep}
-use Rattle.audit_proof.specs.Lines.{Line, listed_in}
-use Rattle.audit_proof.specs.KnownBy.{own_line, is_whole_line}
-use Rattle.audit_proof.specs.inside.Falls.{Falls}
+use Rattle.std.proofs.Common.{Bool, false}
+use Rattle.audit_proof.proofs.Imports.{◌≡◌, ◌≢◌, ℕ, zero, suc, ◌+◌, ◌-◌, ◌<◌, ◌≤◌, true, cond, List, [], ◌∷◌, ◌++◌}
+use Rattle.audit_proof.proofs.Imports.{length, get_or, take, drop, refl, sym, ap, ◌∙◌, subst, inl, inr, Option, Some}
+use Rattle.audit_proof.proofs.Imports.{None, arith, append_assoc, replicate, ◌||◌, slice_get, slice_set, not, ◌==◌}
+use Rattle.audit_proof.proofs.Imports.{◌&&◌, AllPairs, option_or, filter, range_with_len, list_any, list_all}
+use Rattle.audit_proof.proofs.Imports.{drop_more, get_or-set_same, get_or-set_other, length-set, length-replicate}
+use Rattle.audit_proof.proofs.Imports.{get_or-replicate, find-append, slice_get_past, slice_get_within}
+use Rattle.audit_proof.proofs.Imports.{get_or_from_slice_get, same_Some, eqb-true, eq-eqb, ne_eqb, cases_eq, cases_lt}
+use Rattle.audit_proof.proofs.Imports.{Contains-map_cases, list_any_some, place_of, taken_more, ProofStep, Line}
+use Rattle.audit_proof.proofs.Imports.{listed_in, own_line, is_whole_line, Falls}
 use Rattle.audit_proof.proofs.Trusted.{line_found}
 
--- in a list whose pairs are related, so are what stands at two places
+-- in a list whose pairs are related, what is at two places is related
 pub pair_at : {X : Type 0} (R : X → X → Type 0) (xs : List X) (i j : ℕ) (x y : X) → AllPairs R xs → i < j →
     slice_get xs i ≡ Some x → slice_get xs j ≡ Some y → R x y
 pair_at R xs i j x y all less at_i at_j =
@@ -27,7 +20,7 @@ pair_at R xs i j x y all less at_i at_j =
     subst (λ z. R z y) (get_or_from_slice_get xs i x x at_i)
     (subst (λ z. R (get_or xs i x) z) (get_or_from_slice_get xs j y x at_j) related)
 
--- what stands at a place of the first ones stands there in the list
+-- what is at a place of the first ones is there in the list
 pub taken_at : {X : Type 0} (xs : List X) (k j : ℕ) (x : X) → slice_get (take k xs) j ≡ Some x →
     (j < k) × (slice_get xs j ≡ Some x)
 taken_at [] zero j x at = cc
@@ -64,7 +57,7 @@ module _ (ragged : ℕ → Bool) (steps : List ProofStep) (i : ℕ) (step : Proo
 -- ---- searching steps that fall
 
 module _ (steps : List ProofStep) (y : ℕ) where
-  -- y stands at no place before `low` and at none from `high` on
+  -- y is at no place before `low` and at none from `high` on
   abbrev pub StandsBetween : ℕ → ℕ → Type 0
   StandsBetween low high =
       (low ≤ high) × (high ≤ length steps)
@@ -124,7 +117,7 @@ module _ (steps : List ProofStep) (y : ℕ) where
                   omega (arith, above, less)
             ]
 
-    -- and below y before it
+    -- below y the search goes on before the middle
     pub go_down : step.ancestor < y → StandsBetween low middle
     go_down under = (
       inside,

@@ -1,16 +1,10 @@
 -- A line with one step more.
-use Rattle.std.proofs.Common.{◌≡◌, ℕ, zero, suc, List, [], ◌∷◌, ◌++◌, refl, sym, ap, subst, inl, inr, length, Some}
-use Rattle.std.specs.Prelude.{slice_get, ◌⊎◌}
-use Rattle.std.specs.List.{Contains}
-use Rattle.std.proofs.lemmas.List.{map-append}
-use Rattle.std.proofs.lemmas.List.Elements.{Contains-append_cases, Contains-append_left, Contains-append_right}
-use Rattle.std.proofs.lemmas.Option.{slice_get_within, same_Some}
-use Rattle.entry_order.proofs.Lists.{Contains-none, Contains-head, Contains-cons_cases, Contains-map}
-use Rattle.entry_order.proofs.Lists.{Contains-map_cases}
-use Rattle.entry_order.proofs.Places.{member_at, place_of, push_before}
-use Rattle.audit_proof.specs.declared.step.ProofStep.{ProofStep}
-use Rattle.audit_proof.specs.Lines.{Line, listed_in, IsOnLine, IsReached}
-use Rattle.audit_proof.specs.inside.Unread.{line_with}
+use Rattle.audit_proof.proofs.Imports.{◌≡◌, ℕ, zero, suc, List, [], ◌∷◌, ◌++◌, refl, sym, ap, subst, inl, inr, length}
+use Rattle.audit_proof.proofs.Imports.{Some, slice_get, ◌⊎◌, Contains, map-append, Contains-append_cases}
+use Rattle.audit_proof.proofs.Imports.{Contains-append_left, Contains-append_right, slice_get_within, same_Some}
+use Rattle.audit_proof.proofs.Imports.{Contains-none, Contains-head, Contains-cons_cases, Contains-map}
+use Rattle.audit_proof.proofs.Imports.{Contains-map_cases, member_at, place_of, push_before, ProofStep, Line}
+use Rattle.audit_proof.proofs.Imports.{listed_in, IsOnLine, IsReached, line_with}
 
 -- a listed ancestor is on the line
 pub step_on_line : (line : Line) (k : ℕ) (step : ProofStep) → slice_get line.steps k ≡ Some step →
@@ -18,13 +12,13 @@ pub step_on_line : (line : Line) (k : ℕ) (step : ProofStep) → slice_get line
 step_on_line line k step at =
     inr (Contains-map (λ (s : ProofStep). s.ancestor) line.steps step (member_at line.steps k step at))
 
--- and so is what was reached before a step
+-- what was reached before a step is on the line
 pub reached_on_line : (line : Line) (k x : ℕ) → IsReached line k x → IsOnLine line x
 reached_on_line line k x (inl same) = inl same
 reached_on_line line k x (inr (j, earlier, low, at, same)) =
     subst (IsOnLine line) same (step_on_line line j earlier at)
 
--- what stands in a longer list stood in the shorter, or is the new one at the end
+-- what is in a longer list was in the shorter, or is the new one at the end
 pub push_places : {X : Type 0} (xs : List X) (y : X) (i : ℕ) (x : X) → slice_get (xs ++ y ∷ []) i ≡ Some x →
     (slice_get xs i ≡ Some x) ⊎ ((i ≡ length xs) × (y ≡ x))
 push_places [] y zero x at = inr (refl, same_Some y x at)
@@ -59,7 +53,7 @@ module _ (entry : ℕ) (steps : List ProofStep) (step : ProofStep) where
       subst (λ (xs : List ℕ). Contains xs x) (sym (map-append (λ (s : ProofStep). s.ancestor) steps (step ∷ [])))
       (Contains-append_left (listed_in steps) (step.ancestor ∷ []) x c)
 
-  -- and so is the new ancestor
+  -- the new ancestor is listed on the longer line
   pub listed_new : Contains (listed_in more) step.ancestor
   listed_new =
       subst (λ (xs : List ℕ). Contains xs step.ancestor)

@@ -1,31 +1,17 @@
 -- A text has one first fault.
-use Rattle.std.proofs.Common.{◌≡◌, ◌≢◌, ℕ, zero, suc, ◌+◌, ◌<◌, ◌≤◌, ◌^◌, List, [], ◌∷◌, ◌++◌, refl, sym}
-use Rattle.std.proofs.Common.{ap, ◌∙◌, subst}
-use Rattle.std.proofs.Common.{inl, inr, arith, append_assoc, append-nil, take, drop, length, Some}
-use Rattle.std.specs.Prelude.{◌⊎◌, slice_get, codes, All, Result, Ok, Err}
-use Rattle.std.specs.List.{Contains, flat_map}
-use Rattle.std.specs.Fmt.{decimal}
-use Rattle.std.proofs.lemmas.Fmt.{decimal_injective}
-use Rattle.std.proofs.lemmas.List.Elements.{Contains-append_right}
-use Rattle.std.proofs.lemmas.Option.{slice_get_within}
-use Rattle.entry_order.proofs.Lists.{Contains-head}
-use Rattle.entry_order.proofs.Places.{all_at, all_from_places}
-use Rattle.first_cause.specs.Causes.{IsFirstOf}
-use Rattle.first_cause.proofs.Rows.{one_first}
-use Rattle.precedence.specs.Graph.{Graph}
-use Rattle.audit_proof.specs.declared.step.ProofStep.{ProofStep}
-use Rattle.audit_proof.specs.declared.fault.ProofWhy.{ProofWhy}
-use Rattle.audit_proof.specs.declared.fault.ProofFault.{ProofFault}
-use Rattle.audit_proof.specs.declared.fault.ProofFault.TheVariants.{At, Memory}
-use Rattle.audit_proof.specs.Lines.{Line, IsOnLine, IsReached, IsBegun, IsLineOf, IsProofOf}
-use Rattle.audit_proof.specs.ProofText.{step_text, step_word, line_words, line_text, form_line, survivors_line}
-use Rattle.audit_proof.specs.ProofText.{head_text, proof_text}
-use Rattle.audit_proof.specs.Faults.{word_in, line_in, form_causes, count_causes, past_causes, ancestor_causes}
-use Rattle.audit_proof.specs.Faults.{end_causes, IsLineFault, IsFirstFault}
-use Rattle.audit_proof.specs.Reads.{IsReadAnswer}
-use Rattle.audit_proof.specs.inside.Begun.{IsWordStep}
-use Rattle.audit_proof.specs.inside.Bytes.{Follows}
-use Rattle.audit_proof.specs.inside.Unread.{line_with}
+use Rattle.audit_proof.proofs.Imports.{◌≡◌, ◌≢◌, ℕ, zero, suc, ◌+◌, ◌<◌, ◌≤◌, ◌^◌, List, [], ◌∷◌, ◌++◌, refl, sym, ap}
+use Rattle.audit_proof.proofs.Imports.{◌∙◌, subst, inl, inr, arith, append_assoc, take, drop, length, Some, ◌⊎◌}
+use Rattle.audit_proof.proofs.Imports.{slice_get, codes, Result, Ok, Err, Contains, flat_map, decimal}
+use Rattle.audit_proof.proofs.Imports.{decimal_injective, Contains-append_right, slice_get_within, Contains-head}
+use Rattle.audit_proof.proofs.Imports.{all_at, all_from_places, IsFirstOf, one_first, Graph, ProofStep, ProofWhy}
+use Rattle.audit_proof.proofs.Imports.{ProofFault, At, Line, IsOnLine, IsReached, IsBegun, IsLineOf, IsProofOf}
+use Rattle.audit_proof.proofs.Imports.{step_text, step_word, line_words, line_text, form_line, survivors_line}
+use Rattle.audit_proof.proofs.Imports.{head_text, proof_text, word_in, line_in, form_causes, count_causes}
+use Rattle.audit_proof.proofs.Imports.{past_causes, ancestor_causes, end_causes, IsLineFault, IsFirstFault}
+use Rattle.audit_proof.proofs.Imports.{IsReadAnswer, IsWordStep, Follows, line_with}
+use Rattle.std.proofs.Common.{append-nil}
+use Rattle.std.specs.Prelude.{All}
+use Rattle.audit_proof.specs.declared.fault.ProofFault.TheVariants.{Memory}
 use Rattle.audit_proof.proofs.Canonicals.{one_proof}
 use Rattle.audit_proof.proofs.FirstFaults.{NoneApplies, no_first, part_before, says_number, says_step}
 use Rattle.audit_proof.proofs.FirstFaults.{form_good, count_good}
@@ -38,7 +24,7 @@ use Rattle.audit_proof.proofs.Texts.{steps_follow, decimal_has_no}
 
 -- ---- two beginnings of one text
 
--- of two lists that stand in front of one list, one begins with the other
+-- of two lists that are in front of one list, one begins with the other
 abbrev AreAligned : {X : Type 0} → (X → List ℕ) → List X → List X → List ℕ → List ℕ → Type 0
 AreAligned {X} text xs ys u v =
     ((more : List X) × (ys ≡ xs ++ more) × (u ≡ flat_map text more ++ v))
@@ -90,12 +76,12 @@ line_same : (a b : Line) → a.entry ≡ b.entry → a.steps ≡ b.steps → a �
 line_same a b entries steps =
     ap (λ (n : ℕ). line_with n a.steps) entries ∙ ap (line_with b.entry) steps
 
--- after lines stands the next
+-- right after lines comes the next
 line_seam : (xs ys : List Line) (l : Line) → slice_get (xs ++ l ∷ ys) (length xs) ≡ Some l
 line_seam [] ys l = refl
 line_seam (x ∷ xs) ys l = line_seam xs ys l
 
--- and what stood among them stands there still
+-- a line among the first ones is among all at the same place
 line_front : (xs ys : List Line) (k : ℕ) (l : Line) → slice_get xs k ≡ Some l → slice_get (xs ++ ys) k ≡ Some l
 line_front [] ys k l at = cc
 line_front (x ∷ xs) ys zero l at = at
@@ -139,7 +125,7 @@ module _ (graph : Graph) (few : graph.count ≤ 16384) where
         ),
       )
 
-  -- nor has the word of a step with which it goes on
+  -- the word of a step with which a line goes on has no fault
   word_good : (entry : ℕ) (steps : List ProofStep) (t : ProofStep) (ts : List ProofStep) (more rest : List ℕ) →
       IsBegun graph (line_with entry (steps ++ t ∷ ts)) → Follows 32 rest →
       32 ∷ more ≡ flat_map step_text (t ∷ ts) ++ rest →
@@ -288,7 +274,7 @@ module _ (graph : Graph) (few : graph.count ≤ 16384) where
         by (shorter t ts same rest) = cc
         by (longer t ts same rest) = cc
 
-    -- a line's beginning has no fault where one of what follows is told
+    -- a line's beginning has no fault where one of what follows is reported
     not_past : (begun : Line) (why other : ProofWhy) → IsBegun graph begun → Rises begun.entry →
         FollowsWith begun other → IsFirstOf (past_causes graph Rises line) (Err why) → ⊥
     not_past begun why other is rises (inl (more, text, _)) first =
@@ -309,7 +295,7 @@ module _ (graph : Graph) (few : graph.count ≤ 16384) where
     one_line_fault why other (inr (a, is_a, rises_a, follows)) (inr (b, is_b, rises_b, also)) =
         one_following a b why other is_a is_b follows also
 
-  -- and a whole line that rises and is ended has none
+  -- a complete line that rises and is ended has no fault
   no_line_fault : (Rises : ℕ → Type 0) (line : Line) (IsEnded : Type 0) (why : ProofWhy) → IsLineOf graph line →
       Rises line.entry → IsEnded → IsLineFault graph Rises (line_words line) IsEnded why → ⊥
   no_line_fault Rises line IsEnded why is rises ended (inl first) =
@@ -394,7 +380,7 @@ module _ (graph : Graph) (few : graph.count ≤ 16384) where
   one_fault_after xs ys u v why other is_x is_y fault also (inr (l ∷ ls, are, rest)) =
       absurd (no_fault_within ys l ls v u other (subst (IsProofOf graph) are is_x) rest also)
 
-  -- the first two lines are as they should be where a later one is told
+  -- the first two lines are as they should be where a later one is reported
   no_form_fault : (bytes rest : List ℕ) (why : ProofWhy) → bytes ≡ form_line ++ rest →
       IsFirstOf (form_causes bytes) (Err why) → ⊥
   no_form_fault bytes rest why text first = no_first (form_causes bytes) (form_good bytes rest text) why first
@@ -449,7 +435,7 @@ module _ (graph : Graph) (few : graph.count ≤ 16384) where
       (aligned_lines xs ys u v (proof_small graph few xs is_x) (proof_small graph few ys is_y) rests) in
       (at ∙ ap (λ (ls : List Line). length ls + 3) lines ∙ sym also, whys)
 
-  -- and it is read in one way
+  -- a text has one reading, unless memory runs out
   pub one_reading : (bytes : List ℕ) (answer again : Result (List Line) ProofFault) → IsReadAnswer graph bytes answer →
       answer ≢ Err Memory → IsReadAnswer graph bytes again → again ≢ Err Memory → answer ≡ again
   one_reading bytes (Ok xs) (Ok ys) x some y other =

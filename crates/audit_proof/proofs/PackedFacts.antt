@@ -1,22 +1,16 @@
 -- The table of a line of a proof, place by place.
-use Rattle.std.proofs.Common.{◌≡◌, ◌∙◌, ℕ, zero, suc, ◌+◌, ◌<◌, ◌≤◌, Bool, true, false, cond, List, [], ◌∷◌, ◌++◌}
-use Rattle.std.proofs.Common.{length, get_or, take, drop, replicate, refl, sym, ap, subst, inl, inr, Some, ◌||◌, arith}
-use Rattle.std.proofs.Common.{◌-◌}
-use Rattle.std.proofs.Common.{append_assoc, append-nil}
-use Rattle.std.specs.Prelude.{slice_get, slice_set, not, ◌==◌, ◌&&◌, All}
-use Rattle.std.specs.List.{list_any, list_all}
-use Rattle.std.proofs.lemmas.List.{drop_more, map-append, get_or-set_other, length-set, length-replicate}
-use Rattle.std.proofs.lemmas.List.{get_or-replicate, take_more, length-take-le, length-append}
-use Rattle.std.proofs.lemmas.List.{get_or_append_left, get_or-append-add}
-use Rattle.std.proofs.lemmas.List.Folds.{list_any-append, list_all-append}
-use Rattle.std.proofs.lemmas.Option.{slice_get_within, get_or_from_slice_get, slice_get-get_or}
-use Rattle.std.proofs.lemmas.Bool.{eq-eqb, ne_eqb, eqb-true, cases_eq}
-use Rattle.entry_order.proofs.Lists.{Contains-map_cases, list_any_some}
-use Rattle.entry_order.proofs.Places.{all_at, place_of, taken_more}
-use Rattle.audit_proof.specs.declared.step.ProofStep.{ProofStep}
-use Rattle.audit_proof.specs.Lines.{listed_in}
-use Rattle.audit_proof.specs.inside.Falls.{Falls}
-use Rattle.audit_proof.specs.inside.Packing.{step_in, steps_from, unpacked}
+use Rattle.std.proofs.Common.{Bool, false}
+use Rattle.audit_proof.proofs.Imports.{◌≡◌, ◌∙◌, ℕ, zero, suc, ◌+◌, ◌<◌, ◌≤◌, true, cond, List, [], ◌∷◌, ◌++◌, length}
+use Rattle.audit_proof.proofs.Imports.{get_or, take, drop, replicate, refl, sym, ap, subst, inl, inr, Some, ◌||◌}
+use Rattle.audit_proof.proofs.Imports.{arith, ◌-◌, append_assoc, slice_get, slice_set, not, ◌==◌, ◌&&◌, list_any}
+use Rattle.audit_proof.proofs.Imports.{list_all, drop_more, map-append, get_or-set_other, length-set}
+use Rattle.audit_proof.proofs.Imports.{length-replicate, get_or-replicate, take_more, length-take-le, length-append}
+use Rattle.audit_proof.proofs.Imports.{get_or_append_left, get_or-append-add, list_any-append, list_all-append}
+use Rattle.audit_proof.proofs.Imports.{slice_get_within, get_or_from_slice_get, slice_get-get_or, eq-eqb, ne_eqb}
+use Rattle.audit_proof.proofs.Imports.{eqb-true, cases_eq, Contains-map_cases, list_any_some, all_at, place_of}
+use Rattle.audit_proof.proofs.Imports.{taken_more, ProofStep, listed_in, Falls, step_in, steps_from, unpacked}
+use Rattle.std.proofs.Common.{append-nil}
+use Rattle.std.specs.Prelude.{All}
 use Rattle.audit_proof.proofs.Listings.{pair_at}
 
 -- an ancestor, via an entry
@@ -37,7 +31,7 @@ and_false false = refl
 
 -- ---- what a table lists
 
--- a place lists itself, where a step stands there
+-- a place lists itself, if a step is there
 place_lists : (place y code : ℕ) →
     list_any (λ z. z == y) (listed_in (step_in place code)) ≡ (not (code == 0) && (place == y))
 place_lists place y code = by (code == 0)
@@ -71,7 +65,7 @@ none_earlier (code ∷ codes) place y less =
     ∙ ap (λ (b : Bool). not (code == 0) && b) (ne_eqb place y (λ e. absurd (omega (arith, less, e))))
     ∙ and_false (not (code == 0))
 
--- a place is listed exactly where something stands there
+-- a place is listed if and only if something is there
 listed_from : (codes : List ℕ) (place j y : ℕ) → y ≡ place + j →
     list_any (λ z. z == y) (listed_in (steps_from place codes)) ≡ not (get_or codes j 0 == 0)
 listed_from [] place j y is = refl
@@ -90,11 +84,12 @@ listed_from (code ∷ codes) place (suc j) y is =
     ∙ ap (λ (b : Bool). not (get_or codes j 0 == 0) || b) (and_false (not (code == 0)))
     ∙ or_false (not (get_or codes j 0 == 0))
 
+-- a table lists a place if and only if something is there
 pub table_lists : (codes : List ℕ) (y : ℕ) →
     list_any (λ z. z == y) (listed_in (unpacked codes)) ≡ not (get_or codes y 0 == 0)
 table_lists codes y = listed_from codes 0 y y (omega arith)
 
--- so nothing stands at a place exactly where it isn't listed
+-- nothing is at a place of a table if and only if the place isn't listed
 pub unlisted : (codes : List ℕ) (y : ℕ) (listed : Bool) →
     listed ≡ list_any (λ z. z == y) (listed_in (unpacked codes)) → (get_or codes y 0 == 0) ≡ not listed
 unlisted codes y listed is = sym (not_not (get_or codes y 0 == 0)) ∙ ap not (sym (is ∙ table_lists codes y))
@@ -139,7 +134,7 @@ module _ (passes : ℕ → Bool) where
       ∙ both_pass (steps_from (i + 1) (drop (i + 1) codes)) (step_in i (get_or codes i 0))
       ∙ ap (λ (b : Bool). all_pass (steps_from (i + 1) (drop (i + 1) codes)) && b) (place_passes i (get_or codes i 0))
 
-  -- a place that passes, or where nothing stands, changes nothing
+  -- a place that passes, or where nothing is, changes nothing
   pub passes_on : (codes : List ℕ) (i : ℕ) → i < length codes → ((get_or codes i 0 == 0) || passes i) ≡ true →
       all_pass (steps_from i (drop i codes)) ≡ all_pass (steps_from (i + 1) (drop (i + 1) codes))
   passes_on codes i within fine =
@@ -147,7 +142,7 @@ module _ (passes : ℕ → Bool) where
       ∙ ap (λ (b : Bool). all_pass (steps_from (i + 1) (drop (i + 1) codes)) && b) fine
       ∙ and_true (all_pass (steps_from (i + 1) (drop (i + 1) codes)))
 
-  -- and at one that fails all fail
+  -- at a place whose step fails, not all pass
   pub passes_stop : (codes : List ℕ) (i : ℕ) → i < length codes → (get_or codes i 0 == 0) ≡ false → passes i ≡ false →
       all_pass (steps_from i (drop i codes)) ≡ false
   passes_stop codes i within some fails =
@@ -158,7 +153,7 @@ module _ (passes : ℕ → Bool) where
 
 -- ---- a table that is made, step by step
 
--- nothing stands in a blank table
+-- a blank table has no steps
 pub blank_table : (n place : ℕ) → steps_from place (replicate n 0) ≡ []
 blank_table zero place = refl
 blank_table (suc n) place = append-nil (steps_from (place + 1) (replicate n 0)) ∙ blank_table n (place + 1)
@@ -257,7 +252,7 @@ steps_back codes i within =
     ∙ steps_push (take i codes) 0 (get_or codes i 0)
     ∙ ap (λ (p : ℕ). step_in p (get_or codes i 0) ++ unpacked (take i codes)) here
 
--- where a step stands, and where none does
+-- a place with a step gives that step
 pub step_here : (place code : ℕ) → (code == 0) ≡ false →
     step_in place code ≡ a_step place (code - 1) ∷ []
 step_here place code some =
@@ -296,7 +291,7 @@ module _ (first second : List ProofStep) where
       subst P (get_or-append-add first second k d)
       (all (length first + k) d (omega (arith, low, length-append first second)))
 
-  -- and if all fall, those of the second part do
+  -- if all steps fall, those of the second part do
   pub second_falls : Falls (first ++ second) → Falls second
   second_falls falls i j d less within =
       let related = falls (length first + i) (length first + j) d (omega (arith, less))

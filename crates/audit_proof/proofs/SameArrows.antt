@@ -1,29 +1,16 @@
 -- What graphs with the same arrows have in common.
-use Rattle.std.proofs.Common.{◌≡◌, ◌≢◌, ℕ, ◌<◌, ◌≤◌, Bool, List, [], ◌∷◌, ◌++◌, refl, sym, ap, ◌∙◌, subst, inl, inr}
-use Rattle.std.proofs.Common.{Option, Some, None}
-use Rattle.std.specs.Prelude.{◌&&◌, not, Result, Ok, Err}
-use Rattle.std.specs.List.{Contains, list_all}
-use Rattle.entry_order.proofs.Lists.{Contains-head, Contains-later}
-use Rattle.entry_order.proofs.Places.{all_at, all_from_places, place_of}
-use Rattle.first_cause.specs.Causes.{IsFirstOf}
-use Rattle.precedence.specs.Graph.{Graph}
-use Rattle.rule_language.specs.declared.row.Row.{Row}
-use Rattle.rule_language.specs.Trees.{Trees}
-use Rattle.rule_meaning.specs.Meaning.{unbound}
-use Rattle.rule_meaning.specs.Values.{first_value}
-use Rattle.rule_meaning.proofs.SameOrders.{same_values}
-use Rattle.audit_proof.specs.declared.fault.ProofWhy.{ProofWhy}
-use Rattle.audit_proof.specs.declared.fault.ProofFault.{ProofFault}
-use Rattle.audit_proof.specs.declared.fault.ProofFault.TheVariants.{At, Memory}
-use Rattle.audit_proof.specs.Lines.{Line, listed_in, LacksNoParent, IsBegun, IsLineOf, IsProofOf}
-use Rattle.audit_proof.specs.ProofText.{proof_text}
-use Rattle.audit_proof.specs.KnownBy.{own_line, is_whole_line, before_on, before_by, whole_by, three_by}
-use Rattle.audit_proof.specs.Faults.{word_in, count_causes, past_causes, ancestor_causes, end_causes, IsLineFault}
-use Rattle.audit_proof.specs.Faults.{IsFirstFault}
-use Rattle.audit_proof.specs.Reads.{IsTextFor, IsReadAnswer}
-use Rattle.audit_proof.specs.Canonical.{IsGreatest, IsCanonicalProof, IsCanonicalText}
-use Rattle.audit_proof.specs.OneReading.{HaveSameArrows, TextsAreReadInOneWay, SameArrowsHaveOneText}
-use Rattle.audit_proof.specs.OneReading.{SameArrowsGiveOneValue}
+use Rattle.std.proofs.Common.{Bool}
+use Rattle.audit_proof.proofs.Imports.{◌≡◌, ◌≢◌, ℕ, ◌<◌, ◌≤◌, List, [], ◌∷◌, ◌++◌, refl, sym, ap, ◌∙◌, subst, inl}
+use Rattle.audit_proof.proofs.Imports.{inr, Option, Some, None, ◌&&◌, not, Result, Ok, Err, Contains, list_all}
+use Rattle.audit_proof.proofs.Imports.{Contains-head, Contains-later, all_at, all_from_places, place_of, IsFirstOf}
+use Rattle.audit_proof.proofs.Imports.{Graph, Row, Trees, unbound, first_value, same_values, ProofWhy, ProofFault, At}
+use Rattle.audit_proof.proofs.Imports.{Line, listed_in, LacksNoParent, IsBegun, IsLineOf, IsProofOf, proof_text}
+use Rattle.audit_proof.proofs.Imports.{own_line, is_whole_line, before_on, before_by, whole_by, three_by, word_in}
+use Rattle.audit_proof.proofs.Imports.{count_causes, past_causes, ancestor_causes, end_causes, IsLineFault}
+use Rattle.audit_proof.proofs.Imports.{IsFirstFault, IsTextFor, IsReadAnswer, IsGreatest, IsCanonicalProof}
+use Rattle.audit_proof.proofs.Imports.{IsCanonicalText, HaveSameArrows, TextsAreReadInOneWay, SameArrowsHaveOneText}
+use Rattle.audit_proof.proofs.Imports.{SameArrowsGiveOneValue}
+use Rattle.audit_proof.specs.declared.fault.ProofFault.TheVariants.{Memory}
 use Rattle.audit_proof.proofs.FirstFaults.{same_first}
 use Rattle.audit_proof.proofs.OneReading.{one_reading}
 use Rattle.audit_proof.proofs.Trusted.{line_found}
@@ -46,14 +33,14 @@ module _ (graph other : Graph) (same : HaveSameArrows graph other) where
     arrows = λ k step at. (same.parents step.via step.ancestor).0 (is.arrows k step at);
   }
 
-  -- and whole
+  -- a line that misses no parent in the one misses none in the other
   closed_other : (line : Line) → LacksNoParent graph line → LacksNoParent other line
   closed_other line closed x p on c = closed x p on ((same.parents x p).1 c)
 
   line_other : (line : Line) → IsLineOf graph line → IsLineOf other line
   line_other line is = record { begun = begun_other line is.begun; closed = closed_other line is.closed }
 
-  -- so is a proof
+  -- a proof for the one graph is one for the other
   pub proof_other : (lines : List Line) → IsProofOf graph lines → IsProofOf other lines
   proof_other lines is = record {
     rises = is.rises;
@@ -72,7 +59,7 @@ module _ (graph other : Graph) (same : HaveSameArrows graph other) where
   greatest_other : (line : Line) → IsGreatest graph line → IsGreatest other line
   greatest_other line greatest k step at v on c = greatest k step at v on ((same.parents v step.ancestor).1 c)
 
-  -- so the canonical text is the other's
+  -- the canonical text for the one graph is that for the other
   pub canonical_other : (bytes : List ℕ) → IsCanonicalText graph bytes → IsCanonicalText other bytes
   canonical_other bytes (lines, is, text) = (
     lines,
@@ -168,7 +155,7 @@ module _ (graph other : Graph) (same : HaveSameArrows graph other) where
         ),
       ) (Err why) first
 
-  -- and a line's end, where what is lacking in the one is lacking in the other
+  -- a line's end is refused by both for the same cause, where what is missing in the other is missing in the one
   end_other : (begun : Line) (IsEnded : Type 0) (why : ProofWhy) →
       (LacksNoParent other begun → LacksNoParent graph begun) →
       IsFirstOf (end_causes graph begun IsEnded) (Err why) → IsFirstOf (end_causes other begun IsEnded) (Err why)
@@ -234,7 +221,7 @@ answer_other graph other same bytes (Err (At n why)) (fault, none) = (
 )
 answer_other graph other same bytes (Err Memory) is = tt
 
--- so a text is read in one way
+-- a text has one reading for all graphs with the same arrows
 pub texts_are_read_in_one_way : TextsAreReadInOneWay
 texts_are_read_in_one_way graph other same few bytes answer again is some also others =
     one_reading graph few bytes answer again is some
@@ -279,7 +266,7 @@ module _ (graph other : Graph) (same : HaveSameArrows graph other) (lines : List
   before_same : (y x : ℕ) → before_by graph.ragged lines y x ≡ before_by other.ragged lines y x
   before_same y x = ap (λ (whole : Bool). before_on (own_line lines x) whole y) (whole_same x)
 
--- so a rule has one value
+-- a rule has one value by a proof for all graphs with the same arrows
 pub same_arrows_give_one_value : SameArrowsGiveOneValue
 same_arrows_give_one_value rows graph other lines size same is rule =
     ap first_value (same_values rows (before_by graph.ragged lines) (before_by other.ragged lines)

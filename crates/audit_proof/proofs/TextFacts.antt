@@ -1,34 +1,22 @@
 -- A proof's text, read line by line.
-use Rattle.std.proofs.Common.{◌≡◌, ℕ, zero, suc, ◌+◌, ◌-◌, ◌<◌, ◌≤◌, true, List, [], ◌∷◌, ◌++◌, append_assoc}
+use Rattle.audit_proof.proofs.Imports.{◌≡◌, ℕ, zero, suc, ◌+◌, ◌-◌, ◌<◌, ◌≤◌, true, List, [], ◌∷◌, ◌++◌, append_assoc}
+use Rattle.audit_proof.proofs.Imports.{refl, sym, ap, ◌∙◌, subst, inl, inr, arith, take, drop, length, get_or, Some}
+use Rattle.audit_proof.proofs.Imports.{slice_get, nat_lt, Err, ◌⊎◌, Contains, flat_map, cases_lt, lt-ltb, ltb-true}
+use Rattle.audit_proof.proofs.Imports.{take-append-drop, drop-drop, drop_more, drop_all, flat_map-append}
+use Rattle.audit_proof.proofs.Imports.{Contains-append_right, all_pairs_push, slice_get-get_or, slice_get_within}
+use Rattle.audit_proof.proofs.Imports.{Contains-head, all_at, all_from_places, last_at, push_cases, Graph, ProofWhy}
+use Rattle.audit_proof.proofs.Imports.{Unread, Why, Line, IsLineOf, IsProofOf, line_words, line_text, head_text}
+use Rattle.audit_proof.proofs.Imports.{proof_text, line_in, IsLineFault, IsFirstFault, IsTextFor, IsReadAnswer, HasNo}
+use Rattle.audit_proof.proofs.Imports.{Follows, IsReadingLines, IsLineAnswer, fault_of}
 use Rattle.std.proofs.Common.{append-nil}
-use Rattle.std.proofs.Common.{refl, sym, ap, ◌∙◌, subst, inl, inr, arith, take, drop, length, get_or, Some}
-use Rattle.std.specs.Prelude.{slice_get, nat_lt, All, Err, ◌⊎◌}
-use Rattle.std.specs.List.{Contains, flat_map}
-use Rattle.std.proofs.lemmas.Bool.{cases_lt, lt-ltb, ltb-true}
-use Rattle.std.proofs.lemmas.List.{take-append-drop, drop-drop, drop_more, drop_all}
-use Rattle.std.proofs.lemmas.List.Concat.{flat_map-append}
-use Rattle.std.proofs.lemmas.List.Elements.{Contains-append_right}
-use Rattle.std.proofs.lemmas.List.Quantifiers.{all_pairs_push}
-use Rattle.std.proofs.lemmas.Option.{slice_get-get_or, slice_get_within}
-use Rattle.entry_order.proofs.Lists.{Contains-head}
-use Rattle.entry_order.proofs.Places.{all_at, all_from_places, last_at, push_cases}
-use Rattle.precedence.specs.Graph.{Graph}
-use Rattle.audit_proof.specs.declared.fault.ProofWhy.{ProofWhy}
-use Rattle.audit_proof.specs.declared.reading.Unread.{Unread}
-use Rattle.audit_proof.specs.declared.reading.Unread.TheVariants.{Why, Memory}
-use Rattle.audit_proof.specs.Lines.{Line, IsLineOf, IsProofOf}
-use Rattle.audit_proof.specs.ProofText.{line_words, line_text, head_text, proof_text}
-use Rattle.audit_proof.specs.Faults.{line_in, IsLineFault, IsFirstFault}
-use Rattle.audit_proof.specs.Reads.{IsTextFor, IsReadAnswer}
-use Rattle.audit_proof.specs.inside.Bytes.{HasNo, Follows}
-use Rattle.audit_proof.specs.inside.Lists.{IsReadingLines}
-use Rattle.audit_proof.specs.inside.LineAnswers.{IsLineAnswer, fault_of}
+use Rattle.std.specs.Prelude.{All}
+use Rattle.audit_proof.specs.declared.reading.Unread.TheVariants.{Memory}
 use Rattle.audit_proof.proofs.FirstFaults.{part_before, same_line_fault}
 use Rattle.audit_proof.proofs.Listings.{pair_at}
 use Rattle.audit_proof.proofs.Texts.{IsSmallLine, AreSmallLines, same_word, line_has_no, prefix_lines}
 use Rattle.audit_proof.proofs.LinesRead.{begun_small, line_begun}
 
--- what follows a list is determined by the whole
+-- what follows a list is determined by the entire list
 pub same_rest : (xs ys zs : List ℕ) → xs ++ ys ≡ xs ++ zs → ys ≡ zs
 same_rest [] ys zs e = e
 same_rest (x ∷ xs) ys zs e = let tails : xs ++ ys ≡ xs ++ zs = cc in same_rest xs ys zs tails
@@ -41,7 +29,7 @@ module _ (graph : Graph) (few : graph.count ≤ 16384) where
     steps = begun_small graph few line.entry line.steps (line_begun graph few line.entry line.steps is);
   }
 
-  -- and so are lines
+  -- lines of a graph have small numbers
   pub small_lines : (lines : List Line) → ((k : ℕ) (line : Line) → slice_get lines k ≡ Some line →
       IsLineOf graph line) →
       AreSmallLines lines

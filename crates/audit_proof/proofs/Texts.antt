@@ -1,18 +1,12 @@
 -- A text is that of one proof.
-use Rattle.std.proofs.Common.{◌≡◌, ◌≢◌, ℕ, ◌+◌, ◌<◌, ◌≤◌, ◌^◌, ◌%◌, List, [], ◌∷◌, ◌++◌, refl, sym, ap, ◌∙◌, inl, inr}
-use Rattle.std.proofs.Common.{arith}
-use Rattle.std.proofs.Common.{append_assoc, append-nil}
-use Rattle.std.specs.List.{Contains, flat_map}
-use Rattle.std.specs.Fmt.{decimal}
-use Rattle.std.proofs.lemmas.Fmt.{decimal_injective, decimal_by_steps}
-use Rattle.entry_order.proofs.Lists.{Contains-none, Contains-head, Contains-later, Contains-cons_cases}
-use Rattle.std.proofs.lemmas.List.Elements.{Contains-append_cases}
-use Rattle.audit_proof.specs.declared.step.ProofStep.{ProofStep}
-use Rattle.audit_proof.specs.Lines.{Line}
-use Rattle.audit_proof.specs.inside.Bytes.{HasNo, Follows}
-use Rattle.audit_proof.specs.ProofText.{step_word, step_text, line_words, line_text}
+use Rattle.audit_proof.proofs.Imports.{◌≡◌, ◌≢◌, ℕ, ◌+◌, ◌<◌, ◌≤◌, ◌^◌, ◌%◌, List, [], ◌∷◌, ◌++◌, refl, sym, ap, ◌∙◌}
+use Rattle.audit_proof.proofs.Imports.{inl, inr, arith, append_assoc, Contains, flat_map, decimal, decimal_injective}
+use Rattle.audit_proof.proofs.Imports.{decimal_by_steps, Contains-none, Contains-head, Contains-later}
+use Rattle.audit_proof.proofs.Imports.{Contains-cons_cases, Contains-append_cases, ProofStep, Line, HasNo, Follows}
+use Rattle.audit_proof.proofs.Imports.{step_word, step_text, line_words, line_text}
+use Rattle.std.proofs.Common.{append-nil}
 
--- what stands before a byte that it doesn't have is determined by the whole
+-- the part before a byte that it doesn't have is determined by the entire text
 pub same_word : (s : ℕ) (xs ys u v : List ℕ) → HasNo s xs → HasNo s ys → Follows s u → Follows s v →
     xs ++ u ≡ ys ++ v → (xs ≡ ys) × (u ≡ v)
 same_word s [] [] u v no_x no_y at_u at_v e = (refl, e)
@@ -66,10 +60,11 @@ decimal_digits n small = decimal_by_steps (λ n ds. AreDigits ds) one more n sma
           | inr last ↦ one (n % 10) (omega arith) x last
         ]
 
--- and so has no other byte
+-- a decimal doesn't have a byte below its digits
 pub decimal_has_no : (s n : ℕ) → n < 2 ^ 64 → s < 48 → HasNo s (decimal n)
 decimal_has_no s n small low x c e = let digit = decimal_digits n small x c in absurd (omega (arith, digit.0, low, e))
 
+-- a decimal doesn't have a byte above its digits
 pub decimal_has_no_above : (s n : ℕ) → n < 2 ^ 64 → 57 < s → HasNo s (decimal n)
 decimal_has_no_above s n small high x c e =
     let digit = decimal_digits n small x c in absurd (omega (arith, digit.1, high, e))

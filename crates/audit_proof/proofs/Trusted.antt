@@ -1,27 +1,14 @@
 -- By a proof a rule has the value that it has by the graph, or none.
-use Rattle.std.proofs.Common.{◌≡◌, ℕ, ◌<◌, Bool, true, false, cond, List, [], ◌∷◌, length, refl, sym, subst, ap, ◌∙◌}
-use Rattle.std.proofs.Common.{inl, inr, Option, Some, None}
-use Rattle.std.specs.Prelude.{◌==◌, map}
-use Rattle.std.specs.List.{Contains}
-use Rattle.std.proofs.lemmas.Bool.{eqb-true, eq-eqb, false≢true}
-use Rattle.std.proofs.lemmas.List.{length-map}
-use Rattle.entry_order.specs.declared.three.Three.{Three}
-use Rattle.entry_order.specs.declared.three.Three.TheVariants.{False, Unknown, True}
-use Rattle.entry_order.specs.Ancestors.{Descends, is_whole, before}
-use Rattle.entry_order.specs.Node.{Node}
-use Rattle.entry_order.proofs.Lists.{Contains-none, Contains-head, Contains-later, Contains-cons_cases}
-use Rattle.entry_order.proofs.Places.{place_of, all_at}
-use Rattle.precedence.specs.Graph.{Graph}
-use Rattle.rule_language.specs.declared.row.Row.{Row}
-use Rattle.rule_meaning.specs.Meaning.{unbound}
-use Rattle.rule_meaning.specs.Values.{first_value, three_in}
-use Rattle.rule_meaning.specs.Knowledge.{IsLess, IsLessKnown}
-use Rattle.rule_meaning.proofs.Less.{less_is_known}
-use Rattle.rule_meaning.proofs.Sounds.{rules_are_settled}
-use Rattle.rule_meaning.proofs.SameOrders.{same_values}
-use Rattle.audit_proof.specs.Lines.{Line, IsLineOf, IsProofOf, HasEachLine}
-use Rattle.audit_proof.specs.KnownBy.{own_line, lists, is_whole_line, before_on, before_by, whole_by, three_by}
-use Rattle.audit_proof.specs.Trust.{ProofsSayNoMore, FullProofsSayAll, ProofsAreRight}
+use Rattle.std.proofs.Common.{Bool, false}
+use Rattle.audit_proof.proofs.Imports.{◌≡◌, ℕ, ◌<◌, true, cond, List, [], ◌∷◌, length, refl, sym, subst, ap, ◌∙◌, inl}
+use Rattle.audit_proof.proofs.Imports.{inr, Option, Some, None, ◌==◌, Contains, eqb-true, eq-eqb, false≢true}
+use Rattle.audit_proof.proofs.Imports.{length-map, Three, False, Unknown, True, Descends, is_whole, before, Node}
+use Rattle.audit_proof.proofs.Imports.{Contains-none, Contains-head, Contains-later, Contains-cons_cases, place_of}
+use Rattle.audit_proof.proofs.Imports.{all_at, Graph, Row, unbound, first_value, three_in, IsLess, IsLessKnown}
+use Rattle.audit_proof.proofs.Imports.{less_is_known, rules_are_settled, same_values, Line, IsLineOf, IsProofOf}
+use Rattle.audit_proof.proofs.Imports.{HasEachLine, own_line, lists, is_whole_line, before_on, before_by, whole_by}
+use Rattle.audit_proof.proofs.Imports.{three_by, ProofsSayNoMore, FullProofsSayAll, ProofsAreRight}
+use Rattle.std.specs.Prelude.{map}
 use Rattle.audit_proof.proofs.Ancestries.{order_same, whole_same}
 
 -- the line that is found for x is a line, and x's
@@ -30,7 +17,7 @@ pub line_found : (lines : List Line) (x : ℕ) (line : Line) → own_line lines 
 line_found [] x line is = cc
 line_found (l ∷ lines) x line is = by (l.entry == x) refl is (line_found lines x line)
   where
-    -- the same by whether the first line is x's
+    -- by cases: whether the first line is x's
     by : (b : Bool) → (l.entry == x) ≡ b → cond b (Some l) (own_line lines x) ≡ Some line →
         (own_line lines x ≡ Some line → Contains lines line × (line.entry ≡ x)) →
         Contains (l ∷ lines) line × (line.entry ≡ x)
@@ -48,7 +35,7 @@ pub line_there : (lines : List Line) (x : ℕ) (line : Line) → Contains lines 
 line_there [] x line c same = absurd (Contains-none line c)
 line_there (l ∷ lines) x line c same = by (l.entry == x) refl (λ later. line_there lines x line later same)
   where
-    -- the same by whether the first line is x's
+    -- by cases: whether the first line is x's
     by : (b : Bool) → (l.entry == x) ≡ b →
         (Contains lines line → (found : Line) × (own_line lines x ≡ Some found)) →
         (found : Line) × (cond b (Some l) (own_line lines x) ≡ Some found)
@@ -92,7 +79,7 @@ module _ (graph : Graph) (lines : List Line) (descends : Descends graph.parents)
       ∙ whole_same graph line (is_line x line found) descends
       ∙ ap wholes (line_found lines x line found).1
 
-  -- so the proof says no more
+  -- what the proof says is less than what the graph says
   pub less_by : IsLess graph.count (before_by graph.ragged lines) (whole_by graph.ragged lines) order wholes
   less_by = record {
     orders = λ y x l. order_less y x (own_line lines x) refl;
@@ -154,7 +141,7 @@ true≢unknown e = cc
 false≢unknown : False ≡ Unknown → ⊥
 false≢unknown e = cc
 
--- so the law of what is right
+-- by any proof a rule's value, if known, is right of every completion
 pub proofs_are_right : {T : Type 0} (node : T → Node) (row : T → Row) → ProofsAreRight node row
 proofs_are_right node row machines S G parents ragged lines single graph completion is rule =
     let nodes : Graph = record { count = length S; parents = parents; ragged = ragged } in

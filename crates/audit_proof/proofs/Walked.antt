@@ -1,29 +1,15 @@
 -- The line of a survivor, made from its parents down.
-use Rattle.std.proofs.Common.{◌≡◌, ◌≢◌, ℕ, zero, suc, ◌+◌, ◌<◌, ◌≤◌, List, [], ◌∷◌, ◌++◌, refl, sym, ap, ◌∙◌, subst}
-use Rattle.std.proofs.Common.{inl, inr, arith}
-use Rattle.std.proofs.Common.{length, get_or, Option, Some, None}
-use Rattle.std.specs.Prelude.{◌⊎◌}
-use Rattle.std.specs.Option.{option_or}
-use Rattle.std.specs.List.{Contains}
-use Rattle.std.proofs.lemmas.Bool.{cases_eq}
-use Rattle.std.proofs.lemmas.List.{get_or-set_same, get_or-set_other, length-set}
-use Rattle.std.proofs.lemmas.List.Elements.{Contains-append_cases, Contains-append_left, Contains-append_right}
-use Rattle.entry_order.proofs.Lists.{Contains-none, Contains-head, Contains-cons_cases}
-use Rattle.std.proofs.Common.{replicate}
-use Rattle.std.proofs.lemmas.Bool.{cases_lt}
-use Rattle.std.proofs.lemmas.List.{get_or-replicate, length-replicate}
-use Rattle.std.proofs.lemmas.List.Quantifiers.{all_pairs_push}
-use Rattle.std.proofs.lemmas.Option.{slice_get-get_or, same_Some}
-use Rattle.entry_order.proofs.Lists.{Contains-map_cases}
-use Rattle.entry_order.proofs.Places.{place_of}
-use Rattle.precedence.specs.Graph.{Graph}
-use Rattle.audit_proof.specs.declared.step.ProofStep.{ProofStep}
-use Rattle.audit_proof.specs.Lines.{listed_in, IsOnLine, IsReached, IsLineOf}
-use Rattle.audit_proof.specs.Canonical.{IsGreatest}
-use Rattle.audit_proof.specs.inside.Unread.{line_with}
+use Rattle.audit_proof.proofs.Imports.{◌≡◌, ◌≢◌, ℕ, zero, suc, ◌+◌, ◌<◌, ◌≤◌, List, [], ◌∷◌, ◌++◌, refl, sym, ap, ◌∙◌}
+use Rattle.audit_proof.proofs.Imports.{subst, inl, inr, arith, length, get_or, Option, Some, None, ◌⊎◌, option_or}
+use Rattle.audit_proof.proofs.Imports.{Contains, cases_eq, get_or-set_same, get_or-set_other, length-set}
+use Rattle.audit_proof.proofs.Imports.{Contains-append_cases, Contains-append_left, Contains-append_right}
+use Rattle.audit_proof.proofs.Imports.{Contains-none, Contains-head, Contains-cons_cases, replicate, cases_lt}
+use Rattle.audit_proof.proofs.Imports.{get_or-replicate, length-replicate, all_pairs_push, slice_get-get_or}
+use Rattle.audit_proof.proofs.Imports.{same_Some, Contains-map_cases, place_of, Graph, ProofStep, listed_in, IsOnLine}
+use Rattle.audit_proof.proofs.Imports.{IsReached, IsLineOf, IsGreatest, line_with, via_at, noted_one, IsNoted}
+use Rattle.audit_proof.proofs.Imports.{IsWalking}
 use Rattle.audit_proof.proofs.LongerLines.{on_more, listed_more, listed_new, more_on, reach_more, reach_new}
 use Rattle.audit_proof.proofs.LongerLines.{push_places}
-use Rattle.audit_proof.specs.inside.Walks.{via_at, noted_one, IsNoted, IsWalking}
 
 -- what is there or is put there is there
 option_there : (o : Option ℕ) (via : ℕ) → (v : ℕ) × (option_or o (Some via) ≡ Some v)
@@ -266,7 +252,7 @@ module _ (graph : Graph) (entry : ℕ) where
             let high = walking.above k s there in
             omega (arith, high, same, is_next)
 
-  -- where all places are done the line is whole
+  -- where all places are done the line is complete
   pub walk_ends : (vias : List (Option ℕ)) (steps : List ProofStep) → IsWalking graph entry 0 vias steps →
       IsLineOf graph (line_with entry steps)
   walk_ends vias steps walking = record {
@@ -274,7 +260,7 @@ module _ (graph : Graph) (entry : ℕ) where
     closed = λ y p on c. let (inside, (v, is)) = walking.next y p on c in walking.done p v (omega arith) is;
   }
 
-  -- and each ancestor stands with the greatest entry that names it
+  -- each ancestor has for its via the greatest entry that names it
   pub walk_greatest : (vias : List (Option ℕ)) (steps : List ProofStep) → IsWalking graph entry 0 vias steps →
       IsGreatest graph (line_with entry steps)
   walk_greatest vias steps walking k step there v on c =

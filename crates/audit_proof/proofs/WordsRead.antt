@@ -1,17 +1,9 @@
 -- Words of a proof's text, read.
-use Rattle.std.proofs.Common.{◌≡◌, ◌≢◌, ℕ, ◌+◌, ◌<◌, ◌≤◌, List, [], ◌∷◌, ◌++◌, refl, sym, ap, ◌∙◌, subst}
-use Rattle.std.proofs.Common.{arith, take, drop, length, get_or}
-use Rattle.std.specs.List.{Contains}
-use Rattle.std.specs.Fmt.{decimal}
-use Rattle.std.proofs.lemmas.List.{take-append-drop, drop_more, take_all, drop_all}
-use Rattle.entry_order.proofs.Lists.{Contains-none, Contains-head}
-use Rattle.std.proofs.lemmas.List.Elements.{Contains-append_right}
-use Rattle.std.proofs.lemmas.Option.{get_or_from_slice_get, slice_get-get_or}
-use Rattle.entry_order.proofs.Places.{taken_more}
-use Rattle.audit_proof.specs.declared.step.ProofStep.{ProofStep}
-use Rattle.audit_proof.specs.ProofText.{step_word}
-use Rattle.audit_proof.specs.inside.Bytes.{HasNo, Follows}
-use Rattle.audit_proof.specs.inside.Begun.{IsWordStep}
+use Rattle.audit_proof.proofs.Imports.{◌≡◌, ◌≢◌, ℕ, ◌+◌, ◌<◌, ◌≤◌, List, [], ◌∷◌, ◌++◌, refl, sym, ap, ◌∙◌, subst}
+use Rattle.audit_proof.proofs.Imports.{arith, take, drop, length, get_or, Contains, decimal, take-append-drop}
+use Rattle.audit_proof.proofs.Imports.{drop_more, take_all, drop_all, Contains-none, Contains-head}
+use Rattle.audit_proof.proofs.Imports.{Contains-append_right, get_or_from_slice_get, slice_get-get_or, taken_more}
+use Rattle.audit_proof.proofs.Imports.{ProofStep, step_word, HasNo, Follows, IsWordStep}
 use Rattle.audit_proof.proofs.Texts.{same_word, has_no_both, has_no_more, decimal_has_no_above}
 
 -- one byte more that is another
@@ -37,7 +29,7 @@ module _ (word : List ℕ) (colon : ℕ) (before : HasNo 58 (take colon word)) (
       (Contains-append_right (decimal step.ancestor) (58 ∷ decimal step.via) 58 (Contains-head 58 (decimal step.via))))
       refl
 
-  -- the word is what stands before the colon, the colon, and what follows it
+  -- the word is what is before the colon, the colon, and what follows it
   pub word_parts : colon < length word → word ≡ take colon word ++ 58 ∷ drop (colon + 1) word
   word_parts within =
       let front = drop_more word colon 0 within in
@@ -45,7 +37,7 @@ module _ (word : List ℕ) (colon : ℕ) (before : HasNo 58 (take colon word)) (
       sym (take-append-drop colon word)
       ∙ ap (λ (xs : List ℕ). take colon word ++ xs) (front ∙ ap (λ (b : ℕ). b ∷ drop (colon + 1) word) byte)
 
-  -- so it is the word of a step where these are its numbers
+  -- a step's word has the step's numbers before and after the colon
   pub parts_are : colon < length word → (step : ProofStep) → IsWordStep step → word ≡ step_word step →
       (take colon word ≡ decimal step.ancestor) × (drop (colon + 1) word ≡ decimal step.via)
   parts_are within step small is =

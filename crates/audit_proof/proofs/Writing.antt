@@ -1,25 +1,13 @@
 -- A proof's text, written line by line.
-use Rattle.std.proofs.Common.{◌≡◌, ℕ, zero, suc, ◌+◌, ◌-◌, ◌<◌, ◌≤◌, List, [], ◌∷◌, ◌++◌, refl, sym, ap, ◌∙◌, subst}
-use Rattle.std.proofs.Common.{inl, inr}
-use Rattle.std.proofs.Common.{arith, append_assoc, append-nil, get_or, length, Option, Some, None, replicate}
-use Rattle.std.specs.List.{Contains, flat_map}
-use Rattle.std.specs.Fmt.{decimal}
-use Rattle.std.proofs.lemmas.Fmt.{length-decimal-le}
-use Rattle.std.proofs.lemmas.List.{length_push, length-append, length-replicate}
-use Rattle.std.proofs.lemmas.List.Concat.{flat_map-append}
-use Rattle.std.proofs.lemmas.List.Quantifiers.{all_pairs_push}
-use Rattle.std.proofs.lemmas.Option.{slice_get-get_or}
-use Rattle.entry_order.specs.Ancestors.{Descends}
-use Rattle.entry_order.proofs.Lists.{Contains-head, Contains-later}
-use Rattle.entry_order.proofs.Places.{all_at, all_from_places}
-use Rattle.precedence.specs.Graph.{Graph}
-use Rattle.audit_proof.specs.declared.step.ProofStep.{ProofStep}
-use Rattle.audit_proof.specs.Lines.{Line, IsLineOf}
-use Rattle.audit_proof.specs.ProofText.{line_text, head_text}
-use Rattle.audit_proof.specs.Canonical.{IsGreatest, IsCanonicalText}
-use Rattle.audit_proof.specs.inside.Unread.{line_with}
-use Rattle.audit_proof.specs.inside.Walks.{via_at, noted_one, IsNoted, IsWalking}
-use Rattle.audit_proof.specs.inside.Writings.{IsWriting}
+use Rattle.audit_proof.proofs.Imports.{◌≡◌, ℕ, zero, suc, ◌+◌, ◌-◌, ◌<◌, ◌≤◌, List, [], ◌∷◌, ◌++◌, refl, sym, ap, ◌∙◌}
+use Rattle.audit_proof.proofs.Imports.{subst, inl, inr, arith, append_assoc, get_or, length, Option, Some, None}
+use Rattle.audit_proof.proofs.Imports.{replicate, Contains, flat_map, decimal, length-decimal-le, length_push}
+use Rattle.audit_proof.proofs.Imports.{length-append, length-replicate, flat_map-append, all_pairs_push}
+use Rattle.audit_proof.proofs.Imports.{slice_get-get_or, Descends, Contains-head, Contains-later, all_at}
+use Rattle.audit_proof.proofs.Imports.{all_from_places, Graph, ProofStep, Line, IsLineOf, line_text, head_text}
+use Rattle.audit_proof.proofs.Imports.{IsGreatest, IsCanonicalText, line_with, via_at, noted_one, IsNoted, IsWalking}
+use Rattle.audit_proof.proofs.Imports.{IsWriting}
+use Rattle.std.proofs.Common.{append-nil}
 use Rattle.audit_proof.proofs.LongerLines.{push_places}
 use Rattle.audit_proof.proofs.Walked.{noted_none, noted_more, noted_place, walk_starts, walk_past, walk_on_with}
 use Rattle.audit_proof.proofs.Walked.{walk_ends}
@@ -120,7 +108,7 @@ module _ (graph : Graph) (descends : Descends graph.parents) where
     walk_down zero vias steps walking = (vias, steps, walking)
     walk_down (suc a) vias steps walking = by (via_at vias a) refl (walk_down a)
       where
-        -- the same by whether the place is noted
+        -- by cases: whether the place is noted
         by : (o : Option ℕ) → via_at vias a ≡ o →
             ((vias : List (Option ℕ)) (steps : List ProofStep) → IsWalking graph entry a vias steps → Walk) → Walk
         by None none down = down vias steps (walk_past graph entry (suc a) a vias steps (omega arith) walking none)
@@ -131,7 +119,7 @@ module _ (graph : Graph) (descends : Descends graph.parents) where
             down new (steps ++ (record { ancestor = a; via = v }) ∷ [])
             (walk_on_with graph entry (suc a) a vias steps (omega arith) walking v new is (descends a) noted)
 
-    -- so a survivor has a line with the greatest vias
+    -- a survivor has a line with the greatest vias
     pub line_exists : entry < graph.count →
         (line : Line) × (line.entry ≡ entry) × IsLineOf graph line × IsGreatest graph line
     line_exists inside =
@@ -165,7 +153,7 @@ module _ (graph : Graph) (descends : Descends graph.parents) where
         subst (IsCanonicalText graph) (append_assoc bytes (line_text line) rest) canonical,
       )
 
-  -- so if what is written is too long, the canonical text is
+  -- if what is written is too long, the canonical text is
   pub too_long : (limit k : ℕ) (bytes : List ℕ) → k ≤ graph.count → IsWriting graph bytes k → limit < length bytes →
       (text : List ℕ) × IsCanonicalText graph text × (limit < length text)
   too_long limit k bytes low writing over =

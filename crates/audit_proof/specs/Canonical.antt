@@ -7,7 +7,7 @@ use Rattle.audit_proof.specs.declared.step.ProofStep.{ProofStep}
 use Rattle.audit_proof.specs.Lines.{Line, IsOnLine, IsProofOf}
 use Rattle.audit_proof.specs.ProofText.{proof_text}
 
--- each ancestor on the line stands with the greatest entry there that names it
+-- each ancestor on the line has for its via the greatest entry there that names it
 abbrev pub IsGreatest : Graph → Line → Type 0
 IsGreatest graph line =
     (k : ℕ) (step : ProofStep) → slice_get line.steps k ≡ Some step → (v : ℕ) → IsOnLine line v →

@@ -1,11 +1,11 @@
 -- Why a text is no proof for a graph: the causes in the order in which they are tried, line by
--- line, and on a line word by word from the left. Each cause stands beside the fact that it
+-- line, and on a line word by word from the left. Each cause is beside the fact that it
 -- applies.
 use Rattle.std.specs.Prelude.{◌≡◌, ◌≢◌, ◌⊎◌, ℕ, ◌+◌, ◌<◌, ◌^◌, ◌==◌, List, [], ◌∷◌, ◌++◌}
 use Rattle.std.specs.Prelude.{length, take, drop, All, codes, Err}
 use Rattle.std.specs.List.{Contains, before_first}
 use Rattle.std.specs.Fmt.{decimal}
-use Rattle.first_cause.specs.Causes.{IsFirstOf}
+use Rattle.item_list.specs.Causes.{IsFirstOf}
 use Rattle.precedence.specs.Graph.{Graph}
 use Rattle.audit_proof.specs.declared.step.ProofStep.{ProofStep}
 use Rattle.audit_proof.specs.declared.fault.ProofWhy.{ProofWhy}
@@ -19,10 +19,11 @@ use Rattle.audit_proof.specs.ProofText.{step_word, line_words, form_line, proof_
 abbrev pub ProofCauses : Type 1
 ProofCauses = List (Type 0 × ProofWhy)
 
--- the bytes before the first newline, and before the first space; all where there is none
+-- the bytes before the first newline; all where there is none
 abbrev pub line_in : List ℕ → List ℕ
 line_in bytes = before_first (λ byte. byte == 10) bytes
 
+-- the bytes before the first space; all where there is none
 abbrev pub word_in : List ℕ → List ℕ
 word_in bytes = before_first (λ byte. byte == 32) bytes
 
@@ -81,7 +82,7 @@ abbrev pub end_causes : Graph → Line → Type 0 → ProofCauses
 end_causes graph line IsEnded = (¬ IsEnded, Form) ∷ (¬ LacksNoParent graph line, NotClosed) ∷ []
 
 -- the first fault of a line, whose entry has to be such: of its beginning; or of the first word
--- that can't follow what stands before it; or of its end
+-- that can't follow what is before it; or of its end
 abbrev pub IsLineFault : Graph → (ℕ → Type 0) → List ℕ → Type 0 → ProofWhy → Type 0
 IsLineFault graph Rises line IsEnded why =
     IsFirstOf (past_causes graph Rises line) (Err why)

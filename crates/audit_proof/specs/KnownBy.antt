@@ -24,7 +24,7 @@ is_whole_line ragged None = false
 is_whole_line ragged (Some line) =
     not (ragged line.entry) && list_all (λ y. not (ragged y)) (listed_in line.steps)
 
--- whether y comes before an entry with the line, as far as the line tells: it does where it is
+-- whether y comes before an entry with the line, as far as the line shows: it does where it is
 -- listed, else it doesn't where the line is whole
 abbrev pub before_on : Option Line → Bool → ℕ → Three
 before_on line whole y = if lists line y then True else if whole then False else Unknown
@@ -34,7 +34,7 @@ module _ (ragged : ℕ → Bool) (lines : List Line) where
   abbrev pub whole_by : ℕ → Bool
   whole_by x = is_whole_line ragged (own_line lines x)
 
-  -- whether y comes before x, as far as the proof tells
+  -- whether y comes before x, as far as the proof shows
   abbrev pub before_by : ℕ → ℕ → Three
   before_by y x = before_on (own_line lines x) (whole_by x) y
 

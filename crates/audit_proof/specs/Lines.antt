@@ -25,7 +25,7 @@ IsReached line k x =
     ⊎ ((j : ℕ) × (earlier : ProofStep) × (j < k) × (slice_get line.steps j ≡ Some earlier)
     × (earlier.ancestor ≡ x))
 
--- no parent of what is on the line is lacking
+-- no parent of what is on the line is missing
 abbrev pub LacksNoParent : Graph → Line → Type 0
 LacksNoParent graph line =
     (x p : ℕ) → IsOnLine line x → Contains (graph.parents x) p → Contains (listed_in line.steps) p
@@ -40,7 +40,7 @@ pub record IsBegun (graph : Graph) (line : Line) : Type 0 where
   pub arrows : (k : ℕ) (step : ProofStep) → slice_get line.steps k ≡ Some step →
       Contains (graph.parents step.via) step.ancestor
 
--- and a whole line lacks no parent
+-- a complete line: as far as it goes it is one, and no parent is missing
 pub record IsLineOf (graph : Graph) (line : Line) : Type 0 where
   pub begun : IsBegun graph line
   pub closed : LacksNoParent graph line

@@ -26,13 +26,13 @@ TextsAreReadInOneWay =
     (answer again : Result (List Line) ProofFault) → IsReadAnswer graph bytes answer →
     answer ≢ Err Memory → IsReadAnswer other bytes again → again ≢ Err Memory → answer ≡ again
 
--- they have one canonical text
+-- graphs with the same arrows have one canonical text
 abbrev pub SameArrowsHaveOneText : Type 0
 SameArrowsHaveOneText =
     (graph other : Graph) → HaveSameArrows graph other → (bytes : List ℕ) →
     IsCanonicalText graph bytes → IsCanonicalText other bytes
 
--- and by a proof a rule has one value
+-- by a proof a rule has one value for graphs with the same arrows
 abbrev pub SameArrowsGiveOneValue : Type 0
 SameArrowsGiveOneValue =
     (rows : List Row) (graph other : Graph) (lines : List Line) → length rows ≡ graph.count →

@@ -21,17 +21,18 @@ line_words line = codes "past " ++ decimal line.entry ++ flat_map step_text line
 abbrev pub line_text : Line → List ℕ
 line_text line = line_words line ++ 10 ∷ []
 
--- the line of the form, and that of the number of survivors
+-- the line of the form
 abbrev pub form_line : List ℕ
 form_line = codes "proof 1" ++ 10 ∷ []
 
+-- the line of the number of survivors
 abbrev pub survivors_line : ℕ → List ℕ
 survivors_line count = codes "entries " ++ decimal count ++ 10 ∷ []
 
--- the two together
+-- the line of the form and that of the number of survivors
 abbrev pub head_text : ℕ → List ℕ
 head_text count = form_line ++ survivors_line count
 
--- the proof's text, for so many survivors
+-- the proof's text, for this number of survivors
 abbrev pub proof_text : ℕ → List Line → List ℕ
 proof_text count lines = head_text count ++ flat_map line_text lines

@@ -21,7 +21,7 @@ use std::alloc::Global;
 ///
 /// # Errors
 ///
-/// `TooWide` exactly where judging answers it too, or `Memory`.
+/// `TooWide` exactly when judging answers it too, or `Memory`.
 pub fn check<A: Arrows>(
     alloc: Global,
     rule: &Rule,

@@ -95,7 +95,7 @@ pub(crate) fn value(formula: &Formula, scope: &Scope<'_>, scene: &Scene<'_>) -> 
     }
 }
 
-/// The value of an implication. The second formula isn't looked at where the first is false.
+/// The value of an implication. The second formula isn't evaluated where the first is false.
 #[cycle(checking)]
 fn implied(first: Three, second: &Formula, scope: &Scope<'_>, scene: &Scene<'_>) -> Three
     requires scene { IsScene scene.now }
@@ -129,7 +129,7 @@ fn over(some: bool, parts: &[Formula], scope: &Scope<'_>, scene: &Scene<'_>) -> 
     least
 }
 
-/// The same of a formula at the rows that a quantifier goes over, the last first.
+/// The least of a formula's values, or of their opposites, at a quantifier's rows, the last first.
 #[cycle(checking)]
 fn over_rows(quantifier: Quantifier, body: &Formula, scope: &Scope<'_>, scene: &Scene<'_>) -> Three
     requires scene { IsScene scene.now }
@@ -200,8 +200,7 @@ fn is_before(listing: &Listing<'_>, i: usize, within: Option<usize>) -> bool
     }
 }
 
-/// The same at the rows that a quantifier goes over and that come before what a variable stands
-/// for.
+/// The least over those of a quantifier's rows that come before a variable's row.
 #[cycle(checking)]
 fn over_before(
     quantifier: Quantifier,

@@ -47,7 +47,7 @@ impl<X: Drop> From<AllocFailed<X>> for CheckFault {
     }
 }
 
-/// Why a line of a proof's text can't stand there: on a line the first that applies, word by word
+/// Why a line of a proof's text isn't allowed: on a line the first cause that applies, word by word
 /// from the left.
 #[derive(Clone, Copy, Debug, PartialEq, Eq)]
 pub enum ProofWhy {
@@ -65,7 +65,7 @@ pub enum ProofWhy {
     NotReached,
     /// That entry doesn't name the ancestor.
     NotParent,
-    /// A parent of what is on the line is lacking.
+    /// A parent of what is on the line is missing.
     NotClosed,
 }
 

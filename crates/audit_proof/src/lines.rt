@@ -80,7 +80,7 @@ fn read_entry(line: &[u8]) -> Option<Entry>
     }
 }
 
-/// The line of the entry with these steps, where it is ended and lacks no parent.
+/// The line of the entry with these steps, if it is ended and no parent is missing.
 fn finish<A: Arrows>(
     alloc: Global,
     graph: &A,

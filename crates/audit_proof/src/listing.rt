@@ -57,7 +57,7 @@ impl<'a> Listing<'a> {
         self.wholes[x]
     }
 
-    /// Whether the survivor `y` comes before the survivor `x`, as far as the proof tells.
+    /// Whether the survivor `y` comes before the survivor `x`, as far as the proof shows.
     pub(crate) fn before(&self, y: usize, x: usize) -> Three
         requires place { x < length self.now.numbers.items }
         requires searchable { IsSearchable self.now }

@@ -26,7 +26,7 @@ use precedence::Arrows;
 use std::alloc::{AllocError, Global};
 use std::marker::Model;
 
-/// A line of a proof in little memory. A table stands in place of the steps where it is no larger.
+/// A line of a proof in little memory. It has a table instead of the steps where that is no larger.
 #[derive(Drop)]
 pub(crate) struct PackedLine {
     entry: u32,
@@ -145,7 +145,7 @@ fn steps_of(alloc: Global, table: &[u16]) -> Result<Vec<ProofStep>, AllocError>
     Ok(steps)
 }
 
-/// What stands at a place of the table, and 0 past its end.
+/// What is at a place of the table, and 0 past its end.
 fn code_at(table: &[u16], place: usize) -> u16
     ensures { result ≡ slice_index_or table.now place 0 }
 {

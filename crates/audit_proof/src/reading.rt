@@ -14,7 +14,7 @@ ghost use Rattle.std.specs.Prelude.{
 };
 ghost use Rattle.std.specs.List.{Contains};
 ghost use Rattle.canonical_sexp.specs.Forms.{Finds};
-ghost use Rattle.first_cause.specs.Causes.{IsFirstOf};
+ghost use Rattle.item_list.specs.Causes.{IsFirstOf};
 ghost use Rattle.audit_proof.specs.inside.Bytes.{Follows, HasNo};
 ghost use Rattle.audit_proof.specs.inside.Begun.{GoesOn, IsWordStep, step_tests};
 ghost use Rattle.audit_proof.specs.inside.Unread.{IsWordsAnswer};
@@ -26,7 +26,7 @@ use canonical_sexp::number_of;
 use precedence::Arrows;
 use std::alloc::{AllocError, AllocFailed, Global};
 
-/// Where the byte first stands, or the length where it doesn't.
+/// Where the byte is first, or the length where it isn't.
 pub(crate) fn find_byte(bytes: &[u8], byte: u8) -> usize
     ensures within { result ≤ length bytes.now }
     ensures before { HasNo byte (take result bytes.now) }

@@ -16,7 +16,7 @@ ghost use Rattle.std.specs.Prelude.{
   Err,
 };
 ghost use Rattle.std.specs.Fmt.{decimal};
-ghost use Rattle.first_cause.specs.Causes.{IsFirstOf};
+ghost use Rattle.item_list.specs.Causes.{IsFirstOf};
 ghost use Rattle.audit_proof.specs.ProofText.{form_line, survivors_line, head_text};
 ghost use Rattle.audit_proof.specs.Faults.{form_causes, survivors_causes, count_causes};
 ghost use Rattle.audit_proof.specs.Reads.{IsReadAnswer};
@@ -82,7 +82,7 @@ fn begins_entries(line: &[u8]) -> bool
     is_entries(front(line, 8))
 }
 
-/// Tries the words after that, which are to be the number of survivors alone.
+/// Tries the words after that, which are to be the number of survivors and nothing else.
 fn try_number(words: &[u8], count: usize) -> Result<(), ProofWhy>
     requires { count ≤ 16384 }
     ensures first { IsFirstOf (survivors_causes count words.now) result }

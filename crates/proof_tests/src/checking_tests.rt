@@ -139,7 +139,7 @@ const WIDTHS: &[(u32, &str)] = &[(128, " R B"), (129, " R W")];
 const WIDE: &str =
     "(rule R (every a entry (every b entry (every c entry (every d entry (not true))))))";
 
-/// Whether the rules that aren't kept of so many entries, which name nothing, are those.
+/// Whether those are the rules that aren't kept, of `count` entries that name nothing.
 fn are_wide(alloc: Global, rules: &[Rule], count: u32, want: &str) -> Result<bool, Fail> {
     let mut graph = graph_of(alloc, "", RAGGED)?;
     let mut rows = Vec::new(alloc);

@@ -31,7 +31,7 @@ const HEADS: &str = "1 Form:
 2 Form:proof 1|entries 4 x|
 0 lines:proof 1|entries 4|";
 
-/// The same of what stands after the first two lines.
+/// The answers to what follows the first two lines.
 const LINES: &str = "3 Form:|
 3 Form:past|
 3 Form:past |

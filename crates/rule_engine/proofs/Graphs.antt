@@ -1,34 +1,21 @@
 -- Two orders that agree on the survivors' places give a rule one answer.
-use mathlib.Core.Path.{fun_ext}
-use Rattle.std.proofs.Common.{◌≡◌, ◌∙◌, ap, sym, refl, subst, ℕ, ◌<◌, Bool, true, false, cond, Option, Some, None}
-use Rattle.std.proofs.Common.{List, [], ◌∷◌, length}
-use Rattle.std.specs.Prelude.{slice_get, find, ◌&&◌, Result, Ok, Err}
-use Rattle.std.specs.List.{range_with_len}
-use Rattle.entry_order.specs.declared.three.Three.{Three}
-use Rattle.entry_order.specs.Ancestors.{before, is_whole}
-use Rattle.precedence.specs.Graph.{Graph}
-use Rattle.precedence.specs.Known.{Known, IsKnownOf, known_before, known_count, known_whole}
-use Rattle.rule_language.specs.declared.row.Row.{Row}
+use Rattle.rule_engine.proofs.Imports.{fun_ext, ◌≡◌, ◌∙◌, ap, sym, refl, subst, ℕ, ◌<◌, Bool, true, false, cond}
+use Rattle.rule_engine.proofs.Imports.{Option, Some, None, List, [], ◌∷◌, length, slice_get, find, Result, Ok, Err}
+use Rattle.rule_engine.proofs.Imports.{range_with_len, Three, before, is_whole, Graph, Known, IsKnownOf, known_before}
+use Rattle.rule_engine.proofs.Imports.{known_count, known_whole, Row, Trees, no_trees, tree_then, Verdict, Kept}
+use Rattle.rule_engine.proofs.Imports.{Broken, Unsettled, JudgeFault, TooWide, Memory, is_false, has_kind, bind}
+use Rattle.rule_engine.proofs.Imports.{unbound, first_value, values, row_of_kind, AreRows, one_more, same_values}
+use Rattle.rule_engine.proofs.Imports.{broken, and_then, first_false, IsJudgeAnswer}
+use Rattle.std.specs.Prelude.{◌&&◌}
 use Rattle.rule_language.specs.declared.kind.Kind.{Kind}
 use Rattle.rule_language.specs.declared.form.Form.TheVariants as form
-use Rattle.rule_language.specs.Trees.{Trees, no_trees, tree_then}
-use Rattle.rule_engine.specs.declared.verdict.Verdict.{Verdict}
-use Rattle.rule_engine.specs.declared.verdict.Verdict.TheVariants.{Kept, Broken, Unsettled}
-use Rattle.rule_engine.specs.declared.verdict.JudgeFault.{JudgeFault}
-use Rattle.rule_engine.specs.declared.verdict.JudgeFault.TheVariants.{TooWide, Memory}
-use Rattle.rule_meaning.specs.Kleene.{is_false}
-use Rattle.rule_meaning.specs.Tests.{has_kind}
-use Rattle.rule_meaning.specs.Meaning.{bind, unbound}
-use Rattle.rule_meaning.specs.Values.{first_value, values}
-use Rattle.rule_meaning.proofs.SameOrders.{row_of_kind, AreRows, one_more, same_values}
-use Rattle.rule_engine.specs.Verdicts.{broken, and_then, first_false, IsJudgeAnswer}
 
 -- what a search finds passes the test
 pub find_meets : (p : ℕ → Bool) (xs : List ℕ) (i : ℕ) → find p xs ≡ Some i → p i ≡ true
 find_meets p [] i is = cc
 find_meets p (x ∷ xs) i is = by (p x) refl is (find_meets p xs i)
   where
-    -- the same by whether the first member passes
+    -- by cases: whether the first member passes
     by : (b : Bool) → p x ≡ b → cond b (Some x) (find p xs) ≡ Some i → (find p xs ≡ Some i → p i ≡ true) → p i ≡ true
     by true at found later = let here : x ≡ i = cc in subst (λ (j : ℕ). p j ≡ true) here at
     by false at found later = later found
@@ -102,7 +89,7 @@ module _ (rows : List Row) (order order' : ℕ → ℕ → Three) (wholes wholes
   same_broken (tree_then (form.Equal t s) parts rest) env are = refl
   same_broken (tree_then (form.Less t s) parts rest) env are = refl
 
-  -- so the answers are one
+  -- the answer on a rule is right by both orders
   pub same_answer : (rule : Trees) (result : Result Verdict JudgeFault) → IsJudgeAnswer rows order wholes rule result →
       IsJudgeAnswer rows order' wholes' rule result
   same_answer rule (Ok Kept) (fits, says) = (fits, sym (ap first_value (same_values rows order order' wholes wholes' orders whole rule unbound (λ v. tt))) ∙ says)

@@ -1,36 +1,18 @@
--- The value of a rule where rows come behind those that it was judged by.
-use mathlib.Core.Path.{fun_ext}
-use Rattle.std.proofs.Common.{◌≡◌, ◌∙◌, ap, refl, sym, subst, ℕ, ◌+◌, ◌-◌, ◌<◌, ◌≤◌, Bool, true, false, cond}
-use Rattle.std.proofs.Common.{Option, Some, None, List, [], ◌∷◌, ◌++◌, map, length, arith, inl, inr, take, drop}
-use Rattle.std.proofs.Common.{Box, Global, length-append}
-use Rattle.std.proofs.lemmas.List.{map-append, take-append-drop, length-take-le, length-drop, take_all}
-use Rattle.std.specs.Prelude.{slice_get, ◌==◌, ◌&&◌, Ok}
-use Rattle.std.specs.List.{Contains, filter, list_any, range_with_len}
-use Rattle.std.proofs.Math.Bool.{and-true}
-use Rattle.std.proofs.lemmas.Bool.{cases_lt, eq-eqb, eqb-true, true≢false}
-use Rattle.std.proofs.lemmas.List.Elements.{filter-append}
-use Rattle.entry_order.specs.declared.three.Three.{Three}
-use Rattle.entry_order.specs.declared.three.Three.TheVariants.{False, Unknown, True}
-use Rattle.entry_order.proofs.Lists.{Contains-head, Contains-later, Contains-cons_cases, Contains-none}
-use Rattle.entry_order.proofs.Lists.{Contains-filter, Contains-filter_cases, list_any_of}
-use Rattle.std.proofs.lemmas.List.FromFn.{length-range_with_len, get_or-range_with_len}
-use Rattle.rule_language.specs.declared.row.Row.{Row}
+-- The value of a rule where rows come after those that it was judged by.
+use Rattle.rule_engine.proofs.Imports.{fun_ext, ◌≡◌, ◌∙◌, ap, refl, sym, subst, ℕ, ◌+◌, ◌-◌, ◌<◌, ◌≤◌, Bool, true}
+use Rattle.rule_engine.proofs.Imports.{false, cond, Option, Some, None, List, [], ◌∷◌, ◌++◌, map, length, arith, inl}
+use Rattle.rule_engine.proofs.Imports.{inr, take, drop, Box, Global, length-append, map-append, take-append-drop}
+use Rattle.rule_engine.proofs.Imports.{length-take-le, length-drop, take_all, slice_get, ◌==◌, Ok, Contains, filter}
+use Rattle.rule_engine.proofs.Imports.{list_any, range_with_len, and-true, cases_lt, eq-eqb, eqb-true, true≢false}
+use Rattle.rule_engine.proofs.Imports.{filter-append, Three, False, Unknown, True, Contains-head, Contains-later}
+use Rattle.rule_engine.proofs.Imports.{Contains-cons_cases, Contains-none, Contains-filter, Contains-filter_cases}
+use Rattle.rule_engine.proofs.Imports.{list_any_of, length-range_with_len, get_or-range_with_len, Row, Formula}
+use Rattle.rule_engine.proofs.Imports.{ForEvery, Trees, tree_of, both, is_true, least, has_kind, bind, unbound}
+use Rattle.rule_engine.proofs.Imports.{first_value, three, over_from, over_rows, value_of, both_assoc, value-ForEvery}
+use Rattle.rule_engine.proofs.Imports.{ComesBeforeNone, IsJudgeAnswer, Verdict, Kept, Broken, Unsettled, value_said}
+use Rattle.rule_engine.proofs.Imports.{reaches_row}
+use Rattle.std.specs.Prelude.{◌&&◌}
 use Rattle.rule_language.specs.declared.kind.Kind.{Kind}
-use Rattle.rule_language.specs.declared.formula.Formula.{Formula, ForEvery}
-use Rattle.rule_language.specs.Trees.{Trees}
-use Rattle.rule_language.specs.Forms.{tree_of}
-use Rattle.rule_meaning.specs.Kleene.{both, is_true, least}
-use Rattle.rule_meaning.specs.Tests.{has_kind}
-use Rattle.rule_meaning.specs.Meaning.{bind, unbound}
-use Rattle.rule_meaning.specs.Values.{first_value, three}
-use Rattle.rule_meaning.specs.Judging.{over_from, over_rows, value_of}
-use Rattle.rule_meaning.proofs.Judges.{both_assoc, value-ForEvery}
-use Rattle.rule_engine.specs.Growth.{ComesBeforeNone}
-use Rattle.rule_engine.specs.Verdicts.{IsJudgeAnswer}
-use Rattle.rule_engine.specs.declared.verdict.Verdict.{Verdict}
-use Rattle.rule_engine.specs.declared.verdict.Verdict.TheVariants.{Kept, Broken, Unsettled}
-use Rattle.rule_engine.specs.inside.Growth.{value_said}
-use Rattle.rule_engine.specs.inside.Reach.{reaches_row}
 use Rattle.rule_engine.proofs.Unreached.{AreRows, one_more, numbers_more, same_values}
 use Rattle.rule_engine.proofs.Unreached.{map_same, filter_same, get_old, range_below}
 
@@ -156,7 +138,7 @@ module _ (rows later : List Row) (order : ℕ → ℕ → Three) (wholes : ℕ �
       split body v kind unbound (λ i low. same_formula body apart (bind v i unbound)
       (one_more rows later order wholes last v i unbound low (λ w. tt)))
 
-  -- of an `every` in which stands another with a body that no later row is reached by: it is true where it was, and
+  -- of an `every` with another in it, whose body no later row is reached by: it is true where it was, and
   -- where the body is true of each two rows of which one is a later one
   pairs_split : (body : Formula) (v u : ℕ) (kind other : Kind) (inner : Box Formula Global) → (v == u) ≡ false →
       body ≡ ForEvery u other inner → Apart (tree_of inner.value) →
@@ -245,7 +227,7 @@ module _ (rows later : List Row) (order : ℕ → ℕ → Three) (wholes : ℕ �
             | inr past ↦ new i j low kinds past (range_below (length all) j there) inside
           ])
 
--- the same with all rows as one list, of which so many were there before
+-- all rows as one list, of which the first `count` were there before
 module _ (all : List Row) (count : ℕ) (fits : count ≤ length all) (order : ℕ → ℕ → Three) (wholes : ℕ → Bool)
     (last : ComesBeforeNone count order) where
   -- the first rows and the later ones
@@ -255,15 +237,15 @@ module _ (all : List Row) (count : ℕ) (fits : count ≤ length all) (order : �
   abbrev later : List Row
   later = drop count all
 
-  -- are all
+  -- the first rows and the later ones are all
   joined : rows ++ later ≡ all
   joined = take-append-drop count all
 
-  -- so many were there before
+  -- the first rows are `count`
   counted : length rows ≡ count
   counted = length-take-le count all fits
 
-  -- and so many are later
+  -- the later rows are the others
   rest_counted : length later ≡ length all - count
   rest_counted = length-drop count all
 
@@ -295,7 +277,7 @@ module _ (all : List Row) (count : ℕ) (fits : count ≤ length all) (order : �
       ∙ ap (λ (n : ℕ). both (over_rows rows order wholes false body v kind None unbound)
       (over_from all order wholes false body v kind None unbound count n)) rest_counted
 
-  -- and one in which another stands is true as before, where that is true of each two rows of which one is later
+  -- an `every` with another in it is true as before, where that is true of each two rows of which one is later
   pub pairs_grown : (body : Formula) (v u : ℕ) (kind other : Kind) (inner : Box Formula Global) → (v == u) ≡ false →
       body ≡ ForEvery u other inner →
       list_any (λ row. reaches_row row (tree_of inner.value)) later ≡ false →

@@ -1,36 +1,21 @@
 -- Rows in the order of their numbers, and values over some rows in place of all.
-use Rattle.std.proofs.Common.{◌≡◌, ◌≢◌, ◌∙◌, ap, sym, refl, subst, ℕ, zero, suc, ◌+◌, ◌-◌, ◌<◌, ◌≤◌, Bool, true}
-use Rattle.std.proofs.Common.{◌⊎◌, ◌++◌, ◌∷◌, [], false, not, cond, Option, Some, None, List, length, get_or, take, drop, arith, inl, inr}
-use Rattle.std.specs.Prelude.{slice_get, ◌&&◌, ◌==◌}
-use Rattle.std.specs.List.{AllWithin, Contains}
-use Rattle.std.proofs.lemmas.Option.{slice_get_within, slice_get_cases, slice_get-get_or}
-use Rattle.std.specs.List.Sorted.{IsPermutation}
-use Rattle.std.proofs.lemmas.List.Sorted.{IsPermutation-sym, Contains-permutation}
-use Rattle.std.proofs.lemmas.List.Elements.{Contains-push, Contains-push_cases, Contains-append_left}
-use Rattle.std.proofs.lemmas.List.Elements.{Contains-get_or}
-use Rattle.std.proofs.lemmas.Bool.{cases_eq, cases_lt, false≢true}
-use Rattle.std.proofs.lemmas.List.{get_or_default, get_or-drop, get_or-take, length-drop, length-take-le}
-use Rattle.entry_order.specs.declared.three.Three.{Three}
-use Rattle.entry_order.specs.declared.three.Three.TheVariants.{False, Unknown, True}
-use Rattle.rule_language.specs.declared.row.Row.{Row}
+use Rattle.rule_engine.proofs.Imports.{◌≡◌, ◌≢◌, ◌∙◌, ap, sym, refl, subst, ℕ, zero, suc, ◌+◌, ◌-◌, ◌<◌, ◌≤◌, Bool}
+use Rattle.rule_engine.proofs.Imports.{true, ◌⊎◌, ◌++◌, ◌∷◌, [], false, not, cond, Option, Some, None, List, length}
+use Rattle.rule_engine.proofs.Imports.{get_or, take, drop, arith, inl, inr, slice_get, ◌==◌, AllWithin, Contains}
+use Rattle.rule_engine.proofs.Imports.{slice_get_within, slice_get_cases, slice_get-get_or, IsPermutation}
+use Rattle.rule_engine.proofs.Imports.{IsPermutation-sym, Contains-permutation, Contains-push, Contains-push_cases}
+use Rattle.rule_engine.proofs.Imports.{Contains-append_left, Contains-get_or, cases_eq, cases_lt, false≢true}
+use Rattle.rule_engine.proofs.Imports.{get_or_default, get_or-drop, get_or-take, length-drop, length-take-le, Three}
+use Rattle.rule_engine.proofs.Imports.{False, Unknown, True, Row, Formula, Key, Found, Index, Kinds, Quantifier, both}
+use Rattle.rule_engine.proofs.Imports.{as_three, is_false, is_kind, has_kind, bind, signed, value_of, is_in}
+use Rattle.rule_engine.proofs.Imports.{over_from, over_rows, if_meant, IsVisitedFor, rank, least_of, breadth}
+use Rattle.rule_engine.proofs.Imports.{number_in, group_in, found_at, Rises, IsStart, AreStarts, AreRowsOf, IsIndexBy}
+use Rattle.rule_engine.proofs.Imports.{both_true, both_assoc, over_step}
+use Rattle.std.specs.Prelude.{◌&&◌}
 use Rattle.rule_language.specs.declared.kind.Kind.{Kind}
 use Rattle.rule_language.specs.declared.kind.Kind.TheVariants as kinds
-use Rattle.rule_language.specs.declared.formula.Formula.{Formula}
-use Rattle.rule_engine.specs.declared.index.Key.{Key}
 use Rattle.rule_engine.specs.declared.index.Key.TheVariants as by_kind
-use Rattle.rule_engine.specs.declared.index.Found.{Found}
-use Rattle.rule_engine.specs.declared.index.Index.{Index}
-use Rattle.rule_engine.specs.declared.index.Kinds.{Kinds}
-use Rattle.rule_engine.specs.declared.quantifier.Quantifier.{Quantifier}
-use Rattle.rule_meaning.specs.Kleene.{both, as_three, is_false}
-use Rattle.rule_meaning.specs.Tests.{is_kind, has_kind}
-use Rattle.rule_meaning.specs.Meaning.{bind}
-use Rattle.rule_meaning.specs.Judging.{signed, value_of, is_in, over_from, over_rows, if_meant}
-use Rattle.rule_engine.specs.inside.Visited.{IsVisitedFor}
-use Rattle.rule_engine.specs.inside.Index.{rank, least_of, breadth, number_in, group_in, found_at}
-use Rattle.rule_engine.specs.inside.Index.{Rises, IsStart, AreStarts, AreRowsOf, IsIndexBy}
 use Rattle.rule_engine.proofs.Wants.{signed_true, false_is, both_false}
-use Rattle.rule_meaning.proofs.Judges.{both_true, both_assoc, over_step}
 
 -- a rank is below 11
 rank_below : (k : Kind) → rank k < 11
@@ -144,7 +129,7 @@ kind_starts held k r low high starts is low_is high_is =
           (subst (λ (n : ℕ). IsStart held.index.found.items (r + 1) n) second (starts.each (r + 1) below)),
     )
 
--- what stands between two starts are the rows with the numbers between
+-- what is between two starts are the rows with the numbers between
 pub between_starts : (rows : List Row) (by : Key) (index : Index) (l h low high : ℕ) → IsIndexBy rows by index →
     l ≤ h → IsStart index.found.items l low → IsStart index.found.items h high →
     AreRowsOf rows by l h (take (high - low) (drop low index.found.items))
@@ -156,7 +141,7 @@ between_starts rows by index l h low high indexed rise first second = record {
     found : List Found
     found = index.found.items
 
-    -- what stands between them
+    -- what is between them
     part : List Found
     part = take (high - low) (drop low found)
 
@@ -169,7 +154,7 @@ between_starts rows by index l h low high indexed rise first second = record {
     same : (k : ℕ) (d : Found) → k < high - low → get_or part k d ≡ get_or found (low + k) d
     same k d below = get_or-take (high - low) (drop low found) k d below ∙ get_or-drop low found k d
 
-    -- what has such a number stands there
+    -- what has such a number is there
     inside : (it : Found) → Contains found it → l ≤ it.number → it.number < h → Contains part it
     inside it (k, within, is) least most =
         elim (cases_lt k low) [
@@ -188,7 +173,7 @@ between_starts rows by index l h low high indexed rise first second = record {
           ]
         ]
 
-    -- and what stands there has such a number
+    -- what is there has such a number
     outside : (it : Found) → Contains part it → Contains found it × (l ≤ it.number) × (it.number < h)
     outside it (k, within, is) =
         let less : k < high - low = subst (λ (n : ℕ). k < n) many within in
@@ -357,7 +342,7 @@ module _ (rows : List Row) (order : ℕ → ℕ → Three) (wholes : ℕ → Boo
   pub settled_at : (j : ℕ) → value j ≡ as_three (not some) → at j ≡ True
   settled_at j is = by (is_one j)
     where
-      -- the same by whether the row is meant
+      -- by cases: whether the row is meant
       by : (b : Bool) → cond b (signed some (value j)) True ≡ True
       by true = signed_true some (value j) is
       by false = refl
@@ -374,7 +359,7 @@ module _ (rows : List Row) (order : ℕ → ℕ → Three) (wholes : ℕ → Boo
       (cond (is_one i) (both acc (signed some (value i))) acc) (both acc (rest i)) (is_one i) inside refl refl refl
       ∙ ap (λ (x : Three). both x (rest (i + 1))) (by (is_one i))
     where
-      -- the same by whether the row is meant
+      -- by cases: whether the row is meant
       by : (b : Bool) → cond b (both acc (signed some (value i))) acc ≡ both acc (cond b (signed some (value i)) True)
       by true = refl
       by false = sym (both_true acc)
@@ -415,7 +400,7 @@ module _ (rows : List Row) (order : ℕ → ℕ → Three) (wholes : ℕ → Boo
       ] in
       ap (λ (x : Three). both x (at j)) step ∙ kept ∙ sym step
 
-  -- and a value that isn't above any of them isn't above their least
+  -- a value that isn't above any of the rows' values isn't above their least
   pub above_all : (x : Three) (d i : ℕ) → i + d ≡ length rows →
       ((j : ℕ) → i ≤ j → j < length rows → both x (at j) ≡ x) → both x (rest i) ≡ x
   above_all x zero i all each = ap (both x) (no_rest i (omega (arith, all))) ∙ both_true x
@@ -442,7 +427,7 @@ module _ (rows : List Row) (order : ℕ → ℕ → Three) (wholes : ℕ → Boo
       let all : length rows - 0 ≡ length rows = omega arith in
       ap (over_from rows order wholes q.some body q.v q.kind q.within env 0) all
 
-  -- the least so far isn't below the total, and isn't above what any of so many visited rows adds
+  -- the least so far isn't below the total, and isn't above what any of the first `n` visited rows adds
   abbrev pub IsLeastSoFar : List Found → ℕ → Three → Type 0
   IsLeastSoFar found n least =
       (both total least ≡ total) × AllWithin (λ it. both least (adds it.place) ≡ least) found 0 n
@@ -477,7 +462,7 @@ module _ (rows : List Row) (order : ℕ → ℕ → Three) (wholes : ℕ → Boo
       visit_one found i d least x new within place value_is new_is so_far in
       sym (both_false total) ∙ ap (both total) (sym (false_is new lost)) ∙ more.0 ∙ total_is
 
-  -- and after the last of them the least is the total
+  -- after the last of the visited rows the least is the total
   pub visit_ends : (found : List Found) (n : ℕ) (least : Three) → length found ≤ n →
       IsVisitedFor rows order wholes q body env found → IsLeastSoFar found n least →
       least ≡ over_rows rows order wholes q.some body q.v q.kind q.within env

@@ -1,18 +1,12 @@
 -- Over which rows the quantifiers of formulas go.
-use Rattle.std.proofs.Common.{◌≡◌, ◌∙◌, ap, refl, sym, ℕ, ◌+◌, ◌<◌, ◌≤◌, Bool, true, false, ◌||◌, List, ◌∷◌, length}
-use Rattle.std.proofs.Common.{Box, Global, rules, drop, get_or}
-use Rattle.std.proofs.Math.Bool.{or-false}
-use Rattle.std.proofs.lemmas.List.{drop_more, drop_all}
-use Rattle.rule_language.specs.declared.row.Row.{Row}
-use Rattle.rule_language.specs.declared.formula.Formula.{Formula, Implies}
-use Rattle.rule_language.specs.declared.formula.Formula.{the_lemmas}
+use Rattle.std.proofs.Common.{◌||◌}
+use Rattle.rule_engine.proofs.Imports.{◌≡◌, ◌∙◌, ap, refl, sym, ℕ, ◌+◌, ◌<◌, ◌≤◌, Bool, true, false, List, ◌∷◌}
+use Rattle.rule_engine.proofs.Imports.{length, Box, Global, rules, drop, get_or, or-false, drop_more, drop_all, Row}
+use Rattle.rule_engine.proofs.Imports.{Formula, Implies, the_lemmas, Trees, no_trees, tree_then, in_front, tree_of}
+use Rattle.rule_engine.proofs.Imports.{trees_of, shape, reaches_row, is_of, kind_of_all}
 use Rattle.rule_language.specs.declared.form.Form.TheVariants as form
-use Rattle.rule_language.specs.Trees.{Trees, no_trees, tree_then}
-use Rattle.rule_language.specs.Forms.{in_front, tree_of, trees_of}
-use Rattle.rule_language.proofs.Views.{shape}
-use Rattle.rule_engine.specs.inside.Reach.{reaches_row, is_of, kind_of_all}
 
--- the last of three tests may stand outside
+-- the last of three tests can be taken out
 or_last : (a b c : Bool) → (a || (b || c)) ≡ ((a || (b || false)) || c)
 or_last true b c = refl
 or_last false true c = refl

@@ -1,44 +1,34 @@
 -- Rows more, over which no quantifier of a rule goes that goes over all rows, and which come before no other row,
 -- leave the rule's value as it was.
-use mathlib.Core.Path.{fun_ext}
-use Rattle.std.proofs.Common.{◌≡◌, ◌∙◌, ap, refl, sym, subst, ℕ, zero, suc, ◌+◌, ◌<◌, ◌≤◌, Bool, true, false, cond}
-use Rattle.std.proofs.Common.{Option, Some, None, List, [], ◌∷◌, ◌++◌, map, length, get_or, arith, add-zero}
-use Rattle.std.proofs.Common.{length-append}
+use Rattle.rule_engine.proofs.Imports.{fun_ext, ◌≡◌, ◌∙◌, ap, refl, sym, subst, ℕ, zero, suc, ◌+◌, ◌<◌, ◌≤◌, Bool}
+use Rattle.rule_engine.proofs.Imports.{true, false, cond, Option, Some, None, List, [], ◌∷◌, ◌++◌, map, length}
+use Rattle.rule_engine.proofs.Imports.{get_or, arith, add-zero, length-append, slice_get, ◌==◌, Contains, filter}
+use Rattle.rule_engine.proofs.Imports.{range_with_len, filter-append, Contains-get_or, length-range_with_len}
+use Rattle.rule_engine.proofs.Imports.{get_or-range_with_len, slice_get_within, get_or_from_slice_get, Three}
+use Rattle.rule_engine.proofs.Imports.{Contains-head, Contains-later, Contains-filter_cases, Row, Form, Trees}
+use Rattle.rule_engine.proofs.Imports.{no_trees, tree_then, opposite, either, least, greatest, as_three, is_true}
+use Rattle.rule_engine.proofs.Imports.{has_kind, passes, bind, first_value, second_value, places, ancestors, rest_of}
+use Rattle.rule_engine.proofs.Imports.{values_before, row_at, value, values, row_of_kind, kind_of_all, is_of}
+use Rattle.rule_engine.proofs.Imports.{reaches_row}
 use Rattle.std.proofs.lemmas.List.{append-nil}
-use Rattle.std.specs.Prelude.{slice_get, ◌==◌, ◌||◌}
-use Rattle.std.specs.List.{Contains, filter, range_with_len}
-use Rattle.std.proofs.lemmas.List.Elements.{filter-append, Contains-get_or}
-use Rattle.std.proofs.lemmas.List.FromFn.{length-range_with_len, get_or-range_with_len}
-use Rattle.std.proofs.lemmas.Option.{slice_get_within, get_or_from_slice_get}
-use Rattle.entry_order.specs.declared.three.Three.{Three}
-use Rattle.entry_order.proofs.Lists.{Contains-head, Contains-later, Contains-filter_cases}
-use Rattle.rule_language.specs.declared.row.Row.{Row}
+use Rattle.std.specs.Prelude.{◌||◌}
 use Rattle.rule_language.specs.declared.kind.Kind.{Kind}
-use Rattle.rule_language.specs.declared.form.Form.{Form}
 use Rattle.rule_language.specs.declared.form.Form.TheVariants as form
-use Rattle.rule_language.specs.Trees.{Trees, no_trees, tree_then}
-use Rattle.rule_meaning.specs.Kleene.{opposite, either, least, greatest, as_three, is_true}
-use Rattle.rule_meaning.specs.Tests.{has_kind, passes}
-use Rattle.rule_meaning.specs.Meaning.{bind}
-use Rattle.rule_meaning.specs.Values.{first_value, second_value, places, ancestors, rest_of, values_before}
-use Rattle.rule_meaning.specs.Values.{row_at, value, values}
-use Rattle.rule_meaning.proofs.SameOrders.{row_of_kind}
-use Rattle.rule_engine.specs.inside.Reach.{kind_of_all, is_of, reaches_row}
 
--- the elements of a list stay where others are put behind them
+-- the elements of a list stay where they are when others are put after them
 pub get_old : {X : Type 0} (xs ys : List X) (i : ℕ) → i < length xs → slice_get (xs ++ ys) i ≡ slice_get xs i
 get_old [] ys i low = absurd (omega arith)
 get_old (x ∷ xs) ys zero low = refl
 get_old (x ∷ xs) ys (suc i) low = get_old xs ys i (omega arith)
 
--- and those stand behind them
+-- the elements that are put after a list come after its length
 pub get_later : {X : Type 0} (xs ys : List X) (k : ℕ) → slice_get (xs ++ ys) (length xs + k) ≡ slice_get ys k
 get_later [] ys k = let e : 0 + k ≡ k = omega arith in ap (slice_get ys) e
 get_later (x ∷ xs) ys k =
     let e : suc (length xs) + k ≡ suc (length xs + k) = omega arith in
     ap (slice_get (x ∷ xs ++ ys)) e ∙ get_later xs ys k
 
--- what stands at a place of a list is contained
+-- what is at a place of a list is contained
 pub at_contains : {X : Type 0} (xs : List X) (i : ℕ) (x : X) → slice_get xs i ≡ Some x → Contains xs x
 at_contains xs i x at =
     subst (λ y. Contains xs y) (get_or_from_slice_get xs i x x at)
@@ -56,7 +46,7 @@ range_append a (suc n) m =
     ∙ ap (λ (ks : List ℕ). a ∷ ks)
     (range_append (a + 1) n m ∙ ap (λ (k : ℕ). range_with_len (a + 1) n ++ range_with_len k m) next)
 
--- each of them is so many behind the first
+-- each of the numbers in a row is the first one and an offset below their count
 pub range_from : (a n i : ℕ) → Contains (range_with_len a n) i → (k : ℕ) × (k < n) × (i ≡ a + k)
 range_from a n i (k, within, is) =
     let low : k < n = subst (λ (l : ℕ). k < l) (length-range_with_len a n) within in
@@ -125,7 +115,7 @@ module _ (rows later : List Row) (order : ℕ → ℕ → Three) (wholes : ℕ �
   pub one_more : (v i : ℕ) (env : ℕ → Option ℕ) → i < length rows → AreRows env → AreRows (bind v i env)
   one_more v i env is are u = by (u == v)
     where
-      -- the same by whether it is the variable that was bound
+      -- by cases: whether it is the variable that was bound
       by : (b : Bool) → IsRow (cond b (Some i) (env u))
       by true = is
       by false = are u
@@ -264,7 +254,7 @@ module _ (rows later : List Row) (order : ℕ → ℕ → Three) (wholes : ℕ �
   same_value (form.Less t s) ts us same env are apart =
       ap (λ (r : ℕ → Option Row). as_three (passes r (form.Less t s))) (same_rows env are)
 
-  -- so has each formula
+  -- each formula of a row has the same value with more rows, if no later row is reached by it
   pub same_values : (trees : Trees) → IsApart trees →
       PartsSame (values rows order wholes trees) (values more order wholes trees)
   same_values no_trees apart env are = refl

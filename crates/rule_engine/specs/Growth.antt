@@ -1,4 +1,4 @@
--- Rows that come behind those that a rule was judged by.
+-- Rows that come after those that a rule was judged by.
 use Rattle.std.specs.Prelude.{◌≡◌, ℕ, ◌<◌, ◌≤◌, false, List}
 use Rattle.entry_order.specs.declared.three.Three.{Three}
 use Rattle.precedence.specs.Known.{Known}

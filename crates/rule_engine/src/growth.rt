@@ -1,4 +1,4 @@
-//! The value of a rule where rows come behind those that it was judged by.
+//! The value of a rule where rows come after those that it was judged by.
 ghost use Rattle.std.specs.Prelude.{◌≡◌, ◌<◌, ◌≤◌, ◌-◌, ℕ, length, slice_get, take, IfSome, IsTrue};
 ghost use Rattle.std.specs.Prelude.{false, true, None};
 ghost use Rattle.entry_order.specs.declared.three.Three.TheVariants.{True as KnownTrue};
@@ -22,7 +22,7 @@ use rule_meaning::kleene::{both, is_false};
 use rule_meaning::scope::Scope;
 
 /// The value of a rule by its value over the first rows: it is the same where no quantifier over
-/// all rows goes over a later one, and where the outer `every` alone does, it falls to the least of
+/// all rows goes over a later one, and where only the outer `every` does, it falls to the least of
 /// the body's values at those. There is none where the rule has to be judged anew.
 pub(crate) fn grown_value(
     formula: &Formula,
@@ -53,7 +53,7 @@ pub(crate) fn grown_value(
     }
 }
 
-/// The same of an `every` over all rows.
+/// The value of an `every` over all rows by its value over the first ones, if that decides it.
 fn every_grown(
     v: u8,
     kind: Kind,
@@ -93,7 +93,7 @@ fn is_true(value: Three) -> bool
     matches!(value, Three::True)
 }
 
-/// Whether the body is an `every` over all rows, and what stands in it is true of each two rows of
+/// Whether the body is an `every` over all rows, and what is in it is true of each two rows of
 /// which one is a later one.
 fn pairs_are_true(
     v: u8,

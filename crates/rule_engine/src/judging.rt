@@ -81,14 +81,15 @@ pub(crate) fn value(formula: &Formula, scope: &Scope<'_>, survivors: &Survivors<
     }
 }
 
-/// The value of an implication. The second formula isn't looked at where the first is false.
+/// The value of an implication. The second formula isn't evaluated where the first is false.
 #[cycle(judging)]
 fn implied(first: Three, second: &Formula, scope: &Scope<'_>, survivors: &Survivors<'_>) -> Three
     requires same { length survivors.now.rows.now ≡ known_count survivors.now.order.now }
     requires within { BindsRows (length survivors.now.rows.now) scope.now }
     requires indexed { AreIndexesOf survivors.now.rows.now survivors.now.indexes }
     ensures { result ≡ either (opposite first) (value_of survivors.now.rows.now
-        (known_before survivors.now.order.now) (known_whole survivors.now.order.now) second.now (env_of scope.now)) }
+        (known_before survivors.now.order.now) (known_whole survivors.now.order.now) second.now
+        (env_of scope.now)) }
 {
     if is_false(first) {
         Three::True
@@ -116,7 +117,7 @@ fn over(some: bool, parts: &[Formula], scope: &Scope<'_>, survivors: &Survivors<
     least
 }
 
-/// The same of a formula at the rows that a quantifier goes over.
+/// The least of a formula's values, or of their opposites, at the rows that a quantifier goes over.
 #[cycle(judging)]
 pub(crate) fn over_rows(
     quantifier: Quantifier,
@@ -138,7 +139,7 @@ pub(crate) fn over_rows(
     }
 }
 
-/// The same, where at all other rows than these the formula is settled.
+/// The least over a quantifier's rows from these only, as at all others the formula is settled.
 #[cycle(judging)]
 fn over_visited(
     found: &[Found],
@@ -170,7 +171,7 @@ fn over_visited(
     least
 }
 
-/// The same, row by row.
+/// The least over a quantifier's rows, found row by row.
 #[cycle(judging)]
 fn over_each(
     quantifier: Quantifier,
@@ -226,7 +227,7 @@ pub(crate) fn value_at(
     }
 }
 
-/// The same at the rows that a quantifier goes over and that come before what a variable stands for.
+/// The least over those of a quantifier's rows that come before a variable's row.
 #[cycle(judging)]
 fn over_before(
     quantifier: Quantifier,

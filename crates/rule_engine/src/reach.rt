@@ -29,7 +29,7 @@ pub(crate) fn reaches(formula: &Formula, row: Row) -> bool
     }
 }
 
-/// The same of some of the formulas.
+/// Whether a quantifier over all survivors in some of the formulas goes over the row.
 #[cycle(reaching)]
 fn some_reach(parts: &[Formula], row: Row) -> bool
     ensures { result ≡ reaches_row row (trees_of parts.now) }

@@ -68,7 +68,7 @@ impl<'a> Judge<'a> {
     }
 
     /// Judges a rule by its verdict over the first rows. Where no later row can change it, or only
-    /// by what the rule says of that row itself, little else is looked at.
+    /// by what the rule says of that row itself, little else is evaluated.
     pub fn judge_grown(
         &self,
         alloc: Global,

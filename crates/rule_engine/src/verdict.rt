@@ -3,7 +3,8 @@ ghost use Rattle.std.specs.Prelude.{◌≡◌, ◌++◌, ◌<◌, length, IfErr,
 ghost use Rattle.precedence.specs.Graph.{Graph};
 ghost use Rattle.precedence.specs.Known.{IsKnownOf, known_before, known_count, known_whole};
 ghost use Rattle.rule_meaning.specs.Meaning.{bind, unbound};
-ghost use Rattle.rule_engine.specs.Verdicts.{IsJudgeAnswer, IsJudged, IsVerdict, broken, first_false};
+ghost use Rattle.rule_engine.specs.Verdicts.{IsJudgeAnswer, IsJudged, IsVerdict, broken};
+ghost use Rattle.rule_engine.specs.Verdicts.{first_false};
 ghost use Rattle.rule_engine.specs.inside.Index.{AreIndexesOf};
 ghost use Rattle.rule_meaning.specs.Judging.{value_of};
 ghost use Rattle.rule_meaning.specs.Scopes.{BindsRows, env_of};
@@ -27,8 +28,9 @@ use thiserror::Error;
 pub enum Verdict {
     /// It holds, whatever was lost.
     Kept,
-    /// It doesn't hold, whatever turns up: by the places of the first survivors for which the leading
-    /// `every` fails, one for each of the quantifiers over survivors that the rule begins with.
+    /// It doesn't hold, whatever turns up: by the places of the first survivors for which the
+    /// leading `every` fails, one for each of the quantifiers over survivors that the rule begins
+    /// with.
     Broken(Vec<u32>),
     /// Neither is known.
     Unsettled,
@@ -66,7 +68,8 @@ pub fn judge(alloc: Global, rule: &Rule, rows: &[Row], order: &Rows) -> Result<V
 /// The answer on a rule that says this.
 fn answer(alloc: Global, body: &Formula, rows: &[Row], order: &Rows) -> Result<Verdict, JudgeFault>
     requires { length rows.now ≡ known_count order.now }
-    ensures { IsJudgeAnswer rows.now (known_before order.now) (known_whole order.now) (tree_of body.now) result }
+    ensures { IsJudgeAnswer rows.now (known_before order.now) (known_whole order.now)
+        (tree_of body.now) result }
 {
     let indexes = Indexes::make(alloc, body, rows, order)?;
     let survivors = Survivors {
@@ -77,7 +80,7 @@ fn answer(alloc: Global, body: &Formula, rows: &[Row], order: &Rows) -> Result<V
     answer_over(alloc, body, &survivors)
 }
 
-/// The same over these survivors.
+/// The answer on a rule over these survivors.
 pub(crate) fn answer_over(
     alloc: Global,
     body: &Formula,
@@ -102,7 +105,8 @@ pub(crate) fn verdict_of(
 ) -> Result<Verdict, JudgeFault>
     requires same { length survivors.now.rows.now ≡ known_count survivors.now.order.now }
     requires indexed { AreIndexesOf survivors.now.rows.now survivors.now.indexes }
-    ensures ok { IfOk result (IsVerdict survivors.now.rows.now (known_before survivors.now.order.now)
+    ensures ok { IfOk result
+        (IsVerdict survivors.now.rows.now (known_before survivors.now.order.now)
         (known_whole survivors.now.order.now) (tree_of body.now)) }
     ensures err { IfErr result (λ fault. fault ≡ JudgeFault.Memory) }
 {
@@ -125,7 +129,8 @@ pub(crate) fn verdict_by(
     requires indexed { AreIndexesOf survivors.now.rows.now survivors.now.indexes }
     requires value { value ≡ value_of survivors.now.rows.now (known_before survivors.now.order.now)
         (known_whole survivors.now.order.now) body.now unbound }
-    ensures ok { IfOk result (IsVerdict survivors.now.rows.now (known_before survivors.now.order.now)
+    ensures ok { IfOk result
+        (IsVerdict survivors.now.rows.now (known_before survivors.now.order.now)
         (known_whole survivors.now.order.now) (tree_of body.now)) }
     ensures err { IfErr result (λ fault. fault ≡ JudgeFault.Memory) }
 {
@@ -184,8 +189,8 @@ fn first_broken(
     requires same { length survivors.now.rows.now ≡ known_count survivors.now.order.now }
     requires within { BindsRows (length survivors.now.rows.now) scope.now }
     requires indexed { AreIndexesOf survivors.now.rows.now survivors.now.indexes }
-    ensures first { result ≡ first_false survivors.now.rows.now (known_before survivors.now.order.now)
-        (known_whole survivors.now.order.now) kind
+    ensures first { result ≡ first_false survivors.now.rows.now
+        (known_before survivors.now.order.now) (known_whole survivors.now.order.now) kind
         (λ i. value_of survivors.now.rows.now (known_before survivors.now.order.now)
         (known_whole survivors.now.order.now) body.now (bind v i (env_of scope.now)))
         0 (length survivors.now.rows.now) }

@@ -1,5 +1,5 @@
-//! What a row has to have, or else a quantifier's body has a value that leaves the quantifier's as it
-//! is: a body that requires an equality with what is bound already.
+//! What a row has to have, or else a quantifier's body has a value that leaves the quantifier's as
+//! it is: a body that requires an equality with what is bound already.
 ghost use Rattle.std.specs.Prelude.{◌≡◌, ℕ, Bool, false, IfSome, Some};
 ghost use Rattle.entry_order.specs.declared.three.Three.{Three as ThreeOf};
 ghost use Rattle.entry_order.specs.declared.three.Three.TheVariants.{False as KnownFalse};
@@ -23,8 +23,8 @@ use rule_meaning::atoms::Value;
 use rule_meaning::scope::Scope;
 use rule_meaning::terms::{row_at, term_value};
 
-/// The number that the row of the variable has to have in the field, or else the formula is true, or
-/// false, as asked.
+/// The number that the row of the variable has to have in the field, or else the formula is true,
+/// or false, as asked.
 #[cycle(wanting)]
 pub(crate) fn wanted_for(
     formula: &Formula,
@@ -35,7 +35,8 @@ pub(crate) fn wanted_for(
     rows: &[Row],
 ) -> Option<u32>
     ensures { (order : ℕ → ℕ → ThreeOf) (wholes : ℕ → Bool) → SettledWithout rows.now field result
-        (λ j. value_of rows.now order wholes formula.now (bind v j (env_of scope.now))) (as_three truth) }
+        (λ j. value_of rows.now order wholes formula.now (bind v j (env_of scope.now)))
+        (as_three truth) }
 {
     match formula {
         Formula::Not(body) => wanted_for(body, !truth, field, v, scope, rows),
@@ -78,7 +79,7 @@ pub(crate) fn wanted_for(
     }
 }
 
-/// The same for some of these formulas.
+/// What is wanted for some of these formulas: of the first one that wants a number.
 #[cycle(wanting)]
 fn wanted_for_some(
     parts: &[Formula],
@@ -112,7 +113,7 @@ fn equality(t: Term, s: Term, field: Field, v: u8, scope: &Scope<'_>, rows: &[Ro
     }
 }
 
-/// The same, where the first term is the field of the row and the second is fixed.
+/// The number of the second term, if it is fixed and the first is the field of the row.
 fn one_way(t: Term, s: Term, field: Field, v: u8, scope: &Scope<'_>, rows: &[Row]) -> Option<u32>
     ensures { IfSome result (IsEquality rows.now (env_of scope.now) v t s field) }
 {
@@ -181,7 +182,8 @@ fn following(
 
 /// What a row has to have for the other to be its maker's next.
 fn before(next: Option<Row>, field: Field) -> Option<u32>
-    ensures { (row : RowOf) → has_wanted field result row ≡ false → is_next (Some row) next ≡ false }
+    ensures { (row : RowOf) → has_wanted field result row ≡ false
+        → is_next (Some row) next ≡ false }
 {
     let next = next?;
     match field {
@@ -193,7 +195,8 @@ fn before(next: Option<Row>, field: Field) -> Option<u32>
 
 /// What a row has to have to be its maker's next after the other.
 fn after(last: Option<Row>, field: Field) -> Option<u32>
-    ensures { (row : RowOf) → has_wanted field result row ≡ false → is_next last (Some row) ≡ false }
+    ensures { (row : RowOf) → has_wanted field result row ≡ false
+        → is_next last (Some row) ≡ false }
 {
     let last = last?;
     match field {

@@ -1,28 +1,17 @@
 -- What a quantifier binds, as it is read.
-use Rattle.std.proofs.Common.{◌≡◌, ◌≢◌, ◌∙◌, ℕ, ◌<◌, Bool, true, false, List, [], ◌∷◌, length, Option, Some, None, Ok}
-use Rattle.std.proofs.Common.{Err, refl, ap, sym, subst}
-use Rattle.std.specs.Prelude.{codes, nat_le, is_some, if◌then◌else◌}
-use Rattle.std.specs.Str.{bytes_eq}
-use Rattle.std.proofs.lemmas.Bool.{lt-ltb, leb-false}
-use Rattle.hall_text.specs.declared.spans.Span.{Span}
-use Rattle.rule_language.specs.declared.kind.Kind.{Kind}
-use Rattle.rule_language.specs.declared.faults.RuleWhy.{RuleWhy}
-use Rattle.rule_language.specs.declared.faults.RuleWhy.TheVariants.{SameName, Shape, TooDeep}
-use Rattle.rule_language.specs.declared.binder.Binder.{Binder}
-use Rattle.rule_language.specs.Kinds.{kind_word}
-use Rattle.rule_language.specs.Scopes.{Scope, kind_in, is_letter}
-use Rattle.rule_language.specs.Lawful.{can_bind}
-use Rattle.hall_text.specs.Spans.{piece}
-use Rattle.rule_language.specs.Spelling.{Token, variable}
-use Rattle.rule_language.specs.Wants.{Want, formula, close, new_variable, kind_of, before_or_body, a_variable}
-use Rattle.rule_language.specs.Wants.{meets_formula, unbound_in, letter_in, nested, then_want, Met}
-use Rattle.rule_language.specs.inside.Reader.{IsNext, Takes, FailsAt}
-use Rattle.rule_language.specs.inside.Quantifiers.{IsRange, IsBinder, range_words, quantifier_head}
+use Rattle.std.proofs.Common.{[]}
+use Rattle.rule_language.proofs.Imports.{◌≡◌, ◌≢◌, ◌∙◌, ℕ, ◌<◌, Bool, true, false, List, ◌∷◌, length, Option, Some}
+use Rattle.rule_language.proofs.Imports.{None, Ok, Err, refl, ap, sym, subst, codes, nat_le, is_some, if◌then◌else◌}
+use Rattle.rule_language.proofs.Imports.{bytes_eq, lt-ltb, leb-false, Span, Kind, RuleWhy, SameName, Shape, TooDeep}
+use Rattle.rule_language.proofs.Imports.{Binder, kind_word, Scope, kind_in, is_letter, can_bind, piece, Token}
+use Rattle.rule_language.proofs.Imports.{variable, Want, formula, close, new_variable, kind_of, before_or_body}
+use Rattle.rule_language.proofs.Imports.{a_variable, meets_formula, unbound_in, letter_in, nested, then_want, Met}
+use Rattle.rule_language.proofs.Imports.{IsNext, Takes, FailsAt, IsRange, IsBinder, range_words, quantifier_head}
 use Rattle.rule_language.proofs.Refusals.{Passed, takes_more, transfer, fails_behind}
 use Rattle.rule_language.proofs.Passing.{step, kind_of_passes, variable_passes}
 use Rattle.rule_language.proofs.Found.{if_second, bytes_same}
 
--- what a quantifier binds, of its letter, its kind and the variable behind `before`
+-- what a quantifier binds, from its letter, its kind and the variable after `before`
 abbrev pub made : ℕ → Kind → Option ℕ → Binder
 made v k u = record { v = v; kind = k; u = u }
 
@@ -90,7 +79,7 @@ body_fails text token v k scope depth at why next other fails rest =
     here true is = absurd (other (bytes_same (piece text token) (codes "before") is))
     here false is = refl
 
-    -- whatever token begins the body may stand where `before` might
+    -- whatever token begins the body is allowed where `before` is
     agree : (t : Token) (next : List Want) (b : Bool) → bytes_eq t (codes "before") ≡ b
         → meets_formula ((v, k) ∷ scope) depth (close ∷ rest) t ≡ Ok next
         → (if b then Ok (a_variable scope ∷ formula ((v, k) ∷ scope) depth ∷ close ∷ rest)
@@ -101,7 +90,7 @@ body_fails text token v k scope depth at why next other fails rest =
         absurd (cc)
     agree t next false is met = met
 
--- what is wanted behind what was bound
+-- what is wanted after what was bound
 abbrev pub behind_binder : ℕ → Kind → Scope → ℕ → Option ℕ → List Want → List Want
 behind_binder v k scope depth None rest = before_or_body v k scope depth ∷ rest
 behind_binder v k scope depth (Some u) rest = formula ((v, k) ∷ scope) depth ∷ close ∷ rest
@@ -134,7 +123,7 @@ binder_passed text a e scope depth v k (Some u) binder = record {
       (variable_passes scope u (formula ((v, k) ∷ scope) depth ∷ close ∷ rest) binder.range);
 }
 
--- a fault of the body behind what was bound
+-- a fault of the body after what was bound is one of the quantifier
 pub quantified_fails : (text : List ℕ) (a e : Span) (scope : Scope) (depth : ℕ) (v : ℕ) (k : Kind) (u : Option ℕ)
     (at : ℕ) (why : RuleWhy)
     → IsBinder text a e scope (made v k u)

@@ -1,33 +1,19 @@
--- Formulas that were read, one behind another, and their faults.
-use Rattle.std.proofs.Common.{◌≡◌, ◌≢◌, inl, inr, ◌∙◌, ◌↔◌, ℕ, ◌+◌, ◌-◌, ◌<◌, ◌≤◌, Bool, true, false, List, [], ◌∷◌}
-use Rattle.std.proofs.Common.{◌++◌, Some, Result, Ok, Err, refl, ap, sym, arith, append_assoc, Box, Global}
-use Rattle.std.specs.Prelude.{codes, nat_le, ◌==◌, IsTrue, if◌then◌else◌}
-use Rattle.std.specs.Str.{bytes_eq}
-use Rattle.std.proofs.lemmas.Bool.{lt-ltb, ne_eqb, le-leb}
-use Rattle.hall_text.specs.declared.spans.Span.{Span}
-use Rattle.rule_language.specs.declared.formula.Formula.{Formula}
-use Rattle.rule_language.specs.declared.form.Form.{Form}
-use Rattle.rule_language.specs.declared.form.Head.{Head}
-use Rattle.rule_language.specs.declared.faults.RuleWhy.{RuleWhy}
-use Rattle.rule_language.specs.declared.faults.RuleWhy.TheVariants.{Shape, TooDeep}
-use Rattle.rule_language.specs.Kinds.{head_word}
-use Rattle.rule_language.specs.Scopes.{Scope}
-use Rattle.rule_language.specs.Trees.{Trees, no_trees, tree_then, count_of}
-use Rattle.rule_language.specs.Forms.{in_front, tree_of}
-use Rattle.rule_language.specs.Lawful.{are_formulas}
-use Rattle.hall_text.specs.Spans.{piece}
-use Rattle.rule_language.specs.Spelling.{Token, left, right, form_words, spelt, tokens_then}
-use Rattle.rule_language.specs.Wants.{Want, Met, formula, head, more, new_variable, meets_formula, behind_head, nested}
-use Rattle.rule_language.specs.inside.Reader.{IsNext, Takes, FailsAt, IfFault, IsRead, IsBody, told}
+-- Formulas that were read, one after another, and their faults.
+use Rattle.std.proofs.Common.{[]}
+use Rattle.rule_language.proofs.Imports.{◌≡◌, ◌≢◌, inl, inr, ◌∙◌, ◌↔◌, ℕ, ◌+◌, ◌-◌, ◌<◌, ◌≤◌, Bool, true, false, List}
+use Rattle.rule_language.proofs.Imports.{◌∷◌, ◌++◌, Some, Result, Ok, Err, refl, ap, sym, arith, append_assoc, Box}
+use Rattle.rule_language.proofs.Imports.{Global, codes, nat_le, ◌==◌, IsTrue, if◌then◌else◌, bytes_eq, lt-ltb, ne_eqb}
+use Rattle.rule_language.proofs.Imports.{le-leb, Span, Formula, Form, Head, RuleWhy, Shape, TooDeep, head_word, Scope}
+use Rattle.rule_language.proofs.Imports.{Trees, no_trees, tree_then, count_of, in_front, tree_of, are_formulas, piece}
+use Rattle.rule_language.proofs.Imports.{Token, left, right, form_words, spelt, tokens_then, Want, Met, formula, head}
+use Rattle.rule_language.proofs.Imports.{more, new_variable, meets_formula, behind_head, nested, IsNext, Takes}
+use Rattle.rule_language.proofs.Imports.{FailsAt, IfFault, IsRead, IsBody, told, RuleFault, Implies, quantifier_head}
 use Rattle.rule_language.proofs.Refusals.{Passed, one_passed, takes_more, fails_there, cause_there, transfer}
 use Rattle.rule_language.proofs.Found.{bytes_same}
 use Rattle.rule_language.proofs.Passing.{open_passes, head_passes, tokens_append, spelt_cases, more_wanted}
 use Rattle.rule_language.proofs.Parts.{formula_passes, count-front, good-front, tokens-front, members_left}
-use Rattle.rule_language.specs.declared.faults.RuleFault.{RuleFault}
-use Rattle.rule_language.specs.declared.formula.Formula.{Implies}
 use Rattle.rule_language.specs.declared.form.Form.TheVariants as form
 use Rattle.rule_language.specs.declared.form.Head.TheVariants as begins
-use Rattle.rule_language.specs.inside.Quantifiers.{quantifier_head}
 use Rattle.rule_language.proofs.FormsRead.{form_read}
 use Rattle.rule_language.proofs.Views.{shape, view-Implies}
 
@@ -76,7 +62,7 @@ formula_fails text token scope depth reason next against rest =
     fails_there text token (formula scope depth ∷ rest) (told text token reason)
     (cause_there text token (formula scope depth ∷ rest) reason next (against rest) (λ e. refl))
 
--- some token stands for a formula
+-- a form has at least one token
 some_spelt : (f : Form) (inside after : List Token) → spelt f inside after ≢ []
 some_spelt f inside after none =
     elim (spelt_cases f) [
@@ -102,7 +88,7 @@ formula_passed text a b scope depth p further read = record {
   met = λ rest. formula_passes p scope depth (further rest) [] read.lawful;
 }
 
--- with the parenthesis behind it
+-- a formula with the parenthesis after it is a body
 pub body_read : (text : List ℕ) (a b e : Span) (scope : Scope) (depth : ℕ) (p : Formula)
     → IsRead text a b scope depth [] p
     → Takes text b e (right ∷ []) → IsBody text a e scope depth p
@@ -134,7 +120,7 @@ open_passed text a b scope depth takes shallow =
     one_passed text a b left (λ rest. formula scope depth ∷ rest) (λ rest. head scope (depth + 1) ∷ rest) takes
     (λ rest. open_passes scope depth rest (lt-ltb depth 32 shallow))
 
--- the first word of a formula in parentheses leaves what that word asks for
+-- the first word of a formula in parentheses leaves the wants of that word
 pub head_passed : (text : List ℕ) (a b : Span) (scope : Scope) (depth : ℕ) (h : Head)
     → Takes text a b (head_word h ∷ [])
     → nested scope (Some h) ≡ Ok h
@@ -183,7 +169,7 @@ more_fails text token n scope depth at why next other some fails rest =
     here false true is zero = absurd (cc)
     here false false is zero = refl
 
-    -- whatever token begins a further formula may stand where the parenthesis might
+    -- whatever token begins a further formula is allowed where the parenthesis is
     agree : (t : Token) (next : List Want) (b z : Bool) → bytes_eq t right ≡ b → z ≡ false
         → meets_formula scope depth (more (n - 1) scope depth ∷ rest) t ≡ Ok next
         → (if b then Ok rest else (if z then Err Shape
@@ -204,11 +190,11 @@ one_too_many text token scope depth next other rest =
     (cause_there text token (more 0 scope depth ∷ rest) Shape next
     (rw (bytes_differ (piece text token) right other) refl) (λ e. refl))
 
--- a parenthesis is some token
+-- a left parenthesis isn't an empty token
 pub left_some : (word : Token) → word ≡ left → word ≢ []
 left_some word is none = let shut : left ≡ [] = sym is ∙ none in absurd (cc)
 
--- and so is the closing one
+-- a right parenthesis isn't an empty token
 pub right_some : (word : Token) → word ≡ right → word ≢ []
 right_some word is none = let shut : right ≡ [] = sym is ∙ none in absurd (cc)
 
@@ -233,7 +219,7 @@ implied text a b e scope depth p first second boxed read body shallow =
     (rw front (rw read.spelt (takes_more text a b e read.tokens
     (tokens_then (tree_of second.value) (right ∷ [])) read.taken body.taken)))
 
--- both quantifiers want the same
+-- after the first word, `every` and `some` want the same
 pub quantifier_err : {A : Type 0} (scope : Scope) (depth : ℕ) (every : Bool) (answer : Result A RuleFault)
     (text : List ℕ) (at : ℕ)
     → IfFault answer (FailsAt text at (λ rest. new_variable scope depth ∷ rest))

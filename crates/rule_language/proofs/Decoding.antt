@@ -1,27 +1,16 @@
 -- Tokens are those of one list of rules.
-use Rattle.std.proofs.Common.{◌≡◌, ◌≢◌, ℕ, ◌^◌, Bool, true, false, List, [], ◌∷◌, ◌++◌, Option, Some, None, refl, ap}
-use Rattle.std.specs.Prelude.{nat_lt, codes, is_some}
-use Rattle.std.specs.Str.{bytes_eq}
-use Rattle.std.specs.Fmt.{decimal}
-use Rattle.std.proofs.lemmas.Bool.{ltb-true, and_parts}
-use Rattle.roster.specs.declared.post.Role.{Role}
+use Rattle.std.proofs.Common.{[]}
+use Rattle.rule_language.proofs.Imports.{◌≡◌, ◌≢◌, ℕ, ◌^◌, Bool, true, false, List, ◌∷◌, ◌++◌, Option, Some, None}
+use Rattle.rule_language.proofs.Imports.{refl, ap, nat_lt, codes, is_some, bytes_eq, decimal, ltb-true, and_parts}
+use Rattle.rule_language.proofs.Imports.{Role, role_word, Kind, Field, Term, Of, Number, Form, Head, kind_word}
+use Rattle.rule_language.proofs.Imports.{kind_named, field_word, field_named, role_named, head_named, Scope}
+use Rattle.rule_language.proofs.Imports.{is_letter, sort_of, are_of_one_sort, has_order, is_closed, Token, term_word}
+use Rattle.rule_language.proofs.Imports.{form_words, number_in}
 use Rattle.roster.specs.declared.post.Role.TheVariants as role
-use Rattle.roster.specs.RosterText.{role_word}
-use Rattle.rule_language.specs.declared.kind.Kind.{Kind}
 use Rattle.rule_language.specs.declared.kind.Kind.TheVariants as kind
-use Rattle.rule_language.specs.declared.kind.Field.{Field}
 use Rattle.rule_language.specs.declared.kind.Field.TheVariants as field
-use Rattle.rule_language.specs.declared.term.Term.{Term}
-use Rattle.rule_language.specs.declared.term.Term.TheVariants.{Of, Number}
-use Rattle.rule_language.specs.declared.form.Form.{Form}
 use Rattle.rule_language.specs.declared.form.Form.TheVariants as form
-use Rattle.rule_language.specs.declared.form.Head.{Head}
 use Rattle.rule_language.specs.declared.form.Head.TheVariants as begins
-use Rattle.rule_language.specs.Kinds.{kind_word, kind_named, field_word, field_named, role_named, head_named}
-use Rattle.rule_language.specs.Scopes.{Scope, is_letter}
-use Rattle.rule_language.specs.Lawful.{sort_of, are_of_one_sort, has_order, is_closed}
-use Rattle.rule_language.specs.Spelling.{Token, term_word, form_words}
-use Rattle.rule_language.specs.Wants.{number_in}
 use Rattle.rule_language.proofs.Passing.{field_named_word, no_number, kind_named_word}
 use Rattle.rule_language.proofs.Numbers.{number-found}
 use Rattle.rule_language.proofs.WrittenTexts.{sorts_some}
@@ -58,11 +47,11 @@ number_or_field None (v ∷ dot ∷ name) = Of v (field_or (field_named name))
 abbrev pub term_of : Token → Term
 term_of word = number_or_field (number_in word) word
 
--- the form that words are, and what stands behind them
+-- the form that words are, and what follows them
 abbrev pub Decoded : Type 0
 Decoded = Form × List Token
 
--- a form, and the tokens that are left behind its words
+-- a form, and the tokens that are left after its words
 abbrev pub decoded_as : Form → List Token → Decoded
 decoded_as f ts = (f, ts)
 
@@ -74,18 +63,18 @@ ranged every v k true ts [] = (form.True, [])
 ranged true v k true ts (u ∷ after) = (form.EveryBefore v k (first_of u), after)
 ranged false v k true ts (u ∷ after) = (form.SomeBefore v k (first_of u), after)
 
--- a quantifier, of the tokens behind its first word
+-- a quantifier, from the tokens after its first word
 abbrev pub quantified_of : Bool → List Token → Decoded
 quantified_of every (v ∷ k ∷ t ∷ ts) = ranged every (first_of v) (kind_or (kind_named k))
     (bytes_eq t (codes "before")) (t ∷ ts) ts
 quantified_of every ts = (form.True, [])
 
--- a form of the two tokens behind its first word
+-- a form, from the two tokens after its first word
 abbrev pub two_of : (Token → Token → Form) → List Token → Decoded
 two_of make (v ∷ u ∷ ts) = (make v u, ts)
 two_of make ts = (form.True, [])
 
--- a form by its first word, of the tokens behind that
+-- a form by its first word, from the tokens after that
 abbrev pub decoded_by : Option Head → List Token → Decoded
 decoded_by None ts = (form.True, ts)
 decoded_by (Some begins.ForEvery) ts = quantified_of true ts

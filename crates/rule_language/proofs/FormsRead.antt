@@ -1,16 +1,9 @@
--- Formulas that were read: their tokens, and that they are good where they stand.
-use Rattle.std.proofs.Common.{◌≡◌, ◌∙◌, ℕ, ◌+◌, Bool, true, ◌&&◌, List, [], ◌∷◌, ◌++◌, refl, ap, sym}
-use Rattle.hall_text.specs.declared.spans.Span.{Span}
-use Rattle.rule_language.specs.declared.formula.Formula.{Formula}
-use Rattle.rule_language.specs.declared.form.Form.{Form}
-use Rattle.rule_language.specs.declared.form.Head.{Head}
-use Rattle.rule_language.specs.Kinds.{head_word}
-use Rattle.rule_language.specs.Scopes.{Scope}
-use Rattle.rule_language.specs.Trees.{Trees, no_trees, tree_then, count_of}
-use Rattle.rule_language.specs.Forms.{tree_of}
-use Rattle.rule_language.specs.Lawful.{is_closed, has_arity, is_shallow, scope_in, are_formulas}
-use Rattle.rule_language.specs.Spelling.{Token, left, right, form_words, tokens_then}
-use Rattle.rule_language.specs.inside.Reader.{Takes, IsRead}
+-- Formulas that were read: their tokens, and that they are good where they are.
+use Rattle.std.proofs.Common.{[]}
+use Rattle.rule_language.proofs.Imports.{◌≡◌, ◌∙◌, ℕ, ◌+◌, Bool, true, ◌&&◌, List, ◌∷◌, ◌++◌, refl, ap, sym, Span}
+use Rattle.rule_language.proofs.Imports.{Formula, Form, Head, head_word, Scope, Trees, no_trees, tree_then, count_of}
+use Rattle.rule_language.proofs.Imports.{tree_of, is_closed, has_arity, is_shallow, scope_in, are_formulas, Token}
+use Rattle.rule_language.proofs.Imports.{left, right, form_words, tokens_then, Takes, IsRead}
 use Rattle.rule_language.proofs.Passing.{IsEnclosed, tokens_append}
 
 -- four tests that hold make the test of a row with one formula hold

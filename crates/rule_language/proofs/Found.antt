@@ -1,36 +1,21 @@
 -- What a word is that was found.
-use Rattle.std.proofs.Common.{◌≡◌, ◌≢◌, ◌∙◌, ℕ, ◌^◌, ◌<◌, Bool, true, false, ◌&&◌, List, [], ◌∷◌, length, Option, Some}
-use Rattle.std.proofs.Common.{None, Result, Ok, Err, refl, ap, sym, subst, arith, ◌+◌, get_or, drop}
-use Rattle.std.specs.Prelude.{if◌then◌else◌, nat_lt, nat_le, ◌==◌, ◌||◌, is_some}
-use Rattle.std.specs.Str.{bytes_eq}
-use Rattle.std.specs.Fmt.{decimal}
-use Rattle.std.proofs.lemmas.Slice.Eq.{bytes_eq-Decides}
-use Rattle.std.proofs.lemmas.Bool.{ltb-true, lt-ltb, eqb-true, and_parts}
-use Rattle.std.proofs.lemmas.Fmt.{decimal_nonempty}
-use Rattle.std.proofs.lemmas.List.{drop_more}
-use Rattle.roster.specs.declared.post.Role.{Role}
+use Rattle.std.proofs.Common.{[]}
+use Rattle.rule_language.proofs.Imports.{◌≡◌, ◌≢◌, ◌∙◌, ℕ, ◌^◌, ◌<◌, Bool, true, false, ◌&&◌, List, ◌∷◌, length}
+use Rattle.rule_language.proofs.Imports.{Option, Some, None, Result, Ok, Err, refl, ap, sym, subst, arith, ◌+◌}
+use Rattle.rule_language.proofs.Imports.{get_or, drop, if◌then◌else◌, nat_lt, nat_le, ◌==◌, ◌||◌, is_some, bytes_eq}
+use Rattle.rule_language.proofs.Imports.{decimal, bytes_eq-Decides, ltb-true, lt-ltb, eqb-true, and_parts}
+use Rattle.rule_language.proofs.Imports.{decimal_nonempty, drop_more, Role, role_word, Kind, Field, Sort, Term, Of}
+use Rattle.rule_language.proofs.Imports.{Number, Head, RuleWhy, Shape, UnknownKind, SameName, Unbound, WrongField}
+use Rattle.rule_language.proofs.Imports.{first_named, kind_word, entry_kinds, kind_named, field_word, fields}
+use Rattle.rule_language.proofs.Imports.{field_named, role_named, head_word, heads, head_named, has_field}
+use Rattle.rule_language.proofs.Imports.{sort_of_field, is_quantifier, Scope, kind_in, is_letter, is_bound, sort_of}
+use Rattle.rule_language.proofs.Imports.{Token, left, right, variable, term_word, Typed, letter_in, unbound_in}
+use Rattle.rule_language.proofs.Imports.{bound_in, kind_for, or_cause, value_from, number_in, of_field, of_variable}
+use Rattle.rule_language.proofs.Imports.{dotted_in, number_or, term_in, whose_sort, nested, head_for, only, IsTyped}
 use Rattle.roster.specs.declared.post.Role.TheVariants as role
-use Rattle.roster.specs.RosterText.{role_word}
-use Rattle.rule_language.specs.declared.kind.Kind.{Kind}
 use Rattle.rule_language.specs.declared.kind.Kind.TheVariants as kind
-use Rattle.rule_language.specs.declared.kind.Field.{Field}
-use Rattle.rule_language.specs.declared.kind.Sort.{Sort}
 use Rattle.rule_language.specs.declared.kind.Sort.TheVariants as sort
-use Rattle.rule_language.specs.declared.term.Term.{Term}
-use Rattle.rule_language.specs.declared.term.Term.TheVariants.{Of, Number}
-use Rattle.rule_language.specs.declared.form.Head.{Head}
 use Rattle.rule_language.specs.declared.form.Head.TheVariants as head
-use Rattle.rule_language.specs.declared.faults.RuleWhy.{RuleWhy}
-use Rattle.rule_language.specs.declared.faults.RuleWhy.TheVariants.{Shape, UnknownKind, SameName, Unbound, WrongField}
-use Rattle.rule_language.specs.Kinds.{first_named, kind_word, entry_kinds, kind_named, field_word, fields, field_named}
-use Rattle.rule_language.specs.Kinds.{role_named, head_word, heads, head_named, has_field, sort_of_field, is_quantifier}
-use Rattle.rule_language.specs.Scopes.{Scope, kind_in, is_letter}
-use Rattle.rule_language.specs.Lawful.{is_bound, sort_of}
-use Rattle.rule_language.specs.Spelling.{Token, left, right, variable, term_word}
-use Rattle.rule_language.specs.Wants.{Typed, letter_in, unbound_in, bound_in, kind_for, or_cause, value_from, number_in}
-use Rattle.rule_language.specs.Wants.{of_field, of_variable, dotted_in, number_or, term_in, whose_sort, nested}
-use Rattle.rule_language.specs.Wants.{head_for, only}
-use Rattle.rule_language.specs.inside.Reader.{IsTyped}
 
 -- what a test decided
 pub if_first : {A : Type 0} (b : Bool) (r : Result A RuleWhy) (cause : RuleWhy) (a : A)
@@ -39,7 +24,7 @@ pub if_first : {A : Type 0} (b : Bool) (r : Result A RuleWhy) (cause : RuleWhy) 
 if_first true r cause a e = (refl, e)
 if_first false r cause a e = absurd (cc)
 
--- the same of a test that must fail for a result
+-- a test that must fail for a result failed where the result came
 pub if_second : {A : Type 0} (b : Bool) (r : Result A RuleWhy) (cause : RuleWhy) (a : A)
     → (if b then Err cause else r) ≡ Ok a
     → (b ≡ false) × (r ≡ Ok a)
@@ -82,7 +67,7 @@ named_found word_of [] word a e = absurd (cc)
 named_found {A = A} word_of (thing ∷ things) word a e =
     step (bytes_eq word (word_of thing)) refl (λ later. named_found word_of things word a later)
   where
-    -- the same by whether the word is that of the first thing
+    -- by cases: whether the word is that of the first thing
     step : (b : Bool) → bytes_eq word (word_of thing) ≡ b →
         (first_named word_of things word ≡ Some a → word ≡ word_of a)
         → word ≡ word_of a
@@ -106,7 +91,7 @@ pub variable_found : (scope : Scope) (word : Token) (v : ℕ) → bound_in scope
     → (word ≡ variable v) × (variable v ≢ []) × (is_bound scope v ≡ true)
 variable_found scope word v e = found (letter_in word) refl e
   where
-    -- the same by the letter in the token
+    -- by cases: the letter in the token
     found : (o : Option ℕ) → letter_in word ≡ o → bound_in scope o ≡ Ok v
         → (word ≡ variable v) × (variable v ≢ []) × (is_bound scope v ≡ true)
     found None is e = absurd (cc)
@@ -121,7 +106,7 @@ pub new_found : (scope : Scope) (word : Token) (v : ℕ) → unbound_in scope (l
     → (word ≡ variable v) × (variable v ≢ []) × (unbound_in scope (letter_in (variable v)) ≡ Ok v)
 new_found scope word v e = found (letter_in word) refl e
   where
-    -- the same by the letter in the token
+    -- by cases: the letter in the token
     found : (o : Option ℕ) → letter_in word ≡ o → unbound_in scope o ≡ Ok v
         → (word ≡ variable v) × (variable v ≢ []) × (unbound_in scope (letter_in (variable v)) ≡ Ok v)
     found None is e = absurd (cc)
@@ -146,7 +131,7 @@ kind_some kind.Cast e = cc
 kind_some kind.Cancel e = cc
 kind_some kind.Challenge e = cc
 
--- nor are the first words of formulas
+-- the first words of formulas aren't empty
 pub head_some : (h : Head) → head_word h ≢ []
 head_some head.ForEvery e = cc
 head_some head.ForSome e = cc
@@ -162,7 +147,7 @@ head_some head.OfKind e = cc
 head_some head.Equal e = cc
 head_some head.Less e = cc
 
--- nor are those of roles
+-- the words of roles aren't empty
 pub role_some : (r : Role) → role_word r ≢ []
 role_some role.Supervisor e = cc
 role_some role.Booth e = cc
@@ -178,7 +163,7 @@ kind_is_named word k e =
     let b = if_second (bytes_eq word left || bytes_eq word right) (or_cause UnknownKind (kind_named word)) Shape k e in
     or_found UnknownKind (kind_named word) k b.1
 
--- and is its word
+-- a token that was read as a kind is that kind's word
 pub kind_found : (word : Token) (k : Kind) → kind_for word ≡ Ok k → (word ≡ kind_word k) × (kind_word k ≢ []) × Unit {0}
 kind_found word k e = (named_found kind_word entry_kinds word k (kind_is_named word k e), kind_some k, tt)
 
@@ -196,7 +181,7 @@ pub head_found : (scope : Scope) (word : Token) (h : Head) → head_for scope wo
     → (word ≡ head_word h) × (head_word h ≢ []) × (nested scope (Some h) ≡ Ok h)
 head_found scope word h e = found (head_named word) refl e
   where
-    -- the same by the form that the token names
+    -- by cases: the form that the token names
     found : (o : Option Head) → head_named word ≡ o → nested scope o ≡ Ok h
         → (word ≡ head_word h) × (head_word h ≢ []) × (nested scope (Some h) ≡ Ok h)
     found None is e = absurd (cc)
@@ -249,7 +234,7 @@ dotted_found scope (v ∷ dot ∷ name) typed e =
     let both = and_parts (is_letter v) (dot == 46) b.0 in
     bound (kind_in scope v) refl (eqb-true dot 46 both.1) both.0 b.1
   where
-    -- the same by the kind that the letter is bound with
+    -- by cases: the kind that the letter is bound with
     bound : (o : Option Kind) → kind_in scope v ≡ o → dot ≡ 46 → is_letter v ≡ true → of_variable v o name ≡ Ok typed
         → IsTermOf scope (v ∷ dot ∷ name) typed
     bound None is dotted letter e = absurd (cc)
@@ -261,7 +246,7 @@ dotted_found scope (v ∷ dot ∷ name) typed e =
 term_spelt : (scope : Scope) (word : Token) (typed : Typed) → term_in scope word ≡ Ok typed → IsTermOf scope word typed
 term_spelt scope word typed e = found (number_in word) refl e
   where
-    -- the same by the number that the word is
+    -- by cases: the number that the word is
     found : (o : Option ℕ) → number_in word ≡ o → number_or o (dotted_in scope word) ≡ Ok typed
         → IsTermOf scope word typed
     found None is e = dotted_found scope word typed e
@@ -288,7 +273,7 @@ pub term_found : (scope : Scope) (test : Sort → Bool) (word : Token) (typed : 
     → (word ≡ term_word typed.0) × (term_word typed.0 ≢ []) × IsTyped scope test typed
 term_found scope test word (term, of_sort) e = found (term_in scope word) refl e
   where
-    -- the same by what the word was read as
+    -- by cases: what the word was read as
     found : (r : Result Typed RuleWhy) → term_in scope word ≡ r → whose_sort test r ≡ Ok (term, of_sort)
         → (word ≡ term_word term) × (term_word term ≢ []) × IsTyped scope test (term, of_sort)
     found (Err cause) is e = absurd (cc)

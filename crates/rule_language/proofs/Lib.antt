@@ -1,3 +1,4 @@
+mod Imports
 pub mod Stands
 pub mod Numbers
 pub mod Refusals
@@ -22,7 +23,6 @@ pub mod OneList
 pub mod OneFault
 pub mod OneReading
 pub mod StandardText
-pub mod Fills
-pub mod Completing
-pub mod CompletingHeads
+pub mod Onward
+pub mod FormulasThere
 pub mod OfRules

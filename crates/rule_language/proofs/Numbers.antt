@@ -1,14 +1,9 @@
 -- A decimal is read as its number.
-use Rattle.std.proofs.Common.{◌≡◌, ◌∙◌, ℕ, ◌+◌, ◌-◌, ◌*◌, ◌^◌, ◌<◌, Bool, true, false, ◌&&◌, List, [], ◌∷◌, Option}
-use Rattle.std.proofs.Common.{Some, None, refl, ap, sym, arith}
-use Rattle.std.specs.Prelude.{nat_lt, if◌then◌else◌}
-use Rattle.std.specs.Fmt.{decimal}
-use Rattle.std.specs.Str.{bytes_eq}
-use Rattle.std.proofs.lemmas.Slice.Eq.{bytes_eq-Decides}
-use Rattle.std.proofs.lemmas.Bool.{ltb-true, lt-ltb}
-use Rattle.canonical_sexp.specs.Forms.{Finds}
-use Rattle.canonical_sexp.proofs.Decimal.{number_from, number_from-decimal}
-use Rattle.rule_language.specs.Wants.{value_from, number_in}
+use Rattle.std.proofs.Common.{[]}
+use Rattle.rule_language.proofs.Imports.{◌≡◌, ◌∙◌, ℕ, ◌+◌, ◌-◌, ◌*◌, ◌^◌, ◌<◌, Bool, true, false, ◌&&◌, List, ◌∷◌}
+use Rattle.rule_language.proofs.Imports.{Option, Some, None, refl, ap, sym, arith, nat_lt, if◌then◌else◌, decimal}
+use Rattle.rule_language.proofs.Imports.{bytes_eq, bytes_eq-Decides, ltb-true, lt-ltb, Finds, number_from}
+use Rattle.rule_language.proofs.Imports.{number_from-decimal, value_from, number_in}
 
 -- digits have the value here that they have in the library's decimals
 value_is : (n : ℕ) (bytes : List ℕ) → value_from n bytes ≡ number_from n bytes

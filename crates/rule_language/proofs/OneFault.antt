@@ -1,18 +1,12 @@
 -- A text has one first fault, or none.
-use Rattle.std.proofs.Common.{◌≡◌, inl, inr, ◌∙◌, ℕ, ◌+◌, ◌<◌, ◌≤◌, true, false, List, [], ◌∷◌, ◌++◌, length, get_or}
-use Rattle.std.proofs.Common.{map, Ok, Err, refl, ap, sym, subst, ⊎_elim, arith, length-append}
-use Rattle.std.specs.Prelude.{Contains, AllPairs}
-use Rattle.std.proofs.lemmas.Bool.{cases_lt}
-use Rattle.std.proofs.lemmas.List.{map-append, get_or_append_left}
-use Rattle.std.proofs.lemmas.List.Elements.{Contains-append_left, Contains-append_cases}
-use Rattle.hall_text.specs.declared.spans.Span.{Span}
-use Rattle.hall_text.specs.Spans.{IsToken, AreAll, piece}
-use Rattle.hall_text.proofs.TokenLemmas.{same_end, some_bytes}
-use Rattle.hall_text.proofs.OneSpans.{StandsBefore, one_all, first_among, behind_first, tail_ordered, first_is_before}
-use Rattle.rule_language.specs.declared.faults.RuleWhy.{RuleWhy}
-use Rattle.rule_language.specs.Spelling.{Token, StandBefore}
-use Rattle.rule_language.specs.Wants.{Want, Met, meets, behind, begin, is_end}
-use Rattle.rule_language.specs.Reading.{Leaves, IsRuleCause, IsFirstFault, HasNoFault}
+use Rattle.std.proofs.Common.{[]}
+use Rattle.rule_language.proofs.Imports.{◌≡◌, inl, inr, ◌∙◌, ℕ, ◌+◌, ◌<◌, ◌≤◌, true, false, List, ◌∷◌, ◌++◌, length}
+use Rattle.rule_language.proofs.Imports.{get_or, map, Ok, Err, refl, ap, sym, subst, ⊎_elim, arith, length-append}
+use Rattle.rule_language.proofs.Imports.{Contains, AllPairs, cases_lt, map-append, get_or_append_left}
+use Rattle.rule_language.proofs.Imports.{Contains-append_left, Contains-append_cases, Span, IsToken, AreAll, piece}
+use Rattle.rule_language.proofs.Imports.{same_end, some_bytes, StandsBefore, one_all, first_among, behind_first}
+use Rattle.rule_language.proofs.Imports.{tail_ordered, first_is_before, RuleWhy, Token, StandBefore, Want, Met, meets}
+use Rattle.rule_language.proofs.Imports.{behind, begin, is_end, Leaves, IsRuleCause, IsFirstFault, HasNoFault}
 use Rattle.rule_language.proofs.Stands.{token_good}
 use Rattle.rule_language.proofs.Refusals.{first_met, behind_more, ok_wants}
 
@@ -42,7 +36,7 @@ record IsSplit (spans : List Span) (at : ℕ) : Type 0 where
   whole : spans ≡ front ++ rest
   -- those of the front begin before the place
   before : (s : Span) → Contains front s → s.start < at
-  -- the others begin at the place or behind it
+  -- the others begin at the place or after it
   behind_it : (s : Span) → Contains rest s → at ≤ s.start
 
 -- an empty list has nothing in it
@@ -92,12 +86,12 @@ front_ordered xs ys ordered i j d lt within =
     subst (λ (s : Span). (get_or xs i d).start < s.start) b
     (subst (λ (s : Span). s.start < (get_or (xs ++ ys) j d).start) a at)
 
--- and so are those behind it
+-- the back of a list of spans in order is in order
 back_ordered : (xs ys : List Span) → AllPairs StandsBefore (xs ++ ys) → AllPairs StandsBefore ys
 back_ordered [] ys ordered = ordered
 back_ordered (x ∷ xs) ys ordered = back_ordered xs ys (tail_ordered x (xs ++ ys) ordered)
 
--- what stands before a place is a front of what stands before a later one
+-- the tokens before a place are a front of those before a later one
 record IsFront (text : List ℕ) (at later : ℕ) (ts us : List Token) : Type 0 where
   rest : List Span
   -- the further spans are in order
@@ -158,7 +152,7 @@ first_is s (x ∷ xs) ordered among least =
     absurd (omega arith))
     (behind_first x s xs among)
 
--- a token that can't stand isn't passed
+-- a token that isn't allowed isn't passed
 not_passed : (wants left : List Want) (t : Token) (ts : List Token) (why : RuleWhy) → meets wants t ≡ Err why
     → behind (Ok wants) (t ∷ ts) ≡ Ok left → ⊥
 not_passed wants left t ts why against met =
@@ -171,7 +165,7 @@ wants_same : (wants left : List Want) (ts : List Token) → behind (Ok begin) ts
     → behind (Ok begin) ts ≡ Ok left → wants ≡ left
 wants_same wants left ts a b = ok_wants wants left (sym a ∙ b)
 
--- what is left behind tokens
+-- further tokens lead from the wants after the first ones to those after all
 left_behind : (wants left : List Want) (ts us : List Token) → behind (Ok begin) ts ≡ Ok wants
     → behind (Ok begin) (ts ++ us) ≡ Ok left → behind (Ok wants) us ≡ Ok left
 left_behind wants left ts us a b = sym (behind_more begin wants ts us a) ∙ b

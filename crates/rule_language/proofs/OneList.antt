@@ -1,15 +1,12 @@
 -- Tokens are those of one list of rules.
-use Rattle.std.proofs.Common.{◌≡◌, ◌≢◌, inl, inr, ◌∙◌, ℕ, ◌+◌, true, false, List, [], ◌∷◌, ◌++◌, refl, ap, sym, arith}
-use Rattle.std.specs.Prelude.{nat_lt, codes}
-use Rattle.std.specs.Str.{bytes_eq}
-use Rattle.std.proofs.lemmas.Bool.{eqb-true, and_parts}
-use Rattle.rule_language.specs.declared.form.Form.{Form}
+use Rattle.std.proofs.Common.{[]}
+use Rattle.rule_language.proofs.Imports.{◌≡◌, ◌≢◌, inl, inr, ◌∙◌, ℕ, ◌+◌, true, false, List, ◌∷◌, ◌++◌, refl, ap, sym}
+use Rattle.rule_language.proofs.Imports.{arith, nat_lt, codes, bytes_eq, eqb-true, and_parts, Form, Scope, Trees}
+use Rattle.rule_language.proofs.Imports.{no_trees, tree_then, count_of, RuleTree, is_closed, has_arity, is_shallow}
+use Rattle.rule_language.proofs.Imports.{scope_in, are_formulas, is_rule, follow, Token, left, right, form_words}
+use Rattle.rule_language.proofs.Imports.{spelt, tokens_then, rules_tokens}
 use Rattle.rule_language.specs.declared.form.Form.TheVariants as form
-use Rattle.rule_language.specs.Scopes.{Scope}
-use Rattle.rule_language.specs.Trees.{Trees, no_trees, tree_then, count_of, RuleTree}
-use Rattle.rule_language.specs.Lawful.{is_closed, has_arity, is_shallow, scope_in, are_formulas, is_rule, follow}
-use Rattle.rule_language.specs.Spelling.{Token, left, right, form_words, spelt, tokens_then, rules_tokens}
-use Rattle.rule_language.proofs.Passing.{spelt_cases, tokens_append}
+use Rattle.rule_language.proofs.Passing.{IsEnclosed, spelt_cases, tokens_append}
 use Rattle.rule_language.proofs.Passes.{may_stand}
 use Rattle.rule_language.proofs.RulesPass.{rule_good}
 use Rattle.rule_language.proofs.Decoding.{decoded, decoded_as, form_back}
@@ -18,7 +15,7 @@ use Rattle.rule_language.proofs.Decoding.{decoded, decoded_as, form_back}
 first_same : (t u : Token) (ts us : List Token) → t ∷ ts ≡ u ∷ us → t ≡ u
 first_same t u ts us e = cc
 
--- and the same tokens behind it
+-- equal lists have the same tokens after the first
 pub rest_same : (t u : Token) (ts us : List Token) → t ∷ ts ≡ u ∷ us → ts ≡ us
 rest_same t u ts us e = cc
 
@@ -26,7 +23,7 @@ rest_same t u ts us e = cc
 true_left : codes "true" ≡ left → ⊥
 true_left e = cc
 
--- nor the right one
+-- `true` isn't the right parenthesis
 true_right : codes "true" ≡ right → ⊥
 true_right e = cc
 
@@ -51,14 +48,14 @@ spelt_first f inside after =
 abbrev IsNoBefore : List Token → Type 0
 IsNoBefore tokens = (t : Token) × (ts : List Token) × (tokens ≡ t ∷ ts) × (bytes_eq t (codes "before") ≡ false)
 
--- no row of formulas with a parenthesis behind it begins with `before`
+-- no row of formulas with a parenthesis after it begins with `before`
 row_first : (trees : Trees) (after : List Token) → IsNoBefore (tokens_then trees (right ∷ after))
 row_first no_trees after = (right, after, refl, refl)
 row_first (tree_then f parts trees) after =
     let (token, behind_it, is, other, _) = spelt_first f (tokens_then parts []) (tokens_then trees (right ∷ after)) in
     (token, behind_it, is, other)
 
--- words and what stands behind them are those of one form
+-- words and what follows them are those of one form
 words_same : (scope : Scope) (f g : Form) (xs ys : List Token) → is_closed scope f ≡ true → is_closed scope g ≡ true
     → f ≢ form.True → g ≢ form.True
     → IsNoBefore xs → IsNoBefore ys → form_words f ++ xs ≡ form_words g ++ ys → (f ≡ g) × (xs ≡ ys)
@@ -81,7 +78,7 @@ none_there (tree_then f inner trees) e = absurd (omega arith)
 not_true_form : (f : Form) → ((depth : ℕ) → is_shallow depth f ≡ nat_lt depth 32) → f ≢ form.True
 not_true_form f deep is = let shut : true ≡ false = sym (ap (is_shallow 32) is) ∙ deep 32 in absurd (cc)
 
--- the rows are the same, and so is what stands behind them
+-- the rows are the same, and what follows them is the same
 abbrev AreSame : Trees → Trees → List Token → List Token → Type 0
 AreSame a b r s = (a ≡ b) × (r ≡ s)
 
@@ -90,8 +87,7 @@ tree_same : (f g : Form) (pa pb ra rb : Trees) → f ≡ g → pa ≡ pb → ra 
 tree_same f g pa pb ra rb a b c = cc
 
 -- a form in parentheses is spelt as its words, its formulas and the parenthesis
-enclosed_tokens : (f : Form) (parts : Trees) (after : List Token)
-    → ((inner behind : List Token) → spelt f inner behind ≡ left ∷ (form_words f ++ (inner ++ right ∷ behind)))
+pub enclosed_tokens : (f : Form) (parts : Trees) (after : List Token) → IsEnclosed f
     → spelt f (tokens_then parts []) after ≡ left ∷ (form_words f ++ tokens_then parts (right ∷ after))
 enclosed_tokens f parts after other =
     other (tokens_then parts []) after ∙ ap (λ ts. left ∷ (form_words f ++ ts))
@@ -104,13 +100,14 @@ IsOne a =
     → are_formulas scope depth b ≡ true
     → tokens_then a (right ∷ r) ≡ tokens_then b (right ∷ s) → AreSame a b r s
 
+-- a form in parentheses doesn't begin with `true`
+true_differs : (f : Form) (inside xs ys : List Token) → IsEnclosed f → codes "true" ∷ xs ≡ spelt f inside ys → ⊥
+true_differs f inside xs ys enclosed e =
+    true_left (first_same (codes "true") left xs (form_words f ++ (inside ++ right ∷ ys)) (e ∙ enclosed inside ys))
+
 -- `true` has no formulas in it
 no_parts : (f : Form) (parts : Trees) → f ≡ form.True → has_arity f (count_of parts) ≡ true → parts ≡ no_trees
 no_parts f parts is arity = none_there parts (eqb-true (count_of parts) 0 (rw is at arity))
-
--- the form is spelt in parentheses
-abbrev IsEnclosed : Form → Type 0
-IsEnclosed f = (inner behind : List Token) → spelt f inner behind ≡ left ∷ (form_words f ++ (inner ++ right ∷ behind))
 
 module _ (f g : Form) (pa pb ra rb : Trees) (scope : Scope) (depth : ℕ) (r s : List Token) (parts : IsOne pa)
     (rest : IsOne ra)
@@ -124,8 +121,7 @@ module _ (f g : Form) (pa pb ra rb : Trees) (scope : Scope) (depth : ℕ) (r s :
       let ma = may_stand scope depth f pa ra ga in
       let mb = may_stand scope depth g pb rb gb in
       let ea : codes "true" ∷ tokens_then ra (right ∷ r) ≡ codes "true" ∷ tokens_then rb (right ∷ s) =
-      sym (ap (λ h. spelt h (tokens_then pa []) (tokens_then ra (right ∷ r))) ft) ∙ e
-      ∙ ap (λ h. spelt h (tokens_then pb []) (tokens_then rb (right ∷ s))) gt in
+      rw gt at (rw ft at e) in
       let tails = rest rb scope depth r s ma.1 mb.1
       (rest_same (codes "true") (codes "true") (tokens_then ra (right ∷ r)) (tokens_then rb (right ∷ s)) ea) in
       let pa_none = no_parts f pa ft ma.0.2 in
@@ -151,38 +147,25 @@ module _ (f g : Form) (pa pb ra rb : Trees) (scope : Scope) (depth : ℕ) (r s :
       let tails = rest rb scope depth r s good_ra good_rb inside.1 in
       (tree_same f g pa pb ra rb form_is inside.0 tails.0, tails.1)
 
-  -- a row that begins with `true` isn't spelt as one that begins with a parenthesis
-  left_true : f ≡ form.True → IsEnclosed g → ⊥
-  left_true ft ge =
-      let ea : codes "true" ∷ tokens_then ra (right ∷ r)
-      ≡ left ∷ (form_words g ++ tokens_then pb (right ∷ tokens_then rb (right ∷ s))) =
-      sym (ap (λ h. spelt h (tokens_then pa []) (tokens_then ra (right ∷ r))) ft) ∙ e
-      ∙ enclosed_tokens g pb (tokens_then rb (right ∷ s)) ge in
-      true_left (first_same (codes "true") left (tokens_then ra (right ∷ r))
-      (form_words g ++ tokens_then pb (right ∷ tokens_then rb (right ∷ s))) ea)
-
-  -- nor the other way round
-  right_true : g ≡ form.True → IsEnclosed f → ⊥
-  right_true gt fe =
-      let ea : codes "true" ∷ tokens_then rb (right ∷ s)
-      ≡ left ∷ (form_words f ++ tokens_then pa (right ∷ tokens_then ra (right ∷ r))) =
-      sym (ap (λ h. spelt h (tokens_then pb []) (tokens_then rb (right ∷ s))) gt) ∙ sym e
-      ∙ enclosed_tokens f pa (tokens_then ra (right ∷ r)) fe in
-      true_left (first_same (codes "true") left (tokens_then rb (right ∷ s))
-      (form_words f ++ tokens_then pa (right ∷ tokens_then ra (right ∷ r))) ea)
-
   -- rows of the same tokens are one, whatever they begin with
   node_same : AreSame (tree_then f pa ra) (tree_then g pb rb) r s
   node_same =
       elim (spelt_cases f) [
-        | inl ft ↦ elim (spelt_cases g) [ inl gt ↦ truths ft gt | inr (ge, _) ↦ absurd (left_true ft ge) ]
+        | inl ft ↦ elim (spelt_cases g) [
+          | inl gt ↦ truths ft gt
+          | inr (ge, _) ↦
+              absurd (true_differs g (tokens_then pb []) (tokens_then ra (right ∷ r)) (tokens_then rb (right ∷ s)) ge
+              (rw ft at e))
+        ]
         | inr (fe, deep_f) ↦ elim (spelt_cases g) [
-          | inl gt ↦ absurd (right_true gt fe)
+          | inl gt ↦
+              absurd (true_differs f (tokens_then pa []) (tokens_then rb (right ∷ s)) (tokens_then ra (right ∷ r)) fe
+              (sym (rw gt at e)))
           | inr (ge, deep_g) ↦ enclosures fe ge (not_true_form f deep_f) (not_true_form g deep_g)
         ]
       ]
 
--- formulas in a row with a parenthesis behind them are one row
+-- formulas in a row with a parenthesis after them are one row
 pub row_same : (a : Trees) → IsOne a
 row_same no_trees no_trees scope depth r s ga gb e = (refl, rest_same right right r s e)
 row_same no_trees (tree_then g pb rb) scope depth r s ga gb e =

@@ -1,14 +1,7 @@
 -- A text is read in one way.
-use Rattle.std.proofs.Common.{◌≡◌, ℕ, List, length, Result, Ok, Err, ap}
-use Rattle.std.proofs.lemmas.Bool.{and_parts}
-use Rattle.std.specs.Prelude.{nat_lt, []}
-use Rattle.rule_language.specs.declared.faults.RuleWhy.{RuleWhy}
-use Rattle.rule_language.specs.declared.faults.RuleFault.{RuleFault}
-use Rattle.rule_language.specs.declared.faults.RuleFault.TheVariants.{At, Memory}
-use Rattle.rule_language.specs.Trees.{RuleTree}
-use Rattle.rule_language.specs.Lawful.{follow}
-use Rattle.rule_language.specs.Spelling.{IsTextOf, rules_tokens}
-use Rattle.rule_language.specs.Reading.{Reads}
+use Rattle.rule_language.proofs.Imports.{◌≡◌, ℕ, List, length, Result, Ok, Err, ap, and_parts, nat_lt, RuleWhy}
+use Rattle.rule_language.proofs.Imports.{RuleFault, At, Memory, RuleTree, follow, IsTextOf, rules_tokens, Reads}
+use Rattle.std.specs.Prelude.{[]}
 use Rattle.rule_language.proofs.RulesPass.{no_fault}
 use Rattle.rule_language.proofs.OneList.{rules_same}
 use Rattle.rule_language.proofs.OneFault.{one_before, one_fault, fault_or_none}

@@ -1,14 +1,10 @@
 -- Formulas in a row, one by one.
-use Rattle.std.proofs.Common.{◌≡◌, ◌∙◌, ℕ, ◌+◌, ◌-◌, ◌≤◌, Bool, true, false, ◌&&◌, List, [], ◌∷◌, ◌++◌, length, Ok}
-use Rattle.std.proofs.Common.{refl, ap, sym, arith}
-use Rattle.std.proofs.lemmas.Bool.{ne_eqb, and_parts}
-use Rattle.rule_language.specs.declared.formula.Formula.{Formula}
-use Rattle.rule_language.specs.Scopes.{Scope}
-use Rattle.rule_language.specs.Trees.{Trees, no_trees, tree_then, count_of}
-use Rattle.rule_language.specs.Forms.{in_front, tree_of, trees_of}
-use Rattle.rule_language.specs.Lawful.{is_closed, has_arity, is_shallow, scope_in, are_formulas}
-use Rattle.rule_language.specs.Spelling.{Token, tokens_then}
-use Rattle.rule_language.specs.Wants.{Want, formula, more, behind}
+use Rattle.std.proofs.Common.{[]}
+use Rattle.rule_language.proofs.Imports.{◌≡◌, ◌∙◌, ℕ, ◌+◌, ◌-◌, ◌≤◌, Bool, true, false, ◌&&◌, List, ◌∷◌, ◌++◌, length}
+use Rattle.rule_language.proofs.Imports.{Ok, refl, ap, sym, arith, ne_eqb, and_parts, Formula, Scope, Trees, no_trees}
+use Rattle.rule_language.proofs.Imports.{tree_then, count_of, in_front, tree_of, trees_of, is_closed, has_arity}
+use Rattle.rule_language.proofs.Imports.{is_shallow, scope_in, are_formulas, Token, tokens_then, Want, formula, more}
+use Rattle.rule_language.proofs.Imports.{behind}
 use Rattle.rule_language.proofs.Views.{shape}
 use Rattle.rule_language.proofs.Passing.{more_wanted}
 use Rattle.rule_language.proofs.Passes.{passes, may_stand}
@@ -44,7 +40,7 @@ good-front scope depth p rest one others =
     (are_formulas (scope_in outer scope) (depth + 1) parts) (are_formulas scope depth rest)
     (sym (ap (are_formulas scope depth) (view no_trees)) ∙ one) others
 
--- one more behind others
+-- the tokens of one more formula come after those of the others
 pub tokens-push : (ps : List Formula) (p : Formula) (after : List Token)
     → tokens_then (trees_of (ps ++ p ∷ [])) after ≡ tokens_then (trees_of ps) (tokens_then (tree_of p) after)
 tokens-push [] p after = tokens-front p no_trees after
@@ -74,7 +70,7 @@ good-parts scope depth q rest good =
     (are_formulas (scope_in outer scope) (depth + 1) parts && are_formulas scope depth rest) open_good in
     (ap (are_formulas scope depth) (view no_trees) ∙ rw stands (rw inner refl), others)
 
--- a lawful formula behind lawful ones makes a lawful row
+-- a lawful formula after lawful ones makes a lawful row
 pub good-push : (scope : Scope) (depth : ℕ) (ps : List Formula) (p : Formula)
     → are_formulas scope depth (trees_of ps) ≡ true
     → are_formulas scope depth (tree_of p) ≡ true → are_formulas scope depth (trees_of (ps ++ p ∷ [])) ≡ true

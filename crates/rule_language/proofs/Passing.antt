@@ -1,40 +1,26 @@
 -- The tokens of formulas and rules meet what is wanted.
-use Rattle.std.proofs.Common.{◌≡◌, ◌⊎◌, inl, inr, ◌∙◌, ℕ, ◌+◌, ◌-◌, ◌^◌, ◌<◌, ◌≤◌, Bool, true, false, ◌&&◌, List, []}
-use Rattle.std.proofs.Common.{◌∷◌, ◌++◌, length, Option, Some, None, Result, Ok, Err, refl, ap, sym, subst, arith}
-use Rattle.std.proofs.Common.{append_assoc}
-use Rattle.std.specs.Prelude.{if◌then◌else◌, nat_lt, nat_le, not, ◌==◌, is_some}
-use Rattle.std.specs.Fmt.{decimal}
-use Rattle.std.proofs.lemmas.Bool.{ltb-true, le-ltb, leb-true, not-true, and_parts}
-use Rattle.roster.specs.declared.post.Role.{Role}
+use Rattle.std.proofs.Common.{[]}
+use Rattle.rule_language.proofs.Imports.{◌≡◌, ◌⊎◌, inl, inr, ◌∙◌, ℕ, ◌+◌, ◌-◌, ◌^◌, ◌<◌, ◌≤◌, Bool, true, false, ◌&&◌}
+use Rattle.rule_language.proofs.Imports.{List, ◌∷◌, ◌++◌, length, Option, Some, None, Result, Ok, Err, refl, ap, sym}
+use Rattle.rule_language.proofs.Imports.{subst, arith, append_assoc, if◌then◌else◌, nat_lt, nat_le, not, ◌==◌, is_some}
+use Rattle.rule_language.proofs.Imports.{decimal, ltb-true, le-ltb, leb-true, not-true, and_parts, Role, role_word}
+use Rattle.rule_language.proofs.Imports.{Kind, Field, Sort, Term, Of, Number, Head, Form, RuleWhy, Shape, WrongField}
+use Rattle.rule_language.proofs.Imports.{kind_word, field_word, field_named, role_named, head_word, head_named}
+use Rattle.rule_language.proofs.Imports.{has_field, sort_of_field, is_ordered, is_same_sort, Scope, kind_in, is_letter}
+use Rattle.rule_language.proofs.Imports.{Trees, no_trees, tree_then, count_of, is_bound, can_bind, sort_of, field_sort}
+use Rattle.rule_language.proofs.Imports.{are_of_one_sort, has_order, is_shallow, are_formulas, Token, left, right}
+use Rattle.rule_language.proofs.Imports.{variable, term_word, form_words, spelt, tokens_then, Want, Typed, formula}
+use Rattle.rule_language.proofs.Imports.{head, new_variable, kind_of, before_or_body, more, a_variable, a_role, a_kind}
+use Rattle.rule_language.proofs.Imports.{first_term, second_term, close, or_cause, kind_for, number_in, of_variable}
+use Rattle.rule_language.proofs.Imports.{term_in, may_begin, nested, behind_head, meets, behind, AreDigits}
+use Rattle.rule_language.proofs.Imports.{decimal_digits}
 use Rattle.roster.specs.declared.post.Role.TheVariants as role
-use Rattle.roster.specs.RosterText.{role_word}
-use Rattle.rule_language.specs.declared.kind.Kind.{Kind}
 use Rattle.rule_language.specs.declared.kind.Kind.TheVariants as kind
-use Rattle.rule_language.specs.declared.kind.Field.{Field}
 use Rattle.rule_language.specs.declared.kind.Field.TheVariants as field
-use Rattle.rule_language.specs.declared.kind.Sort.{Sort}
 use Rattle.rule_language.specs.declared.kind.Sort.TheVariants as sort
-use Rattle.rule_language.specs.declared.term.Term.{Term}
-use Rattle.rule_language.specs.declared.term.Term.TheVariants.{Of, Number}
-use Rattle.rule_language.specs.declared.form.Head.{Head}
 use Rattle.rule_language.specs.declared.form.Head.TheVariants as begins
-use Rattle.rule_language.specs.declared.form.Form.{Form}
 use Rattle.rule_language.specs.declared.form.Form.TheVariants as form
-use Rattle.rule_language.specs.declared.faults.RuleWhy.{RuleWhy}
-use Rattle.rule_language.specs.declared.faults.RuleWhy.TheVariants.{Shape, WrongField, TooDeep}
-use Rattle.rule_language.specs.Kinds.{kind_word, field_word, field_named, role_named, head_word, head_named, has_field}
-use Rattle.rule_language.specs.Kinds.{sort_of_field, is_quantifier, is_ordered, is_same_sort}
-use Rattle.rule_language.specs.Scopes.{Scope, kind_in, is_letter}
-use Rattle.rule_language.specs.Trees.{Trees, no_trees, tree_then, count_of}
-use Rattle.rule_language.specs.Lawful.{is_bound, can_bind, sort_of, field_sort, are_of_one_sort, has_order, is_shallow}
-use Rattle.rule_language.specs.Lawful.{are_formulas}
-use Rattle.rule_language.specs.Spelling.{Token, left, right, variable, term_word, form_words, spelt, tokens_then}
-use Rattle.rule_language.specs.Wants.{Want, Met, Typed, formula, head, new_variable, kind_of, before_or_body, more}
-use Rattle.rule_language.specs.Wants.{a_variable, a_role, a_kind, first_term, second_term, close}
-use Rattle.rule_language.specs.Wants.{or_cause, then_want, kind_for, number_in, of_variable, term_in, whose_sort}
-use Rattle.rule_language.specs.Wants.{may_begin, nested, behind_head, meets_formula, meets, behind}
 use Rattle.rule_language.proofs.Numbers.{number-found}
-use Rattle.canonical_sexp.proofs.Decimal.{AreDigits, decimal_digits}
 use Rattle.rule_language.proofs.Found.{number_spelt}
 
 -- each word names what it is the word of
@@ -80,7 +66,7 @@ head_named_word begins.OfKind = refl
 head_named_word begins.Equal = refl
 head_named_word begins.Less = refl
 
--- the wants behind a token that is good there
+-- a bound variable meets the want of a variable and leaves the rest
 pub variable_passes : (scope : Scope) (v : ℕ) (rest : List Want) → is_bound scope v ≡ true
     → meets (a_variable scope ∷ rest) (variable v) ≡ Ok rest
 variable_passes scope v rest bound =
@@ -118,7 +104,7 @@ field_is : (v : ℕ) (o : Option Kind) (f : Field) (s : Sort) → field_sort o f
 field_is v None f s e = absurd (cc)
 field_is v (Some k) f s e = rw (field_named_word f) (has (has_field k f) e)
   where
-    -- the same by whether the kind has the field
+    -- by cases: whether the kind has the field
     has : (b : Bool) → (if b then Some (sort_of_field f) else None) ≡ Some s
         → (if b then Ok (Of v f, sort_of_field f) else Err WrongField) ≡ typed_of (Of v f, s)
     has true e = let same : sort_of_field f ≡ s = cc in rw same refl
@@ -161,14 +147,16 @@ term_is scope (Of v f) s e = letter (is_letter v) refl e
     letter true is e = rw (no_number v (46 ∷ field_word f) is) (rw is (field_is v (kind_in scope v) f s e))
     letter false is e = absurd (cc)
 
+-- inside fewer than 32 parentheses one more isn't too deep
+pub not_deep : (depth : ℕ) → nat_lt depth 32 ≡ true → nat_le 32 depth ≡ false
+not_deep depth shallow = let lt : depth < 32 = ltb-true depth 32 shallow in le-ltb 31 depth (omega arith)
+
 -- a formula may begin
 pub open_passes : (scope : Scope) (depth : ℕ) (rest : List Want) → nat_lt depth 32 ≡ true
     → meets (formula scope depth ∷ rest) left ≡ Ok (head scope (depth + 1) ∷ rest)
-open_passes scope depth rest shallow =
-    let lt : depth < 32 = ltb-true depth 32 shallow in
-    rw (le-ltb 31 depth (omega arith)) refl
+open_passes scope depth rest shallow = rw (not_deep depth shallow) refl
 
--- the first word of a form that may begin leaves what that word asks for
+-- the first word of a form that may begin leaves the wants of that word
 pub head_passes : (scope : Scope) (depth : ℕ) (h : Head) (rest : List Want) → nested scope (Some h) ≡ Ok h
     → meets (head scope depth ∷ rest) (head_word h) ≡ Ok (behind_head scope depth rest h)
 head_passes scope depth h rest good = rw (head_named_word h) (rw good refl)
@@ -182,7 +170,7 @@ step wants next token tokens e = ap (λ met. behind met tokens) e
 abbrev pub IsEnclosed : Form → Type 0
 IsEnclosed f = (inside after : List Token) → spelt f inside after ≡ left ∷ (form_words f ++ (inside ++ right ∷ after))
 
--- a form is `true`, or it stands in parentheses and has to be shallow
+-- a form is `true`, or it is in parentheses and has to be shallow
 pub spelt_cases : (f : Form) → (f ≡ form.True) ⊎ (IsEnclosed f × ((depth : ℕ) → is_shallow depth f ≡ nat_lt depth 32))
 spelt_cases form.True = inl refl
 spelt_cases (form.ForEvery v k) = inr (λ x y. refl, λ d. refl)
@@ -201,7 +189,7 @@ spelt_cases (form.OfKind v k) = inr (λ x y. refl, λ d. refl)
 spelt_cases (form.Equal t u) = inr (λ x y. refl, λ d. refl)
 spelt_cases (form.Less t u) = inr (λ x y. refl, λ d. refl)
 
--- what follows a form stands behind its tokens
+-- what follows a form comes after its tokens
 spelt_append : (f : Form) (inside a b : List Token) → spelt f inside (a ++ b) ≡ spelt f inside a ++ b
 spelt_append f inside a b =
     elim (spelt_cases f) [
@@ -213,7 +201,7 @@ spelt_append f inside a b =
           ∙ sym (ap (λ ts. ts ++ b) (other.0 inside a))
     ]
 
--- what follows a row stands behind its tokens
+-- what follows a row comes after its tokens
 pub tokens_append : (trees : Trees) (a b : List Token) → tokens_then trees (a ++ b) ≡ tokens_then trees a ++ b
 tokens_append no_trees a b = refl
 tokens_append (tree_then f parts rest) a b =
@@ -225,21 +213,21 @@ abbrev pub wants_for : Trees → Scope → ℕ → List Want → List Want
 wants_for no_trees scope depth rest = rest
 wants_for (tree_then f parts trees) scope depth rest = formula scope depth ∷ wants_for trees scope depth rest
 
--- a row of one formula asks for one
+-- a row of one formula wants one
 pub one_wanted : (trees : Trees) (scope : Scope) (depth : ℕ) (rest : List Want) → count_of trees ≡ 1
     → wants_for trees scope depth rest ≡ formula scope depth ∷ rest
 one_wanted no_trees scope depth rest e = absurd (omega arith)
 one_wanted (tree_then f parts no_trees) scope depth rest e = refl
 one_wanted (tree_then f parts (tree_then g inner trees)) scope depth rest e = absurd (omega arith)
 
--- a row of two formulas asks for two
+-- a row of two formulas wants two
 pub two_wanted : (trees : Trees) (scope : Scope) (depth : ℕ) (rest : List Want) → count_of trees ≡ 2
     → wants_for trees scope depth rest ≡ formula scope depth ∷ formula scope depth ∷ rest
 two_wanted no_trees scope depth rest e = absurd (omega arith)
 two_wanted (tree_then f parts trees) scope depth rest e =
     ap (λ wants. formula scope depth ∷ wants) (one_wanted trees scope depth rest (omega arith))
 
--- a formula may stand where another token might
+-- where `before` or a body is wanted, a formula is read as the body
 pub body_wanted : (f : Form) (inside after : List Token) (v : ℕ) (k : Kind) (scope : Scope) (depth : ℕ)
     (rest : List Want)
     → behind (Ok (before_or_body v k scope depth ∷ rest)) (spelt f inside after)
@@ -257,17 +245,9 @@ pub more_wanted : (f : Form) (inside after : List Token) (n : ℕ) (scope : Scop
     ≡ behind (Ok (formula scope depth ∷ more (n - 1) scope depth ∷ rest)) (spelt f inside after)
 more_wanted f inside after n scope depth rest some =
     elim (spelt_cases f) [
-      | inl is ↦ rw is (ap (λ met. behind met after) (otherwise (n == 0) (Ok (more (n - 1) scope depth ∷ rest)) some))
-      | inr other ↦
-          rw (other.0 inside after)
-          (ap (λ met. behind met (form_words f ++ (inside ++ right ∷ after)))
-          (otherwise (n == 0) (meets_formula scope depth (more (n - 1) scope depth ∷ rest) left) some))
+      | inl is ↦ rw is (rw (some, behind) refl)
+      | inr other ↦ rw (other.0 inside after) (rw (some, behind) refl)
     ]
-  where
-    -- where the test fails, its cause isn't told
-    otherwise : (b : Bool) (met : Met) → b ≡ false → (if b then Err Shape else met) ≡ met
-    otherwise true met e = absurd (cc)
-    otherwise false met e = refl
 
 -- what is shown of a row: each of its formulas passes where it is wanted
 abbrev pub RowPasses : Trees → Type 0
@@ -275,41 +255,22 @@ RowPasses trees =
     (scope : Scope) (depth : ℕ) (rest : List Want) (after : List Token) → are_formulas scope depth trees ≡ true
     → behind (Ok (wants_for trees scope depth rest)) (tokens_then trees after) ≡ behind (Ok rest) after
 
--- and so do they as further formulas of an `and` or an `or`
+-- what is shown of a row: its formulas pass as further formulas of an `and` or an `or`
 abbrev pub MembersPass : Trees → Type 0
 MembersPass trees =
     (n : ℕ) (scope : Scope) (depth : ℕ) (rest : List Want) (after : List Token) → count_of trees ≤ n
     → are_formulas scope depth trees ≡ true
     → behind (Ok (more n scope depth ∷ rest)) (tokens_then trees (right ∷ after)) ≡ behind (Ok rest) after
 
--- the parenthesis and the first word
-pub begin_passes : (scope : Scope) (depth : ℕ) (h : Head) (rest : List Want) (tokens : List Token)
-    → nat_lt depth 32 ≡ true
-    → nested scope (Some h) ≡ Ok h
-    → behind (Ok (formula scope depth ∷ rest)) (left ∷ head_word h ∷ tokens)
-    ≡ behind (Ok (behind_head scope (depth + 1) rest h)) tokens
-begin_passes scope depth h rest tokens shallow good =
-    step (formula scope depth ∷ rest) (head scope (depth + 1) ∷ rest) left (head_word h ∷ tokens)
-    (open_passes scope depth rest shallow)
-    ∙ step (head scope (depth + 1) ∷ rest) (behind_head scope (depth + 1) rest h) (head_word h) tokens
-    (head_passes scope (depth + 1) h rest good)
-
--- a quantifier may begin where a variable may be bound
-pub quantifier_begins : (scope : Scope) (v : ℕ) (h : Head) → can_bind scope v ≡ true → nested scope (Some h) ≡ Ok h
-quantifier_begins scope v h can =
+-- where a variable may be bound fewer than four quantifiers are around it
+pub few_around : (scope : Scope) (v : ℕ) → can_bind scope v ≡ true → nat_le 4 (length scope) ≡ false
+few_around scope v can =
     let b = and_parts (is_letter v) (not (is_some (kind_in scope v)) && nat_lt (length scope) 4) can in
     let d = and_parts (not (is_some (kind_in scope v))) (nat_lt (length scope) 4) b.1 in
     let lt : length scope < 4 = ltb-true (length scope) 4 d.1 in
-    let few : nat_le 4 (length scope) ≡ false = le-ltb 3 (length scope) (omega arith) in
-    test (is_quantifier h) (nat_le 4 (length scope)) few
-  where
-    -- a quantifier with fewer than four around it isn't too deep
-    test : (a b : Bool) → b ≡ false → (if a && b then Err TooDeep else Ok h) ≡ Ok h
-    test a true e = absurd (cc)
-    test true false e = refl
-    test false false e = refl
+    le-ltb 3 (length scope) (omega arith)
 
--- one formula, and the parenthesis behind it
+-- one formula and the parenthesis after it pass
 pub one_passes : (parts : Trees) (scope : Scope) (depth : ℕ) (rest : List Want) (after : List Token) → RowPasses parts
     → count_of parts ≡ 1 → are_formulas scope depth parts ≡ true
     → behind (Ok (formula scope depth ∷ close ∷ rest)) (tokens_then parts (right ∷ after)) ≡ behind (Ok rest) after
@@ -318,7 +279,7 @@ one_passes parts scope depth rest after row one good =
     (sym (one_wanted parts scope depth (close ∷ rest) one))
     ∙ row scope depth (close ∷ rest) (right ∷ after) good
 
--- two formulas, and the parenthesis behind them
+-- two formulas and the parenthesis after them pass
 pub two_pass : (parts : Trees) (scope : Scope) (depth : ℕ) (rest : List Want) (after : List Token) → RowPasses parts
     → count_of parts ≡ 2 → are_formulas scope depth parts ≡ true
     → behind (Ok (formula scope depth ∷ formula scope depth ∷ close ∷ rest)) (tokens_then parts (right ∷ after))
@@ -343,10 +304,8 @@ pub quantified : (scope : Scope) (depth v : ℕ) (k : Kind) (rest : List Want) (
     → behind (Ok (new_variable scope depth ∷ rest)) (variable v ∷ kind_word k ∷ tokens)
     ≡ behind (Ok (before_or_body v k scope depth ∷ rest)) tokens
 quantified scope depth v k rest tokens can =
-    step (new_variable scope depth ∷ rest) (kind_of v scope depth ∷ rest) (variable v) (kind_word k ∷ tokens)
-    (new_passes scope depth v rest can)
-    ∙ step (kind_of v scope depth ∷ rest) (before_or_body v k scope depth ∷ rest) (kind_word k) tokens
-    (kind_of_passes scope depth v k rest)
+    ap (λ met. behind met (kind_word k ∷ tokens)) (new_passes scope depth v rest can)
+    ∙ ap (λ met. behind met tokens) (kind_of_passes scope depth v k rest)
 
 -- two variables
 pub pair_passes : (scope : Scope) (v u : ℕ) (rest : List Want) (after : List Token)
@@ -355,39 +314,21 @@ pub pair_passes : (scope : Scope) (v u : ℕ) (rest : List Want) (after : List T
     ≡ behind (Ok rest) after
 pair_passes scope v u rest after bound =
     let b = and_parts (is_bound scope v) (is_bound scope u) bound in
-    step (a_variable scope ∷ a_variable scope ∷ close ∷ rest) (a_variable scope ∷ close ∷ rest) (variable v)
-    (variable u ∷ right ∷ after)
-    (variable_passes scope v (a_variable scope ∷ close ∷ rest) b.0)
-    ∙ step (a_variable scope ∷ close ∷ rest) (close ∷ rest) (variable u) (right ∷ after)
-    (variable_passes scope u (close ∷ rest) b.1)
+    ap (λ met. behind met (variable u ∷ right ∷ after)) (variable_passes scope v (a_variable scope ∷ close ∷ rest) b.0)
+    ∙ ap (λ met. behind met (right ∷ after)) (variable_passes scope u (close ∷ rest) b.1)
 
 -- two terms
 pub first_passes : (scope : Scope) (ordered : Bool) (t : Term) (s : Sort) (rest : List Want) → sort_of scope t ≡ Some s
     → may_begin ordered s ≡ true → meets (first_term ordered scope ∷ rest) (term_word t) ≡ Ok
     (second_term s scope ∷ rest)
-first_passes scope ordered t s rest sorted may =
-    ap (λ r. then_want (whose_sort (may_begin ordered) r) (λ term. second_term term.1 scope ∷ rest))
-    (term_is scope t s sorted)
-    ∙ ap (λ r. then_want r (λ term. second_term term.1 scope ∷ rest)) (test (may_begin ordered s) may)
-  where
-    -- a term whose sort is allowed there is taken
-    test : (b : Bool) → b ≡ true → (if b then typed_of (t, s) else Err WrongField) ≡ typed_of (t, s)
-    test true e = refl
-    test false e = absurd (cc)
+first_passes scope ordered t s rest sorted may = rw (term_is scope t s sorted) (rw may refl)
 
 -- a second term passes that has the first one's sort
 pub second_passes : (scope : Scope) (wanted : Sort) (u : Term) (s : Sort) (rest : List Want) → sort_of scope u ≡ Some s
     → is_same_sort wanted s ≡ true → meets (second_term wanted scope ∷ rest) (term_word u) ≡ Ok rest
-second_passes scope wanted u s rest sorted same =
-    ap (λ r. then_want (whose_sort (is_same_sort wanted) r) (λ term. rest)) (term_is scope u s sorted)
-    ∙ ap (λ r. then_want r (λ term. rest)) (test (is_same_sort wanted s) same)
-  where
-    -- a term whose sort is allowed there is taken
-    test : (b : Bool) → b ≡ true → (if b then typed_of (u, s) else Err WrongField) ≡ typed_of (u, s)
-    test true e = refl
-    test false e = absurd (cc)
+second_passes scope wanted u s rest sorted same = rw (term_is scope u s sorted) (rw same refl)
 
--- two terms of one sort pass, with the parenthesis behind them
+-- two terms of one sort and the parenthesis after them pass
 pub terms_pass : (scope : Scope) (ordered : Bool) (t u : Term) (rest : List Want) (after : List Token)
     → are_of_one_sort (sort_of scope t) (sort_of scope u) ≡ true
     → ((s : Sort) → sort_of scope t ≡ Some s → may_begin ordered s ≡ true)
@@ -395,18 +336,16 @@ pub terms_pass : (scope : Scope) (ordered : Bool) (t u : Term) (rest : List Want
     (Ok rest) after
 terms_pass scope ordered t u rest after same may = sorts (sort_of scope t) (sort_of scope u) refl refl same
   where
-    -- the same by the sorts of the two terms
+    -- by cases: the sorts of the two terms
     sorts : (a b : Option Sort) → sort_of scope t ≡ a → sort_of scope u ≡ b → are_of_one_sort a b ≡ true
         → behind (Ok (first_term ordered scope ∷ close ∷ rest)) (term_word t ∷ term_word u ∷ right ∷ after) ≡ behind
         (Ok rest) after
     sorts None b ta ub one = absurd (cc)
     sorts (Some s) None ta ub one = absurd (cc)
     sorts (Some s) (Some o) ta ub one =
-        step (first_term ordered scope ∷ close ∷ rest) (second_term s scope ∷ close ∷ rest) (term_word t)
-        (term_word u ∷ right ∷ after)
+        ap (λ met. behind met (term_word u ∷ right ∷ after))
         (first_passes scope ordered t s (close ∷ rest) ta (may s ta))
-        ∙ step (second_term s scope ∷ close ∷ rest) (close ∷ rest) (term_word u) (right ∷ after)
-        (second_passes scope s u o (close ∷ rest) ub one)
+        ∙ ap (λ met. behind met (right ∷ after)) (second_passes scope s u o (close ∷ rest) ub one)
 
 -- the sort of a term that has an order is one that has an order
 pub order_begins : (scope : Scope) (t : Term) → has_order (sort_of scope t) ≡ true → (s : Sort)

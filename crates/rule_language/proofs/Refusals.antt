@@ -1,20 +1,14 @@
--- What is refused at a place, and how a fault behind some tokens is one before them.
-use Rattle.std.proofs.Common.{◌≡◌, ◌≢◌, inl, inr, ◌∙◌, ℕ, ◌<◌, ◌≤◌, Bool, true, false, List, [], ◌∷◌, ◌++◌, length}
-use Rattle.std.proofs.Common.{Result, Ok, Err, refl, sym, ap, subst, ⊎_elim, arith, append_assoc, append-nil}
-use Rattle.std.specs.Prelude.{if◌then◌else◌, nat_le, ◌==◌, IfOk, IsErrAnd}
-use Rattle.std.proofs.lemmas.Bool.{cases_lt, leb-true, leb-false, eqb-true, eqb-false}
-use Rattle.hall_text.specs.declared.spans.Span.{Span}
-use Rattle.hall_text.specs.Spans.{IsToken, piece}
-use Rattle.hall_text.proofs.TokenLemmas.{same_end, some_bytes}
+-- What is refused at a place, and how a fault after some tokens is one before them.
+use Rattle.std.proofs.Common.{[]}
+use Rattle.rule_language.proofs.Imports.{◌≡◌, ◌≢◌, inl, inr, ◌∙◌, ℕ, ◌<◌, ◌≤◌, Bool, true, false, List, ◌∷◌, ◌++◌}
+use Rattle.rule_language.proofs.Imports.{length, Result, Ok, Err, refl, sym, ap, subst, ⊎_elim, arith, append_assoc}
+use Rattle.rule_language.proofs.Imports.{append-nil, if◌then◌else◌, nat_le, ◌==◌, IfOk, IsErrAnd, cases_lt, leb-true}
+use Rattle.rule_language.proofs.Imports.{leb-false, eqb-true, eqb-false, Span, IsToken, piece, same_end, some_bytes}
+use Rattle.rule_language.proofs.Imports.{RuleWhy, Shape, RuleFault, At, Memory, Token, StandBefore, Want, Met, behind}
+use Rattle.rule_language.proofs.Imports.{meets, then_want, is_end, IsRuleCause, IsNext, Takes, Spell, Fails, FailsAt}
+use Rattle.rule_language.proofs.Imports.{IfFault, IsRefused, Asks, told}
 use Rattle.rule_language.proofs.Stands.{token_good}
-use Rattle.rule_language.specs.declared.faults.RuleWhy.{RuleWhy}
-use Rattle.rule_language.specs.declared.faults.RuleWhy.TheVariants.{Token as BadByte, Shape}
-use Rattle.rule_language.specs.declared.faults.RuleFault.{RuleFault}
-use Rattle.rule_language.specs.declared.faults.RuleFault.TheVariants.{At, Memory}
-use Rattle.rule_language.specs.Spelling.{Token, StandBefore}
-use Rattle.rule_language.specs.Wants.{Want, Met, behind, meets, then_want, is_end}
-use Rattle.rule_language.specs.Reading.{IsRuleCause}
-use Rattle.rule_language.specs.inside.Reader.{IsNext, Takes, Spell, Fails, FailsAt, IfFault, IsRefused, Asks, told}
+use Rattle.rule_language.specs.declared.faults.RuleWhy.TheVariants.{Token as BadByte}
 
 -- the fault of the next token
 pub cause_there : (text : List ℕ) (token : Span) (wants : List Want) (reason : RuleWhy) → IsNext text token
@@ -23,7 +17,7 @@ pub cause_there : (text : List ℕ) (token : Span) (wants : List Want) (reason :
 cause_there text token wants reason next against going =
     ends (token.start == length text) refl
   where
-    -- a place neither before nor behind another is that place
+    -- a place neither before nor after another is that place
     whole : (start end : ℕ) → start ≤ end → end ≤ start → start ≡ end
     whole start end a b = omega arith
 
@@ -45,7 +39,7 @@ cause_there text token wants reason next against going =
         let other : token.start ≢ length text = eqb-false token.start (length text) not_end in
         bad (nat_le token.end token.start) refl (omega arith)
 
--- it is a fault of the wants there
+-- a cause against what is at the place is a fault of the wants there
 pub fails_there : (text : List ℕ) (token : Span) (wants : List Want) (why : RuleWhy)
     → IsRuleCause text token.start wants why
     → Fails text token.start wants token.start why
@@ -69,7 +63,7 @@ refuse text token found wants at why next refused against going =
     (cause_there text token wants refused.reason next (against refused.reason refused.against) going) in
     rw refused.place (rw refused.is_told here)
 
--- the same of a test of one token
+-- a token that a test refused is a fault of the wants that apply this test to it
 pub asked : {A : Type 0} (text : List ℕ) (token : Span) (found : Token → Result A RuleWhy)
     (wants : List Want → List Want)
     (at : ℕ) (why : RuleWhy) → IsNext text token → Asks found wants
@@ -100,13 +94,13 @@ taken text old new found (Ok value) word Good ok sound =
     (rw (← is) (ok.1 some), good)
 taken text old new found (Err fault) word Good ok sound = tt
 
--- places one behind another
+-- tokens read from one place to another and from there to a third are read from the first to the third
 pub spell_more : (text : List ℕ) (a b c : ℕ) (first second : List Token) → Spell text a b first → Spell text b c second
     → Spell text a c (first ++ second)
 spell_more text a b c first second to on before stand =
     subst (StandBefore text c) (append_assoc before first second) (on (before ++ first) (to before stand))
 
--- tokens that are read one behind another are read together
+-- tokens that are read one after another are read together
 pub takes_more : (text : List ℕ) (old middle new : Span) (first second : List Token) → Takes text old middle first
     → Takes text middle new second → Takes text old new (first ++ second)
 takes_more text old middle new first second (spell, _) (spell_behind, next) =
@@ -121,14 +115,14 @@ pub stuck : (reason : RuleWhy) (ts : List Token) → behind (Err reason) ts ≡ 
 stuck reason [] = refl
 stuck reason (t ∷ ts) = refl
 
--- tokens behind others meet the wants that those left
+-- tokens after others meet the wants that those left
 pub behind_more : (wants left : List Want) (first second : List Token) → behind (Ok wants) first ≡ Ok left
     → behind (Ok wants) (first ++ second) ≡ behind (Ok left) second
 behind_more wants left [] second e = ap (λ w. behind w second) e
 behind_more wants left (token ∷ tokens) second e =
     step (meets wants token) refl (λ more later. behind_more more left tokens second later)
   where
-    -- the same by what the first token meets
+    -- by cases: what the first token meets
     step : (met : Result (List Want) RuleWhy) → meets wants token ≡ met
         → ((more : List Want) → behind (Ok more) tokens ≡ Ok left
         → behind (Ok more) (tokens ++ second) ≡ behind (Ok left) second)
@@ -141,7 +135,7 @@ behind_more wants left (token ∷ tokens) second e =
 -- tokens were passed that meet the wants, and others are left
 pub record Passed (text : List ℕ) (from to : ℕ) (tokens : List Token)
     (wants next : List Want → List Want) : Type 0 where
-  -- the tokens stand between the two places
+  -- the tokens are between the two places
   pub spell : Spell text from to tokens
   -- there is one token at least
   pub some : tokens ≢ []
@@ -153,7 +147,7 @@ append_none : (xs ys : List Token) → xs ++ ys ≡ [] → xs ≡ []
 append_none [] ys e = refl
 append_none (x ∷ xs) ys e = absurd (cc)
 
--- a fault behind tokens that were passed
+-- a fault after tokens that were passed is one of the wants before them
 pub fails_behind : (text : List ℕ) (a b : ℕ) (tokens : List Token) (wants next : List Want → List Want)
     (at : ℕ) (why : RuleWhy)
     → Passed text a b tokens wants next → FailsAt text b next at why → FailsAt text a wants at why
@@ -168,7 +162,7 @@ fails_behind text a b tokens wants next at why passed fails rest =
       cause = f.cause;
     }
 
--- tokens one behind another
+-- tokens that were passed one after another were passed together
 pub passed_more : (text : List ℕ) (a b c : ℕ) (first second : List Token) (wants between next : List Want → List Want)
     → Passed text a b first wants between → Passed text b c second between next
     → Passed text a c (first ++ second) wants next
@@ -201,11 +195,11 @@ err_same x y h = cc
 pub at_same : (at place : ℕ) (why cause : RuleWhy) → At at why ≡ At place cause → at ≡ place
 at_same at place why cause e = cc
 
--- and one cause
+-- faults that are the same have one cause
 pub why_same : (at place : ℕ) (why cause : RuleWhy) → At at why ≡ At place cause → why ≡ cause
 why_same at place why cause e = cc
 
--- the exit of a call that failed behind tokens that were passed
+-- the exit of a call that failed after tokens that were passed
 pub exit_behind : {A B : Type 0} (inner : Result A RuleFault) (fault : RuleFault) (outer : Result B RuleFault)
     (text : List ℕ) (a b : ℕ)
     (tokens : List Token) (wants base further : List Want → List Want) → inner ≡ Err fault
@@ -223,7 +217,7 @@ exit_behind (Err Memory) fault (Err (At place cause)) text a b tokens wants base
     let one : Memory ≡ At place cause = err_same Memory fault is ∙ sym same in absurd (cc)
 exit_behind (Err f) fault (Err Memory) text a b tokens wants base further is same passed fact = tt
 
--- the same of the first call
+-- the exit of a first call that failed, with no token passed before it
 pub exit_first : {A B : Type 0} (inner : Result A RuleFault) (fault : RuleFault) (outer : Result B RuleFault)
     (text : List ℕ) (a : ℕ)
     (base further : List Want → List Want) → inner ≡ Err fault → IsErrAnd outer (λ e. e ≡ fault)
@@ -274,7 +268,7 @@ pub first_met : (wants : List Want) (t : Token) (ts : List Token) (left : List W
     → (next : List Want) × (meets wants t ≡ Ok next) × (behind (Ok next) ts ≡ Ok left)
 first_met wants t ts left e = cases (meets wants t) refl
   where
-    -- the same by what the token meets
+    -- by cases: what the token meets
     cases : (met : Met) → meets wants t ≡ met → (next : List Want) × (meets wants t ≡ Ok next)
         × (behind (Ok next) ts ≡ Ok left)
     cases (Ok next) is = (next, is, rw is at e)
@@ -289,7 +283,7 @@ pub transfer : (text : List ℕ) (token : Span) (wants other : List Want) (at : 
     → is_end wants ≡ false → Fails text token.start other at why → Fails text token.start wants at why
 transfer text token wants other at why next here agree going f = by f.tokens f.spell f.there f.met
   where
-    -- the same by whether any token stands before the fault
+    -- by cases: whether any token is before the fault
     by : (ts : List Token) → Spell text token.start at ts → (ts ≡ [] → at ≡ token.start)
         → behind (Ok other) ts ≡ Ok f.left
         → Fails text token.start wants at why

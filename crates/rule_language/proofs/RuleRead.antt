@@ -1,21 +1,14 @@
 -- A rule that is read, token by token.
-use Rattle.std.proofs.Common.{◌≡◌, ◌≢◌, ◌∙◌, ℕ, ◌<◌, Bool, true, false, List, [], ◌∷◌, ◌++◌, length, map, Ok, Err}
-use Rattle.std.proofs.Common.{Result, refl, ap, sym, arith, Vec, Global}
-use Rattle.std.specs.Prelude.{if◌then◌else◌, nat_lt, codes, string_bytes, IsErrAnd}
-use Rattle.std.specs.Str.{bytes_eq}
-use Rattle.hall_text.specs.declared.spans.Span.{Span}
-use Rattle.rule_language.specs.declared.faults.RuleWhy.{RuleWhy}
-use Rattle.rule_language.specs.declared.faults.RuleWhy.TheVariants.{Shape, SameName}
-use Rattle.rule_language.specs.declared.formula.Formula.{Formula}
-use Rattle.rule_language.specs.declared.formula.Rule.{Rule}
-use Rattle.rule_language.specs.Trees.{count_of}
-use Rattle.rule_language.specs.Forms.{tree_of, rule_tree}
-use Rattle.rule_language.specs.Lawful.{are_formulas, is_name, is_among, is_rule, follow}
-use Rattle.rule_language.specs.Spelling.{Token, left, right, tokens_then, rule_tokens, rules_tokens, StandBefore}
-use Rattle.rule_language.specs.Wants.{Want, more_rules, rule_word, rule_name, formula, close, behind, begin, opening}
-use Rattle.rule_language.specs.Wants.{only, name_in, then_want}
-use Rattle.rule_language.specs.Reading.{IsFirstFault, Reads, answered}
-use Rattle.rule_language.specs.inside.Reader.{Takes, Asks, Fails, FailsAt, IfFault, IsRead, rule_names}
+use Rattle.std.proofs.Common.{[]}
+use Rattle.rule_language.proofs.Imports.{◌≡◌, ◌≢◌, ◌∙◌, ℕ, ◌<◌, Bool, true, false, List, ◌∷◌, ◌++◌, length, map, Ok}
+use Rattle.rule_language.proofs.Imports.{Err, Result, refl, ap, sym, arith, Vec, Global, if◌then◌else◌, nat_lt, codes}
+use Rattle.rule_language.proofs.Imports.{string_bytes, IsErrAnd, bytes_eq, Span, RuleWhy, Shape, SameName, Formula}
+use Rattle.rule_language.proofs.Imports.{Rule, count_of, tree_of, rule_tree, are_formulas, is_name, is_among, is_rule}
+use Rattle.rule_language.proofs.Imports.{follow, Token, left, right, tokens_then, rule_tokens, rules_tokens}
+use Rattle.rule_language.proofs.Imports.{StandBefore, Want, more_rules, rule_word, rule_name, formula, close, behind}
+use Rattle.rule_language.proofs.Imports.{begin, opening, only, name_in, then_want, IsFirstFault, Reads, answered}
+use Rattle.rule_language.proofs.Imports.{Takes, Asks, Fails, FailsAt, IfFault, IsRead, rule_names, length-map}
+use Rattle.rule_language.proofs.Imports.{ltb-true, RuleFault, At, Memory}
 use Rattle.rule_language.proofs.Refusals.{Passed, one_passed, passed_more, spell_more, behind_more, err_same, at_same}
 use Rattle.rule_language.proofs.Refusals.{why_same}
 use Rattle.rule_language.proofs.Found.{if_first, bytes_same}
@@ -23,12 +16,8 @@ use Rattle.rule_language.proofs.Bodies.{formula_passed}
 use Rattle.rule_language.proofs.Passing.{tokens_append}
 use Rattle.rule_language.proofs.RulesPass.{opening_is, rules_pass, rule_good, follow_push, tokens_push}
 use Rattle.rule_language.proofs.Names.{names_are}
-use Rattle.std.proofs.lemmas.List.{length-map}
-use Rattle.std.proofs.lemmas.Bool.{ltb-true}
-use Rattle.rule_language.specs.declared.faults.RuleFault.{RuleFault}
-use Rattle.rule_language.specs.declared.faults.RuleFault.TheVariants.{At, Memory}
 
--- a rule begins with a left parenthesis, behind fewer than 256 others
+-- a rule begins with a left parenthesis, after fewer than 256 others
 pub opening_found : (count : ℕ) (word : Token) (it : Unit {0}) → opening count word ≡ Ok it → (word ≡ left)
     × (left ≢ []) × (nat_lt count 256 ≡ true)
 opening_found count word it e =
@@ -36,7 +25,7 @@ opening_found count word it e =
     let w = if_first (bytes_eq word left) (Ok tt) Shape it b.1 in
     (bytes_same word left w.0, (λ none. absurd (cc)), b.0)
 
--- the words that stand there alone
+-- after a rule's parenthesis only the word `rule` is allowed
 pub rule_word_asks : (names : List Token) → Asks (only (codes "rule")) (λ rest. rule_word names ∷ rest)
 rule_word_asks names = record {
   after = λ rest it. rule_name names ∷ rest;
@@ -93,7 +82,7 @@ module _ (text : List ℕ) (names : List Token) where
       (λ rest. close ∷ more_rules (names ++ name ∷ []) ∷ [])
       before (formula_passed text e f [] 1 body (λ rest. close ∷ more_rules (names ++ name ∷ []) ∷ []) read)
 
-  -- the whole rule
+  -- the complete rule
   pub rule_read : (a f g : Span) (rule : Rule)
       → Passed text a.start f.start ((left ∷ codes "rule" ∷ string_bytes rule.name ∷ []) ++ tokens_then
       (tree_of rule.body) []) (λ rest. more_rules names ∷ [])
@@ -112,7 +101,7 @@ module _ (text : List ℕ) (names : List Token) where
 abbrev name_ok : Token → Result Token RuleWhy
 name_ok name = Ok name
 
--- the rule is good behind the others
+-- a name that is allowed has the form of one and is none of those before it
 named_parts : (names : List Token) (name : Token) (a b : Bool) → is_name name ≡ a → is_among name names ≡ b
     → (if a then (if b then Err SameName else Ok name) else Err Shape) ≡ name_ok name → (is_name name ≡ true)
     × (is_among name names ≡ false)
@@ -120,7 +109,7 @@ named_parts names name true true ia ib e = absurd (cc)
 named_parts names name true false ia ib e = (ia, ib)
 named_parts names name false b ia ib e = absurd (cc)
 
--- a new name with one lawful formula is a rule behind fewer than 256
+-- a new name with one lawful formula is a rule after fewer than 256
 pub rule_is : (names : List Token) (name : Token) (body : Formula) → nat_lt (length names) 256 ≡ true
     → name_in names name ≡ Ok name
     → are_formulas [] 1 (tree_of body) ≡ true → count_of (tree_of body) ≡ 1
@@ -129,7 +118,7 @@ rule_is names name body few found good one =
     let n = named_parts names name (is_name name) (is_among name names) refl refl found in
     rw few (rw n.0 (rw n.1 (rw one (rw good refl))))
 
--- a fault behind tokens that met what is wanted is the first of the text
+-- a fault after tokens that met what is wanted is the first of the text
 pub first_fault : (text : List ℕ) (from : ℕ) (before : List Token) (wants : List Want) (at : ℕ) (why : RuleWhy)
     → StandBefore text from before
     → behind (Ok begin) before ≡ Ok wants → Fails text from wants at why → IsFirstFault text at why
@@ -144,12 +133,12 @@ first_fault text from before wants at why stand met fails = (
   fails.cause,
 )
 
--- the tree of a rule more stands behind those of the others
+-- the tree of one more rule comes after those of the others
 map_more : (rs : List Rule) (r : Rule) → map rule_tree (rs ++ r ∷ []) ≡ map rule_tree rs ++ rule_tree r ∷ []
 map_more [] r = refl
 map_more (q ∷ rs) r = ap (λ ts. rule_tree q ∷ ts) (map_more rs r)
 
--- a rule more stands before
+-- with one more rule read, the tokens before the place are those of all the rules read
 pub stand_more : (text : List ℕ) (a b : Span) (rs : List Rule) (r : Rule)
     → StandBefore text a.start (rules_tokens (map rule_tree rs))
     → Takes text a b (rule_tokens (rule_tree r))
@@ -158,7 +147,7 @@ stand_more text a b rs r stand takes =
     rw (map_more rs r) (rw (tokens_push (map rule_tree rs) (rule_tree r))
     (takes.0 (rules_tokens (map rule_tree rs)) stand))
 
--- a rule that may stand behind lawful ones makes a lawful list with them
+-- a rule that is allowed after lawful ones makes a lawful list with them
 pub good_more_rules : (rs : List Rule) (r : Rule) → follow [] (map rule_tree rs) ≡ true
     → is_rule (rule_names rs) (rule_tree r) ≡ true
     → follow [] (map rule_tree (rs ++ r ∷ [])) ≡ true
@@ -173,7 +162,7 @@ few_rules rs r good =
     let same : length (rule_names rs) ≡ length rs = length-map rs (λ (rule : Rule). string_bytes rule.name) in
     omega arith
 
--- the fault of a rule behind others
+-- the fault of a rule after others
 pub reads_fault : (text : List ℕ) (from : ℕ) (rs : List Rule) (inner : Result Rule RuleFault) (fault : RuleFault)
     (outer : Result (Vec Rule Global) RuleFault)
     → StandBefore text from (rules_tokens (map rule_tree rs)) → follow [] (map rule_tree rs) ≡ true → inner ≡ Err fault

@@ -1,20 +1,17 @@
 -- The tokens of rules meet what is wanted.
-use Rattle.std.proofs.Common.{◌≡◌, ◌∙◌, ℕ, ◌<◌, true, false, ◌&&◌, List, [], ◌∷◌, ◌++◌, length, map, Ok, refl, ap, sym}
-use Rattle.std.proofs.Common.{arith, append_assoc, append-nil}
-use Rattle.std.specs.Prelude.{nat_lt, not, ◌==◌, codes}
-use Rattle.std.proofs.lemmas.Bool.{eqb-true, ltb-true, not-true, and_parts}
-use Rattle.rule_language.specs.Trees.{count_of, RuleTree}
-use Rattle.rule_language.specs.Lawful.{are_formulas, is_name, is_among, is_rule, follow}
-use Rattle.rule_language.specs.Spelling.{Token, left, right, tokens_then, rule_tokens, rules_tokens, IsTextOf}
-use Rattle.rule_language.specs.Wants.{Want, more_rules, rule_word, rule_name, formula, close, behind, is_end, opening}
-use Rattle.rule_language.specs.Wants.{name_in, then_want}
-use Rattle.rule_language.specs.Reading.{HasNoFault}
+use Rattle.std.proofs.Common.{[]}
+use Rattle.rule_language.proofs.Imports.{◌≡◌, ◌∙◌, ℕ, ◌<◌, true, false, ◌&&◌, List, ◌∷◌, ◌++◌, length, map, Ok, refl}
+use Rattle.rule_language.proofs.Imports.{ap, sym, arith, append_assoc, append-nil, nat_lt, not, ◌==◌, codes, eqb-true}
+use Rattle.rule_language.proofs.Imports.{ltb-true, not-true, and_parts, count_of, RuleTree, are_formulas, is_name}
+use Rattle.rule_language.proofs.Imports.{is_among, is_rule, follow, Token, left, right, tokens_then, rule_tokens}
+use Rattle.rule_language.proofs.Imports.{rules_tokens, IsTextOf, Want, more_rules, rule_word, rule_name, formula}
+use Rattle.rule_language.proofs.Imports.{close, behind, is_end, opening, name_in, then_want, HasNoFault}
 use Rattle.rule_language.proofs.Passing.{step, one_passes, tokens_append}
 use Rattle.rule_language.proofs.Passes.{passes}
 
 -- what is asked of a rule
 pub record IsGood (names : List Token) (rule : RuleTree) : Type 0 where
-  -- fewer than 256 rules stand before it
+  -- fewer than 256 rules are before it
   pub few : nat_lt (length names) 256 ≡ true
   -- its name is 1 to 16 letters and digits
   pub name : is_name rule.name ≡ true
@@ -25,7 +22,7 @@ pub record IsGood (names : List Token) (rule : RuleTree) : Type 0 where
   -- the body is lawful where no variable is bound
   pub body : are_formulas [] 1 rule.body ≡ true
 
--- a rule that may stand behind others is all that is asked of it
+-- a rule that is allowed after others has all that is asked of it
 pub rule_good : (names : List Token) (rule : RuleTree) → is_rule names rule ≡ true → IsGood names rule
 rule_good names rule good =
     let b = and_parts (nat_lt (length names) 256 && (is_name rule.name && not (is_among rule.name names)))
@@ -46,7 +43,7 @@ pub name_is : (names : List Token) (name : Token) → is_name name ≡ true → 
     → name_in names name ≡ Ok name
 name_is names name good fresh = rw good (rw fresh refl)
 
--- behind fewer than 256 rules another may begin
+-- after fewer than 256 rules another may begin
 pub opening_is : (count : ℕ) → nat_lt count 256 ≡ true → opening count left ≡ Ok tt
 opening_is count few = rw few refl
 
@@ -91,7 +88,7 @@ follow_push names (q ∷ rs) r good one =
     rw (append_assoc names (q.name ∷ []) (names_of rs)) one in
     rw b.0 (follow_push (names ++ q.name ∷ []) rs r b.1 later)
 
--- the tokens of a rule more stand behind those of the others
+-- the tokens of one more rule come after those of the others
 pub tokens_push : (rs : List RuleTree) (r : RuleTree) → rules_tokens (rs ++ r ∷ []) ≡ rules_tokens rs ++ rule_tokens r
 tokens_push [] r = append-nil (rule_tokens r)
 tokens_push (q ∷ rs) r = ap (λ ts. rule_tokens q ++ ts) (tokens_push rs r)
@@ -106,7 +103,7 @@ no_fault text rs is =
       ended rs (ltb-true 0 (length rs) b.0),
     )
   where
-    -- behind rules, of which there is one at least, the text may end
+    -- after rules, of which there is at least one, the text may end
     ended : (xs : List RuleTree) → 0 < length xs → is_end (more_rules (names_of xs) ∷ []) ≡ true
     ended [] some = absurd (omega arith)
     ended (x ∷ xs) some = refl

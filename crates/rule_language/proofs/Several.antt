@@ -1,24 +1,12 @@
 -- Formulas of an `and` or an `or` that were read, and of a quantifier.
-use Rattle.std.proofs.Common.{◌≡◌, ◌≢◌, ℕ, ◌+◌, ◌-◌, ◌<◌, ◌≤◌, zero, suc, Bool, true, false, List, [], ◌∷◌, ◌++◌}
-use Rattle.std.proofs.Common.{Option, Some, None, Ok, refl, subst, arith}
-use Rattle.std.specs.Prelude.{codes, nat_le}
-use Rattle.std.proofs.lemmas.Bool.{lt-ltb}
-use Rattle.hall_text.specs.declared.spans.Span.{Span}
-use Rattle.rule_language.specs.declared.formula.Formula.{Formula}
-use Rattle.rule_language.specs.declared.kind.Kind.{Kind}
-use Rattle.rule_language.specs.declared.faults.RuleWhy.{RuleWhy}
-use Rattle.rule_language.specs.declared.faults.RuleWhy.TheVariants.{Shape}
+use Rattle.std.proofs.Common.{[]}
+use Rattle.rule_language.proofs.Imports.{◌≡◌, ◌≢◌, ℕ, ◌+◌, ◌-◌, ◌<◌, ◌≤◌, zero, suc, Bool, true, false, List, ◌∷◌}
+use Rattle.rule_language.proofs.Imports.{◌++◌, Option, Some, None, Ok, refl, subst, arith, codes, nat_le, lt-ltb}
+use Rattle.rule_language.proofs.Imports.{Span, Formula, Kind, RuleWhy, Shape, kind_word, head_word, Scope, no_trees}
+use Rattle.rule_language.proofs.Imports.{tree_then, count_of, tree_of, trees_of, are_formulas, piece, left, right}
+use Rattle.rule_language.proofs.Imports.{variable, tokens_then, formula, more, nested, Takes, FailsAt, IsRead, IsBody}
+use Rattle.rule_language.proofs.Imports.{IsSeveral, told, form_of, quantifier_head, IsBinder}
 use Rattle.rule_language.specs.declared.form.Form.TheVariants as form
-use Rattle.rule_language.specs.Kinds.{kind_word, head_word}
-use Rattle.rule_language.specs.Scopes.{Scope}
-use Rattle.rule_language.specs.Trees.{no_trees, tree_then, count_of}
-use Rattle.rule_language.specs.Forms.{tree_of, trees_of}
-use Rattle.rule_language.specs.Lawful.{are_formulas}
-use Rattle.hall_text.specs.Spans.{piece}
-use Rattle.rule_language.specs.Spelling.{left, right, variable, tokens_then}
-use Rattle.rule_language.specs.Wants.{formula, more, nested}
-use Rattle.rule_language.specs.inside.Reader.{Takes, FailsAt, IsRead, IsBody, IsSeveral, told}
-use Rattle.rule_language.specs.inside.Quantifiers.{form_of, quantifier_head, IsBinder}
 use Rattle.rule_language.proofs.Refusals.{takes_more, fails_behind}
 use Rattle.rule_language.proofs.Passing.{tokens_append}
 use Rattle.rule_language.proofs.Parts.{tokens-push}

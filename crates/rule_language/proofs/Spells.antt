@@ -1,15 +1,11 @@
--- Texts that spell tokens wherever they stand.
-use Rattle.std.proofs.Common.{◌≡◌, inl, inr, ◌∙◌, ℕ, ◌+◌, ◌-◌, ◌<◌, zero, suc, Bool, true, ◌&&◌, List, [], ◌∷◌}
-use Rattle.std.proofs.Common.{◌++◌, length, get_or, take, drop, refl, ap, sym, subst, arith, append_assoc, append-nil}
-use Rattle.std.proofs.Common.{length-append, add-zero, get_or-append-add, take_at, drop_at}
-use Rattle.std.specs.Prelude.{nat_le, not, ◌==◌}
-use Rattle.std.proofs.lemmas.Bool.{leb-true, eqb-false, not-true, and_parts}
-use Rattle.std.proofs.lemmas.List.{get_or_append_left}
-use Rattle.hall_text.specs.declared.spans.Span.{Span}
-use Rattle.hall_text.specs.Spans.{IsWordByte, IsParenthesis, IsToken, piece}
-use Rattle.hall_text.specs.Places.{CutsNoWord}
-use Rattle.hall_text.proofs.TokenLemmas.{between_behind}
-use Rattle.rule_language.specs.Spelling.{Token, IsSeparator, StandBefore}
+-- Texts that spell tokens wherever they are.
+use Rattle.std.proofs.Common.{[]}
+use Rattle.rule_language.proofs.Imports.{◌≡◌, inl, inr, ◌∙◌, ℕ, ◌+◌, ◌-◌, ◌<◌, zero, suc, Bool, true, ◌&&◌, List, ◌∷◌}
+use Rattle.rule_language.proofs.Imports.{◌++◌, length, get_or, take, drop, refl, ap, sym, subst, arith, append_assoc}
+use Rattle.rule_language.proofs.Imports.{append-nil, length-append, add-zero, get_or-append-add, take_at, drop_at}
+use Rattle.rule_language.proofs.Imports.{nat_le, not, ◌==◌, leb-true, eqb-false, not-true, and_parts}
+use Rattle.rule_language.proofs.Imports.{get_or_append_left, Span, IsWordByte, IsParenthesis, IsToken, piece}
+use Rattle.rule_language.proofs.Imports.{CutsNoWord, between_behind, Token, IsSeparator, StandBefore}
 use Rattle.rule_language.proofs.Stands.{separator_more, between_separator, token_one}
 
 -- whether the byte belongs to a word
@@ -38,7 +34,7 @@ abbrev pub Breaks : List ℕ → Type 0
 Breaks [] = Unit {0}
 Breaks (byte ∷ more) = ¬ (IsWordByte byte)
 
--- wherever the piece stands in a text between words, it spells these tokens, if no word goes on behind it
+-- wherever the piece is in a text between words, it spells these tokens, if no word goes on after it
 abbrev pub Spells : List ℕ → List Token → Type 0
 Spells xs ts =
     (text front more : List ℕ) (before : List Token) → text ≡ front ++ (xs ++ more) → Breaks more
@@ -46,14 +42,14 @@ Spells xs ts =
     → StandBefore text (length front) before
     → StandBefore text (length (front ++ xs)) (before ++ ts) × CutsNoWord text (length (front ++ xs))
 
--- the same whatever stands behind it
+-- wherever the piece is in a text between words, it spells these tokens, whatever follows
 abbrev pub Opens : List ℕ → List Token → Type 0
 Opens xs ts =
     (text front more : List ℕ) (before : List Token) → text ≡ front ++ (xs ++ more) → CutsNoWord text (length front)
     → StandBefore text (length front) before
     → StandBefore text (length (front ++ xs)) (before ++ ts) × CutsNoWord text (length (front ++ xs))
 
--- a piece that spells its tokens in front of whatever follows, and one behind it, spell theirs in a row
+-- a piece that spells its tokens whatever follows, and one after it, spell theirs in a row
 pub opens_more : (xs ys : List ℕ) (ts us : List Token) → Opens xs ts → Spells ys us → Spells (xs ++ ys) (ts ++ us)
 opens_more xs ys ts us first second text front more before is breaks between stand =
     let a = first text front (ys ++ more) before (is ∙ ap (λ zs. front ++ zs) (append_assoc xs ys more))
@@ -70,7 +66,7 @@ opens_more xs ys ts us first second text front more before is breaks between sta
 pub opens : (xs : List ℕ) (ts : List Token) → Opens xs ts → Spells xs ts
 opens xs ts piece text front more before is breaks between stand = piece text front more before is between stand
 
--- a piece behind another, where no word goes on across them
+-- no word goes on from a piece into this one, if none goes on from this one
 abbrev pub BreaksBehind : List ℕ → Type 0
 BreaksBehind ys = (more : List ℕ) → Breaks more → Breaks (ys ++ more)
 
@@ -135,7 +131,7 @@ piece_is text front xs more is =
     ∙ ap (take (length xs)) (ap (drop (length front)) is ∙ drop_at front (xs ++ more) (length front) refl)
     ∙ take_at xs more (length xs) refl
 
--- a token of the text stands behind those before it, and the place behind it is between words
+-- a token of the text comes after those before it, and the place after it is between words
 token_stands : (xs text front more : List ℕ) (before : List Token) → 0 < length xs → text ≡ front ++ (xs ++ more)
     → IsToken text (record { start = length front; end = length (front ++ xs) })
     → StandBefore text (length front) before
@@ -203,6 +199,6 @@ opens_parenthesis byte parenthesis text front more before is between stand =
 pub breaks_first : (byte : ℕ) (ys : List ℕ) → ¬ (IsWordByte byte) → BreaksBehind (byte ∷ ys)
 breaks_first byte ys other more breaks = other
 
--- behind a piece no word goes on through nothing
+-- no word goes on from a piece into nothing
 pub breaks_none : BreaksBehind []
 breaks_none more breaks = breaks

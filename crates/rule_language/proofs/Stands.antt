@@ -1,12 +1,10 @@
 -- The tokens that begin before a place, as the reader comes to it.
-use Rattle.std.proofs.Common.{◌≡◌, ◌⊎◌, inl, inr, ℕ, ◌+◌, ◌<◌, ◌≤◌, List, [], ◌∷◌, ◌++◌, length, get_or, map, refl, sym}
-use Rattle.std.proofs.Common.{ap, ◌∙◌, subst, ⊎_elim, arith}
-use Rattle.std.proofs.lemmas.Bool.{cases_lt}
-use Rattle.hall_text.specs.declared.spans.Span.{Span}
-use Rattle.hall_text.specs.Spans.{IsWordByte, IsParenthesis, IsWord, IsAlone, IsToken, piece}
-use Rattle.hall_text.specs.Places.{CutsNoWord}
-use Rattle.hall_text.proofs.TokenLemmas.{token_more, none_there, none_before_first, between_none}
-use Rattle.rule_language.specs.Spelling.{Token, IsSeparator, IsGoodByte, StandBefore}
+use Rattle.std.proofs.Common.{[]}
+use Rattle.rule_language.proofs.Imports.{◌≡◌, ◌⊎◌, inl, inr, ℕ, ◌+◌, ◌<◌, ◌≤◌, List, ◌∷◌, ◌++◌, length, get_or, map}
+use Rattle.rule_language.proofs.Imports.{refl, sym, ap, ◌∙◌, subst, ⊎_elim, arith, cases_lt, Span, IsWordByte}
+use Rattle.rule_language.proofs.Imports.{IsParenthesis, IsWord, IsAlone, IsToken, piece, CutsNoWord, token_more}
+use Rattle.rule_language.proofs.Imports.{none_there, none_before_first, between_none, Token, IsSeparator, IsGoodByte}
+use Rattle.rule_language.proofs.Imports.{StandBefore}
 
 -- a separator begins no token
 pub none_begins : (byte : ℕ) → IsSeparator byte → (IsWordByte byte ⊎ IsParenthesis byte) → ⊥
@@ -40,7 +38,7 @@ separator_more text at tokens within separator stand = record {
   spelt = stand.spelt;
 }
 
--- no word goes on behind a separator
+-- no word goes on after a separator
 pub between_separator : (text : List ℕ) (at : ℕ) → IsSeparator (get_or text at 0) → CutsNoWord text (at + 1)
 between_separator text at separator = between_none text at (none_begins (get_or text at 0) separator)
 
@@ -59,7 +57,7 @@ token_inside : (text : List ℕ) (token : Span) → IsToken text token → token
 token_inside text token is = ⊎_elim (λ (word : IsWord text token). word.inside)
     (λ (alone : IsAlone text token). alone.inside) is
 
--- a span more gives one token more, behind the others
+-- one more span gives one more token, after the others
 map_push : (f : Span → Token) (spans : List Span) (new : Span) → map f (spans ++ new ∷ []) ≡ map f spans ++ f new ∷ []
 map_push f [] new = refl
 map_push f (span ∷ spans) new = ap (λ rest. f span ∷ rest) (map_push f spans new)
@@ -76,7 +74,7 @@ token_one text token tokens some is stand = record {
   spelt = ap (λ ts. ts ++ piece text token ∷ []) stand.spelt ∙ sym (map_push (piece text) stand.spans token);
 }
 
--- at the beginning nothing stands before
+-- at the beginning no token is before the place
 pub none_yet : (text : List ℕ) → StandBefore text 0 []
 none_yet text = record {
   inside = omega arith;

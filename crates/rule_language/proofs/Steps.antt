@@ -1,19 +1,10 @@
 -- Single tokens that were read and meet what is wanted.
-use Rattle.std.proofs.Common.{◌≡◌, ℕ, Bool, true, List, [], ◌∷◌, Some, Ok, refl, ap}
-use Rattle.hall_text.specs.declared.spans.Span.{Span}
-use Rattle.roster.specs.declared.post.Role.{Role}
-use Rattle.roster.specs.RosterText.{role_word}
-use Rattle.rule_language.specs.declared.kind.Kind.{Kind}
-use Rattle.rule_language.specs.declared.kind.Sort.{Sort}
-use Rattle.rule_language.specs.declared.term.Term.{Term}
-use Rattle.rule_language.specs.Kinds.{kind_word, is_same_sort}
-use Rattle.rule_language.specs.Scopes.{Scope}
-use Rattle.rule_language.specs.Lawful.{is_bound, sort_of}
-use Rattle.rule_language.specs.Spelling.{right, variable, term_word}
-use Rattle.rule_language.specs.Wants.{Want, close, a_variable, a_role, a_kind, first_term, second_term, new_variable}
-use Rattle.rule_language.specs.Wants.{kind_of, before_or_body, may_begin, only, kind_for, unbound_in, letter_in}
-use Rattle.rule_language.specs.Wants.{then_want}
-use Rattle.rule_language.specs.inside.Reader.{Takes, Asks}
+use Rattle.std.proofs.Common.{[]}
+use Rattle.rule_language.proofs.Imports.{◌≡◌, ℕ, Bool, true, List, ◌∷◌, Some, Ok, refl, ap, Span, Role, role_word}
+use Rattle.rule_language.proofs.Imports.{Kind, Sort, Term, kind_word, is_same_sort, Scope, is_bound, sort_of, right}
+use Rattle.rule_language.proofs.Imports.{variable, term_word, Want, close, a_variable, a_role, a_kind, first_term}
+use Rattle.rule_language.proofs.Imports.{second_term, new_variable, kind_of, before_or_body, may_begin, only}
+use Rattle.rule_language.proofs.Imports.{kind_for, unbound_in, letter_in, then_want, Takes, Asks}
 use Rattle.rule_language.proofs.Refusals.{Passed, one_passed}
 use Rattle.rule_language.proofs.Passing.{variable_passes, role_passes, kind_passes, kind_of_passes, first_passes}
 use Rattle.rule_language.proofs.Passing.{second_passes}
@@ -77,15 +68,15 @@ module _ (text : List ℕ) (old new : Span) (further : List Want → List Want) 
       (λ rest. kind_of v scope depth ∷ further rest) takes
       (λ rest. ap (λ r. then_want r (λ w. kind_of w scope depth ∷ further rest)) fresh)
 
--- the closing parenthesis alone is looked at
+-- where the closing parenthesis is wanted, only the next token is tested
 pub close_asks : Asks (only right) (λ rest. close ∷ rest)
 close_asks = record { after = λ rest it. rest; met = λ rest token. refl; going = λ rest. refl }
 
--- where a kind is wanted, the next token alone is looked at
+-- where a kind is wanted, only the next token is tested
 pub kind_asks : Asks kind_for (λ rest. a_kind ∷ rest)
 kind_asks = record { after = λ rest k. rest; met = λ rest token. refl; going = λ rest. refl }
 
--- and so where the kind of a quantifier is
+-- where the kind of a quantifier is wanted, only the next token is tested
 pub kind_of_asks : (v : ℕ) (scope : Scope) (depth : ℕ) → Asks kind_for (λ rest. kind_of v scope depth ∷ rest)
 kind_of_asks v scope depth = record {
   after = λ rest k. before_or_body v k scope depth ∷ rest;

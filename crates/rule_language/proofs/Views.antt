@@ -1,16 +1,11 @@
 -- The trees of formulas, level by level.
-use Rattle.std.proofs.Common.{◌≡◌, ◌∙◌, ap, refl, ℕ, rules, Vec, Global, Box}
-use Rattle.roster.specs.declared.post.Role.{Role}
-use Rattle.rule_language.specs.declared.kind.Kind.{Kind}
-use Rattle.rule_language.specs.declared.term.Term.{Term}
-use Rattle.rule_language.specs.declared.formula.Formula.{Formula, True, And, Or, Not, Implies, ForEvery, ForSome}
-use Rattle.rule_language.specs.declared.formula.Formula.{EveryBefore, SomeBefore, Same, Before, Next, Is, OfKind, Equal}
-use Rattle.rule_language.specs.declared.formula.Formula.{Less, the_lemmas, fold_out-Formula, out-Formula, map-Formula}
-use Rattle.rule_language.specs.declared.formula.Formula.TheOpen.{Formula-F}
-use Rattle.rule_language.specs.declared.form.Form.{Form}
+use Rattle.rule_language.proofs.Imports.{◌≡◌, ◌∙◌, ap, refl, ℕ, rules, Vec, Global, Box, Role, Kind, Term, Formula}
+use Rattle.rule_language.proofs.Imports.{True, And, Or, Not, Implies, ForSome, EveryBefore, SomeBefore, Same, Before}
+use Rattle.rule_language.proofs.Imports.{Next, Is, OfKind, Equal, Less, the_lemmas, fold_out-Formula, out-Formula}
+use Rattle.rule_language.proofs.Imports.{map-Formula, Formula-F, Form, Trees, no_trees, tree_then, tree_of, trees_of}
+use Rattle.rule_language.proofs.Imports.{in_front, all_in_front, tree_step}
+use Rattle.rule_language.specs.declared.formula.Formula.{ForEvery}
 use Rattle.rule_language.specs.declared.form.Form.TheVariants as form
-use Rattle.rule_language.specs.Trees.{Trees, no_trees, tree_then}
-use Rattle.rule_language.specs.Forms.{tree_of, trees_of, in_front, all_in_front, tree_step}
 
 -- `true` is a form without formulas in it
 pub view-True : tree_of True ≡ tree_then form.True no_trees no_trees
@@ -20,7 +15,7 @@ view-True = search (rules, the_lemmas)
 pub view-And : (v : Vec Formula Global) → tree_of (And v) ≡ tree_then form.And (trees_of v.items) no_trees
 view-And v = search (rules, the_lemmas)
 
--- and those of an `or`
+-- the formulas of an `or` are its list, in order
 pub view-Or : (v : Vec Formula Global) → tree_of (Or v) ≡ tree_then form.Or (trees_of v.items) no_trees
 view-Or v = search (rules, the_lemmas)
 
@@ -38,7 +33,7 @@ pub view-ForEvery : (v : ℕ) (k : Kind) (b : Box Formula Global)
     → tree_of (ForEvery v k b) ≡ tree_then (form.ForEvery v k) (tree_of b.value) no_trees
 view-ForEvery v k b = search (rules, the_lemmas)
 
--- and that of a `some`
+-- the body of a `some` is the one formula in it
 pub view-ForSome : (v : ℕ) (k : Kind) (b : Box Formula Global) → tree_of (ForSome v k b) ≡ tree_then (form.ForSome v k)
     (tree_of b.value) no_trees
 view-ForSome v k b = search (rules, the_lemmas)
@@ -48,7 +43,7 @@ pub view-EveryBefore : (v : ℕ) (k : Kind) (u : ℕ) (b : Box Formula Global)
     → tree_of (EveryBefore v k u b) ≡ tree_then (form.EveryBefore v k u) (tree_of b.value) no_trees
 view-EveryBefore v k u b = search (rules, the_lemmas)
 
--- and that of a `some` with `before`
+-- the body of a `some` with `before` is the one formula in it
 pub view-SomeBefore : (v : ℕ) (k : Kind) (u : ℕ) (b : Box Formula Global)
     → tree_of (SomeBefore v k u b) ≡ tree_then (form.SomeBefore v k u) (tree_of b.value) no_trees
 view-SomeBefore v k u b = search (rules, the_lemmas)
@@ -85,7 +80,7 @@ view-Less t u = search (rules, the_lemmas)
 abbrev pub IsInFront : (Trees → Trees) → Form → Trees → Type 0
 IsInFront put form parts = (rest : Trees) → put rest ≡ tree_then form parts rest
 
--- one level puts one form with its parts in front, whatever stands inside
+-- one level puts one form with its parts in front, whatever is inside
 shape_step : (x : Formula-F (Trees → Trees)) → (form : Form) × (parts : Trees) × IsInFront (tree_step x) form parts
 shape_step Formula-F.True = (form.True, no_trees, λ rest. refl)
 shape_step (Formula-F.ForEvery v kind body) = (form.ForEvery v kind, body.value no_trees, λ rest. refl)

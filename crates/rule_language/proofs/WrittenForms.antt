@@ -1,16 +1,12 @@
 -- What is written of a formula.
-use Rattle.std.proofs.Common.{◌≡◌, ◌≢◌, ◌∙◌, ℕ, List, [], ◌∷◌, ◌++◌, refl, ap, sym, append_assoc, append-nil}
-use Rattle.rule_language.specs.declared.formula.Formula.{Formula}
-use Rattle.rule_language.specs.declared.form.Form.{Form}
+use Rattle.std.proofs.Common.{[]}
+use Rattle.rule_language.proofs.Imports.{◌≡◌, ◌≢◌, ◌∙◌, ℕ, List, ◌∷◌, ◌++◌, refl, ap, sym, append_assoc, append-nil}
+use Rattle.rule_language.proofs.Imports.{Formula, Form, Trees, no_trees, tree_then, in_front, tree_of, form_words}
+use Rattle.rule_language.proofs.Imports.{with_spaces, form_text, row_text, parts_of}
 use Rattle.rule_language.specs.declared.form.Form.TheVariants as form
-use Rattle.rule_language.specs.Trees.{Trees, no_trees, tree_then}
-use Rattle.rule_language.specs.Forms.{in_front, tree_of}
-use Rattle.rule_language.specs.Spelling.{form_words}
-use Rattle.rule_language.specs.Written.{with_spaces, form_text, row_text}
-use Rattle.rule_language.specs.inside.Parts.{parts_of}
 use Rattle.rule_language.proofs.Views.{shape}
 
--- all but `true` stands in parentheses
+-- all forms but `true` are in parentheses
 pub enclosed_text : (f : Form) (inside : List ℕ) → f ≢ form.True
     → form_text f inside ≡ 40 ∷ (with_spaces (form_words f) ++ (inside ++ 41 ∷ []))
 enclosed_text form.True inside other = absurd (other refl)
@@ -42,7 +38,7 @@ written_form tree f parts old is other =
     ∙ sym (append-nil (form_text f (row_text parts))))
     ∙ ap (λ t. old ++ row_text t) (sym is)
 
--- and so the text is, with each piece appended to what is there
+-- a formula's text is the old bytes with each of its pieces appended in turn
 pub written_pieces : (tree : Trees) (f : Form) (parts : Trees) (old opened headed filled closed : List ℕ)
     → tree ≡ tree_then f parts no_trees → f ≢ form.True → opened ≡ old ++ 32 ∷ 40 ∷ []
     → headed ≡ opened ++ with_spaces (form_words f) → filled ≡ headed ++ row_text (parts_of tree)

@@ -1,42 +1,29 @@
 -- What is written of rules is a text of them.
-use Rattle.std.proofs.Common.{◌≡◌, ◌≢◌, ◌⊎◌, inl, inr, ◌∙◌, ℕ, ◌+◌, ◌^◌, ◌<◌, ◌≤◌, Bool, true, false, ◌&&◌, List, []}
-use Rattle.std.proofs.Common.{◌∷◌, ◌++◌, length, Option, Some, None, refl, ap, sym, subst, arith, append-nil}
-use Rattle.std.specs.Prelude.{nat_le, nat_lt, not, ◌||◌, codes, is_some}
-use Rattle.std.specs.Fmt.{decimal}
-use Rattle.std.proofs.lemmas.Fmt.{decimal_nonempty}
-use Rattle.std.proofs.lemmas.Bool.{leb-true, ltb-true, lt-ltb, ne_eqb, le-leb, and_parts}
-use Rattle.canonical_sexp.proofs.Decimal.{AreDigits, decimal_digits}
-use Rattle.roster.specs.declared.post.Role.{Role}
+use Rattle.std.proofs.Common.{[]}
+use Rattle.rule_language.proofs.Imports.{◌≡◌, ◌≢◌, ◌⊎◌, inl, inr, ◌∙◌, ℕ, ◌+◌, ◌^◌, ◌<◌, ◌≤◌, Bool, true, false, ◌&&◌}
+use Rattle.rule_language.proofs.Imports.{List, ◌∷◌, ◌++◌, length, Option, Some, None, refl, ap, sym, subst, arith}
+use Rattle.rule_language.proofs.Imports.{append-nil, nat_le, nat_lt, not, ◌||◌, codes, is_some, decimal}
+use Rattle.rule_language.proofs.Imports.{decimal_nonempty, leb-true, ltb-true, lt-ltb, ne_eqb, le-leb, and_parts}
+use Rattle.rule_language.proofs.Imports.{AreDigits, decimal_digits, Role, role_word, IsWordByte, Kind, Field, Sort}
+use Rattle.rule_language.proofs.Imports.{Term, Of, Number, Form, kind_word, field_word, Scope, kind_in, is_letter}
+use Rattle.rule_language.proofs.Imports.{Trees, no_trees, tree_then, RuleTree, is_bound, can_bind, sort_of}
+use Rattle.rule_language.proofs.Imports.{are_of_one_sort, has_order, is_closed, is_shallow, scope_in, are_formulas}
+use Rattle.rule_language.proofs.Imports.{is_alphanumeric, are_alphanumeric, is_name, is_rule, follow, are_rules, Token}
+use Rattle.rule_language.proofs.Imports.{left, right, variable, term_word, form_words, spelt, tokens_then, rule_tokens}
+use Rattle.rule_language.proofs.Imports.{rules_tokens, IsTextOf, spaced, with_spaces, form_text, row_text, rule_text}
+use Rattle.rule_language.proofs.Imports.{rules_text, zero, suc, IsAscii, IsUtf8, IsUtf8-from_ascii}
 use Rattle.roster.specs.declared.post.Role.TheVariants as role
-use Rattle.roster.specs.RosterText.{role_word}
-use Rattle.hall_text.specs.Spans.{IsWordByte}
-use Rattle.rule_language.specs.declared.kind.Kind.{Kind}
 use Rattle.rule_language.specs.declared.kind.Kind.TheVariants as kind
-use Rattle.rule_language.specs.declared.kind.Field.{Field}
 use Rattle.rule_language.specs.declared.kind.Field.TheVariants as field
-use Rattle.rule_language.specs.declared.kind.Sort.{Sort}
-use Rattle.rule_language.specs.declared.term.Term.{Term}
-use Rattle.rule_language.specs.declared.term.Term.TheVariants.{Of, Number}
-use Rattle.rule_language.specs.declared.form.Form.{Form}
 use Rattle.rule_language.specs.declared.form.Form.TheVariants as form
-use Rattle.rule_language.specs.Kinds.{kind_word, field_word}
-use Rattle.rule_language.specs.Scopes.{Scope, kind_in, is_letter}
-use Rattle.rule_language.specs.Trees.{Trees, no_trees, tree_then, RuleTree}
-use Rattle.rule_language.specs.Lawful.{is_bound, can_bind, sort_of, are_of_one_sort, has_order, is_closed, is_shallow}
-use Rattle.rule_language.specs.Lawful.{scope_in, are_formulas, is_alphanumeric, are_alphanumeric, is_name, is_rule}
-use Rattle.rule_language.specs.Lawful.{follow, are_rules}
-use Rattle.rule_language.specs.Spelling.{Token, left, right, variable, term_word, form_words, spelt, tokens_then}
-use Rattle.rule_language.specs.Spelling.{rule_tokens, rules_tokens, IsTextOf}
-use Rattle.rule_language.specs.Written.{spaced, with_spaces, form_text, row_text, rule_text, rules_text}
 use Rattle.rule_language.proofs.Passing.{spelt_cases, tokens_append}
 use Rattle.rule_language.proofs.Passes.{may_stand}
 use Rattle.rule_language.proofs.RulesPass.{rule_good}
-use Rattle.rule_language.proofs.Names.{either_true}
 use Rattle.rule_language.proofs.Stands.{none_yet}
 use Rattle.rule_language.proofs.WrittenForms.{enclosed_text}
 use Rattle.rule_language.proofs.Spells.{Spells, opens, opens_more, spells_more, spells_none, opens_separator}
 use Rattle.rule_language.proofs.Spells.{opens_parenthesis, spells_word, breaks_first, breaks_none, BreaksBehind}
-use Rattle.rule_language.proofs.Spells.{is_word_byte, are_word_bytes}
+use Rattle.rule_language.proofs.Spells.{is_word_byte, are_word_bytes, word_byte}
 
 -- a word that is spelt
 abbrev IsSpelt : Token → Type 0
@@ -139,14 +126,14 @@ terms_spelt scope t u same =
     let s = sorts_some (sort_of scope t) (sort_of scope u) same in
     (term_spelt scope t (sort_of scope t) refl s.0, (term_spelt scope u (sort_of scope u) refl s.1, tt))
 
--- what stands behind the first word of a quantifier with `before` is spelt
+-- what follows the first word of a quantifier with `before` is spelt
 before_spelt : (scope : Scope) (v : ℕ) (k : Kind) (u : ℕ) → (can_bind scope v && is_bound scope u) ≡ true
     → AreSpelt (variable v ∷ kind_word k ∷ codes "before" ∷ variable u ∷ [])
 before_spelt scope v k u good =
     let (can, bound) = and_parts (can_bind scope v) (is_bound scope u) good in
     (can_spelt scope v can, (kind_spelt k, ((omega arith, refl), (bound_spelt scope u bound, tt))))
 
--- the words of a form that may stand are spelt
+-- the words of a form that is allowed are spelt
 form_spelt : (scope : Scope) (f : Form) → is_closed scope f ≡ true → AreSpelt (form_words f)
 form_spelt scope form.True good = ((omega arith, refl), tt)
 form_spelt scope (form.ForEvery v k) good = ((omega arith, refl), (can_spelt scope v good, (kind_spelt k, tt)))
@@ -178,7 +165,7 @@ space_breaks word = let low : 33 ≤ 32 = word.0 in omega arith
 left_breaks : ¬ (IsWordByte 40)
 left_breaks word = word.2 refl
 
--- nor with a right one
+-- no word goes on with a right parenthesis
 right_breaks : ¬ (IsWordByte 41)
 right_breaks word = word.3 refl
 
@@ -211,7 +198,7 @@ inside_breaks no_trees = breaks_first 41 [] right_breaks
 inside_breaks (tree_then f inner trees) =
     breaks_first 32 ((form_text f (row_text inner) ++ row_text trees) ++ 41 ∷ []) space_breaks
 
--- the text of a form that may stand spells its tokens
+-- the text of a form that is allowed spells its tokens
 form_spells : (scope : Scope) (f : Form) (parts : Trees) → is_closed scope f ≡ true
     → Spells (row_text parts) (tokens_then parts [])
     → Spells (form_text f (row_text parts)) (spelt f (tokens_then parts []) [])
@@ -235,7 +222,7 @@ form_spells scope f parts good inside = by (spelt_cases f)
     truth : f ≡ form.True → Spells (form_text f (row_text parts)) (spelt f (tokens_then parts []) [])
     truth is = rw is (spells_word (codes "true") (omega arith) refl)
 
-    -- the same by which of the two the form is
+    -- by cases: which of the two the form is
     by : ((f ≡ form.True) ⊎ (((inner after : List Token)
         → spelt f inner after ≡ left ∷ (form_words f ++ (inner ++ right ∷ after)))
         × ((depth : ℕ) → is_shallow depth f ≡ nat_lt depth 32)))
@@ -263,6 +250,11 @@ row_spells (tree_then f parts trees) scope depth good =
     subst (λ (ts : List Token). Spells (32 ∷ (form_text f (row_text parts) ++ row_text trees)) ts)
     (sym (tokens_append (tree_then f parts no_trees) [] (tokens_then trees []))) whole
 
+-- one of two tests
+either_true : (a b : Bool) (P : Type 0) → (a ≡ true → P) → (b ≡ true → P) → (a || b) ≡ true → P
+either_true true b P f g e = f refl
+either_true false b P f g e = g e
+
 -- letters and digits belong to words
 alphanumeric_byte : (byte : ℕ) → is_alphanumeric byte ≡ true → is_word_byte byte ≡ true
 alphanumeric_byte byte =
@@ -279,7 +271,7 @@ alphanumeric_byte byte =
         let r = and_parts (nat_le low byte) (nat_le byte high) e in
         in_range low high byte a b (leb-true low byte r.0) (leb-true byte high r.1)
 
--- a word of letters and digits has bytes of words alone
+-- a word of letters and digits has only bytes of words
 alphanumeric_bytes : (bytes : List ℕ) → are_alphanumeric bytes ≡ true → are_word_bytes bytes ≡ true
 alphanumeric_bytes [] e = refl
 alphanumeric_bytes (byte ∷ bytes) e =
@@ -293,12 +285,24 @@ name_spelt name is =
     let size = and_parts (nat_lt 0 (length name)) (nat_le (length name) 16) b.0 in
     (ltb-true 0 (length name) size.0, alphanumeric_bytes name b.1)
 
+-- words are ASCII
+ascii : (bytes : List ℕ) → are_word_bytes bytes ≡ true → IsAscii bytes
+ascii [] all i = omega arith
+ascii (byte ∷ bytes) all zero =
+    let word = word_byte byte (and_parts (is_word_byte byte) (are_word_bytes bytes) all).0 in
+    let le : byte ≤ 126 = word.1 in omega arith
+ascii (byte ∷ bytes) all (suc i) = ascii bytes (and_parts (is_word_byte byte) (are_word_bytes bytes) all).1 i
+
+-- a rule's name is text in UTF-8
+pub name_is_text : (name : List ℕ) → is_name name ≡ true → IsUtf8 name
+name_is_text name is = IsUtf8-from_ascii name (ascii name (name_spelt name is).1)
+
 -- a rule's line
 end_opens : Spells (41 ∷ 10 ∷ []) (right ∷ [])
 end_opens = opens_more (41 ∷ []) (10 ∷ []) (right ∷ []) [] (opens_parenthesis 41 (inr refl))
     (opens (10 ∷ []) [] (opens_separator 10 (inr (inr (inl refl)))))
 
--- no word goes on behind a rule's name
+-- no word goes on after a rule's name
 tail_breaks : (body : Trees) → BreaksBehind (row_text body ++ 41 ∷ 10 ∷ [])
 tail_breaks no_trees = breaks_first 41 (10 ∷ []) right_breaks
 tail_breaks (tree_then f inner trees) =

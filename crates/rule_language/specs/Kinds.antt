@@ -35,6 +35,7 @@ kind_word kind.Cast = codes "cast"
 kind_word kind.Cancel = codes "cancel"
 kind_word kind.Challenge = codes "challenge"
 
+-- the kinds of entries, each once; `any` is every kind
 abbrev pub entry_kinds : List Kind
 entry_kinds =
     kind.Any ∷ kind.Opened ∷ kind.Authorise ∷ kind.Override ∷ kind.Forced ∷ kind.Closed ∷ kind.Activate ∷ kind.Commit
@@ -52,6 +53,7 @@ field_word field.Number = codes "number"
 field_word field.Session = codes "session"
 field_word field.Ballot = codes "ballot"
 
+-- the fields of entries, each once
 abbrev pub fields : List Field
 fields = field.Maker ∷ field.Booth ∷ field.Number ∷ field.Session ∷ field.Ballot ∷ []
 
@@ -100,6 +102,7 @@ is_ordered sort.Count = true
 is_ordered sort.Session = true
 is_ordered sort = false
 
+-- whether two sorts are the same
 abbrev pub is_same_sort : Sort → Sort → Bool
 is_same_sort sort.Machine sort.Machine = true
 is_same_sort sort.Count sort.Count = true
@@ -127,11 +130,13 @@ head_word head.OfKind = codes "kind"
 head_word head.Equal = codes "="
 head_word head.Less = codes "<"
 
+-- the words that formulas in parentheses begin with, each once
 abbrev pub heads : List Head
 heads =
     head.ForEvery ∷ head.ForSome ∷ head.And ∷ head.Or ∷ head.Not ∷ head.Implies ∷ head.Same ∷ head.Before ∷ head.Next
     ∷ head.Is ∷ head.OfKind ∷ head.Equal ∷ head.Less ∷ []
 
+-- the first word of a formula that the bytes are, if they are one
 abbrev pub head_named : List ℕ → Option Head
 head_named word = first_named head_word heads word
 

@@ -27,7 +27,7 @@ abbrev pub field_sort : Option Kind → Field → Option Sort
 field_sort None field = None
 field_sort (Some kind) field = if has_field kind field then Some (sort_of_field field) else None
 
--- the sort of a term, which has none where its variable is free or the kind lacks the field
+-- the sort of a term, which has none where its variable is free or the kind doesn't have the field
 abbrev pub sort_of : Scope → Term → Option Sort
 sort_of scope (Of v field) = if is_letter v then field_sort (kind_in scope v) field else None
 sort_of scope (Number n) = if nat_lt n (2 ^ 32) then Some sort.Count else None
@@ -37,6 +37,7 @@ abbrev pub are_of_one_sort : Option Sort → Option Sort → Bool
 are_of_one_sort (Some sort) (Some other) = is_same_sort sort other
 are_of_one_sort sort other = false
 
+-- whether there is a sort and it has an order
 abbrev pub has_order : Option Sort → Bool
 has_order (Some sort) = is_ordered sort
 has_order None = false
@@ -60,7 +61,7 @@ is_closed scope (form.OfKind v kind) = is_bound scope v
 is_closed scope (form.Equal t u) = are_of_one_sort (sort_of scope t) (sort_of scope u)
 is_closed scope (form.Less t u) = has_order (sort_of scope t) && are_of_one_sort (sort_of scope t) (sort_of scope u)
 
--- whether a form has so many formulas in it
+-- whether a form has this number of formulas in it
 abbrev pub has_arity : Form → ℕ → Bool
 has_arity form.And n = nat_lt 0 n && nat_le n 64
 has_arity form.Or n = nat_lt 0 n && nat_le n 64
@@ -72,7 +73,7 @@ has_arity (form.EveryBefore v kind u) n = n == 1
 has_arity (form.SomeBefore v kind u) n = n == 1
 has_arity form n = n == 0
 
--- whether a form may stand where so many parentheses are open: at most 32 nest
+-- whether a form is allowed where this many parentheses are open: at most 32 nest
 abbrev pub is_shallow : ℕ → Form → Bool
 is_shallow depth form.True = true
 is_shallow depth form = nat_lt depth 32
@@ -85,7 +86,7 @@ scope_in (form.EveryBefore v kind u) scope = (v, kind) ∷ scope
 scope_in (form.SomeBefore v kind u) scope = (v, kind) ∷ scope
 scope_in form scope = scope
 
--- whether these are formulas where the variables of the scope are bound and so many parentheses are open
+-- whether these are formulas where the variables of the scope are bound and this many parentheses are open
 abbrev pub are_formulas : Scope → ℕ → Trees → Bool
 are_formulas scope depth no_trees = true
 are_formulas scope depth (tree_then form parts rest) =
@@ -97,6 +98,7 @@ abbrev pub is_alphanumeric : ℕ → Bool
 is_alphanumeric byte =
     (nat_le 48 byte && nat_le byte 57) || ((nat_le 65 byte && nat_le byte 90) || (nat_le 97 byte && nat_le byte 122))
 
+-- whether all the bytes are letters or digits
 abbrev pub are_alphanumeric : List ℕ → Bool
 are_alphanumeric [] = true
 are_alphanumeric (byte ∷ bytes) = is_alphanumeric byte && are_alphanumeric bytes
@@ -110,12 +112,13 @@ abbrev pub is_among : List ℕ → List (List ℕ) → Bool
 is_among name [] = false
 is_among name (other ∷ names) = bytes_eq name other || is_among name names
 
--- whether this is a rule behind rules of these names: at most 256 rules, no two of one name
+-- whether this is a rule after rules of these names: at most 256 rules, no two of one name
 abbrev pub is_rule : List (List ℕ) → RuleTree → Bool
 is_rule names rule =
     (nat_lt (length names) 256 && (is_name rule.name && not (is_among rule.name names)))
     && ((count_of rule.body == 1) && are_formulas [] 1 rule.body)
 
+-- whether these are rules after rules of these names
 abbrev pub follow : List (List ℕ) → List RuleTree → Bool
 follow names [] = true
 follow names (rule ∷ rules) = is_rule names rule && follow (names ++ rule.name ∷ []) rules

@@ -13,11 +13,11 @@ use Rattle.rule_language.specs.Forms.{rule_tree}
 use Rattle.rule_language.specs.Spelling.{Token, IsGoodByte, StandBefore, IsTextOf}
 use Rattle.rule_language.specs.Wants.{Want, meets, behind, begin, is_end}
 
--- the wants that are left behind the tokens that begin before the place, each of which can stand
+-- the wants that are left after the tokens that begin before the place, each of which is allowed
 abbrev pub Leaves : List ℕ → ℕ → List Want → Type 0
 Leaves text at wants = (tokens : List Token) × StandBefore text at tokens × (behind (Ok begin) tokens ≡ Ok wants)
 
--- why the text can't go on at the place: a byte there is bad, the token that begins there can't stand, or the text ends
+-- why the text can't go on at the place: a byte is bad, the token that begins there isn't allowed, or the text ends
 -- too early
 abbrev pub IsRuleCause : List ℕ → ℕ → List Want → RuleWhy → Type 0
 IsRuleCause text at wants why =
@@ -26,7 +26,7 @@ IsRuleCause text at wants why =
     × (meets wants (piece text (record { start = at; end = end })) ≡ Err why))
     ⊎ ((at ≡ length text) × (is_end wants ≡ false) × (why ≡ Shape)))
 
--- the first fault of a text: everything before its place can stand
+-- the first fault of a text: everything before its place is allowed
 abbrev pub IsFirstFault : List ℕ → ℕ → RuleWhy → Type 0
 IsFirstFault text at why = (wants : List Want) × Leaves text at wants × IsRuleCause text at wants why
 

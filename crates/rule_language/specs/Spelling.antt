@@ -17,9 +17,11 @@ use Rattle.rule_language.specs.Lawful.{are_rules}
 abbrev pub Token : Type 0
 Token = List ℕ
 
+-- the left parenthesis
 abbrev pub left : Token
 left = codes "("
 
+-- the right parenthesis
 abbrev pub right : Token
 right = codes ")"
 
@@ -52,12 +54,12 @@ form_words (form.OfKind v kind) = codes "kind" ∷ variable v ∷ kind_word kind
 form_words (form.Equal t u) = codes "=" ∷ term_word t ∷ term_word u ∷ []
 form_words (form.Less t u) = codes "<" ∷ term_word t ∷ term_word u ∷ []
 
--- a form with the tokens of the formulas in it, and what stands behind; all but `true` stands in parentheses
+-- a form with the tokens of the formulas in it, and what follows; all but `true` are in parentheses
 abbrev pub spelt : Form → List Token → List Token → List Token
 spelt form.True inside behind = codes "true" ∷ behind
 spelt form inside behind = left ∷ (form_words form ++ (inside ++ right ∷ behind))
 
--- the tokens of formulas in a row, and what stands behind
+-- the tokens of formulas in a row, and what follows
 abbrev pub tokens_then : Trees → List Token → List Token
 tokens_then no_trees behind = behind
 tokens_then (tree_then form parts rest) behind = spelt form (tokens_then parts []) (tokens_then rest behind)

@@ -84,55 +84,71 @@ some_z_before_y kind f = one (form.SomeBefore z kind y) f
 abbrev never : Inner → Inner
 never f = one form.Not f
 
+-- O1: there is one opening at most
 abbrev pub o1_body : Trees
 o1_body = every_x kind.Opened (every_y kind.Opened is_same)
 
+-- O2: before an authorising comes an opening
 abbrev pub o2_body : Trees
 o2_body = every_x kind.Authorise (some_y_before kind.Opened (atom form.True))
 
+-- A1: before an activation its session was authorised for this booth
 abbrev pub a1_body : Trees
 a1_body = every_x kind.Activate (some_y_before kind.Authorise (two form.And (same_session y x) (booth_is_maker y x)))
 
+-- A2: a session is authorised once at most
 abbrev pub a2_body : Trees
 a2_body = every_x kind.Authorise (every_y kind.Authorise (two form.Implies (same_session x y) is_same))
 
+-- C1: before a commitment its booth activated the session
 abbrev pub c1_body : Trees
 c1_body = every_x kind.Commit (some_y_before kind.Activate (two form.And (same_maker y x) (same_session y x)))
 
+-- C2: before a cast its booth committed to the ballot in the session
 abbrev pub c2_body : Trees
 c2_body = every_x kind.Cast (some_y_before kind.Commit
     (three form.And (same_maker y x) (same_session y x) (same_ballot y x)))
 
+-- C3: a session has one cast at most
 abbrev pub c3_body : Trees
 c3_body = every_x kind.Cast (every_y kind.Cast (two form.Implies (same_session x y) is_same))
 
+-- C4: a session with a cast has no cancellation and no challenge
 abbrev pub c4_body : Trees
 c4_body = every_x kind.Cast (two form.And (every_y kind.Cancel (never (same_session x y)))
     (every_z kind.Challenge (never (same_session x z))))
 
+-- C5: before a cancellation its session was authorised for this booth
 abbrev pub c5_body : Trees
 c5_body = every_x kind.Cancel (some_y_before kind.Authorise (two form.And (same_session y x) (booth_is_maker y x)))
 
+-- V1: before an override its session was authorised
 abbrev pub v1_body : Trees
 v1_body = every_x kind.Override (some_y_before kind.Authorise (same_session y x))
 
+-- V2: no override of its session precedes a cast
 abbrev pub v2_body : Trees
 v2_body = every_x kind.Cast (never (some_y_before kind.Override (same_session y x)))
 
+-- P1: there is one closing at most
 abbrev pub p1_body : Trees
 p1_body = every_x kind.Closed (every_y kind.Closed is_same)
 
+-- P2: no closing precedes an authorising
 abbrev pub p2_body : Trees
 p2_body = every_x kind.Authorise (never (some_y_before kind.Closed (atom form.True)))
 
+-- P3: a session authorised before a closing has its cast, cancellation or challenge before it
 abbrev pub p3_body : Trees
 p3_body = every_x kind.Authorise (every_y kind.Closed (two form.Implies (atom (form.Before x y))
     (three form.Or (some_z_before_y kind.Cast (same_session z x)) (some_z_before_y kind.Cancel (same_session z x))
     (some_z_before_y kind.Challenge (same_session z x)))))
 
+-- P4: no closing precedes a cast
 abbrev pub p4_body : Trees
 p4_body = every_x kind.Cast (never (some_y_before kind.Closed (atom form.True)))
 
+-- M1: each entry is of a kind that its maker's role may make
 abbrev pub m1_body : Trees
 m1_body = every_x kind.Any (two form.Or
     (two form.And (atom (form.Is x Supervisor)) (five form.Or (of_kind kind.Opened) (of_kind kind.Authorise)
@@ -140,26 +156,32 @@ m1_body = every_x kind.Any (two form.Or
     (two form.And (atom (form.Is x Booth)) (five form.Or (of_kind kind.Activate) (of_kind kind.Commit)
     (of_kind kind.Cast) (of_kind kind.Cancel) (of_kind kind.Challenge))))
 
+-- K1: a machine makes one entry of each number at most
 abbrev pub k1_body : Trees
 k1_body = every_x kind.Any (every_y kind.Any (two form.Implies
     (two form.And (same_maker x y) (same_number x y)) is_same))
 
+-- K2: an entry that isn't numbered 0 has its maker's previous one before it
 abbrev pub k2_body : Trees
 k2_body = every_x kind.Any (two form.Or (atom (form.Equal (Of x field.Number) (Number 0)))
     (some_y_before kind.Any (atom (form.Next y x))))
 
+-- C6: before a challenge its booth committed to the ballot in the session
 abbrev pub c6_body : Trees
 c6_body = every_x kind.Challenge (some_y_before kind.Commit
     (three form.And (same_maker y x) (same_session y x) (same_ballot y x)))
 
+-- C7: a session with a challenge has no other challenge and no cancellation
 abbrev pub c7_body : Trees
 c7_body = every_x kind.Challenge (two form.And (every_y kind.Challenge (two form.Implies (same_session x y) is_same))
     (every_z kind.Cancel (never (same_session x z))))
 
+-- V3: no override and no forced cast of its session precedes a challenge
 abbrev pub v3_body : Trees
 v3_body = every_x kind.Challenge (two form.And (never (some_y_before kind.Override (same_session y x)))
     (never (some_z_before kind.Forced (same_session z x))))
 
+-- V4: before a forced cast its session was authorised and has a commitment
 abbrev pub v4_body : Trees
 v4_body = every_x kind.Forced (two form.And (some_y_before kind.Authorise (same_session y x))
     (some_z_before kind.Commit (same_session z x)))

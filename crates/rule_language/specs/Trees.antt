@@ -2,11 +2,12 @@
 use Rattle.std.specs.Prelude.{ℕ, ◌+◌, List}
 use Rattle.rule_language.specs.declared.form.Form.{Form}
 
+-- formulas in a row: none, or a form with its parts in front of the rest
 pub data Trees : Type 0 where
   no_trees : Trees
   tree_then : (form : Form) (parts rest : Trees) → Trees
 
--- how many formulas stand in the row
+-- how many formulas are in the row
 abbrev pub count_of : Trees → ℕ
 count_of no_trees = 0
 count_of (tree_then form parts rest) = count_of rest + 1

@@ -1,4 +1,4 @@
--- The table of faults: what may stand at each place of a text of rules. The places that are still open are a list of
+-- The table of faults: what is allowed at each place of a text of rules. The places that are still open are a list of
 -- wants, the next one first. Each token meets the first want, and either has a cause against it or puts other wants in
 -- its place.
 use Rattle.std.specs.Prelude.{ℕ, ◌+◌, ◌-◌, ◌*◌, ◌^◌, Bool, true, false, ◌&&◌, ◌||◌, ◌==◌, nat_lt, nat_le, if◌then◌else◌}
@@ -22,7 +22,7 @@ use Rattle.rule_language.specs.Scopes.{Scope, kind_in, is_letter}
 use Rattle.rule_language.specs.Lawful.{is_name, is_among}
 use Rattle.rule_language.specs.Spelling.{Token, left, right}
 
--- what may stand at a place. Beside a formula stands how many parentheses are open around it
+-- what is wanted at a place. A formula has with it how many parentheses are open around it
 pub data Want : Type 0 where
   more_rules : (names : List Token) → Want
   rule_word : (names : List Token) → Want
@@ -40,7 +40,7 @@ pub data Want : Type 0 where
   second_term : (sort : Sort) (scope : Scope) → Want
   close : Want
 
--- what stands for a token: the wants behind it, or the cause against it
+-- what follows from a token: the wants after it, or the cause against it
 abbrev pub Met : Type 0
 Met = Result (List Want) RuleWhy
 
@@ -49,7 +49,7 @@ abbrev pub or_cause : {A : Type 0} → RuleWhy → Option A → Result A RuleWhy
 or_cause cause None = Err cause
 or_cause cause (Some a) = Ok a
 
--- the wants behind what was found
+-- the wants after what was found
 abbrev pub then_want : {A : Type 0} → Result A RuleWhy → (A → List Want) → Met
 then_want (Ok a) wants = Ok (wants a)
 then_want (Err cause) wants = Err cause
@@ -60,11 +60,12 @@ letter_in [] = None
 letter_in (v ∷ []) = if is_letter v then Some v else None
 letter_in (v ∷ w ∷ bytes) = None
 
--- a variable that isn't bound, or one that is
+-- the letter of a variable that isn't bound yet
 abbrev pub unbound_in : Scope → Option ℕ → Result ℕ RuleWhy
 unbound_in scope None = Err Shape
 unbound_in scope (Some v) = if is_some (kind_in scope v) then Err SameName else Ok v
 
+-- the letter of a variable that is bound
 abbrev pub bound_in : Scope → Option ℕ → Result ℕ RuleWhy
 bound_in scope None = Err Shape
 bound_in scope (Some v) = if is_some (kind_in scope v) then Ok v else Err Unbound
@@ -74,11 +75,12 @@ abbrev pub kind_for : Token → Result Kind RuleWhy
 kind_for word =
     if bytes_eq word left || bytes_eq word right then Err Shape else or_cause UnknownKind (kind_named word)
 
--- the number of which the bytes are the digits, and whether they are its decimal of 32 bits
+-- the number that the bytes are the digits of, after those of `n`
 abbrev pub value_from : ℕ → List ℕ → ℕ
 value_from n [] = n
 value_from n (byte ∷ bytes) = value_from (10 * n + (byte - 48)) bytes
 
+-- the number that a word is: its decimal, below 2^32
 abbrev pub number_in : Token → Option ℕ
 number_in word =
     if nat_lt (value_from 0 word) (2 ^ 32) && bytes_eq word (decimal (value_from 0 word)) then Some (value_from 0 word)
@@ -88,10 +90,12 @@ number_in word =
 abbrev pub Typed : Type 0
 Typed = Term × Sort
 
+-- a field of a variable, if entries of its kind have the field
 abbrev pub of_field : ℕ → Kind → Option Field → Result Typed RuleWhy
 of_field v kind None = Err WrongField
 of_field v kind (Some field) = if has_field kind field then Ok (Of v field, sort_of_field field) else Err WrongField
 
+-- a field of a variable by its word, if the variable is bound and entries of its kind have the field
 abbrev pub of_variable : ℕ → Option Kind → Token → Result Typed RuleWhy
 of_variable v None name = Err Unbound
 of_variable v (Some kind) name = of_field v kind (field_named name)
@@ -103,11 +107,12 @@ dotted_in scope (v ∷ []) = Err Shape
 dotted_in scope (v ∷ dot ∷ name) =
     if is_letter v && (dot == 46) then of_variable v (kind_in scope v) name else Err Shape
 
--- a term
+-- a number where there is one, and otherwise the other term
 abbrev pub number_or : Option ℕ → Result Typed RuleWhy → Result Typed RuleWhy
 number_or (Some n) other = Ok (Number n, sort.Count)
 number_or None other = other
 
+-- a term: a decimal, or a field of a bound variable
 abbrev pub term_in : Scope → Token → Result Typed RuleWhy
 term_in scope word = number_or (number_in word) (dotted_in scope word)
 
@@ -126,10 +131,11 @@ abbrev pub nested : Scope → Option Head → Result Head RuleWhy
 nested scope None = Err Shape
 nested scope (Some word) = if is_quantifier word && nat_le 4 (length scope) then Err TooDeep else Ok word
 
+-- the first word of a formula in parentheses that the token is, or why it is none
 abbrev pub head_for : Scope → Token → Result Head RuleWhy
 head_for scope word = nested scope (head_named word)
 
--- what follows it
+-- what is wanted after the first word of a formula
 abbrev pub behind_head : Scope → ℕ → List Want → Head → List Want
 behind_head scope depth rest begins.ForEvery = new_variable scope depth ∷ rest
 behind_head scope depth rest begins.ForSome = new_variable scope depth ∷ rest
@@ -145,10 +151,11 @@ behind_head scope depth rest begins.OfKind = a_variable scope ∷ a_kind ∷ clo
 behind_head scope depth rest begins.Equal = first_term false scope ∷ close ∷ rest
 behind_head scope depth rest begins.Less = first_term true scope ∷ close ∷ rest
 
--- the token that has to stand there
+-- whether the token is the only one that is allowed there
 abbrev pub only : Token → Token → Result (Unit {0}) RuleWhy
 only wanted token = if bytes_eq token wanted then Ok tt else Err Shape
 
+-- the wants after the only token that is allowed there
 abbrev pub meets_only : Token → List Want → Token → Met
 meets_only wanted wants token = then_want (only wanted token) (λ it. wants)
 
@@ -196,11 +203,12 @@ meets_want (second_term sort scope) rest token =
     then_want (whose_sort (is_same_sort sort) (term_in scope token)) (λ term. rest)
 meets_want close rest token = meets_only right rest token
 
+-- a token at the first place that is open; after the last no token is allowed
 abbrev pub meets : List Want → Token → Met
 meets [] token = Err Shape
 meets (want ∷ rest) token = meets_want want rest token
 
--- the wants behind tokens, each of which meets the first that is left, or the cause against the first that can't stand
+-- the wants after tokens, each of which meets the first that is left, or the cause against the first that isn't allowed
 abbrev pub behind : Met → List Token → Met
 behind met [] = met
 behind (Err cause) (token ∷ tokens) = Err cause
@@ -210,7 +218,7 @@ behind (Ok wants) (token ∷ tokens) = behind (meets wants token) tokens
 abbrev pub begin : List Want
 begin = more_rules [] ∷ []
 
--- a text may end behind a rule
+-- a text may end after a rule
 abbrev pub is_end : List Want → Bool
 is_end (more_rules (name ∷ names) ∷ []) = true
 is_end wants = false

@@ -1,4 +1,4 @@
-//! Reading the formulas in which no other stands, behind their first words.
+//! Reading the formulas that have no others in them, after their first words.
 ghost use Rattle.std.specs.Prelude.{◌<◌, ℕ, [], ◌∷◌, IfOk};
 ghost use Rattle.rule_language.specs.declared.form.Head.TheVariants as head;
 ghost use Rattle.rule_language.specs.Kinds.{head_word};
@@ -26,7 +26,8 @@ fn read_pair(text: &[u8], token: &mut Span, scope: &Scope<'_>) -> Result<(u8, u8
     requires { IsNext text.now token.old }
     ensures ok { IfOk result (IsPair text.now token.old token.new (bindings scope.now)) }
     ensures err { IfFault result (FailsAt text.now token.old.start
-        (λ rest. a_variable (bindings scope.now) ∷ a_variable (bindings scope.now) ∷ close ∷ rest)) }
+        (λ rest. a_variable (bindings scope.now) ∷ a_variable (bindings scope.now)
+        ∷ close ∷ rest)) }
 {
     let v = read_variable(text, token, scope)?;
     let u = read_variable(text, token, scope)?;
@@ -42,7 +43,8 @@ pub(crate) fn read_same(
 ) -> Result<Formula, RuleFault>
     requires { IsNext text.now token.old }
     ensures ok { (depth : ℕ) → depth < 32 → IfOk result
-        (IsRead text.now token.old token.new (bindings scope.now) depth (left ∷ head_word head.Same ∷ [])) }
+        (IsRead text.now token.old token.new (bindings scope.now) depth
+        (left ∷ head_word head.Same ∷ [])) }
     ensures err { (depth : ℕ) → IfFault result (FailsAt text.now token.old.start
         (λ rest. behind_head (bindings scope.now) depth rest head.Same)) }
 {
@@ -58,7 +60,8 @@ pub(crate) fn read_before(
 ) -> Result<Formula, RuleFault>
     requires { IsNext text.now token.old }
     ensures ok { (depth : ℕ) → depth < 32 → IfOk result
-        (IsRead text.now token.old token.new (bindings scope.now) depth (left ∷ head_word head.Before ∷ [])) }
+        (IsRead text.now token.old token.new (bindings scope.now) depth
+        (left ∷ head_word head.Before ∷ [])) }
     ensures err { (depth : ℕ) → IfFault result (FailsAt text.now token.old.start
         (λ rest. behind_head (bindings scope.now) depth rest head.Before)) }
 {
@@ -74,7 +77,8 @@ pub(crate) fn read_next(
 ) -> Result<Formula, RuleFault>
     requires { IsNext text.now token.old }
     ensures ok { (depth : ℕ) → depth < 32 → IfOk result
-        (IsRead text.now token.old token.new (bindings scope.now) depth (left ∷ head_word head.Next ∷ [])) }
+        (IsRead text.now token.old token.new (bindings scope.now) depth
+        (left ∷ head_word head.Next ∷ [])) }
     ensures err { (depth : ℕ) → IfFault result (FailsAt text.now token.old.start
         (λ rest. behind_head (bindings scope.now) depth rest head.Next)) }
 {
@@ -90,7 +94,8 @@ pub(crate) fn read_is(
 ) -> Result<Formula, RuleFault>
     requires { IsNext text.now token.old }
     ensures ok { (depth : ℕ) → depth < 32 → IfOk result
-        (IsRead text.now token.old token.new (bindings scope.now) depth (left ∷ head_word head.Is ∷ [])) }
+        (IsRead text.now token.old token.new (bindings scope.now) depth
+        (left ∷ head_word head.Is ∷ [])) }
     ensures err { (depth : ℕ) → IfFault result (FailsAt text.now token.old.start
         (λ rest. behind_head (bindings scope.now) depth rest head.Is)) }
 {
@@ -108,7 +113,8 @@ pub(crate) fn read_of_kind(
 ) -> Result<Formula, RuleFault>
     requires { IsNext text.now token.old }
     ensures ok { (depth : ℕ) → depth < 32 → IfOk result
-        (IsRead text.now token.old token.new (bindings scope.now) depth (left ∷ head_word head.OfKind ∷ [])) }
+        (IsRead text.now token.old token.new (bindings scope.now) depth
+        (left ∷ head_word head.OfKind ∷ [])) }
     ensures err { (depth : ℕ) → IfFault result (FailsAt text.now token.old.start
         (λ rest. behind_head (bindings scope.now) depth rest head.OfKind)) }
 {
@@ -144,7 +150,8 @@ pub(crate) fn read_equal(
 ) -> Result<Formula, RuleFault>
     requires { IsNext text.now token.old }
     ensures ok { (depth : ℕ) → depth < 32 → IfOk result
-        (IsRead text.now token.old token.new (bindings scope.now) depth (left ∷ head_word head.Equal ∷ [])) }
+        (IsRead text.now token.old token.new (bindings scope.now) depth
+        (left ∷ head_word head.Equal ∷ [])) }
     ensures err { (depth : ℕ) → IfFault result (FailsAt text.now token.old.start
         (λ rest. behind_head (bindings scope.now) depth rest head.Equal)) }
 {
@@ -160,7 +167,8 @@ pub(crate) fn read_less(
 ) -> Result<Formula, RuleFault>
     requires { IsNext text.now token.old }
     ensures ok { (depth : ℕ) → depth < 32 → IfOk result
-        (IsRead text.now token.old token.new (bindings scope.now) depth (left ∷ head_word head.Less ∷ [])) }
+        (IsRead text.now token.old token.new (bindings scope.now) depth
+        (left ∷ head_word head.Less ∷ [])) }
     ensures err { (depth : ℕ) → IfFault result (FailsAt text.now token.old.start
         (λ rest. behind_head (bindings scope.now) depth rest head.Less)) }
 {

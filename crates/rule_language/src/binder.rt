@@ -27,7 +27,8 @@ pub(crate) struct Binder {
 impl Binder {
     /// The formula that the quantifier makes of its body.
     pub(crate) fn over(self, every: bool, body: Box<Formula>) -> Formula
-        ensures { tree_of result ≡ tree_then (quantifier_form every self) (tree_of body.value) no_trees }
+        ensures { tree_of result
+            ≡ tree_then (quantifier_form every self) (tree_of body.value) no_trees }
     {
         let Binder { v, kind, u } = self;
         match u {
@@ -49,11 +50,12 @@ impl Binder {
     }
 }
 
-/// Takes `before` and a variable, if they stand there.
+/// Takes `before` and a variable, if they are there.
 fn read_range(text: &[u8], token: &mut Span, scope: &Scope<'_>) -> Result<Option<u8>, RuleFault>
     requires { IsNext text.now token.old }
     ensures ok { IfOk result (IsRange text.now token.old token.new (bindings scope.now)) }
-    ensures err { (v : ℕ) (kind : KindOf) (depth : ℕ) → IfFault result (FailsAt text.now token.old.start
+    ensures err { (v : ℕ) (kind : KindOf) (depth : ℕ)
+        → IfFault result (FailsAt text.now token.old.start
         (λ rest. before_or_body v kind (bindings scope.now) depth ∷ rest)) }
 {
     if !is_word(text, *token, b"before") {
@@ -73,7 +75,8 @@ pub(crate) fn read_binder(
     requires { IsNext text.now token.old }
     ensures ok { IfOk result (IsBinder text.now token.old token.new (bindings scope.now)) }
     ensures err { (depth : ℕ) → IfFault result
-        (FailsAt text.now token.old.start (λ rest. new_variable (bindings scope.now) depth ∷ rest)) }
+        (FailsAt text.now token.old.start
+        (λ rest. new_variable (bindings scope.now) depth ∷ rest)) }
 {
     let v = read_new_variable(text, token, scope)?;
     let kind = read_kind(text, token)?;

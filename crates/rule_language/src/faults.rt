@@ -5,7 +5,7 @@ ghost use Rattle.rule_language.specs.Kinds.{why_word};
 use std::alloc::{AllocError, AllocFailed};
 use thiserror::Error;
 
-/// Why a token can't stand where it does, numbered in this order from 1.
+/// Why a token isn't allowed where it is, numbered in this order from 1.
 #[derive(Clone, Copy, Debug, PartialEq, Eq, Error)]
 pub enum RuleWhy {
     #[error("a byte is no token and separates none")]
@@ -46,8 +46,8 @@ impl RuleWhy {
 pub enum RuleFault {
     #[error("byte {at}: {why}")]
     At {
-        /// The first byte of the first token that can't stand, counted from 0, or the length of a text
-        /// that ends too early.
+        /// The first byte of the first token that isn't allowed, counted from 0, or the length of a
+        /// text that ends too early.
         at: usize,
         why: RuleWhy,
     },

@@ -4,8 +4,8 @@ use crate::kind::Kind;
 use crate::term::Term;
 use roster::Role;
 
-/// A formula. A variable is the byte of its letter. Contracts see a formula as its tree (`tree_of`),
-/// whatever room its vectors have.
+/// A formula. A variable is the byte of its letter. Contracts see a formula as its tree
+/// (`tree_of`), whatever room its vectors have.
 #[derive(Drop)]
 pub enum Formula {
     True,

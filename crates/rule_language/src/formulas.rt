@@ -31,7 +31,7 @@ use std::alloc::Global;
 /// How many parentheses nest.
 const MAX_DEPTH: usize = 32;
 
-/// How many formulas stand in an `and` or an `or`.
+/// How many formulas an `and` or an `or` has at most.
 const MAX_PARTS: usize = 64;
 
 /// Takes a formula, around which `depth` parentheses are open.
@@ -62,7 +62,7 @@ pub(crate) fn read_formula(
     read_inside(alloc, text, token, scope, depth)
 }
 
-/// Takes the rest of a formula behind its left parenthesis, which isn't counted.
+/// Takes the rest of a formula after its left parenthesis, which isn't counted in `depth`.
 #[cycle(formulas)]
 fn read_inside(
     alloc: Global,
@@ -73,7 +73,8 @@ fn read_inside(
 ) -> Result<Formula, RuleFault>
     requires next { IsNext text.now token.old }
     requires shallow { depth < 32 }
-    ensures ok { IfOk result (IsRead text.now token.old token.new (bindings scope.now) depth (left ∷ [])) }
+    ensures ok { IfOk result
+        (IsRead text.now token.old token.new (bindings scope.now) depth (left ∷ [])) }
     ensures err { IfFault result
         (FailsAt text.now token.old.start (λ rest. head (bindings scope.now) (depth + 1) ∷ rest)) }
 {
@@ -81,7 +82,7 @@ fn read_inside(
     read_behind(alloc, text, token, scope, depth, begun)
 }
 
-/// Takes the rest behind its first word too.
+/// Takes the rest of a formula after its left parenthesis and first word.
 #[cycle(formulas)]
 fn read_behind(
     alloc: Global,
@@ -95,7 +96,8 @@ fn read_behind(
     requires shallow { depth < 32 }
     requires few { nested (bindings scope.now) (Some begun) ≡ Ok begun }
     ensures ok { IfOk result
-        (IsRead text.now token.old token.new (bindings scope.now) depth (left ∷ head_word begun ∷ [])) }
+        (IsRead text.now token.old token.new (bindings scope.now) depth
+        (left ∷ head_word begun ∷ [])) }
     ensures err { IfFault result (FailsAt text.now token.old.start
         (λ rest. behind_head (bindings scope.now) (depth + 1) rest begun)) }
 {
@@ -116,7 +118,7 @@ fn read_behind(
     }
 }
 
-/// Takes a formula and the parenthesis behind it.
+/// Takes a formula and the parenthesis after it.
 #[cycle(formulas)]
 fn read_body(
     alloc: Global,
@@ -126,9 +128,11 @@ fn read_body(
     depth: usize,
 ) -> Result<Box<Formula>, RuleFault>
     requires { IsNext text.now token.old }
-    ensures ok { IfOk result (λ body. IsBody text.now token.old token.new (bindings scope.now) depth body.value) }
+    ensures ok { IfOk result
+        (λ body. IsBody text.now token.old token.new (bindings scope.now) depth body.value) }
     ensures err { IfFault result
-        (FailsAt text.now token.old.start (λ rest. formula (bindings scope.now) depth ∷ close ∷ rest)) }
+        (FailsAt text.now token.old.start
+        (λ rest. formula (bindings scope.now) depth ∷ close ∷ rest)) }
 {
     let body = read_formula(alloc, text, token, scope, depth)?;
     read_only(text, token, b")")?;
@@ -147,7 +151,8 @@ fn read_not(
     requires next { IsNext text.now token.old }
     requires shallow { depth < 32 }
     ensures ok { IfOk result
-        (IsRead text.now token.old token.new (bindings scope.now) depth (left ∷ head_word heads.Not ∷ [])) }
+        (IsRead text.now token.old token.new (bindings scope.now) depth
+        (left ∷ head_word heads.Not ∷ [])) }
     ensures err { IfFault result (FailsAt text.now token.old.start
         (λ rest. behind_head (bindings scope.now) (depth + 1) rest heads.Not)) }
 {
@@ -167,7 +172,8 @@ fn read_implies(
     requires next { IsNext text.now token.old }
     requires shallow { depth < 32 }
     ensures ok { IfOk result
-        (IsRead text.now token.old token.new (bindings scope.now) depth (left ∷ head_word heads.Implies ∷ [])) }
+        (IsRead text.now token.old token.new (bindings scope.now) depth
+        (left ∷ head_word heads.Implies ∷ [])) }
     ensures err { IfFault result (FailsAt text.now token.old.start
         (λ rest. behind_head (bindings scope.now) (depth + 1) rest heads.Implies)) }
 {
@@ -189,7 +195,8 @@ fn read_quantified(
 ) -> Result<Formula, RuleFault>
     requires next { IsNext text.now token.old }
     requires shallow { depth < 32 }
-    requires few { nested (bindings scope.now) (Some (quantifier_head every)) ≡ Ok (quantifier_head every) }
+    requires few { nested (bindings scope.now) (Some (quantifier_head every))
+        ≡ Ok (quantifier_head every) }
     ensures ok { IfOk result (IsRead text.now token.old token.new (bindings scope.now) depth
         (left ∷ head_word (quantifier_head every) ∷ [])) }
     ensures err { IfFault result (FailsAt text.now token.old.start
@@ -220,7 +227,8 @@ fn read_several(
     ensures ok { IfOk result (IsRead text.now token.old token.new (bindings scope.now) depth
         (left ∷ head_word (if all then heads.And else heads.Or) ∷ [])) }
     ensures err { IfFault result (FailsAt text.now token.old.start
-        (λ rest. behind_head (bindings scope.now) (depth + 1) rest (if all then heads.And else heads.Or))) }
+        (λ rest. behind_head (bindings scope.now) (depth + 1) rest
+        (if all then heads.And else heads.Or))) }
 {
     let parts = read_parts(alloc, text, token, scope, depth + 1)?;
     if all {
@@ -230,7 +238,7 @@ fn read_several(
     }
 }
 
-/// Takes 1 to 64 formulas and the parenthesis behind them.
+/// Takes 1 to 64 formulas and the parenthesis after them.
 #[cycle(formulas)]
 fn read_parts(
     alloc: Global,
@@ -240,7 +248,8 @@ fn read_parts(
     depth: usize,
 ) -> Result<Vec<Formula>, RuleFault>
     requires next { IsNext text.now token.old }
-    ensures ok { IfOk result (λ parts. IsSeveral text.now token.old token.new (bindings scope.now) depth parts.items) }
+    ensures ok { IfOk result
+        (λ parts. IsSeveral text.now token.old token.new (bindings scope.now) depth parts.items) }
     ensures err { IfFault result (FailsAt text.now token.old.start
         (λ rest. formula (bindings scope.now) depth ∷ more 63 (bindings scope.now) depth ∷ rest)) }
 {

@@ -1,4 +1,4 @@
-//! Laws of rules and their texts, which hold of the definitions alone. Each is the contract of a
+//! Laws of rules and their texts, which follow from the definitions. Each is the contract of a
 //! function that does nothing.
 ghost use Rattle.std.specs.Prelude.{◌≡◌, ℕ, IsTrue, List, Result};
 ghost use Rattle.rule_language.specs.Trees.{RuleTree};
@@ -32,7 +32,8 @@ pub fn one_reading_is_right()
 
 /// What is written of rules is a text of them, and so it is read back as the same rules.
 pub fn written_rules_are_read_back()
-    ensures text { (rules : List RuleTree) → IsTrue (are_rules rules) → IsTextOf (rules_text rules) rules }
+    ensures text { (rules : List RuleTree) → IsTrue (are_rules rules)
+        → IsTextOf (rules_text rules) rules }
     ensures back { (rules other : List RuleTree) → IsTrue (are_rules rules) →
         IsTextOf (rules_text rules) other → rules ≡ other }
 {}

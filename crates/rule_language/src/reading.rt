@@ -1,4 +1,4 @@
-//! Reading formulas: a function for each thing that may stand at a place. Each looks at the token
+//! Reading formulas: a function for each thing that is allowed at a place. Each looks at the token
 //! that is there, and once.
 ghost use Rattle.std.specs.Prelude.{◌≡◌, ◌≢◌, ◌<◌, true, ℕ, List, [], ◌∷◌, IfOk, Ok};
 ghost use Rattle.roster.specs.RosterText.{role_word};
@@ -80,11 +80,12 @@ pub(crate) fn only(word: &[u8], wanted: &[u8]) -> Result<(), RuleWhy>
     }
 }
 
-/// Takes the word that has to stand there.
+/// Takes the one word that is allowed there.
 pub(crate) fn read_only(text: &[u8], token: &mut Span, wanted: &[u8]) -> Result<(), RuleFault>
     requires next { IsNext text.now token.old }
     requires some { wanted.now ≢ [] }
-    ensures ok { IfOk result (λ it. Takes text.now token.old token.new (wanted.now ∷ []) × Unit {0}) }
+    ensures ok { IfOk result (λ it. Takes text.now token.old token.new (wanted.now ∷ [])
+        × Unit {0}) }
     ensures err { (wants : List Want → List Want) → Asks (only wanted.now) wants →
         IfFault result (FailsAt text.now token.old.start wants) }
 {
@@ -114,7 +115,8 @@ pub(crate) fn read_new_variable(
     ensures ok { IfOk result (λ v. Takes text.now token.old token.new (variable v ∷ [])
         × (unbound_in (bindings scope.now) (letter_in (variable v)) ≡ Ok v)) }
     ensures err { (depth : ℕ) → IfFault result
-        (FailsAt text.now token.old.start (λ rest. new_variable (bindings scope.now) depth ∷ rest)) }
+        (FailsAt text.now token.old.start
+        (λ rest. new_variable (bindings scope.now) depth ∷ rest)) }
 {
     let found = new_variable_in(word_of(text, *token), scope);
     take(text, token, found)
@@ -139,7 +141,8 @@ pub(crate) fn read_variable(
 /// Takes a kind.
 pub(crate) fn read_kind(text: &[u8], token: &mut Span) -> Result<Kind, RuleFault>
     requires { IsNext text.now token.old }
-    ensures ok { IfOk result (λ kind. Takes text.now token.old token.new (kind_word kind ∷ []) × Unit {0}) }
+    ensures ok { IfOk result (λ kind. Takes text.now token.old token.new (kind_word kind ∷ [])
+        × Unit {0}) }
     ensures err { (wants : List Want → List Want) → Asks kind_for wants →
         IfFault result (FailsAt text.now token.old.start wants) }
 {
@@ -150,7 +153,8 @@ pub(crate) fn read_kind(text: &[u8], token: &mut Span) -> Result<Kind, RuleFault
 /// Takes a role.
 pub(crate) fn read_role(text: &[u8], token: &mut Span) -> Result<Role, RuleFault>
     requires { IsNext text.now token.old }
-    ensures ok { IfOk result (λ role. Takes text.now token.old token.new (role_word role ∷ []) × Unit {0}) }
+    ensures ok { IfOk result (λ role. Takes text.now token.old token.new (role_word role ∷ [])
+        × Unit {0}) }
     ensures err { IfFault result (FailsAt text.now token.old.start (λ rest. a_role ∷ rest)) }
 {
     let found = role_in(word_of(text, *token));
@@ -168,7 +172,8 @@ pub(crate) fn read_first(
     ensures ok { IfOk result (λ typed. Takes text.now token.old token.new (term_word typed.0 ∷ [])
         × IsTyped (bindings scope.now) (may_begin ordered) typed) }
     ensures err { IfFault result
-        (FailsAt text.now token.old.start (λ rest. first_term ordered (bindings scope.now) ∷ rest)) }
+        (FailsAt text.now token.old.start
+        (λ rest. first_term ordered (bindings scope.now) ∷ rest)) }
 {
     let found = first_term_in(word_of(text, *token), scope, ordered);
     take(text, token, found)

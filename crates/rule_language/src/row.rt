@@ -3,7 +3,7 @@
 use crate::kind::Kind;
 use roster::Role;
 
-/// What a rule sees of an entry; 0 where its kind lacks a field.
+/// What a rule sees of an entry; 0 where its kind doesn't have a field.
 #[derive(Clone, Copy)]
 pub struct Row {
     pub kind: Kind,

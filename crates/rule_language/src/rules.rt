@@ -32,7 +32,7 @@ use std::alloc::{AllocError, Global};
 /// How many rules a text has.
 const MAX_RULES: usize = 256;
 
-/// Whether the word begins a rule behind so many others.
+/// Whether the word begins a rule after this number of others.
 fn opening(word: &[u8], count: usize) -> Result<(), RuleWhy>
     ensures { result ≡ opening count word.now }
 {
@@ -48,7 +48,8 @@ fn read_opening(text: &[u8], token: &mut Span, rules: &[Rule]) -> Result<(), Rul
     requires going { token.old.start ≡ length text.now → rule_names rules.now ≡ [] }
     ensures ok { IfOk result (λ it. Takes text.now token.old token.new (left ∷ [])
         × (nat_lt (length (rule_names rules.now)) 256 ≡ true)) }
-    ensures err { IfFault result (FailsAt text.now token.old.start (λ rest. more_rules (rule_names rules.now) ∷ [])) }
+    ensures err { IfFault result
+        (FailsAt text.now token.old.start (λ rest. more_rules (rule_names rules.now) ∷ [])) }
 {
     let found = opening(word_of(text, *token), rules.len());
     take(text, token, found)
@@ -62,7 +63,7 @@ fn name_from(alloc: Global, word: &[u8]) -> Result<String, AllocError>
     String::from_utf8_lossy(alloc, word)
 }
 
-/// Takes the name of a rule behind these.
+/// Takes the name of a rule after these.
 fn read_name(
     alloc: Global,
     text: &[u8],
@@ -80,7 +81,7 @@ fn read_name(
     Ok(name_from(alloc, word)?)
 }
 
-/// Takes a rule behind these.
+/// Takes a rule after these.
 fn read_rule(
     alloc: Global,
     text: &[u8],
@@ -89,9 +90,11 @@ fn read_rule(
 ) -> Result<Rule, RuleFault>
     requires next { IsNext text.now token.old }
     requires going { token.old.start ≡ length text.now → rule_names rules.now ≡ [] }
-    ensures ok { IfOk result (λ rule. Takes text.now token.old token.new (rule_tokens (rule_tree rule))
+    ensures ok { IfOk result
+        (λ rule. Takes text.now token.old token.new (rule_tokens (rule_tree rule))
         × (is_rule (rule_names rules.now) (rule_tree rule) ≡ true)) }
-    ensures err { IfFault result (FailsAt text.now token.old.start (λ rest. more_rules (rule_names rules.now) ∷ [])) }
+    ensures err { IfFault result
+        (FailsAt text.now token.old.start (λ rest. more_rules (rule_names rules.now) ∷ [])) }
 {
     read_opening(text, token, rules)?;
     read_only(text, token, b"rule")?;
@@ -105,7 +108,7 @@ fn read_rule(
 ///
 /// # Errors
 ///
-/// `At` with the first byte of the first token that can't stand where it does, and the first cause
+/// `At` with the first byte of the first token that isn't allowed where it is, and the first cause
 /// against it; or with the text's length where the text ends too early. `Memory` otherwise.
 pub fn read(alloc: Global, text: &[u8]) -> Result<Vec<Rule>, RuleFault>
     ensures { result ≢ Err RuleFault.Memory → Reads text.now (answered result) }

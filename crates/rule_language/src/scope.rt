@@ -33,7 +33,7 @@ impl<'a> Scope<'a> {
         }
     }
 
-    /// Whether so many variables are bound, or more.
+    /// Whether at least this many variables are bound.
     pub(crate) fn has(&self, count: usize) -> bool
         ensures { result ≡ nat_le count (length (bindings self.now)) }
     {

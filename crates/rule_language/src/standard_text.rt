@@ -41,7 +41,7 @@ pub const STANDARD: &str = "\
 ///
 /// # Errors
 ///
-/// Want of memory.
+/// Out of memory.
 pub fn standard(alloc: Global) -> Result<Vec<Rule>, Memory>
     ensures { IfOk result (λ rules. map rule_tree rules.items ≡ standard_rules) }
 {
@@ -52,7 +52,8 @@ pub fn standard(alloc: Global) -> Result<Vec<Rule>, Memory>
     }
 }
 
-/// A law of the definitions: the standard rules are rules, and what is written of them is their text, byte for byte.
+/// A law of the definitions: the standard rules are rules, and what is written of them is their
+/// text, byte for byte.
 pub fn the_standard_text_is_written()
     ensures rules { IsTrue (are_rules standard_rules) }
     ensures text { rules_text standard_rules ≡ STANDARD.now }

@@ -19,7 +19,7 @@ fn is_separator(byte: u8) -> bool
     byte == b' ' || byte == b'\t' || byte == b'\n' || byte == b'\r'
 }
 
-/// What stands behind the separators from the place on: a token, or an empty span at a bad byte or at
+/// What follows the separators from the place on: a token, or an empty span at a bad byte or at
 /// the text's end.
 pub(crate) fn token_from(text: &[u8], from: usize) -> Span
     requires inside { from ≤ length text.now }
@@ -67,7 +67,7 @@ pub(crate) fn advance(text: &[u8], token: &mut Span)
     }
 }
 
-/// The fault at what can't stand, for the cause that there is against it where it is a token.
+/// The fault at the place: its cause is this one where a token is there.
 pub(crate) fn refused(text: &[u8], token: Span, why: RuleWhy) -> RuleFault
     ensures { result ≡ RuleFault.At token.start (told text.now token why) }
 {

@@ -1,4 +1,4 @@
-//! The words of rules, each by what may stand at its place.
+//! The words of rules, each by what is allowed at its place.
 ghost use Rattle.std.specs.Prelude.{◌≡◌};
 ghost use Rattle.rule_language.specs.Kinds.{role_named, is_same_sort};
 ghost use Rattle.rule_language.specs.Lawful.{is_name, is_among};
@@ -97,7 +97,7 @@ fn role_named(word: &[u8]) -> Option<Role>
     }
 }
 
-/// The same, or the cause against it.
+/// The role that the word names, or the cause against it.
 pub(crate) fn role_in(word: &[u8]) -> Result<Role, RuleWhy>
     ensures { result ≡ or_cause RuleWhy.Shape (role_named word.now) }
 {
@@ -184,7 +184,8 @@ pub(crate) fn second_term_in(
     Ok(term)
 }
 
-/// What the word begins in parentheses, where these variables are bound: at most 4 quantifiers nest.
+/// What the word begins in parentheses, where these variables are bound: at most 4 quantifiers
+/// nest.
 pub(crate) fn head_in(word: &[u8], scope: &Scope<'_>) -> Result<Head, RuleWhy>
     ensures { result ≡ head_for (bindings scope.now) word.now }
 {
@@ -224,7 +225,7 @@ fn is_among(name: &[u8], rules: &[Rule]) -> bool
     false
 }
 
-/// Whether the word may be the name of a rule behind these.
+/// Whether the word is allowed as the name of a rule after these.
 pub(crate) fn check_name(word: &[u8], rules: &[Rule]) -> Result<(), RuleWhy>
     ensures { result ≡ checked (name_in (rule_names rules.now) word.now) }
 {

@@ -13,7 +13,7 @@ use crate::kind::Kind;
 use crate::term::Term;
 use std::alloc::{AllocError, Global};
 
-/// Want of memory.
+/// Out of memory.
 pub type Memory = AllocError;
 
 /// Appends a space and the word.
@@ -47,9 +47,10 @@ fn push_term(alloc: Global, out: &mut Vec<u8>, term: Term) -> Result<(), Memory>
     }
 }
 
-/// Appends the words of a quantifier behind its first.
+/// Appends the words of a quantifier after its first.
 fn push_binder(out: &mut Vec<u8>, v: u8, kind: Kind) -> Result<(), Memory>
-    ensures { OnOk result (out.new.items ≡ out.old.items ++ spaced (variable v ∷ kind_word kind ∷ [])) }
+    ensures { OnOk result
+        (out.new.items ≡ out.old.items ++ spaced (variable v ∷ kind_word kind ∷ [])) }
 {
     push_variable(out, v)?;
     push_word(out, kind.word())
@@ -57,7 +58,8 @@ fn push_binder(out: &mut Vec<u8>, v: u8, kind: Kind) -> Result<(), Memory>
 
 /// Appends `before` and a variable.
 fn push_range(out: &mut Vec<u8>, u: u8) -> Result<(), Memory>
-    ensures { OnOk result (out.new.items ≡ out.old.items ++ spaced (codes "before" ∷ variable u ∷ [])) }
+    ensures { OnOk result
+        (out.new.items ≡ out.old.items ++ spaced (codes "before" ∷ variable u ∷ [])) }
 {
     push_word(out, b"before")?;
     push_variable(out, u)
@@ -65,7 +67,8 @@ fn push_range(out: &mut Vec<u8>, u: u8) -> Result<(), Memory>
 
 /// Appends the first word of a form and two variables.
 fn push_pair(out: &mut Vec<u8>, word: &[u8], v: u8, u: u8) -> Result<(), Memory>
-    ensures { OnOk result (out.new.items ≡ out.old.items ++ with_spaces (word.now ∷ variable v ∷ variable u ∷ [])) }
+    ensures { OnOk result
+        (out.new.items ≡ out.old.items ++ with_spaces (word.now ∷ variable v ∷ variable u ∷ [])) }
 {
     out.extend_from_slice(word)?;
     push_variable(out, v)?;
@@ -74,7 +77,8 @@ fn push_pair(out: &mut Vec<u8>, word: &[u8], v: u8, u: u8) -> Result<(), Memory>
 
 /// Appends the first word of a form, a variable and a word.
 fn push_said(out: &mut Vec<u8>, word: &[u8], v: u8, said: &[u8]) -> Result<(), Memory>
-    ensures { OnOk result (out.new.items ≡ out.old.items ++ with_spaces (word.now ∷ variable v ∷ said.now ∷ [])) }
+    ensures { OnOk result
+        (out.new.items ≡ out.old.items ++ with_spaces (word.now ∷ variable v ∷ said.now ∷ [])) }
 {
     out.extend_from_slice(word)?;
     push_variable(out, v)?;
@@ -83,7 +87,8 @@ fn push_said(out: &mut Vec<u8>, word: &[u8], v: u8, said: &[u8]) -> Result<(), M
 
 /// Appends the first word of a form and two terms.
 fn push_terms(alloc: Global, out: &mut Vec<u8>, word: &[u8], t: Term, u: Term) -> Result<(), Memory>
-    ensures { OnOk result (out.new.items ≡ out.old.items ++ with_spaces (word.now ∷ term_word t ∷ term_word u ∷ [])) }
+    ensures { OnOk result
+        (out.new.items ≡ out.old.items ++ with_spaces (word.now ∷ term_word t ∷ term_word u ∷ [])) }
 {
     out.extend_from_slice(word)?;
     push_term(alloc, out, t)?;
@@ -92,22 +97,25 @@ fn push_terms(alloc: Global, out: &mut Vec<u8>, word: &[u8], t: Term, u: Term) -
 
 /// Appends the first word of a quantifier and what it binds.
 fn push_quantifier(out: &mut Vec<u8>, word: &[u8], v: u8, kind: Kind) -> Result<(), Memory>
-    ensures { OnOk result (out.new.items ≡ out.old.items ++ with_spaces (word.now ∷ variable v ∷ kind_word kind ∷ [])) }
+    ensures { OnOk result
+        (out.new.items ≡ out.old.items ++ with_spaces
+        (word.now ∷ variable v ∷ kind_word kind ∷ [])) }
 {
     out.extend_from_slice(word)?;
     push_binder(out, v, kind)
 }
 
-/// The same of one that goes over what precedes the entry of a variable.
+/// Appends the words of a quantifier with `before` and a variable.
 fn push_preceding(out: &mut Vec<u8>, word: &[u8], v: u8, kind: Kind, u: u8) -> Result<(), Memory>
     ensures { OnOk result (out.new.items ≡ out.old.items
-        ++ with_spaces (word.now ∷ variable v ∷ kind_word kind ∷ codes "before" ∷ variable u ∷ [])) }
+        ++ with_spaces
+        (word.now ∷ variable v ∷ kind_word kind ∷ codes "before" ∷ variable u ∷ [])) }
 {
     push_quantifier(out, word, v, kind)?;
     push_range(out, u)
 }
 
-/// Appends a word alone.
+/// Appends a form of one word.
 fn push_alone(out: &mut Vec<u8>, word: &[u8]) -> Result<(), Memory>
     ensures { OnOk result (out.new.items ≡ out.old.items ++ with_spaces (word.now ∷ [])) }
 {
@@ -189,7 +197,8 @@ fn push_formula(alloc: Global, out: &mut Vec<u8>, formula: &Formula) -> Result<(
 /// Appends the formulas in it, with a space before each.
 #[cycle(writing)]
 fn push_parts(alloc: Global, out: &mut Vec<u8>, formula: &Formula) -> Result<(), Memory>
-    ensures { OnOk result (out.new.items ≡ out.old.items ++ row_text (parts_of (tree_of formula.now))) }
+    ensures { OnOk result
+        (out.new.items ≡ out.old.items ++ row_text (parts_of (tree_of formula.now))) }
 {
     match formula {
         Formula::ForEvery { body, .. } => push_formula(alloc, out, body),
@@ -228,11 +237,11 @@ fn push_rule(alloc: Global, out: &mut Vec<u8>, rule: &Rule) -> Result<(), Memory
     out.extend_from_slice(b")\n")
 }
 
-/// The text of rules: a rule on a line, one space between tokens, none behind `(` or before `)`.
+/// The text of rules: a rule on a line, one space between tokens, none after `(` or before `)`.
 ///
 /// # Errors
 ///
-/// Want of memory.
+/// Out of memory.
 pub fn write(alloc: Global, rules: &[Rule]) -> Result<Vec<u8>, Memory>
     ensures { IfOk result (λ text. text.items ≡ rules_text (map rule_tree rules.now)) }
 {

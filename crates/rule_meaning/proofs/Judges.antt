@@ -1,32 +1,19 @@
 -- The values that the code comes to, step by step.
-use Rattle.std.proofs.Common.{◌≡◌, ◌∙◌, ap, sym, refl, ℕ, zero, suc, ◌+◌, ◌-◌, ◌<◌, ◌≤◌, Bool, true, false, cond}
-use Rattle.std.proofs.Common.{Option, Some, None, ◌++◌, ◌&&◌}
-use Rattle.std.proofs.Common.{List, [], ◌∷◌, map, drop, get_or, length, Vec, Global, Box, rules, arith}
-use Rattle.std.specs.Prelude.{slice_get}
-use Rattle.std.specs.List.{filter, range_with_len}
-use Rattle.std.proofs.lemmas.List.{drop_more, drop_all}
-use Rattle.std.proofs.Math.Bool.{and-true}
-use Rattle.entry_order.specs.declared.three.Three.{Three}
-use Rattle.entry_order.specs.declared.three.Three.TheVariants.{False, Unknown, True}
-use Rattle.rule_language.specs.declared.row.Row.{Row}
-use Rattle.rule_language.specs.declared.kind.Kind.{Kind}
-use Rattle.rule_language.specs.declared.formula.Formula.{Formula, And, Or, Implies, ForEvery, ForSome, EveryBefore}
-use Rattle.rule_language.specs.declared.formula.Formula.{SomeBefore, Before, Next, Is, OfKind, Equal, Less, the_lemmas}
-use Rattle.rule_language.specs.declared.term.Term.{Term}
-use Rattle.roster.specs.declared.post.Role.{Role}
-use mathlib.Core.Path.{fun_ext}
+use Rattle.rule_meaning.proofs.Imports.{◌≡◌, ◌∙◌, ap, sym, refl, ℕ, zero, suc, ◌+◌, ◌-◌, ◌<◌, ◌≤◌, Bool, true, false}
+use Rattle.rule_meaning.proofs.Imports.{cond, Option, Some, None, ◌++◌, ◌&&◌, List, [], ◌∷◌, map, drop, get_or}
+use Rattle.rule_meaning.proofs.Imports.{length, Vec, Global, Box, rules, arith, slice_get, filter, range_with_len}
+use Rattle.rule_meaning.proofs.Imports.{drop_more, drop_all, and-true, Three, False, Unknown, True, Row, Kind}
+use Rattle.rule_meaning.proofs.Imports.{Formula, And, Or, Implies, ForEvery, ForSome, EveryBefore, SomeBefore, Before}
+use Rattle.rule_meaning.proofs.Imports.{Next, Is, OfKind, Equal, Less, the_lemmas, Term, Role, fun_ext, Trees}
+use Rattle.rule_meaning.proofs.Imports.{no_trees, tree_then, in_front, tree_of, both, either, opposite, least}
+use Rattle.rule_meaning.proofs.Imports.{greatest, as_three, is_true, has_kind, is_next, has_role, are_equal, is_less}
+use Rattle.rule_meaning.proofs.Imports.{bind, values, first_value, second_value, places, ancestors, rest_of}
+use Rattle.rule_meaning.proofs.Imports.{values_before, row_at, order_of, view-And, view-Or, view-Implies, signed}
+use Rattle.rule_meaning.proofs.Imports.{over, over_from, over_rows, over_before, is_in, unless_ragged}
 use Rattle.rule_language.specs.declared.form.Form.TheVariants as form
-use Rattle.rule_language.specs.Trees.{Trees, no_trees, tree_then}
-use Rattle.rule_language.specs.Forms.{in_front, tree_of}
-use Rattle.rule_meaning.specs.Kleene.{both, either, opposite, least, greatest, as_three, is_true}
-use Rattle.rule_meaning.specs.Tests.{has_kind, is_next, has_role, are_equal, is_less, value_of as term_value}
-use Rattle.rule_meaning.specs.Meaning.{bind}
-use Rattle.rule_meaning.specs.Values.{values, first_value, second_value, places, ancestors, rest_of, values_before}
-use Rattle.rule_meaning.specs.Values.{row_at, order_of}
-use Rattle.rule_language.proofs.Views.{view-And, view-Or, view-Implies}
+use Rattle.rule_meaning.specs.Tests.{value_of as term_value}
 use Rattle.rule_meaning.proofs.Rows.{values-trees_of, values-in_front}
-use Rattle.rule_meaning.specs.Judging.{signed, value_of, over, over_from, over_rows, over_before, is_in}
-use Rattle.rule_meaning.specs.Judging.{unless_ragged}
+use Rattle.rule_meaning.specs.Judging.{value_of}
 
 -- the least of a value and true is the value
 pub both_true : (x : Three) → both x True ≡ x
@@ -70,7 +57,7 @@ over_more f p i (suc n) acc b is some =
     ∙ by b
     ∙ ap (λ k. both (cond b (both acc (f i)) acc) (least (map f (filter p (range_with_len (i + 1) k))))) (sym same)
   where
-    -- the same by whether the place passes the test
+    -- by cases: whether the place passes the test
     by : (b : Bool) →
         both acc (least (map f (cond b (i ∷ filter p (range_with_len (i + 1) n))
         (filter p (range_with_len (i + 1) n)))))
@@ -138,7 +125,7 @@ filter_twice : (p q : ℕ → Bool) (xs : List ℕ) → filter q (filter p xs) �
 filter_twice p q [] = refl
 filter_twice p q (x ∷ xs) = by (p x) (filter_twice p q xs)
   where
-    -- the same by whether the first member passes the first test
+    -- by cases: whether the first member passes the first test
     by : (b : Bool) → filter q (filter p xs) ≡ filter (λ j. p j && q j) xs →
         filter q (cond b (x ∷ filter p xs) (filter p xs))
         ≡ cond (b && q x) (x ∷ filter (λ j. p j && q j) xs) (filter (λ j. p j && q j) xs)

@@ -1,25 +1,16 @@
 -- Less knowledge gives a rule the same value, or none.
-use Rattle.std.proofs.Common.{◌≡◌, ℕ, ◌<◌, Bool, true, false, cond, List, [], ◌∷◌, ◌++◌, map, length}
-use Rattle.std.proofs.Common.{Option, Some, None, inl, inr, refl, sym, ap, ◌∙◌, subst}
-use Rattle.std.specs.Prelude.{slice_get, ◌==◌, ◌⊎◌}
-use Rattle.std.specs.List.{Contains, range_with_len}
-use Rattle.entry_order.specs.declared.three.Three.{Three}
-use Rattle.entry_order.specs.declared.three.Three.TheVariants.{False, Unknown, True}
-use Rattle.entry_order.proofs.Lists.{Contains-none, Contains-head, Contains-later, Contains-cons_cases}
-use Rattle.entry_order.proofs.Lists.{Contains-map, Contains-map_cases, Contains-filter, Contains-filter_cases}
-use Rattle.std.proofs.lemmas.List.Elements.{Contains-append_left, Contains-append_right, Contains-append_cases}
-use Rattle.rule_language.specs.declared.row.Row.{Row}
-use Rattle.rule_language.specs.declared.kind.Kind.{Kind}
-use Rattle.rule_language.specs.declared.form.Form.{Form}
+use Rattle.rule_meaning.proofs.Imports.{◌≡◌, ℕ, ◌<◌, Bool, true, false, cond, List, [], ◌∷◌, ◌++◌, map, length}
+use Rattle.rule_meaning.proofs.Imports.{Option, Some, None, inl, inr, refl, sym, ap, ◌∙◌, subst, slice_get, ◌==◌}
+use Rattle.rule_meaning.proofs.Imports.{Contains, range_with_len, Three, False, Unknown, True, Contains-none}
+use Rattle.rule_meaning.proofs.Imports.{Contains-head, Contains-later, Contains-cons_cases, Contains-map}
+use Rattle.rule_meaning.proofs.Imports.{Contains-map_cases, Contains-filter, Contains-filter_cases}
+use Rattle.rule_meaning.proofs.Imports.{Contains-append_left, Contains-append_right, Contains-append_cases, Row, Kind}
+use Rattle.rule_meaning.proofs.Imports.{Form, Trees, no_trees, tree_then, opposite, both, either, least, greatest}
+use Rattle.rule_meaning.proofs.Imports.{is_true, has_kind, bind, unbound, first_value, second_value, places}
+use Rattle.rule_meaning.proofs.Imports.{ancestors, values_before, order_of, value, values, IsLess, IsLessKnown}
+use Rattle.rule_meaning.proofs.Imports.{LessIsKnown}
+use Rattle.std.specs.Prelude.{◌⊎◌}
 use Rattle.rule_language.specs.declared.form.Form.TheVariants as form
-use Rattle.rule_language.specs.Trees.{Trees, no_trees, tree_then}
-use Rattle.rule_meaning.specs.Kleene.{opposite, both, either, least, greatest, is_true}
-use Rattle.rule_meaning.specs.Tests.{has_kind}
-use Rattle.rule_meaning.specs.Meaning.{bind, unbound}
-use Rattle.rule_meaning.specs.Values.{first_value, second_value, places, ancestors, values_before, order_of}
-use Rattle.rule_meaning.specs.Values.{value, values}
-use Rattle.rule_meaning.specs.Knowledge.{IsLess, IsLessKnown}
-use Rattle.rule_meaning.specs.Sound.{LessIsKnown}
 use Rattle.rule_meaning.proofs.Kleenes.{least_true, least_false, greatest_true, greatest_false}
 use Rattle.rule_meaning.proofs.Sounds.{true_is, unknown_of}
 use Rattle.rule_meaning.proofs.SameOrders.{row_of_kind}
@@ -243,7 +234,7 @@ module _ (rows : List Row) (order : ℕ → ℕ → Three) (wholes : ℕ → Boo
   one_more : (v i : ℕ) (env : ℕ → Option ℕ) → i < length rows → AreRows env → AreRows (bind v i env)
   one_more v i env is are u = by (u == v)
     where
-      -- the same by whether it is the variable that was bound
+      -- by cases: whether it is the variable that was bound
       by : (b : Bool) → IsRow (cond b (Some i) (env u))
       by true = is
       by false = are u

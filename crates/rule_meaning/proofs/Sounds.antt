@@ -1,36 +1,21 @@
 -- What is known of a rule is right wherever the knowledge is, and so in every completion.
-use mathlib.Core.Path.{fun_ext}
-use Rattle.std.proofs.Common.{◌≡◌, ℕ, ◌<◌, Bool, true, false, cond, List, [], ◌∷◌, ◌++◌, map, length}
-use Rattle.std.proofs.Common.{Option, Some, None, inl, inr, refl, sym, ap, ◌∙◌, subst, arith, append-nil}
-use Rattle.std.specs.Prelude.{slice_get, option_map, IsTrue, ◌==◌}
-use Rattle.std.specs.List.{Contains, range_with_len}
-use Rattle.std.proofs.lemmas.Bool.{eqb-true, eq-eqb, false≢true}
-use Rattle.std.proofs.lemmas.List.FromFn.{length-range_with_len, get_or-range_with_len}
-use Rattle.std.proofs.lemmas.Option.{slice_get_within, slice_get-map}
-use Rattle.std.proofs.lemmas.List.Elements.{Contains-append_left, Contains-append_right, Contains-append_cases}
-use Rattle.entry_order.specs.declared.three.Three.{Three}
-use Rattle.entry_order.specs.declared.three.Three.TheVariants.{False, Unknown, True}
-use Rattle.entry_order.specs.Node.{Node}
-use Rattle.entry_order.specs.Precedes.{Precedes}
-use Rattle.entry_order.specs.Ancestors.{reaches, is_whole, before}
-use Rattle.entry_order.proofs.Lists.{Contains-none, Contains-head, Contains-cons_cases}
-use Rattle.entry_order.proofs.Lists.{Contains-map, Contains-map_cases, Contains-filter, Contains-filter_cases}
-use Rattle.entry_order.proofs.Settled.{order_is_settled, whole_from_test, reaches_from_precedes}
-use Rattle.entry_order.proofs.Completions.{before_among_survivors}
-use Rattle.entry_order.proofs.Places.{member_at, place_of}
-use Rattle.rule_language.specs.declared.row.Row.{Row}
-use Rattle.rule_language.specs.declared.kind.Kind.{Kind}
-use Rattle.rule_language.specs.declared.form.Form.{Form}
+use Rattle.rule_meaning.proofs.Imports.{fun_ext, ◌≡◌, ℕ, ◌<◌, Bool, true, false, cond, List, [], ◌∷◌, ◌++◌, map}
+use Rattle.rule_meaning.proofs.Imports.{length, Option, Some, None, inl, inr, refl, sym, ap, ◌∙◌, subst, arith}
+use Rattle.rule_meaning.proofs.Imports.{append-nil, slice_get, option_map, IsTrue, ◌==◌, Contains, range_with_len}
+use Rattle.rule_meaning.proofs.Imports.{eqb-true, eq-eqb, false≢true, length-range_with_len, get_or-range_with_len}
+use Rattle.rule_meaning.proofs.Imports.{slice_get_within, slice_get-map, Contains-append_left, Contains-append_right}
+use Rattle.rule_meaning.proofs.Imports.{Contains-append_cases, Three, False, Unknown, True, Node, Precedes, reaches}
+use Rattle.rule_meaning.proofs.Imports.{is_whole, before, Contains-none, Contains-head, Contains-cons_cases}
+use Rattle.rule_meaning.proofs.Imports.{Contains-map, Contains-map_cases, Contains-filter, Contains-filter_cases}
+use Rattle.rule_meaning.proofs.Imports.{order_is_settled, whole_from_test, reaches_from_precedes}
+use Rattle.rule_meaning.proofs.Imports.{before_among_survivors, member_at, place_of, Row, Kind, Form, Trees, no_trees}
+use Rattle.rule_meaning.proofs.Imports.{tree_then, has_kind, passes, opposite, either, least, greatest, as_three}
+use Rattle.rule_meaning.proofs.Imports.{is_true, bind, unbound, first_sentence, second_sentence, EachHolds, SomeHolds}
+use Rattle.rule_meaning.proofs.Imports.{IsOfKind, AreSame, ComesBefore, AreInOrder, FormHolds, meanings, first_value}
+use Rattle.rule_meaning.proofs.Imports.{second_value, places, ancestors, rest_of, values_before, row_at, same_place}
+use Rattle.rule_meaning.proofs.Imports.{order_of, value, values, IsTrueOf, HasNoDouble, ValuesAreRight, GraphsAreTrue}
+use Rattle.rule_meaning.proofs.Imports.{RulesAreSettled}
 use Rattle.rule_language.specs.declared.form.Form.TheVariants as form
-use Rattle.rule_language.specs.Trees.{Trees, no_trees, tree_then}
-use Rattle.rule_meaning.specs.Tests.{has_kind, passes}
-use Rattle.rule_meaning.specs.Kleene.{opposite, either, least, greatest, as_three, is_true}
-use Rattle.rule_meaning.specs.Meaning.{bind, unbound, first_sentence, second_sentence, EachHolds, SomeHolds}
-use Rattle.rule_meaning.specs.Meaning.{IsOfKind, AreSame, ComesBefore, AreInOrder, FormHolds, meanings}
-use Rattle.rule_meaning.specs.Values.{first_value, second_value, places, ancestors, rest_of, values_before, row_at}
-use Rattle.rule_meaning.specs.Values.{same_place, order_of, value, values}
-use Rattle.rule_meaning.specs.Knowledge.{IsTrueOf}
-use Rattle.rule_meaning.specs.Sound.{HasNoDouble, ValuesAreRight, GraphsAreTrue, RulesAreSettled}
 use Rattle.rule_meaning.proofs.Kleenes.{both_true, both_false, either_true, either_false, opposite_true, opposite_false}
 use Rattle.rule_meaning.proofs.Kleenes.{least_true}
 use Rattle.rule_meaning.proofs.Kleenes.{least_false, greatest_true, greatest_false, as_three_true, as_three_false}
@@ -210,7 +195,7 @@ module _ {T : Type 0} (node : T → Node) (row : T → Row) (S G : List T) (orde
       StandForAll (bind v i σ) (bind v e ρ)
   one_more v i e σ ρ is stand u = by (u == v)
     where
-      -- the same by whether it is the variable that was bound
+      -- by cases: whether it is the variable that was bound
       by : (b : Bool) → StandFor S (cond b (Some i) (σ u)) (cond b (Some e) (ρ u))
       by true = is
       by false = stand u
@@ -239,7 +224,7 @@ module _ {T : Type 0} (node : T → Node) (row : T → Row) (S G : List T) (orde
       by (slice_get S i) refl
       (Contains-filter_cases (λ j. has_kind kind (slice_get rows j)) (range_with_len 0 (length rows)) i c).1
     where
-      -- the same by the entry at the place
+      -- by cases: the entry at the place
       by : (o : Option T) → slice_get S i ≡ o → has_kind kind (slice_get rows i) ≡ true →
           (e : T) × (slice_get S i ≡ Some e) × IsOfKind node row S G kind e
       by None is k =
@@ -264,7 +249,7 @@ module _ {T : Type 0} (node : T → Node) (row : T → Row) (S G : List T) (orde
   abbrev PartsAgree : ((ℕ → Option ℕ) → List Three) → ((ℕ → Option T) → List (Type 0)) → Type 0
   PartsAgree ts Ps = (σ : ℕ → Option ℕ) (ρ : ℕ → Option T) → StandForAll σ ρ → AllAgree (ts σ) (Ps ρ)
 
-  -- two places are one exactly where their entries are
+  -- two places are one if and only if their entries are
   same_agrees : (i : Option ℕ) (e : Option T) (j : Option ℕ) (f : Option T) → StandFor S i e → StandFor S j f →
       Agrees (same_place i j) (AreSame node row S G e f)
   same_agrees (Some i) (Some e) (Some j) (Some f) se sf = record {
@@ -398,7 +383,7 @@ module _ {T : Type 0} (node : T → Node) (row : T → Row) (S G : List T) (orde
             no = λ t (x, such, earlier, says). a.no t (x, (such, earlier), says);
           }
 
-    -- the same of what a variable stands for, if it is bound
+    -- the least over what comes before a variable's row agrees with `every`, if the variable is bound
     every_before : (i : Option ℕ) (e : Option T) → StandFor S i e →
         Agrees (least (values_before rows order wholes kind i value_at))
         ((x : T) → IsOfKind node row S G kind x → ComesBefore node row S G x e → SaysAt x)
@@ -481,7 +466,7 @@ graphs_are_true node machines S G parents ragged graph completion = record {
       );
 }
 
--- so the law of rules
+-- by the survivors' graph a rule's value, if known, is right of every completion
 pub rules_are_settled : {T : Type 0} (node : T → Node) (row : T → Row) → RulesAreSettled node row
 rules_are_settled node row machines S G parents ragged single graph completion rule =
     values_are_right node row S G (before parents ragged) (λ x. is_whole parents ragged x x) single

@@ -1,18 +1,10 @@
 -- How wide rules are, step by step.
-use Rattle.std.proofs.Common.{◌≡◌, ◌∙◌, ap, sym, ℕ, ◌+◌, ◌<◌, ◌≤◌, Bool, true, false, ◌||◌, List, ◌∷◌, length, drop}
-use Rattle.std.proofs.Common.{get_or}
-use Rattle.std.proofs.Common.{Box, Global, rules}
-use Rattle.std.proofs.Math.Bool.{or-false}
-use Rattle.std.proofs.lemmas.List.{drop_more, drop_all}
-use Rattle.rule_language.specs.declared.row.Row.{Row}
-use Rattle.rule_language.specs.declared.kind.Kind.{Kind}
-use Rattle.rule_language.specs.declared.formula.Formula.{Formula, ForEvery, ForSome, EveryBefore, SomeBefore, Implies}
-use Rattle.rule_language.specs.declared.formula.Formula.{the_lemmas}
+use Rattle.rule_meaning.proofs.Imports.{◌≡◌, ◌∙◌, ap, sym, ℕ, ◌+◌, ◌<◌, ◌≤◌, Bool, true, false, ◌||◌, List, ◌∷◌}
+use Rattle.rule_meaning.proofs.Imports.{length, drop, get_or, Box, Global, rules, or-false, drop_more, drop_all, Row}
+use Rattle.rule_meaning.proofs.Imports.{Kind, Formula, ForEvery, ForSome, EveryBefore, SomeBefore, Implies}
+use Rattle.rule_meaning.proofs.Imports.{the_lemmas, Trees, no_trees, tree_then, in_front, tree_of, trees_of, shape}
+use Rattle.rule_meaning.proofs.Imports.{is_too_wide, widens, widens_by, quantified_kind}
 use Rattle.rule_language.specs.declared.form.Form.TheVariants as form
-use Rattle.rule_language.specs.Trees.{Trees, no_trees, tree_then}
-use Rattle.rule_language.specs.Forms.{in_front, tree_of, trees_of}
-use Rattle.rule_language.proofs.Views.{shape}
-use Rattle.rule_meaning.specs.Widths.{is_too_wide, widens, widens_by, quantified_kind}
 
 module _ (rows : List Row) (width : ℕ) where
   -- whether some quantifier of the formulas is too wide at this width
@@ -49,7 +41,7 @@ module _ (rows : List Row) (width : ℕ) where
   pub wide_none : (fs : List Formula) (i : ℕ) → length fs ≤ i → wide (trees_of (drop i fs)) ≡ false
   wide_none fs i over = ap (λ (gs : List Formula). wide (trees_of gs)) (drop_all i fs over)
 
-  -- an `every` widens what stands in it by the rows of its kind
+  -- an `every` widens what is in it by the rows of its kind
   pub wide-ForEvery : (v : ℕ) (kind : Kind) (body : Box Formula Global) →
       wide (tree_of (ForEvery v kind body)) ≡ widens rows kind (tree_of body.value) width
   wide-ForEvery v kind body =
@@ -58,7 +50,7 @@ module _ (rows : List Row) (width : ℕ) where
       search (rules, the_lemmas) in
       ap wide view ∙ or-false (widens rows kind (tree_of body.value) width)
 
-  -- and so does a `some`
+  -- a `some` widens what is in it by the rows of its kind
   pub wide-ForSome : (v : ℕ) (kind : Kind) (body : Box Formula Global) →
       wide (tree_of (ForSome v kind body)) ≡ widens rows kind (tree_of body.value) width
   wide-ForSome v kind body =
@@ -67,7 +59,7 @@ module _ (rows : List Row) (width : ℕ) where
       search (rules, the_lemmas) in
       ap wide view ∙ or-false (widens rows kind (tree_of body.value) width)
 
-  -- and an `every` with `before`
+  -- an `every` with `before` widens what is in it by the rows of its kind
   pub wide-EveryBefore : (v : ℕ) (kind : Kind) (u : ℕ) (body : Box Formula Global) →
       wide (tree_of (EveryBefore v kind u body)) ≡ widens rows kind (tree_of body.value) width
   wide-EveryBefore v kind u body =
@@ -76,7 +68,7 @@ module _ (rows : List Row) (width : ℕ) where
       search (rules, the_lemmas) in
       ap wide view ∙ or-false (widens rows kind (tree_of body.value) width)
 
-  -- and a `some` with `before`
+  -- a `some` with `before` widens what is in it by the rows of its kind
   pub wide-SomeBefore : (v : ℕ) (kind : Kind) (u : ℕ) (body : Box Formula Global) →
       wide (tree_of (SomeBefore v kind u body)) ≡ widens rows kind (tree_of body.value) width
   wide-SomeBefore v kind u body =

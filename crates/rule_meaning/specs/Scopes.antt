@@ -8,7 +8,7 @@ abbrev pub env_of : Scope → ℕ → Option ℕ
 env_of Empty = unbound
 env_of (With' v place p outer) = bind v place (env_of outer)
 
--- each stands for one of so many rows
+-- each variable stands for one of this many rows
 abbrev pub BindsRows : ℕ → Scope → Type 0
 BindsRows count Empty = Unit {0}
 BindsRows count (With' v place p outer) = (place < count) × BindsRows count outer

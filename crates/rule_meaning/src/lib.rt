@@ -1,5 +1,5 @@
-//! What a rule says of entries, and what is known of it in Kleene's three values by any knowledge of
-//! the survivors' order; the laws that a value is right where the knowledge is, and that less
+//! What a rule says of entries, and what is known of it in Kleene's three values by any knowledge
+//! of the survivors' order; the laws that a value is right where the knowledge is, and that less
 //! knowledge gives the same value or none; and how wide a rule is.
 #![tactic(auto)]
 

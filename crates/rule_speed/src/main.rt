@@ -1,7 +1,7 @@
 //! Times how long judging takes over rows that the maker of a log may have chosen to be dear.
 //!
 //! `rule_speed RULES KIND COUNT SESSION NUMBER ..` judges the rules of a text over rows one after
-//! another in a chain from a gap: by four words each, so many of a kind in a session, whose maker
+//! another in a chain from a gap: by four words each, COUNT rows of KIND in SESSION, whose maker
 //! gave all of them one number. It prints for each rule the processor time in nanoseconds and the
 //! verdict. Without words it prints the verdicts on the standard rules over a few rows.
 #![tactic(auto)]
@@ -22,7 +22,7 @@ use std::time::CpuClock;
 /// The most rows that are judged.
 const MOST_ROWS: usize = 16384;
 
-/// So many rows of a kind in a session, with one number and a ballot by it.
+/// A number of rows of a kind in a session, with one number and a ballot by it.
 #[derive(Clone, Copy)]
 struct Group {
     kind: Kind,

@@ -1,4 +1,4 @@
-//! Tests of the public calls of `rule_language` and `rule_engine`. They stand in a crate of their
+//! Tests of the public calls of `rule_language` and `rule_engine`. They are in a crate of their
 //! own, so that what they test isn't proved once more with them.
 #![tactic(auto)]
 

@@ -20,8 +20,8 @@ fn number_in(words: &str, place: usize) -> u32 {
     }
 }
 
-/// A row by its kind, maker, number and session, and by what is left: a booth or a byte of a ballot.
-/// Machine 0 is the supervisor.
+/// A row by its kind, maker, number and session, and by what is left: a booth or a byte of a
+/// ballot. Machine 0 is the supervisor.
 fn row_of(words: &str) -> Row {
     let word = words.split(' ').next().unwrap_or("");
     let maker = number_in(words, 1);
@@ -68,8 +68,8 @@ fn add(place: &mut Place, node: Listed, is_ragged: bool, words: &str) -> Result<
     Ok(())
 }
 
-/// Entries in a chain, each of which names the one before it. One is ragged, if there is one at that
-/// place.
+/// Entries in a chain, each of which names the one before it. One is ragged, if there is one at
+/// that place.
 fn chain_of(alloc: Global, entries: &str, ragged: usize) -> Result<Place, AllocError> {
     let mut place = empty(alloc);
     let mut count = 0u32;
@@ -81,7 +81,7 @@ fn chain_of(alloc: Global, entries: &str, ragged: usize) -> Result<Place, AllocE
     Ok(place)
 }
 
-/// So many entries that name nothing.
+/// `count` entries that name nothing.
 fn crowd_of(alloc: Global, count: u32) -> Result<Place, AllocError> {
     let mut place = empty(alloc);
     for _ in 0..count {
@@ -251,8 +251,8 @@ fn small_rules_have_their_answers(rt: HostRuntime) -> Result<(), Fail> {
     Ok(())
 }
 
-/// Entries in a chain, which of them names what is missing, and the standard rules that aren't kept with
-/// their answers, which are those of an independent program too.
+/// Entries in a chain, which of them names what is missing, and the standard rules that aren't
+/// kept with their answers, which are those of an independent program too.
 const PLACES: &[(&str, usize, &str)] = &[
     (
         "opened 0 0 0, authorise 0 1 1 1, activate 1 0 1, commit 1 1 1 7, cast 1 2 1 7, closed 0 2 0",
@@ -320,7 +320,7 @@ const WIDTHS: &[(u32, &str)] = &[(128, "B[0, 0, 0, 0]"), (129, "W")];
 /// A rule of four entries.
 const WIDE: &str = "(every a entry (every b entry (every c entry (every d entry F))))";
 
-/// Whether the answer on it is this of so many entries.
+/// Whether the answer on it is this, over that number of entries.
 fn is_wide(alloc: Global, count: u32, want: &str) -> Result<bool, Fail> {
     let place = crowd_of(alloc, count)?;
     is_answer(alloc, WIDE, &place, want)

@@ -159,7 +159,7 @@ fn the_first_fault_is_told_with_its_place_and_cause(rt: HostRuntime) -> Result<(
     Ok(())
 }
 
-/// The parts of a text, each with how often it stands there; and the answer.
+/// The parts of a text, each with how often it comes there; and the answer.
 const LONG: &[(&[(&str, u32)], usize, &str)] = &[
     (
         &[("(rule D ", 1), ("(not ", 31), ("true", 1), (")", 32)],
@@ -195,7 +195,7 @@ const LONG: &[(&[(&str, u32)], usize, &str)] = &[
     ),
 ];
 
-/// Appends the part so many times.
+/// Appends the part `count` times.
 fn repeat(text: &mut Vec<u8>, part: &str, count: u32) -> Result<(), AllocError> {
     for _ in 0..count {
         text.extend_from_slice(part.as_bytes())?;
@@ -203,7 +203,7 @@ fn repeat(text: &mut Vec<u8>, part: &str, count: u32) -> Result<(), AllocError> 
     Ok(())
 }
 
-/// The text of these parts, each of which stands so often.
+/// The text of these parts, each repeated by its count.
 fn joined(alloc: Global, parts: &[(&str, u32)]) -> Result<Vec<u8>, AllocError> {
     let mut text = Vec::new(alloc);
     for &(part, count) in parts {
@@ -237,7 +237,7 @@ fn long_texts_are_read_up_to_the_limits(rt: HostRuntime) -> Result<(), Fail> {
 /// How many rules there are, and the answer.
 const MANY: &[(u32, usize, &str)] = &[(256, 3986, "ok"), (257, 3986, "Shape")];
 
-/// The text of so many rules.
+/// The text of `count` rules.
 fn rules_text(alloc: Global, count: u32) -> Result<String, Fail> {
     let mut text = String::new(alloc);
     for place in 0..count {
@@ -246,7 +246,7 @@ fn rules_text(alloc: Global, count: u32) -> Result<String, Fail> {
     Ok(text)
 }
 
-/// Whether this is the answer to the text of so many rules.
+/// Whether this is the answer to the text of `count` rules.
 fn is_number_answered(alloc: Global, count: u32, place: usize, cause: &str) -> Result<bool, Fail> {
     let text = rules_text(alloc, count)?;
     is_answered(alloc, text.as_bytes(), place, cause)

@@ -62,7 +62,7 @@ pub record IsReading (graph : Graph) (entry : ℕ) (words : List ℕ) (steps : L
   pub below : (k : ℕ) (step : ProofStep) → slice_get steps k ≡ Some step → step.ancestor < entry
   pub bounded : IsBound graph steps bound
 
--- a word stands from after `at` up to `end`, and the next begins there, if one does
+-- a word is from after `at` up to `end`, and the next begins there, if there is one
 pub record IsNextWord (words : List ℕ) (at end : ℕ) (word : List ℕ) : Type 0 where
   pub starts : at < length words
   pub order : at < end

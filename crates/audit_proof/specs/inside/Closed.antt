@@ -1,4 +1,4 @@
--- Whether a line lacks parents.
+-- Whether parents are missing on a line.
 use Rattle.std.specs.Prelude.{ℕ, Bool, false, List, slice_index_or}
 use Rattle.std.specs.List.{list_all}
 

@@ -2,7 +2,7 @@
 use Rattle.std.specs.Prelude.{◌≡◌, ◌≢◌, ◌⊎◌, ℕ, ◌^◌, ◌<◌, ◌≤◌, Bool, true, List, ◌++◌, length}
 use Rattle.std.specs.Prelude.{take, drop, codes, Result, Ok, Err}
 use Rattle.std.specs.Fmt.{decimal}
-use Rattle.first_cause.specs.Causes.{IsFirstOf}
+use Rattle.item_list.specs.Causes.{IsFirstOf}
 use Rattle.precedence.specs.Graph.{Graph}
 use Rattle.audit_proof.specs.declared.step.ProofStep.{ProofStep}
 use Rattle.audit_proof.specs.declared.fault.ProofFault.{ProofFault}
@@ -30,7 +30,7 @@ IsNoEntry line =
     ⊎ ((take 5 line ≡ codes "past ")
     × ¬ SaysNumber (λ entry. Unit {0}) (word_in (drop 5 line)))
 
--- the line of an entry with these steps; or it isn't ended, or lacks a parent
+-- the line of an entry with these steps; or it isn't ended, or a parent is missing
 abbrev pub IsFinished : Graph → ℕ → List ProofStep → Bool → Result Line Unread → Type 0
 IsFinished graph entry steps ended (Ok line) =
     (ended ≡ true) × (line ≡ line_with entry steps) × IsLineOf graph line

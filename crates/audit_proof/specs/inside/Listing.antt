@@ -12,7 +12,7 @@ use Rattle.audit_proof.specs.inside.Falls.{Falls}
 abbrev pub listing_line : Listing → ℕ → Option Line
 listing_line listing x = slice_get listing.lines.now (slice_index_or listing.numbers.items x 0)
 
--- whether it is whole
+-- whether a survivor is whole by the proof
 abbrev pub listing_whole : Listing → ℕ → Bool
 listing_whole listing x = slice_index_or listing.wholes.items x false
 

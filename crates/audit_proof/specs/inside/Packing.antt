@@ -2,7 +2,7 @@
 use Rattle.std.specs.Prelude.{ℕ, ◌+◌, ◌-◌, ◌==◌, if◌then◌else◌, List, [], ◌∷◌, ◌++◌}
 use Rattle.audit_proof.specs.declared.step.ProofStep.{ProofStep}
 
--- the step that stands at a place, if one does: its via is one less
+-- the step at a place, if one is there: its via is one less
 abbrev pub step_in : ℕ → ℕ → List ProofStep
 step_in place code =
     if code == 0 then [] else record { ancestor = place; via = code - 1 } ∷ []
@@ -12,6 +12,6 @@ abbrev pub steps_from : ℕ → List ℕ → List ProofStep
 steps_from place [] = []
 steps_from place (code ∷ codes) = steps_from (place + 1) codes ++ step_in place code
 
--- and of a whole table
+-- the steps of an entire table, the greatest ancestor first
 abbrev pub unpacked : List ℕ → List ProofStep
 unpacked codes = steps_from 0 codes

@@ -1,7 +1,7 @@
 -- What is answered of the words after a line's entry.
 use Rattle.std.specs.Prelude.{◌≡◌, ℕ, List, ◌∷◌, ◌++◌, length, Result, Ok, Err}
 use Rattle.std.specs.List.{flat_map}
-use Rattle.first_cause.specs.Causes.{IsFirstOf}
+use Rattle.item_list.specs.Causes.{IsFirstOf}
 use Rattle.precedence.specs.Graph.{Graph}
 use Rattle.audit_proof.specs.declared.step.ProofStep.{ProofStep}
 use Rattle.audit_proof.specs.declared.fault.ProofWhy.{ProofWhy}
@@ -30,7 +30,7 @@ IsWordFault graph entry words why =
     × IsBegun graph (line_with entry steps)
     × IsFirstOf (ancestor_causes graph (line_with entry steps) (word_in more)) (Err why)
 
--- the steps that the words are, of a line that lacks nothing but maybe parents; or no line has
+-- the steps that the words are, of a line on which nothing is missing but maybe parents; or no line has
 -- these words
 abbrev pub IsWordsAnswer : Graph → ℕ → List ℕ → Result LineSteps Unread → Type 0
 IsWordsAnswer graph entry words (Ok read) =

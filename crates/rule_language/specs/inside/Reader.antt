@@ -34,14 +34,14 @@ abbrev pub checked : {A : Type 0} → Result A RuleWhy → Result (Unit {0}) Rul
 checked (Ok a) = Ok tt
 checked (Err cause) = Err cause
 
--- what stands behind the tokens so far: a token, a bad byte or the text's end
+-- what follows the tokens read: a token, a bad byte or the text's end
 pub record IsNext (text : List ℕ) (token : Span) : Type 0 where
   pub order : token.start ≤ token.end
   pub inside : token.end ≤ length text
   pub some : token.start < token.end → IsToken text token
   pub none : token.end ≤ token.start → token.start < length text → ¬ IsGoodByte (slice_index text token.start)
 
--- from one place to another stand these tokens
+-- these tokens are between the two places
 abbrev pub Spell : List ℕ → ℕ → ℕ → List Token → Type 0
 Spell text from to tokens =
     (before : List Token) → StandBefore text from before → StandBefore text to (before ++ tokens)
@@ -50,12 +50,12 @@ Spell text from to tokens =
 abbrev pub Takes : List ℕ → Span → Span → List Token → Type 0
 Takes text old new tokens = Spell text old.start new.start tokens × IsNext text new
 
--- the cause that is told of what can't stand
+-- the cause that is reported: at the end of the text its shape, at a bad byte that byte, otherwise the token's own
 abbrev pub told : List ℕ → Span → RuleWhy → RuleWhy
 told text token cause =
     if token.start == length text then Shape else (if nat_le token.end token.start then BadByte else cause)
 
--- where these wants are left, the tokens from the place on can stand up to the fault
+-- where these wants are left, the tokens from the place on are allowed up to the fault
 pub record Fails (text : List ℕ) (from : ℕ) (wants : List Want) (at : ℕ) (why : RuleWhy) : Type 0 where
   pub tokens : List Token
   pub left : List Want
@@ -64,17 +64,17 @@ pub record Fails (text : List ℕ) (from : ℕ) (wants : List Want) (at : ℕ) (
   pub met : behind (Ok wants) tokens ≡ Ok left
   pub cause : IsRuleCause text at left why
 
--- the same whatever other wants are left
+-- where these wants are left, whatever others follow, the fault is there
 abbrev pub FailsAt : List ℕ → ℕ → (List Want → List Want) → ℕ → RuleWhy → Type 0
 FailsAt text from wants at why = (rest : List Want) → Fails text from (wants rest) at why
 
--- the wants look at the next token alone, by this test
+-- the wants test only the next token, by this test
 pub record Asks {A : Type 0} (found : Token → Result A RuleWhy) (wants : List Want → List Want) : Type 0 where
   pub after : List Want → A → List Want
   pub met : (rest : List Want) (token : Token) → meets (wants rest) token ≡ then_want (found token) (after rest)
   pub going : (rest : List Want) → is_end (wants rest) ≡ false
 
--- the fault of a token that is looked at alone
+-- the fault where only one token is tested
 pub record IsRefused {A : Type 0} (text : List ℕ) (token : Span) (found : Result A RuleWhy) (at : ℕ) (why : RuleWhy)
     : Type 0 where
   pub reason : RuleWhy
@@ -86,7 +86,7 @@ pub record IsRefused {A : Type 0} (text : List ℕ) (token : Span) (found : Resu
 abbrev pub IsTyped : Scope → (Sort → Bool) → Typed → Type 0
 IsTyped scope test typed = (sort_of scope typed.0 ≡ Some typed.1) × (test typed.1 ≡ true)
 
--- a formula was read behind the tokens in front
+-- a formula was read after the tokens in front
 pub record IsRead (text : List ℕ) (old new : Span) (scope : Scope) (depth : ℕ) (front : List Token) (body : Formula)
     : Type 0 where
   pub tokens : List Token
@@ -95,13 +95,13 @@ pub record IsRead (text : List ℕ) (old new : Span) (scope : Scope) (depth : �
   pub lawful : are_formulas scope depth (tree_of body) ≡ true
   pub one : count_of (tree_of body) ≡ 1
 
--- a formula was read, and the parenthesis behind it
+-- a formula was read, and the parenthesis after it
 pub record IsBody (text : List ℕ) (old new : Span) (scope : Scope) (depth : ℕ) (body : Formula) : Type 0 where
   pub taken : Takes text old new (tokens_then (tree_of body) (right ∷ []))
   pub lawful : are_formulas scope depth (tree_of body) ≡ true
   pub one : count_of (tree_of body) ≡ 1
 
--- 1 to 64 formulas were read, and the parenthesis behind them
+-- 1 to 64 formulas were read, and the parenthesis after them
 pub record IsSeveral (text : List ℕ) (old new : Span) (scope : Scope) (depth : ℕ) (parts : List Formula) : Type 0 where
   pub taken : Takes text old new (tokens_then (trees_of parts) (right ∷ []))
   pub lawful : are_formulas scope depth (trees_of parts) ≡ true

@@ -1,24 +1,14 @@
-use Rattle.std.proofs.Common.{◌∙◌, ◌<◌, ap, sym, subst, true, false, ℕ, Option, Some, None, IfSome, length, rules, refl}
-use Rattle.std.proofs.Common.{drop, ◌≡◌, ◌+◌, ◌-◌}
-use Rattle.std.proofs.Common.{arith}
-use Rattle.rule_language.specs.declared.row.Row.{Row}
-use Rattle.rule_language.specs.declared.formula.Formula.{Formula}
+use Rattle.std.proofs.Common.{false}
+use Rattle.audit_proof.proofs.Imports.{◌∙◌, ◌<◌, ap, sym, subst, true, ℕ, Option, Some, None, IfSome, length, rules}
+use Rattle.audit_proof.proofs.Imports.{refl, drop, ◌≡◌, ◌+◌, ◌-◌, arith, Row, Formula, both, either, opposite}
+use Rattle.audit_proof.proofs.Imports.{as_three, is_next, has_role, has_kind, are_equal, is_less, row_at, value_of}
+use Rattle.audit_proof.proofs.Imports.{over, over_rows, over_before, env_of, over_list, Quantifier, value-And}
+use Rattle.audit_proof.proofs.Imports.{value-Or, value-Implies, value-ForEvery, value-ForSome, value-EveryBefore}
+use Rattle.audit_proof.proofs.Imports.{value-SomeBefore, value-Before, value-Next, value-Is, value-OfKind}
+use Rattle.audit_proof.proofs.Imports.{value-Equal, value-Less, listing_before, listing_whole, Three}
 use Rattle.rule_meaning.specs.Tests.{value_of as term_value}
-use Rattle.rule_meaning.specs.Kleene.{both, either, opposite, as_three}
-use Rattle.rule_meaning.specs.Tests.{is_next, has_role, has_kind, are_equal, is_less}
-use Rattle.rule_meaning.specs.Values.{row_at}
-use Rattle.rule_meaning.specs.Judging.{value_of, over, over_rows, over_before}
-use Rattle.rule_meaning.specs.Scopes.{env_of}
-use Rattle.audit_proof.specs.inside.Checking.{over_list}
 use Rattle.audit_proof.proofs.Checks.{place_within, list_more, list_stop, over_rows_by_list, false_is}
-use Rattle.audit_proof.specs.declared.checking.Quantifier.{Quantifier}
-use Rattle.rule_meaning.proofs.Judges.{value-And, value-Or, value-Implies, value-ForEvery, value-ForSome}
-use Rattle.rule_meaning.proofs.Judges.{value-EveryBefore}
-use Rattle.rule_meaning.proofs.Judges.{value-SomeBefore, value-Before, value-Next, value-Is, value-OfKind, value-Equal}
-use Rattle.rule_meaning.proofs.Judges.{value-Less}
 use Rattle.audit_proof.proofs.checking.+checking.Goals as goal
-use Rattle.audit_proof.specs.inside.Listing.{listing_before, listing_whole}
-use Rattle.entry_order.specs.declared.three.Three.{Three}
 
 pub value-returns-in-And : goal.value-returns-in-And
 value-returns-in-And t c =

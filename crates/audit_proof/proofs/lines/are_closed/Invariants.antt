@@ -1,7 +1,4 @@
-use Rattle.std.proofs.Common.{◌≡◌, drop}
-use Rattle.std.specs.List.{list_all}
-use Rattle.audit_proof.specs.Lines.{listed_in}
-use Rattle.audit_proof.specs.inside.Closed.{closed_at}
+use Rattle.audit_proof.proofs.Imports.{◌≡◌, drop, list_all, listed_in, closed_at}
 use Rattle.audit_proof.proofs.lines.are_closed.Given as goal
 
 abbrev pub invariant-loop-step : goal.invariant-loop-step

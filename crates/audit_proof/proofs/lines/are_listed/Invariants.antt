@@ -1,5 +1,4 @@
-use Rattle.std.proofs.Common.{◌≡◌, drop}
-use Rattle.audit_proof.specs.inside.Closed.{closed_at}
+use Rattle.audit_proof.proofs.Imports.{◌≡◌, drop, closed_at}
 use Rattle.audit_proof.proofs.lines.are_listed.Given as goal
 
 abbrev pub invariant-loop-number : goal.invariant-loop-number

@@ -1,12 +1,7 @@
-use Rattle.std.proofs.Common.{◌≡◌, ◌∙◌, ◌<◌, ℕ, Bool, List, sym, ap, refl, subst, inl, inr, true, false, length, get_or}
-use Rattle.std.proofs.Common.{rules, arith}
-use Rattle.std.specs.List.{list_all}
-use Rattle.std.proofs.lemmas.Bool.{false≢true}
-use Rattle.std.proofs.lemmas.Option.{slice_get-get_or}
-use Rattle.audit_proof.specs.declared.step.ProofStep.{ProofStep}
-use Rattle.audit_proof.specs.Lines.{listed_in, IsLineOf}
-use Rattle.audit_proof.specs.inside.Closed.{closed_at}
-use Rattle.audit_proof.specs.inside.Unread.{line_with}
+use Rattle.std.proofs.Common.{Bool, false}
+use Rattle.audit_proof.proofs.Imports.{◌≡◌, ◌∙◌, ◌<◌, ℕ, List, sym, ap, refl, subst, inl, inr, true, length, get_or}
+use Rattle.audit_proof.proofs.Imports.{rules, arith, list_all, false≢true, slice_get-get_or, ProofStep, listed_in}
+use Rattle.audit_proof.proofs.Imports.{IsLineOf, closed_at, line_with}
 use Rattle.audit_proof.proofs.LongerLines.{step_on_line, reached_on_line}
 use Rattle.audit_proof.proofs.LineFacts.{line_own, line_each, closed_line}
 use Rattle.audit_proof.proofs.lines.finish.Goals as goal

@@ -1,6 +1,5 @@
-use Rattle.std.proofs.Common.{◌≡◌, ◌∙◌, sym, refl, inl, inr, true, false, rules, arith}
-use Rattle.std.specs.Prelude.{codes}
-use Rattle.std.proofs.lemmas.Bool.{false≢true}
+use Rattle.std.proofs.Common.{false}
+use Rattle.audit_proof.proofs.Imports.{◌≡◌, ◌∙◌, sym, refl, inl, inr, true, rules, arith, codes, false≢true}
 use Rattle.audit_proof.proofs.LineFacts.{entry_text, word_after_past, too_short}
 use Rattle.audit_proof.proofs.lines.read_entry.Goals as goal
 

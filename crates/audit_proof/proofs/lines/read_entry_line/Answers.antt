@@ -1,4 +1,4 @@
-use Rattle.std.proofs.Common.{◌∙◌, ◌≤◌, refl, sym, inl, arith}
+use Rattle.audit_proof.proofs.Imports.{◌∙◌, ◌≤◌, refl, sym, inl, arith}
 use Rattle.audit_proof.proofs.FirstFaults.{out_of_range, not_rising}
 use Rattle.audit_proof.proofs.EntryLines.{wanted_same, words_refused, line_finished}
 use Rattle.audit_proof.proofs.lines.read_entry_line.Goals as goal

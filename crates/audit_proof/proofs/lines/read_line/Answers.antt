@@ -1,4 +1,4 @@
-use Rattle.std.proofs.Common.{◌<◌, ◌≤◌, ◌^◌, refl, inl, arith}
+use Rattle.audit_proof.proofs.Imports.{◌<◌, ◌≤◌, ◌^◌, refl, inl, arith}
 use Rattle.audit_proof.proofs.LineFacts.{no_entry_refuses}
 use Rattle.audit_proof.proofs.FirstFaults.{no_entry_fault}
 use Rattle.audit_proof.proofs.lines.read_line.Goals as goal

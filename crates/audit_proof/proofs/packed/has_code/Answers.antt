@@ -1,5 +1,4 @@
-use Rattle.std.proofs.Common.{◌∙◌, ℕ, ap, sym, nat_eq}
-use Rattle.std.specs.Prelude.{not}
+use Rattle.audit_proof.proofs.Imports.{◌∙◌, ℕ, ap, sym, nat_eq, not}
 use Rattle.audit_proof.proofs.PackedFacts.{table_lists}
 use Rattle.audit_proof.proofs.packed.has_code.Goals as goal
 

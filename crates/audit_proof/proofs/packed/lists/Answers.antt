@@ -1,7 +1,4 @@
-use Rattle.std.proofs.Common.{sym, subst}
-use Rattle.audit_proof.specs.Lines.{Line}
-use Rattle.audit_proof.specs.inside.Falls.{Falls}
-use Rattle.audit_proof.specs.inside.Packing.{unpacked}
+use Rattle.audit_proof.proofs.Imports.{sym, subst, Line, Falls, unpacked}
 use Rattle.audit_proof.proofs.PackedFacts.{second_falls}
 use Rattle.audit_proof.proofs.packed.lists.Goals as goal
 

@@ -1,8 +1,5 @@
-use Rattle.std.proofs.Common.{◌<◌, List, sym, subst}
+use Rattle.audit_proof.proofs.Imports.{◌<◌, List, sym, subst, ProofStep, Line, unpacked}
 use Rattle.std.specs.Prelude.{All}
-use Rattle.audit_proof.specs.declared.step.ProofStep.{ProofStep}
-use Rattle.audit_proof.specs.Lines.{Line}
-use Rattle.audit_proof.specs.inside.Packing.{unpacked}
 use Rattle.audit_proof.proofs.PackedFacts.{all_second}
 use Rattle.audit_proof.proofs.packed.lists_no_ragged.Goals as goal
 

@@ -1,6 +1,6 @@
-use Rattle.std.proofs.Common.{◌≡◌, ◌∙◌, ◌-◌, ◌+◌, ◌++◌, ◌∷◌, [], List, ap, sym, true, false, rules, length, arith}
-use Rattle.std.specs.Prelude.{◌==◌}
-use Rattle.audit_proof.specs.declared.step.ProofStep.{ProofStep}
+use Rattle.std.proofs.Common.{false}
+use Rattle.audit_proof.proofs.Imports.{◌≡◌, ◌∙◌, ◌-◌, ◌+◌, ◌++◌, ◌∷◌, [], List, ap, sym, true, rules, length, arith}
+use Rattle.audit_proof.proofs.Imports.{◌==◌, ProofStep}
 use Rattle.audit_proof.proofs.PackedFacts.{steps_down, step_here, no_step}
 use Rattle.std.proofs.lemmas.List.{append-nil}
 use Rattle.audit_proof.proofs.packed.steps_of.Goals as goal

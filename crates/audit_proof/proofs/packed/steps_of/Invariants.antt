@@ -1,5 +1,4 @@
-use Rattle.std.proofs.Common.{◌≡◌, ◌-◌, ◌++◌, length, take}
-use Rattle.audit_proof.specs.inside.Packing.{unpacked}
+use Rattle.audit_proof.proofs.Imports.{◌≡◌, ◌-◌, ◌++◌, length, take, unpacked}
 use Rattle.audit_proof.proofs.packed.steps_of.Given as goal
 
 -- the steps so far, and those of the places below

@@ -1,6 +1,5 @@
-use Rattle.std.proofs.Common.{◌≡◌, ◌∙◌, ◌+◌, ℕ, List, ap, sym, subst, rules, arith, length, get_or, replicate}
-use Rattle.std.proofs.lemmas.List.{length-replicate, length-set}
-use Rattle.std.proofs.lemmas.Option.{slice_get-get_or}
+use Rattle.audit_proof.proofs.Imports.{◌≡◌, ◌∙◌, ◌+◌, ℕ, List, ap, sym, subst, rules, arith, length, get_or}
+use Rattle.audit_proof.proofs.Imports.{replicate, length-replicate, length-set, slice_get-get_or}
 use Rattle.audit_proof.proofs.PackedFacts.{IsTableOf, a_step, table_blank, table_step}
 use Rattle.audit_proof.proofs.packed.table_of.Goals as goal
 

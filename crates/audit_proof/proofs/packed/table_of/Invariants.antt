@@ -1,4 +1,4 @@
-use Rattle.std.proofs.Common.{◌≤◌, ◌^◌, length}
+use Rattle.audit_proof.proofs.Imports.{◌≤◌, ◌^◌, length}
 use Rattle.audit_proof.proofs.PackedFacts.{IsTableOf}
 use Rattle.audit_proof.proofs.packed.table_of.Given as goal
 

@@ -1,10 +1,7 @@
-use Rattle.std.proofs.Common.{◌≡◌, ◌∙◌, ◌+◌, ◌-◌, ◌<◌, ℕ, List, [], ◌∷◌, ◌++◌, Option, None, replicate, sym, ap, refl}
-use Rattle.std.proofs.Common.{subst}
-use Rattle.std.proofs.Common.{arith, rules}
-use Rattle.std.specs.List.{Contains, All}
-use Rattle.entry_order.proofs.Places.{all_at, place_of}
-use Rattle.audit_proof.specs.declared.step.ProofStep.{ProofStep}
-use Rattle.audit_proof.specs.inside.Walks.{IsNoted, IsWalking, via_at}
+use Rattle.audit_proof.proofs.Imports.{◌≡◌, ◌∙◌, ◌+◌, ◌-◌, ◌<◌, ℕ, List, [], ◌∷◌, ◌++◌, Option, None, replicate, sym}
+use Rattle.audit_proof.proofs.Imports.{ap, refl, subst, arith, rules, Contains, all_at, place_of, ProofStep, IsNoted}
+use Rattle.audit_proof.proofs.Imports.{IsWalking, via_at}
+use Rattle.std.specs.List.{All}
 use Rattle.audit_proof.proofs.Walked.{walk_starts, walk_past, walk_on_with, walk_ends, walk_greatest}
 use Rattle.audit_proof.proofs.proving.line_at.Goals as goal
 use Rattle.audit_proof.proofs.proving.line_at.Goals.{in-None, in-Some+in_ok-push-in-Some}

@@ -1,7 +1,5 @@
-use Rattle.std.proofs.Common.{◌+◌, ℕ, List, Option, sym, subst, get_or, take}
-use Rattle.entry_order.proofs.Places.{taken_more}
-use Rattle.std.proofs.lemmas.Option.{get_or_from_slice_get, slice_get-get_or}
-use Rattle.audit_proof.specs.inside.Walks.{IsNoted, noted_one}
+use Rattle.audit_proof.proofs.Imports.{◌+◌, ℕ, List, Option, sym, subst, get_or, take, taken_more}
+use Rattle.audit_proof.proofs.Imports.{get_or_from_slice_get, slice_get-get_or, IsNoted, noted_one}
 use Rattle.audit_proof.proofs.Walked.{noted_more}
 use Rattle.audit_proof.proofs.proving.note.Goals as goal
 

@@ -1,6 +1,5 @@
-use Rattle.std.proofs.Common.{◌≡◌, ◌∙◌, ◌++◌, ◌+◌, ◌≤◌, [], sym, ap, subst, List, ℕ, length, rules, arith}
-use Rattle.audit_proof.specs.ProofText.{head_text}
-use Rattle.audit_proof.specs.inside.Writings.{IsWriting}
+use Rattle.audit_proof.proofs.Imports.{◌≡◌, ◌∙◌, ◌++◌, ◌+◌, ◌≤◌, [], sym, ap, subst, List, ℕ, length, rules, arith}
+use Rattle.audit_proof.proofs.Imports.{head_text, IsWriting}
 use Rattle.audit_proof.proofs.Writing.{writing_none, writing_more, writing_ends, too_long, head_short}
 use Rattle.audit_proof.proofs.proving.prove.Goals as goal
 

@@ -1,5 +1,4 @@
-use Rattle.std.proofs.Common.{◌≤◌, length}
-use Rattle.audit_proof.specs.inside.Writings.{IsWriting}
+use Rattle.audit_proof.proofs.Imports.{◌≤◌, length, IsWriting}
 use Rattle.audit_proof.proofs.proving.prove.Given as goal
 
 -- the lines so far are written, and aren't too long

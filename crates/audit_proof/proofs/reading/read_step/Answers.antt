@@ -1,4 +1,4 @@
-use Rattle.std.proofs.Common.{◌<◌, ◌∙◌, sym, length, arith}
+use Rattle.audit_proof.proofs.Imports.{◌<◌, ◌∙◌, sym, length, arith}
 use Rattle.audit_proof.proofs.WordsRead.{no_colon, parts_are, word_from}
 use Rattle.audit_proof.proofs.reading.read_step.Goals as goal
 

@@ -1,11 +1,7 @@
-use Rattle.std.proofs.Common.{◌≡◌, ◌∙◌, ◌++◌, ap, sym, subst, List, ℕ, Bool, true, false, arith, append-nil}
-use Rattle.std.specs.Prelude.{slice_set, Err}
-use Rattle.std.specs.List.{flat_map}
-use Rattle.std.proofs.lemmas.List.{drop_all, length-set}
-use Rattle.first_cause.specs.Causes.{IsFirstOf}
-use Rattle.audit_proof.specs.declared.step.ProofStep.{ProofStep}
-use Rattle.audit_proof.specs.ProofText.{step_text}
-use Rattle.audit_proof.specs.inside.Begun.{GoesOn, IsReading, step_tests}
+use Rattle.std.proofs.Common.{Bool, false, append-nil}
+use Rattle.audit_proof.proofs.Imports.{◌≡◌, ◌∙◌, ◌++◌, ap, sym, subst, List, ℕ, true, arith, slice_set, Err, flat_map}
+use Rattle.audit_proof.proofs.Imports.{drop_all, length-set, IsFirstOf, ProofStep, step_text, GoesOn, IsReading}
+use Rattle.audit_proof.proofs.Imports.{step_tests}
 use Rattle.audit_proof.proofs.FirstFaults.{no_first}
 use Rattle.audit_proof.proofs.LinesRead.{next_word, goes_on, reading_more, form_fault, step_fault, tests_fail}
 use Rattle.audit_proof.proofs.LinesRead.{listed_table}

@@ -1,5 +1,4 @@
-use Rattle.std.proofs.Common.{◌≡◌, ◌∙◌, ◌+◌, ◌-◌, ap, subst, ℕ, take, drop, arith}
-use Rattle.audit_proof.specs.inside.Bytes.{HasNo}
+use Rattle.audit_proof.proofs.Imports.{◌≡◌, ◌∙◌, ◌+◌, ◌-◌, ap, subst, ℕ, take, drop, arith, HasNo}
 use Rattle.audit_proof.proofs.reading.word_end.Goals as goal
 
 pub returns-clause-whole : goal.returns-clause-whole

@@ -1,7 +1,4 @@
-use Rattle.std.proofs.Common.{ℕ, List, subst, drop}
-use Rattle.std.specs.Prelude.{Err}
-use Rattle.first_cause.specs.Causes.{IsFirstOf}
-use Rattle.audit_proof.specs.Faults.{count_causes}
+use Rattle.audit_proof.proofs.Imports.{ℕ, List, subst, drop, Err, IsFirstOf, count_causes}
 use Rattle.audit_proof.proofs.HeadsRead.{no_count}
 use Rattle.audit_proof.proofs.whole_text.read_after_form.Goals as goal
 

@@ -1,9 +1,6 @@
-use Rattle.std.proofs.Common.{◌≡◌, ◌∙◌, ◌<◌, ℕ, List, sym, ap, subst, refl, drop, take, true, false, length, rules}
-use Rattle.std.proofs.Common.{arith}
-use Rattle.std.specs.Prelude.{Ok, Err}
-use Rattle.std.proofs.lemmas.Bool.{false≢true}
-use Rattle.first_cause.specs.Causes.{IsFirstOf}
-use Rattle.audit_proof.specs.Faults.{survivors_causes}
+use Rattle.std.proofs.Common.{false}
+use Rattle.audit_proof.proofs.Imports.{◌≡◌, ◌∙◌, ◌<◌, ℕ, List, sym, ap, subst, refl, drop, take, true, length, rules}
+use Rattle.audit_proof.proofs.Imports.{arith, Ok, Err, false≢true, IsFirstOf, survivors_causes}
 use Rattle.audit_proof.proofs.HeadsRead.{count_other, number_fault, count_cut, count_from}
 use Rattle.audit_proof.proofs.whole_text.read_count.Goals as goal
 

@@ -1,6 +1,5 @@
-use Rattle.std.proofs.Common.{◌≡◌, ◌∙◌, ◌<◌, sym, true, false, length, rules, arith}
-use Rattle.std.specs.Prelude.{codes}
-use Rattle.std.proofs.lemmas.Bool.{false≢true}
+use Rattle.std.proofs.Common.{false}
+use Rattle.audit_proof.proofs.Imports.{◌≡◌, ◌∙◌, ◌<◌, sym, true, length, rules, arith, codes, false≢true}
 use Rattle.audit_proof.proofs.HeadsRead.{form_other, form_cut, line_split}
 use Rattle.audit_proof.proofs.whole_text.read_form.Goals as goal
 

@@ -1,12 +1,5 @@
-use Rattle.std.proofs.Common.{◌≡◌, ◌∙◌, ◌<◌, ◌+◌, ℕ, List, ap, sym, subst, length, arith}
-use Rattle.std.specs.Prelude.{Err}
-use Rattle.std.proofs.lemmas.Bool.{ltb-true}
-use Rattle.audit_proof.specs.Lines.{Line}
-use Rattle.audit_proof.specs.declared.fault.ProofFault.{ProofFault}
-use Rattle.audit_proof.specs.Reads.{IsReadAnswer}
-use Rattle.audit_proof.specs.inside.Bytes.{HasNo}
-use Rattle.audit_proof.specs.inside.Lists.{IsReadingLines}
-use Rattle.audit_proof.specs.inside.LineAnswers.{fault_of}
+use Rattle.audit_proof.proofs.Imports.{◌≡◌, ◌∙◌, ◌<◌, ◌+◌, ℕ, List, ap, sym, subst, length, arith, Err, ltb-true}
+use Rattle.audit_proof.proofs.Imports.{Line, ProofFault, IsReadAnswer, HasNo, IsReadingLines, fault_of}
 use Rattle.audit_proof.proofs.TextFacts.{line_refused, lines_more}
 use Rattle.audit_proof.proofs.whole_text.read_lines.Goals as goal
 

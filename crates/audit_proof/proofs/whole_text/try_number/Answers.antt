@@ -1,4 +1,4 @@
-use Rattle.std.proofs.Common.{◌∙◌, sym, arith}
+use Rattle.audit_proof.proofs.Imports.{◌∙◌, sym, arith}
 use Rattle.audit_proof.proofs.HeadsRead.{number_other, wrong_number, number_and_more, number_alone, number_whole}
 use Rattle.audit_proof.proofs.whole_text.try_number.Goals as goal
 

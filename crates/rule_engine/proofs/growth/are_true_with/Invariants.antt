@@ -1,13 +1,8 @@
-use Rattle.std.proofs.Common.{◌≡◌, ◌<◌, ◌≤◌, ℕ, true}
-use Rattle.std.specs.Prelude.{slice_get}
-use Rattle.entry_order.specs.declared.three.Three.TheVariants.{True}
-use Rattle.rule_meaning.specs.Judging.{over_rows}
-use Rattle.rule_meaning.specs.Meaning.{bind, unbound}
-use Rattle.rule_meaning.specs.Tests.{has_kind}
-use Rattle.precedence.specs.Known.{known_before, known_whole}
+use Rattle.rule_engine.proofs.Imports.{◌≡◌, ◌<◌, ◌≤◌, ℕ, true, slice_get, True, over_rows, bind, unbound, has_kind}
+use Rattle.rule_engine.proofs.Imports.{known_before, known_whole}
 use Rattle.rule_engine.proofs.growth.are_true_with.Given as goal
 
--- it is true with each later row so far
+-- the inner body is true with each later row so far
 abbrev pub invariant-loop-j : goal.invariant-loop-j
 invariant-loop-j l =
     let rows = l.survivors.rows.now in

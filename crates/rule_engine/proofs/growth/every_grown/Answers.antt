@@ -1,10 +1,5 @@
-use Rattle.std.proofs.Common.{◌∙◌, ◌-◌, None, ap, false, length, rules, sym, take}
-use Rattle.entry_order.specs.declared.three.Three.{Three}
-use Rattle.precedence.specs.Known.{known_before, known_whole}
-use Rattle.rule_meaning.specs.Judging.{over_from, over_rows}
-use Rattle.rule_meaning.specs.Kleene.{both}
-use Rattle.rule_meaning.specs.Meaning.{unbound}
-use Rattle.rule_engine.specs.declared.quantifier.Quantifier.{Quantifier}
+use Rattle.rule_engine.proofs.Imports.{◌∙◌, ◌-◌, None, ap, false, length, rules, sym, take, Three, known_before}
+use Rattle.rule_engine.proofs.Imports.{known_whole, over_from, over_rows, both, unbound, Quantifier}
 use Rattle.rule_engine.proofs.Grown.{every_grown, none_later}
 use Rattle.rule_engine.proofs.growth.every_grown.Goals as goal
 

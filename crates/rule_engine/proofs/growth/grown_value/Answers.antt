@@ -1,11 +1,6 @@
-use Rattle.std.proofs.Common.{◌≡◌, ◌∙◌, None, ap, false, rules, subst, sym, take}
+use Rattle.rule_engine.proofs.Imports.{◌≡◌, ◌∙◌, None, ap, false, rules, subst, sym, take, Three, known_before}
+use Rattle.rule_engine.proofs.Imports.{known_whole, Formula, over_rows, value_of, unbound, value-ForEvery}
 use Rattle.std.specs.Prelude.{IfSome}
-use Rattle.entry_order.specs.declared.three.Three.{Three}
-use Rattle.precedence.specs.Known.{known_before, known_whole}
-use Rattle.rule_language.specs.declared.formula.Formula.{Formula}
-use Rattle.rule_meaning.specs.Judging.{over_rows, value_of}
-use Rattle.rule_meaning.specs.Meaning.{unbound}
-use Rattle.rule_meaning.proofs.Judges.{value-ForEvery}
 use Rattle.rule_engine.proofs.Grown.{none_later, unreached_same}
 use Rattle.rule_engine.proofs.growth.grown_value.Goals as goal
 

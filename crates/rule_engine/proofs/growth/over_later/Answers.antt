@@ -1,8 +1,4 @@
-use Rattle.std.proofs.Common.{◌∙◌, ap, sym, arith}
-use Rattle.rule_meaning.specs.Kleene.{both}
-use Rattle.rule_meaning.specs.Scopes.{env_of}
-use Rattle.rule_meaning.proofs.Judges.{both_true}
-use Rattle.precedence.specs.Known.{known_before, known_whole}
+use Rattle.rule_engine.proofs.Imports.{◌∙◌, ap, sym, arith, both, env_of, both_true, known_before, known_whole}
 use Rattle.rule_engine.proofs.Indexed.{no_rest, step_with, stop_with}
 use Rattle.rule_engine.proofs.growth.over_later.Goals as goal
 

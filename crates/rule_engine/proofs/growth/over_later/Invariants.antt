@@ -1,8 +1,4 @@
-use Rattle.std.proofs.Common.{◌≡◌, ◌-◌, length}
-use Rattle.rule_meaning.specs.Kleene.{both}
-use Rattle.rule_meaning.specs.Judging.{over_from}
-use Rattle.rule_meaning.specs.Scopes.{env_of}
-use Rattle.precedence.specs.Known.{known_before, known_whole}
+use Rattle.rule_engine.proofs.Imports.{◌≡◌, ◌-◌, length, both, over_from, env_of, known_before, known_whole}
 use Rattle.rule_engine.proofs.Indexed.{rest}
 use Rattle.rule_engine.proofs.growth.over_later.Given as goal
 

@@ -1,15 +1,6 @@
-use Rattle.std.proofs.Common.{◌≡◌, ◌∙◌, ◌-◌, ◌<◌, ◌≤◌, ℕ, None, drop, false, length, rules, subst, sym, true}
-use Rattle.std.specs.Prelude.{slice_get, ◌==◌}
-use Rattle.std.specs.List.{list_any}
-use Rattle.entry_order.specs.declared.three.Three.TheVariants.{True}
-use Rattle.precedence.specs.Known.{known_before, known_whole}
-use Rattle.rule_language.specs.declared.formula.Formula.{Formula}
-use Rattle.rule_language.specs.Forms.{tree_of}
-use Rattle.rule_meaning.specs.Judging.{over_from, over_rows}
-use Rattle.rule_meaning.specs.Meaning.{bind, unbound}
-use Rattle.rule_meaning.specs.Tests.{has_kind}
-use Rattle.rule_engine.specs.declared.quantifier.Quantifier.{Quantifier}
-use Rattle.rule_engine.specs.inside.Reach.{reaches_row}
+use Rattle.rule_engine.proofs.Imports.{◌≡◌, ◌∙◌, ◌-◌, ◌<◌, ◌≤◌, ℕ, None, drop, false, length, rules, subst, sym, true}
+use Rattle.rule_engine.proofs.Imports.{slice_get, ◌==◌, list_any, True, known_before, known_whole, Formula, tree_of}
+use Rattle.rule_engine.proofs.Imports.{over_from, over_rows, bind, unbound, has_kind, Quantifier, reaches_row}
 use Rattle.rule_engine.proofs.Grown.{is_true_is, none_later, pairs_grown}
 use Rattle.rule_engine.proofs.growth.pairs_are_true.Goals as goal
 

@@ -1,7 +1,4 @@
-use Rattle.std.proofs.Common.{◌∙◌, sym}
-use Rattle.std.proofs.lemmas.Bool.{false≢true}
-use Rattle.precedence.specs.Known.{known_before, known_whole}
-use Rattle.rule_meaning.specs.Scopes.{env_of}
+use Rattle.rule_engine.proofs.Imports.{◌∙◌, sym, false≢true, known_before, known_whole, env_of}
 use Rattle.rule_engine.proofs.Indexed.{visited_by_kind}
 use Rattle.rule_engine.proofs.quantifier.by_kind.Goals as goal
 use Rattle.rule_engine.proofs.quantifier.by_kind.Goals.{in-Any, in_default}

@@ -1,7 +1,6 @@
-use Rattle.std.proofs.Common.{◌∙◌, ◌+◌, ◌||◌, Bool, ap, drop, sym}
-use Rattle.rule_language.specs.Forms.{tree_of, trees_of}
-use Rattle.rule_meaning.proofs.Widths.{or_first, or_second}
-use Rattle.rule_engine.specs.inside.Reach.{reaches_row}
+use Rattle.std.proofs.Common.{◌||◌}
+use Rattle.rule_engine.proofs.Imports.{◌∙◌, ◌+◌, Bool, ap, drop, sym, tree_of, trees_of, or_first, or_second}
+use Rattle.rule_engine.proofs.Imports.{reaches_row}
 use Rattle.rule_engine.proofs.Reaches.{reach-Implies, reach_more}
 use Rattle.rule_engine.proofs.reach.+reaching.Goals as goal
 

@@ -1,6 +1,4 @@
-use Rattle.std.proofs.Common.{◌≡◌, drop}
-use Rattle.rule_language.specs.Forms.{trees_of}
-use Rattle.rule_engine.specs.inside.Reach.{reaches_row}
+use Rattle.rule_engine.proofs.Imports.{◌≡◌, drop, trees_of, reaches_row}
 use Rattle.rule_engine.proofs.reach.+reaching.Given as goal
 
 abbrev pub invariant-some_reach-loop-part : goal.invariant-some_reach-loop-part

@@ -1,6 +1,4 @@
-use Rattle.std.proofs.Common.{◌∙◌, take}
-use Rattle.precedence.specs.Known.{known_before, known_whole}
-use Rattle.rule_language.specs.Forms.{tree_of}
+use Rattle.rule_engine.proofs.Imports.{◌∙◌, take, known_before, known_whole, tree_of}
 use Rattle.rule_engine.proofs.Grown.{said}
 use Rattle.rule_engine.proofs.ready.answer_grown.Goals as goal
 

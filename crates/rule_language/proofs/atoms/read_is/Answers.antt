@@ -1,11 +1,7 @@
-use Rattle.std.proofs.lemmas.Bool.{lt-ltb}
-use Rattle.rule_language.specs.declared.formula.Formula.{Is}
+use Rattle.rule_language.proofs.Imports.{lt-ltb, Is, ◌∷◌, ◌++◌, refl, role_word, a_variable, a_role, close, variable}
+use Rattle.rule_language.proofs.Imports.{right, bindings}
 use Rattle.rule_language.proofs.Views.{view-Is}
-use Rattle.std.proofs.Common.{◌∷◌, [], ◌++◌, refl}
-use Rattle.roster.specs.RosterText.{role_word}
-use Rattle.rule_language.specs.Wants.{a_variable, a_role, close}
-use Rattle.rule_language.specs.Spelling.{variable, right}
-use Rattle.rule_language.specs.inside.Reader.{bindings}
+use Rattle.std.proofs.Common.{[]}
 use Rattle.rule_language.proofs.Refusals.{exit_behind, passed_more, takes_more}
 use Rattle.rule_language.proofs.Steps.{variable_step, role_step, close_asks}
 use Rattle.rule_language.proofs.FormsRead.{atom_read}

@@ -1,10 +1,7 @@
-use Rattle.std.proofs.Common.{◌∷◌, [], refl}
-use Rattle.std.proofs.lemmas.Bool.{lt-ltb}
-use Rattle.rule_language.specs.declared.formula.Formula.{Less}
+use Rattle.std.proofs.Common.{[]}
+use Rattle.rule_language.proofs.Imports.{◌∷◌, refl, lt-ltb, Less, term_word, bindings}
 use Rattle.rule_language.specs.declared.form.Form.TheVariants as form
 use Rattle.rule_language.specs.declared.form.Head.TheVariants as head
-use Rattle.rule_language.specs.Spelling.{term_word}
-use Rattle.rule_language.specs.inside.Reader.{bindings}
 use Rattle.rule_language.proofs.FormsRead.{atom_read}
 use Rattle.rule_language.proofs.Views.{view-Less}
 use Rattle.rule_language.proofs.atoms.read_less.Goals as goal

@@ -1,11 +1,7 @@
-use Rattle.std.proofs.lemmas.Bool.{lt-ltb}
-use Rattle.rule_language.specs.declared.formula.Formula.{OfKind}
+use Rattle.rule_language.proofs.Imports.{lt-ltb, OfKind, ◌∷◌, ◌++◌, refl, kind_word, a_variable, a_kind, close}
+use Rattle.rule_language.proofs.Imports.{variable, right, bindings}
 use Rattle.rule_language.proofs.Views.{view-OfKind}
-use Rattle.std.proofs.Common.{◌∷◌, [], ◌++◌, refl}
-use Rattle.rule_language.specs.Kinds.{kind_word}
-use Rattle.rule_language.specs.Wants.{a_variable, a_kind, close}
-use Rattle.rule_language.specs.Spelling.{variable, right}
-use Rattle.rule_language.specs.inside.Reader.{bindings}
+use Rattle.std.proofs.Common.{[]}
 use Rattle.rule_language.proofs.Refusals.{exit_behind, passed_more, takes_more}
 use Rattle.rule_language.proofs.Steps.{variable_step, kind_step, close_asks, kind_asks}
 use Rattle.rule_language.proofs.FormsRead.{atom_read}

@@ -1,7 +1,5 @@
-use Rattle.std.proofs.Common.{◌∷◌, [], refl}
-use Rattle.rule_language.specs.Wants.{a_variable, close}
-use Rattle.rule_language.specs.Spelling.{variable, right}
-use Rattle.rule_language.specs.inside.Reader.{bindings}
+use Rattle.std.proofs.Common.{[]}
+use Rattle.rule_language.proofs.Imports.{◌∷◌, refl, a_variable, close, variable, right, bindings}
 use Rattle.rule_language.proofs.Refusals.{exit_behind, passed_more, takes_more}
 use Rattle.rule_language.proofs.Steps.{variable_step, close_asks}
 use Rattle.rule_language.proofs.atoms.read_pair.Goals as goal

@@ -1,10 +1,7 @@
-use Rattle.std.proofs.Common.{◌∷◌, [], refl}
-use Rattle.std.proofs.lemmas.Bool.{lt-ltb}
-use Rattle.rule_language.specs.declared.formula.Formula.{Same}
+use Rattle.std.proofs.Common.{[]}
+use Rattle.rule_language.proofs.Imports.{◌∷◌, refl, lt-ltb, Same, variable, bindings}
 use Rattle.rule_language.specs.declared.form.Form.TheVariants as form
 use Rattle.rule_language.specs.declared.form.Head.TheVariants as head
-use Rattle.rule_language.specs.Spelling.{variable}
-use Rattle.rule_language.specs.inside.Reader.{bindings}
 use Rattle.rule_language.proofs.FormsRead.{atom_read}
 use Rattle.rule_language.proofs.Views.{view-Same}
 use Rattle.rule_language.proofs.atoms.read_same.Goals as goal

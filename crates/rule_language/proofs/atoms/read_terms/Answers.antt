@@ -1,7 +1,5 @@
-use Rattle.std.proofs.Common.{◌∷◌, [], ◌++◌}
-use Rattle.rule_language.specs.Wants.{first_term, second_term, close}
-use Rattle.rule_language.specs.Spelling.{term_word, right}
-use Rattle.rule_language.specs.inside.Reader.{bindings}
+use Rattle.std.proofs.Common.{[]}
+use Rattle.rule_language.proofs.Imports.{◌∷◌, ◌++◌, first_term, second_term, close, term_word, right, bindings}
 use Rattle.rule_language.proofs.Refusals.{exit_behind, passed_more, takes_more}
 use Rattle.rule_language.proofs.Steps.{first_step, second_step, close_asks}
 use Rattle.rule_language.proofs.atoms.read_terms.Goals as goal

@@ -1,8 +1,6 @@
-use Rattle.std.proofs.Common.{◌∷◌, [], ◌++◌}
-use Rattle.rule_language.specs.Kinds.{kind_word}
-use Rattle.rule_language.specs.Wants.{new_variable, kind_of, before_or_body}
-use Rattle.rule_language.specs.Spelling.{variable}
-use Rattle.rule_language.specs.inside.Reader.{bindings}
+use Rattle.std.proofs.Common.{[]}
+use Rattle.rule_language.proofs.Imports.{◌∷◌, ◌++◌, kind_word, new_variable, kind_of, before_or_body, variable}
+use Rattle.rule_language.proofs.Imports.{bindings}
 use Rattle.rule_language.proofs.Refusals.{exit_first, exit_behind, passed_more}
 use Rattle.rule_language.proofs.Steps.{kind_of_step, new_step, kind_of_asks}
 use Rattle.rule_language.proofs.Binders.{binder_read}

@@ -1,9 +1,6 @@
-use Rattle.std.proofs.Common.{◌≡◌, ◌≢◌, ◌∷◌, [], ◌∙◌, sym, refl}
-use Rattle.std.specs.Prelude.{codes}
-use Rattle.rule_language.specs.Wants.{a_variable, before_or_body, formula, close}
-use Rattle.hall_text.specs.Spans.{piece}
-use Rattle.rule_language.specs.Spelling.{Token, variable}
-use Rattle.rule_language.specs.inside.Reader.{bindings, Takes}
+use Rattle.std.proofs.Common.{[]}
+use Rattle.rule_language.proofs.Imports.{◌≡◌, ◌≢◌, ◌∷◌, ◌∙◌, sym, refl, codes, a_variable, before_or_body, formula}
+use Rattle.rule_language.proofs.Imports.{close, piece, Token, variable, bindings, Takes}
 use Rattle.rule_language.proofs.Refusals.{exit_behind, one_passed, takes_more}
 use Rattle.rule_language.proofs.binder.read_range.Goals as goal
 

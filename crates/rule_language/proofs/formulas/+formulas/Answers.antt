@@ -1,20 +1,13 @@
-use Rattle.std.proofs.Common.{◌≡◌, ◌∷◌, ◌++◌, ◌+◌, ◌<◌, [], refl, vec_len, length-append, arith}
-use Rattle.std.proofs.lemmas.Bool.{lt-ltb}
-use Rattle.std.proofs.lemmas.Result.{IfOk-weaker}
-use Rattle.std.specs.Prelude.{codes}
-use Rattle.rule_language.specs.declared.faults.RuleWhy.TheVariants.{Shape, TooDeep}
+use Rattle.std.proofs.Common.{[]}
+use Rattle.rule_language.proofs.Imports.{◌≡◌, ◌∷◌, ◌++◌, ◌+◌, ◌<◌, refl, vec_len, length-append, arith, lt-ltb}
+use Rattle.rule_language.proofs.Imports.{IfOk-weaker, codes, Shape, TooDeep, head_word, tree_of, trees_of, piece}
+use Rattle.rule_language.proofs.Imports.{left, right, tokens_then, formula, head, close, more, new_variable}
+use Rattle.rule_language.proofs.Imports.{behind_head, bindings, Takes, IsRead, And, Or, Not}
 use Rattle.rule_language.specs.declared.form.Head.TheVariants as heads
-use Rattle.rule_language.specs.Kinds.{head_word}
-use Rattle.rule_language.specs.Forms.{tree_of, trees_of}
-use Rattle.hall_text.specs.Spans.{piece}
-use Rattle.rule_language.specs.Spelling.{left, right, tokens_then}
-use Rattle.rule_language.specs.Wants.{formula, head, close, more, new_variable, behind_head}
-use Rattle.rule_language.specs.inside.Reader.{bindings, Takes, IsRead}
 use Rattle.rule_language.proofs.Refusals.{exit_behind, exit_first, exit_by, if_fault, fails_behind}
 use Rattle.rule_language.proofs.Steps.{close_asks}
 use Rattle.rule_language.proofs.Bodies.{other_word, no_formula, too_deep, formula_fails, formula_passed, body_read}
 use Rattle.rule_language.proofs.Bodies.{read_more, open_passed, head_passed}
-use Rattle.rule_language.specs.declared.formula.Formula.{And, Or, Not}
 use Rattle.rule_language.specs.declared.form.Form.TheVariants as form
 use Rattle.rule_language.proofs.Views.{view-And, view-Or, view-Not}
 use Rattle.rule_language.proofs.FormsRead.{form_read}
@@ -45,7 +38,7 @@ read_behind-returns-in-Equal-clause-err t c = rw c.in-Equal.is (c.read_equal.ens
 pub read_behind-returns-in-Less-clause-err : goal.read_behind-returns-in-Less-clause-err
 read_behind-returns-in-Less-clause-err t c = rw c.in-Less.is (c.read_less.ensures.err (c.args.depth + 1))
 
--- the parenthesis is lacking behind the formula
+-- the parenthesis after the formula is missing
 pub read_body-returns-in_err-read_only-clause-err : goal.read_body-returns-in_err-read_only-clause-err
 read_body-returns-in_err-read_only-clause-err t c =
     let scope = bindings c.args.scope.now in

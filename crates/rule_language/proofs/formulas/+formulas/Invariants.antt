@@ -1,12 +1,9 @@
-use Rattle.std.proofs.Common.{◌+◌, ◌-◌, ◌*◌, ◌≡◌, ◌≤◌, ◌<◌, true, [], vec_len}
-use Rattle.rule_language.specs.Trees.{count_of}
-use Rattle.rule_language.specs.Forms.{trees_of}
-use Rattle.rule_language.specs.Lawful.{are_formulas}
-use Rattle.rule_language.specs.Spelling.{tokens_then}
-use Rattle.rule_language.specs.inside.Reader.{Takes, bindings}
+use Rattle.std.proofs.Common.{[]}
+use Rattle.rule_language.proofs.Imports.{◌+◌, ◌-◌, ◌*◌, ◌≡◌, ◌≤◌, ◌<◌, true, vec_len, count_of, trees_of}
+use Rattle.rule_language.proofs.Imports.{are_formulas, tokens_then, Takes, bindings}
 use Rattle.rule_language.proofs.formulas.+formulas.Given as goal
 
--- each of these is called with more parentheses around it, or behind one with a greater rank
+-- each of these is called with more parentheses around it, or after one with a greater rank
 abbrev pub decreases-read_formula : goal.decreases-read_formula
 decreases-read_formula l = 8 * (32 - l.depth) + 3
 

@@ -1,4 +1,4 @@
-use Rattle.rule_language.specs.Written.{rules_text}
+use Rattle.rule_language.proofs.Imports.{rules_text}
 use Rattle.rule_language.proofs.WrittenTexts.{written_is_text}
 use Rattle.rule_language.proofs.OneReading.{one_text}
 use Rattle.rule_language.proofs.laws.written_rules_are_read_back.Goals as goal

@@ -1,9 +1,6 @@
-use Rattle.std.proofs.Common.{◌∙◌, ap, sym, refl, ◌∷◌}
+use Rattle.rule_language.proofs.Imports.{◌∙◌, ap, sym, refl, ◌∷◌, bindings, IsTyped, piece, term_word, first_term}
+use Rattle.rule_language.proofs.Imports.{second_term, whose_sort, may_begin, term_in}
 use Rattle.rule_language.proofs.Refusals.{taken, asked, if_fault}
-use Rattle.rule_language.specs.inside.Reader.{bindings, IsTyped}
-use Rattle.hall_text.specs.Spans.{piece}
-use Rattle.rule_language.specs.Spelling.{term_word}
-use Rattle.rule_language.specs.Wants.{first_term, second_term, whose_sort, may_begin, term_in}
 use Rattle.rule_language.proofs.Found.{term_found}
 use Rattle.rule_language.proofs.reading.read_first.Goals as goal
 

@@ -1,9 +1,6 @@
-use Rattle.std.proofs.Common.{◌≡◌, ◌∙◌, ap, sym, refl, ◌∷◌, Ok, Some}
+use Rattle.rule_language.proofs.Imports.{◌≡◌, ◌∙◌, ap, sym, refl, ◌∷◌, Ok, Some, bindings, head_word, piece, head}
+use Rattle.rule_language.proofs.Imports.{head_for, nested, behind_head}
 use Rattle.rule_language.proofs.Refusals.{taken, asked, if_fault}
-use Rattle.rule_language.specs.inside.Reader.{bindings}
-use Rattle.rule_language.specs.Kinds.{head_word}
-use Rattle.hall_text.specs.Spans.{piece}
-use Rattle.rule_language.specs.Wants.{head, head_for, nested, behind_head}
 use Rattle.rule_language.proofs.Found.{head_found}
 use Rattle.rule_language.proofs.reading.read_head.Goals as goal
 

@@ -1,8 +1,5 @@
-use Rattle.std.proofs.Common.{◌∙◌, ap, sym}
+use Rattle.rule_language.proofs.Imports.{◌∙◌, ap, sym, kind_word, piece, kind_for}
 use Rattle.rule_language.proofs.Refusals.{taken, asked, if_fault}
-use Rattle.rule_language.specs.Kinds.{kind_word}
-use Rattle.hall_text.specs.Spans.{piece}
-use Rattle.rule_language.specs.Wants.{kind_for}
 use Rattle.rule_language.proofs.Found.{kind_found}
 use Rattle.rule_language.proofs.reading.read_kind.Goals as goal
 

@@ -1,9 +1,6 @@
-use Rattle.std.proofs.Common.{◌≡◌, ◌∙◌, ap, sym, refl, ◌∷◌, Ok}
+use Rattle.rule_language.proofs.Imports.{◌≡◌, ◌∙◌, ap, sym, refl, ◌∷◌, Ok, bindings, piece, variable, new_variable}
+use Rattle.rule_language.proofs.Imports.{kind_of, unbound_in, letter_in}
 use Rattle.rule_language.proofs.Refusals.{taken, asked, if_fault}
-use Rattle.rule_language.specs.inside.Reader.{bindings}
-use Rattle.hall_text.specs.Spans.{piece}
-use Rattle.rule_language.specs.Spelling.{variable}
-use Rattle.rule_language.specs.Wants.{new_variable, kind_of, unbound_in, letter_in}
 use Rattle.rule_language.proofs.Found.{new_found}
 use Rattle.rule_language.proofs.reading.read_new_variable.Goals as goal
 

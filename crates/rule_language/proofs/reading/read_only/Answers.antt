@@ -1,7 +1,5 @@
-use Rattle.std.proofs.Common.{◌∙◌, ap, sym}
+use Rattle.rule_language.proofs.Imports.{◌∙◌, ap, sym, piece, only}
 use Rattle.rule_language.proofs.Refusals.{taken, asked, if_fault}
-use Rattle.hall_text.specs.Spans.{piece}
-use Rattle.rule_language.specs.Wants.{only}
 use Rattle.rule_language.proofs.Found.{only_found}
 use Rattle.rule_language.proofs.reading.read_only.Goals as goal
 

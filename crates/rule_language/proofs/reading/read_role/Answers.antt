@@ -1,10 +1,6 @@
-use Rattle.std.proofs.Common.{◌∙◌, ap, sym, refl, ◌∷◌}
+use Rattle.rule_language.proofs.Imports.{◌∙◌, ap, sym, refl, ◌∷◌, role_word, Shape, role_named, piece, a_role}
+use Rattle.rule_language.proofs.Imports.{or_cause}
 use Rattle.rule_language.proofs.Refusals.{taken, asked, if_fault}
-use Rattle.roster.specs.RosterText.{role_word}
-use Rattle.rule_language.specs.declared.faults.RuleWhy.TheVariants.{Shape}
-use Rattle.rule_language.specs.Kinds.{role_named}
-use Rattle.hall_text.specs.Spans.{piece}
-use Rattle.rule_language.specs.Wants.{a_role, or_cause}
 use Rattle.rule_language.proofs.Found.{role_found}
 use Rattle.rule_language.proofs.reading.read_role.Goals as goal
 

@@ -1,10 +1,6 @@
-use Rattle.std.proofs.Common.{◌∙◌, ap, sym, refl, ◌∷◌}
+use Rattle.rule_language.proofs.Imports.{◌∙◌, ap, sym, refl, ◌∷◌, bindings, IsTyped, is_same_sort, piece, term_word}
+use Rattle.rule_language.proofs.Imports.{second_term, whose_sort, term_in}
 use Rattle.rule_language.proofs.Refusals.{taken, asked, if_fault}
-use Rattle.rule_language.specs.inside.Reader.{bindings, IsTyped}
-use Rattle.rule_language.specs.Kinds.{is_same_sort}
-use Rattle.hall_text.specs.Spans.{piece}
-use Rattle.rule_language.specs.Spelling.{term_word}
-use Rattle.rule_language.specs.Wants.{second_term, whose_sort, term_in}
 use Rattle.rule_language.proofs.Found.{term_found}
 use Rattle.rule_language.proofs.reading.read_second.Goals as goal
 

@@ -1,10 +1,6 @@
-use Rattle.std.proofs.Common.{◌≡◌, ◌∙◌, true, ap, sym, refl, ◌∷◌}
+use Rattle.rule_language.proofs.Imports.{◌≡◌, ◌∙◌, true, ap, sym, refl, ◌∷◌, bindings, is_bound, piece, variable}
+use Rattle.rule_language.proofs.Imports.{a_variable, bound_in, letter_in}
 use Rattle.rule_language.proofs.Refusals.{taken, asked, if_fault}
-use Rattle.rule_language.specs.inside.Reader.{bindings}
-use Rattle.rule_language.specs.Lawful.{is_bound}
-use Rattle.hall_text.specs.Spans.{piece}
-use Rattle.rule_language.specs.Spelling.{variable}
-use Rattle.rule_language.specs.Wants.{a_variable, bound_in, letter_in}
 use Rattle.rule_language.proofs.Found.{variable_found}
 use Rattle.rule_language.proofs.reading.read_variable.Goals as goal
 

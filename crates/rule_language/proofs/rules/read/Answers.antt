@@ -1,4 +1,5 @@
-use Rattle.std.proofs.Common.{[], refl, arith}
+use Rattle.rule_language.proofs.Imports.{arith, refl}
+use Rattle.std.proofs.Common.{[]}
 use Rattle.rule_language.proofs.Stands.{none_yet}
 use Rattle.rule_language.proofs.RuleRead.{reads_fault, stand_more, good_more_rules, few_rules}
 use Rattle.rule_language.proofs.rules.read.Goals as goal

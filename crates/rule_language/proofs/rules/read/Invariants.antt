@@ -1,11 +1,9 @@
-use Rattle.std.proofs.Common.{◌≡◌, ◌≤◌, ◌-◌, true, [], map, vec_len}
-use Rattle.rule_language.specs.Forms.{rule_tree}
-use Rattle.rule_language.specs.Lawful.{follow}
-use Rattle.rule_language.specs.Spelling.{rules_tokens, StandBefore}
-use Rattle.rule_language.specs.inside.Reader.{IsNext}
+use Rattle.std.proofs.Common.{[]}
+use Rattle.rule_language.proofs.Imports.{◌≡◌, ◌≤◌, ◌-◌, true, map, vec_len, rule_tree, follow, rules_tokens}
+use Rattle.rule_language.proofs.Imports.{StandBefore, IsNext}
 use Rattle.rule_language.proofs.rules.read.Given as goal
 
--- the tokens so far are those of the rules so far
+-- the tokens read are those of the rules read
 abbrev pub invariant-rules : goal.invariant-rules
 invariant-rules l = record {
   next : IsNext l.text l.token;

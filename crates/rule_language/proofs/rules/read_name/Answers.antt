@@ -1,7 +1,6 @@
-use Rattle.std.proofs.Common.{◌∷◌, ◌++◌, [], ◌∙◌, ap, refl, sym}
-use Rattle.hall_text.specs.Spans.{piece}
-use Rattle.rule_language.specs.Wants.{rule_name, name_in, formula, close, more_rules, then_want}
-use Rattle.rule_language.specs.inside.Reader.{rule_names, checked}
+use Rattle.std.proofs.Common.{[]}
+use Rattle.rule_language.proofs.Imports.{◌∷◌, ◌++◌, ◌∙◌, ap, refl, sym, piece, rule_name, name_in, formula, close}
+use Rattle.rule_language.proofs.Imports.{more_rules, then_want, rule_names, checked}
 use Rattle.rule_language.proofs.Refusals.{exit_first, refuse, if_fault}
 use Rattle.rule_language.proofs.Names.{name_found, name_some, unchecked}
 use Rattle.rule_language.proofs.rules.read_name.Goals as goal

@@ -1,11 +1,6 @@
-use Rattle.std.proofs.Common.{◌≡◌, ◌∷◌, ◌∙◌, [], true, length, ap, sym}
-use Rattle.std.proofs.lemmas.List.{length-map}
-use Rattle.std.specs.Prelude.{nat_lt, string_bytes}
-use Rattle.rule_language.specs.declared.formula.Rule.{Rule}
-use Rattle.hall_text.specs.Spans.{piece}
-use Rattle.rule_language.specs.Spelling.{left}
-use Rattle.rule_language.specs.Wants.{more_rules, rule_word, opening, then_want, is_end}
-use Rattle.rule_language.specs.inside.Reader.{rule_names}
+use Rattle.std.proofs.Common.{[]}
+use Rattle.rule_language.proofs.Imports.{◌≡◌, ◌∷◌, ◌∙◌, true, length, ap, sym, length-map, nat_lt, string_bytes, Rule}
+use Rattle.rule_language.proofs.Imports.{piece, left, more_rules, rule_word, opening, then_want, is_end, rule_names}
 use Rattle.rule_language.proofs.Refusals.{taken, refuse, if_fault}
 use Rattle.rule_language.proofs.RuleRead.{opening_found}
 use Rattle.rule_language.proofs.rules.read_opening.Goals as goal

@@ -1,9 +1,6 @@
-use Rattle.std.proofs.Common.{◌∷◌, ◌++◌, []}
-use Rattle.std.specs.Prelude.{codes, string_bytes}
-use Rattle.rule_language.specs.Forms.{tree_of}
-use Rattle.rule_language.specs.Spelling.{left, tokens_then}
-use Rattle.rule_language.specs.Wants.{more_rules, rule_word, rule_name, formula, close}
-use Rattle.rule_language.specs.inside.Reader.{rule_names}
+use Rattle.std.proofs.Common.{[]}
+use Rattle.rule_language.proofs.Imports.{◌∷◌, ◌++◌, codes, string_bytes, tree_of, left, tokens_then, more_rules}
+use Rattle.rule_language.proofs.Imports.{rule_word, rule_name, formula, close, rule_names}
 use Rattle.rule_language.proofs.Refusals.{exit_behind}
 use Rattle.rule_language.proofs.Steps.{close_asks}
 use Rattle.rule_language.proofs.RuleRead.{rule_word_asks, opened, worded, called, said, rule_read, rule_is}

@@ -1,7 +1,4 @@
-use Rattle.std.proofs.Common.{◌≡◌, ◌∙◌, refl, sym, subst}
-use Rattle.rule_language.specs.Written.{rules_text}
-use Rattle.rule_language.specs.Spelling.{IsTextOf}
-use Rattle.rule_language.specs.Standard.{standard_rules}
+use Rattle.rule_language.proofs.Imports.{◌≡◌, ◌∙◌, refl, sym, subst, rules_text, IsTextOf, standard_rules}
 use Rattle.rule_language.proofs.OneFault.{fault_or_none}
 use Rattle.rule_language.proofs.OneReading.{one_text}
 use Rattle.rule_language.proofs.RulesPass.{no_fault}
@@ -20,7 +17,7 @@ unreachable-requires c =
     fault_or_none text c.in-Err-At.field-0-0 c.in-Err-At.field-0-1 (h (λ e. absurd (cc)))
     (no_fault text standard_rules is)
 
--- and it is that of no others
+-- the text is that of no other rules
 pub returns-in-Ok : goal.returns-in-Ok
 returns-in-Ok c =
     let text = c.as_bytes.result.now in

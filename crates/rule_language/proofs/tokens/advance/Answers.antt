@@ -1,10 +1,9 @@
-use Rattle.std.proofs.Common.{List, ℕ, ◌++◌, ◌∷◌, []}
-use Rattle.hall_text.specs.declared.spans.Span.{Span}
-use Rattle.hall_text.specs.Spans.{piece}
+use Rattle.std.proofs.Common.{[]}
+use Rattle.rule_language.proofs.Imports.{List, ℕ, ◌++◌, ◌∷◌, Span, piece}
 use Rattle.rule_language.proofs.Stands.{token_one}
 use Rattle.rule_language.proofs.tokens.advance.Goals as goal
 
--- the token stands before what is found behind it
+-- the token is before what is found after it
 pub returns-then-token : goal.returns-then-token
 returns-then-token c = λ some.
     let text : List ℕ = c.args.text.now in

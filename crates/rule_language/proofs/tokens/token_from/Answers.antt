@@ -1,4 +1,4 @@
-use Rattle.std.proofs.Common.{◌<◌, List, length, ℕ, arith}
+use Rattle.rule_language.proofs.Imports.{◌<◌, List, length, ℕ, arith}
 use Rattle.rule_language.proofs.Stands.{separator_more, between_separator}
 use Rattle.rule_language.proofs.tokens.token_from.Goals as goal
 

@@ -1,9 +1,7 @@
-use Rattle.std.proofs.Common.{length, ◌-◌, ◌≤◌, List}
-use Rattle.hall_text.specs.Places.{CutsNoWord}
-use Rattle.rule_language.specs.Spelling.{Token, StandBefore}
+use Rattle.rule_language.proofs.Imports.{length, ◌-◌, ◌≤◌, List, CutsNoWord, Token, StandBefore}
 use Rattle.rule_language.proofs.tokens.token_from.Given as goal
 
--- separators alone were passed over
+-- only separators were passed over
 abbrev pub invariant-loop-start : goal.invariant-loop-start
 invariant-loop-start l = record {
   inside : l.start ≤ length l.text;

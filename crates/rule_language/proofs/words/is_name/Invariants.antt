@@ -1,7 +1,6 @@
-use Rattle.std.proofs.Common.{◌≡◌, drop}
-use Rattle.rule_language.specs.Lawful.{are_alphanumeric}
+use Rattle.rule_language.proofs.Imports.{◌≡◌, drop, are_alphanumeric}
 use Rattle.rule_language.proofs.words.is_name.Given as goal
 
--- it depends on the bytes that are left
+-- whether the word is a name depends on the bytes that are left
 abbrev pub invariant-loop-byte : goal.invariant-loop-byte
 invariant-loop-byte l = are_alphanumeric l.word ≡ are_alphanumeric (drop l.byte-index l.word)

@@ -1,14 +1,8 @@
-use Rattle.std.proofs.Common.{◌≡◌, ◌∙◌, ◌<◌, sym, ap, refl, subst, length, inl, inr, ℕ, ◌+◌, Bool, List, get_or, take}
-use Rattle.std.proofs.Common.{arith}
-use Rattle.std.specs.Prelude.{slice_set}
-use Rattle.std.proofs.lemmas.Option.{slice_get_read, slice_get-get_or}
-use Rattle.std.proofs.lemmas.List.{take_all}
-use Rattle.entry_order.proofs.Places.{all_at, all_from_places, member_at}
-use Rattle.entry_order.proofs.Lists.{Contains-map}
-use Rattle.audit_proof.specs.declared.step.ProofStep.{ProofStep}
-use Rattle.audit_proof.specs.Lines.{Line, IsLineOf}
-use Rattle.audit_proof.specs.KnownBy.{own_line, is_whole_line}
-use Rattle.audit_proof.specs.inside.Falls.{Falls}
+use Rattle.std.proofs.Common.{Bool}
+use Rattle.audit_proof.proofs.Imports.{◌≡◌, ◌∙◌, ◌<◌, sym, ap, refl, subst, length, inl, inr, ℕ, ◌+◌, List, get_or}
+use Rattle.audit_proof.proofs.Imports.{take, arith, slice_set, slice_get_read, slice_get-get_or, take_all, all_at}
+use Rattle.audit_proof.proofs.Imports.{all_from_places, member_at, Contains-map, ProofStep, Line, IsLineOf, own_line}
+use Rattle.audit_proof.proofs.Imports.{is_whole_line, Falls}
 use Rattle.audit_proof.proofs.Listings.{IsTable, table_more}
 use Rattle.audit_proof.proofs.listing.Listing.make.Goals as goal
 

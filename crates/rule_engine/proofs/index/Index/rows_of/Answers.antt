@@ -1,6 +1,5 @@
-use Rattle.std.proofs.Common.{◌+◌, ◌-◌, sym, subst, List, ℕ, take, drop, arith}
-use Rattle.rule_engine.specs.declared.index.Found.{Found}
-use Rattle.rule_engine.specs.inside.Index.{least_of, breadth, AreRowsOf}
+use Rattle.rule_engine.proofs.Imports.{◌+◌, ◌-◌, sym, subst, List, ℕ, take, drop, arith, Found, least_of, breadth}
+use Rattle.rule_engine.proofs.Imports.{AreRowsOf}
 use Rattle.rule_engine.proofs.Indexed.{starts_rise, between_starts}
 use Rattle.rule_engine.proofs.index.Index.rows_of.Goals as goal
 

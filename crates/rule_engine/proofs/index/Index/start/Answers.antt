@@ -1,7 +1,5 @@
-use Rattle.std.proofs.Common.{ltb, ltb-true, ltb-false, rules, subst, sym, List}
-use Rattle.std.proofs.lemmas.List.Sorted.{IsPartitionPoint-from_clause, IsPartitionedBy-ltb}
-use Rattle.rule_engine.specs.declared.index.Found.{Found}
-use Rattle.rule_engine.specs.inside.Index.{Rises, IsStart}
+use Rattle.rule_engine.proofs.Imports.{ltb, ltb-true, ltb-false, rules, subst, sym, List}
+use Rattle.rule_engine.proofs.Imports.{IsPartitionPoint-from_clause, IsPartitionedBy-ltb, Found, Rises, IsStart}
 use Rattle.rule_engine.proofs.index.Index.start.Goals as goal
 
 pub returns : goal.returns

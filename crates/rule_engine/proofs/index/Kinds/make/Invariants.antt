@@ -1,6 +1,4 @@
-use Rattle.std.proofs.Common.{◌≡◌, ◌<◌, ℕ, length}
-use Rattle.std.specs.Prelude.{slice_index_or}
-use Rattle.rule_engine.specs.inside.Index.{IsStart}
+use Rattle.rule_engine.proofs.Imports.{◌≡◌, ◌<◌, ℕ, length, slice_index_or, IsStart}
 use Rattle.rule_engine.proofs.index.Kinds.make.Given as goal
 
 -- the first kinds' starts are known

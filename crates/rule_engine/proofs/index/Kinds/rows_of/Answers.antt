@@ -1,7 +1,5 @@
-use Rattle.std.proofs.Common.{◌+◌, ◌-◌, sym, subst, List, take, drop, arith}
-use Rattle.rule_engine.specs.declared.index.Found.{Found}
+use Rattle.rule_engine.proofs.Imports.{◌+◌, ◌-◌, sym, subst, List, take, drop, arith, Found, rank, AreRowsOf}
 use Rattle.rule_engine.specs.declared.index.Key.TheVariants.{Kind}
-use Rattle.rule_engine.specs.inside.Index.{rank, AreRowsOf}
 use Rattle.rule_engine.proofs.Indexed.{kind_starts, starts_rise, between_starts}
 use Rattle.rule_engine.proofs.index.Kinds.rows_of.Goals as goal
 

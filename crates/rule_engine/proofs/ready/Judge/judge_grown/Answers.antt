@@ -1,8 +1,4 @@
-use Rattle.std.proofs.Common.{subst, sym}
-use Rattle.precedence.specs.Known.{IsKnownOf}
-use Rattle.rule_language.specs.Forms.{tree_of}
-use Rattle.rule_engine.specs.Growth.{Ready}
-use Rattle.rule_engine.specs.Verdicts.{IsJudged}
+use Rattle.rule_engine.proofs.Imports.{subst, sym, IsKnownOf, tree_of, Ready, IsJudged}
 use Rattle.rule_engine.proofs.Graphs.{answer_by_graph}
 use Rattle.rule_engine.proofs.ready.Judge.judge_grown.Goals as goal
 

@@ -1,7 +1,6 @@
-use Rattle.std.proofs.Common.{◌≡◌, drop}
-use Rattle.rule_language.specs.Kinds.{first_named, field_word, fields, field_named}
+use Rattle.rule_language.proofs.Imports.{◌≡◌, drop, first_named, field_word, fields, field_named}
 use Rattle.rule_language.proofs.kind.Field.of_word.Given as goal
 
--- it depends on the fields that are left
+-- what the word names depends on the fields that are left
 abbrev pub invariant-loop-field : goal.invariant-loop-field
 invariant-loop-field l = field_named l.word ≡ first_named field_word (drop l.field-index fields) l.word

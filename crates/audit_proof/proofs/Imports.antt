@@ -1,0 +1,92 @@
+-- What the proofs of this crate take from others.
+pub use Rattle.audit_proof.specs.Answers.{verdict_of}
+pub use Rattle.audit_proof.specs.Canonical.{IsCanonicalProof, IsCanonicalText, IsGreatest, OneTextIsCanonical}
+pub use Rattle.audit_proof.specs.Faults.{IsFirstFault, IsLineFault, ProofCauses, SaysNumber, SaysStep}
+pub use Rattle.audit_proof.specs.Faults.{ancestor_causes, count_causes, end_causes, form_causes, line_in, past_causes}
+pub use Rattle.audit_proof.specs.Faults.{survivors_causes, word_in}
+pub use Rattle.audit_proof.specs.KnownBy.{before_by, before_on, is_whole_line, lists, own_line, three_by, whole_by}
+pub use Rattle.audit_proof.specs.Lines.{HasEachLine, IsBegun, IsLineOf, IsOnLine, IsProofOf, IsReached, LacksNoParent}
+pub use Rattle.audit_proof.specs.Lines.{Line, listed_in}
+pub use Rattle.audit_proof.specs.OneReading.{HaveSameArrows, SameArrowsGiveOneValue, SameArrowsHaveOneText}
+pub use Rattle.audit_proof.specs.OneReading.{TextsAreReadInOneWay}
+pub use Rattle.audit_proof.specs.ProofText.{form_line, head_text, line_text, line_words, proof_text, step_text}
+pub use Rattle.audit_proof.specs.ProofText.{step_word, survivors_line}
+pub use Rattle.audit_proof.specs.Reads.{IsReadAnswer, IsTextFor}
+pub use Rattle.audit_proof.specs.Trust.{FullProofsSayAll, LinesListAncestors, ProofsAreRight, ProofsSayNoMore}
+pub use Rattle.audit_proof.specs.Trust.{WrittenProofsSayAll}
+pub use Rattle.audit_proof.specs.declared.checking.Quantifier.{Quantifier}
+pub use Rattle.audit_proof.specs.declared.fault.ProofFault.{ProofFault}
+pub use Rattle.audit_proof.specs.declared.fault.ProofFault.TheVariants.{At}
+pub use Rattle.audit_proof.specs.declared.fault.ProofWhy.{ProofWhy}
+pub use Rattle.audit_proof.specs.declared.fault.ProofWhy.TheVariants.{Form, NotFalling, NotParent, NotReached}
+pub use Rattle.audit_proof.specs.declared.fault.ProofWhy.TheVariants.{NotRising, OutOfRange, WrongCount}
+pub use Rattle.audit_proof.specs.declared.lines.Entry.{Entry}
+pub use Rattle.audit_proof.specs.declared.listing.Listing.{Listing}
+pub use Rattle.audit_proof.specs.declared.reading.Unread.{Unread}
+pub use Rattle.audit_proof.specs.declared.reading.Unread.TheVariants.{Why}
+pub use Rattle.audit_proof.specs.declared.step.ProofStep.{ProofStep}
+pub use Rattle.audit_proof.specs.inside.Begun.{GoesOn, IsListedTable, IsNextWord, IsReading, IsWordStep, step_tests}
+pub use Rattle.audit_proof.specs.inside.Bytes.{Follows, HasNo}
+pub use Rattle.audit_proof.specs.inside.Checking.{at_place, over_list, places_of}
+pub use Rattle.audit_proof.specs.inside.Closed.{closed_at}
+pub use Rattle.audit_proof.specs.inside.Falls.{Falls}
+pub use Rattle.audit_proof.specs.inside.LineAnswers.{IsEntryOf, IsFinished, IsLineAnswer, IsNoEntry, fault_of}
+pub use Rattle.audit_proof.specs.inside.Listing.{IsListingOf, listing_before, listing_whole}
+pub use Rattle.audit_proof.specs.inside.Lists.{IsReadingLines}
+pub use Rattle.audit_proof.specs.inside.Packing.{step_in, steps_from, unpacked}
+pub use Rattle.audit_proof.specs.inside.Unread.{IsWordFault, IsWordsAnswer, line_with}
+pub use Rattle.audit_proof.specs.inside.Walks.{IsNoted, IsWalking, noted_one, via_at}
+pub use Rattle.audit_proof.specs.inside.Writings.{IsWriting}
+pub use Rattle.entry_order.proofs.Lists.{Contains-cons_cases, Contains-filter_cases, Contains-head, Contains-later}
+pub use Rattle.entry_order.proofs.Lists.{Contains-map, Contains-map_cases, Contains-none, list_any_of, list_any_some}
+pub use Rattle.entry_order.proofs.Places.{all_at, all_from_places, element_at, last_at, member_at, place_of}
+pub use Rattle.entry_order.proofs.Places.{push_before, push_cases, taken_more}
+pub use Rattle.entry_order.proofs.Settled.{ancestor_from_reaches, clean_ancestor, clean_itself, is_whole_from_clean}
+pub use Rattle.entry_order.proofs.Settled.{list_all_each, list_all_from_each, reaches_from_walk, walk_on}
+pub use Rattle.entry_order.specs.Ancestors.{Descends, IsAncestor, IsWalk, before, is_whole, reaches}
+pub use Rattle.entry_order.specs.Node.{Node}
+pub use Rattle.entry_order.specs.declared.three.Three.{Three}
+pub use Rattle.entry_order.specs.declared.three.Three.TheVariants.{False, True, Unknown}
+pub use Rattle.item_list.proofs.Rows.{one_first}
+pub use Rattle.item_list.specs.Causes.{IsFirstOf}
+pub use Rattle.precedence.specs.Graph.{Graph}
+pub use Rattle.rule_language.specs.Forms.{tree_of}
+pub use Rattle.rule_language.specs.Trees.{Trees}
+pub use Rattle.rule_language.specs.declared.formula.Formula.{Formula}
+pub use Rattle.rule_language.specs.declared.kind.Kind.{Kind}
+pub use Rattle.rule_language.specs.declared.row.Row.{Row}
+pub use Rattle.rule_meaning.proofs.Judges.{value-And, value-Before, value-Equal, value-EveryBefore, value-ForEvery}
+pub use Rattle.rule_meaning.proofs.Judges.{value-ForSome, value-Implies, value-Is, value-Less, value-Next}
+pub use Rattle.rule_meaning.proofs.Judges.{value-OfKind, value-Or, value-SomeBefore}
+pub use Rattle.rule_meaning.proofs.Less.{less_is_known}
+pub use Rattle.rule_meaning.proofs.SameOrders.{row_of_kind, same_values}
+pub use Rattle.rule_meaning.proofs.Sounds.{rules_are_settled}
+pub use Rattle.rule_meaning.specs.Judging.{is_in, over, over_before, over_rows, signed, value_of}
+pub use Rattle.rule_meaning.specs.Kleene.{as_three, both, either, is_false, least, opposite}
+pub use Rattle.rule_meaning.specs.Knowledge.{IsLess, IsLessKnown}
+pub use Rattle.rule_meaning.specs.Meaning.{bind, unbound}
+pub use Rattle.rule_meaning.specs.Scopes.{env_of}
+pub use Rattle.rule_meaning.specs.Tests.{are_equal, has_kind, has_role, is_less, is_next}
+pub use Rattle.rule_meaning.specs.Values.{first_value, row_at, three_in, values}
+pub use Rattle.std.proofs.Common.{IfSome, List, None, Option, Some, [], ap, append_assoc, arith, cond, drop, get_or}
+pub use Rattle.std.proofs.Common.{inl, inr, length, nat_eq, refl, replicate, rules, subst, suc, sym, take, true, zero}
+pub use Rattle.std.proofs.Common.{ℕ, ◌%◌, ◌++◌, ◌+◌, ◌-◌, ◌/◌, ◌<◌, ◌^◌, ◌||◌, ◌∙◌, ◌∷◌, ◌≡◌, ◌≢◌, ◌≤◌}
+pub use Rattle.std.proofs.lemmas.Bool.{and_from, and_parts, cases_eq, cases_lt, eq-eqb, eqb-true, false≢true, lt-ltb}
+pub use Rattle.std.proofs.lemmas.Bool.{ltb-true, ne_eqb, not-true, not_from_false}
+pub use Rattle.std.proofs.lemmas.Fmt.{decimal_by_steps, decimal_injective, length-decimal-le}
+pub use Rattle.std.proofs.lemmas.List.{drop-drop, drop_all, drop_more, get_or-append-add, get_or-replicate}
+pub use Rattle.std.proofs.lemmas.List.{get_or-set_other, get_or-set_same, get_or_append_left, get_or_past}
+pub use Rattle.std.proofs.lemmas.List.{length-append, length-map, length-replicate, length-set, length-take-le}
+pub use Rattle.std.proofs.lemmas.List.{length_push, map-append, take-append-drop, take_all, take_at, take_more}
+pub use Rattle.std.proofs.lemmas.List.Concat.{flat_map-append}
+pub use Rattle.std.proofs.lemmas.List.Elements.{Contains-append_cases, Contains-append_left, Contains-append_right}
+pub use Rattle.std.proofs.lemmas.List.Folds.{find-append, list_all-append, list_any-append}
+pub use Rattle.std.proofs.lemmas.List.Quantifiers.{all_pairs_push}
+pub use Rattle.std.proofs.lemmas.Option.{get_or_from_slice_get, same_Some, slice_get-get_or, slice_get_past}
+pub use Rattle.std.proofs.lemmas.Option.{slice_get_read, slice_get_within}
+pub use Rattle.std.specs.Fmt.{decimal}
+pub use Rattle.std.specs.List.{Contains, before_first, filter, flat_map, list_all, list_any, position_or_len}
+pub use Rattle.std.specs.List.{prefix_len, range_with_len}
+pub use Rattle.std.specs.Option.{option_or}
+pub use Rattle.std.specs.Prelude.{AllPairs, Err, Ok, Result, codes, nat_lt, not, slice_get, slice_index_or, slice_set}
+pub use Rattle.std.specs.Prelude.{◌&&◌, ◌==◌, ◌⊎◌}
