@@ -1,12 +1,11 @@
 -- How many actions and steps a day has.
-use Rattle.std.proofs.Common.{◌≡◌, inl, inr, ℕ, zero, suc, ◌+◌, ◌-◌, ◌*◌, ◌%◌, ◌<◌, ◌≤◌, ◌==◌, Bool, true, false, cond}
-use Rattle.std.proofs.Common.{List, [], ◌∷◌, length, get_or, set}
-use Rattle.std.proofs.Common.{refl, sym, ◌∙◌, ap, arith, eq-eqb, add-zero}
-use Rattle.std.proofs.lemmas.Bool.{ne_eqb, cases_eq}
-use Rattle.std.proofs.lemmas.Bool.Decides.{nat_tests}
-use Rattle.std.proofs.lemmas.List.{length-append, get_or-set_same, get_or-set_other}
-use Rattle.entry_format.specs.declared.deed.Deed.{Deed}
-use Rattle.election_script.specs.Generated.{session_booth, deeds_of, actions_of, first_number}
+use Rattle.std.proofs.Common.{◌==◌, cond}
+use Rattle.election_script.proofs.Imports.{◌≡◌, inl, inr, ℕ, zero, suc, ◌+◌, ◌-◌, ◌*◌, ◌%◌, ◌<◌, ◌≤◌, Bool, true}
+use Rattle.election_script.proofs.Imports.{false, List, [], ◌∷◌, length, get_or, set, refl, sym, ◌∙◌, ap, arith}
+use Rattle.election_script.proofs.Imports.{add-zero, ne_eqb, cases_eq, nat_tests, get_or-set_same, get_or-set_other}
+use Rattle.election_script.proofs.Imports.{Deed, session_booth, deeds_of, actions_of, first_number}
+use Rattle.std.proofs.Common.{eq-eqb}
+use Rattle.std.proofs.lemmas.List.{length-append}
 use Rattle.election_script.proofs.DaySessions.{actions_own, actions_other}
 
 -- two lists of at most three

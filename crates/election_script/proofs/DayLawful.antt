@@ -1,28 +1,18 @@
 -- The script of a day is within its limits.
-use Rattle.std.proofs.Common.{◌≡◌, ◌≢◌, inl, inr, ℕ, zero, suc, ◌+◌, ◌-◌, ◌*◌, ◌%◌, ◌<◌, ◌≤◌, ◌==◌, Bool, true, false}
-use Rattle.std.proofs.Common.{cond, List, [], ◌∷◌, ◌++◌, length, map, reverse, replicate, get_or}
-use Rattle.std.proofs.Common.{refl, sym, ◌∙◌, ap, arith, subst, add-zero}
-use Rattle.std.proofs.lemmas.List.{length-append, length-map, reverse-append}
-use Rattle.std.proofs.lemmas.List.FromFn.{length-range_with_len, get_or-range_with_len}
-use Rattle.std.proofs.lemmas.List.Elements.{All-nil, All-cons, All-append, All-map, All-filter}
-use Rattle.std.proofs.lemmas.List.Kept.{AllPairs-cons}
-use Rattle.std.proofs.Math.Nat.{mul-suc}
-use Rattle.std.specs.Prelude.{All, AllPairs, codes}
-use Rattle.std.specs.List.{flat_map, concat, range_with_len}
-use Rattle.std.specs.Int.{byte_at}
-use Rattle.hex.specs.Hex.{IsBytes}
-use Rattle.entry_format.specs.declared.deed.Deed.{Deed}
-use Rattle.entry_format.specs.declared.deed.Deed.TheVariants.{Opened, Closed, Activate, Commit, Cast, Cancel}
-use Rattle.entry_format.specs.Deeds.{IsDeedOf}
-use Rattle.entry_format.specs.EntryText.{IsDigest, IsDeedIn}
-use Rattle.lms_ots.specs.Ots.{u32str}
-use Rattle.roster.specs.declared.post.Role.{Role}
-use Rattle.roster.specs.declared.post.Role.TheVariants.{Supervisor, Booth}
-use Rattle.roster.specs.Machines.{IsName, IsNameByte}
-use Rattle.election_script.specs.declared.script.Cast0.{Cast0}
-use Rattle.election_script.specs.Lawful.{AreCast, IsCast, IsBoothAt, IsDeedAmong, IsSession, max_actions}
-use Rattle.election_script.specs.Generated.{sessions, session_booth, session_ballot, deeds_of, authorise_of}
-use Rattle.election_script.specs.Generated.{supervisor_actions, actions_of, machines_of, count_actions}
+use Rattle.std.proofs.Common.{◌==◌}
+use Rattle.std.proofs.Common.{cond}
+use Rattle.election_script.proofs.Imports.{◌≡◌, ◌≢◌, inl, inr, ℕ, zero, suc, ◌+◌, ◌-◌, ◌*◌, ◌%◌, ◌<◌, ◌≤◌, Bool, true}
+use Rattle.election_script.proofs.Imports.{false, List, [], ◌∷◌, ◌++◌, length, map, reverse, replicate, get_or, refl}
+use Rattle.election_script.proofs.Imports.{sym, ◌∙◌, ap, arith, subst, add-zero, length-map, reverse-append}
+use Rattle.election_script.proofs.Imports.{length-range_with_len, get_or-range_with_len, All-nil, All-cons}
+use Rattle.election_script.proofs.Imports.{All-append, All-map, All-filter, AllPairs-cons, mul-suc, All, AllPairs}
+use Rattle.election_script.proofs.Imports.{codes, flat_map, concat, range_with_len, byte_at, IsBytes, Deed, Opened}
+use Rattle.election_script.proofs.Imports.{Closed, Activate, Commit, Cast, Cancel, IsDeedOf, IsDigest, IsDeedIn}
+use Rattle.election_script.proofs.Imports.{u32str, Role, Supervisor, Booth, IsName, IsNameByte, Cast0, AreCast}
+use Rattle.election_script.proofs.Imports.{IsCast, IsBoothAt, IsDeedAmong, IsSession, max_actions, sessions}
+use Rattle.election_script.proofs.Imports.{session_booth, session_ballot, deeds_of, authorise_of, supervisor_actions}
+use Rattle.election_script.proofs.Imports.{actions_of, machines_of, count_actions}
+use Rattle.std.proofs.lemmas.List.{length-append}
 use Rattle.election_script.proofs.DayCounts.{booths_few}
 
 -- each number of a range
@@ -50,7 +40,7 @@ all_back P (x ∷ xs) h =
     (All-append P (reverse xs) (x ∷ []) (all_back P xs (λ k d g. h (suc k) d (omega arith)))
     (All-cons P x [] (h 0 x (omega arith)) (All-nil P)))
 
--- pieces of at most so many items
+-- pieces of at most this many items
 pub pieces_few : {X A : Type 0} (f : X → List A) (most : ℕ) (xs : List X) → All (λ x. length (f x) ≤ most) xs
     → length (flat_map f xs) ≤ most * length xs
 pieces_few f most [] h = omega arith
@@ -77,7 +67,7 @@ octets_of n =
     (All-cons P (byte_at 1 n) (byte_at 0 n ∷ []) (byte_small 1 n)
     (All-cons P (byte_at 0 n) [] (byte_small 0 n) (All-nil P))))
 
--- octets whichever way they are told
+-- octets whichever way they are given
 bytes_from_all : (bytes : List ℕ) → All (λ byte. byte < 256) bytes → IsBytes bytes
 bytes_from_all [] h i = omega arith
 bytes_from_all (byte ∷ bytes) h zero = h 0 byte (omega arith)

@@ -1,17 +1,9 @@
 -- The script of a day is lawful.
-use Rattle.std.proofs.Common.{◌≡◌, ◌≢◌, inl, inr, ℕ, zero, suc, ◌+◌, ◌<◌, ◌≤◌, List, [], ◌∷◌, refl, arith}
-use Rattle.std.proofs.lemmas.List.Elements.{All-nil}
-use Rattle.hex.specs.Hex.{IsBytes}
-use Rattle.entry_order.specs.declared.step.Step.{Step}
-use Rattle.lms_ots.specs.declared.kind.OtsKind.TheVariants.{W4}
-use Rattle.election_script.specs.declared.script.Cast0.{Cast0}
-use Rattle.election_script.specs.declared.script.Lose.{Lose}
-use Rattle.election_script.specs.declared.script.StopAt.{StopAt}
-use Rattle.election_script.specs.Lawful.{IsLawful, IsLose, IsStopAt}
-use Rattle.election_script.specs.Generated.{machines_of, day_steps, count_actions, generated}
+use Rattle.election_script.proofs.Imports.{◌≡◌, ◌≢◌, inl, inr, ℕ, zero, suc, ◌+◌, ◌<◌, ◌≤◌, List, [], ◌∷◌, refl}
+use Rattle.election_script.proofs.Imports.{arith, All-nil, IsBytes, Step, W4, Cast0, Lose, StopAt, IsLawful, IsLose}
+use Rattle.election_script.proofs.Imports.{IsStopAt, machines_of, day_steps, count_actions, generated, codes}
 use Rattle.election_script.proofs.DayLawful.{machines_lawful, count_few, count_is, no_pairs}
 use Rattle.election_script.proofs.DaySteps.{day_lawful, day_few}
-use Rattle.std.specs.Prelude.{codes}
 
 -- one octet more
 octet_more : (octet : ℕ) (octets : List ℕ) → octet < 256 → IsBytes octets → IsBytes (octet ∷ octets)

@@ -1,20 +1,15 @@
 -- One session more of a day.
-use Rattle.std.proofs.Common.{◌≡◌, ℕ, ◌+◌, ◌-◌, ◌<◌, ◌≤◌, ◌==◌, Bool, true, false, cond, List, [], ◌∷◌, ◌++◌}
-use Rattle.std.proofs.Common.{length, filter, map, reverse, replicate, get_or, take, drop, suc, refl, sym, ◌∙◌, ap}
-use Rattle.std.proofs.Common.{arith}
-use Rattle.std.proofs.lemmas.List.{append_assoc, append-nil, map-append, reverse-append, replicate-append-replicate}
-use Rattle.std.proofs.lemmas.List.{length-append, take-append-drop, drop_more}
-use Rattle.std.proofs.lemmas.List.Folds.{concat-append}
-use Rattle.std.proofs.lemmas.List.Concat.{flat_map-append}
-use Rattle.std.proofs.lemmas.List.Elements.{filter-append}
-use Rattle.std.specs.List.{flat_map, concat, range_with_len}
-use Rattle.entry_format.specs.declared.deed.Deed.{Deed}
-use Rattle.lms_ots.proofs.Pieces.{range_with_len_next}
-use Rattle.election_script.specs.Generated.{supervisor, session_booth, deeds_of, actions_of, first_number}
-use Rattle.election_script.specs.Generated.{count_actions, hears, supervisor_steps, others, session_steps}
-use Rattle.entry_order.specs.declared.step.Step.{Step}
-use Rattle.entry_order.specs.declared.step.Step.TheVariants.{Act}
-use Rattle.election_script.specs.declared.script.Cast0.{Cast0}
+use Rattle.std.proofs.Common.{◌==◌, cond}
+use Rattle.std.proofs.Common.{filter}
+use Rattle.election_script.proofs.Imports.{◌≡◌, ℕ, ◌+◌, ◌-◌, ◌<◌, ◌≤◌, Bool, true, false, List, [], ◌∷◌, ◌++◌, length}
+use Rattle.election_script.proofs.Imports.{map, reverse, replicate, get_or, take, drop, suc, refl, sym, ◌∙◌, ap}
+use Rattle.election_script.proofs.Imports.{arith, append-nil, map-append, reverse-append, replicate-append-replicate}
+use Rattle.election_script.proofs.Imports.{take-append-drop, drop_more, concat-append, flat_map-append, filter-append}
+use Rattle.election_script.proofs.Imports.{flat_map, concat, range_with_len, Deed, range_with_len_next, supervisor}
+use Rattle.election_script.proofs.Imports.{session_booth, deeds_of, actions_of, first_number, count_actions, hears}
+use Rattle.election_script.proofs.Imports.{supervisor_steps, others, session_steps, Step, Act, Cast0}
+use Rattle.std.proofs.lemmas.List.{append_assoc}
+use Rattle.std.proofs.lemmas.List.{length-append}
 
 -- numbers from one on, with one more
 pub range_more : (a i : ℕ) → a ≤ i → range_with_len a (i + 1 - a) ≡ range_with_len a (i - a) ++ i ∷ []
@@ -32,7 +27,7 @@ range_less number end h g =
     let at : number - 1 + 1 ≡ number = omega arith in
     ap (range_with_len (number - 1)) more ∙ ap (λ k. (number - 1) ∷ range_with_len k (end - number)) at
 
--- a list that goes on behind a start, with one piece more
+-- a list that goes on after a start, with one piece more
 pub joined_more : {A : Type 0} (start old now tail piece tail_now : List A) → old ≡ start ++ tail → now ≡ old ++ piece
     → tail_now ≡ tail ++ piece → now ≡ start ++ tail_now
 joined_more start old now tail piece tail_now e f g =
@@ -43,7 +38,7 @@ pub each_more : {A : Type 0} (f : ℕ → A) (a i : ℕ) → a ≤ i
     → map f (range_with_len a (i + 1 - a)) ≡ map f (range_with_len a (i - a)) ++ f i ∷ []
 each_more f a i h = ap (map f) (range_more a i h) ∙ map-append f (range_with_len a (i - a)) (i ∷ [])
 
--- the same from the last number on
+-- what a function makes of the numbers taken backwards, with one more number below them
 pub each_back : {A : Type 0} (f : ℕ → A) (number end : ℕ) → 1 ≤ number → number ≤ end
     → map f (reverse (range_with_len (number - 1) (end - (number - 1))))
     ≡ map f (reverse (range_with_len number (end - number))) ++ f (number - 1) ∷ []
@@ -77,7 +72,7 @@ count_within machines k cast h is =
     length-append front (cast.actions ++ back) ∙ ap (λ n. length front + n) (length-append cast.actions back) in
     omega (arith, all ∙ long)
 
--- what stands for the numbers with one more
+-- what represents the numbers with one more
 pub pieces_more : {A : Type 0} (f : ℕ → List A) (a i : ℕ) → a ≤ i
     → flat_map f (range_with_len a (i + 1 - a)) ≡ flat_map f (range_with_len a (i - a)) ++ f i
 pieces_more f a i h =
@@ -120,7 +115,7 @@ pub actions_other : (booth i : ℕ) → 1 ≤ i → (session_booth i == booth) �
 unfolding actions_of
 actions_other booth i h other = kept_none deeds_of (λ i. session_booth i == booth) 1 i h other
 
--- four pieces behind a start
+-- four pieces after a start
 four_joined : {A : Type 0} (start a b c d w x y z : List A) → a ≡ start ++ w → b ≡ a ++ x → c ≡ b ++ y → d ≡ c ++ z
     → d ≡ start ++ (w ++ x ++ y ++ z)
 four_joined start a b c d w x y z e f g h =

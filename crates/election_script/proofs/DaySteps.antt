@@ -1,17 +1,14 @@
 -- The steps of a day are within their limits.
-use Rattle.std.proofs.Common.{◌≡◌, ℕ, suc, ◌+◌, ◌*◌, ◌<◌, ◌≤◌, Bool, true, false, cond, not, ◌==◌}
-use Rattle.std.proofs.Common.{List, [], ◌∷◌, ◌++◌, length, map, filter, reverse, replicate, ◌∙◌, ap, arith}
-use Rattle.std.proofs.lemmas.List.{length-append, length-map, length-replicate, length-reverse}
-use Rattle.std.proofs.lemmas.List.FromFn.{length-range_with_len}
-use Rattle.std.proofs.lemmas.List.Elements.{All-nil, All-cons, All-append, All-map, All-filter, All-replicate}
-use Rattle.std.specs.Prelude.{All}
-use Rattle.std.specs.List.{flat_map}
-use Rattle.entry_order.specs.declared.step.Step.{Step}
-use Rattle.entry_order.specs.declared.step.Step.TheVariants.{Act, Hear}
-use Rattle.election_script.specs.Lawful.{IsStep, max_steps}
-use Rattle.election_script.specs.Generated.{sessions, supervisor, booths, session_booth, deeds_of, first_number}
-use Rattle.election_script.specs.Generated.{numbers_of, hears}
-use Rattle.election_script.specs.Generated.{supervisor_steps, others, session_steps, day_steps, machines_of}
+use Rattle.std.proofs.Common.{cond, not, ◌==◌}
+use Rattle.std.proofs.Common.{filter}
+use Rattle.std.proofs.lemmas.List.{length-append}
+use Rattle.election_script.proofs.Imports.{◌≡◌, ℕ, suc, ◌+◌, ◌*◌, ◌<◌, ◌≤◌, Bool, true, false, List, [], ◌∷◌, ◌++◌}
+use Rattle.election_script.proofs.Imports.{length, map, reverse, replicate, ◌∙◌, ap, arith, length-map}
+use Rattle.election_script.proofs.Imports.{length-replicate, length-reverse, length-range_with_len, All-nil, All-cons}
+use Rattle.election_script.proofs.Imports.{All-append, All-map, All-filter, All-replicate, All, flat_map, Step, Act}
+use Rattle.election_script.proofs.Imports.{Hear, IsStep, max_steps, sessions, supervisor, booths, session_booth}
+use Rattle.election_script.proofs.Imports.{deeds_of, first_number, numbers_of, hears, supervisor_steps, others}
+use Rattle.election_script.proofs.Imports.{session_steps, day_steps, machines_of}
 use Rattle.election_script.proofs.DayCounts.{deeds_few, first_few}
 use Rattle.election_script.proofs.DayLawful.{all_range, all_sessions, all_pieces, all_back, pieces_few}
 

@@ -1,19 +1,9 @@
 -- What a word names in the tables of roles, ways to override, kinds of key and heights.
-use Rattle.std.proofs.Common.{◌≡◌, ◌≢◌, ◌∙◌, sym, ap, subst, refl, ℕ, Bool, true, false, List, [], ◌∷◌, inl, inr}
-use Rattle.std.proofs.Common.{Some, None, map}
-use Rattle.std.specs.Str.{bytes_eq}
-use Rattle.std.proofs.lemmas.Slice.Eq.{bytes_eq-Decides}
-use Rattle.entry_format.specs.EntryText.{how_word}
-use Rattle.entry_format.specs.declared.deed.How.{How}
+use Rattle.election_script.proofs.Imports.{◌≡◌, ◌≢◌, ◌∙◌, sym, ap, subst, refl, ℕ, Bool, true, false, List, [], ◌∷◌}
+use Rattle.election_script.proofs.Imports.{inl, inr, Some, None, map, bytes_eq, bytes_eq-Decides, how_word, How}
+use Rattle.election_script.proofs.Imports.{OtsKind, W1, W2, W4, W8, ots_word, IsHeight, height_word, Role, Supervisor}
+use Rattle.election_script.proofs.Imports.{Booth, role_word, named, role_names, how_names, key_kinds, key_heights}
 use Rattle.entry_format.specs.declared.deed.How.TheVariants as how
-use Rattle.lms_ots.specs.declared.kind.OtsKind.{OtsKind}
-use Rattle.lms_ots.specs.declared.kind.OtsKind.TheVariants.{W1, W2, W4, W8}
-use Rattle.lms_ots.specs.Words.{ots_word}
-use Rattle.lms_sign.specs.Height.{IsHeight, height_word}
-use Rattle.roster.specs.declared.post.Role.{Role}
-use Rattle.roster.specs.declared.post.Role.TheVariants.{Supervisor, Booth}
-use Rattle.roster.specs.RosterText.{role_word}
-use Rattle.election_script.specs.Kinds.{named, role_names, how_names, key_kinds, key_heights}
 
 -- a word that names something isn't unknown
 pub known : {A : Type 0} (rows : List (List ℕ × A)) (word own : List ℕ) (a : A) → word ≡ own
@@ -46,7 +36,7 @@ some_role Booth = refl
 pub no_role : (word : List ℕ) → ((role : Role) → word ≢ role_word role) → named role_names word ≡ None
 no_role word none = no_word role_word word none (Supervisor ∷ Booth ∷ [])
 
--- so it is with the word of how a session is overridden
+-- the word of how a session is overridden names it
 pub some_how : (how : How) → named how_names (how_word how) ≡ Some how
 some_how how.Cancel = refl
 some_how how.Cast = refl
@@ -57,14 +47,12 @@ no_how word none = no_word how_word word none (how.Cancel ∷ how.Cast ∷ [])
 -- with that of a kind of key
 pub some_kind : (kind : OtsKind) → named key_kinds (ots_word kind) ≡ Some kind
 some_kind W1 = refl
-some_kind W2 = refl
-some_kind W4 = refl
-some_kind W8 = refl
+some_kind kind = refl
 
 pub no_kind : (word : List ℕ) → ((kind : OtsKind) → word ≢ ots_word kind) → named key_kinds word ≡ None
 no_kind word none = no_word ots_word word none (W1 ∷ W2 ∷ W4 ∷ W8 ∷ [])
 
--- and with that of a height
+-- the word of a height of keys names it
 pub some_height : (height : ℕ) → IsHeight height → named key_heights (height_word height) ≡ Some height
 some_height height (inl is) = subst (λ h. named key_heights (height_word h) ≡ Some h) (sym is) refl
 some_height height (inr is) = subst (λ h. named key_heights (height_word h) ≡ Some h) (sym is) refl

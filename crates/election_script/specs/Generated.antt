@@ -16,10 +16,11 @@ use Rattle.election_script.specs.declared.script.Script.{Script}
 abbrev pub sessions : ℕ → List ℕ
 sessions n = range_with_len 1 n
 
--- the places of the machines: a supervisor and three booths
+-- the place of the supervisor among the machines, which are a supervisor and three booths
 abbrev pub supervisor : ℕ
 supervisor = 0
 
+-- the places of the three booths
 abbrev pub booths : List ℕ
 booths = 1 ∷ 2 ∷ 3 ∷ []
 
@@ -37,6 +38,7 @@ deeds_of i = if i % 10 == 0
     then Activate i ∷ Cancel i ∷ []
     else Activate i ∷ Commit i (session_ballot i) ∷ Cast i (session_ballot i) ∷ []
 
+-- the deed that authorises session i at its booth
 abbrev pub authorise_of : ℕ → Deed
 authorise_of i = Authorise (session_booth i) i
 

@@ -192,7 +192,7 @@ fn push_supervisor(steps: &mut Vec<Step>, number: u32) -> Result<(), Memory>
     Ok(())
 }
 
-/// Appends that a machine acts so many times.
+/// Appends that a machine acts this many times.
 fn push_acts(steps: &mut Vec<Step>, machine: u32, count: u32) -> Result<(), Memory>
     ensures { OnOk result
         (steps.new.items ≡ steps.old.items ++ replicate count (Act machine)) }

@@ -65,7 +65,7 @@ const MOST_SESSIONS: &str = "2 log 3122
 /// How many sessions a day has, how many bytes its text, and some of its lines.
 const DAYS: &[(u32, usize, &str)] = &[(10, 4683, TEN_SESSIONS), (800, 374_792, MOST_SESSIONS)];
 
-/// The text of a day of so many sessions.
+/// The text of a day of this many sessions.
 fn text_of_day(alloc: Global, sessions: u32) -> Result<Vec<u8>, Fail> {
     if sessions < 1 || sessions > 800 {
         return Err(Fail::from("a day has 1 to 800 sessions"));
@@ -95,13 +95,13 @@ fn has_each(lines: &[&str], rows: &str) -> bool {
     true
 }
 
-/// Whether the text has so many bytes, and each of the rows' lines at its number.
+/// Whether the text has this many bytes, and each of the rows' lines at its number.
 fn has_lines(alloc: Global, text: &[u8], bytes: usize, rows: &str) -> Result<bool, Fail> {
     let lines: Vec<&str> = std::str::from_utf8(text)?.lines().collect(alloc)?;
     Ok(text.len() == bytes && has_each(lines.as_slice(), rows))
 }
 
-/// Whether the text of a day of so many sessions has so many bytes and these lines.
+/// Whether the text of a day of this many sessions has this many bytes and these lines.
 fn is_day(alloc: Global, sessions: u32, bytes: usize, rows: &str) -> Result<bool, Fail> {
     let text = text_of_day(alloc, sessions)?;
     has_lines(alloc, text.as_slice(), bytes, rows)

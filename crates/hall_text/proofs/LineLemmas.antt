@@ -15,9 +15,9 @@ module _ (text : List ℕ) where
   pub record IsOpen (start at : ℕ) : Type 0 where
     -- the line begins no later than the place
     pub order : start ≤ at
-    -- it begins behind a newline, or at the text's beginning
+    -- it begins after a newline, or at the text's beginning
     pub begins : 0 < start → get_or text (start - 1) 0 ≡ 10
-    -- no newline stands in it up to the place
+    -- no newline is in it up to the place
     pub none : (i : ℕ) → start ≤ i → i < at → get_or text i 0 ≢ 10
 
   -- at the text's beginning a line begins
@@ -38,7 +38,7 @@ module _ (text : List ℕ) where
         (cases_lt i at);
   }
 
-  -- behind a newline another line begins
+  -- after a newline another line begins
   pub open_behind : (at : ℕ) → get_or text at 0 ≡ 10 → IsOpen (at + 1) (at + 1)
   open_behind at newline = record {
     order = omega arith;
@@ -46,7 +46,7 @@ module _ (text : List ℕ) where
     none = λ i a b. absurd (omega arith);
   }
 
-  -- a line that begins before `at` and not before `start` begins at `start`, since no newline stands between
+  -- a line that begins before `at` and not before `start` begins at `start`, since no newline is between
   begins_there : (start at : ℕ) (s : Span) → IsOpen start at → IsLine text s → start ≤ s.start → s.start ≤ at
       → s.start ≡ start
   begins_there start at s o line from to =
@@ -118,7 +118,7 @@ module _ (text : List ℕ) where
             (is_line, (let order : start ≤ at = o.order in omega arith))) is),
       ))
 
-  -- at the end no line begins behind the last newline, or the rest is one
+  -- at the end no line begins after the last newline, or the rest is one
   pub all_lines : (spans : List Span) (start : ℕ) → AreAll (IsLineBefore start) spans → IsOpen start (length text)
       → length text ≤ start → AreAll (IsLine text) spans
   all_lines spans start all o none =

@@ -7,7 +7,7 @@ use Rattle.std.proofs.lemmas.List.Elements.{Contains-append_right, Contains-appe
 use Rattle.hall_text.specs.declared.spans.Span.{Span}
 use Rattle.hall_text.specs.Spans.{AreAll}
 
--- one span stands before another
+-- one span is before another
 abbrev pub StandsBefore : Span → Span → Type 0
 StandsBefore a b = a.start < b.start
 

@@ -6,7 +6,7 @@ use Rattle.std.proofs.lemmas.List.Elements.{Contains-push, Contains-push_cases, 
 use Rattle.hall_text.specs.declared.spans.Span.{Span}
 use Rattle.hall_text.specs.Spans.{AreAll}
 
--- the same spans by another description
+-- spans that have one description have every equivalent description
 pub same_spans : (P Q : Span → Type 0) (spans : List Span) → ((s : Span) → P s ↔ Q s) → AreAll P spans → AreAll Q spans
 same_spans P Q spans same all = record {
   ordered = all.ordered;
@@ -16,7 +16,7 @@ same_spans P Q spans same all = record {
   );
 }
 
--- one span more, behind all others
+-- one span more, after all others
 pub one_span_more : (P Q : Span → Type 0) (spans : List Span) (new : Span) → AreAll P spans
     → ((s : Span) → P s → s.start < new.start) → ((s : Span) → Q s ↔ (P s ⊎ (new ≡ s))) → AreAll Q (spans ++ new ∷ [])
 one_span_more P Q spans new all later same = record {

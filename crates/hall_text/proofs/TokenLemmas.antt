@@ -101,12 +101,12 @@ module _ (text : List ℕ) where
       ))
       all
     where
-      -- where a token stands, its first byte begins one
+      -- where a token is, its first byte begins one
       begins : (s : Span) → IsToken text s → BeginsToken text s.start
       begins s token = ⊎_elim (λ (w : IsWord text s). inl (w.bytes s.start (omega arith) w.some))
           (λ (a : IsAlone text s). inr a.byte) token
 
-  -- behind a token, and behind a byte of none, no word goes on
+  -- after a token, and after a byte of none, no word continues
   pub between_behind : (at end : ℕ) → at < end → IsToken text (record { start = at; end = end }) → CutsNoWord text end
   between_behind at end some token positive within byte =
       let new : Span = record { start = at; end = end } in
@@ -114,7 +114,7 @@ module _ (text : List ℕ) where
       (λ (a : IsAlone text new). let one : end ≡ at + 1 = a.one in let before : end - 1 ≡ at = omega arith in
       λ word. no_word_byte (get_or text at 0) (subst (λ k. IsWordByte (get_or text k 0)) before word) a.byte) token
 
-  -- behind a byte that begins no token no word goes on
+  -- after a byte that begins no token no word continues
   pub between_none : (at : ℕ) → ¬ (BeginsToken text at) → CutsNoWord text (at + 1)
   between_none at none positive within byte word = let before : at + 1 - 1 ≡ at = omega arith in
       none (inl (subst (λ k. IsWordByte (get_or text k 0)) before word))

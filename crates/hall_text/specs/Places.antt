@@ -1,4 +1,4 @@
--- Places of a text at which the reader of tokens stands.
+-- Places of a text that the reader of tokens reaches.
 use Rattle.std.specs.Prelude.{◌⊎◌, ℕ, ◌-◌, ◌<◌, List, length, slice_index}
 use Rattle.hall_text.specs.Spans.{IsWordByte, IsParenthesis}
 
@@ -7,6 +7,6 @@ abbrev pub CutsNoWord : List ℕ → ℕ → Type 0
 CutsNoWord text at = 0 < at → at < length text → IsWordByte (slice_index text at) →
     ¬ (IsWordByte (slice_index text (at - 1)))
 
--- a byte stands there with which a token begins
+-- the byte there begins a token
 abbrev pub BeginsToken : List ℕ → ℕ → Type 0
 BeginsToken text at = IsWordByte (slice_index text at) ⊎ IsParenthesis (slice_index text at)

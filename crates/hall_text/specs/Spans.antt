@@ -1,4 +1,4 @@
--- Where the tokens and the lines of a text stand.
+-- Where the tokens and the lines of a text are.
 use Rattle.std.specs.Prelude.{◌≡◌, ◌≢◌, ◌↔◌, ◌⊎◌, ℕ, ◌+◌, ◌-◌, ◌<◌, ◌≤◌, List, length, take, drop, slice_index}
 use Rattle.std.specs.Prelude.{Contains, AllPairs}
 use Rattle.hall_text.specs.declared.spans.Span.{Span}
@@ -33,7 +33,7 @@ pub record IsAlone (text : List ℕ) (span : Span) : Type 0 where
 abbrev pub IsToken : List ℕ → Span → Type 0
 IsToken text span = IsWord text span ⊎ IsAlone text span
 
--- a line, without its newline: it begins at the text's start or behind a newline, has none, and ends before one; or it
+-- a line, without its newline: it begins at the text's start or after a newline, has none, and ends before one; or it
 -- has some bytes and ends with the text
 pub record IsLine (text : List ℕ) (span : Span) : Type 0 where
   pub order : span.start ≤ span.end

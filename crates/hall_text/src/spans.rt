@@ -1,4 +1,4 @@
-//! Where the tokens and the lines of a text stand.
+//! Where the tokens and the lines of a text are.
 ghost use Rattle.std.specs.Prelude.{◌≡◌, ◌↔◌, ℕ, ◌<◌, ◌≤◌, length, slice_index, IfOk, IsTrue};
 ghost use Rattle.hall_text.specs.Spans.{IsWordByte, IsToken, IsLine, AreAll};
 ghost use Rattle.hall_text.specs.Places.{CutsNoWord, BeginsToken};
@@ -36,7 +36,8 @@ fn word_end(text: &[u8], at: usize) -> usize
     end
 }
 
-/// Where the token that begins at `at` ends, or `at` where none begins there. No word goes on across
+/// Where the token that begins at `at` ends, or `at` where none begins there. No word continues
+/// across `at`.
 /// `at`.
 pub fn token_end(text: &[u8], at: usize) -> usize
     requires within { at < length text.now }
@@ -51,8 +52,8 @@ pub fn token_end(text: &[u8], at: usize) -> usize
     }
 }
 
-/// The tokens of the text: its longest runs of bytes from `!` to `~` without a parenthesis, and each
-/// parenthesis alone.
+/// The tokens of the text: its longest runs of bytes from `!` to `~` without a parenthesis, and
+/// each parenthesis alone.
 pub fn tokens(alloc: Global, text: &[u8]) -> Result<Vec<Span>, Memory>
     ensures { IfOk result (λ spans. AreAll (IsToken text.now) spans.items) }
 {
@@ -70,7 +71,7 @@ pub fn tokens(alloc: Global, text: &[u8]) -> Result<Vec<Span>, Memory>
     Ok(spans)
 }
 
-/// The lines of the text, each without the newline that ends it. Bytes behind the last newline are a
+/// The lines of the text, each without the newline that ends it. Bytes after the last newline are a
 /// line too.
 pub fn lines(alloc: Global, text: &[u8]) -> Result<Vec<Span>, Memory>
     ensures { IfOk result (λ spans. AreAll (IsLine text.now) spans.items) }

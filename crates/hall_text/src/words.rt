@@ -7,8 +7,8 @@ ghost use Rattle.hall_text.specs.Words.{IsDigestText};
 use canonical_sexp::number_of;
 use hex::{FromHex, encode_to_slice};
 
-/// The number that the word is: decimal digits without a leading zero, at most 4,294,967,295. Of any
-/// other word `None`. It takes no memory.
+/// The number that the word is: decimal digits without a leading zero, at most 4,294,967,295. Of
+/// any other word `None`. It takes no memory.
 pub fn decimal(word: &[u8]) -> Option<u32>
     ensures { Finds (λ number. (number < 2 ^ 32) × (word.now ≡ decimal number)) result }
 {

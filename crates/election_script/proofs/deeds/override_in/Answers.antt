@@ -1,8 +1,5 @@
 -- The words are as many as fit, so the causes are those of these words.
-use Rattle.std.proofs.Common.{ℕ, List, sym, subst}
-use Rattle.first_cause.specs.Causes.{IsFirstOf}
-use Rattle.election_script.specs.Faults.{override_causes}
-use Rattle.election_script.specs.inside.Words.{outcome_of}
+use Rattle.election_script.proofs.Imports.{ℕ, List, sym, subst, IsFirstOf, override_causes, outcome_of}
 use Rattle.election_script.proofs.Shapes.{two_words}
 use Rattle.election_script.proofs.deeds.override_in.Goals as goal
 

@@ -1,8 +1,6 @@
 -- The causes of the first words, and then that of the last.
-use Rattle.std.proofs.Common.{inl, inr, refl, [], ◌∷◌}
-use Rattle.roster.specs.declared.post.Role.TheVariants.{Supervisor}
-use Rattle.election_script.specs.Faults.{how_causes, override_causes, role_session_causes}
-use Rattle.election_script.specs.Kinds.{how_names}
+use Rattle.election_script.proofs.Imports.{inl, inr, refl, [], ◌∷◌, Supervisor, how_causes, override_causes}
+use Rattle.election_script.proofs.Imports.{role_session_causes, how_names}
 use Rattle.election_script.proofs.Named.{known, some_how, no_how}
 use Rattle.election_script.proofs.Rows.{then_row, in_row, passed}
 use Rattle.election_script.proofs.deeds.override_of.Goals as goal

@@ -1,5 +1,5 @@
 -- The causes of the name, and then those of the session.
-use Rattle.election_script.specs.Faults.{role_session_causes, role_causes, session_causes}
+use Rattle.election_script.proofs.Imports.{role_session_causes, role_causes, session_causes}
 use Rattle.election_script.proofs.Rows.{then_row, in_row, passed}
 use Rattle.election_script.proofs.deeds.role_session_in.Goals as goal
 

@@ -1,5 +1,5 @@
 -- The causes of the maker, and then those of the number.
-use Rattle.election_script.specs.Faults.{entry_causes, machine_name_causes, number_causes}
+use Rattle.election_script.proofs.Imports.{entry_causes, machine_name_causes, number_causes}
 use Rattle.election_script.proofs.Rows.{then_row, in_row, passed}
 use Rattle.election_script.proofs.lines.entry_in.Goals as goal
 

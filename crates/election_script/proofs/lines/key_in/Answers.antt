@@ -1,11 +1,8 @@
 -- Whether the words name a kind of key and a height.
-use Rattle.std.proofs.Common.{◌≡◌, ◌<◌, ◌≤◌, ℕ, List, Bor, None, length, get_or, sym, subst, refl, inl, inr}
-use Rattle.std.specs.Prelude.{Ok, Err}
-use Rattle.first_cause.specs.Causes.{IsFirstOf}
-use Rattle.election_script.specs.declared.faults.ScriptWhy.TheVariants.{UnknownWord}
-use Rattle.election_script.specs.Faults.{key_causes}
-use Rattle.election_script.specs.Kinds.{named, key_kinds, key_heights}
-use Rattle.election_script.specs.inside.Words.{texts_of}
+use Rattle.std.proofs.Common.{Bor}
+use Rattle.election_script.proofs.Imports.{◌≡◌, ◌<◌, ◌≤◌, ℕ, List, None, length, get_or, sym, subst, refl, inl, inr}
+use Rattle.election_script.proofs.Imports.{Ok, Err, IsFirstOf, UnknownWord, key_causes, named, key_kinds, key_heights}
+use Rattle.election_script.proofs.Imports.{texts_of}
 use Rattle.election_script.proofs.Named.{known, some_kind, no_kind, some_height, no_height}
 use Rattle.election_script.proofs.Shapes.{two_words}
 use Rattle.election_script.proofs.lines.key_in.Goals as goal

@@ -1,6 +1,5 @@
-use Rattle.std.proofs.Common.{◌++◌, eq-eqb, ap, sym, ◌∙◌}
-use Rattle.std.proofs.lemmas.Bool.{ne_eqb}
-use Rattle.election_script.specs.Generated.{session_booth, deeds_of, actions_of}
+use Rattle.std.proofs.Common.{eq-eqb}
+use Rattle.election_script.proofs.Imports.{◌++◌, ap, sym, ◌∙◌, ne_eqb, session_booth, deeds_of, actions_of}
 use Rattle.election_script.proofs.DaySessions.{actions_own, actions_other}
 use Rattle.election_script.proofs.making.actions_of.Goals as goal
 use Rattle.election_script.proofs.making.actions_of.Goals.{then-booth_of-booth+in_ok-push_deeds, else-booth_of-booth}

@@ -1,8 +1,5 @@
-use Rattle.std.proofs.Common.{◌≡◌, ◌+◌, ◌*◌, ◌++◌, length, take, replicate, arith, ap, sym, ◌∙◌}
-use Rattle.std.proofs.lemmas.List.{take_all}
-use Rattle.std.specs.List.{concat}
-use Rattle.lms_ots.specs.Ots.{u32str}
-use Rattle.lms_ots.proofs.Candidates.{length-u32str}
+use Rattle.election_script.proofs.Imports.{◌≡◌, ◌+◌, ◌*◌, ◌++◌, length, take, replicate, arith, ap, sym, ◌∙◌}
+use Rattle.election_script.proofs.Imports.{take_all, concat, u32str, length-u32str}
 use Rattle.election_script.proofs.DaySessions.{copies_more}
 use Rattle.election_script.proofs.making.ballot_of.Goals as goal
 

@@ -1,6 +1,4 @@
-use Rattle.std.proofs.Common.{◌≡◌, ◌*◌, length, take, replicate}
-use Rattle.std.specs.List.{concat}
-use Rattle.lms_ots.specs.Ots.{u32str}
+use Rattle.election_script.proofs.Imports.{◌≡◌, ◌*◌, length, take, replicate, concat, u32str}
 use Rattle.election_script.proofs.making.ballot_of.Given as goal
 
 -- the copies so far

@@ -1,4 +1,4 @@
-use Rattle.std.proofs.Common.{arith, ap, length}
+use Rattle.election_script.proofs.Imports.{arith, ap, length}
 use Rattle.election_script.proofs.DaySessions.{count_within}
 use Rattle.election_script.proofs.making.count_actions.Goals as goal
 
@@ -11,7 +11,7 @@ overflow_cast-count c =
       count_within c.args.machines.now c.loop-cast.cast-index c.cast-item.result c.loop-cast-test.true c.cast-item.is,
     )
 
--- nor do the machines up to one
+-- the actions of the machines up to one are no more than those of all, so counting them does not overflow
 pub overflow_add-count : goal.overflow_add-count
 overflow_add-count c =
     omega (

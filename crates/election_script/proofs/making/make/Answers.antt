@@ -1,6 +1,4 @@
-use Rattle.std.proofs.Common.{◌≤◌, refl, ap, sym, subst, ◌∙◌}
-use Rattle.election_script.specs.Generated.{count_actions}
-use Rattle.election_script.specs.Lawful.{max_actions}
+use Rattle.election_script.proofs.Imports.{◌≤◌, refl, ap, sym, subst, ◌∙◌, count_actions, max_actions}
 use Rattle.election_script.proofs.DayLawful.{count_few}
 use Rattle.election_script.proofs.DayScript.{made_is_lawful}
 use Rattle.election_script.proofs.making.make.Goals as goal

@@ -1,5 +1,4 @@
-use Rattle.std.proofs.Common.{◌≡◌, ◌++◌, replicate}
-use Rattle.entry_order.specs.declared.step.Step.TheVariants.{Act}
+use Rattle.election_script.proofs.Imports.{◌≡◌, ◌++◌, replicate, Act}
 use Rattle.election_script.proofs.making.push_acts.Given as goal
 
 -- the acts so far

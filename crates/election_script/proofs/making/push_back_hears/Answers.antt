@@ -1,7 +1,5 @@
-use Rattle.std.proofs.Common.{◌≡◌, ◌-◌, ◌++◌, ◌∷◌, [], reverse, arith, ap, ◌∙◌}
-use Rattle.std.specs.List.{range_with_len}
-use Rattle.entry_order.specs.declared.step.Step.TheVariants.{Hear}
-use Rattle.election_script.specs.Generated.{supervisor, hears}
+use Rattle.election_script.proofs.Imports.{◌≡◌, ◌-◌, ◌++◌, ◌∷◌, [], reverse, arith, ap, ◌∙◌, range_with_len, Hear}
+use Rattle.election_script.proofs.Imports.{supervisor, hears}
 use Rattle.election_script.proofs.DaySessions.{joined_more, each_back}
 use Rattle.election_script.proofs.making.push_back_hears.Goals as goal
 

@@ -1,6 +1,4 @@
-use Rattle.std.proofs.Common.{◌≡◌, ◌≤◌, ◌-◌, ◌++◌, reverse}
-use Rattle.std.specs.List.{range_with_len}
-use Rattle.election_script.specs.Generated.{supervisor, hears}
+use Rattle.election_script.proofs.Imports.{◌≡◌, ◌≤◌, ◌-◌, ◌++◌, reverse, range_with_len, supervisor, hears}
 use Rattle.election_script.proofs.making.push_back_hears.Given as goal
 
 -- the numbers so far, which are the last

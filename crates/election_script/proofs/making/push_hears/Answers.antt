@@ -1,7 +1,4 @@
-use Rattle.std.proofs.Common.{◌-◌, ◌∷◌, [], arith}
-use Rattle.std.specs.List.{range_with_len}
-use Rattle.entry_order.specs.declared.step.Step.TheVariants.{Hear}
-use Rattle.election_script.specs.Generated.{hears}
+use Rattle.election_script.proofs.Imports.{◌-◌, ◌∷◌, [], arith, range_with_len, Hear, hears}
 use Rattle.election_script.proofs.DaySessions.{joined_more, each_more}
 use Rattle.election_script.proofs.making.push_hears.Goals as goal
 

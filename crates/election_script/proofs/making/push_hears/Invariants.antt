@@ -1,6 +1,4 @@
-use Rattle.std.proofs.Common.{◌≡◌, ◌-◌, ◌++◌}
-use Rattle.std.specs.List.{range_with_len}
-use Rattle.election_script.specs.Generated.{hears}
+use Rattle.election_script.proofs.Imports.{◌≡◌, ◌-◌, ◌++◌, range_with_len, hears}
 use Rattle.election_script.proofs.making.push_hears.Given as goal
 
 -- the numbers so far

@@ -1,8 +1,6 @@
-use Rattle.std.proofs.Common.{◌≡◌, ℕ, ◌-◌, ◌++◌, List, ◌==◌, Bool, not, filter, arith, ap, sym, ◌∙◌, eq-eqb}
-use Rattle.std.proofs.lemmas.Bool.{ne_eqb}
-use Rattle.std.specs.List.{flat_map, range_with_len}
-use Rattle.entry_order.specs.declared.step.Step.{Step}
-use Rattle.election_script.specs.Generated.{hears}
+use Rattle.std.proofs.Common.{◌==◌, not, filter, eq-eqb}
+use Rattle.election_script.proofs.Imports.{◌≡◌, ℕ, ◌-◌, ◌++◌, List, Bool, arith, ap, sym, ◌∙◌, ne_eqb, flat_map}
+use Rattle.election_script.proofs.Imports.{range_with_len, Step, hears}
 use Rattle.election_script.proofs.DaySessions.{joined_more, kept_one, kept_none}
 use Rattle.election_script.proofs.making.push_others.Goals as goal
 use Rattle.election_script.proofs.making.push_others.Goals.{then-at-from+in_ok-push_hears, else-at-from}

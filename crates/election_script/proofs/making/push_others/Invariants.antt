@@ -1,6 +1,5 @@
-use Rattle.std.proofs.Common.{◌≡◌, ◌-◌, ◌++◌, ◌==◌, not, filter}
-use Rattle.std.specs.List.{flat_map, range_with_len}
-use Rattle.election_script.specs.Generated.{hears}
+use Rattle.std.proofs.Common.{◌==◌, not, filter}
+use Rattle.election_script.proofs.Imports.{◌≡◌, ◌-◌, ◌++◌, flat_map, range_with_len, hears}
 use Rattle.election_script.proofs.making.push_others.Given as goal
 
 -- the booths so far

@@ -1,4 +1,4 @@
-use Rattle.std.proofs.Common.{arith}
+use Rattle.election_script.proofs.Imports.{arith}
 use Rattle.election_script.proofs.DaySessions.{session_joined}
 use Rattle.election_script.proofs.DayCounts.{first_few, deeds_few}
 use Rattle.election_script.proofs.making.push_session.Goals as goal

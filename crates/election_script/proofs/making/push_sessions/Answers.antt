@@ -1,7 +1,5 @@
-use Rattle.std.proofs.Common.{◌-◌, ◌%◌, refl, sym, ◌∙◌}
-use Rattle.std.proofs.lemmas.List.{append-nil, length-set}
-use Rattle.std.specs.List.{flat_map}
-use Rattle.election_script.specs.Generated.{session_steps, sessions}
+use Rattle.election_script.proofs.Imports.{◌-◌, ◌%◌, refl, sym, ◌∙◌, append-nil, length-set, flat_map, session_steps}
+use Rattle.election_script.proofs.Imports.{sessions}
 use Rattle.election_script.proofs.DaySessions.{joined_more, pieces_more}
 use Rattle.election_script.proofs.DayCounts.{made_more, none_made}
 use Rattle.election_script.proofs.making.push_sessions.Goals as goal

@@ -1,6 +1,5 @@
-use Rattle.std.proofs.Common.{◌≡◌, ℕ, ◌+◌, ◌-◌, ◌<◌, ◌++◌, get_or, length}
-use Rattle.std.specs.List.{flat_map}
-use Rattle.election_script.specs.Generated.{actions_of, session_steps, sessions}
+use Rattle.election_script.proofs.Imports.{◌≡◌, ℕ, ◌+◌, ◌-◌, ◌<◌, ◌++◌, get_or, length, flat_map, actions_of}
+use Rattle.election_script.proofs.Imports.{session_steps, sessions}
 use Rattle.election_script.proofs.making.push_sessions.Given as goal
 
 -- the steps of the sessions so far, and how many entries each booth has made

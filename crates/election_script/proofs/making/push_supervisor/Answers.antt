@@ -1,8 +1,5 @@
-use Rattle.std.proofs.Common.{◌≡◌, ℕ, ◌-◌, ◌++◌, ◌∷◌, [], List, map, arith, ap, ◌∙◌}
-use Rattle.std.specs.List.{range_with_len}
-use Rattle.entry_order.specs.declared.step.Step.{Step}
-use Rattle.entry_order.specs.declared.step.Step.TheVariants.{Act, Hear}
-use Rattle.election_script.specs.Generated.{supervisor}
+use Rattle.election_script.proofs.Imports.{◌≡◌, ℕ, ◌-◌, ◌++◌, ◌∷◌, [], List, map, arith, ap, ◌∙◌, range_with_len}
+use Rattle.election_script.proofs.Imports.{Step, Act, Hear, supervisor}
 use Rattle.election_script.proofs.DaySessions.{joined_more, each_more}
 use Rattle.election_script.proofs.making.push_supervisor.Goals as goal
 

@@ -1,7 +1,4 @@
-use Rattle.std.proofs.Common.{◌≡◌, ◌-◌, ◌++◌, ◌∷◌, map}
-use Rattle.std.specs.List.{range_with_len}
-use Rattle.entry_order.specs.declared.step.Step.TheVariants.{Act, Hear}
-use Rattle.election_script.specs.Generated.{supervisor}
+use Rattle.election_script.proofs.Imports.{◌≡◌, ◌-◌, ◌++◌, ◌∷◌, map, range_with_len, Act, Hear, supervisor}
 use Rattle.election_script.proofs.making.push_supervisor.Given as goal
 
 -- the booths so far

@@ -1,7 +1,5 @@
-use Rattle.std.proofs.Common.{◌-◌, ◌++◌, ◌∷◌, [], List, map, ap, sym, ◌∙◌}
-use Rattle.entry_format.specs.declared.deed.Deed.{Deed}
-use Rattle.entry_format.specs.declared.deed.Deed.TheVariants.{Opened, Authorise}
-use Rattle.election_script.specs.Generated.{authorise_of, sessions}
+use Rattle.election_script.proofs.Imports.{◌-◌, ◌++◌, ◌∷◌, [], List, map, ap, sym, ◌∙◌, Deed, Opened, Authorise}
+use Rattle.election_script.proofs.Imports.{authorise_of, sessions}
 use Rattle.election_script.proofs.DaySessions.{each_more}
 use Rattle.election_script.proofs.making.supervisor_actions.Goals as goal
 

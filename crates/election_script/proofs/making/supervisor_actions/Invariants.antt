@@ -1,6 +1,4 @@
-use Rattle.std.proofs.Common.{◌≡◌, ◌-◌, ◌∷◌, map}
-use Rattle.entry_format.specs.declared.deed.Deed.TheVariants.{Opened}
-use Rattle.election_script.specs.Generated.{authorise_of, sessions}
+use Rattle.election_script.proofs.Imports.{◌≡◌, ◌-◌, ◌∷◌, map, Opened, authorise_of, sessions}
 use Rattle.election_script.proofs.making.supervisor_actions.Given as goal
 
 -- the opening, and the sessions so far

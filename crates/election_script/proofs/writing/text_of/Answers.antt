@@ -1,15 +1,10 @@
--- The kinds one behind the other.
-use Rattle.std.proofs.Common.{◌≡◌, ◌∙◌, ap, sym, refl, ℕ, List, [], ◌∷◌, ◌++◌, append_assoc, not, ◌==◌}
-use Rattle.std.specs.List.{flat_map}
-use Rattle.std.proofs.lemmas.List.{append-nil}
-use Rattle.std.proofs.lemmas.List.Concat.{flat_map-append}
-use Rattle.election_script.specs.declared.kinds.Kind.{Kind}
+-- The kinds one after the other.
+use Rattle.std.proofs.Common.{append_assoc, not, ◌==◌}
+use Rattle.election_script.proofs.Imports.{◌≡◌, ◌∙◌, ap, sym, refl, ℕ, List, [], ◌∷◌, ◌++◌, flat_map, append-nil}
+use Rattle.election_script.proofs.Imports.{flat_map-append, Kind, lines_of_kind, seed_line, key_line, log_line}
+use Rattle.election_script.proofs.Imports.{link_line, kinds, ended, text_of_lines, deeds_from, Lines}
 use Rattle.election_script.specs.declared.kinds.Kind.TheVariants as kind
-use Rattle.election_script.specs.Grammar.{lines_of_kind, seed_line, key_line, log_line, link_line}
-use Rattle.election_script.specs.Kinds.{kinds}
-use Rattle.election_script.specs.Written.{ended, text_of_lines, deeds_from}
 use Rattle.election_script.proofs.writing.text_of.Goals as goal
-use Rattle.election_script.specs.WordLines.{Lines}
 
 by_kind : (f : Kind → Lines) (ks : List Kind) →
     text_of_lines (flat_map f ks) ≡ flat_map (λ k. text_of_lines (f k)) ks

@@ -28,7 +28,7 @@ loop-at-preserved c =
           }
     ]
 
--- what stands behind the last newline is a line where there is any
+-- what is after the last newline is a line where there is any
 pub returns : goal.returns
 returns c =
     let text : List ℕ = c.args.text.now in

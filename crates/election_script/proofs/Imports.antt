@@ -1,0 +1,125 @@
+-- What the proofs of this crate take from others.
+pub use Rattle.election_script.specs.Before.{ComesAgain, ComesTooEarly, ComesTooLate, HasMachine, HasMachineOf}
+pub use Rattle.election_script.specs.Before.{HasStop, count_of_kind, is_of_kind, is_supervisor_line, of_kind}
+pub use Rattle.election_script.specs.Before.{supervisors, told_by, version_of, version_told, words_of}
+pub use Rattle.election_script.specs.Faults.{Causes, IsFull, IsHex, IsHexOf, IsNumberWithin, IsPlain, IsSeed}
+pub use Rattle.election_script.specs.Faults.{authorise_causes, ballot_causes, ballot_deed_causes, causes_of}
+pub use Rattle.election_script.specs.Faults.{do_causes, ending_causes, entry_causes, hear_causes, how_causes}
+pub use Rattle.election_script.specs.Faults.{key_causes, kind_causes, lose_causes, machine_causes}
+pub use Rattle.election_script.specs.Faults.{machine_name_causes, number_causes, override_causes, own_step_causes}
+pub use Rattle.election_script.specs.Faults.{place_causes, plain_deed_causes, receiver_causes, role_causes}
+pub use Rattle.election_script.specs.Faults.{role_session_causes, seed_causes, session_causes, session_deed_causes}
+pub use Rattle.election_script.specs.Faults.{step_causes, stop_causes, stopper_causes, word_causes, words_causes}
+pub use Rattle.election_script.specs.Generated.{authorise_of, booths, count_actions, day_steps, first_number}
+pub use Rattle.election_script.specs.Generated.{generated, hears, machines_of, numbers_of, others, session_ballot}
+pub use Rattle.election_script.specs.Generated.{session_booth, sessions, supervisor, supervisor_actions}
+pub use Rattle.election_script.specs.Generated.{supervisor_steps}
+unfoldable pub use Rattle.election_script.specs.Generated.{actions_of, deeds_of, session_steps}
+pub use Rattle.election_script.specs.Grammar.{AreDeedsOf, HasLines, IsTextOf, actions_at, deed_words, do_line}
+pub use Rattle.election_script.specs.Grammar.{how_words, is_passed_over, key_line, line_of, lines_of, lines_of_kind}
+pub use Rattle.election_script.specs.Grammar.{link_line, log_line, lose_line, machine_line, name_at, name_of}
+pub use Rattle.election_script.specs.Grammar.{seed_line, step_line, step_words, stop_line, version_line}
+pub use Rattle.election_script.specs.Kinds.{IsNeeded, IsOnce, how_names, key_heights, key_kinds, kinds, line_kinds}
+pub use Rattle.election_script.specs.Kinds.{line_word, named, rank, role_names}
+pub use Rattle.election_script.specs.Lawful.{AreCast, IsBetween, IsBoothAt, IsCast, IsDeedAmong, IsLawful, IsLose}
+pub use Rattle.election_script.specs.Lawful.{IsSession, IsStep, IsStopAt, max_actions, max_events, max_link}
+pub use Rattle.election_script.specs.Lawful.{max_loses, max_steps}
+pub use Rattle.election_script.specs.Reading.{AreGoodBelow, HasNoFault, IsFirstFault, Reads, Tries, line_at}
+pub use Rattle.election_script.specs.WordLines.{Lines}
+pub use Rattle.election_script.specs.Written.{deeds_at, deeds_from, ended, script_text, text_of_lines}
+pub use Rattle.election_script.specs.declared.draft.Line.{Line}
+pub use Rattle.election_script.specs.declared.draft.LineFault.{LineFault}
+pub use Rattle.election_script.specs.declared.draft.LineFault.TheVariants.{Why}
+pub use Rattle.election_script.specs.declared.faults.ScriptFault.{ScriptFault}
+pub use Rattle.election_script.specs.declared.faults.ScriptFault.TheVariants.{At}
+pub use Rattle.election_script.specs.declared.faults.ScriptWhy.{ScriptWhy}
+pub use Rattle.election_script.specs.declared.faults.ScriptWhy.TheVariants.{OutOfRange, UnknownWord, WrongRole}
+pub use Rattle.election_script.specs.declared.kinds.Kind.{Kind}
+pub use Rattle.election_script.specs.declared.script.Cast0.{Cast0}
+pub use Rattle.election_script.specs.declared.script.Lose.{Lose}
+pub use Rattle.election_script.specs.declared.script.Script.{Script}
+pub use Rattle.election_script.specs.declared.script.StopAt.{StopAt}
+pub use Rattle.election_script.specs.declared.sheet.Sheet.{Sheet}
+pub use Rattle.election_script.specs.inside.Clears.{AreClear}
+pub use Rattle.election_script.specs.inside.Draft.{AreMachinesOf, AreStopsOf, HasRoleAt, IsDone, IsNamedAt}
+pub use Rattle.election_script.specs.inside.Lines.{FindsFirst, IsInOrder, kind_of, line_words}
+pub use Rattle.election_script.specs.inside.Sheets.{AreFew, IsFit, IsReached, IsSheet, IsSheetFull, IsWithin, blank}
+pub use Rattle.election_script.specs.inside.Sheets.{is_read, kept, listed, put, script_of, version_in, with_deeds}
+pub use Rattle.election_script.specs.inside.Words.{outcome_of, texts_of}
+pub use Rattle.entry_format.proofs.Taken.{version_small}
+pub use Rattle.entry_format.specs.Deeds.{IsDeedOf}
+pub use Rattle.entry_format.specs.EntryText.{IsDeedIn, IsDigest, IsVersion, how_word}
+pub use Rattle.entry_format.specs.declared.deed.Deed.{Deed}
+pub use Rattle.entry_format.specs.declared.deed.Deed.TheVariants.{Activate, Authorise, Cancel, Cast, Challenge}
+pub use Rattle.entry_format.specs.declared.deed.Deed.TheVariants.{Closed, Commit, Opened, Override}
+pub use Rattle.entry_format.specs.declared.deed.How.{How}
+pub use Rattle.entry_order.proofs.Lists.{Contains-filter, Contains-filter_cases}
+pub use Rattle.entry_order.specs.declared.step.Step.{Step}
+pub use Rattle.entry_order.specs.declared.step.Step.TheVariants.{Act, Hear, Stop}
+pub use Rattle.hall_text.proofs.LineLemmas.{IsLineBefore, IsOpen, all_lines, line_more, none_before_first}
+pub use Rattle.hall_text.proofs.LineLemmas.{open_at_first, open_behind}
+pub use Rattle.hall_text.proofs.OneSpans.{one_all}
+pub use Rattle.hall_text.specs.Spans.{AreAll, IsLine, piece}
+pub use Rattle.hall_text.specs.declared.spans.Span.{Span}
+pub use Rattle.hex.proofs.HexLemmas.{decode_of-encode_lower, decode_of-ok, decode_of-same}
+pub use Rattle.hex.specs.Hex.{IsBytes, decode_of, encode_lower, lower_digits}
+unfoldable pub use Rattle.hex.specs.Hex.{encode_with}
+pub use Rattle.hex.specs.declared.error.FromHexError.{FromHexError}
+pub use Rattle.item_list.proofs.Rows.{one_first}
+pub use Rattle.item_list.specs.Causes.{IsFirstOf}
+pub use Rattle.lms_ots.proofs.Candidates.{length-u32str}
+pub use Rattle.lms_ots.proofs.Pieces.{range_with_len_next}
+unfoldable pub use Rattle.lms_ots.specs.Ots.{u32str}
+pub use Rattle.lms_ots.specs.Words.{ots_word}
+pub use Rattle.lms_ots.specs.declared.kind.OtsKind.{OtsKind}
+pub use Rattle.lms_ots.specs.declared.kind.OtsKind.TheVariants.{W1, W2, W4, W8}
+pub use Rattle.lms_sign.specs.Height.{IsHeight, height_word}
+pub use Rattle.roster.proofs.Raws.{name_is_text}
+pub use Rattle.roster.proofs.Trees.{one_role}
+pub use Rattle.roster.specs.Machines.{IsName, IsNameByte, is_supervisor, max_machines}
+pub use Rattle.roster.specs.RosterText.{role_word}
+pub use Rattle.roster.specs.declared.post.Role.{Role}
+pub use Rattle.roster.specs.declared.post.Role.TheVariants.{Booth, Supervisor}
+pub use Rattle.std.proofs.Common.{Bool, List, None, Option, Some, [], add-zero, ap, arith, drop, eqb, false, get_or}
+pub use Rattle.std.proofs.Common.{inl, inr, length, length-drop, map, refl, replicate, reverse, rules, set, subst}
+pub use Rattle.std.proofs.Common.{suc, sym, take, tests, true, zero, ℕ, ⊎_elim, ◌%◌, ◌*◌, ◌++◌, ◌+◌, ◌-◌, ◌/◌, ◌<◌}
+pub use Rattle.std.proofs.Common.{◌^◌, ◌↔◌, ◌∙◌, ◌∷◌, ◌≡◌, ◌≢◌, ◌≤◌, ◌⊎◌}
+pub use Rattle.std.proofs.Math.Nat.{mul-suc}
+pub use Rattle.std.proofs.Math.Seq.{get_or-append_seam}
+pub use Rattle.std.proofs.lemmas.Bool.{agree_below_at, and_from, and_parts, cases_Bool, cases_eq, cases_lt}
+pub use Rattle.std.proofs.lemmas.Bool.{cond-false, cond-true, false_from_ne_true, false≢true, lt-ltb}
+pub use Rattle.std.proofs.lemmas.Bool.{ltb-true, ne_eqb}
+pub use Rattle.std.proofs.lemmas.Bool.Decides.{Decides-eqb, nat_tests}
+pub use Rattle.std.proofs.lemmas.Fmt.{decimal_by_steps, decimal_digit, decimal_injective}
+pub use Rattle.std.proofs.lemmas.Iterator.Consumers.{map_from_collect}
+pub use Rattle.std.proofs.lemmas.Iterator.Splits.{YieldsList-from_slice_split}
+pub use Rattle.std.proofs.lemmas.List.{append-nil, drop-drop, drop_at, drop_more, get_or-drop, get_or-map}
+pub use Rattle.std.proofs.lemmas.List.{get_or-set_other, get_or-set_same, get_or_append_left, get_or_at}
+pub use Rattle.std.proofs.lemmas.List.{get_or_default, get_or_read, length-map, length-replicate, length-reverse}
+pub use Rattle.std.proofs.lemmas.List.{length-set, length-take-le, length_push, map-append, map_push, nil_from_length}
+pub use Rattle.std.proofs.lemmas.List.{replicate-append-replicate, reverse-append, take-append-drop, take_all}
+pub use Rattle.std.proofs.lemmas.List.{take_at, take_more, take_rest}
+pub use Rattle.std.proofs.lemmas.List.Concat.{flat_map-append, flat_map-cons}
+pub use Rattle.std.proofs.lemmas.List.Elements.{All-append, All-cons, All-filter, All-get_or, All-head, All-map}
+pub use Rattle.std.proofs.lemmas.List.Elements.{All-nil, All-push, All-replicate, All-same, All-tail, All-take}
+pub use Rattle.std.proofs.lemmas.List.Elements.{All-weaker, filter-append}
+pub use Rattle.std.proofs.lemmas.List.Folds.{concat-append, list_all-append}
+pub use Rattle.std.proofs.lemmas.List.FromFn.{get_or-range_with_len, length-range_with_len}
+pub use Rattle.std.proofs.lemmas.List.Kept.{AllPairs-cons}
+pub use Rattle.std.proofs.lemmas.List.Quantifiers.{all_pairs_push}
+pub use Rattle.std.proofs.lemmas.List.Splits.{join_with_byte-slice_split, length-slice_split, slice_split_at}
+pub use Rattle.std.proofs.lemmas.List.Splits.{slice_split_none}
+pub use Rattle.std.proofs.lemmas.List.Sums.{AllPass-from_list_all, count_by-le-length, length-filter}
+pub use Rattle.std.proofs.lemmas.List.Sums.{list_all-from_AllPass, sum_by-cons, sum_by_push}
+pub use Rattle.std.proofs.lemmas.Option.{get_or_from_slice_get, slice_get-get_or, slice_get_cases, slice_get_read}
+pub use Rattle.std.proofs.lemmas.Option.{slice_get_within}
+pub use Rattle.std.proofs.lemmas.Result.{IfOk-weaker, err_from_is_err_and}
+pub use Rattle.std.proofs.lemmas.Slice.Eq.{bytes_eq-Decides}
+pub use Rattle.std.specs.Fmt.{decimal}
+pub use Rattle.std.specs.Int.{byte_at}
+pub use Rattle.std.specs.List.{concat, flat_map, join_with_byte, list_all, range_with_len}
+pub use Rattle.std.specs.Prelude.{All, AllPairs, Any, Contains, Err, Ok, OnOk, Result, codes, count_by, nat_lt}
+pub use Rattle.std.specs.Prelude.{slice_get, slice_index, unwrap_or, ◌&&◌}
+pub use Rattle.std.specs.Result.{IsErrAnd}
+pub use Rattle.std.specs.Str.{bytes_eq}
+pub use borrow.Author.Count.{below_more}
