@@ -67,10 +67,11 @@ pub record FitsState {V B : Type 0} (seats : ℕ → ℕ) (holder : ℕ) (brand 
   pub turn : v.turn ≡ true → KnowsStory holder story items seat v
   pub both : v.both ≡ true → KnowsOther seats brand story seat v
 
--- the step "second pass made": what the first keeps, and what the second gets
+-- the step "second pass made": what the first keeps
 abbrev pub first_pass : {B : Type 0} → PassState B → PassState B
 first_pass v = record v { both = false }
 
+-- the step "second pass made": what the second gets
 abbrev pub second_pass : {B : Type 0} → PassState B → PassState B
 second_pass v = record v { number = 1; both = false; brand = v.other_brand; seen = v.other_seen; mine = v.other_mine }
 

@@ -1,6 +1,7 @@
 //! What each pass of a lock knows, and the steps that change it, for the proofs alone.
 use crate::story::{Story, Tick};
 use crossbeam_queue::protocol::{Join, Lesson, Outcome, Protocol, Split};
+use std::alloc::Global;
 use std::collections::LinkedList;
 
 /// What a pass knows. No value of it is made.
@@ -9,7 +10,8 @@ pub struct PassState<B> {
     pub alive: bool,
     /// Which of the two passes it is.
     pub number: u32,
-    /// Whether it stands for the other number too, before it is cut in two and after both are brought together.
+    /// Whether it is the pass of the other number too, before it is split in two and after both are
+    /// brought together.
     pub both: bool,
     /// Whether it has the turn: the value is out, with this pass.
     pub turn: bool,
@@ -21,19 +23,20 @@ pub struct PassState<B> {
     pub seen: LinkedList<Tick>,
     /// The ticks of this pass, in order.
     pub mine: LinkedList<Tick>,
-    /// The same three of the other number, where it stands for both.
+    /// The same three of the other number, where it is the pass of both.
     pub other_brand: LinkedList<B>,
     pub other_seen: LinkedList<Tick>,
     pub other_mine: LinkedList<Tick>,
 }
 
-/// The rule of a lock: the queue of one place holds the value, or it is empty and one pass has the turn.
+/// The rule of a lock: the queue of one place holds the value, or it is empty and one pass has the
+/// turn.
 pub struct InTurn;
 
-impl<V: Story<B>, B> Protocol<V, PassState<B>> for InTurn {
+impl<V: Story<B>, B> Protocol<Box<V, Global>, PassState<B>> for InTurn {
     ghost use Rattle.log_lock.specs.States.{IsLocked, whole};
 
-    ghost holds = { IsLocked V.brand V.story };
+    ghost holds = { IsLocked (λ b. V.brand b.value) (λ b. V.story b.value) };
 
     ghost first = { whole };
 }
@@ -60,10 +63,10 @@ impl<B> Join<PassState<B>> for Two {
 /// The turn is given up for the first time: the value goes in.
 pub struct Opened;
 
-impl<V: Story<B>, B> Outcome<V, PassState<B>> for Opened {
+impl<V: Story<B>, B> Outcome<Box<V, Global>, PassState<B>> for Opened {
     ghost use Rattle.log_lock.specs.States.{Opens};
 
-    ghost then = { Opens V.brand V.story };
+    ghost then = { Opens (λ b. V.brand b.value) (λ b. V.story b.value) };
 }
 
 impl<V, B> Lesson<V, PassState<B>> for Opened {
@@ -75,10 +78,10 @@ impl<V, B> Lesson<V, PassState<B>> for Opened {
 /// The turn is given up: the value goes back.
 pub struct GaveUp;
 
-impl<V: Story<B>, B> Outcome<V, PassState<B>> for GaveUp {
+impl<V: Story<B>, B> Outcome<Box<V, Global>, PassState<B>> for GaveUp {
     ghost use Rattle.log_lock.specs.States.{GivesUp};
 
-    ghost then = { GivesUp V.brand V.story };
+    ghost then = { GivesUp (λ b. V.brand b.value) (λ b. V.story b.value) };
 }
 
 impl<V, B> Lesson<V, PassState<B>> for GaveUp {
@@ -90,10 +93,10 @@ impl<V, B> Lesson<V, PassState<B>> for GaveUp {
 /// The turn is taken.
 pub struct GotTurn;
 
-impl<V: Story<B>, B> Outcome<V, PassState<B>> for GotTurn {
+impl<V: Story<B>, B> Outcome<Box<V, Global>, PassState<B>> for GotTurn {
     ghost use Rattle.log_lock.specs.States.{HasTurn};
 
-    ghost then = { HasTurn V.brand V.story };
+    ghost then = { HasTurn (λ b. V.brand b.value) (λ b. V.story b.value) };
 }
 
 impl<V, B> Lesson<V, PassState<B>> for GotTurn {

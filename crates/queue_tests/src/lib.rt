@@ -1,4 +1,4 @@
-//! Tests of the public calls of `broadcast_queues` and `log_lock`. They stand in a crate of their
+//! Tests of the public calls of `broadcast_queues` and `log_lock`. They are in a crate of their
 //! own, so that what they test isn't proved once more with them.
 #![tactic(auto)]
 

@@ -6,7 +6,7 @@ use Rattle.crossbeam_queue.specs.declared.array_queue.Doing.{Doing}
 use Rattle.crossbeam_queue.specs.declared.array_queue.Slotted.{Slotted}
 use Rattle.ruled_queues.specs.QueueId.{QueueId, queue_of_pass, id_of}
 
--- a pass that bears a queue's identity is of the queue's own table
+-- a pass that has a queue's identity is of the queue's own table
 pub same_queue : {T V Q A : Type 0} (q : Slotted (Option T) (Doing T V) Q A) (p : Pass T V) → queue_of_pass p ≡ id_of q
     → p.table_id ≡ q.table.shared.table_id
 same_queue q p same = ap (λ (i : QueueId). record {

@@ -1,4 +1,4 @@
--- Which ruled queue a link or a lock stands on, in a record that their contracts can name.
+-- Which ruled queue a link or a lock is built on, in a record that their contracts can name.
 use Rattle.std.specs.Prelude.{ℕ, List, Option}
 use Rattle.crossbeam_queue.specs.Passes.{Pass}
 use Rattle.crossbeam_queue.specs.declared.array_queue.Doing.{Doing}
