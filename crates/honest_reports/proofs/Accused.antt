@@ -1,40 +1,15 @@
 -- A report on what is left of an honest place accuses nobody.
-use Rattle.std.proofs.Common.{◌≡◌, ◌∙◌, ℕ, List, ◌++◌, map, Option, refl, sym, ap, subst}
-use Rattle.std.specs.Prelude.{Ok}
-use Rattle.std.specs.List.{Contains, flat_map, zip}
-use Rattle.std.proofs.lemmas.List.Elements.{All-contains}
-use Rattle.election_script.specs.declared.script.Script.{Script}
-use Rattle.entry_format.specs.Nodes.{node_of_sealed}
-use Rattle.entry_format.specs.SealedEntry.{SealedEntry}
-use Rattle.entry_order.specs.Naming.{Distinct}
-use Rattle.entry_order.specs.World.{World, sent_in}
-use Rattle.entry_graph.specs.EntryGraph.{EntryGraph}
-use Rattle.log_files.specs.declared.sealed_log.LogRead.{LogRead}
-use Rattle.report_lines.specs.Lines.{refused_lines}
-use Rattle.rule_engine.specs.declared.verdict.Verdict.{Verdict}
-use Rattle.rule_language.specs.Trees.{RuleTree}
-use Rattle.roster.specs.declared.post.Post.{Post}
-use Rattle.evidence.specs.declared.roster_file.RosterRead.{RosterRead}
-use Rattle.evidence.specs.Graphs.{GivesGraph, entries_of}
-use Rattle.evidence.specs.Logs.{GivesLogs}
-use Rattle.evidence.specs.RosterFile.{GivesRoster}
-use Rattle.honest_logs.specs.Agreement.{IsHonestGraph}
-use Rattle.honest_logs.specs.HonestReading.{IsHonestlyRead}
-use Rattle.honest_logs.specs.LeftFiles.{AreAllFilesOf, AreFilesOf}
-use Rattle.honest_logs.specs.WhatIsLeft.{IsReadIn, AreReadIn}
-use Rattle.honest_logs.proofs.HonestFiles.{script_distinct, script_read}
-use Rattle.honest_logs.proofs.HonestGraphs.{of_script_election, of_script_is_honest}
-use Rattle.honest_logs.proofs.LeftFileFacts.{files_are_read}
-use Rattle.auditor.specs.Audits.{GivesReport, GivesVerdicts, WithGraph, WithLogs}
-use Rattle.auditor.specs.Judged.{AreJudged, nodes_of}
-use Rattle.auditor.specs.Report.{AuditReport, report_on}
-use Rattle.auditor.specs.ReportText.{break_line, fork_lines, graph_lines, rule_line, stray_lines}
-use Rattle.auditor.specs.Rows.{row_of}
-use Rattle.auditor.specs.Sources.{RuleSource}
-use Rattle.honest_reports.specs.Places.{IsRosterOf, files_read}
-use Rattle.honest_reports.specs.Refusals.{AreRulesOf}
-use Rattle.honest_reports.specs.Reports.{AccusesNobody, IsHonestReport, log_and_torn_line}
-use Rattle.honest_reports.proofs.Found.{both_found, report_read}
+use Rattle.honest_reports.proofs.Imports.{◌≡◌, ◌∙◌, ℕ, List, ◌++◌, map, Option, refl, sym, ap, subst, Ok, Contains}
+use Rattle.honest_reports.proofs.Imports.{flat_map, zip, All-contains, Script, node_of_sealed, SealedEntry, Distinct}
+use Rattle.honest_reports.proofs.Imports.{World, sent_in, EntryGraph, LogRead, refused_lines, Verdict, RuleTree, Post}
+use Rattle.honest_reports.proofs.Imports.{RosterRead, GivesGraph, entries_of, GivesLogs, GivesRoster, IsHonestGraph}
+use Rattle.honest_reports.proofs.Imports.{IsHonestlyRead, AreAllFilesOf, AreFilesOf, IsReadIn, AreReadIn}
+use Rattle.honest_reports.proofs.Imports.{script_distinct, script_read, of_script_election, of_script_is_honest}
+use Rattle.honest_reports.proofs.Imports.{files_are_read, GivesReport, GivesVerdicts, WithGraph, WithLogs, AreJudged}
+use Rattle.honest_reports.proofs.Imports.{nodes_of, AuditReport, report_on, break_line, fork_lines, graph_lines}
+use Rattle.honest_reports.proofs.Imports.{rule_line, stray_lines, row_of, RuleSource, IsRosterOf, files_read}
+use Rattle.honest_reports.proofs.Imports.{AccusesNobody, IsHonestReport, log_and_torn_line}
+use Rattle.honest_reports.proofs.Found.{AreRulesOf, both_found, report_read}
 use Rattle.honest_reports.proofs.Lines.{graph_innocent, logs_innocent, not_malformed}
 use Rattle.honest_reports.proofs.RosterGiven.{machines_same, of_script}
 
@@ -152,6 +127,6 @@ module _ (script : Script) (w : World SealedEntry) (roster : Option (List ℕ)) 
           found.verdicts found_logs found_read.honest;
     }
 
-    -- so the report does
+    -- a report on what is left of an honest place accuses nobody
     pub report_honest : IsHonestReport script w names files report
     report_honest = subst (λ (r : AuditReport). IsHonestReport script w names files r) (sym found.is) on_parts

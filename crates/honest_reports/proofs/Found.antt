@@ -1,16 +1,18 @@
 -- What was found where an audit reports, or is refused.
-use Rattle.std.proofs.Common.{◌≡◌, ◌⊎◌, inl, inr, ℕ, List, ◌∷◌, Option, refl, subst}
-use Rattle.std.specs.Prelude.{Result, Ok, Err}
-use Rattle.rule_language.specs.Trees.{RuleTree}
-use Rattle.rule_language.specs.Standard.{standard_rules}
-use Rattle.evidence.specs.declared.roster_file.RosterRead.{RosterRead}
-use Rattle.evidence.specs.Refusal.{Refusal}
-use Rattle.evidence.specs.RosterFile.{GivesRoster}
-use Rattle.auditor.specs.Audits.{AndThen, GivesReport, WithRoster, WithRules}
-use Rattle.auditor.specs.Report.{AuditReport}
-use Rattle.auditor.specs.Sources.{RuleSource, standard, in_file, GivesRules}
-use Rattle.honest_reports.specs.Places.{files_read}
-use Rattle.honest_reports.specs.Refusals.{AreRulesOf, IsRefusalOfRules}
+use Rattle.honest_reports.proofs.Imports.{◌≡◌, ◌⊎◌, inl, inr, ℕ, List, ◌∷◌, Option, refl, subst, Result, Ok, Err}
+use Rattle.honest_reports.proofs.Imports.{RuleTree, standard_rules, RosterRead, Refusal, GivesRoster, AndThen}
+use Rattle.honest_reports.proofs.Imports.{GivesReport, WithRoster, WithRules, AuditReport, RuleSource, standard}
+use Rattle.honest_reports.proofs.Imports.{in_file, GivesRules, files_read}
+
+-- the rules that an audit goes by: the standard ones, or those that the file gives
+abbrev pub AreRulesOf : RuleSource → Option (List ℕ) → List RuleTree → Type 0
+AreRulesOf standard file rules = rules ≡ standard_rules
+AreRulesOf (in_file name) file rules = GivesRules name file (Ok rules)
+
+-- the rules are in a file, and it isn't there, is too long or has a fault
+abbrev pub IsRefusalOfRules : RuleSource → Option (List ℕ) → Refusal → Type 0
+IsRefusalOfRules standard file refusal = ⊥
+IsRefusalOfRules (in_file name) file refusal = GivesRules name file (Err refusal)
 
 -- two steps found something: so did the first, and then the next
 pub both_found : {A B : Type 0} (First : Result A Refusal → Type 0) (Next : A → Result B Refusal → Type 0) (found : B) →
@@ -18,7 +20,7 @@ pub both_found : {A B : Type 0} (First : Result A Refusal → Type 0) (Next : A 
 both_found First Next found (inl is) = is
 both_found First Next found (inr (refusal, first, same)) = cc
 
--- two steps are refused: the first is, or the next behind it
+-- two steps are refused: the first is, or the next after it
 pub one_refused : {A B : Type 0} (First : Result A Refusal → Type 0) (Next : A → Result B Refusal → Type 0)
     (refusal : Refusal) → AndThen First Next (Err refusal) →
     First (Err refusal) ⊎ ((a : A) × First (Ok a) × Next a (Err refusal))
@@ -28,7 +30,7 @@ one_refused First Next refusal (inr (other, first, same)) =
 
 module _ (name : List ℕ) (roster rules_file : Option (List ℕ)) (names : List (List ℕ))
     (files : List (Option (List ℕ))) where
-  -- the roster and the rules are read, and behind them is this answer
+  -- the roster and the rules are read, and this answer follows them
   abbrev pub AreRead : RuleSource → Result AuditReport Refusal → Type 0
   AreRead source answer =
       (read : RosterRead) × GivesRoster name roster (Ok read) × (rules : List RuleTree)
@@ -50,13 +52,13 @@ module _ (name : List ℕ) (roster rules_file : Option (List ℕ)) (names : List
       both_found (GivesRules word rules_file) (λ rules. WithRules read (in_file word) rules names files) report next in
       (read, given, rules, are, rest)
 
-  -- the roster is refused, or the rules, or what is behind them
+  -- the roster is refused, or the rules, or what follows them
   abbrev pub IsOneRefused : RuleSource → Refusal → Type 0
   IsOneRefused source refusal =
       GivesRoster name roster (Err refusal)
       ⊎ (IsRefusalOfRules source rules_file refusal ⊎ AreRead source (Err refusal))
 
-  -- behind a roster that was read the rules of a file are refused, or what is behind them
+  -- after a roster that was read the rules of a file are refused, or what follows them
   rules_refused : (word : List ℕ) (refusal : Refusal) (read : RosterRead) → GivesRoster name roster (Ok read) →
       GivesRules word rules_file (Err refusal)
       ⊎ ((rules : List RuleTree) × GivesRules word rules_file (Ok rules)
@@ -65,7 +67,7 @@ module _ (name : List ℕ) (roster rules_file : Option (List ℕ)) (names : List
   rules_refused word refusal read given (inl refused) = inr (inl refused)
   rules_refused word refusal read given (inr (rules, are, rest)) = inr (inr (read, given, rules, are, rest))
 
-  -- with the standard rules the roster is refused, or what is behind it
+  -- with the standard rules the roster is refused, or what follows it
   standard_refused : (refusal : Refusal) →
       GivesRoster name roster (Err refusal)
       ⊎ ((read : RosterRead) × GivesRoster name roster (Ok read)
@@ -74,7 +76,7 @@ module _ (name : List ℕ) (roster rules_file : Option (List ℕ)) (names : List
   standard_refused refusal (inl refused) = inl refused
   standard_refused refusal (inr (read, given, rest)) = inr (inr (read, given, standard_rules, refl, rest))
 
-  -- with the rules of a file the roster is refused, or the rules, or what is behind them
+  -- with the rules of a file the roster is refused, or the rules, or what follows them
   file_refused : (word : List ℕ) (refusal : Refusal) →
       GivesRoster name roster (Err refusal)
       ⊎ ((read : RosterRead) × GivesRoster name roster (Ok read)

@@ -1,29 +1,15 @@
 -- What a report on an honest place says of the standard rules.
-use Rattle.std.proofs.Common.{◌≡◌, ◌≢◌, ◌∙◌, ℕ, ◌++◌, inl, inr, Bool, true, false, List, [], ◌∷◌, map, length}
-use Rattle.std.proofs.Common.{refl, sym, ap, subst, arith}
-use Rattle.std.specs.Prelude.{Ok, ◌||◌}
-use Rattle.std.specs.List.{AllZip, Contains, flat_map, list_any, zip}
-use Rattle.entry_format.specs.Nodes.{node_of_sealed}
-use Rattle.entry_format.specs.SealedEntry.{SealedEntry}
-use Rattle.entry_order.specs.declared.three.Three.{Three}
+use Rattle.honest_reports.proofs.Imports.{◌≡◌, ◌≢◌, ◌∙◌, ℕ, ◌++◌, inl, inr, Bool, true, false, List, [], ◌∷◌, map}
+use Rattle.honest_reports.proofs.Imports.{length, refl, sym, ap, subst, arith, Ok, ◌||◌, AllZip, Contains, flat_map}
+use Rattle.honest_reports.proofs.Imports.{list_any, zip, node_of_sealed, SealedEntry, Three, Contains-none}
+use Rattle.honest_reports.proofs.Imports.{Contains-head, Contains-later, Contains-cons_cases, EntryGraph}
+use Rattle.honest_reports.proofs.Imports.{IsEntryGraph, parents_of, ragged_of, Post, Row, RuleTree, Verdict, three_in}
+use Rattle.honest_reports.proofs.Imports.{IsJudged, unknown_only_by_gaps, AreJudged, nodes_of, has_finding, is_broken}
+use Rattle.honest_reports.proofs.Imports.{is_unsettled, outcome_by, outcome_of, AuditReport, rule_line, row_of}
+use Rattle.honest_reports.proofs.Imports.{unbroken_line}
 use Rattle.entry_order.specs.declared.three.Three.TheVariants as known
-use Rattle.entry_order.proofs.Lists.{Contains-none, Contains-head, Contains-later, Contains-cons_cases}
-use Rattle.entry_graph.specs.EntryGraph.{EntryGraph, IsEntryGraph, parents_of, ragged_of}
-use Rattle.roster.specs.declared.post.Post.{Post}
-use Rattle.rule_language.specs.declared.row.Row.{Row}
-use Rattle.rule_language.specs.Trees.{RuleTree}
-use Rattle.rule_engine.specs.declared.verdict.Verdict.{Verdict}
 use Rattle.rule_engine.specs.declared.verdict.Verdict.TheVariants as verdict
-use Rattle.rule_meaning.specs.Values.{three_in}
-use Rattle.rule_engine.specs.Verdicts.{IsJudged}
-use Rattle.rule_meaning.proofs.Unknowns.{unknown_only_by_gaps}
 use Rattle.auditor.specs.declared.outcome.Outcome.TheVariants as outcome
-use Rattle.auditor.specs.Judged.{AreJudged, nodes_of}
-use Rattle.auditor.specs.Outcomes.{has_finding, is_broken, is_unsettled, outcome_by, outcome_of}
-use Rattle.auditor.specs.Report.{AuditReport}
-use Rattle.auditor.specs.ReportText.{rule_line}
-use Rattle.auditor.specs.Rows.{row_of}
-use Rattle.honest_reports.specs.Kept.{unbroken_line}
 
 -- of a list each member says what all say
 pub none_by : {A : Type 0} (test : A → Bool) (xs : List A) → ((x : A) → Contains xs x → test x ≡ false) →

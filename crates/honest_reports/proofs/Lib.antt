@@ -1,3 +1,4 @@
+mod Imports
 pub mod RosterGiven
 pub mod Found
 pub mod Lines
@@ -6,3 +7,4 @@ pub mod Judged
 pub mod NothingFound
 pub mod StandardRules
 pub mod Refused
+pub mod AuditLaws

@@ -1,20 +1,10 @@
 -- The lines of a report where each log is one of an honest place.
-use Rattle.std.proofs.Common.{◌≡◌, ◌∙◌, ℕ, List, [], ◌∷◌, ◌++◌, length, refl, ap}
-use Rattle.std.specs.List.{flat_map, zip}
-use Rattle.std.proofs.lemmas.List.{append-nil}
-use Rattle.std.proofs.lemmas.List.Elements.{All-head, All-tail}
-use Rattle.roster.specs.declared.post.Post.{Post}
-use Rattle.entry_format.specs.SealedEntry.{SealedEntry}
-use Rattle.entry_order.specs.World.{World}
-use Rattle.entry_graph.specs.EntryGraph.{EntryGraph}
-use Rattle.log_files.specs.declared.plain_log.End.{End}
-use Rattle.log_files.specs.declared.plain_log.End.TheVariants.{Clean, Torn, Malformed}
-use Rattle.log_files.specs.declared.sealed_log.LogRead.{LogRead}
-use Rattle.report_lines.specs.Lines.{refused_lines, end_line, gap_lines}
-use Rattle.honest_logs.specs.WhatIsLeft.{IsReadIn, AreReadIn, IsCutAt}
-use Rattle.auditor.specs.ReportText.{log_head_line, log_lines, break_line, entries_line, stray_lines, fork_lines}
-use Rattle.auditor.specs.ReportText.{graph_lines}
-use Rattle.honest_reports.specs.Reports.{IsCleanOrTorn, torn_line, log_and_torn_line, entries_and_gap_lines}
+use Rattle.honest_reports.proofs.Imports.{◌≡◌, ◌∙◌, ℕ, List, [], ◌∷◌, ◌++◌, length, refl, ap, flat_map, zip}
+use Rattle.honest_reports.proofs.Imports.{append-nil, All-head, All-tail, Post, SealedEntry, World, EntryGraph, End}
+use Rattle.honest_reports.proofs.Imports.{Clean, Torn, Malformed, LogRead, refused_lines, end_line, gap_lines}
+use Rattle.honest_reports.proofs.Imports.{IsReadIn, AreReadIn, IsCutAt, log_head_line, log_lines, break_line}
+use Rattle.honest_reports.proofs.Imports.{entries_line, stray_lines, fork_lines, graph_lines, IsCleanOrTorn}
+use Rattle.honest_reports.proofs.Imports.{torn_line, log_and_torn_line, entries_and_gap_lines}
 
 -- where bytes are cut no end is malformed
 pub not_malformed : (place size : ℕ) (end : End) → IsCutAt place size end → IsCleanOrTorn end
@@ -43,7 +33,7 @@ module _ (w : World SealedEntry) where
       (break_line file log.broke) (torn_line file log.end) (ap (refused_lines file) is.read.none_refused)
       (torn_is file log.end (not_malformed _ _ log.end is.read.ends)) (ap (break_line file) is.read.no_break)
 
-  -- so have all its logs
+  -- the logs of an honest place have their own lines and those on torn ends, and no others
   pub logs_innocent : (files : List (List ℕ)) (logs : List LogRead) → AreReadIn w logs →
       flat_map log_lines (zip files logs) ≡ flat_map log_and_torn_line (zip files logs)
   logs_innocent [] logs all = refl

@@ -1,44 +1,21 @@
--- Where each rule is kept and each log ends behind a whole record, nothing is found.
-use Rattle.std.proofs.Common.{◌≡◌, ◌∙◌, ℕ, Bool, true, false, List, [], ◌∷◌, ◌++◌, map, length, Option, Some, None}
-use Rattle.std.proofs.Common.{inl, inr, refl, ap, subst}
-use Rattle.std.specs.Prelude.{Ok, ◌||◌, not, is_some, codes, IsSomeAnd}
-use Rattle.std.specs.List.{Contains, flat_map, list_any, zip}
-use Rattle.std.proofs.lemmas.List.{append-nil}
-use Rattle.std.proofs.lemmas.List.Elements.{All-contains, All-head, All-tail}
-use Rattle.std.proofs.lemmas.Bool.{or_parts, false_from_ne_true}
-use Rattle.entry_format.specs.SealedEntry.{SealedEntry}
-use Rattle.entry_format.specs.declared.plain.EntryFault.{EntryFault}
-use Rattle.entry_order.specs.World.{World}
-use Rattle.entry_order.proofs.Lists.{Contains-none, Contains-head, Contains-later, Contains-cons_cases}
-use Rattle.log_files.specs.declared.plain_log.End.{End}
-use Rattle.log_files.specs.declared.plain_log.End.TheVariants.{Clean, Torn, Malformed}
-use Rattle.log_files.specs.declared.sealed_log.LogRead.{LogRead}
-use Rattle.log_files.specs.LogFile.{IsSealedLogOf}
-use Rattle.log_files.specs.SealedLog.{SaysSealed}
-use Rattle.report_lines.specs.Lines.{line, gap_lines}
-use Rattle.roster.specs.declared.post.Post.{Post}
-use Rattle.rule_language.specs.Trees.{RuleTree}
-use Rattle.rule_language.specs.Standard.{standard_rules}
-use Rattle.rule_engine.specs.declared.verdict.Verdict.{Verdict}
+-- Where each rule is kept and each log ends after a whole record, nothing is found.
+use Rattle.honest_reports.proofs.Imports.{◌≡◌, ◌∙◌, ℕ, Bool, true, false, List, [], ◌∷◌, ◌++◌, map, length, Option}
+use Rattle.honest_reports.proofs.Imports.{Some, None, inl, inr, refl, sym, ap, subst, Ok, ◌||◌, not, is_some, codes}
+use Rattle.honest_reports.proofs.Imports.{IsSomeAnd, Contains, flat_map, list_any, zip, append-nil, All-contains}
+use Rattle.honest_reports.proofs.Imports.{All-head, All-tail, or_parts, false_from_ne_true, false≢true, SealedEntry}
+use Rattle.honest_reports.proofs.Imports.{EntryFault, World, Contains-none, Contains-head, Contains-later}
+use Rattle.honest_reports.proofs.Imports.{Contains-cons_cases, list_any_of, End, Clean, Torn, Malformed, LogRead}
+use Rattle.honest_reports.proofs.Imports.{IsSealedLogOf, SaysSealed, line, gap_lines, Post, RuleTree, standard_rules}
+use Rattle.honest_reports.proofs.Imports.{Verdict, election_of, entries_of, GivesLogs, IsHonestGraph, IsHonestWorld}
+use Rattle.honest_reports.proofs.Imports.{IsReadIn, AreReadIn, whole_in, Outcome, graph_has_finding, has_finding}
+use Rattle.honest_reports.proofs.Imports.{has_some, is_broken, is_clean, is_unsettled, log_has_finding, outcome_by}
+use Rattle.honest_reports.proofs.Imports.{outcome_of, outcome_word, AuditReport, entries_line, log_head_line}
+use Rattle.honest_reports.proofs.Imports.{main_lines, report_text, rule_line, EndClean, FindsNothing, kept_line}
+use Rattle.honest_reports.proofs.Imports.{kept_text, AreWholeFilesOf, IsWholeIn, entries_and_gap_lines}
+use Rattle.honest_reports.proofs.Imports.{innocent_lines, log_and_torn_line, torn_line}
 use Rattle.rule_engine.specs.declared.verdict.Verdict.TheVariants as verdict
-use Rattle.polling_world.specs.Making.{election_of}
-use Rattle.evidence.specs.Graphs.{entries_of}
-use Rattle.evidence.specs.Logs.{GivesLogs}
-use Rattle.honest_logs.specs.Agreement.{IsHonestGraph}
-use Rattle.honest_logs.specs.HonestWorld.{IsHonestWorld}
-use Rattle.honest_logs.specs.WhatIsLeft.{IsReadIn, AreReadIn}
-use Rattle.honest_logs.proofs.LeftInWorlds.{whole_in}
-use Rattle.auditor.specs.declared.outcome.Outcome.{Outcome}
 use Rattle.auditor.specs.declared.outcome.Outcome.TheVariants as outcome
-use Rattle.auditor.specs.Outcomes.{graph_has_finding, has_finding, has_some, is_broken, is_clean, is_unsettled}
-use Rattle.auditor.specs.Outcomes.{log_has_finding, outcome_by, outcome_of, outcome_word}
-use Rattle.auditor.specs.Report.{AuditReport}
-use Rattle.auditor.specs.ReportText.{entries_line, log_head_line, main_lines, report_text, rule_line}
-use Rattle.honest_reports.specs.Kept.{EndClean, FindsNothing, kept_line, kept_text}
-use Rattle.honest_reports.specs.Places.{AreWholeFilesOf, IsWholeIn}
-use Rattle.honest_reports.specs.Reports.{entries_and_gap_lines, innocent_lines, log_and_torn_line, torn_line}
 use Rattle.honest_reports.proofs.Judged.{none_by}
-use Rattle.honest_rules.proofs.NotHeld.{none_such}
 
 -- the whole log of a machine is read to its end
 module _ (posts : List Post) (w : World SealedEntry) (honest : IsHonestWorld posts w) where
@@ -122,7 +99,8 @@ clean_lines (file ∷ files) (log ∷ logs) clean =
 -- what is so of no member
 no_member : {A : Type 0} (test : A → Bool) (xs : List A) → list_any test xs ≡ false → (x : A) → Contains xs x →
     test x ≡ false
-no_member test xs none x inside = false_from_ne_true (test x) (none_such test xs none x inside)
+no_member test xs none x inside =
+    false_from_ne_true (test x) (λ is. false≢true (sym none ∙ list_any_of test xs x inside is))
 
 -- an end that isn't found unclean is clean
 end_clean : (end : End) → not (is_clean end) ≡ false → end ≡ Clean
@@ -209,6 +187,6 @@ module _ (w : World SealedEntry) (report : AuditReport) (read : AreReadIn w repo
       ∙ ap (λ (x : List ℕ). logs ++ entries ++ x ++ last (outcome_of report)) rules_text
       ∙ ap (λ (o : Outcome). logs ++ entries ++ flat_map kept_line standard_rules ++ last o) comes_to
 
-  -- so the report finds nothing
+  -- a report with innocent lines alone, where each rule is kept, finds nothing
   pub nothing_found : main_lines report ≡ innocent_lines report → FindsNothing report
   nothing_found lines = record { outcome = comes_to; text = text lines }

@@ -1,41 +1,16 @@
 -- With the standard rules no report on an honest place says that one is broken, and all logs show that each is kept.
-use Rattle.std.proofs.Common.{◌≡◌, ◌≢◌, ◌∙◌, ℕ, false, List, [], map, length, Option, sym, ap, subst}
-use Rattle.std.specs.Prelude.{Ok}
-use Rattle.std.specs.List.{Contains, flat_map, zip}
-use Rattle.election_script.specs.declared.script.Script.{Script}
-use Rattle.entry_format.specs.Nodes.{node_of_sealed}
-use Rattle.entry_format.specs.SealedEntry.{SealedEntry}
+use Rattle.honest_reports.proofs.Imports.{◌≡◌, ◌≢◌, ◌∙◌, ℕ, false, List, [], map, length, Option, sym, ap, subst, Ok}
+use Rattle.honest_reports.proofs.Imports.{Contains, flat_map, zip, Script, node_of_sealed, SealedEntry, Distinct}
+use Rattle.honest_reports.proofs.Imports.{World, sent_in, IsEntryGraph, parents_of, ragged_of, Post, Row, RuleTree}
+use Rattle.honest_reports.proofs.Imports.{standard_rules, Verdict, three_in, election_of, entries_of, GivesLogs}
+use Rattle.honest_reports.proofs.Imports.{IsAllGiven, IsHonestlyRead, IsHonestWorld, AreAllFilesOf, AreFilesOf}
+use Rattle.honest_reports.proofs.Imports.{IsOfScript, all_given, left_agrees, of_script_election, of_script_is_honest}
+use Rattle.honest_reports.proofs.Imports.{IsHonest, WereSentIn, honest_audits_never_say_broken}
+use Rattle.honest_reports.proofs.Imports.{honest_audits_say_kept, is_broken, AuditReport, report_on, row_of, standard}
+use Rattle.honest_reports.proofs.Imports.{EndClean, SaysAllKept, SaysNoneBroken, unbroken_line, AreWholeFilesOf}
+use Rattle.honest_reports.proofs.Imports.{IsRosterOf, IsHonestReport}
 use Rattle.entry_order.specs.declared.three.Three.TheVariants as three
-use Rattle.entry_order.specs.Naming.{Distinct}
-use Rattle.entry_order.specs.World.{World, sent_in}
-use Rattle.entry_graph.specs.EntryGraph.{IsEntryGraph, parents_of, ragged_of}
-use Rattle.roster.specs.declared.post.Post.{Post}
-use Rattle.rule_language.specs.declared.row.Row.{Row}
-use Rattle.rule_language.specs.Trees.{RuleTree}
-use Rattle.rule_language.specs.Standard.{standard_rules}
-use Rattle.rule_engine.specs.declared.verdict.Verdict.{Verdict}
 use Rattle.rule_engine.specs.declared.verdict.Verdict.TheVariants as verdict
-use Rattle.rule_meaning.specs.Values.{three_in}
-use Rattle.polling_world.specs.Making.{election_of}
-use Rattle.evidence.specs.Graphs.{entries_of}
-use Rattle.evidence.specs.Logs.{GivesLogs}
-use Rattle.honest_logs.specs.Agreement.{IsAllGiven}
-use Rattle.honest_logs.specs.HonestReading.{IsHonestlyRead}
-use Rattle.honest_logs.specs.HonestWorld.{IsHonestWorld}
-use Rattle.honest_logs.specs.LeftFiles.{AreAllFilesOf, AreFilesOf}
-use Rattle.honest_logs.specs.OfScript.{IsOfScript}
-use Rattle.honest_logs.proofs.Given.{all_given, left_agrees}
-use Rattle.honest_logs.proofs.HonestGraphs.{of_script_election, of_script_is_honest}
-use Rattle.honest_rules.specs.Honest.{IsHonest}
-use Rattle.honest_rules.specs.Kept.{WereSentIn}
-use Rattle.honest_rules.proofs.Audits.{honest_audits_never_say_broken, honest_audits_say_kept}
-use Rattle.auditor.specs.Outcomes.{is_broken}
-use Rattle.auditor.specs.Report.{AuditReport, report_on}
-use Rattle.auditor.specs.Rows.{row_of}
-use Rattle.auditor.specs.Sources.{standard}
-use Rattle.honest_reports.specs.Kept.{EndClean, SaysAllKept, SaysNoneBroken, unbroken_line}
-use Rattle.honest_reports.specs.Places.{AreWholeFilesOf, IsRosterOf}
-use Rattle.honest_reports.specs.Reports.{IsHonestReport}
 use Rattle.honest_reports.proofs.Accused.{IsFound, found_distinct, found_logs, found_read, report_honest}
 use Rattle.honest_reports.proofs.Judged.{all_kept, as_many, none_broken, outcome_not_broken, unbroken_lines}
 use Rattle.honest_reports.proofs.Judged.{unsettled_by_gap}
@@ -124,7 +99,7 @@ module _ (script : Script) (w : World SealedEntry) (roster : Option (List ℕ)) 
         (report_on machines names found.logs found.graph found.rules found.verdicts) answers_free;
   }
 
-  -- so does the report
+  -- the report says of no standard rule that it is broken
   pub says_none_broken : SaysNoneBroken report
   says_none_broken = subst SaysNoneBroken (sym found.is) parts_free
 
@@ -166,7 +141,7 @@ module _ (script : Script) (w : World SealedEntry) (roster : Option (List ℕ)) 
         subst EndClean (sym (ap (λ (r : AuditReport). r.logs) found.is))
         (whole_clean machines w world names files each found.logs logs_are)
 
-    -- so the report says of all rules that they are kept
+    -- where the whole logs of all machines are among the files, the report says that each standard rule is kept
     pub says_all_kept : SaysAllKept w files report
     says_all_kept = record {
       rules = parts_kept;

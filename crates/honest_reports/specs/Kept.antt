@@ -5,7 +5,7 @@ use Rattle.entry_format.specs.SealedEntry.{SealedEntry}
 use Rattle.entry_order.specs.World.{World}
 use Rattle.log_files.specs.declared.plain_log.End.TheVariants.{Clean}
 use Rattle.log_files.specs.declared.sealed_log.LogRead.{LogRead}
-use Rattle.report_lines.specs.Lines.{line}
+use Rattle.log_files.specs.Lines.{line}
 use Rattle.rule_language.specs.Trees.{RuleTree}
 use Rattle.rule_language.specs.Standard.{standard_rules}
 use Rattle.rule_engine.specs.declared.verdict.Verdict.{Verdict}
@@ -33,7 +33,7 @@ pub record SaysNoneBroken (report : AuditReport) : Type 0 where
   pub unsettled : Contains report.verdicts verdict.Unsettled → report.graph.gaps ≢ []
   pub outcome : outcome_of report ≢ outcome.Broken
 
--- each of the logs ends behind a whole record
+-- each of the logs ends after a whole record
 abbrev pub EndClean : List LogRead → Type 0
 EndClean logs = (log : LogRead) → Contains logs log → log.end ≡ Clean
 
@@ -54,7 +54,7 @@ pub record FindsNothing (report : AuditReport) : Type 0 where
   pub outcome : outcome_of report ≡ outcome.Kept
   pub text : report_text report ≡ kept_text report
 
--- Each standard rule is kept, and there is no gap. Each log ends behind a whole record where each file is whole. Where
+-- Each standard rule is kept, and there is no gap. Each log ends after a whole record where each file is whole. Where
 -- each log ends so, nothing was found, and else the report comes to findings.
 pub record SaysAllKept (w : World SealedEntry) (files : List (Option (List ℕ))) (report : AuditReport) : Type 0 where
   pub rules : report.rules ≡ standard_rules

@@ -2,3 +2,4 @@ pub mod Places
 pub mod Reports
 pub mod Kept
 pub mod Refusals
+pub mod Laws

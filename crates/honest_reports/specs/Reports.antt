@@ -8,7 +8,7 @@ use Rattle.entry_graph.specs.EntryGraph.{EntryGraph}
 use Rattle.log_files.specs.declared.plain_log.End.{End}
 use Rattle.log_files.specs.declared.plain_log.End.TheVariants.{Clean, Torn, Malformed}
 use Rattle.log_files.specs.declared.sealed_log.LogRead.{LogRead}
-use Rattle.report_lines.specs.Lines.{refused_lines, end_line, gap_lines}
+use Rattle.log_files.specs.Lines.{refused_lines, end_line, gap_lines}
 use Rattle.polling_world.specs.Keys.{roster_of}
 use Rattle.evidence.specs.Graphs.{entries_of}
 use Rattle.honest_logs.specs.Agreement.{HaveAll, IsHonestGraph}
@@ -18,7 +18,7 @@ use Rattle.auditor.specs.Report.{AuditReport}
 use Rattle.auditor.specs.ReportText.{log_head_line, break_line, entries_line, stray_lines, fork_lines, rule_line}
 use Rattle.auditor.specs.ReportText.{main_lines}
 
--- a log ends behind a whole record, or inside of one, and not in what is none
+-- a log ends after a whole record or inside one, and not in something that is no record
 abbrev pub IsCleanOrTorn : End → Type 0
 IsCleanOrTorn Clean = ⊤
 IsCleanOrTorn (Torn at) = ⊤
@@ -56,7 +56,7 @@ pub record AccusesNobody (report : AuditReport) : Type 0 where
   pub lines : main_lines report ≡ innocent_lines report
 
 -- The report is on the machines of the script and on the logs in these files, of these names. Each log has the records
--- that stand whole in its file, with none refused and no break. The graph has no stray and no fork, its survivors are
+-- that are whole in its file, with none refused and no break. The graph has no stray and no fork, its survivors are
 -- the entries of those records, and they agree with w. Where the whole logs are among the files, they are all read
 -- whole. No line accuses anybody.
 pub record IsHonestReport (script : Script) (w : World SealedEntry) (names : List (List ℕ))

@@ -1,15 +1,7 @@
 -- What is known of entries that an honest polling place sent, by themselves.
-use Rattle.std.proofs.Common.{◌≡◌, ◌≢◌, map, length, refl}
-use Rattle.entry_format.specs.Nodes.{node_of_sealed}
-use Rattle.entry_order.specs.declared.three.Three.{Three}
-use Rattle.entry_order.specs.declared.three.Three.TheVariants.{False, Unknown, True}
-use Rattle.entry_order.specs.World.{sent_in}
-use Rattle.entry_order.proofs.Honest.{honest_entries_agree_in_orderly_worlds}
-use Rattle.rule_meaning.specs.Values.{three_in}
-use Rattle.rule_meaning.proofs.Sounds.{rules_are_settled}
-use Rattle.rule_meaning.proofs.Unknowns.{unknown_only_by_gaps}
-use Rattle.auditor.specs.Rows.{row_of}
-use Rattle.honest_rules.specs.Kept.{HonestAuditsNeverSayBroken, HonestAuditsSayKept}
+use Rattle.honest_rules.proofs.Imports.{◌≡◌, ◌≢◌, map, length, refl, node_of_sealed, Three, False, Unknown, True}
+use Rattle.honest_rules.proofs.Imports.{sent_in, honest_entries_agree_in_orderly_worlds, three_in, rules_are_settled}
+use Rattle.honest_rules.proofs.Imports.{unknown_only_by_gaps, row_of, HonestAuditsNeverSayBroken, HonestAuditsSayKept}
 use Rattle.honest_rules.proofs.Standard.{honest_entries_keep_the_rules}
 
 -- what is neither false nor unknown is true

@@ -1,33 +1,16 @@
 -- The rules of what booths do.
-use Rattle.std.proofs.Common.{◌≡◌, ℕ, List, inl, inr, sym, ap, ◌∙◌, subst}
-use Rattle.std.specs.Prelude.{IsTrue, ◌==◌}
-use Rattle.std.specs.List.{Contains}
-use Rattle.std.specs.Str.{bytes_eq}
-use Rattle.std.proofs.lemmas.Bool.{eqb-true, eq-eqb}
-use Rattle.std.proofs.lemmas.Slice.Eq.{bytes_eq-Decides}
+use Rattle.honest_rules.proofs.Imports.{◌≡◌, ℕ, List, inl, inr, sym, ap, ◌∙◌, subst, IsTrue, ◌==◌, Contains, bytes_eq}
+use Rattle.honest_rules.proofs.Imports.{eqb-true, eq-eqb, bytes_eq-Decides, node_of_sealed, SealedEntry, Distinct}
+use Rattle.honest_rules.proofs.Imports.{Precedes, World, sent_in, Post, Overrides, Ends, HoldsOwn, authorises_booth}
+use Rattle.honest_rules.proofs.Imports.{authorises_booth_decides, activates, activates_decides, commits_to}
+use Rattle.honest_rules.proofs.Imports.{commits_to_decides, entries_in, IsAuthorised, HasCommittedTo, Trees, a1_body}
+use Rattle.honest_rules.proofs.Imports.{c1_body, c2_body, c3_body, c4_body, c5_body, c6_body, c7_body, v2_body}
+use Rattle.honest_rules.proofs.Imports.{v3_body, p4_body, is_kind, row_of, kind_of, session_of, ballot_of, booth_of}
+use Rattle.honest_rules.proofs.Imports.{IsHonest, WereSentIn}
 use Rattle.entry_format.specs.declared.deed.Deed.TheVariants as deed
 use Rattle.entry_format.specs.declared.deed.How.TheVariants as how
-use Rattle.entry_format.specs.Nodes.{node_of_sealed}
-use Rattle.entry_format.specs.SealedEntry.{SealedEntry}
-use Rattle.entry_order.specs.Naming.{Distinct}
-use Rattle.entry_order.specs.Precedes.{Precedes}
-use Rattle.entry_order.specs.World.{World, sent_in}
-use Rattle.roster.specs.declared.post.Post.{Post}
-use Rattle.deed_history.specs.Deeds.{Overrides, Ends}
-use Rattle.deed_history.specs.Held.{HoldsOwn}
-use Rattle.deed_history.proofs.Deciding.{authorises_booth, authorises_booth_decides, activates, activates_decides}
-use Rattle.deed_history.proofs.Deciding.{commits_to, commits_to_decides}
-use Rattle.polling_world.specs.Rules.{entries_in}
-use Rattle.booth_core.specs.Causes.{IsAuthorised, HasCommittedTo}
 use Rattle.rule_language.specs.declared.kind.Kind.TheVariants as kind
-use Rattle.rule_language.specs.Trees.{Trees}
-use Rattle.rule_language.specs.Standard.{a1_body, c1_body, c2_body, c3_body, c4_body, c5_body, c6_body, c7_body}
-use Rattle.rule_language.specs.Standard.{v2_body, v3_body, p4_body}
 use Rattle.rule_meaning.specs.Meaning.{Holds as Says}
-use Rattle.rule_meaning.specs.Tests.{is_kind}
-use Rattle.auditor.specs.Rows.{row_of, kind_of, session_of, ballot_of, booth_of}
-use Rattle.honest_rules.specs.Honest.{IsHonest}
-use Rattle.honest_rules.specs.Kept.{WereSentIn}
 use Rattle.honest_rules.proofs.DeedKinds.{of_kind, cast_ends, cancel_ends, challenge_ends}
 use Rattle.honest_rules.proofs.DeedKinds.{no_cast_is_cancel, no_cast_is_challenge, no_challenge_is_cancel}
 use Rattle.honest_rules.proofs.Pasts.{SentBy, sent_by}

@@ -1,26 +1,12 @@
 -- What follows where the rules of a machine's role give no cause against what it sent.
-use Rattle.std.proofs.Common.{◌≡◌, ℕ, Bool, true, false, List, [], ◌∷◌, inl, inr, refl, sym, subst}
-use Rattle.std.specs.Prelude.{Ok, Err}
-use Rattle.std.specs.Bool.{Decides}
-use Rattle.entry_format.specs.declared.deed.Deed.{Deed}
-use Rattle.entry_format.specs.declared.entry.Entry.{Entry}
-use Rattle.entry_format.specs.Deeds.{IsDeedOf}
-use Rattle.entry_format.specs.Nodes.{node_of_sealed}
-use Rattle.entry_format.specs.SealedEntry.{SealedEntry}
-use Rattle.entry_order.specs.declared.event.Event.{Event}
-use Rattle.entry_order.specs.History.{held}
-use Rattle.entry_order.specs.World.{World}
-use Rattle.entangled_log.proofs.Whole.{whole_or_not}
-use Rattle.first_cause.specs.Causes.{IsFirstOf}
-use Rattle.deed_history.specs.Held.{HoldsSome, HoldsOwn}
-use Rattle.deed_history.proofs.Deciding.{holds_decides, holds_own, own_decides}
+use Rattle.std.proofs.Common.{[]}
+use Rattle.honest_rules.proofs.Imports.{◌≡◌, ℕ, Bool, true, false, List, ◌∷◌, inl, inr, refl, sym, subst, Ok, Err}
+use Rattle.honest_rules.proofs.Imports.{Decides, Deed, Entry, IsDeedOf, node_of_sealed, SealedEntry, Event, held}
+use Rattle.honest_rules.proofs.Imports.{World, whole_or_not, IsFirstOf, HoldsSome, HoldsOwn, holds_decides, holds_own}
+use Rattle.honest_rules.proofs.Imports.{own_decides, Post, Role, Supervisor, Booth, entries_in, IsWholeHistory}
+use Rattle.honest_rules.proofs.Imports.{RoleRefuses, IsHonest, role_at}
 use Rattle.supervisor_core.specs.Table as supervisor
 use Rattle.booth_core.specs.Table as booth
-use Rattle.roster.specs.declared.post.Post.{Post}
-use Rattle.roster.specs.declared.post.Role.{Role}
-use Rattle.roster.specs.declared.post.Role.TheVariants.{Supervisor, Booth}
-use Rattle.polling_world.specs.Rules.{entries_in, IsWholeHistory, RoleRefuses}
-use Rattle.honest_rules.specs.Honest.{IsHonest, role_at}
 use Rattle.honest_rules.proofs.DeedKinds.{one_role}
 use Rattle.honest_rules.proofs.Pasts.{SentBy, may}
 
@@ -47,12 +33,12 @@ own_for_sure test IsSuch decides owner entries deny =
     sure (holds_own owner test entries) (HoldsOwn owner entries IsSuch) (own_decides owner test IsSuch decides entries)
     deny
 
--- so is one of any maker
+-- an entry with such a deed, of any maker, is held where it isn't denied
 pub any_for_sure : (test : Deed → Bool) (IsSuch : Deed → Type 0) → ((d : Deed) → Decides (test d) (IsSuch d)) →
     (entries : List Entry) → ((HoldsSome entries IsSuch → ⊥) → ⊥) → HoldsSome entries IsSuch
 any_for_sure test IsSuch decides entries deny = sure _ _ (holds_decides test IsSuch decides entries) deny
 
--- and a log is whole where it isn't denied
+-- a log is whole where it isn't denied, since a test decides it
 pub whole_for_sure : (h : List (Event SealedEntry)) → ((IsWholeHistory h → ⊥) → ⊥) → IsWholeHistory h
 whole_for_sure h deny = let r = whole_or_not node_of_sealed (held h) in sure r.0 (IsWholeHistory h) r.1 deny
 

@@ -1,17 +1,9 @@
 -- Deeds by their kinds.
-use Rattle.std.proofs.Common.{◌≡◌, inl, inr, refl}
-use Rattle.std.specs.Prelude.{IsTrue}
-use Rattle.entry_format.specs.declared.deed.Deed.{Deed}
+use Rattle.honest_rules.proofs.Imports.{◌≡◌, inl, inr, refl, IsTrue, Deed, IsDeedOf, Ends, Role, Supervisor, Booth}
+use Rattle.honest_rules.proofs.Imports.{Kind, is_kind, kind_of, session_of, ballot_of, booth_of}
 use Rattle.entry_format.specs.declared.deed.Deed.TheVariants as deed
 use Rattle.entry_format.specs.declared.deed.How.TheVariants as how
-use Rattle.entry_format.specs.Deeds.{IsDeedOf}
-use Rattle.deed_history.specs.Deeds.{Ends}
-use Rattle.roster.specs.declared.post.Role.{Role}
-use Rattle.roster.specs.declared.post.Role.TheVariants.{Supervisor, Booth}
-use Rattle.rule_language.specs.declared.kind.Kind.{Kind}
 use Rattle.rule_language.specs.declared.kind.Kind.TheVariants as kind
-use Rattle.rule_meaning.specs.Tests.{is_kind}
-use Rattle.auditor.specs.Rows.{kind_of, session_of, ballot_of, booth_of}
 
 -- the deed of a kind that has the session, the ballot and the booth of d
 abbrev pub deed_like : Kind → Deed → Deed
@@ -44,15 +36,15 @@ of_kind k (deed.Override session how.Cancel) h = cc
 of_kind k (deed.Override session how.Cast) h = cc
 of_kind k d h = cc
 
--- casting, cancelling and challenging end the deed's session
+-- a deed of casting ends its session
 pub cast_ends : (d : Deed) → IsTrue (is_kind kind.Cast (kind_of d)) → Ends (session_of d) d
 cast_ends d h = inl (ballot_of d, of_kind kind.Cast d h)
 
--- so does cancelling
+-- a deed of cancelling ends its session
 pub cancel_ends : (d : Deed) → IsTrue (is_kind kind.Cancel (kind_of d)) → Ends (session_of d) d
 cancel_ends d h = inr (inl (of_kind kind.Cancel d h))
 
--- and challenging
+-- a deed of challenging ends its session
 pub challenge_ends : (d : Deed) → IsTrue (is_kind kind.Challenge (kind_of d)) → Ends (session_of d) d
 challenge_ends d h = inr (inr (ballot_of d, of_kind kind.Challenge d h))
 

@@ -1,38 +1,16 @@
 -- The rules of every entry: each role its deeds, no fork, and a chain.
-use Rattle.std.proofs.Common.{◌≡◌, ℕ, zero, suc, ◌+◌, ◌<◌, true, List, ◌∷◌, ◌++◌, length, get_or, ◌⊎◌}
-use Rattle.std.proofs.Common.{inl, inr, refl, sym, ap, ◌∙◌, subst, arith, append_assoc}
-use Rattle.std.specs.Prelude.{[], IsTrue, ◌==◌, ◌&&◌}
-use Rattle.std.specs.List.{Contains}
-use Rattle.std.proofs.lemmas.Bool.{eqb-true, eq-eqb, and_from}
-use Rattle.std.proofs.lemmas.Option.{slice_get-get_or}
-use Rattle.std.proofs.lemmas.List.Elements.{Contains-append_right}
-use Rattle.entry_format.specs.declared.deed.Deed.{Deed}
+use Rattle.honest_rules.proofs.Imports.{◌≡◌, ℕ, zero, suc, ◌+◌, ◌<◌, true, List, ◌∷◌, ◌++◌, length, get_or, ◌⊎◌, inl}
+use Rattle.honest_rules.proofs.Imports.{inr, refl, sym, ap, ◌∙◌, subst, arith, append_assoc, IsTrue, ◌==◌, ◌&&◌}
+use Rattle.honest_rules.proofs.Imports.{Contains, eqb-true, eq-eqb, and_from, slice_get-get_or, Contains-append_right}
+use Rattle.honest_rules.proofs.Imports.{Deed, IsDeedOf, node_of_sealed, SealedEntry, Event, Sent, Distinct, held}
+use Rattle.honest_rules.proofs.Imports.{sent, entry_of, Precedes, World, history, sent_in, nth_split, no_fork}
+use Rattle.honest_rules.proofs.Imports.{Contains-head, Contains-map, next_of, Post, Role, Supervisor, Booth, Trees}
+use Rattle.honest_rules.proofs.Imports.{m1_body, k1_body, k2_body, Holds, SomeHolds, is_kind, is_role, row_of}
+use Rattle.honest_rules.proofs.Imports.{kind_of, IsHonest, role_at, WereSentIn}
+use Rattle.std.specs.Prelude.{[]}
 use Rattle.entry_format.specs.declared.deed.Deed.TheVariants as deed
 use Rattle.entry_format.specs.declared.deed.How.TheVariants as how
-use Rattle.entry_format.specs.Deeds.{IsDeedOf}
-use Rattle.entry_format.specs.Nodes.{node_of_sealed}
-use Rattle.entry_format.specs.SealedEntry.{SealedEntry}
-use Rattle.entry_order.specs.declared.event.Event.{Event}
-use Rattle.entry_order.specs.declared.event.Event.TheVariants.{Sent}
-use Rattle.entry_order.specs.Naming.{Distinct}
-use Rattle.entry_order.specs.History.{held, sent, entry_of}
-use Rattle.entry_order.specs.Precedes.{Precedes}
-use Rattle.entry_order.specs.World.{World, history, sent_in}
-use Rattle.entry_order.proofs.Histories.{nth_split}
-use Rattle.entry_order.proofs.Honest.{no_fork}
-use Rattle.entry_order.proofs.Lists.{Contains-head, Contains-map}
-use Rattle.entry_order.proofs.Orders.{next_of}
-use Rattle.roster.specs.declared.post.Post.{Post}
-use Rattle.roster.specs.declared.post.Role.{Role}
-use Rattle.roster.specs.declared.post.Role.TheVariants.{Supervisor, Booth}
 use Rattle.rule_language.specs.declared.kind.Kind.TheVariants as kind
-use Rattle.rule_language.specs.Trees.{Trees}
-use Rattle.rule_language.specs.Standard.{m1_body, k1_body, k2_body}
-use Rattle.rule_meaning.specs.Meaning.{Holds, SomeHolds}
-use Rattle.rule_meaning.specs.Tests.{is_kind, is_role}
-use Rattle.auditor.specs.Rows.{row_of, kind_of}
-use Rattle.honest_rules.specs.Honest.{IsHonest, role_at}
-use Rattle.honest_rules.specs.Kept.{WereSentIn}
 use Rattle.honest_rules.proofs.Pasts.{SentBy, sent_by, next_by, may, held_precedes}
 
 -- ---- each role its deeds
@@ -121,7 +99,7 @@ module _ {posts : List Post} {w : World SealedEntry} (honest : IsHonest posts w)
       (Contains-append_right first (Sent f ∷ rest) (Sent f) (Contains-head (Sent f) rest)) in
       (f, Contains-map entry_of s.past (Sent f) c, next.maker, next.number ∙ count)
 
-  -- each entry but the first comes after the one before
+  -- each entry of a maker but its first comes after that maker's entry with the number one less
   pub rule_k2 : Rule k2_body
   rule_k2 e ce ke = by e.entry.number refl
     where

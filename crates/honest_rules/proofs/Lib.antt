@@ -1,3 +1,5 @@
+mod Imports
+pub mod Counts
 pub mod DeedKinds
 pub mod Pasts
 pub mod Causes
@@ -7,12 +9,6 @@ pub mod SupervisorRules
 pub mod BoothRules
 pub mod Standard
 pub mod Audits
+pub mod Narrow
 pub mod Scripts
-pub mod SmallPlaces
-pub mod NotHeld
-pub mod ClosingEarly
-pub mod OtherBooth
-pub mod OwnBooth
-pub mod CastOverGaps
-pub mod NoChain
 pub mod SameHistories

@@ -1,21 +1,12 @@
 -- What machines of an honest polling place held when they sent.
-use Rattle.std.proofs.Common.{◌≡◌, ◌<◌, List, [], ◌∷◌, ◌++◌, ◌⊎◌, inl, inr, sym, ap, ◌∙◌, subst, arith}
-use Rattle.std.specs.List.{Contains}
-use Rattle.entry_format.specs.Nodes.{node_of_sealed}
-use Rattle.entry_format.specs.SealedEntry.{SealedEntry}
-use Rattle.entry_order.specs.declared.event.Event.{Event}
-use Rattle.entry_order.specs.declared.event.Event.TheVariants.{Sent}
-use Rattle.entry_order.specs.Naming.{Distinct}
-use Rattle.entry_order.specs.History.{held, entry_of, IsNext}
-use Rattle.entry_order.specs.Precedes.{Precedes, IsPath}
-use Rattle.entry_order.specs.HeldBefore.{WasSentAfter, HeldBefore.itself}
-use Rattle.entry_order.specs.World.{World, history, sent_in}
-use Rattle.entry_order.proofs.Histories.{split_two}
-use Rattle.entry_order.proofs.Lists.{Contains-map}
-use Rattle.entry_order.proofs.Orders.{was_sent, held_was_sent, next_of, held_rises, named_held, one_order}
-use Rattle.roster.specs.declared.post.Post.{Post}
-use Rattle.polling_world.specs.Rules.{IsWholeHistory}
-use Rattle.honest_rules.specs.Honest.{IsHonest, MayAs, role_at}
+use Rattle.std.proofs.Common.{[]}
+use Rattle.honest_rules.proofs.Imports.{◌≡◌, ◌<◌, List, ◌∷◌, ◌++◌, ◌⊎◌, inl, inr, sym, ap, ◌∙◌, subst, arith}
+use Rattle.honest_rules.proofs.Imports.{Contains, node_of_sealed, SealedEntry, Event, Sent, Distinct, held, entry_of}
+use Rattle.honest_rules.proofs.Imports.{IsNext, Precedes, IsPath, WasSentAfter, World, history}
+use Rattle.honest_rules.proofs.Imports.{sent_in, split_two, Contains-map, was_sent, held_was_sent, next_of}
+use Rattle.honest_rules.proofs.Imports.{held_rises, named_held, one_order, Post, IsWholeHistory, IsHonest, MayAs}
+use Rattle.honest_rules.proofs.Imports.{role_at}
+use Rattle.entry_order.specs.HeldBefore.{HeldBefore.itself}
 
 -- e was sent by its maker, after this past
 pub record SentBy (w : World SealedEntry) (e : SealedEntry) : Type 0 where
@@ -24,7 +15,7 @@ pub record SentBy (w : World SealedEntry) (e : SealedEntry) : Type 0 where
   -- its maker's history is this past, then e, then the rest
   pub is : history w e.entry.maker ≡ past ++ Sent e ∷ later
 
--- so it was sent after it
+-- an entry was sent after all that its maker had held before it
 abbrev pub after : {w : World SealedEntry} (e : SealedEntry) (s : SentBy w e) → WasSentAfter w s.past e
 after e s = (e.entry.maker, s.later, s.is)
 
@@ -40,7 +31,7 @@ module _ {posts : List Post} {w : World SealedEntry} (honest : IsHonest posts w)
   pub next_by : (e : SealedEntry) (s : SentBy w e) → IsNext node_of_sealed e.entry.maker s.past e
   next_by e s = next_of node_of_sealed w honest.orderly s.past e (after e s)
 
-  -- its maker might send it
+  -- the role of an entry's maker allowed it to send the entry after what it held then
   pub may : (e : SealedEntry) (s : SentBy w e) → MayAs (role_at posts e.entry.maker) e.entry.maker s.past e
   may e s = honest.allowed e.entry.maker s.past e s.later s.is
 
@@ -93,7 +84,7 @@ module _ {posts : List Post} {w : World SealedEntry} (honest : IsHonest posts w)
         let (named, was_held, same) = whole g (node_of_sealed f).digest last names in
         subst (Contains (held s.past)) (distinct named f (held_too e s named was_held) c same) was_held
 
-    -- and so each that precedes it
+    -- whoever held a whole log held each entry that precedes what it sent
     pub whole_held : (e : SealedEntry) (s : SentBy w e) → IsWholeHistory s.past → (f : SealedEntry) →
         Precedes node_of_sealed (sent_in w) f e → Contains (held s.past) f
     whole_held e s whole f (sent, _, between, path) = path_held e s whole f sent between path

@@ -1,15 +1,7 @@
--- Whether a place is honest is told by its histories.
-use Rattle.std.proofs.Common.{◌≡◌, ℕ, List, sym, ◌∙◌, subst}
-use Rattle.std.specs.List.{Contains}
-use Rattle.entry_format.specs.Nodes.{node_of_sealed}
-use Rattle.entry_format.specs.SealedEntry.{SealedEntry}
-use Rattle.entry_order.specs.declared.event.Event.{Event}
-use Rattle.entry_order.specs.declared.event.Event.TheVariants.{Sent, Got}
-use Rattle.entry_order.specs.History.{IsLegal}
-use Rattle.entry_order.specs.Receipt.{IsOrderly}
-use Rattle.entry_order.specs.World.{World, history, sent_in}
-use Rattle.entry_order.proofs.Orders.{sent_in_from, sent_in_cases}
-use Rattle.honest_rules.specs.Honest.{HonestyIsOfHistories}
+-- Whether a place is honest depends on its histories alone.
+use Rattle.honest_rules.proofs.Imports.{◌≡◌, ℕ, List, sym, ◌∙◌, subst, Contains, node_of_sealed, SealedEntry, Event}
+use Rattle.honest_rules.proofs.Imports.{Sent, Got, IsLegal, IsOrderly, World, history, sent_in, sent_in_from}
+use Rattle.honest_rules.proofs.Imports.{sent_in_cases, HonestyIsOfHistories}
 
 module _ (v w : World SealedEntry) (same : (m : ℕ) → history w m ≡ history v m) where
   -- what was sent in the one was sent in the other

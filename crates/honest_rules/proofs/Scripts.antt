@@ -1,42 +1,20 @@
 -- What a script's machines come to is an honest polling place.
-use Rattle.std.proofs.Common.{◌≡◌, ℕ, zero, suc, ◌+◌, List, [], ◌∷◌, ◌++◌, map, length, Option, Some, None, refl, sym}
-use Rattle.std.proofs.Common.{ap, ◌∙◌, subst, arith}
-use Rattle.std.specs.Prelude.{slice_get, Ok, option_map}
-use Rattle.std.specs.List.{enumerate_from}
-use Rattle.std.proofs.lemmas.Option.{slice_get-map}
-use Rattle.entry_format.specs.declared.deed.Deed.{Deed}
-use Rattle.entry_format.specs.declared.entry.Entry.{Entry}
-use Rattle.entry_format.specs.Deeds.{IsDeedOf}
-use Rattle.entry_format.specs.Nodes.{node_of_sealed}
-use Rattle.entry_format.specs.SealedEntry.{SealedEntry}
-use Rattle.entry_order.specs.declared.event.Event.{Event}
-use Rattle.entry_order.specs.declared.event.Event.TheVariants.{Sent}
-use Rattle.entry_order.specs.declared.step.Step.{Step}
-use Rattle.entry_order.specs.History.{sent, MayFollow}
-use Rattle.entry_order.specs.World.{World, start, history, history_of, play, IsLegalNext}
-use Rattle.entry_order.proofs.MadePlays.{plays_are_made}
-use Rattle.entry_order.proofs.Plays.{IsOrderly-play, IsOrderly-start}
-use Rattle.entry_order.proofs.Places.{all_at}
-use Rattle.roster.specs.declared.post.Role.{Role}
-use Rattle.election_script.specs.declared.script.Cast0.{Cast0}
-use Rattle.election_script.specs.declared.script.Script.{Script}
-use Rattle.election_script.specs.Lawful.{IsLawful, IsCast, IsDeedAmong}
-use Rattle.entry_format.specs.EntryText.{IsDeedIn}
-use Rattle.polling_world.specs.Configs.{Config, config_of, script_configs}
-use Rattle.polling_world.specs.Keys.{roster_of, post_of}
-use Rattle.polling_world.specs.Rules.{RoleRefuses}
-use Rattle.polling_world.specs.Sending.{MaySend}
-use Rattle.polling_world.specs.Machines.{MachineState}
-use Rattle.polling_world.specs.Worlds.{machine_of, world_of, TellsNext, IsNextAt, IsNextOf}
-use Rattle.polling_world.proofs.MadeEntries.{entry-made, may_follow}
-use Rattle.polling_world.proofs.Rosters.{roster_has_text}
-use Rattle.auditor.specs.Rows.{role_in}
-use Rattle.honest_rules.specs.Honest.{IsHonest, MayAs, role_at}
-use Rattle.honest_rules.specs.Scripts.{AreOrderlyMachinesOf, MachinesAreHonest}
-use Rattle.honest_rules.specs.Scripts.{ScriptsLeadToHonestPlaces, ScriptsKeepTheRules, ScriptsAreNeverBroken}
-use Rattle.honest_rules.specs.Scripts.{ScriptsAreKept}
+use Rattle.honest_rules.proofs.Imports.{◌≡◌, ℕ, zero, suc, ◌+◌, List, ◌∷◌, ◌++◌, map, length, refl, sym, ap, ◌∙◌, subst}
+use Rattle.honest_rules.proofs.Imports.{arith, slice_get, Ok, option_map, enumerate_from, slice_get-map, Deed, Entry}
+use Rattle.honest_rules.proofs.Imports.{IsDeedOf, node_of_sealed, SealedEntry, Event, Sent, Step, sent, MayFollow}
+use Rattle.honest_rules.proofs.Imports.{World, start, history, history_of, play, IsLegalNext, plays_are_made}
+use Rattle.honest_rules.proofs.Imports.{IsOrderly-play, IsOrderly-start, all_at, Role, Cast0, Script, IsLawful, IsCast}
+use Rattle.honest_rules.proofs.Imports.{IsDeedAmong, IsDeedIn, Config, config_of, script_configs, roster_of, post_of}
+use Rattle.honest_rules.proofs.Imports.{RoleRefuses, MaySend, MachineState, machine_of, world_of, TellsNext, IsNextAt}
+use Rattle.honest_rules.proofs.Imports.{IsNextOf, entry-made, may_follow, roster_has_text, role_in, IsHonest, MayAs}
+use Rattle.honest_rules.proofs.Imports.{role_at, AreOrderlyMachinesOf, MachinesAreHonest, ScriptsLeadToHonestPlaces}
+use Rattle.honest_rules.proofs.Imports.{ScriptsKeepTheRules, ScriptsAreNeverBroken, ScriptsAreKept}
+use Rattle.std.proofs.Common.{[], Option, Some, None}
+use Rattle.honest_logs.proofs.Scripts.{scripts_are_honest}
+use Rattle.honest_rules.specs.Scripts.{ScriptsAreNeverTooWide}
 use Rattle.honest_rules.proofs.Standard.{honest_entries_keep_the_rules}
 use Rattle.honest_rules.proofs.Audits.{honest_audits_never_say_broken, honest_audits_say_kept}
+use Rattle.honest_rules.proofs.Narrow.{standard_rules_are_narrow}
 
 -- it is what the script gives the machine at this place
 abbrev IsConfigAt : Script → ℕ → Config → Type 0
@@ -181,7 +159,13 @@ pub scripts_are_never_broken : ScriptsAreNeverBroken
 scripts_are_never_broken script steps w lawful come =
     honest_audits_never_say_broken (roster_of script) w (scripts_lead_to_honest_places script steps w lawful come)
 
--- and of all of them each is known to be true
+-- given all entries that a script's machines sent, each standard rule is known to be kept
 pub scripts_are_kept : ScriptsAreKept
 scripts_are_kept script steps w lawful come =
     honest_audits_say_kept (roster_of script) w (scripts_lead_to_honest_places script steps w lawful come)
+
+-- over no entries that were sent there a standard rule is too wide, since a script has at most 4,096 actions
+pub scripts_are_never_too_wide : ScriptsAreNeverTooWide
+scripts_are_never_too_wide script steps w lawful come distinct =
+    standard_rules_are_narrow (roster_of script) w (scripts_lead_to_honest_places script steps w lawful come) distinct
+    (scripts_are_honest script lawful steps w come).few_sent

@@ -1,23 +1,9 @@
 -- What rules ask of an honest polling place, one lemma for each shape: an earlier entry, one entry alone, and none
 -- before.
-use Rattle.std.proofs.Common.{◌≡◌, ℕ, Bool, List, inl, inr, sym, subst}
-use Rattle.std.specs.Prelude.{Any}
-use Rattle.std.specs.Bool.{Decides}
-use Rattle.std.specs.List.{Contains}
-use Rattle.entry_format.specs.declared.deed.Deed.{Deed}
-use Rattle.entry_format.specs.declared.entry.Entry.{Entry}
-use Rattle.entry_format.specs.Nodes.{node_of_sealed}
-use Rattle.entry_format.specs.SealedEntry.{SealedEntry}
-use Rattle.entry_order.specs.declared.event.Event.{Event}
-use Rattle.entry_order.specs.Naming.{Distinct}
-use Rattle.entry_order.specs.History.{held}
-use Rattle.entry_order.specs.Precedes.{Precedes}
-use Rattle.entry_order.specs.World.{World, sent_in}
-use Rattle.entry_order.proofs.Lists.{Contains-map, Contains-map_cases}
-use Rattle.deed_history.specs.Held.{HoldsSome, HoldsOwn}
-use Rattle.roster.specs.declared.post.Post.{Post}
-use Rattle.polling_world.specs.Rules.{entries_in, IsWholeHistory}
-use Rattle.honest_rules.specs.Honest.{IsHonest}
+use Rattle.honest_rules.proofs.Imports.{◌≡◌, ℕ, Bool, List, inl, inr, sym, subst, Any, Decides, Contains, Deed, Entry}
+use Rattle.honest_rules.proofs.Imports.{node_of_sealed, SealedEntry, Event, Distinct, held, Precedes, World, sent_in}
+use Rattle.honest_rules.proofs.Imports.{Contains-map, Contains-map_cases, HoldsSome, HoldsOwn, Post, entries_in}
+use Rattle.honest_rules.proofs.Imports.{IsWholeHistory, IsHonest}
 use Rattle.honest_rules.proofs.Causes.{own_for_sure, any_for_sure}
 use Rattle.honest_rules.proofs.Pasts.{SentBy, two_of_one, held_precedes, own_held, whole_held}
 
@@ -70,7 +56,7 @@ module _ {posts : List Post} {w : World SealedEntry} (honest : IsHonest posts w)
     any_asked test IsSuch decides e s ce deny =
         any_before IsSuch e s ce (any_for_sure test IsSuch decides (entries_in s.past) deny)
 
-    -- and where an own one is
+    -- where it is asked for that an entry of the maker's own is held
     pub own_asked : (test : Deed → Bool) (IsSuch : Deed → Type 0) → ((d : Deed) → Decides (test d) (IsSuch d)) →
         (e : SealedEntry) (s : SentBy w e) → Contains (sent_in w) e →
         ((HoldsOwn e.entry.maker (entries_in s.past) IsSuch → ⊥) → ⊥) →

@@ -1,14 +1,8 @@
 -- Each standard rule holds of entries that an honest polling place sent.
-use Rattle.std.proofs.Common.{List, [], ◌∷◌, inl, inr, subst}
-use Rattle.std.specs.List.{Contains}
-use Rattle.entry_order.proofs.Lists.{Contains-none, Contains-cons_cases}
-use Rattle.entry_format.specs.Nodes.{node_of_sealed}
-use Rattle.entry_order.specs.World.{sent_in}
-use Rattle.rule_language.specs.Trees.{RuleTree}
-use Rattle.rule_language.specs.Standard.{standard_rules}
-use Rattle.rule_meaning.specs.Meaning.{Holds}
-use Rattle.auditor.specs.Rows.{row_of}
-use Rattle.honest_rules.specs.Kept.{HonestEntriesKeepTheRules}
+use Rattle.std.proofs.Common.{[]}
+use Rattle.honest_rules.proofs.Imports.{List, ◌∷◌, inl, inr, subst, Contains, Contains-none, Contains-cons_cases}
+use Rattle.honest_rules.proofs.Imports.{node_of_sealed, sent_in, RuleTree, standard_rules, Holds, row_of}
+use Rattle.honest_rules.proofs.Imports.{HonestEntriesKeepTheRules}
 use Rattle.honest_rules.proofs.SupervisorRules as supervisor
 use Rattle.honest_rules.proofs.BoothRules as booth
 use Rattle.honest_rules.proofs.EntryRules as entry

@@ -1,71 +1,20 @@
 -- The rules of what the supervisor does.
-use Rattle.std.proofs.Common.{◌≡◌, ℕ, zero, suc, ◌+◌, Bool, true, false, cond, List, [], ◌∷◌, inl, inr, refl}
-use Rattle.std.proofs.Common.{ap, ◌∙◌, arith}
-use Rattle.std.specs.Prelude.{IsTrue, ◌==◌, slice_get, Option, Some, None, count_by}
-use Rattle.std.specs.List.{Contains}
-use Rattle.std.proofs.lemmas.Bool.{eqb-true, eq-eqb}
-use Rattle.std.proofs.lemmas.List.Sums.{sum_by-cons}
+use Rattle.honest_rules.proofs.Imports.{◌≡◌, ℕ, true, List, inl, inr, refl, ap, ◌∙◌, IsTrue, ◌==◌, slice_get, Contains}
+use Rattle.honest_rules.proofs.Imports.{eqb-true, eq-eqb, How, node_of_sealed, SealedEntry, Distinct, Precedes, World}
+use Rattle.honest_rules.proofs.Imports.{sent_in, Post, Supervisor, is_supervisor, Authorises, Commits, Ends, is_opened}
+use Rattle.honest_rules.proofs.Imports.{opened_decides, authorises, authorises_decides, commits, commits_decides, ends}
+use Rattle.honest_rules.proofs.Imports.{ends_decides, Trees, o1_body, o2_body, a2_body, p1_body, p2_body, p3_body}
+use Rattle.honest_rules.proofs.Imports.{v1_body, v4_body, Holds, is_kind, row_of, role_in, kind_of, session_of}
+use Rattle.honest_rules.proofs.Imports.{booth_of, IsHonest, role_at, WereSentIn}
+use Rattle.std.specs.Prelude.{Option, Some, None}
 use Rattle.entry_format.specs.declared.deed.Deed.TheVariants as deed
-use Rattle.entry_format.specs.declared.deed.How.{How}
 use Rattle.entry_format.specs.declared.deed.How.TheVariants as how
-use Rattle.entry_format.specs.Nodes.{node_of_sealed}
-use Rattle.entry_format.specs.SealedEntry.{SealedEntry}
-use Rattle.entry_order.specs.Naming.{Distinct}
-use Rattle.entry_order.specs.Precedes.{Precedes}
-use Rattle.entry_order.specs.World.{World, sent_in}
-use Rattle.roster.specs.declared.post.Post.{Post}
-use Rattle.roster.specs.declared.post.Role.TheVariants.{Supervisor}
-use Rattle.roster.specs.Machines.{is_supervisor}
-use Rattle.deed_history.specs.Deeds.{Authorises, Commits, Ends}
-use Rattle.deed_history.proofs.Deciding.{is_opened, opened_decides, authorises, authorises_decides}
-use Rattle.deed_history.proofs.Deciding.{commits, commits_decides, ends, ends_decides}
 use Rattle.rule_language.specs.declared.kind.Kind.TheVariants as kind
-use Rattle.rule_language.specs.Trees.{Trees}
-use Rattle.rule_language.specs.Standard.{o1_body, o2_body, a2_body, p1_body, p2_body, p3_body, v1_body, v4_body}
-use Rattle.rule_meaning.specs.Meaning.{Holds}
-use Rattle.rule_meaning.specs.Tests.{is_kind}
-use Rattle.auditor.specs.Rows.{row_of, role_in, kind_of, session_of, booth_of}
-use Rattle.honest_rules.specs.Honest.{IsHonest, role_at}
-use Rattle.honest_rules.specs.Kept.{WereSentIn}
+use Rattle.honest_rules.proofs.Counts.{one_meets}
 use Rattle.honest_rules.proofs.DeedKinds.{of_kind}
 use Rattle.honest_rules.proofs.Pasts.{sent_by}
 use Rattle.honest_rules.proofs.Causes.{supervisor_row}
 use Rattle.honest_rules.proofs.Shapes.{one_alone, any_asked, own_asked, own_was_held}
-
--- ---- one supervisor
-
--- how many members meet a test, by the first
-module _ {X : Type 0} (p : X → Bool) where
-  -- the count goes up by one where the first member meets the test
-  counted : (x : X) (xs : List X) (b : Bool) → p x ≡ b → count_by p (x ∷ xs) ≡ cond b 1 0 + count_by p xs
-  counted x xs b is = sum_by-cons (λ y. cond (p y) 1 0) x xs ∙ ap (λ (c : Bool). cond c 1 0 + count_by p xs) is
-
-  -- where none are counted, none meets it
-  none_meets : (xs : List X) → count_by p xs ≡ 0 → (k : ℕ) (x : X) → slice_get xs k ≡ Some x → p x ≡ true → ⊥
-  none_meets [] none k x is t = cc
-  none_meets (z ∷ xs) none zero x is t =
-      let same : z ≡ x = cc in let count = counted z xs true (ap p same ∙ t) in omega arith
-  none_meets (z ∷ xs) none (suc k) x is t =
-      none_meets xs (let count = counted z xs (p z) refl in omega arith) k x is t
-
-  -- where one is counted, it stands at one place
-  one_meets : (xs : List X) → count_by p xs ≡ 1 → (i j : ℕ) (x y : X) → slice_get xs i ≡ Some x →
-      slice_get xs j ≡ Some y → p x ≡ true → p y ≡ true → i ≡ j
-  one_meets [] one i j x y is js t u = cc
-  one_meets (z ∷ xs) one zero zero x y is js t u = refl
-  one_meets (z ∷ xs) one zero (suc j) x y is js t u =
-      let same : z ≡ x = cc in
-      let count = counted z xs true (ap p same ∙ t) in absurd (none_meets xs (omega arith) j y js u)
-  one_meets (z ∷ xs) one (suc i) zero x y is js t u =
-      let same : z ≡ y = cc in
-      let count = counted z xs true (ap p same ∙ u) in absurd (none_meets xs (omega arith) i x is t)
-  one_meets (z ∷ xs) one (suc i) (suc j) x y is js t u =
-      by (p z) refl (λ rest. one_meets xs rest i j x y is js t u)
-    where
-      -- the same by whether the first member meets the test
-      by : (b : Bool) → p z ≡ b → (count_by p xs ≡ 1 → i ≡ j) → suc i ≡ suc j
-      by true h deeper = let count = counted z xs true h in absurd (none_meets xs (omega arith) i x is t)
-      by false h deeper = let count = counted z xs false h in ap suc (deeper (omega arith))
 
 -- a machine with the supervisor's role is in the roster
 supervisor_there : (o : Option Post) → role_in o ≡ Supervisor →
@@ -162,7 +111,7 @@ module _ {posts : List Post} {w : World SealedEntry} (honest : IsHonest posts w)
   pub rule_v1 : Rule v1_body
   rule_v1 e ce ke = authorised_before e ce how.Cancel (of_kind kind.Override e.entry.deed ke)
 
-  -- one that casts is of an authorised session with a commitment
+  -- an override that casts is of an authorised session with a commitment
   pub rule_v4 : Rule v4_body
   rule_v4 e ce ke =
       let s = sent_by honest e (were_sent e ce) in

@@ -30,7 +30,7 @@ pub record IsHonest (posts : List Post) (w : World SealedEntry) : Type 0 where
   pub allowed : (m : ℕ) (past : List (Event SealedEntry)) (e : SealedEntry) (later : List (Event SealedEntry)) →
       history w m ≡ past ++ Sent e ∷ later → MayAs (role_at posts m) m past e
 
--- whether a place is honest is told by its histories alone: where w has those of v, it is if v is
+-- whether a place is honest depends on its histories alone: w is honest if v is and both have the same histories
 abbrev pub HonestyIsOfHistories : Type 0
 HonestyIsOfHistories =
     (posts : List Post) (v w : World SealedEntry) → ((m : ℕ) → history w m ≡ history v m) → IsHonest posts v →

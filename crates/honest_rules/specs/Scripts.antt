@@ -15,7 +15,8 @@ use Rattle.polling_world.specs.Playing.{ComesTo}
 use Rattle.polling_world.specs.Sending.{AreMade}
 use Rattle.polling_world.specs.Worlds.{world_of}
 use Rattle.honest_rules.specs.Honest.{IsHonest}
-use Rattle.honest_rules.specs.Kept.{WereSentIn, AreAllOf, StandardRulesHold, NoneIsBroken, EachIsKept}
+use Rattle.honest_rules.specs.Kept.{WereSentIn, AreAllOf, StandardRulesHold, NoneIsBroken, NoneIsTooWide}
+use Rattle.honest_rules.specs.Kept.{EachIsKept}
 
 -- a lawful script, of either version, leads by any steps to a place that is honest under the script's roster
 abbrev pub ScriptsLeadToHonestPlaces : Type 0
@@ -23,15 +24,15 @@ ScriptsLeadToHonestPlaces =
     (script : Script) (steps : List Step) (w : World SealedEntry) → IsLawful script → ComesTo script steps w →
     IsHonest (roster_of script) w
 
--- these are machines of the script, each at its place, whatever stopped it; each could send what it sent when it did,
--- and together they are orderly
+-- the machines are those of the script, each at its place, whatever stopped it; each could send what it sent when it
+-- did, and together they are orderly
 pub record AreOrderlyMachinesOf (script : Script) (machines : List MachineState) : Type 0 where
   pub number : (place : ℕ) (m : MachineState) → slice_get machines place ≡ Some m → m.config.number ≡ place
   pub config : (place : ℕ) (m : MachineState) → slice_get machines place ≡ Some m → IsOf script m.config
   pub made : (place : ℕ) (m : MachineState) → slice_get machines place ≡ Some m → AreMade m.config m.events
   pub orderly : IsOrderly node_of_sealed (world_of machines)
 
--- so they are an honest place too, which needs no list of steps
+-- orderly machines of a lawful script are an honest place, whatever stopped them; this needs no list of steps
 abbrev pub MachinesAreHonest : Type 0
 MachinesAreHonest =
     (script : Script) (machines : List MachineState) → IsLawful script → AreOrderlyMachinesOf script machines →
@@ -44,16 +45,23 @@ ScriptsKeepTheRules =
     Distinct node_of_sealed (sent_in w) →
     (S : List SealedEntry) → WereSentIn w S → StandardRulesHold (roster_of script) w S
 
--- none is broken, whichever of them are given
+-- no standard rule is known to be broken, whichever entries of a script's machines are given
 abbrev pub ScriptsAreNeverBroken : Type 0
 ScriptsAreNeverBroken =
     (script : Script) (steps : List Step) (w : World SealedEntry) → IsLawful script → ComesTo script steps w →
     Distinct node_of_sealed (sent_in w) →
     (S : List SealedEntry) → WereSentIn w S → NoneIsBroken (roster_of script) S
 
--- and where all are given, each is kept
+-- each standard rule is known to be kept where all entries that a script's machines sent are given
 abbrev pub ScriptsAreKept : Type 0
 ScriptsAreKept =
     (script : Script) (steps : List Step) (w : World SealedEntry) → IsLawful script → ComesTo script steps w →
     Distinct node_of_sealed (sent_in w) →
     (S : List SealedEntry) → WereSentIn w S → AreAllOf w S → EachIsKept (roster_of script) S
+
+-- over no entries that a script's machines sent, by any steps, a standard rule is too wide
+abbrev pub ScriptsAreNeverTooWide : Type 0
+ScriptsAreNeverTooWide =
+    (script : Script) (steps : List Step) (w : World SealedEntry) → IsLawful script → ComesTo script steps w →
+    Distinct node_of_sealed (sent_in w) →
+    (S : List SealedEntry) → WereSentIn w S → NoneIsTooWide (roster_of script) S

@@ -5,11 +5,13 @@ ghost use Rattle.honest_rules.specs.Kept.{
   HonestAuditsNeverSayBroken,
   HonestAuditsSayKept,
   HonestEntriesKeepTheRules,
+  StandardRulesAreNarrow,
 };
 ghost use Rattle.honest_rules.specs.Scripts.{
   MachinesAreHonest,
   ScriptsAreKept,
   ScriptsAreNeverBroken,
+  ScriptsAreNeverTooWide,
   ScriptsKeepTheRules,
   ScriptsLeadToHonestPlaces,
 };
@@ -27,7 +29,14 @@ pub fn honest_audits_say_kept()
     ensures kept { HonestAuditsSayKept }
 {}
 
-/// Whether a place is honest is told by its histories alone, and not by what has stopped.
+/// Where an honest place sent at most 4,096 entries, no standard rule is too wide over any of them:
+/// a rule has at most two quantifiers in one another, and the one with three goes over closings, of
+/// which there is at most one.
+pub fn standard_rules_are_narrow()
+    ensures { StandardRulesAreNarrow }
+{}
+
+/// Whether a place is honest depends on its histories alone, and not on what has stopped.
 pub fn honesty_is_of_histories()
     ensures { HonestyIsOfHistories }
 {}
@@ -41,4 +50,6 @@ pub fn scripts_lead_to_honest_places()
     ensures rules { ScriptsKeepTheRules }
     ensures never_broken { ScriptsAreNeverBroken }
     ensures kept { ScriptsAreKept }
+    // A script has at most 4,096 actions, so no more entries are sent.
+    ensures never_too_wide { ScriptsAreNeverTooWide }
 {}

@@ -3,14 +3,9 @@
 //! contract of a function with an empty body.
 #![tactic(auto)]
 
-mod examples;
 mod laws;
 
-pub use examples::{
-    casting_over_gaps_fails, closing_over_sessions_fails, looking_for_its_own_booth_fails,
-    naming_none_of_its_own_fails, taking_another_booths_session_fails,
-};
 pub use laws::{
     honest_audits_say_kept, honest_entries_keep_the_rules, honesty_is_of_histories,
-    scripts_lead_to_honest_places,
+    scripts_lead_to_honest_places, standard_rules_are_narrow,
 };

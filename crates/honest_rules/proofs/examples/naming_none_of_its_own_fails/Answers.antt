@@ -1,5 +1,0 @@
-use Rattle.honest_rules.proofs.NoChain.{naming_none_of_its_own_fails}
-use Rattle.honest_rules.proofs.examples.naming_none_of_its_own_fails.Goals as goal
-
-pub returns : goal.returns
-returns c = naming_none_of_its_own_fails
