@@ -61,7 +61,7 @@ const ROWS: &[Row] = &[
     ),
     // No record ends this session, so the log is whole.
     (&[HEAD, CAST, OPEN, IN_ORDER, CLOSE], 2, "6 6 0 22 0 0 kept"),
-    // Nothing stands behind the record.
+    // Nothing follows the record.
     (&[HEAD, CAST, OPEN, IN_ORDER], 1, "5 5 0 22 0 0 kept"),
     // What the last entry names is gone.
     (

@@ -56,7 +56,7 @@ impl SignedText for Small {
     }
 }
 
-/// The entry that a word tells: the letters of its digest and its text, its maker, number and stamp
+/// The entry that a word gives: the letters of its digest and its text, its maker, number and stamp
 /// as digits, and the letters of the digests that it names.
 fn entry_of(alloc: Global, word: &[u8]) -> Result<Small, AllocError> {
     let digit = |at: usize| word
@@ -100,8 +100,8 @@ fn push_digit(shown: &mut Vec<u8>, number: u32) -> Result<(), AllocError> {
     Ok(())
 }
 
-/// The digest of each survivor, the numbers of those that it names, and `?` where it names a gap; then
-/// the gaps, the strays, and the forks by maker and number.
+/// The digest of each survivor, the numbers of those that it names, and `?` where it names a gap;
+/// then the gaps, the strays, and the forks by maker and number.
 fn shown(alloc: Global, graph: &Graph<Small>) -> Result<Vec<u8>, AllocError> {
     let mut shown = Vec::new(alloc);
     for node in 0..graph.count() {
@@ -152,7 +152,7 @@ fn told(alloc: Global, words: &str) -> Result<Vec<u8>, AllocError> {
 const GRAPHS: &[(&str, &str)] = &[
     // A chain, given backwards and with an entry twice.
     ("cC013b bB102a aA001 bB102a", "a b0 c1 gaps  strays  forks"),
-    // Equal stamps go by digest, and a gap is told once.
+    // Equal stamps go by digest, and a gap is reported once.
     ("bB101x aA001x", "a? b? gaps x strays  forks"),
     // A stray names an entry with its own stamp, here itself, or a later one. It has no gaps.
     ("aA001a bB002cx cC102", "c gaps  strays ab forks"),
@@ -168,7 +168,7 @@ const GRAPHS: &[(&str, &str)] = &[
         "aA111 bB112 cC113 dD003 eE004",
         "a b c d e gaps  strays  forks 00 11",
     ),
-    // The first that collides is told, with the one before it.
+    // The first that collides is reported, with the one before it.
     ("aA001 bB001 bX001 aY001", "bB bX"),
 ];
 
@@ -182,7 +182,7 @@ fn graphs_of_a_few_entries(rt: HostRuntime) -> Result<(), Fail> {
     Ok(())
 }
 
-/// So many entries, no two with one digest, and the first once more.
+/// This many entries, no two with one digest, and the first once more.
 fn many(alloc: Global, count: u32) -> Result<Vec<Small>, AllocError> {
     let mut entries = Vec::new(alloc);
     for n in 0..count {

@@ -54,7 +54,7 @@ fn read(alloc: Global, store: &mut MemoryStore, files: &str) -> Result<String, A
     shown(alloc, logs)
 }
 
-/// The same, or what the fault tells.
+/// The same, or what the fault says.
 fn told(alloc: Global, store: &mut MemoryStore, files: &str) -> Result<String, AllocError> {
     match read(alloc, store, files) {
         Ok(line) => Ok(line),
@@ -62,7 +62,7 @@ fn told(alloc: Global, store: &mut MemoryStore, files: &str) -> Result<String, A
     }
 }
 
-/// The files with what is told: the owners of the logs and how many survivors each graph has.
+/// The files with what is reported: the owners of the logs and how many survivors each graph has.
 const ROWS: &str = "r a = 0 0 0
 r a b a = 0 7 0 0 0
 x y = there is no file x

@@ -1,5 +1,5 @@
 //! Tests of the public calls of `entry_graph`, `log_files`, `evidence` and `demonstration`. They
-//! stand in a crate of their own, so that what they test isn't proved once more with them.
+//! are in a crate of their own, so that what they test isn't proved once more with them.
 #![tactic(auto)]
 
 #[cfg(test)]

@@ -18,7 +18,7 @@ const LOG: &str = "(3:log1:11:0)\
 (4:sent(6:sealed(5:entry1:132:eeeeeeeeeeeeeeeeeeeeeeeeeeeeeeee1:01:11:3\
 (32:aaaaaaaaaaaaaaaaaaaaaaaaaaaaaaaa)(6:closed))3:sig))";
 
-/// Behind the header and each record: the place in bytes, and what is read up to there.
+/// After the header and each record: the place in bytes, and what is read up to there.
 const ENDS: &[(usize, &str)] = &[
     (13, "0"),
     (104, "1"),
@@ -47,7 +47,7 @@ fn answer_of(alloc: Global, store: &mut MemoryStore) -> Result<String, Fail> {
     }
 }
 
-/// What the file of these bytes says, where a read gives at most so many bytes, or any number if
+/// What the file of these bytes says, where a read gives at most this many bytes, or any number if
 /// that is 0, and the read with this number fails, or none if that is 0.
 fn answer(alloc: Global, bytes: &[u8], most: usize, failing: u64) -> Result<String, Fail> {
     let mut store = MemoryStore::make(alloc, vec![in alloc; failing]?, Vec::new(alloc));
@@ -69,7 +69,7 @@ fn is_said(
     Ok(answer(alloc, bytes, most, failing)?.as_str() == want)
 }
 
-/// So many of the bytes, from the first on, or all of them.
+/// This many of the bytes, from the first on, or all of them.
 pub(crate) fn first(bytes: &[u8], count: usize) -> &[u8] {
     if count < bytes.len() {
         &bytes[..count]
@@ -78,7 +78,7 @@ pub(crate) fn first(bytes: &[u8], count: usize) -> &[u8] {
     }
 }
 
-/// The place behind the last whole record of the log that is cut behind so many bytes, and what is
+/// The place after the last whole record of the log that is cut after this many bytes, and what is
 /// read up to there.
 fn last_end(cut: usize) -> (usize, &'static str) {
     let mut last = (0, "");
@@ -90,7 +90,7 @@ fn last_end(cut: usize) -> (usize, &'static str) {
     last
 }
 
-/// What the log that is cut behind so many bytes says.
+/// What the log that is cut after this many bytes says.
 fn wanted(alloc: Global, cut: usize) -> Result<String, Fail> {
     let (end, read) = last_end(cut);
     if end == cut {
@@ -100,7 +100,7 @@ fn wanted(alloc: Global, cut: usize) -> Result<String, Fail> {
     }
 }
 
-/// Whether the log that is cut behind so many bytes says so in reads of at most so many bytes.
+/// Whether the log that is cut after this many bytes says so in reads of at most this many bytes.
 fn is_cut_so(alloc: Global, cut: usize, most: usize, failing: u64) -> Result<bool, Fail> {
     let want = wanted(alloc, cut)?;
     is_said(
@@ -140,7 +140,7 @@ const FILES: &str = "(3:log1:11:0) = 0 Clean
 (3:log1:110:4294967296) = Header
 3:log = Header";
 
-/// Whether the row's file says what stands behind it, read as one and byte by byte.
+/// Whether the row's file says what follows it, read as one and byte by byte.
 fn is_row_said(alloc: Global, row: &str) -> Result<bool, Fail> {
     let Some((bytes, want)) = row.split_once(" = ") else {
         return Ok(false);

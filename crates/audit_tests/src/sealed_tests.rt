@@ -322,7 +322,7 @@ fn said_of(alloc: Global, read: Result<LogRead, LogFault>) -> Result<String, Fai
     }
 }
 
-/// A store of this file. A read gives at most so many bytes, or any number if that is 0, and the
+/// A store of this file. A read gives at most this many bytes, or any number if that is 0, and the
 /// read with this number fails, or none if that is 0.
 fn store_of(alloc: Global, bytes: &[u8], most: usize, failing: u64) -> Result<MemoryStore, Fail> {
     let mut store = MemoryStore::make(alloc, vec![in alloc; failing]?, Vec::new(alloc));
@@ -669,7 +669,7 @@ fn a_log_read_after_another_says_the_same(rt: HostRuntime) -> Result<(), Fail> {
 /// What is read up to the end of each record of the log `0123`.
 const WHOLE: &[&str] = &["0", "0 0sent0", "0 0sent0 1sent1", "0 0sent0 1sent1 2got0"];
 
-/// Where the header and so many records end.
+/// Where the header and this many records end.
 fn end_of(records: &[Vec<u8>], count: usize) -> usize {
     let mut end = 13usize;
     for record in records.iter().take(count) {
@@ -678,7 +678,7 @@ fn end_of(records: &[Vec<u8>], count: usize) -> usize {
     end
 }
 
-/// How many records are whole in the log that is cut behind so many bytes, if its header is.
+/// How many records are whole in the log that is cut after this many bytes, if its header is.
 fn whole_records(records: &[Vec<u8>], cut: usize) -> Option<usize> {
     let mut whole = None;
     for count in 0..4usize {
@@ -689,7 +689,7 @@ fn whole_records(records: &[Vec<u8>], cut: usize) -> Option<usize> {
     whole
 }
 
-/// What the log that is cut behind so many bytes says.
+/// What the log that is cut after this many bytes says.
 fn wanted(alloc: Global, records: &[Vec<u8>], cut: usize) -> Result<String, Fail> {
     let Some(count) = whole_records(records, cut) else {
         return Ok(String::from_str(alloc, "Header")?);
@@ -703,7 +703,7 @@ fn wanted(alloc: Global, records: &[Vec<u8>], cut: usize) -> Result<String, Fail
     }
 }
 
-/// Whether the log that is cut behind so many bytes says so.
+/// Whether the log that is cut after this many bytes says so.
 fn is_cut_so(alloc: Global, hall: &Hall, log: &[u8], cut: usize) -> Result<bool, Fail> {
     let want = wanted(alloc, &hall.records, cut)?;
     is_said(alloc, hall, first(log, cut), 0, want.as_str())

@@ -1,33 +1,15 @@
 -- The steps of an audit, joined.
-use Rattle.std.proofs.Common.{◌≡◌, ℕ, List, ◌∷◌, ◌++◌, map, Option, Some, None, inl, inr, refl, sym, ap, subst}
-use Rattle.std.specs.Prelude.{Result, Ok, Err, IfOk, IfErr, IfSome, codes}
-use Rattle.hall_outside.specs.Files.{OnSomeFile}
-use Rattle.hall_outside.specs.ReadFile.{IsFileRefused}
+use Rattle.auditor.proofs.Imports.{◌≡◌, ℕ, List, ◌∷◌, ◌++◌, map, Option, Some, None, inl, inr, refl, sym, ap, subst}
+use Rattle.auditor.proofs.Imports.{Result, Ok, Err, IfOk, IfSome, codes, OnSomeFile, IsFileRefused, Post, LogRead}
+use Rattle.auditor.proofs.Imports.{SealedEntry, EntryGraph, Row, RuleTree, standard_rules, AuditFault, RosterRead}
+use Rattle.auditor.proofs.Imports.{Refusal, refused, too_long, refusal_of, IsFaultOf, StoreSeen, IsReadFrom}
+use Rattle.auditor.proofs.Imports.{GivesRosterIn, of_refusal, Unjudged, Begun, HasBegun, HasRules, IsUnjudged, row_of}
+use Rattle.auditor.proofs.Imports.{ReportParts, report_of, RuleSource, standard, in_file, source_word, rule_files}
+use Rattle.auditor.proofs.Imports.{max_rules, GivesRules, WithGraph, WithRules, WithRoster, OnFiles, GivesReportIn}
+use Rattle.auditor.proofs.Imports.{on_refusal, read_then, read_ends, some_files}
+use Rattle.std.specs.Prelude.{IfErr}
 use Rattle.hall_outside.specs.declared.reading.FileFault.TheVariants as file
-use Rattle.roster.specs.declared.post.Post.{Post}
-use Rattle.log_files.specs.declared.sealed_log.LogRead.{LogRead}
-use Rattle.entry_format.specs.SealedEntry.{SealedEntry}
-use Rattle.entry_graph.specs.EntryGraph.{EntryGraph}
-use Rattle.rule_language.specs.declared.row.Row.{Row}
-use Rattle.rule_language.specs.Trees.{RuleTree}
-use Rattle.rule_language.specs.Standard.{standard_rules}
-use Rattle.evidence.specs.declared.fault.AuditFault.{AuditFault}
-use Rattle.evidence.specs.declared.roster_file.RosterRead.{RosterRead}
-use Rattle.evidence.specs.Refusal.{Refusal, refused, too_long, refusal_of, IsFaultOf}
-use Rattle.evidence.specs.Reading.{StoreSeen, IsReadFrom}
-use Rattle.evidence.specs.RosterFile.{GivesRosterIn}
-use Rattle.evidence.proofs.Readings.{of_refusal}
-use Rattle.auditor.specs.declared.judging.Unjudged.{Unjudged}
 use Rattle.auditor.specs.declared.judging.Unjudged.TheVariants.{TooWide}
-use Rattle.auditor.specs.declared.auditing.Begun.{Begun}
-use Rattle.auditor.specs.inside.Begun.{HasBegun, HasRules}
-use Rattle.auditor.specs.inside.Unjudged.{IsUnjudged}
-use Rattle.auditor.specs.Rows.{row_of}
-use Rattle.auditor.specs.Report.{ReportParts, report_of}
-use Rattle.auditor.specs.Sources.{RuleSource, standard, in_file, source_word, rule_files, max_rules, GivesRules}
-use Rattle.auditor.specs.Audits.{WithGraph, WithRules, WithRoster, OnFiles, GivesReportIn}
-use Rattle.evidence.proofs.Steps.{on_refusal, read_then, read_ends}
-use Rattle.evidence.proofs.LogLists.{some_files}
 
 -- an answer's promise, by another one
 pub ok_by : {T E : Type 0} (result : Result T E) (P Q : T → Type 0) → ((found : T) → P found → Q found) →
@@ -35,13 +17,13 @@ pub ok_by : {T E : Type 0} (result : Result T E) (P Q : T → Type 0) → ((foun
 ok_by (Ok found) P Q step is = step found is
 ok_by (Err e) P Q step is = tt
 
--- a refusal's, likewise
+-- a refusal's promise, by another one that implies it
 pub err_by : {T : Type 0} (result : Result T AuditFault) (P Q : Refusal → Type 0) → ((r : Refusal) → P r → Q r) →
     IfErr result (λ fault. IfSome (refusal_of fault) P) → IfErr result (λ fault. IfSome (refusal_of fault) Q)
 err_by (Ok found) P Q step is = tt
 err_by (Err fault) P Q step is = on_refusal P Q (refusal_of fault) step is
 
--- a rule that is too wide is told by its place
+-- a rule that is too wide is reported by its place
 pub too_wide_gives : (machines : List Post) (source : RuleSource) (trees given : List RuleTree) (names : List (List ℕ))
     (logs : List LogRead) (graph : EntryGraph SealedEntry) (rows : List Row) (unjudged : Unjudged) (place : ℕ)
     (word : List ℕ) (fault : AuditFault) → rows ≡ map (row_of machines) graph.survivors → given ≡ trees →
@@ -85,7 +67,7 @@ standard_joins source read trees names old new result is same given =
     (λ told answer. OnFiles names (λ files. WithRules read standard ts names files answer) told) old result new in
     subst P (sym is) (subst R same (subst Q is given))
 
--- and those of a file are read first
+-- with the roster read, the rules of a file are read before the logs, and judge them
 pub rules_join : {T : Type 0} (value : T → List RuleTree) (source : RuleSource) (name : List ℕ) (read : RosterRead)
     (names : List (List ℕ)) (old mid new : StoreSeen) (rules : T) (result : Result ReportParts AuditFault) →
     source ≡ in_file name →
@@ -109,7 +91,7 @@ rules_join value source name read names old mid new rules result is first rest =
     old mid new rules result first (subst Q is rest)
     (λ answer (this, at, gives) (files, are, with). (this ∷ files, (at, are), inl (value rules, gives, with))))
 
--- and where that file gives no rules, its fault is the answer
+-- a file that gives no rules ends the audit with its fault
 pub rules_end : {T : Type 0} (value : T → List RuleTree) (source : RuleSource) (name : List ℕ) (read : RosterRead)
     (names : List (List ℕ)) (old new : StoreSeen) (fault : AuditFault) → source ≡ in_file name →
     IsReadFrom value (λ told answer. OnSomeFile told name (λ file. GivesRules name file answer)) old (Err fault) new →
@@ -140,7 +122,7 @@ roster_joins roster source names old mid new read result first rest =
     (GivesReportIn roster source names) old mid new read result first rest
     (λ answer (this, at, gives) (files, are, with). (this ∷ files, (at, are), inl (read, gives, with)))
 
--- so the roster and the rules are read
+-- once the roster and the rules are read, the audit has begun
 pub begun_after : (roster : List ℕ) (source : RuleSource) (old mid : StoreSeen) (read : RosterRead)
     (result : Result Begun AuditFault) (new : StoreSeen) →
     IsReadFrom (λ (r : RosterRead). r) (GivesRosterIn roster) old (Ok read) mid → HasRules read source mid result new →

@@ -1,27 +1,13 @@
 -- The places at which rules are broken are survivors'.
-use Rattle.std.proofs.Common.{◌≡◌, ℕ, zero, suc, ◌+◌, ◌<◌, Bool, true, false, cond, List, [], ◌∷◌, length, sym, subst}
-use Rattle.std.proofs.Common.{refl, arith, Option, Some, None}
-use Rattle.std.specs.Prelude.{All, find, Ok, slice_get, ◌&&◌}
-use Rattle.std.specs.List.{range_with_len}
+use Rattle.auditor.proofs.Imports.{◌≡◌, ℕ, zero, suc, ◌+◌, ◌<◌, Bool, true, false, cond, List, [], ◌∷◌, length, sym}
+use Rattle.auditor.proofs.Imports.{subst, refl, arith, Option, Some, None, All, find, Ok, slice_get, ◌&&◌}
+use Rattle.auditor.proofs.Imports.{range_with_len, All-from_recursion, AllZip-long, Three, before, is_whole, Graph}
+use Rattle.auditor.proofs.Imports.{Row, Form, Trees, no_trees, tree_then, RuleTree, is_false, has_kind, bind, unbound}
+use Rattle.auditor.proofs.Imports.{values, first_value, first_false, and_then, broken_by, broken, IsVerdict, IsJudged}
+use Rattle.auditor.proofs.Imports.{Verdict, Broken, Unsettled, AreJudged, AreBelow, IsBelow}
 use Rattle.std.specs.List.{AllByRecursion as ByRecursion}
-use Rattle.std.proofs.lemmas.List.Elements.{All-from_recursion}
-use Rattle.std.proofs.lemmas.Slice.Zip.{AllZip-long}
-use Rattle.entry_order.specs.declared.three.Three.{Three}
-use Rattle.entry_order.specs.Ancestors.{before, is_whole}
-use Rattle.precedence.specs.Graph.{Graph}
-use Rattle.rule_language.specs.declared.row.Row.{Row}
-use Rattle.rule_language.specs.declared.form.Form.{Form}
 use Rattle.rule_language.specs.declared.form.Form.TheVariants as form
-use Rattle.rule_language.specs.Trees.{Trees, no_trees, tree_then, RuleTree}
-use Rattle.rule_meaning.specs.Kleene.{is_false}
-use Rattle.rule_meaning.specs.Tests.{has_kind}
-use Rattle.rule_meaning.specs.Meaning.{bind, unbound}
-use Rattle.rule_meaning.specs.Values.{values, first_value}
-use Rattle.rule_engine.specs.Verdicts.{first_false, and_then, broken_by, broken, IsVerdict, IsJudged}
-use Rattle.rule_engine.specs.declared.verdict.Verdict.{Verdict}
-use Rattle.rule_engine.specs.declared.verdict.Verdict.TheVariants.{Kept, Broken, Unsettled}
-use Rattle.auditor.specs.Judged.{AreJudged}
-use Rattle.auditor.specs.inside.Places.{AreBelow, IsBelow}
+use Rattle.rule_engine.specs.declared.verdict.Verdict.TheVariants.{Kept}
 
 -- what is found in a range is below its end
 found_step : (b : Bool) (i n found : ℕ) (later : Option ℕ) → (later ≡ Some found → found < i + 1 + n) →

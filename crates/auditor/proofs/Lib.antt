@@ -1,8 +1,10 @@
+mod Imports
 pub mod Pieces
 pub mod OneByOne
 pub mod Makers
 pub mod Below
 pub mod Audited
+pub mod OneStep
 pub mod OneVerdict
 pub mod OneReport
 pub mod Lower

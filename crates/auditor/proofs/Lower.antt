@@ -1,21 +1,8 @@
--- Entries that go by stamp and then digest: what they say stands at one place each.
-use Rattle.std.proofs.Common.{◌≡◌, ◌∙◌, ℕ, ◌<◌, List, sym, ap, subst, Some, inl, inr, arith}
-use Rattle.std.specs.Prelude.{slice_get}
-use Rattle.std.proofs.Common.{get_or}
-use Rattle.std.specs.List.{AllPairs}
-use Rattle.std.specs.Ordering.{is_eq}
-use Rattle.std.proofs.lemmas.Bool.{false≢true}
-use Rattle.std.proofs.lemmas.Option.{slice_get_within, get_or_from_slice_get}
-use Rattle.std.proofs.lemmas.Slice.Eq.{bytes_eq-Decides}
-use Rattle.std.proofs.lemmas.Map.Text.{is_eq-slice_cmp}
-use Rattle.entry_order.specs.Node.{Node}
-use Rattle.entry_format.specs.declared.plain.Plain.{Plain}
-use Rattle.entry_format.specs.SealedEntry.{SealedEntry}
-use Rattle.entry_format.specs.Nodes.{node_of, node_of_sealed}
-use Rattle.entry_graph.specs.EntryGraph.{IsLower}
-use Rattle.rule_meaning.specs.Sound.{HasNoDouble}
-use Rattle.entry_format.specs.Plains.{plain_of, plains}
-use Rattle.entry_order.proofs.Images.{at_image}
+-- Entries that go by stamp and then digest: what they say is at one place each.
+use Rattle.auditor.proofs.Imports.{◌≡◌, ◌∙◌, ℕ, ◌<◌, List, sym, ap, subst, Some, inl, inr, arith, slice_get, get_or}
+use Rattle.auditor.proofs.Imports.{AllPairs, is_eq, false≢true, slice_get_within, get_or_from_slice_get}
+use Rattle.auditor.proofs.Imports.{bytes_eq-Decides, is_eq-slice_cmp, Node, Plain, SealedEntry, node_of}
+use Rattle.auditor.proofs.Imports.{node_of_sealed, IsLower, HasNoDouble, plain_of, plains, at_image}
 
 -- nothing is lower than itself
 not_lower : (x z : SealedEntry) → node_of_sealed x ≡ node_of_sealed z → IsLower node_of_sealed x z → ⊥

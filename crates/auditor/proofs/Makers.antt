@@ -1,33 +1,17 @@
 -- The makers of entries are machines.
-use Rattle.std.proofs.Common.{◌≡◌, ◌∙◌, ℕ, suc, ◌+◌, ◌<◌, List, [], ◌∷◌, ◌++◌, length, take, get_or, map, ap, sym}
-use Rattle.std.proofs.Common.{subst, refl, not, inl, inr, Option, Some, None}
-use Rattle.std.specs.Prelude.{All, slice_get, Result, Ok, Err}
-use Rattle.std.specs.List.{Contains, filter}
+use Rattle.auditor.proofs.Imports.{◌≡◌, ◌∙◌, ℕ, suc, ◌+◌, ◌<◌, List, [], ◌∷◌, ◌++◌, length, take, get_or, map, ap}
+use Rattle.auditor.proofs.Imports.{sym, subst, refl, inl, inr, Option, Some, None, All, slice_get, Result, Ok, Err}
+use Rattle.auditor.proofs.Imports.{Contains, filter, bytes_eq, take_more, map-append, All-contains}
+use Rattle.auditor.proofs.Imports.{All-from_recursion, Contains-get_or, get_or_from_slice_get, Sexp, Post, EntryFault}
+use Rattle.auditor.proofs.Imports.{SealedEntry, node_of_sealed, is_stray, Contains-map, Contains-at, Contains-later}
+use Rattle.auditor.proofs.Imports.{Contains-cons_cases, Contains-filter_cases, LogRead, kept_of, Gives, EachGives}
+use Rattle.auditor.proofs.Imports.{IsReadSealed, IsSealedLogOf, distinct, EntryGraph, AreForks, Row, GivesLogs}
+use Rattle.auditor.proofs.Imports.{entries_of_records, entries_of, GivesGraph, HaveMakers, row_of}
+use Rattle.std.proofs.Common.{not}
 use Rattle.std.specs.List.{AllByRecursion as ByRecursion}
-use Rattle.std.specs.Str.{bytes_eq}
-use Rattle.std.proofs.lemmas.List.{take_more, map-append}
-use Rattle.std.proofs.lemmas.List.Elements.{All-contains, All-from_recursion, Contains-get_or}
-use Rattle.std.proofs.lemmas.Option.{get_or_from_slice_get}
-use Rattle.canonical_sexp.specs.declared.sexp.Sexp.{Sexp}
-use Rattle.roster.specs.declared.post.Post.{Post}
-use Rattle.entry_format.specs.declared.plain.EntryFault.{EntryFault}
-use Rattle.entry_format.specs.SealedEntry.{SealedEntry}
-use Rattle.entry_format.specs.Nodes.{node_of_sealed}
-use Rattle.entry_order.specs.Survivors.{is_stray}
-use Rattle.entry_order.proofs.Lists.{Contains-map, Contains-at, Contains-later, Contains-cons_cases, Contains-filter_cases}
 use Rattle.log_files.specs.declared.sealed_log.Kept.{Kept}
-use Rattle.log_files.specs.declared.sealed_log.LogRead.{LogRead}
-use Rattle.log_files.specs.LogText.{kept_of, Gives, EachGives}
-use Rattle.log_files.specs.SealedLog.{IsReadSealed}
-use Rattle.log_files.specs.LogFile.{IsSealedLogOf}
-use Rattle.entry_graph.specs.Given.{distinct}
-use Rattle.entry_graph.specs.EntryGraph.{EntryGraph, AreForks}
-use Rattle.rule_language.specs.declared.row.Row.{Row}
-use Rattle.evidence.specs.Logs.{GivesLogs}
-use Rattle.evidence.specs.Graphs.{entries_of_records, entries_of, GivesGraph}
-use Rattle.auditor.specs.Rows.{HaveMakers, row_of}
 
--- so are those of forks
+-- the makers of the forks are machines of the roster
 pub forks_have_makers : (machines : List Post) (survivors : List SealedEntry) (forks told : List (ℕ × ℕ)) →
     HaveMakers machines survivors → AreForks node_of_sealed survivors forks → told ≡ forks →
     All (λ (fork : ℕ × ℕ). fork.0 < length machines) told

@@ -1,20 +1,9 @@
 -- Rules judged one after another.
-use Rattle.std.proofs.Common.{◌≡◌, ◌∙◌, ℕ, zero, suc, ◌+◌, ◌<◌, List, [], ◌∷◌, ◌++◌, length, take, get_or, map, true}
-use Rattle.std.proofs.Common.{false, ap, sym, subst, arith, Some}
-use Rattle.std.specs.Prelude.{slice_get, Ok, Err}
-use Rattle.std.proofs.lemmas.Slice.Zip.{all_zipped_more}
-use Rattle.std.proofs.lemmas.List.{take_more, map-append}
-use Rattle.precedence.specs.Graph.{Graph}
-use Rattle.rule_language.specs.declared.formula.Rule.{Rule}
-use Rattle.rule_language.specs.declared.row.Row.{Row}
-use Rattle.rule_language.specs.Trees.{RuleTree}
-use Rattle.rule_language.specs.Forms.{rule_tree}
-use Rattle.rule_meaning.specs.Widths.{is_too_wide}
-use Rattle.rule_engine.specs.Verdicts.{IsJudged}
-use Rattle.rule_engine.specs.declared.verdict.Verdict.{Verdict}
-use Rattle.rule_engine.specs.declared.verdict.JudgeFault.{JudgeFault}
-use Rattle.rule_engine.specs.declared.verdict.JudgeFault.TheVariants.{TooWide, Memory}
-use Rattle.auditor.specs.Judged.{AreJudged, IsFirstTooWide}
+use Rattle.auditor.proofs.Imports.{◌≡◌, ◌∙◌, ℕ, zero, suc, ◌+◌, ◌<◌, List, [], ◌∷◌, ◌++◌, length, take, get_or, map}
+use Rattle.auditor.proofs.Imports.{true, false, ap, sym, subst, arith, Some, slice_get, Ok, Err, all_zipped_more}
+use Rattle.auditor.proofs.Imports.{take_more, map-append, Graph, Rule, Row, RuleTree, rule_tree, is_too_wide}
+use Rattle.auditor.proofs.Imports.{IsJudged, Verdict, JudgeFault, Memory, AreJudged, IsFirstTooWide}
+use Rattle.rule_engine.specs.declared.verdict.JudgeFault.TheVariants.{TooWide}
 
 -- the first rules and one more
 trees_more : (rules : List Rule) (i : ℕ) (rule : Rule) → i < length rules → rule ≡ get_or rules i rule →
@@ -57,7 +46,7 @@ judged_is_narrow rows graph (t ∷ trees) (v ∷ verdicts) zero tree judged at =
 judged_is_narrow rows graph (t ∷ trees) (v ∷ verdicts) (suc k) tree judged at =
     judged_is_narrow rows graph trees verdicts k tree judged.1 at
 
--- the rule behind those that were judged is the first that is too wide
+-- the rule after those that were judged is the first that is too wide
 pub first_too_wide : (rows : List Row) (graph : Graph) (rules : List Rule) (i : ℕ) (rule : Rule)
     (verdicts : List Verdict) → i < length rules → rule ≡ get_or rules i rule →
     AreJudged rows graph (map rule_tree (take i rules)) verdicts → is_too_wide rows (rule_tree rule).body 1 ≡ true →
@@ -70,7 +59,7 @@ first_too_wide rows graph rules i rule verdicts within is so_far wide = record {
       (early rules i k tree below stands);
 }
   where
-    -- the tree of the rule at a place stands at the same place among the trees
+    -- the tree of the rule at a place is at the same place among the trees
     at : (list : List Rule) (n : ℕ) (one : Rule) → n < length list → one ≡ get_or list n one →
         slice_get (map rule_tree list) n ≡ Some (rule_tree one)
     at [] n one below same = absurd (omega arith)

@@ -1,26 +1,13 @@
--- Rules have one verdict by graphs that tell the same.
-use Rattle.std.proofs.Common.{◌≡◌, ◌∙◌, ℕ, zero, suc, ◌<◌, ◌≤◌, Bool, false, cond, List, [], ◌∷◌, length, inl}
-use Rattle.std.proofs.Common.{inr, refl, sym, ap, subst, arith}
-use Rattle.std.specs.Prelude.{◌==◌, ◌||◌, ◌⊎◌, Result, Ok, Err, codes}
-use Rattle.std.specs.List.{AllZip, Contains, list_any}
-use Rattle.std.proofs.lemmas.Bool.{false≢true, cases_lt, cases_order, or_from}
-use Rattle.entry_format.specs.SealedEntry.{SealedEntry}
-use Rattle.entry_order.specs.declared.three.Three.{Three}
-use Rattle.entry_order.specs.declared.three.Three.TheVariants.{False, Unknown, True}
-use Rattle.entry_order.specs.Ancestors.{Descends, reaches, before, is_whole}
-use Rattle.entry_order.proofs.Lists.{Contains-head, Contains-later}
-use Rattle.entry_graph.specs.EntryGraph.{EntryGraph, parents_of, ragged_of}
-use Rattle.rule_language.specs.declared.row.Row.{Row}
-use Rattle.rule_language.specs.Trees.{Trees, RuleTree}
-use Rattle.rule_engine.specs.Verdicts.{IsVerdict}
-use Rattle.rule_engine.specs.declared.verdict.Verdict.{Verdict}
-use Rattle.rule_engine.specs.declared.verdict.Verdict.TheVariants.{Kept, Broken, Unsettled}
-use Rattle.rule_engine.proofs.Graphs.{same_answer}
-use Rattle.evidence.specs.Refusal.{Refusal, refused}
-use Rattle.evidence.specs.Same.{Agree, SameGraph}
-use Rattle.auditor.specs.Judged.{nodes_of, AreJudged, IsFirstTooWide}
-use Rattle.auditor.specs.Sources.{RuleSource, source_word}
-use Rattle.auditor.specs.Audits.{GivesVerdicts}
+-- Rules have one verdict by graphs that say the same.
+use Rattle.auditor.proofs.Imports.{◌≡◌, ◌∙◌, ℕ, zero, suc, ◌<◌, ◌≤◌, Bool, false, cond, List, [], ◌∷◌, length, inl}
+use Rattle.auditor.proofs.Imports.{inr, refl, sym, ap, subst, arith, ◌==◌, ◌||◌, ◌⊎◌, Result, Ok, Err, codes, AllZip}
+use Rattle.auditor.proofs.Imports.{Contains, list_any, false≢true, cases_lt, cases_order, or_from, SealedEntry, Three}
+use Rattle.auditor.proofs.Imports.{False, Unknown, True, Descends, reaches, before, is_whole, Contains-head}
+use Rattle.auditor.proofs.Imports.{Contains-later, EntryGraph, parents_of, ragged_of, Row, Trees, RuleTree, IsVerdict}
+use Rattle.auditor.proofs.Imports.{Verdict, Broken, Unsettled, same_answer, Refusal, refused, Agree, SameGraph}
+use Rattle.auditor.proofs.Imports.{SameVerdict, nodes_of, AreJudged, IsFirstTooWide, RuleSource, source_word}
+use Rattle.auditor.proofs.Imports.{GivesVerdicts}
+use Rattle.rule_engine.specs.declared.verdict.Verdict.TheVariants.{Kept}
 use Rattle.auditor.proofs.OneByOne.{judged_is_narrow}
 
 -- where each member fails a test, none of the list passes it
@@ -46,7 +33,7 @@ order_above : (parents : ℕ → List ℕ) (ragged : ℕ → Bool) → Descends 
 order_above parents ragged down y x low =
     ap (λ b. cond b True (cond (is_whole parents ragged x x) False Unknown)) (not_reached parents down x y x low)
 
--- graphs that tell the same order all places alike
+-- graphs that say the same order all places alike
 orders_agree : (graph other : EntryGraph SealedEntry) → Descends (parents_of graph.links) →
     Descends (parents_of other.links) → SameGraph graph other → (y x : ℕ) → x < length graph.survivors →
     before (parents_of graph.links) (ragged_of graph.links) y x
@@ -63,13 +50,6 @@ orders_agree graph other down down' same y x within = by_place (cases_lt y (leng
         ∙ ap (λ b. cond b False Unknown) (same.wholes x within)
         ∙ sym (order_above (parents_of other.links) (ragged_of other.links) down' y x (omega (arith, within, past)))
 
--- two verdicts are the same, and name the same places
-abbrev pub SameVerdict : Verdict → Verdict → Type 0
-SameVerdict Kept Kept = Unit {0}
-SameVerdict (Broken places) (Broken others) = places.items ≡ others.items
-SameVerdict Unsettled Unsettled = Unit {0}
-SameVerdict verdict other = ⊥
-
 -- a rule has one verdict
 one_verdict : (rows : List Row) (order : ℕ → ℕ → Three) (wholes : ℕ → Bool) (tree : Trees) (v w : Verdict) →
     IsVerdict rows order wholes tree v → IsVerdict rows order wholes tree w → SameVerdict v w
@@ -84,7 +64,7 @@ one_verdict rows order wholes tree Unsettled (Broken q) a (fails, _) = let no : 
 one_verdict rows order wholes tree Unsettled Unsettled a b = tt
 
 -- two places at which a rule is the first that is too wide are one
-one_place : (rows : List Row) (rules : List RuleTree) (p q : ℕ) → IsFirstTooWide rows rules p →
+pub one_place : (rows : List Row) (rules : List RuleTree) (p q : ℕ) → IsFirstTooWide rows rules p →
     IsFirstTooWide rows rules q → p ≡ q
 one_place rows rules p q a b = by_order (cases_order p q)
   where

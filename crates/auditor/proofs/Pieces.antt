@@ -1,11 +1,8 @@
 -- Texts of pieces, one piece more.
-use Rattle.std.proofs.Common.{◌≡◌, ◌∙◌, ℕ, ◌+◌, ◌<◌, ◌≤◌, List, [], ◌∷◌, ◌++◌, length, take, get_or, map, ap, sym}
-use Rattle.std.proofs.Common.{append_assoc, append-nil, arith}
-use Rattle.std.specs.Prelude.{Result, Ok, Err, OnOk}
-use Rattle.std.specs.List.{flat_map, zip}
-use Rattle.std.proofs.lemmas.Grind.{flat_map-append}
-use Rattle.std.proofs.lemmas.List.{take_more, take_all, get_or-map, length-map}
-use Rattle.std.proofs.lemmas.Slice.Zip.{length-zip, get_or-zip}
+use Rattle.auditor.proofs.Imports.{◌≡◌, ◌∙◌, ℕ, ◌+◌, ◌<◌, ◌≤◌, List, [], ◌∷◌, ◌++◌, length, take, get_or, map, ap}
+use Rattle.auditor.proofs.Imports.{sym, append_assoc, append-nil, arith, Result, Ok, Err, OnOk, flat_map, zip}
+use Rattle.auditor.proofs.Imports.{flat_map-append, take_more, take_all, get_or-map, length-map, length-zip}
+use Rattle.auditor.proofs.Imports.{get_or-zip}
 
 -- the text of the first items and of the next one is that of one item more
 pub piece_more : {A : Type 0} (f : A → List ℕ) (xs : List A) (i : ℕ) (x d : A) (start now new : List ℕ) →
@@ -24,7 +21,7 @@ length-pairs : {A B C : Type 0} (v : A → B) (xs : List A) (ys : List C) → le
     length (zip (map v xs) ys) ≡ length xs
 length-pairs v xs ys same = omega (arith, length-zip (map v xs) ys, length-map xs v, same)
 
--- the same of pairs, whose first members are what `v` makes of items
+-- the text so far of pairs, whose first members are what `v` makes of items, grows by that of the next pair
 pub pair_more : {A B C : Type 0} (v : A → B) (f : B × C → List ℕ) (xs : List A) (ys : List C) (i : ℕ) (x : A) (y : C)
     (start now new : List ℕ) → length xs ≡ length ys → i < length xs → x ≡ get_or xs i x → y ≡ get_or ys i y →
     now ≡ start ++ flat_map f (take i (zip (map v xs) ys)) → new ≡ now ++ f (v x, y) →

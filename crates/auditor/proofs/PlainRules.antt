@@ -1,15 +1,6 @@
 -- Rules over what sealed entries say.
-use Rattle.std.proofs.Common.{◌≡◌, ◌∙◌, List, [], ◌∷◌, map, refl, ap}
-use Rattle.entry_format.specs.declared.entry.Entry.{Entry}
-use Rattle.entry_format.specs.declared.plain.Plain.{Plain}
-use Rattle.entry_format.specs.SealedEntry.{SealedEntry}
-use Rattle.entry_format.specs.Nodes.{node_of}
-use Rattle.rule_language.specs.declared.row.Row.{Row}
-use Rattle.rule_meaning.specs.Values.{three_in}
-use Rattle.rule_meaning.proofs.Sounds.{rules_are_settled}
-use Rattle.entry_format.specs.Plains.{plain_of, plains}
-use Rattle.auditor.specs.PlainRules.{PlainRules}
-use Rattle.entry_order.proofs.Images.{same_graph}
+use Rattle.auditor.proofs.Imports.{◌≡◌, ◌∙◌, List, [], ◌∷◌, map, refl, ap, Entry, Plain, SealedEntry, node_of, Row}
+use Rattle.auditor.proofs.Imports.{three_in, rules_are_settled, plain_of, plains, PlainRules, same_graph}
 use Rattle.auditor.proofs.Lower.{no_double}
 
 same_rows : (row : Entry → Row) (S : List SealedEntry) →

@@ -10,7 +10,6 @@ use Rattle.rule_language.specs.declared.row.Row.{Row}
 use Rattle.rule_language.specs.Trees.{RuleTree}
 use Rattle.rule_language.specs.Standard.{standard_rules}
 use Rattle.rule_engine.specs.declared.verdict.Verdict.{Verdict}
-use Rattle.evidence.specs.declared.roster_file.RosterRead.{RosterRead}
 use Rattle.evidence.specs.Refusal.{Refusal, refused}
 use Rattle.evidence.specs.NamedFiles.{AreFiles}
 use Rattle.evidence.specs.RosterFile.{GivesRoster}
@@ -27,6 +26,18 @@ abbrev pub AndThen : {A B : Type 0} → (Result A Refusal → Type 0) → (A →
 AndThen {A} First Next answer =
     ((found : A) × First (Ok found) × Next found answer)
     ⊎ ((refusal : Refusal) × First (Err refusal) × (answer ≡ Err refusal))
+
+-- a step on the first file, and then the next one with what it found and the other files; the first refusal ends it
+abbrev pub FileThen : {A B : Type 0} → (Option (List ℕ) → Result A Refusal → Type 0)
+    → (A → List (Option (List ℕ)) → Result B Refusal → Type 0) → List (Option (List ℕ)) → Result B Refusal → Type 0
+FileThen First Next (file ∷ files) answer = AndThen (First file) (λ found. Next found files) answer
+FileThen First Next [] answer = ⊥
+
+-- the rules, which are the standard ones or those of the first file, and then the next step with them
+abbrev pub RulesThen : {B : Type 0} → RuleSource → (List RuleTree → List (Option (List ℕ)) → Result B Refusal → Type 0)
+    → List (Option (List ℕ)) → Result B Refusal → Type 0
+RulesThen standard Next = Next standard_rules
+RulesThen (in_file name) Next = FileThen (GivesRules name) Next
 
 -- what rules give over survivors: a verdict for each, or the refusal of the first that is too wide
 abbrev pub GivesVerdicts : RuleSource → List Row → Graph → List RuleTree → Result (List Verdict) Refusal → Type 0
@@ -47,33 +58,22 @@ abbrev pub WithLogs : List Post → RuleSource → List RuleTree → List (List 
 WithLogs machines source rules names logs =
     AndThen (GivesGraph (entries_of logs)) (WithGraph machines source rules names logs)
 
--- what the files of logs give with the roster and the rules: the logs, and what they give
-abbrev pub WithRules : RosterRead → RuleSource → List RuleTree → List (List ℕ) → List (Option (List ℕ))
-    → Result AuditReport Refusal → Type 0
-WithRules read source rules names files =
-    AndThen (GivesLogs read.roster.machines read.election names files)
-    (WithLogs read.roster.machines source rules names)
-
--- what the file of the rules, if there is one, and those of the logs give with a roster
-abbrev pub WithRoster : RosterRead → RuleSource → List (List ℕ) → List (Option (List ℕ))
-    → Result AuditReport Refusal → Type 0
-WithRoster read standard names files = WithRules read standard standard_rules names files
-WithRoster read (in_file name) names (file ∷ files) =
-    AndThen (GivesRules name file) (λ rules. WithRules read (in_file name) rules names files)
-WithRoster read (in_file name) names [] = λ answer. ⊥
-
 -- the files that an audit reads, in order
 abbrev pub audit_files : List ℕ → RuleSource → List (List ℕ) → List (List ℕ)
 audit_files roster source logs = roster ∷ (rule_files source ++ logs)
 
--- what they give
+-- what they give: the roster, the rules, the logs, the graph of the entries that these keep, and a verdict for each
+-- rule, of which the report is made; or the first refusal
 abbrev pub GivesReport : List ℕ → RuleSource → List (List ℕ) → List (Option (List ℕ))
     → Result AuditReport Refusal → Type 0
-GivesReport roster source logs (file ∷ files) =
-    AndThen (GivesRoster roster file) (λ read. WithRoster read source logs files)
-GivesReport roster source logs [] = λ answer. ⊥
+GivesReport roster source names =
+    FileThen (GivesRoster roster) (λ read. RulesThen source (λ rules files.
+    AndThen (GivesLogs read.roster.machines read.election names files) (λ logs.
+    AndThen (GivesGraph (entries_of logs)) (λ graph.
+    AndThen (GivesVerdicts source (map (row_of read.roster.machines) graph.survivors) (nodes_of graph) rules)
+    (λ verdicts answer. answer ≡ Ok (report_on read.roster.machines names logs graph rules verdicts))))))
 
--- this holds of the named files: of those that are told, or of some where none are
+-- this holds of the named files: of those that are exposed, or of some where none are
 abbrev pub OnFiles : List (List ℕ) → (List (Option (List ℕ)) → Type 0) → Option Files → Type 0
 OnFiles names P told = (files : List (Option (List ℕ))) × AreFiles told names files × P files
 

@@ -22,7 +22,7 @@ outcome_word outcome.Broken = codes "broken"
 abbrev pub has_some : {A : Type 0} → List A → Bool
 has_some xs = nat_lt 0 (length xs)
 
--- whether a log's file ends behind a whole record
+-- whether a log's file ends after a whole record
 abbrev pub is_clean : End → Bool
 is_clean Clean = true
 is_clean (Torn at) = false
@@ -40,10 +40,12 @@ graph_has_finding graph = has_some graph.strays || (has_some graph.forks || has_
 abbrev pub has_finding : AuditReport → Bool
 has_finding report = list_any log_has_finding report.logs || graph_has_finding report.graph
 
+-- the rule is broken
 abbrev pub is_broken : Verdict → Bool
 is_broken (verdict.Broken places) = true
 is_broken other = false
 
+-- the rule is unsettled
 abbrev pub is_unsettled : Verdict → Bool
 is_unsettled verdict.Unsettled = true
 is_unsettled other = false
@@ -55,6 +57,7 @@ outcome_by false true found = outcome.Unsettled
 outcome_by false false true = outcome.Findings
 outcome_by false false false = outcome.Kept
 
+-- the report's outcome
 abbrev pub outcome_of : AuditReport → Outcome
 outcome_of report =
     outcome_by (list_any is_broken report.verdicts) (list_any is_unsettled report.verdicts) (has_finding report)

@@ -42,7 +42,7 @@ pub record ReportParts : Type 0 where
   pub rules : List Rule
   pub verdicts : List Verdict
 
--- the same, part by part
+-- the parts of a report, from its lists
 abbrev pub parts_of : List Post → List (List ℕ) → List LogRead → EntryGraph SealedEntry → List Rule → List Verdict
     → ReportParts
 parts_of machines files logs graph rules verdicts = record {

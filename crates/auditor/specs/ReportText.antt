@@ -3,7 +3,7 @@ use Rattle.std.specs.Prelude.{ℕ, List, [], ◌++◌, map, length, codes, Optio
 use Rattle.std.specs.List.{flat_map, zip}
 use Rattle.std.specs.Fmt.{decimal}
 use Rattle.hex.specs.Hex.{encode_lower}
-use Rattle.report_lines.specs.Lines.{line, refused_lines, end_line, gap_lines}
+use Rattle.log_files.specs.Lines.{line, refused_lines, end_line, gap_lines}
 use Rattle.roster.specs.declared.post.Post.{Post}
 use Rattle.log_files.specs.declared.sealed_log.LogRead.{LogRead}
 use Rattle.entry_format.specs.SealedEntry.{SealedEntry}
@@ -72,7 +72,7 @@ verdict_line machines survivors name (Broken places) =
     line (codes "broken " ++ name ++ entry_words machines survivors places.items)
 verdict_line machines survivors name Unsettled = line (codes "unsettled " ++ name)
 
--- the same of a rule with its verdict
+-- the line of a rule with its verdict
 abbrev pub rule_line : List Post → List SealedEntry → RuleTree × Verdict → List ℕ
 rule_line machines survivors judged = verdict_line machines survivors judged.0.name judged.1
 
@@ -82,6 +82,6 @@ main_lines report =
     flat_map log_lines (zip report.files report.logs) ++ graph_lines report.machines report.graph
     ++ flat_map (rule_line report.machines report.graph.survivors) (zip report.rules report.verdicts)
 
--- the whole report: at its end stands what it comes to
+-- the whole report: at its end is what it comes to
 abbrev pub report_text : AuditReport → List ℕ
 report_text report = main_lines report ++ line (codes "verdict " ++ outcome_word (outcome_of report))

@@ -207,8 +207,8 @@ pub fn audit_logs(
     ensures ok { IfOk result (λ report. WithLogs roster.machines standard_source standard_rules
         (map string_bytes names.now) logs.items (Ok (report_of report))) }
     ensures err { IfErr result (λ fault. IfSome (refusal_of fault) (λ refusal.
-        WithLogs roster.machines standard_source standard_rules (map string_bytes names.now) logs.items
-        (Err refusal))) }
+        WithLogs roster.machines standard_source standard_rules
+        (map string_bytes names.now) logs.items (Err refusal))) }
     ensures only { IfErr result (λ fault. (fault ≢ AuditFault.ReadFault) × (¬ IsAbsent fault)) }
 {
     match standard(alloc) {
@@ -291,16 +291,16 @@ fn finish(
 }
 
 /// Reads the roster, the rules and the logs, in this order, makes the graph of the entries that the
-/// logs keep, and judges the rules over it. The first refusal ends it, and no file behind it is
+/// logs keep, and judges the rules over it. The first refusal ends it, and no file after it is
 /// read. No file changes.
 ///
 /// # Errors
 ///
 /// `Absent` with the name of a file that isn't there, where the store said so. `Refused` with the
 /// file, the place and the cause: `TooLong` of a roster or rules over 4,194,304 bytes and of a log
-/// over 67,108,864; the fault of a roster or of rules; `Header` of a log; of the file `entries` what
-/// the graph is refused for; and `TooWide`, with the place of the rule from 0 and the name of the
-/// rules' file, or `standard`. `ReadFault` where a read failed, or `Memory`.
+/// over 67,108,864; the fault of a roster or of rules; `Header` of a log; of the file `entries`
+/// what the graph is refused for; and `TooWide`, with the place of the rule from 0 and the name of
+/// the rules' file, or `standard`. `ReadFault` where a read failed, or `Memory`.
 pub fn audit<S: Store>(
     alloc: Global,
     store: &mut S,

@@ -1,5 +1,5 @@
-//! Laws of audits, which hold of the definitions alone. Each is the contract of a function that does
-//! nothing.
+//! Laws of audits, which hold of the definitions alone. Each is the contract of a function that
+//! does nothing.
 ghost use Rattle.auditor.specs.OneReport.{FilesGiveOneReport};
 ghost use Rattle.auditor.specs.PlainRules.{PlainRules};
 

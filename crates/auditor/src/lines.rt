@@ -1,4 +1,4 @@
-//! The lines of a report. Each call adds its lines behind those that are there.
+//! The lines of a report. Each call adds its lines after those that are there.
 ghost use Rattle.std.specs.Prelude.{◌≡◌, ◌<◌, ◌++◌, ℕ, length, map, All, Some, OnOk, string_bytes};
 ghost use Rattle.std.specs.List.{flat_map, zip};
 ghost use Rattle.rule_engine.specs.declared.verdict.Verdict.{Verdict as VerdictOf};
@@ -23,9 +23,8 @@ ghost use Rattle.auditor.specs.inside.Places.{AreBelow, IsBelow};
 
 use entry_format::Sealed;
 use entry_graph::Graph;
-use log_files::LogRead;
+use log_files::{LogRead, add_end, add_gaps, add_refused};
 use precedence::Arrows;
-use report_lines::{add_end, add_gaps, add_refused};
 use roster::Roster;
 use rule_engine::Verdict;
 use rule_language::Rule;
@@ -84,7 +83,8 @@ pub(crate) fn add_logs(
 ) -> Result<(), AllocError>
     requires { length files.now ≡ length logs.now }
     ensures { OnOk result (string_bytes lines.new
-        ≡ string_bytes lines.old ++ flat_map log_lines (zip (map string_bytes files.now) logs.now)) }
+        ≡ string_bytes lines.old
+        ++ flat_map log_lines (zip (map string_bytes files.now) logs.now)) }
 {
     for i in 0..files.len() {
         add_log(lines, files[i].as_str(), &logs[i])?;

@@ -147,7 +147,7 @@ impl Report {
 ///
 /// # Errors
 ///
-/// Want of memory.
+/// Out of memory.
 pub fn write_report(alloc: Global, report: &Report) -> Result<Vec<u8>, Memory>
     ensures { IfOk result (λ bytes. bytes.items ≡ report_text (report_of report.now)) }
 {

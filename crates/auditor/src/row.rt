@@ -10,7 +10,7 @@ use roster::Roster;
 use rule_language::{Kind, Row};
 use std::alloc::{AllocError, Global};
 
-/// Want of memory.
+/// Out of memory.
 pub type Memory = AllocError;
 
 /// An entry that is sealed, or stands for one.
@@ -31,8 +31,8 @@ impl ShowsSealed for Sealed {
     }
 }
 
-/// What rules see of the survivors: member i is the row of survivor i. The survivors are entries that
-/// were unsealed with this roster.
+/// What rules see of the survivors: member i is the row of survivor i. The survivors are entries
+/// that were unsealed with this roster.
 pub fn rows<T: ShowsSealed + Drop>(
     alloc: Global,
     graph: &Graph<T>,

@@ -1,19 +1,13 @@
 -- The last event that ends a session.
-use Rattle.std.proofs.Common.{◌≡◌, ◌∙◌, ℕ, ◌+◌, ◌<◌, true, false, List, [], ◌∷◌, ◌++◌, length, take, sym, ap, subst}
-use Rattle.std.proofs.Common.{arith}
-use Rattle.std.proofs.Common.{length-append, Some, None, Option, MatchOption, ◌⊎◌, inl, inr}
-use Rattle.std.specs.Prelude.{slice_get}
-use Rattle.std.proofs.lemmas.List.{take_more, length-take-le}
-use Rattle.std.proofs.lemmas.List.Elements.{All-nil, All-cons, All-append}
-use Rattle.std.proofs.lemmas.Option.{slice_get_within, slice_get-get_or, get_or_from_slice_get}
-use Rattle.std.proofs.lemmas.Bool.{cases_lt}
-use Rattle.std.proofs.lemmas.List.{get_or_append_left}
-use Rattle.entry_order.specs.declared.event.Event.{Event}
-use Rattle.entry_order.proofs.Places.{push_before, last_at}
-use Rattle.entry_format.specs.SealedEntry.{SealedEntry}
-use Rattle.demonstration.specs.Kept.{HasNoEnd, IsLastEnd, ends_session}
+use Rattle.std.proofs.Common.{take}
+use Rattle.demonstration.proofs.Imports.{◌≡◌, ◌∙◌, ℕ, ◌+◌, ◌<◌, true, false, List, [], ◌∷◌, ◌++◌, length, sym, ap}
+use Rattle.demonstration.proofs.Imports.{subst, arith, length-append, Some, None, Option, MatchOption, ◌⊎◌, inl, inr}
+use Rattle.demonstration.proofs.Imports.{slice_get, take_more, length-take-le, All-nil, All-cons, All-append}
+use Rattle.demonstration.proofs.Imports.{slice_get_within, slice_get-get_or, get_or_from_slice_get, cases_lt}
+use Rattle.demonstration.proofs.Imports.{get_or_append_left, Event, push_before, last_at, SealedEntry, HasNoEnd}
+use Rattle.demonstration.proofs.Imports.{IsLastEnd, ends_session}
 
--- what stands in front of one more event is what stood there, and behind it that event
+-- appending an event leaves the ones in front of it as they were
 in_front : (events : List (Event SealedEntry)) (more : Event SealedEntry) (k : ℕ) (e : Event SealedEntry) →
     k < length events → slice_get (events ++ more ∷ []) k ≡ Some e → slice_get events k ≡ Some e
 in_front events more k e within at =
@@ -28,7 +22,7 @@ module _ (session : ℕ) (events : List (Event SealedEntry)) (more : Event Seale
       All-append (λ e. ends_session session e ≡ false) events (more ∷ []) none
       (All-cons (λ e. ends_session session e ≡ false) more [] differs (All-nil (λ e. ends_session session e ≡ false)))
 
-  -- one that ends it is the last
+  -- one more event that ends the session is the last that does
   pub last_is_here : ends_session session more ≡ true → IsLastEnd session (events ++ more ∷ []) (length events)
   last_is_here is_end = record {
     event = more;
@@ -42,7 +36,7 @@ module _ (session : ℕ) (events : List (Event SealedEntry)) (more : Event Seale
     ));
   }
 
-  -- one that doesn't end it leaves the last where it is
+  -- one more event that doesn't end the session leaves the last end where it is
   pub last_stays : (place : ℕ) → IsLastEnd session events place → ends_session session more ≡ false →
       IsLastEnd session (events ++ more ∷ []) place
   last_stays place is differs = record {
@@ -62,14 +56,14 @@ module _ (session : ℕ) (events : List (Event SealedEntry)) (more : Event Seale
             | inr more_than ↦ inr (omega (arith, within, more_than, length-append events (more ∷ [])))
           ]
 
-      -- at the last place stands the event that is added
+      -- at the last place is the event that is added
       here : (later : ℕ) (other : Event SealedEntry) → later ≡ length events →
           slice_get (events ++ more ∷ []) later ≡ Some other → more ≡ other
       here later other same at =
           let found : Some more ≡ Some other =
           sym (last_at events more) ∙ ap (slice_get (events ++ more ∷ [])) (sym same) ∙ at in cc
 
-      -- so none behind the place ends the session: neither those that stood there nor the one that is added
+      -- so none after the place ends the session: neither those that were there nor the one that is added
       later_no : (later : ℕ) (other : Event SealedEntry) → place < later →
           slice_get (events ++ more ∷ []) later ≡ Some other → ends_session session other ≡ false
       later_no later other behind at = elim (either later other at) [
@@ -78,7 +72,7 @@ module _ (session : ℕ) (events : List (Event SealedEntry)) (more : Event Seale
             subst (λ (e : Event SealedEntry). ends_session session e ≡ false) (here later other same at) differs
       ]
 
--- the last of these that ends the session stands there, or none does
+-- the place, if any, of the last of these events that ends the session
 abbrev pub IsLastOf : ℕ → List (Event SealedEntry) → Option ℕ → Type 0
 IsLastOf session events last = MatchOption last (HasNoEnd session events) (IsLastEnd session events)
 
@@ -97,14 +91,14 @@ module _ (session : ℕ) (events : List (Event SealedEntry)) (place : ℕ) (more
       take_more events place more within
       ∙ ap (λ (e : Event SealedEntry). take place events ++ e ∷ []) (get_or_from_slice_get events place more more at)
 
-  -- so it is of the events up to a place, once that place's is looked at
+  -- the last end before a place is the last one up to it, where the place's own event doesn't end the session
   pub kept_last : IsLastOf session (take place events) last → ends_session session more ≡ false →
       IsLastOf session (take (place + 1) events) last
   kept_last is differs =
       subst (λ (es : List (Event SealedEntry)). IsLastOf session es last) (sym one_more)
       (stays session (take place events) more last is differs)
 
-  -- and where that place's event ends the session, it is the last that does
+  -- where the event at a place ends the session, it is the last up to there that does
   pub new_last : ends_session session more ≡ true → IsLastOf session (take (place + 1) events) (Some place)
   new_last is_end =
       subst (λ (es : List (Event SealedEntry)). IsLastEnd session es place) (sym one_more)

@@ -1,3 +1,4 @@
+mod Imports
 mod Ends
 mod Records
 pub mod Plays

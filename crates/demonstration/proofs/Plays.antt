@@ -1,31 +1,12 @@
 -- What holds of each play of a lawful script.
-use Rattle.std.proofs.Common.{◌≡◌, ℕ, ◌+◌, ◌<◌, ◌≤◌, inl, inr, List, [], length, refl, sym, subst, arith, length-append}
-use Rattle.std.specs.Prelude.{take, Ok, Err}
-use Rattle.std.specs.List.{flat_map}
-use Rattle.std.proofs.lemmas.Bool.{cases_lt}
-use Rattle.canonical_sexp.specs.Text.{text_of}
-use Rattle.roster.specs.RosterText.{roster_tree}
-use Rattle.roster.specs.Machines.{max_machines}
-use Rattle.election_script.specs.declared.script.Script.{Script}
-use Rattle.election_script.specs.Lawful.{IsLawful}
-use Rattle.entry_format.specs.SealedEntry.{SealedEntry}
-use Rattle.entry_order.specs.World.{history, sent_in}
-use Rattle.entry_order.specs.declared.event.Event.{Event}
-use Rattle.log_files.specs.LogText.{HasHeader, header_tree}
-use Rattle.log_files.specs.Written.{record_text}
-use Rattle.polling_world.specs.Keys.{roster_of}
-use Rattle.polling_world.specs.Machines.{MachineState}
-use Rattle.polling_world.specs.Playing.{IsPlayed}
-use Rattle.polling_world.specs.Worlds.{world_of}
-use Rattle.evidence.specs.Refusal.{Refusal, too_long}
-use Rattle.evidence.specs.RosterFile.{max_roster}
-use Rattle.honest_logs.specs.WhatIsLeft.{IsLeftOf, end_of}
-use Rattle.honest_logs.proofs.ReadLogs.{left_has_header, whole_is_left}
-use Rattle.honest_logs.proofs.RosterTexts.{script_roster_is_read}
-use Rattle.auditor.specs.Report.{AuditReport}
-use Rattle.demonstration.specs.declared.shown.Demonstration.{Demonstration}
-use Rattle.demonstration.specs.Kept.{IsKeptOf}
-use Rattle.demonstration.specs.Shown.{GivesAudit, IsCounted, IsDemonstrationOf, IsRefusedSo}
+use Rattle.demonstration.proofs.Imports.{◌≡◌, ℕ, ◌+◌, ◌<◌, ◌≤◌, inl, inr, List, [], length, refl, sym, subst, arith}
+use Rattle.demonstration.proofs.Imports.{length-append, Ok, Err, flat_map, cases_lt, text_of, roster_tree}
+use Rattle.demonstration.proofs.Imports.{max_machines, Script, IsLawful, SealedEntry, history, sent_in, Event}
+use Rattle.demonstration.proofs.Imports.{HasHeader, header_tree, record_text, roster_of, MachineState, IsPlayed}
+use Rattle.demonstration.proofs.Imports.{world_of, Refusal, too_long, max_roster, IsLeftOf, end_of, left_has_header}
+use Rattle.demonstration.proofs.Imports.{whole_is_left, script_roster_is_read, AuditReport, Demonstration, IsKeptOf}
+use Rattle.demonstration.proofs.Imports.{GivesAudit, IsCounted, IsDemonstrationOf, IsRefusedSo}
+use Rattle.std.specs.Prelude.{take}
 
 module _ (script : Script) (lawful : IsLawful script) (machines : List MachineState) (played : IsPlayed script machines)
   where
@@ -33,7 +14,7 @@ module _ (script : Script) (lawful : IsLawful script) (machines : List MachineSt
     pub few : length machines ≤ max_machines
     few = omega (arith, played.are_of.count, lawful.machines.few.1)
 
-    -- so there is a first one, whose log is kept
+    -- there is a first machine, whose log is kept
     pub some_machine : 0 < length machines
     some_machine = omega (arith, played.are_of.count, lawful.machines.few.0)
 
@@ -59,7 +40,7 @@ kept_is_left session owner events bytes (inl (place, is, same)) = record {
 kept_is_left session owner events bytes (inr (none, same)) =
     subst (IsLeftOf owner events) (sym same) (whole_is_left owner events)
 
--- so it begins with its header
+-- what is kept of a log begins with its header, since no cut is inside it
 pub kept_has_header : (session : ℕ) (events : List (Event SealedEntry)) (bytes : List ℕ) →
     IsKeptOf session 0 events bytes → HasHeader bytes
 kept_has_header session events bytes is =
@@ -77,7 +58,7 @@ demonstrated script machines session sent bytes report shown played kept gives s
   counted = subst (λ (n : ℕ). IsCounted n report shown) same counted;
 }
 
--- and so is a refusal
+-- the refusal of the kept log's audit is that of the demonstration
 pub refused_so : (script : Script) (machines : List MachineState) (session : ℕ) (bytes : List ℕ) (refusal : Refusal) →
     IsPlayed script machines → IsKeptOf session 0 (history (world_of machines) 0) bytes →
     GivesAudit (roster_of script) bytes (Err refusal) → IsRefusedSo script session refusal

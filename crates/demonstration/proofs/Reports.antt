@@ -1,27 +1,12 @@
 -- What an audit gives of a roster and one log.
-use Rattle.std.proofs.Common.{ℕ, ◌≤◌, inl, inr, List, [], ◌∷◌, length, refl, Some}
-use Rattle.std.specs.Prelude.{Result, Ok, Err, codes}
-use Rattle.sha2.specs.Sha256.{sha256}
-use Rattle.canonical_sexp.specs.Text.{text_of}
-use Rattle.roster.specs.declared.post.Post.{Post}
-use Rattle.roster.specs.Machines.{HaveText}
-use Rattle.roster.specs.RosterText.{roster_tree}
-use Rattle.roster.proofs.Fits.{roster_fits}
-use Rattle.rule_language.specs.Standard.{standard_rules}
-use Rattle.log_files.specs.declared.sealed_log.LogRead.{LogRead}
-use Rattle.log_files.specs.LogFile.{IsSealedLogOf}
-use Rattle.evidence.specs.declared.roster_file.RosterRead.{RosterRead}
-use Rattle.evidence.specs.Logs.{IsLogRefusal}
-use Rattle.evidence.specs.Refusal.{Refusal}
-use Rattle.evidence.specs.RosterFile.{GivesRoster, max_roster}
-use Rattle.auditor.specs.Audits.{WithLogs}
-use Rattle.auditor.specs.Report.{AuditReport}
-use Rattle.auditor.specs.Sources.{standard}
-use Rattle.demonstration.specs.Shown.{GivesAudit, log_name}
+use Rattle.demonstration.proofs.Imports.{ℕ, ◌≤◌, inl, inr, List, [], ◌∷◌, length, refl, Some, Result, Ok, Err, codes}
+use Rattle.demonstration.proofs.Imports.{sha256, text_of, Post, HaveText, roster_tree, roster_fits, standard_rules}
+use Rattle.demonstration.proofs.Imports.{LogRead, IsSealedLogOf, RosterRead, IsLogRefusal, Refusal, GivesRoster}
+use Rattle.demonstration.proofs.Imports.{max_roster, WithLogs, AuditReport, standard, GivesAudit, log_name}
 
 module _ (posts : List Post) (have : HaveText posts) (short : length (text_of (roster_tree posts)) ≤ max_roster)
     (bytes : List ℕ) where
-  -- what stands in the roster's file
+  -- what is in the roster's file
   abbrev text : List ℕ
   text = text_of (roster_tree posts)
 

@@ -1,4 +1,4 @@
--- What a demonstration keeps of a log: its text, cut one byte behind the record that ends a session.
+-- What a demonstration keeps of a log: its text, cut one byte after the record that ends a session.
 use Rattle.std.specs.Prelude.{◌≡◌, ◌⊎◌, ℕ, ◌+◌, ◌<◌, ◌==◌, Bool, true, false, List, All, take, Some, slice_get}
 use Rattle.entry_format.specs.declared.deed.Deed.{Deed}
 use Rattle.entry_format.specs.declared.deed.Deed.TheVariants.{Cast, Cancel, Challenge}
@@ -19,7 +19,7 @@ is_end_of session other = false
 abbrev pub ends_session : ℕ → Event SealedEntry → Bool
 ends_session session event = is_end_of session (entry_of event).entry.deed
 
--- the last event that ends the session stands at this place of the history
+-- the last event that ends the session is at this place of the history
 pub record IsLastEnd (session : ℕ) (events : List (Event SealedEntry)) (place : ℕ) : Type 0 where
   pub event : Event SealedEntry
   pub stands : slice_get events place ≡ Some event
@@ -31,8 +31,8 @@ pub record IsLastEnd (session : ℕ) (events : List (Event SealedEntry)) (place 
 abbrev pub HasNoEnd : ℕ → List (Event SealedEntry) → Type 0
 HasNoEnd session events = All (λ event. ends_session session event ≡ false) events
 
--- The log up to one byte behind the record of the last event that ends the session. Where nothing stands behind that
--- record, this is the whole log; so is what is kept where no event ends the session.
+-- What is kept is the log up to one byte after the record of the last event that ends the session. It is the whole log
+-- where nothing follows that record, and where no event ends the session.
 abbrev pub IsKeptOf : ℕ → ℕ → List (Event SealedEntry) → List ℕ → Type 0
 IsKeptOf session owner events bytes =
     ((place : ℕ) × IsLastEnd session events place

@@ -1,14 +1,14 @@
 -- The lines of a demonstration.
 use Rattle.std.specs.Prelude.{ℕ, List, ◌++◌, codes}
 use Rattle.std.specs.Fmt.{decimal}
-use Rattle.report_lines.specs.Lines.{line}
+use Rattle.log_files.specs.Lines.{line}
 use Rattle.demonstration.specs.declared.shown.Demonstration.{Demonstration}
 
 -- a word and a number
 abbrev pub count_line : List ℕ → ℕ → List ℕ
 count_line word count = line (word ++ codes " " ++ decimal count)
 
--- so many sessions, so many entries that were sent, and what an audit of the kept log counts
+-- the numbers of sessions and of entries sent, and what an audit of the kept log counts
 abbrev pub demonstration_text : ℕ → Demonstration → List ℕ
 demonstration_text sessions shown =
     count_line (codes "sessions") sessions ++ count_line (codes "entries") shown.entries

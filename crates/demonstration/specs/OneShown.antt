@@ -13,7 +13,7 @@ ScriptsAreShownInOneWay =
     (script : Script) (session : ℕ) (shown other : Demonstration) → IsDemonstrationOf script session shown →
     IsDemonstrationOf script session other → shown ≡ other
 
--- and so are any two refusals
+-- any two refusals of a script's demonstration are one
 abbrev pub ScriptsAreRefusedInOneWay : Type 0
 ScriptsAreRefusedInOneWay =
     (script : Script) (session : ℕ) (refusal other : Refusal) → IsRefusedSo script session refusal →

@@ -19,6 +19,7 @@ use Rattle.auditor.specs.Sources.{standard}
 use Rattle.demonstration.specs.declared.shown.Demonstration.{Demonstration}
 use Rattle.demonstration.specs.Kept.{IsKeptOf}
 
+-- whether a verdict is Kept, by which the kept rules are counted
 abbrev pub is_kept : Verdict → Bool
 is_kept verdict.Kept = true
 is_kept other = false
@@ -32,7 +33,7 @@ abbrev pub GivesAudit : List Post → List ℕ → Result AuditReport Refusal �
 GivesAudit posts bytes answer =
     GivesReport (codes "roster") standard (log_name ∷ []) (Some (text_of (roster_tree posts)) ∷ Some bytes ∷ []) answer
 
--- the script's machines have played, and the log of the first of them, cut behind the end of the session, gives this
+-- the script's machines have played, and the log of the first of them, cut after the end of the session, gives this
 -- under the script's roster
 pub record IsAudited (script : Script) (session : ℕ) (machines : List MachineState)
     (answer : Result AuditReport Refusal) : Type 0 where
@@ -41,7 +42,7 @@ pub record IsAudited (script : Script) (session : ℕ) (machines : List MachineS
   pub kept : IsKeptOf session 0 (history (world_of machines) 0) bytes
   pub gives : GivesAudit (roster_of script) bytes answer
 
--- so many entries were sent, and the rest is what the report on the kept log counts and comes to
+-- what is shown is the number of entries sent, and otherwise what the report on the kept log counts and comes to
 pub record IsCounted (sent : ℕ) (report : AuditReport) (shown : Demonstration) : Type 0 where
   pub entries : shown.entries ≡ sent
   pub survivors : shown.survivors ≡ length report.graph.survivors
@@ -58,7 +59,7 @@ pub record IsDemonstrationOf (script : Script) (session : ℕ) (shown : Demonstr
   pub audited : IsAudited script session machines (Ok report)
   pub counted : IsCounted (length (sent_in (world_of machines))) report shown
 
--- the audit of the kept log is refused so
+-- the audit of the kept log has this refusal
 abbrev pub IsRefusedSo : Script → ℕ → Refusal → Type 0
 IsRefusedSo script session refusal =
     (machines : List MachineState) × IsAudited script session machines (Err refusal)

@@ -55,7 +55,7 @@ fn record_length(event: &Event<Sealed>) -> usize
     }
 }
 
-/// Where the records of these events begin in a text that ends with them and has so many bytes.
+/// Where the records of these events begin in a text of `bytes` bytes that ends with them.
 fn begin_of(events: &[Event<Sealed>], bytes: usize) -> usize
     requires { length (flat_map record_text events.now) ≤ bytes }
     ensures { result + length (flat_map record_text events.now) ≡ bytes }
@@ -67,7 +67,7 @@ fn begin_of(events: &[Event<Sealed>], bytes: usize) -> usize
     begin
 }
 
-/// The log's text, cut one byte behind the record of the last event that ends the session.
+/// The log's text, cut one byte after the record of the last event that ends the session.
 pub(crate) fn kept_text(
     alloc: Global,
     log: &Log<Sealed>,

@@ -4,10 +4,6 @@ ghost use Rattle.demonstration.specs.OneShown.{ScriptsAreShownInOneWay, ScriptsA
 ghost use Rattle.demonstration.specs.OneShown.{ScriptsAreShownOrRefused};
 
 use auditor::files_give_one_report;
-use evidence::{
-    entries_give_one_graph, log_files_give_one_answer, roster_files_give_one_answer,
-    same_logs_keep_the_same_entries,
-};
 use polling_world::scripts_are_played_in_one_way;
 
 /// A script and a session show one thing, or are refused in one way, and not both.
@@ -17,9 +13,5 @@ pub fn scripts_are_shown_in_one_way()
     ensures either { ScriptsAreShownOrRefused }
 {
     scripts_are_played_in_one_way();
-    roster_files_give_one_answer();
-    log_files_give_one_answer();
-    same_logs_keep_the_same_entries();
-    entries_give_one_graph();
     files_give_one_report();
 }

@@ -1,5 +1,5 @@
 //! The demonstration: a script is played in memory, the log of its first machine is kept alone and
-//! cut behind the end of a session, and what the standard rules say of the rest is counted.
+//! cut after the end of a session, and what the standard rules say of the rest is counted.
 #![tactic(auto)]
 
 mod kept;

@@ -7,11 +7,11 @@ use polling_world::Memory;
 use std::alloc::Global;
 use std::fmt::Write;
 
-/// The seven lines of a demonstration of so many sessions.
+/// The seven lines of a demonstration of that number of sessions.
 ///
 /// # Errors
 ///
-/// Want of memory.
+/// Out of memory.
 pub fn write_demonstration(
     alloc: Global,
     sessions: u32,

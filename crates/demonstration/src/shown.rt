@@ -114,7 +114,7 @@ fn count_unsettled(verdicts: &[Verdict]) -> usize
     unsettled.count()
 }
 
-/// What is shown of the report, where so many entries were sent.
+/// What is shown of the report, where `entries` entries were sent.
 fn shown_of(entries: usize, report: &Report) -> Demonstration
     ensures { IsCounted entries (report_of report.now) result }
 {
@@ -197,8 +197,8 @@ fn first_kept(alloc: Global, machines: &[Machine], session: u32) -> Result<Vec<u
 }
 
 /// Plays the script in memory on machines with these keys, and keeps the log of its first machine
-/// alone, cut one byte behind the record of the last Cast, Challenge or Cancel of the session, or
-/// whole where it has none or nothing stands behind it. What is shown is counted of the report on
+/// alone, cut one byte after the record of the last Cast, Challenge or Cancel of the session, or
+/// whole where it has none or nothing follows it. What is shown is counted of the report on
 /// that log by the standard rules.
 ///
 /// # Errors

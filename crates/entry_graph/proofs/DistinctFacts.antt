@@ -1,28 +1,20 @@
 -- The distinct ones of some entries, and of one entry more.
-use Rattle.std.proofs.Common.{◌≡◌, ℕ, Bool, true, false, not, List, [], ◌∷◌, ◌++◌, append-nil}
-use Rattle.std.proofs.Common.{refl, sym, ap, ◌∙◌, inl, inr}
+use Rattle.entry_graph.proofs.Imports.{◌≡◌, ℕ, Bool, true, false, not, List, [], ◌∷◌, ◌++◌, append-nil, refl, sym, ap}
+use Rattle.entry_graph.proofs.Imports.{◌∙◌, inl, inr, Contains, filter, bytes_eq, cases_Bool, true≢false}
+use Rattle.entry_graph.proofs.Imports.{false_from_ne_true, not_from_false, not_from_true, cond-true, cond-false}
+use Rattle.entry_graph.proofs.Imports.{filter-append, Contains-push_cases, bytes_eq-Decides, Node, IsBorneIn}
+use Rattle.entry_graph.proofs.Imports.{has_digest, Contains-none, Contains-head, Contains-later, Contains-at}
+use Rattle.entry_graph.proofs.Imports.{Contains-cons_cases, Contains-filter, Contains-filter_cases, has_digest_of}
+use Rattle.entry_graph.proofs.Imports.{has_digest_from, distinct, HasNoCollision}
 use Rattle.std.specs.Prelude.{◌≢◌}
-use Rattle.std.specs.List.{Contains, filter}
-use Rattle.std.specs.Str.{bytes_eq}
-use Rattle.std.proofs.lemmas.Bool.{cases_Bool, true≢false, false_from_ne_true}
-use Rattle.std.proofs.lemmas.Bool.{not_from_false, not_from_true, cond-true, cond-false}
-use Rattle.std.proofs.lemmas.List.Elements.{filter-append, Contains-push_cases}
-use Rattle.std.proofs.lemmas.Slice.Eq.{bytes_eq-Decides}
-use Rattle.entry_order.specs.Node.{Node}
-use Rattle.entry_order.specs.Naming.{IsBorneIn, has_digest}
-use Rattle.entry_order.proofs.Lists.{Contains-none, Contains-head}
-use Rattle.entry_order.proofs.Lists.{Contains-later, Contains-at, Contains-cons_cases}
-use Rattle.entry_order.proofs.Lists.{Contains-filter, Contains-filter_cases}
-use Rattle.entry_order.proofs.Naming.{has_digest_of, has_digest_from}
-use Rattle.entry_graph.specs.Given.{distinct, HasNoCollision}
 
--- an element more behind a filter
+-- one more element at the end of a filtered list
 pub filter_keeps : {X : Type 0} (p : X → Bool) (xs : List X) (x : X) → p x ≡ true
     → filter p (xs ++ x ∷ []) ≡ filter p xs ++ x ∷ []
 filter_keeps p xs x passes =
     filter-append p xs (x ∷ []) ∙ ap (λ ys. filter p xs ++ ys) (cond-true (p x) (x ∷ []) [] passes)
 
--- an element that fails the test adds nothing behind a filter
+-- an element that fails the test adds nothing to the filtered list
 pub filter_drops : {X : Type 0} (p : X → Bool) (xs : List X) (x : X) → p x ≡ false
     → filter p (xs ++ x ∷ []) ≡ filter p xs
 filter_drops p xs x fails =
@@ -92,7 +84,7 @@ module _ {T : Type 0} (node : T → Node) where
       (filter_keeps (apart x) (distinct node es) e
       (apart_of x e (λ same. new x (Contains-head x es) (sym same))))
 
-  -- one with a digest that is borne before isn't
+  -- appending an entry whose digest an earlier one has leaves the distinct entries as they were
   pub distinct_again : (es : List T) (e g : T) → Contains es g → (node g).digest ≡ (node e).digest
       → distinct node (es ++ e ∷ []) ≡ distinct node es
   distinct_again [] e g c same = absurd (Contains-none g c)

@@ -1,28 +1,13 @@
 -- Forks by the pairs that were seen.
-use Rattle.std.proofs.Common.{◌≡◌, ℕ, ◌+◌, ◌<◌, Bool, true}
-use Rattle.std.proofs.Common.{false, List, [], ◌∷◌, ◌++◌, length, take, get_or}
-use Rattle.std.proofs.Common.{refl, sym, ap, subst, ◌∙◌, inl, inr, arith}
-use Rattle.std.specs.Prelude.{◌↔◌, ◌&&◌, ◌||◌}
-use Rattle.std.specs.BTreeMap.{is_at}
-use Rattle.std.specs.BTreeSet.{BTreeSet, contains}
-use Rattle.std.specs.List.{Contains, list_any}
-use Rattle.std.specs.List.Sorted.{IsStrictlySortedBy}
-use Rattle.std.specs.Cmp.{IsTotalOrder, on_total, then_total}
-use Rattle.std.specs.Ordering.{nat_cmp}
-use Rattle.std.specs.declared.cmp.Ordering.TheVariants.{Equal}
-use Rattle.std.proofs.lemmas.Bool.{true≢false, or_cases, or_left, or_right, and_parts, and_from}
-use Rattle.std.proofs.lemmas.Cmp.{nat_cmp_total, eq_by_cmp_equiv}
-use Rattle.std.proofs.lemmas.List.{length-take, get_or-take}
-use Rattle.std.proofs.lemmas.List.Elements.{Contains-push, Contains-push_cases, Contains-append_left}
-use Rattle.std.proofs.lemmas.List.Folds.{list_any_more}
-use Rattle.std.proofs.lemmas.Map.Lookups.{exact_pairs, exact_unsigned}
-use Rattle.std.proofs.lemmas.Map.Views.{btree_set_contains_iff}
-use Rattle.std.proofs.lemmas.Option.{slice_get-get_or}
-use Rattle.entry_order.specs.Node.{Node}
-use Rattle.entry_order.proofs.Lists.{Contains-none, list_any_some, list_any_of}
-use Rattle.entry_order.proofs.Places.{taken_more}
-use Rattle.entry_graph.specs.EntryGraph.{pair_cmp, IsFork, AreForks}
-use Rattle.entry_graph.specs.inside.Distinct.{HasNoDigestTwice}
+use Rattle.entry_graph.proofs.Imports.{◌≡◌, ℕ, ◌+◌, ◌<◌, Bool, true, false, List, [], ◌∷◌, ◌++◌, length, take, get_or}
+use Rattle.entry_graph.proofs.Imports.{refl, sym, ap, subst, ◌∙◌, inl, inr, arith, ◌↔◌, ◌&&◌, ◌||◌, is_at, BTreeSet}
+use Rattle.entry_graph.proofs.Imports.{contains, Contains, list_any, IsStrictlySortedBy, IsTotalOrder, on_total}
+use Rattle.entry_graph.proofs.Imports.{then_total, nat_cmp, Equal, true≢false, or_cases, or_left, or_right, and_parts}
+use Rattle.entry_graph.proofs.Imports.{and_from, nat_cmp_total, eq_by_cmp_equiv, length-take, get_or-take}
+use Rattle.entry_graph.proofs.Imports.{Contains-push, Contains-push_cases, Contains-append_left, list_any_more}
+use Rattle.entry_graph.proofs.Imports.{exact_pairs, exact_unsigned, btree_set_contains_iff, slice_get-get_or, Node}
+use Rattle.entry_graph.proofs.Imports.{Contains-none, list_any_some, list_any_of, taken_more, pair_cmp, IsFork}
+use Rattle.entry_graph.proofs.Imports.{AreForks, HasNoDigestTwice}
 use Rattle.entry_graph.proofs.Places.{equal_from, one_place}
 
 -- makers and then numbers are a total order of pairs
@@ -133,7 +118,7 @@ module _ {T : Type 0} (node : T → Node) where
           (passes_pair (pair_of x) (pair_of e) (first ∙ sym last)))
           (passes_pair (pair_of e) (m, n) last))
 
-  -- the same of the first entries and one more
+  -- whether a pair is a fork of the first entries and one more: it was before, or the last makes it one
   pub fork_step : (es : List T) (i : ℕ) (e : T) (m n : ℕ) (f g : Bool) → HasNoDigestTwice node es → i < length es
       → e ≡ get_or es i e → (f ≡ true) ↔ IsFork node (take i es) m n
       → g ≡ ((has_pair (take i es) (pair_of e) && is_at (pair_cmp (pair_of e)) (m, n)) || f)

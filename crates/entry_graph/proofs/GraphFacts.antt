@@ -1,14 +1,9 @@
 -- The graph of distinct entries from its parts.
-use Rattle.std.proofs.Common.{◌≡◌, ◌≤◌, Bool, true, false, cond, not}
-use Rattle.std.proofs.Common.{List, [], ◌∷◌, length, refl, sym, ap, subst, arith}
-use Rattle.std.specs.List.{AllPairs, filter}
-use Rattle.std.specs.List.Sorted.{IsPermutation}
-use Rattle.std.proofs.lemmas.List.Sorted.{Contains-permutation, IsPermutation-sym, length_permutation}
-use Rattle.entry_order.specs.Node.{Node}
-use Rattle.entry_order.specs.Survivors.{is_stray, survivors, gaps}
-use Rattle.entry_graph.specs.EntryGraph.{EntryGraph, IsLower, AreLinks}
-use Rattle.entry_graph.specs.EntryGraph.{AreForks, AreStrays, IsEntryGraph, IsGraphOfGiven}
-use Rattle.entry_graph.specs.inside.Distinct.{HasNoDigestTwice}
+use Rattle.entry_graph.proofs.Imports.{◌≡◌, ◌≤◌, Bool, true, false, cond, not, List, [], ◌∷◌, length, refl, sym, ap}
+use Rattle.entry_graph.proofs.Imports.{subst, arith, AllPairs, filter, IsPermutation, Contains-permutation}
+use Rattle.entry_graph.proofs.Imports.{IsPermutation-sym, length_permutation, Node, is_stray, survivors, gaps}
+use Rattle.entry_graph.proofs.Imports.{EntryGraph, IsLower, AreLinks, AreForks, AreStrays, IsEntryGraph}
+use Rattle.entry_graph.proofs.Imports.{IsGraphOfGiven, HasNoDigestTwice}
 use Rattle.entry_graph.proofs.Places.{one_place, single_filter}
 use Rattle.entry_graph.proofs.NumberFacts.{single_moved}
 
@@ -21,7 +16,7 @@ filter_shorter p (x ∷ xs) =
     [ true ↦ omega (arith, rest) | false ↦ omega (arith, rest) ]
 
 module _ {T : Type 0} (node : T → Node) where
-  -- no digest stands twice among survivors, in any order
+  -- survivors in any order have no digest twice
   pub survivors_single : (given S : List T) → HasNoDigestTwice node given → survivors node given ≡ S
       → HasNoDigestTwice node S
   survivors_single given S single is =
@@ -55,7 +50,7 @@ module _ {T : Type 0} (node : T → Node) where
         forks = forks;
       }
 
-  -- and of the graph and the entries
+  -- a graph of the survivors, with the strays of the given entries, is the graph of what was given
   pub graph_is_right : (given found : List T) (graph : EntryGraph T) → found ≡ survivors node given
       → IsPermutation found graph.survivors → AreStrays node given graph.strays → IsEntryGraph node graph
       → IsGraphOfGiven node given graph

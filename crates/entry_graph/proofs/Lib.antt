@@ -1,3 +1,4 @@
+mod Imports
 pub mod Places
 pub mod DistinctFacts
 pub mod TableFacts

@@ -1,23 +1,14 @@
 -- Links by the table of places.
-use Rattle.std.proofs.Common.{◌≡◌, ℕ, zero, suc, ◌+◌, ◌<◌, ◌≤◌, Bool}
-use Rattle.std.proofs.Common.{true, false, List, [], ◌∷◌, ◌++◌, length, get_or, take}
-use Rattle.std.proofs.Common.{refl, sym, ap, subst, ◌∙◌, inl, inr, Some, None, Option, arith}
-use Rattle.std.specs.Prelude.{◌↔◌, ◌||◌, slice_get, is_none}
-use Rattle.std.specs.List.{AllPairs, Contains, list_any}
-use Rattle.std.proofs.lemmas.Bool.{cases_lt, cases_order, true≢false, false_from_ne_true, or_right}
-use Rattle.std.proofs.lemmas.List.Elements.{Contains-push, Contains-push_cases, Contains-append_left}
-use Rattle.std.proofs.Math.Bool.{or-false}
-use Rattle.std.proofs.lemmas.Option.{none-some, same_Some, slice_get_within, slice_get_past, get_or_from_slice_get}
-use Rattle.entry_order.specs.Node.{Node}
-use Rattle.entry_order.specs.Naming.{Names, IsBorneIn}
-use Rattle.entry_order.specs.Survivors.{gaps}
-use Rattle.entry_order.specs.Settled.{NamesNoGap}
-use Rattle.entry_order.proofs.Completions.{gaps_are_unique}
-use Rattle.entry_order.proofs.Lists.{Contains-none, list_any_some, list_any_of}
-use Rattle.entry_order.proofs.Places.{member_at, place_of, taken_more}
-use Rattle.entry_graph.specs.EntryGraph.{Links, IsLower, AreLinks, parents_of, ragged_of, parents_in, ragged_in}
-use Rattle.entry_graph.specs.inside.Distinct.{HasNoDigestTwice, NamesLower}
-use Rattle.entry_graph.specs.inside.Tables.{number_at, ArePlaces, IsLinked, AreLinked}
+use Rattle.entry_graph.proofs.Imports.{◌≡◌, ℕ, zero, suc, ◌+◌, ◌<◌, ◌≤◌, Bool, true, false, List, [], ◌∷◌, ◌++◌}
+use Rattle.entry_graph.proofs.Imports.{length, get_or, take, refl, sym, ap, subst, ◌∙◌, inl, inr, Some, None, Option}
+use Rattle.entry_graph.proofs.Imports.{arith, ◌↔◌, ◌||◌, slice_get, is_none, AllPairs, Contains, list_any, cases_lt}
+use Rattle.entry_graph.proofs.Imports.{cases_order, true≢false, false_from_ne_true, or_right, Contains-push}
+use Rattle.entry_graph.proofs.Imports.{Contains-push_cases, Contains-append_left, or-false, none-some, same_Some}
+use Rattle.entry_graph.proofs.Imports.{slice_get_within, slice_get_past, get_or_from_slice_get, Node, Names}
+use Rattle.entry_graph.proofs.Imports.{IsBorneIn, gaps, NamesNoGap, gaps_are_unique, Contains-none, list_any_some}
+use Rattle.entry_graph.proofs.Imports.{list_any_of, member_at, place_of, taken_more, Links, IsLower, AreLinks}
+use Rattle.entry_graph.proofs.Imports.{parents_of, ragged_of, parents_in, ragged_in, HasNoDigestTwice, NamesLower}
+use Rattle.entry_graph.proofs.Imports.{number_at, ArePlaces, IsLinked, AreLinked}
 use Rattle.entry_graph.proofs.Places.{any_push, one_place, zip_at, zip_length, zip_push}
 
 -- what is found at one of the names, with one name more
@@ -82,7 +73,7 @@ linked_lacking table names name parents ragged none before =
           ∙ sym (any_push lacking names name);
     }
 
--- the same of the first names and one more
+-- a next name that is found adds its number to the links of the first names
 pub found_step : (table : List (List ℕ × ℕ)) (names : List (List ℕ)) (i : ℕ) (name : List ℕ) (parents : List ℕ)
     (ragged : Bool) (p : ℕ) → i < length names → name ≡ get_or names i name → number_at table name ≡ Some p
     → IsLinked table (take i names) (record { parents = parents; ragged = ragged })
@@ -92,7 +83,7 @@ found_step table names i name parents ragged p within is at before =
     (sym (taken_more names i name within is))
     (linked_found table (take i names) name parents ragged p at before)
 
--- and where the next name isn't found, the links of the first names become ragged
+-- a next name that isn't found makes the links of the first names ragged
 pub lacking_step : (table : List (List ℕ × ℕ)) (names : List (List ℕ)) (i : ℕ) (name : List ℕ) (parents : List ℕ)
     (ragged : Bool) → i < length names → name ≡ get_or names i name → number_at table name ≡ None
     → IsLinked table (take i names) (record { parents = parents; ragged = ragged })
@@ -123,7 +114,7 @@ within_not_none [] i l is = absurd (omega arith)
 within_not_none (x ∷ xs) zero l is = none-some x (sym is)
 within_not_none (x ∷ xs) (suc i) l is = within_not_none xs i (omega arith) is
 
--- a digest is borne by an entry at some place
+-- no entry has a digest that the table lacks
 pub lacks_borne : {T : Type 0} (node : T → Node) (S : List T) (table : List (List ℕ × ℕ)) (d : List ℕ)
     → ArePlaces node S table → number_at table d ≡ None → IsBorneIn node S d → ⊥
 lacks_borne node S table d places none (f, c, is) =
@@ -182,7 +173,7 @@ module _ {T : Type 0} (node : T → Node) (S : List T) (table : List (List ℕ �
       → (e : T) × (f : T) × (slice_get S i ≡ Some e) × (slice_get S p ≡ Some f) × Names node e f
   arrow_cases i p c = by (slice_get S i) refl
     where
-      -- by whether a survivor stands at the place: where none does, there are no links and so no parents
+      -- by whether a survivor is at the place: where none is, there are no links and so no parents
       by : (o : Option T) → slice_get S i ≡ o
           → (e : T) × (f : T) × (slice_get S i ≡ Some e) × (slice_get S p ≡ Some f) × Names node e f
       by (Some e) is = let (f, at_p, names) = arrow_at i p e is c in (e, f, is, at_p, names)
@@ -257,7 +248,7 @@ module _ {T : Type 0} (node : T → Node) (S : List T) (table : List (List ℕ �
             ((e, member_at S i e ie, named), lacks_borne node S table d places none))),
       )
 
-  -- so the links are those of the names
+  -- the links of all survivors are those of the names
   pub links_are_right : AreLinks node S links
   links_are_right = record {
     one_each = one_each;

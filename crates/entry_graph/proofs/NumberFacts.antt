@@ -1,21 +1,11 @@
 -- Entries that are sorted by stamp and then digest.
-use Rattle.std.proofs.Common.{◌≡◌, ◌≢◌, ℕ, ◌<◌, false, List, length, get_or, map, sym, ap, ◌∙◌, inl, inr, arith}
-use Rattle.std.specs.List.{AllPairs}
-use Rattle.std.specs.List.Sorted.{IsPermutation, IsSortedByKey}
-use Rattle.std.specs.Str.{bytes_eq}
-use Rattle.std.specs.Cmp.{IsTotalOrder, on_total, then_total}
-use Rattle.std.specs.Cmp.Lexicographic.{slice_cmp}
-use Rattle.std.specs.Ordering.{nat_cmp, ordering_then, is_lt}
-use Rattle.std.specs.declared.cmp.Ordering.{Ordering}
-use Rattle.std.proofs.lemmas.Bool.{cases_order, true≢false}
-use Rattle.std.proofs.lemmas.Cmp.{nat_cmp_total, nat_list_cmp_total, nat_list_eq_equiv}
-use Rattle.std.proofs.lemmas.List.Sorted.{sorted_far, ranks_by, IsPermutation-map}
-use Rattle.std.proofs.lemmas.Map.Keys.{IsDistinct-IsPermutation}
-use Rattle.std.proofs.lemmas.Option.{slice_get-get_or}
-use Rattle.entry_order.specs.Node.{Node}
-use Rattle.entry_order.proofs.Comparisons.{level, less, below}
-use Rattle.entry_graph.specs.EntryGraph.{IsLower}
-use Rattle.entry_graph.specs.inside.Distinct.{HasNoDigestTwice}
+use Rattle.std.proofs.Common.{◌≢◌}
+use Rattle.entry_graph.proofs.Imports.{◌≡◌, ℕ, ◌<◌, false, List, length, get_or, map, sym, ap, ◌∙◌, inl, inr, arith}
+use Rattle.entry_graph.proofs.Imports.{AllPairs, IsPermutation, IsSortedByKey, bytes_eq, IsTotalOrder, on_total}
+use Rattle.entry_graph.proofs.Imports.{then_total, slice_cmp, nat_cmp, ordering_then, is_lt, Ordering, cases_order}
+use Rattle.entry_graph.proofs.Imports.{true≢false, nat_cmp_total, nat_list_cmp_total, nat_list_eq_equiv, sorted_far}
+use Rattle.entry_graph.proofs.Imports.{ranks_by, IsPermutation-map, IsDistinct-IsPermutation, slice_get-get_or, Node}
+use Rattle.entry_graph.proofs.Imports.{level, less, below, IsLower, HasNoDigestTwice}
 use Rattle.entry_graph.proofs.Places.{one_place}
 
 -- a stamp and a digest, and their order

@@ -1,29 +1,14 @@
 -- Places of entries, and entries of which no two have one digest.
-use Rattle.std.proofs.Common.{◌≡◌, ℕ, zero, suc, Bool, true, false}
-use Rattle.std.proofs.Common.{cond, List, [], ◌∷◌, ◌++◌, length, map, get_or}
-use Rattle.std.proofs.Common.{refl, sym, ap, subst, ◌∙◌, Some, arith}
-use Rattle.std.specs.Prelude.{◌||◌, slice_get, IfOk, Result, Ok, Err}
-use Rattle.std.specs.List.{All, AllZip, Contains, IsDistinct, filter, list_any}
-use Rattle.std.specs.Ordering.{is_eq}
-use Rattle.std.specs.Str.{bytes_eq}
-use Rattle.std.specs.declared.cmp.Ordering.{Ordering}
-use Rattle.std.specs.declared.cmp.Ordering.TheVariants.{Less, Equal, Greater}
-use Rattle.std.proofs.lemmas.Bool.{true≢false, false_from_ne_true}
-use Rattle.std.proofs.lemmas.List.{map_push}
-use Rattle.std.proofs.lemmas.List.Folds.{list_any-append}
-use Rattle.std.proofs.Math.Bool.{or-false}
-use Rattle.std.proofs.lemmas.List.Elements.{All-from_recursion, recursion_from_All, All-contains}
-use Rattle.std.proofs.lemmas.List.Elements.{All-map, All-filter, Contains-get_or}
-use Rattle.std.proofs.lemmas.Map.Keys.{IsDistinct-head, IsDistinct-tail, IsDistinct-cons}
-use Rattle.std.proofs.lemmas.Map.Keys.{IsDistinct-from_apart, IsDistinct-push}
-use Rattle.std.proofs.lemmas.Cmp.{nat_list_eq_equiv}
-use Rattle.std.proofs.lemmas.Option.{none-some, same_Some}
-use Rattle.std.proofs.lemmas.Slice.Eq.{bytes_eq-Decides}
-use Rattle.entry_order.specs.Node.{Node}
-use Rattle.entry_order.proofs.Lists.{Contains-map, Contains-map_cases, list_any_some}
-use Rattle.entry_order.proofs.Places.{member_at, place_of}
-use Rattle.entry_order.specs.Naming.{IsBorneIn}
-use Rattle.entry_graph.specs.inside.Distinct.{HasNoDigestTwice}
+use Rattle.entry_graph.proofs.Imports.{◌≡◌, ℕ, zero, suc, Bool, true, false, cond, List, [], ◌∷◌, ◌++◌, length, map}
+use Rattle.entry_graph.proofs.Imports.{get_or, refl, sym, ap, subst, ◌∙◌, Some, arith, ◌||◌, slice_get, IfOk, Result}
+use Rattle.entry_graph.proofs.Imports.{Ok, Err, All, AllZip, Contains, IsDistinct, filter, list_any, is_eq, bytes_eq}
+use Rattle.entry_graph.proofs.Imports.{Ordering, Less, Equal, Greater, true≢false, false_from_ne_true, map_push}
+use Rattle.entry_graph.proofs.Imports.{list_any-append, or-false, All-from_recursion, recursion_from_All}
+use Rattle.entry_graph.proofs.Imports.{All-contains, All-map, All-filter, Contains-get_or, IsDistinct-head}
+use Rattle.entry_graph.proofs.Imports.{IsDistinct-tail, IsDistinct-cons, IsDistinct-from_apart, IsDistinct-push}
+use Rattle.entry_graph.proofs.Imports.{nat_list_eq_equiv, none-some, same_Some, bytes_eq-Decides, Node, Contains-map}
+use Rattle.entry_graph.proofs.Imports.{Contains-map_cases, list_any_some, member_at, place_of, IsBorneIn}
+use Rattle.entry_graph.proofs.Imports.{HasNoDigestTwice}
 
 -- a test of equality that passes
 pub equal_from : (o : Ordering) → is_eq o ≡ true → o ≡ Equal
@@ -41,7 +26,7 @@ pub if_ok_both : {A E : Type 0} (r : Result A E) {P Q R : A → Type 0} → IfOk
 if_ok_both (Ok x) p q both = both x p q
 if_ok_both (Err e) p q both = tt
 
--- two lists side by side: one pair more, as many of each, and what stands beside an element
+-- two lists side by side: one pair more, as many of each, and what is beside an element
 module _ {X Y : Type 0} (R : X → Y → Type 0) where
   -- a related pair more at the end keeps all pairs related
   pub zip_push : (xs : List X) (ys : List Y) (x : X) (y : Y) → AllZip R xs ys → R x y
@@ -58,7 +43,7 @@ module _ {X Y : Type 0} (R : X → Y → Type 0) where
   zip_length (x ∷ xs) [] all = absurd all
   zip_length (x ∷ xs) (y ∷ ys) all = ap (λ n. suc n) (zip_length xs ys all.1)
 
-  -- beside each element, at its place, stands one that it is related to
+  -- beside each element, at its place, is one that it is related to
   pub zip_at : (xs : List X) (ys : List Y) (i : ℕ) (x : X) → AllZip R xs ys → slice_get xs i ≡ Some x
       → (y : Y) × (slice_get ys i ≡ Some y) × R x y
   zip_at [] ys i x all is = absurd (none-some x is)
@@ -94,7 +79,7 @@ module _ {T : Type 0} (node : T → Node) where
       (one_place es i j e f (IsDistinct-tail bytes_eq (node x).digest (map (λ e. (node e).digest) es) single) ie jf
       same)
 
-  -- so a digest has one entry
+  -- where no digest is there twice, a digest has one entry
   pub one_entry : (es : List T) (e f : T) → HasNoDigestTwice node es → Contains es e → Contains es f
       → (node e).digest ≡ (node f).digest → e ≡ f
   one_entry es e f single ce cf same =
@@ -129,7 +114,7 @@ module _ {T : Type 0} (node : T → Node) where
   pub single_none : HasNoDigestTwice node []
   single_none = IsDistinct-from_apart bytes_eq [] (λ i j d l within. absurd (omega arith))
 
-  -- an entry more, whose digest none of them bears, leaves each digest single
+  -- one more entry, whose digest none of them has, leaves each digest single
   pub single_push : (es : List T) (e : T) → HasNoDigestTwice node es → (IsBorneIn node es (node e).digest → ⊥)
       → HasNoDigestTwice node (es ++ e ∷ [])
   single_push es e single new =

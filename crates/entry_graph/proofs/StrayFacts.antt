@@ -1,30 +1,14 @@
 -- Strays by the table of stamps, and sets of digests as ascending lists.
-use Rattle.std.proofs.Common.{◌≡◌, ℕ, ◌≤◌, Bool, true, false, cond, List, []}
-use Rattle.std.proofs.Common.{◌∷◌, ◌++◌, refl, sym, ap, subst, ◌∙◌, inl, inr, Some, None, Option}
-use Rattle.std.specs.Prelude.{◌&&◌, ◌||◌}
-use Rattle.std.specs.List.{All, Contains, list_any}
-use Rattle.std.specs.List.Sorted.{IsStrictlySortedBy, IsPermutation}
-use Rattle.std.specs.Cmp.Lexicographic.{slice_cmp}
-use Rattle.std.specs.Ordering.{nat_cmp}
-use Rattle.std.specs.BTreeMap.{is_at}
-use Rattle.std.specs.BTreeSet.{BTreeSet, contains}
-use Rattle.std.specs.declared.cmp.Ordering.TheVariants.{Less}
-use Rattle.std.proofs.lemmas.Bool.{cases_Bool, true≢false, and_parts, and_from, le-leb, leb-true, false_from_ne_true}
-use Rattle.std.proofs.lemmas.Cmp.{nat_list_cmp_total, eq_by_cmp_equiv}
-use Rattle.std.proofs.lemmas.Map.Lookups.{exact_bytes}
-use Rattle.std.proofs.lemmas.Map.Views.{btree_set_contains_iff}
-use Rattle.std.proofs.lemmas.List.Elements.{All-from_recursion, All-contains}
-use Rattle.std.proofs.lemmas.List.Sorted.{Contains-permutation, IsPermutation-sym}
-use Rattle.std.proofs.lemmas.Map.Keys.{sorted_head, sorted_tail}
-use Rattle.std.proofs.Math.Bool.{or-false}
-use Rattle.entry_order.specs.Node.{Node}
-use Rattle.entry_order.specs.Ascending.{IsAscending}
-use Rattle.entry_order.specs.Survivors.{IsStray, is_stray, survivors}
-use Rattle.entry_order.proofs.Lists.{list_any_some, list_any_of}
-use Rattle.entry_order.proofs.Strays.{survivors_are_no_strays, stamp_rises, is_stray_of, is_stray_from}
-use Rattle.entry_graph.specs.EntryGraph.{AreStrays}
-use Rattle.entry_graph.specs.inside.Distinct.{HasNoDigestTwice, NamesLower}
-use Rattle.entry_graph.specs.inside.Tables.{is_from, number_at, AreStamps}
+use Rattle.entry_graph.proofs.Imports.{◌≡◌, ℕ, ◌≤◌, Bool, true, false, cond, List, [], ◌∷◌, ◌++◌, refl, sym, ap}
+use Rattle.entry_graph.proofs.Imports.{subst, ◌∙◌, inl, inr, Some, None, Option, ◌&&◌, ◌||◌, All, Contains, list_any}
+use Rattle.entry_graph.proofs.Imports.{IsStrictlySortedBy, IsPermutation, slice_cmp, nat_cmp, is_at, BTreeSet}
+use Rattle.entry_graph.proofs.Imports.{contains, Less, cases_Bool, true≢false, and_parts, and_from, le-leb, leb-true}
+use Rattle.entry_graph.proofs.Imports.{false_from_ne_true, nat_list_cmp_total, eq_by_cmp_equiv, exact_bytes}
+use Rattle.entry_graph.proofs.Imports.{btree_set_contains_iff, All-from_recursion, All-contains, Contains-permutation}
+use Rattle.entry_graph.proofs.Imports.{IsPermutation-sym, sorted_head, sorted_tail, or-false, Node, IsAscending}
+use Rattle.entry_graph.proofs.Imports.{IsStray, is_stray, survivors, list_any_some, list_any_of}
+use Rattle.entry_graph.proofs.Imports.{survivors_are_no_strays, stamp_rises, is_stray_of, is_stray_from, AreStrays}
+use Rattle.entry_graph.proofs.Imports.{HasNoDigestTwice, NamesLower, is_from, number_at, AreStamps}
 use Rattle.entry_graph.proofs.Places.{any_push, equal_from, one_entry}
 
 -- keys that rise strictly are ascending digests
@@ -74,7 +58,7 @@ module _ {T : Type 0} (node : T → Node) where
       list_any_of (λ d. is_from (node e).stamp (number_at table d)) (node e).names (node g).digest names
       (at (number_at table (node g).digest) refl)
 
-  -- so the table tells strays
+  -- the table decides which entries are strays
   pub stray_is_told : (given : List T) (e : T) (table : List (List ℕ × ℕ)) → HasNoDigestTwice node given
       → AreStamps node given table → names_from table e ≡ is_stray node given e
   stray_is_told given e table single stamps =
@@ -101,7 +85,7 @@ last_first true false = refl
 last_first false true = refl
 last_first false false = refl
 
--- a set of digests has this one exactly where the test of it passes
+-- a set of digests has this one exactly when the test of it passes
 pub strays_from : {T : Type 0} (node : T → Node) (given : List T) (set : BTreeSet (List ℕ)) (strays : List (List ℕ))
     → ((d : List ℕ) → contains (slice_cmp nat_cmp) set d
     ≡ list_any (λ e. is_stray node given e && is_at (slice_cmp nat_cmp (node e).digest) d) given)

@@ -1,18 +1,10 @@
 -- Tables of numbers by digest, with one number more.
-use Rattle.std.proofs.Common.{◌≡◌, ℕ, true, false, cond, List, [], ◌∷◌, ◌++◌, length, take, get_or}
-use Rattle.std.proofs.Common.{◌+◌, ◌<◌, arith, refl, sym, ap, subst, ◌∙◌, ◌⊎◌, inl, inr, Some, None}
-use Rattle.std.specs.Prelude.{slice_get}
-use Rattle.std.specs.List.{Contains}
-use Rattle.std.specs.Str.{bytes_eq}
-use Rattle.std.proofs.lemmas.Bool.{cases_Bool, cond-true, cond-false}
-use Rattle.std.proofs.lemmas.List.{length-take-le}
-use Rattle.std.proofs.lemmas.List.Elements.{Contains-push, Contains-push_cases, Contains-append_left}
-use Rattle.std.proofs.lemmas.Option.{none-some, same_Some}
-use Rattle.std.proofs.lemmas.Slice.Eq.{bytes_eq-Decides}
-use Rattle.entry_order.specs.Node.{Node}
-use Rattle.entry_order.proofs.Lists.{Contains-none}
-use Rattle.entry_order.proofs.Places.{last_at, push_before, push_cases, taken_more}
-use Rattle.entry_graph.specs.inside.Tables.{number_at, IsTableOf, AreStamps, ArePlaces}
+use Rattle.entry_graph.proofs.Imports.{◌≡◌, ℕ, true, false, cond, List, [], ◌∷◌, ◌++◌, length, take, get_or, ◌+◌, ◌<◌}
+use Rattle.entry_graph.proofs.Imports.{arith, refl, sym, ap, subst, ◌∙◌, ◌⊎◌, inl, inr, Some, None, slice_get}
+use Rattle.entry_graph.proofs.Imports.{Contains, bytes_eq, cases_Bool, cond-true, cond-false, length-take-le}
+use Rattle.entry_graph.proofs.Imports.{Contains-push, Contains-push_cases, Contains-append_left, none-some, same_Some}
+use Rattle.entry_graph.proofs.Imports.{bytes_eq-Decides, Node, Contains-none, last_at, push_before, push_cases}
+use Rattle.entry_graph.proofs.Imports.{taken_more, number_at, IsTableOf, AreStamps, ArePlaces}
 
 -- the table has this number at the digest, and all else as before
 abbrev pub IsSet : List (List ℕ × ℕ) → List (List ℕ × ℕ) → List ℕ → ℕ → Type 0
@@ -53,7 +45,7 @@ module _ {T : Type 0} (node : T → Node) where
     lacks = λ d n e (f, c, is, stamp). absurd (Contains-none f c);
   }
 
-  -- and it says the places of no entry
+  -- an empty table says the places of no entry
   pub no_places : (table : List (List ℕ × ℕ)) → ((d : List ℕ) → number_at table d ≡ None) → ArePlaces node [] table
   no_places table none = record {
     found = λ d n e. absurd (none-some n (sym (none d) ∙ e));
@@ -88,7 +80,7 @@ module _ {T : Type 0} (node : T → Node) where
         | inr same ↦ inr (ap (λ z. (node z).digest) same ∙ is)
       ])
 
-  -- the same of the first entries and one more
+  -- with one entry more, the table that was set says the stamps of the entries so far
   pub stamps_step : (es : List T) (i : ℕ) (e : T) (before after : List (List ℕ × ℕ)) → i < length es
       → e ≡ get_or es i e → AreStamps node (take i es) before
       → IsSet before after (node e).digest (node e).stamp → AreStamps node (take (i + 1) es) after
@@ -96,7 +88,7 @@ module _ {T : Type 0} (node : T → Node) where
       subst (λ xs. AreStamps node xs after) (sym (taken_more es i e within is))
       (stamps_more (take i es) e before after table set)
 
-  -- and of the places: what is set for one more is its own place, the number of those before it
+  -- with one entry more, the table that was set says the places of the entries so far
   pub places_step : (es : List T) (i : ℕ) (e : T) (before after : List (List ℕ × ℕ)) → i < length es
       → e ≡ get_or es i e → ArePlaces node (take i es) before → IsSet before after (node e).digest i
       → ArePlaces node (take (i + 1) es) after

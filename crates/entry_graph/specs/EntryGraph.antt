@@ -1,4 +1,4 @@
--- What an auditor goes on: the survivors, what they name, and what is told of them.
+-- What an auditor works from: the survivors, what they name, and what is reported of them.
 use Rattle.std.specs.Prelude.{◌≡◌, ◌≢◌, ◌↔◌, ◌⊎◌, ℕ, ◌<◌, ◌≤◌, Bool, false, List, []}
 use Rattle.std.specs.Prelude.{Option, Some, None, length, slice_get}
 use Rattle.std.specs.List.{AllPairs, Contains}
@@ -25,19 +25,21 @@ pub record EntryGraph (T : Type 0) : Type 0 where
   pub strays : List (List ℕ)
   pub forks : List (ℕ × ℕ)
 
--- the parents of a survivor, and whether it is ragged
+-- the parents of a survivor with these links
 abbrev pub parents_in : Option Links → List ℕ
 parents_in None = []
 parents_in (Some links) = links.parents
 
+-- whether a survivor with these links is ragged
 abbrev pub ragged_in : Option Links → Bool
 ragged_in None = false
 ragged_in (Some links) = links.ragged
 
--- the same of the survivor with this number
+-- the parents of the survivor with this number
 abbrev pub parents_of : List Links → ℕ → List ℕ
 parents_of links i = parents_in (slice_get links i)
 
+-- whether the survivor with this number is ragged
 abbrev pub ragged_of : List Links → ℕ → Bool
 ragged_of links i = ragged_in (slice_get links i)
 
@@ -74,7 +76,7 @@ module _ {T : Type 0} (node : T → Node) where
     pub one_each : length links ≡ length S
     pub arrows : IsGraphOf node S (parents_of links) (ragged_of links)
 
-  -- what holds of each graph: the survivors go by stamp and then digest, each stands once, the links are those of the
+  -- what holds of each graph: the survivors go by stamp and then digest, each is there once, the links are those of the
   -- names, and the gaps and the forks are those of the survivors
   pub record IsEntryGraph (graph : EntryGraph T) : Type 0 where
     pub few : length graph.survivors ≤ 16384

@@ -6,8 +6,8 @@ use thiserror::Error;
 /// Why entries have no graph, the first that applies.
 #[derive(Debug, Drop, Error)]
 pub enum GraphFault<T = Sealed> {
-    /// Two entries with different texts and one digest: the pair whose second member stands first in
-    /// the given list.
+    /// Two entries with different texts and one digest: the pair whose second member comes first
+    /// in the given list.
     #[error("two entries with different texts have one digest")]
     Collision(T, T),
     #[error("there are more than 16,384 distinct entries")]

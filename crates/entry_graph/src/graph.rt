@@ -19,8 +19,8 @@ use std::marker::Model;
 /// The greatest number of distinct entries.
 const MOST_ENTRIES: usize = 16_384;
 
-/// The survivors of the entries that were given, numbered by stamp and then digest from 0, with what
-/// each names, the gaps, the strays that were set aside, and the forks.
+/// The survivors of the entries that were given, numbered by stamp and then digest from 0, with
+/// what each names, the gaps, the strays that were set aside, and the forks.
 #[derive(Drop)]
 pub struct Graph<T: SignedText = Sealed> {
     survivors: Vec<T>,

@@ -1,5 +1,5 @@
 //! The graph of the entries that an auditor goes on: the survivors of those given, numbered, with
-//! what each names, and what the auditor tells of them: gaps, strays and forks. The order of
+//! what each names, and what the auditor reports of them: gaps, strays and forks. The order of
 //! entries is Auditorium's (EVT 2007), and rules are judged over such a graph (Querifier, SADFE
 //! 2008).
 #![tactic(auto)]

@@ -12,8 +12,8 @@ use std::alloc::Global;
 use std::thread::Threads;
 
 /// Reads the logs of these names, in their order, and verifies the signatures of their entries
-/// under the roster, of the election. An entry that stands in several logs is verified once. The
-/// first log that is refused ends it, and no file behind it is read. No file changes.
+/// under the roster, of the election. An entry that is in several logs is verified once. The
+/// first log that is refused ends it, and no file after it is read. No file changes.
 ///
 /// # Errors
 ///

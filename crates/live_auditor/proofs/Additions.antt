@@ -1,30 +1,16 @@
 -- An entry more.
-use Rattle.std.proofs.Common.{◌≡◌, ◌∙◌, ℕ, ◌+◌, ◌<◌, List, [], ◌∷◌, ◌++◌, length, get_or, take, ap, subst}
-use Rattle.std.proofs.Common.{inl, inr}
-use Rattle.std.specs.Prelude.{◌≢◌, All}
-use Rattle.std.specs.List.{Contains}
-use Rattle.std.proofs.lemmas.List.{take_more}
-use Rattle.std.proofs.lemmas.List.Elements.{Contains-push_cases}
-use Rattle.entry_order.specs.Naming.{IsNew}
-use Rattle.entry_format.specs.SealedEntry.{SealedEntry}
-use Rattle.entry_format.specs.Nodes.{node_of_sealed}
-use Rattle.entry_graph.specs.Given.{distinct}
-use Rattle.entry_graph.proofs.DistinctFacts.{distinct_new}
-use Rattle.roster.specs.declared.post.Post.{Post}
-use Rattle.auditor.specs.Rows.{HaveMakers}
-use Rattle.rule_language.specs.Trees.{RuleTree}
-use Rattle.live_auditor.specs.Adding.{IsTooWideOver}
-use Rattle.live_auditor.specs.Live.{IsOfMachine}
-use Rattle.live_auditor.specs.declared.summary.Unsummed.{Unsummed}
-use Rattle.live_auditor.specs.declared.summary.Unsummed.TheVariants.{TooWide}
-use Rattle.live_auditor.specs.inside.Unsummed.{IsUnsummed}
+use Rattle.std.proofs.Common.{◌≡◌}
+use Rattle.live_auditor.proofs.Imports.{◌∙◌, ℕ, ◌+◌, ◌<◌, List, [], ◌∷◌, ◌++◌, length, get_or, take, ap, subst, inl}
+use Rattle.live_auditor.proofs.Imports.{inr, ◌≢◌, All, Contains, take_more, Contains-push_cases, IsNew, SealedEntry}
+use Rattle.live_auditor.proofs.Imports.{node_of_sealed, distinct, distinct_new, Post, HaveMakers, RuleTree}
+use Rattle.live_auditor.proofs.Imports.{IsTooWideOver, IsOfMachine, Unsummed, TooWide, IsUnsummed}
 
 -- entries of machines have makers
 pub have_makers : (machines : List Post) (entries : List SealedEntry) → All (IsOfMachine machines) entries →
     HaveMakers machines entries
 have_makers machines entries all = λ k d within. (all k d within).maker
 
--- and one more with another digest leaves each of them once
+-- entries, each of them once, and one more with another digest are each there once
 pub once_more : (added : List SealedEntry) (e : SealedEntry) → distinct node_of_sealed added ≡ added →
     IsNew node_of_sealed added e → distinct node_of_sealed (added ++ e ∷ []) ≡ added ++ e ∷ []
 once_more added e once new = distinct_new node_of_sealed added e new ∙ ap (λ es. es ++ e ∷ []) once

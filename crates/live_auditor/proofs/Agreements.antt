@@ -1,13 +1,9 @@
 -- What is known of the order of nodes stays where nodes are put after them.
-use Rattle.std.proofs.Common.{◌≡◌, ◌∙◌, ap, refl, ℕ, zero, suc, ◌<◌, ◌≤◌, Bool, true, false, cond}
-use Rattle.std.proofs.Common.{List, [], ◌∷◌, arith}
-use Rattle.std.specs.Prelude.{◌==◌, ◌||◌, ◌&&◌, not}
-use Rattle.std.specs.List.{Contains, list_any, list_all}
-use Rattle.std.proofs.lemmas.Bool.{or_from}
-use Rattle.entry_order.specs.declared.three.Three.TheVariants.{False, Unknown, True}
-use Rattle.entry_order.specs.Ancestors.{Descends, reaches, before, is_whole}
-use Rattle.entry_order.proofs.Lists.{Contains-head, Contains-later}
-use Rattle.rule_meaning.specs.Kleene.{is_true}
+use Rattle.std.proofs.Common.{◌≡◌}
+use Rattle.live_auditor.proofs.Imports.{◌∙◌, ap, refl, ℕ, zero, suc, ◌<◌, ◌≤◌, Bool, true, false, cond, List, [], ◌∷◌}
+use Rattle.live_auditor.proofs.Imports.{arith, ◌==◌, ◌||◌, ◌&&◌, not, Contains, list_any, list_all, or_from, False}
+use Rattle.live_auditor.proofs.Imports.{Unknown, True, Descends, reaches, before, is_whole, Contains-head}
+use Rattle.live_auditor.proofs.Imports.{Contains-later, is_true}
 
 -- tests that agree on the members of a list hold of some member, or of all, alike
 any_same : (p q : ℕ → Bool) (xs : List ℕ) → ((x : ℕ) → Contains xs x → p x ≡ q x) → list_any p xs ≡ list_any q xs
@@ -39,7 +35,7 @@ module _ (parents others : ℕ → List ℕ) (ragged torn : ℕ → Bool) (count
       (same_reach n y z (let below = down x z member in omega (arith, below, low))))
       ∙ ap (list_any (λ z. (z == y) || reaches others n y z)) (arrows x low)
 
-  -- and is whole if it was
+  -- a place is whole by both or by neither
   pub same_whole : (n x : ℕ) → x < count → is_whole parents ragged n x ≡ is_whole others torn n x
   same_whole zero x low = ap not (marks x low)
   same_whole (suc n) x low =
@@ -49,7 +45,7 @@ module _ (parents others : ℕ → List ℕ) (ragged torn : ℕ → Bool) (count
       (λ z member. same_whole n z (let below = down x z member in omega (arith, below, low)))
       ∙ ap (list_all (λ z. is_whole others torn n z)) (arrows x low))
 
-  -- so the same is known of what comes before it
+  -- the same is known by both graphs of what comes before a place
   pub same_before : (y x : ℕ) → x < count → before parents ragged y x ≡ before others torn y x
   same_before y x low =
       ap (λ (b : Bool). cond b True (cond (is_whole parents ragged x x) False Unknown)) (same_reach x y x low)
@@ -66,7 +62,7 @@ not_reached parents down (suc n) y x low =
     neither : (z : ℕ) → z < x → reaches parents n y z ≡ false → ((z == y) || reaches parents n y z) ≡ false
     neither z below e = grind (arith, e, below, low)
 
--- so it isn't known to come before it
+-- a place isn't known to come before one at or below it
 pub not_before : (parents : ℕ → List ℕ) (ragged : ℕ → Bool) → Descends parents → (y x : ℕ) → x ≤ y →
     is_true (before parents ragged y x) ≡ false
 not_before parents ragged down y x low =

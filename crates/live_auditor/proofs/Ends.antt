@@ -1,20 +1,17 @@
 -- Lists with one element more at their end.
-use Rattle.std.proofs.Common.{◌≡◌, ◌∙◌, ap, refl, sym, subst, ℕ, zero, suc, ◌<◌, ◌≤◌, Some, List, [], ◌∷◌, ◌++◌}
-use Rattle.std.proofs.Common.{length, arith, length-append, inl, inr}
-use Rattle.std.specs.Prelude.{slice_get, ◌⊎◌}
-use Rattle.std.specs.List.{Contains}
-use Rattle.std.proofs.lemmas.Bool.{cases_order}
-use Rattle.std.proofs.lemmas.List.Elements.{Contains-get_or}
-use Rattle.std.proofs.lemmas.Option.{slice_get_within, get_or_from_slice_get}
+use Rattle.std.proofs.Common.{◌≡◌}
+use Rattle.live_auditor.proofs.Imports.{◌∙◌, ap, refl, sym, subst, ℕ, zero, suc, ◌<◌, ◌≤◌, Some, List, [], ◌∷◌, ◌++◌}
+use Rattle.live_auditor.proofs.Imports.{length, arith, length-append, inl, inr, slice_get, ◌⊎◌, Contains, cases_order}
+use Rattle.live_auditor.proofs.Imports.{Contains-get_or, slice_get_within, get_or_from_slice_get}
 
--- the elements stay where they are
+-- the elements stay where they are when one more is put after them
 pub slice_get_old : {X : Type 0} (xs : List X) (x : X) (i : ℕ) → i < length xs →
     slice_get (xs ++ x ∷ []) i ≡ slice_get xs i
 slice_get_old [] x i low = absurd (omega arith)
 slice_get_old (y ∷ ys) x zero low = refl
 slice_get_old (y ∷ ys) x (suc i) low = slice_get_old ys x i (omega arith)
 
--- and it comes after them
+-- an element that is put after a list comes at its length
 pub slice_get_last : {X : Type 0} (xs : List X) (x : X) → slice_get (xs ++ x ∷ []) (length xs) ≡ Some x
 slice_get_last [] x = refl
 slice_get_last (y ∷ ys) x = slice_get_last ys x
@@ -31,7 +28,7 @@ pub at_cases : {X : Type 0} (xs : List X) (x : X) (i : ℕ) (y : X) → slice_ge
     ((i < length xs) × (slice_get xs i ≡ Some y)) ⊎ ((i ≡ length xs) × (y ≡ x))
 at_cases xs x i y at = by (cases_order i (length xs))
   where
-    -- by how the place stands to the end of the list
+    -- by cases: the place is the end of the list, before it or after it
     by : (i ≡ length xs) ⊎ ((i < length xs) ⊎ (length xs < i)) →
         ((i < length xs) × (slice_get xs i ≡ Some y)) ⊎ ((i ≡ length xs) × (y ≡ x))
     by (inl end) =
@@ -42,7 +39,7 @@ at_cases xs x i y at = by (cases_order i (length xs))
         let within = slice_get_within (xs ++ x ∷ []) i y at in
         absurd (omega (arith, length-append xs (x ∷ []), within, past))
 
--- what stands at a place of a list is contained
+-- what is at a place of a list is contained
 pub at_contains : {X : Type 0} (xs : List X) (i : ℕ) (x : X) → slice_get xs i ≡ Some x → Contains xs x
 at_contains xs i x at =
     subst (λ y. Contains xs y) (get_or_from_slice_get xs i x x at)

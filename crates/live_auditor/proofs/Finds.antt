@@ -1,18 +1,11 @@
 -- What is found of the names of an entry, and of a usual one.
-use Rattle.std.proofs.Common.{◌≡◌, ◌∙◌, ap, sym, subst, ℕ, ◌+◌, ◌-◌, ◌<◌, ◌≤◌, List, [], ◌∷◌, ◌++◌, length, get_or}
-use Rattle.std.proofs.Common.{take, inl, inr, arith, false, Some}
-use Rattle.std.specs.Prelude.{slice_get, ◌⊎◌, Option, IfSome}
-use Rattle.std.specs.List.{Contains}
-use Rattle.std.specs.Str.{bytes_eq}
-use Rattle.std.proofs.lemmas.Bool.{cases_lt, true≢false}
-use Rattle.std.proofs.lemmas.List.{take_more}
-use Rattle.std.proofs.lemmas.List.Elements.{Contains-append_left, Contains-push, Contains-push_cases}
-use Rattle.std.proofs.lemmas.Option.{slice_get-get_or}
-use Rattle.std.proofs.lemmas.Slice.Eq.{bytes_eq-Decides}
-use Rattle.entry_format.specs.SealedEntry.{SealedEntry}
-use Rattle.rule_language.specs.declared.row.Row.{Row}
-use Rattle.live_auditor.specs.declared.usual.Usual.{Usual}
-use Rattle.live_auditor.specs.inside.Found.{FindsNames, IsUsualBy}
+use Rattle.std.proofs.Common.{◌≡◌}
+use Rattle.live_auditor.proofs.Imports.{◌∙◌, ap, sym, subst, ℕ, ◌+◌, ◌-◌, ◌<◌, ◌≤◌, List, [], ◌∷◌, ◌++◌, length}
+use Rattle.live_auditor.proofs.Imports.{get_or, take, inl, inr, arith, false, Some, slice_get, ◌⊎◌, IfSome, Contains}
+use Rattle.live_auditor.proofs.Imports.{bytes_eq, cases_lt, true≢false, take_more, Contains-append_left}
+use Rattle.live_auditor.proofs.Imports.{Contains-push, Contains-push_cases, slice_get-get_or, bytes_eq-Decides}
+use Rattle.live_auditor.proofs.Imports.{SealedEntry, Row, Usual, FindsNames, IsUsualBy}
+use Rattle.std.specs.Prelude.{Option}
 
 module _ (digests names : List (List ℕ)) (i : ℕ) (d : List ℕ) (within : i < length names) where
   -- the next name
@@ -28,7 +21,7 @@ module _ (digests names : List (List ℕ)) (i : ℕ) (d : List ℕ) (within : i 
   still x has =
       subst (λ ds. Contains ds x) (sym names_next) (Contains-append_left (take i names) (name ∷ []) x has)
 
-  -- and so is the next
+  -- the next name is one of these
   here : Contains (take (i + 1) names) name
   here = subst (λ ds. Contains ds name) (sym names_next) (Contains-push (take i names) name)
 
@@ -36,7 +29,7 @@ module _ (digests names : List (List ℕ)) (i : ℕ) (d : List ℕ) (within : i 
   either : (x : List ℕ) → Contains (take (i + 1) names) x → Contains (take i names) x ⊎ (name ≡ x)
   either x has = Contains-push_cases (take i names) name x (subst (λ ds. Contains ds x) names_next has)
 
-  -- a name that stands at a place has a parent more
+  -- a name that is at a place gives one more parent
   pub finds_place : (place : ℕ) (parents new : List ℕ) (missing also : List (List ℕ)) →
       slice_get digests place ≡ Some name → new ≡ parents ++ place ∷ [] → also ≡ missing →
       FindsNames digests (take i names) parents missing → FindsNames digests (take (i + 1) names) new also
@@ -63,7 +56,7 @@ module _ (digests names : List (List ℕ)) (i : ℕ) (d : List ℕ) (within : i 
         lacks = λ x has. (still x (finds.lacks x has).0, (finds.lacks x has).1);
       })
 
-  -- and one that stands at none is missing
+  -- a name that is at no place is missing
   pub finds_missing : (parents also : List ℕ) (missing new : List (List ℕ)) → (Contains digests name → ⊥) →
       also ≡ parents → new ≡ missing ++ name ∷ [] → FindsNames digests (take i names) parents missing →
       FindsNames digests (take (i + 1) names) also new
@@ -86,13 +79,13 @@ module _ (digests names : List (List ℕ)) (i : ℕ) (d : List ℕ) (within : i 
         ];
       })
 
--- a digest that stands at no place isn't contained
+-- a digest that is at no place isn't contained
 pub stands_nowhere : (digests : List (List ℕ)) (d : List ℕ) →
     ((k : ℕ) → k < length digests → slice_get digests k ≡ Some d → ⊥) → Contains digests d → ⊥
 stands_nowhere digests d none (k, within, is) =
     none k within (slice_get-get_or digests k d within ∙ ap (λ (x : List ℕ). Some x) is)
 
--- a digest that stands at no later place, and not at the one before, stands at none from there on
+-- a digest that is at no later place, and not at the one before, is at none from there on
 pub looked_at : (digests : List (List ℕ)) (d : List ℕ) (place : ℕ) (item : List ℕ) →
     slice_get digests (place - 1) ≡ Some item → bytes_eq item d ≡ false →
     ((k : ℕ) → place ≤ k → k < length digests → slice_get digests k ≡ Some d → ⊥) →

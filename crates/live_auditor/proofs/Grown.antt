@@ -1,28 +1,17 @@
 -- The graph with a usual entry more.
-use Rattle.std.proofs.Common.{◌≡◌, ◌∙◌, ap, refl, sym, subst, ℕ, suc, ◌<◌, true, false}
-use Rattle.std.proofs.Common.{Some, List, [], ◌∷◌, ◌++◌, length, get_or, arith, inl, inr}
-use Rattle.std.proofs.Common.{length-append}
-use Rattle.std.specs.Prelude.{slice_get, not, ◌==◌, ◌↔◌, ◌⊎◌}
-use Rattle.std.specs.List.{Contains}
-use Rattle.std.proofs.lemmas.Bool.{cases_Bool, cases_order, true≢false}
-use Rattle.std.proofs.lemmas.List.Elements.{Contains-append_left, Contains-append_right, Contains-append_cases}
-use Rattle.std.proofs.lemmas.List.Elements.{Contains-push, Contains-push_cases, Contains-get_or}
-use Rattle.std.proofs.lemmas.List.Quantifiers.{all_pairs_push}
-use Rattle.std.proofs.lemmas.Option.{slice_get_within, slice_get_past}
-use Rattle.entry_order.specs.Ascending.{ascending}
-use Rattle.entry_order.specs.Ancestors.{Descends}
-use Rattle.entry_order.specs.Node.{Node}
-use Rattle.entry_order.specs.Naming.{Names, IsNew, IsBorneIn, IsNamedIn}
-use Rattle.entry_order.specs.Settled.{IsGraphOf, NamesNoGap}
-use Rattle.entry_order.specs.Survivors.{IsStray, is_stray, survivors, gaps, IsGaps}
-use Rattle.entry_order.proofs.Ascending.{Contains-ascending, Contains-ascending_cases, ascending_ascending}
-use Rattle.entry_order.proofs.Completions.{gaps_are_unique}
-use Rattle.entry_order.proofs.Lists.{Contains-head, Contains-none}
-use Rattle.entry_order.proofs.Strays.{is_stray_of, is_stray_from, survivors_are_no_strays}
-use Rattle.entry_graph.specs.EntryGraph.{EntryGraph, Links, parents_in, ragged_in, parents_of, ragged_of, IsLower}
-use Rattle.entry_graph.specs.EntryGraph.{AreStrays, IsFork, AreForks, IsGraphOfGiven}
-use Rattle.live_auditor.specs.inside.Kept.{link_to}
-use Rattle.live_auditor.specs.inside.Usual.{IsUsual, AreParents, AreMissing, grown}
+use Rattle.std.proofs.Common.{◌≡◌}
+use Rattle.live_auditor.proofs.Imports.{◌∙◌, ap, refl, sym, subst, ℕ, suc, ◌<◌, true, false, Some, List, [], ◌∷◌}
+use Rattle.live_auditor.proofs.Imports.{◌++◌, length, get_or, arith, inl, inr, length-append, slice_get, not, ◌==◌}
+use Rattle.live_auditor.proofs.Imports.{◌↔◌, ◌⊎◌, Contains, cases_Bool, cases_order, true≢false, Contains-append_left}
+use Rattle.live_auditor.proofs.Imports.{Contains-append_right, Contains-append_cases, Contains-push}
+use Rattle.live_auditor.proofs.Imports.{Contains-push_cases, Contains-get_or, all_pairs_push, slice_get_within}
+use Rattle.live_auditor.proofs.Imports.{slice_get_past, ascending, Descends, Node, Names, IsNew, IsBorneIn, IsNamedIn}
+use Rattle.live_auditor.proofs.Imports.{IsGraphOf, NamesNoGap, IsStray, is_stray, survivors, gaps, IsGaps}
+use Rattle.live_auditor.proofs.Imports.{Contains-ascending, Contains-ascending_cases, ascending_ascending}
+use Rattle.live_auditor.proofs.Imports.{gaps_are_unique, Contains-head, Contains-none, is_stray_of, is_stray_from}
+use Rattle.live_auditor.proofs.Imports.{survivors_are_no_strays, EntryGraph, Links, parents_in, ragged_in, parents_of}
+use Rattle.live_auditor.proofs.Imports.{ragged_of, IsLower, AreStrays, IsFork, AreForks, IsGraphOfGiven, link_to}
+use Rattle.live_auditor.proofs.Imports.{IsUsual, AreParents, AreMissing, grown}
 use Rattle.live_auditor.proofs.Ends.{slice_get_old, slice_get_last, at_cases, at_contains}
 
 -- a list without members is empty, as its length shows
@@ -273,7 +262,7 @@ module _ {T : Type 0} (node : T → Node) (given : List T) (graph : EntryGraph T
         ((i < length S) × Contains (parents_of graph.links i) p) ⊎ ((i ≡ length S) × Contains parents p)
     parent_cases i p has = by (cases_order i (length S))
       where
-        -- by how the place stands to the last
+        -- by cases: the place is the last one, before it or after it
         by : (i ≡ length S) ⊎ ((i < length S) ⊎ (length S < i)) →
             ((i < length S) × Contains (parents_of graph.links i) p) ⊎ ((i ≡ length S) × Contains parents p)
         by (inl end) =
@@ -392,7 +381,7 @@ module _ {T : Type 0} (node : T → Node) (given : List T) (graph : EntryGraph T
         by (inr (end, last)) (inl (low, old)) = absurd (other j old last)
         by (inr (end, last)) (inr (there, also)) = end ∙ sym there
 
-    -- so it is the graph of the entries and this one
+    -- the grown graph is that of the entries and this one
     pub is_grown : length S < 16384 → IsGraphOfGiven node more (grown graph e parents missing)
     is_grown room = record {
       kept = record {

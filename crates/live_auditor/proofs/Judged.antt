@@ -1,23 +1,11 @@
--- Verdicts by the rows of survivors, as they stand where one more comes after them.
-use Rattle.std.proofs.Common.{◌≡◌, ◌∙◌, ap, refl, sym, subst, ℕ, zero, suc, ◌<◌, Bool, List, [], ◌∷◌, ◌++◌, map, length}
-use Rattle.std.proofs.Common.{arith, get_or, length-append}
-use Rattle.std.specs.Prelude.{Ok}
-use Rattle.entry_graph.specs.EntryGraph.{Links, parents_in, ragged_in, parents_of, ragged_of}
-use Rattle.entry_order.specs.declared.three.Three.{Three}
-use Rattle.entry_order.specs.Ancestors.{Descends, before, is_whole}
-use Rattle.precedence.specs.Known.{Known, IsKnownOf, known_before, known_whole}
-use Rattle.rule_language.specs.declared.formula.Rule.{Rule}
-use Rattle.rule_language.specs.declared.row.Row.{Row}
-use Rattle.rule_language.specs.Forms.{rule_tree}
-use Rattle.rule_language.specs.Trees.{RuleTree}
-use Rattle.rule_meaning.specs.Kleene.{is_true}
-use Rattle.rule_engine.specs.Growth.{ComesBeforeNone}
-use Rattle.rule_engine.specs.Verdicts.{IsJudgeAnswer}
-use Rattle.rule_engine.specs.declared.verdict.Verdict.{Verdict}
-use Rattle.rule_engine.proofs.Graphs.{same_answer}
-use Rattle.auditor.specs.Judged.{AreJudged}
-use Rattle.live_auditor.specs.inside.Grown.{AreJudgedOver}
-use Rattle.live_auditor.specs.inside.Kept.{nodes_by}
+-- Verdicts by the rows of survivors, as they are where one more comes after them.
+use Rattle.std.proofs.Common.{◌≡◌}
+use Rattle.live_auditor.proofs.Imports.{◌∙◌, ap, refl, sym, subst, ℕ, zero, suc, ◌<◌, Bool, List, [], ◌∷◌, ◌++◌, map}
+use Rattle.live_auditor.proofs.Imports.{length, arith, get_or, length-append, Ok, Links, parents_in, ragged_in}
+use Rattle.live_auditor.proofs.Imports.{parents_of, ragged_of, Three, Descends, before, is_whole, Known, IsKnownOf}
+use Rattle.live_auditor.proofs.Imports.{known_before, known_whole, Rule, Row, rule_tree, RuleTree, is_true}
+use Rattle.live_auditor.proofs.Imports.{ComesBeforeNone, IsJudgeAnswer, Verdict, same_answer, AreJudged}
+use Rattle.live_auditor.proofs.Imports.{AreJudgedOver, nodes_by}
 use Rattle.live_auditor.proofs.Agreements.{same_before, same_whole, not_before}
 use Rattle.live_auditor.proofs.Ends.{slice_get_old}
 
@@ -57,7 +45,7 @@ module _ (links : List Links) (last : Links) (known : Known) (falls : Descends (
       ap is_true (is.orders y x (within x low))
       ∙ not_before (parents_of all) (ragged_of all) falls y x (omega (arith, low, past))
 
-  -- so the verdicts are the same
+  -- verdicts by the nodes of links are verdicts by what is known of their order
   pub judged_over : (rows : List Row) → length rows ≡ length links → (trees : List RuleTree)
       (verdicts : List Verdict) → AreJudged rows (nodes_by links) trees verdicts →
       AreJudgedOver rows (known_before known) (known_whole known) trees verdicts

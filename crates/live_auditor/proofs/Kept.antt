@@ -1,34 +1,16 @@
 -- What is kept of survivors, read off a graph.
-use Rattle.std.proofs.Common.{◌≡◌, ◌∙◌, ap, refl, sym, subst, ℕ, zero, suc, Bool, ◌+◌, ◌<◌, List, [], ◌∷◌, ◌++◌}
-use Rattle.std.proofs.Common.{map, length}
-use Rattle.std.proofs.Common.{get_or, take, arith, length-append, inl, inr, Some, None, Option}
-use Rattle.std.specs.Prelude.{slice_get, Result, Ok, Err, All, IfOk, IfSome}
-use Rattle.std.specs.List.{Contains}
-use Rattle.std.proofs.lemmas.List.{take_more, map-append}
-use Rattle.std.proofs.lemmas.List.Elements.{All-push}
-use Rattle.std.proofs.lemmas.Option.{get_or_from_slice_get, slice_get-get_or}
-use Rattle.entry_order.proofs.Lists.{Contains-cons_cases, Contains-none}
-use Rattle.entry_order.proofs.Strays.{survivors_are_no_strays}
-use Rattle.entry_format.specs.SealedEntry.{SealedEntry}
-use Rattle.entry_format.specs.Nodes.{node_of_sealed}
-use Rattle.entry_graph.specs.EntryGraph.{EntryGraph, Links, parents_in, ragged_in, parents_of, ragged_of}
-use Rattle.entry_graph.specs.Given.{distinct}
-use Rattle.entry_graph.proofs.DistinctFacts.{distinct_given}
-use Rattle.evidence.specs.Graphs.{IsSealedGraph}
-use Rattle.roster.specs.declared.post.Post.{Post}
-use Rattle.rule_language.specs.declared.formula.Rule.{Rule}
-use Rattle.rule_language.specs.declared.row.Row.{Row}
-use Rattle.rule_language.specs.Forms.{rule_tree}
-use Rattle.rule_language.specs.Trees.{RuleTree}
-use Rattle.rule_engine.specs.declared.verdict.Verdict.{Verdict}
-use Rattle.auditor.specs.Rows.{HaveMakers, row_of}
-use Rattle.live_auditor.specs.Adding.{HasRoomFor}
-use Rattle.live_auditor.specs.Live.{IsOfMachine}
-use Rattle.live_auditor.specs.Summary.{Summary}
-use Rattle.live_auditor.specs.declared.summary.Summed.{Summed}
-use Rattle.live_auditor.specs.inside.Grown.{said_with, kept_with}
-use Rattle.live_auditor.specs.inside.Kept.{SurvivorsKept, IsKept, IsSummed}
-use Rattle.live_auditor.specs.inside.KeptOf.{IsSummedBy, kept_of}
+use Rattle.std.proofs.Common.{◌≡◌}
+use Rattle.live_auditor.proofs.Imports.{◌∙◌, ap, refl, sym, subst, ℕ, zero, suc, Bool, ◌+◌, ◌<◌, List, [], ◌∷◌, ◌++◌}
+use Rattle.live_auditor.proofs.Imports.{map, length, get_or, take, arith, length-append, inl, inr, Some, None}
+use Rattle.live_auditor.proofs.Imports.{slice_get, Result, Ok, Err, All, IfOk, IfSome, Contains, take_more}
+use Rattle.live_auditor.proofs.Imports.{map-append, All-push, get_or_from_slice_get, slice_get-get_or}
+use Rattle.live_auditor.proofs.Imports.{Contains-cons_cases, Contains-none, survivors_are_no_strays, SealedEntry}
+use Rattle.live_auditor.proofs.Imports.{node_of_sealed, EntryGraph, Links, parents_in, ragged_in, parents_of}
+use Rattle.live_auditor.proofs.Imports.{ragged_of, distinct, distinct_given, IsSealedGraph, Post, Rule, Row}
+use Rattle.live_auditor.proofs.Imports.{rule_tree, RuleTree, Verdict, HaveMakers, row_of, HasRoomFor, IsOfMachine}
+use Rattle.live_auditor.proofs.Imports.{Summary, Summed, said_with, kept_with, SurvivorsKept, IsKept, IsSummed}
+use Rattle.live_auditor.proofs.Imports.{IsSummedBy, kept_of}
+use Rattle.std.proofs.Common.{Option}
 use Rattle.live_auditor.proofs.Additions.{once_more}
 use Rattle.live_auditor.proofs.Ends.{at_contains}
 use Rattle.live_auditor.proofs.Steps.{mapped_at}
@@ -110,7 +92,7 @@ kept_more machines rules trees added entries now before summary old kept e is of
       survivors = moved.survivors;
     }
 
--- so it does with a survivor more, as what is said and kept is then put together
+-- the audit is kept with one survivor more, when what is said and kept is put together
 pub kept_grown : (machines : List Post) (rules seen : List Rule) (added listed now : List SealedEntry)
     (before summary : Summary) (old kept : SurvivorsKept) (e : SealedEntry) (gaps : List (List ℕ))
     (verdicts : List Verdict) (rows : List Row) (link : Links) →
@@ -138,7 +120,7 @@ alone e x entries graph one graphed has =
     let there = subst (λ es. Contains es x) one (distinct_given node_of_sealed entries x first) in
     elim (Contains-cons_cases e [] x there) [ inl same ↦ sym same | inr none ↦ absurd (Contains-none x none) ]
 
--- so the first row is its row
+-- where one entry is all, the first row is its row
 pub row_is : (machines : List Post) (e : SealedEntry) (entries : List SealedEntry) (graph : EntryGraph SealedEntry)
     {E : Type 0} (found : Result (Option Row) E) → entries ≡ e ∷ [] → IsSealedGraph entries (Ok graph) →
     IfOk found (λ o. IfSome o (λ row. slice_get (map (row_of machines) graph.survivors) 0 ≡ Some row)) →

@@ -1,3 +1,4 @@
+mod Imports
 pub mod OneEntry
 pub mod Additions
 pub mod OneSummary

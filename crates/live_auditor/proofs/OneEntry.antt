@@ -1,14 +1,7 @@
 -- Under one roster entries with one text are one.
-use Rattle.std.proofs.Common.{◌≡◌, ◌∙◌, List, ap, sym}
-use Rattle.sha2.specs.Sha256.{sha256}
-use Rattle.roster.specs.declared.post.Post.{Post}
-use Rattle.entry_format.specs.declared.entry.Entry.{Entry}
-use Rattle.entry_format.specs.SealedEntry.{SealedEntry}
-use Rattle.entry_format.specs.EntryText.{IsSignedText}
-use Rattle.entry_format.specs.Sealing.{IsSealed}
-use Rattle.entry_format.specs.Unsealing.{key_at}
-use Rattle.entry_format.proofs.OneEntry.{one_entry}
-use Rattle.live_auditor.specs.Live.{IsOfMachine}
+use Rattle.std.proofs.Common.{◌≡◌}
+use Rattle.live_auditor.proofs.Imports.{◌∙◌, List, ap, sym, sha256, Post, Entry, SealedEntry, IsSignedText, IsSealed}
+use Rattle.live_auditor.proofs.Imports.{key_at, one_entry, IsOfMachine}
 
 -- entries of machines with one text are equal
 pub same_text : (machines : List Post) (e f : SealedEntry) → IsSealed e → IsSealed f → IsOfMachine machines e →

@@ -1,26 +1,11 @@
 -- Entries have one summary, in whatever order they came.
-use Rattle.std.proofs.Common.{◌≡◌, ◌∙◌, ◌≤◌, List, length, map, ap, sym, subst, arith}
-use Rattle.std.specs.Prelude.{◌↔◌, Ok}
-use Rattle.std.specs.List.{AllZip, Contains}
-use Rattle.std.proofs.lemmas.List.{length-map}
-use Rattle.entry_order.specs.Ancestors.{Descends}
-use Rattle.entry_order.specs.Survivors.{IsStray, SurvivorsAreNoStrays, survivors}
-use Rattle.entry_format.specs.SealedEntry.{SealedEntry}
-use Rattle.entry_format.specs.Nodes.{node_of_sealed}
-use Rattle.entry_graph.specs.Given.{distinct}
-use Rattle.entry_graph.specs.EntryGraph.{EntryGraph, IsGraphOfGiven, parents_of}
-use Rattle.roster.specs.declared.post.Post.{Post}
-use Rattle.rule_language.specs.declared.formula.Rule.{Rule}
-use Rattle.rule_language.specs.Forms.{rule_tree}
-use Rattle.rule_engine.specs.declared.verdict.Verdict.{Verdict}
-use Rattle.evidence.specs.Graphs.{IsSealedGraph}
-use Rattle.evidence.specs.OneAnswer.{EntriesGiveOneGraph}
-use Rattle.evidence.specs.Same.{SameGraph}
-use Rattle.auditor.specs.Judged.{AreJudged, nodes_of}
-use Rattle.auditor.specs.Rows.{row_of}
-use Rattle.auditor.specs.Sources.{standard}
-use Rattle.auditor.proofs.OneVerdict.{SameVerdict, verdicts_agree}
-use Rattle.live_auditor.specs.Same.{AreOneVerdict, OrdersGiveOneSummary}
+use Rattle.std.proofs.Common.{◌≡◌}
+use Rattle.live_auditor.proofs.Imports.{◌∙◌, ◌≤◌, List, length, map, ap, sym, subst, arith, ◌↔◌, Ok, AllZip, Contains}
+use Rattle.live_auditor.proofs.Imports.{length-map, Descends, IsStray, SurvivorsAreNoStrays, survivors, SealedEntry}
+use Rattle.live_auditor.proofs.Imports.{node_of_sealed, distinct, EntryGraph, IsGraphOfGiven, parents_of, Post, Rule}
+use Rattle.live_auditor.proofs.Imports.{rule_tree, Verdict, IsSealedGraph, EntriesGiveOneGraph, SameGraph, AreJudged}
+use Rattle.live_auditor.proofs.Imports.{nodes_of, row_of, standard, SameVerdict, verdicts_agree, AreOneVerdict}
+use Rattle.live_auditor.proofs.Imports.{OrdersGiveOneSummary}
 
 -- verdicts that agree are one
 one_each : (vs ws : List Verdict) → AllZip SameVerdict vs ws → AllZip AreOneVerdict vs ws
@@ -69,7 +54,7 @@ graph_moved strays given other same graph is = record {
   };
 }
 
--- and what is answered of entries, each of which stands once, is an answer for the same
+-- what is answered of entries, each of them once, is an answer for the same entries in any order
 answer_moved : SurvivorsAreNoStrays node_of_sealed → (given other : List SealedEntry) → AreSame given other →
     distinct node_of_sealed given ≡ given → distinct node_of_sealed other ≡ other → length other ≤ 1024 →
     (graph : EntryGraph SealedEntry) → IsSealedGraph given (Ok graph) → IsSealedGraph other (Ok graph)
@@ -96,7 +81,7 @@ one_verdict_each machines others rules more g h vs ws one_roster one_list same d
     one_each vs ws (verdicts_agree (map (row_of machines) g.survivors) g h down down' same
     (length-map g.survivors (row_of machines)) standard (map rule_tree rules) (Ok vs) (Ok ws) a by_rows)
 
--- the same entries give one summary
+-- audits by the same rules of the same entries say the same
 pub one_summary : SurvivorsAreNoStrays node_of_sealed → EntriesGiveOneGraph → OrdersGiveOneSummary
 one_summary strays graphs live other a b machines rules entries =
     let moved = answer_moved strays other.added live.added (turned live.added other.added entries) b.once a.once a.few

@@ -1,40 +1,18 @@
 -- A usual entry more: what is kept, and what is said then.
-use Rattle.std.proofs.Common.{◌≡◌, ◌∙◌, ap, refl, sym, subst, ℕ, ◌<◌, ◌≤◌, Bool, true, false}
-use Rattle.std.proofs.Common.{Option, Some, None, List, [], ◌∷◌, ◌++◌, map, length, arith, length-append, inl, inr}
-use Rattle.std.proofs.Common.{eq-eqb}
-use Rattle.std.specs.Prelude.{slice_get, ◌&&◌, ◌==◌, ◌⊎◌, nat_lt, Ok}
-use Rattle.std.specs.List.{Contains, list_all, list_any}
-use Rattle.std.specs.Str.{bytes_eq}
-use Rattle.std.specs.Option.{option_map}
-use Rattle.std.proofs.lemmas.Bool.{true≢false, ltb-true, and_from}
-use Rattle.std.proofs.lemmas.List.{length-map, map-append}
-use Rattle.std.proofs.lemmas.Option.{slice_get-map}
-use Rattle.std.proofs.lemmas.Slice.Eq.{bytes_eq-Decides}
-use Rattle.entry_order.specs.Ancestors.{Descends}
-use Rattle.entry_order.specs.Ascending.{ascending}
-use Rattle.entry_order.proofs.Lists.{Contains-cons_cases, Contains-none, Contains-map, list_any_of}
-use Rattle.entry_order.proofs.Strays.{survivors_are_no_strays}
-use Rattle.entry_format.specs.SealedEntry.{SealedEntry}
-use Rattle.entry_format.specs.Nodes.{node_of_sealed}
-use Rattle.entry_graph.specs.EntryGraph.{EntryGraph, Links, IsGraphOfGiven, parents_of}
-use Rattle.entry_graph.specs.Given.{distinct}
-use Rattle.entry_graph.proofs.DistinctFacts.{no_collision_new}
-use Rattle.evidence.specs.Graphs.{IsSealedGraph}
-use Rattle.evidence.proofs.Survivors.{survivors_distinct}
-use Rattle.rule_language.specs.declared.row.Row.{Row}
-use Rattle.rule_language.specs.Forms.{rule_tree}
-use Rattle.rule_engine.specs.declared.verdict.Verdict.{Verdict}
-use Rattle.auditor.specs.Judged.{AreJudged, IsFirstTooWide, nodes_of}
-use Rattle.auditor.specs.Rows.{row_of}
-use Rattle.live_auditor.specs.Adding.{HasRoomFor}
-use Rattle.live_auditor.specs.Live.{LiveState}
-use Rattle.live_auditor.specs.declared.summary.Unsummed.{Unsummed}
-use Rattle.live_auditor.specs.declared.summary.Unsummed.TheVariants.{TooWide, Memory}
-use Rattle.live_auditor.specs.inside.Found.{IsUsualBy}
-use Rattle.live_auditor.specs.inside.Grown.{said_with, kept_with}
-use Rattle.live_auditor.specs.inside.Kept.{SurvivorsKept, IsKept, IsSummed, link_to, nodes_by}
-use Rattle.live_auditor.specs.inside.Unsummed.{IsUnjudged, IsUnsummed}
-use Rattle.live_auditor.specs.inside.Usual.{IsUsual, AreParents, AreMissing, grown}
+use Rattle.std.proofs.Common.{◌≡◌}
+use Rattle.std.proofs.Common.{Option}
+use Rattle.live_auditor.proofs.Imports.{◌∙◌, ap, refl, sym, subst, ℕ, ◌<◌, ◌≤◌, Bool, true, false, Some, None, List}
+use Rattle.live_auditor.proofs.Imports.{[], ◌∷◌, ◌++◌, map, length, arith, length-append, inl, inr, eq-eqb, slice_get}
+use Rattle.live_auditor.proofs.Imports.{◌&&◌, ◌==◌, ◌⊎◌, nat_lt, Ok, Contains, list_all, list_any, bytes_eq}
+use Rattle.live_auditor.proofs.Imports.{option_map, true≢false, ltb-true, and_from, length-map, map-append}
+use Rattle.live_auditor.proofs.Imports.{slice_get-map, bytes_eq-Decides, Descends, ascending, Contains-cons_cases}
+use Rattle.live_auditor.proofs.Imports.{Contains-none, Contains-map, list_any_of, survivors_are_no_strays}
+use Rattle.live_auditor.proofs.Imports.{SealedEntry, node_of_sealed, EntryGraph, Links, IsGraphOfGiven, parents_of}
+use Rattle.live_auditor.proofs.Imports.{distinct, no_collision_new, IsSealedGraph, survivors_distinct, Row, rule_tree}
+use Rattle.live_auditor.proofs.Imports.{Verdict, AreJudged, IsFirstTooWide, nodes_of, row_of, HasRoomFor, LiveState}
+use Rattle.live_auditor.proofs.Imports.{Unsummed, TooWide, Memory, IsUsualBy, said_with, kept_with, SurvivorsKept}
+use Rattle.live_auditor.proofs.Imports.{IsKept, IsSummed, link_to, nodes_by, IsUnjudged, IsUnsummed, IsUsual}
+use Rattle.live_auditor.proofs.Imports.{AreParents, AreMissing, grown}
 use Rattle.live_auditor.proofs.Additions.{once_more}
 use Rattle.live_auditor.proofs.Ends.{at_contains}
 use Rattle.live_auditor.proofs.Grown.{is_grown}
@@ -69,7 +47,7 @@ module _ (live : LiveState) (kept : SurvivorsKept) (is : IsKept live kept) (e : 
   abbrev graph : EntryGraph SealedEntry
   graph = is.live.after.graph
 
-  -- it is that of the entries, each of which stands once
+  -- it is that of the entries, each of them once
   graphed : IsGraphOfGiven node_of_sealed live.added graph
   graphed = subst (λ es. IsGraphOfGiven node_of_sealed es graph) is.live.once is.live.after.graphed.2
 
@@ -203,7 +181,7 @@ module _ (live : LiveState) (kept : SurvivorsKept) (is : IsKept live kept) (e : 
       subst (λ (links : List Links). Descends (parents_of links)) (sym links_next)
       is_next.kept.linked.arrows.descends
 
-  -- so this is said and kept of the entries and this one
+  -- what is then said and kept is that of the entries and this one
   pub summed_next : (row : Row) (rows : List Row) (link : Links) (gaps : List (List ℕ)) (verdicts : List Verdict) →
       row ≡ row_of live.machines e → rows ≡ kept.rows ++ row ∷ [] → link ≡ link_to parents missing →
       gaps ≡ ascending (live.summary.gaps ++ missing) →

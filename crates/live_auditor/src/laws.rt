@@ -1,4 +1,4 @@
-//! Laws of audits that go on while entries come, which hold of the definitions alone. Each is the
+//! Laws of audits that go on while entries come, which follow from the definitions. Each is the
 //! contract of a function that does nothing.
 ghost use Rattle.live_auditor.specs.Same.{OrdersGiveOneSummary};
 

@@ -136,7 +136,7 @@ impl Live {
         }
     }
 
-    /// The same for any such entry: everything is found again.
+    /// Adds an entry of any kind: everything is found again.
     fn add_anew(&mut self, alloc: Global, s: Sealed) -> Result<Fresh, LiveFault>
         requires machine { IsOfMachine self.old.machines s }
         requires room { HasRoomFor self.old.added s }

@@ -3,7 +3,7 @@ ghost use Rattle.live_auditor.specs.inside.Seen.{IsSeen};
 
 use entry_format::Sealed;
 
-/// How an entry stands to those that were added.
+/// How an entry relates to those that were added.
 #[derive(Clone, Copy)]
 pub(crate) enum Seen {
     /// None has its digest.
@@ -14,7 +14,7 @@ pub(crate) enum Seen {
     Collides,
 }
 
-/// How the entry stands to these.
+/// How the entry relates to these.
 pub(crate) fn seen_among(entries: &[Sealed], entry: &Sealed) -> Seen
     ensures { IsSeen entries.now entry.now result }
 {

@@ -157,7 +157,7 @@ fn summary_by(
     })
 }
 
-/// The same, where the rules aren't judged yet.
+/// The summary of the entries that have this graph, and their survivors: the rules are judged.
 fn summed_by(
     alloc: Global,
     roster: &Roster,

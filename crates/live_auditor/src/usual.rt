@@ -41,7 +41,7 @@ fn is_numbered(rows: &[Row], maker: u32, number: u32) -> bool
         .any(|row| row.maker == maker && row.number == number)
 }
 
-/// Where the digest stands, the last place of several.
+/// Where the digest is in the list, the last place of several.
 fn place_of(digests: &[[u8; 32]], digest: &[u8; 32]) -> Option<usize>
     ensures some { IfSome result (λ place. slice_get digests.now place ≡ Some digest.now) }
     ensures none { IfNone result (Contains digests.now digest.now → ⊥) }
@@ -54,14 +54,14 @@ fn place_of(digests: &[[u8; 32]], digest: &[u8; 32]) -> Option<usize>
     None
 }
 
-/// Where the names of an entry stand, and those of them that stand nowhere.
+/// Where the names of an entry are in the list, and those of them that aren't there.
 #[derive(Drop)]
 pub(crate) struct Named {
     pub(crate) parents: Vec<u32>,
     pub(crate) missing: Vec<[u8; 32]>,
 }
 
-/// The same of these names among the digests.
+/// Where these names are among the digests, and those that aren't there.
 fn named_in(alloc: Global, digests: &[[u8; 32]], names: &[[u8; 32]]) -> Result<Named, AllocError>
     requires { length digests.now ≤ 16384 }
     ensures { IfOk result (λ named.
@@ -137,7 +137,7 @@ pub(crate) struct Usual {
     pub(crate) row: Row,
 }
 
-/// The same of the entry, if it is usual.
+/// What the entry is for the survivors, if it is usual.
 pub(crate) fn usual_in(
     alloc: Global,
     roster: &Roster,

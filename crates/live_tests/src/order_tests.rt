@@ -1,5 +1,5 @@
-//! Six entries of two machines in every order. What is said of them was computed by a separate plain
-//! program.
+//! Six entries of two machines in every order. What is said of them was computed by a separate
+//! plain program.
 use crate::places::{Place, add, body_of, joined, place_of, signed_text};
 use live_auditor::Live;
 use rule_engine::Verdict;

@@ -13,7 +13,8 @@ const RULES: &[u8] = b"(rule A true)(rule W (every o opened (every a activate (e
     (every c activate true)))))";
 
 /// The deed of some entries, with a bar for the session, the first and the last session, what
-/// becomes of each entry, and how many survive afterwards. All are the supervisor's, with one number.
+/// becomes of each entry, and how many survive afterwards. All are the supervisor's, with one
+/// number.
 const STEPS: &[(&str, u32, u32, &str, usize)] = &[
     ("(8:activate5:|)", 10_000, 10_699, "New", 700),
     ("(6:opened)", 0, 0, "TooWide 1", 700),
@@ -38,7 +39,7 @@ fn text_of(alloc: Global, place: &Place, deed: &str, session: u32) -> Result<Vec
     signed_text(alloc, &body, &signature)
 }
 
-/// Whether so many survive, the rules are kept, and nothing is missing or astray.
+/// Whether that number survives, the rules are kept, and nothing is missing or astray.
 fn is_sound(live: &Live, survivors: usize) -> bool {
     let kept = live
         .verdicts()

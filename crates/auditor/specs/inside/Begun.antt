@@ -1,20 +1,32 @@
--- What an audit reads before the logs. Once it has begun, whatever the logs give from there on is what the audit gives
--- of all its files; and a fault before the logs is the audit's.
+-- What an audit reads before the logs. Once it has begun, whatever the logs give from there on is
+-- what the audit gives of all its files; and a fault before the logs is the audit's.
 use Rattle.std.specs.Prelude.{ℕ, List, ◌++◌, map, Option, Result, Ok, Err}
 use Rattle.std.specs.declared.vec.Vec.{Vec}
 use Rattle.std.specs.declared.alloc.Global.{Global}
-use Rattle.hall_outside.specs.Files.{Files}
 use Rattle.log_files.specs.declared.sealed_log.LogRead.{LogRead}
 use Rattle.rule_language.specs.Forms.{rule_tree}
+use Rattle.rule_language.specs.Trees.{RuleTree}
 use Rattle.evidence.specs.declared.fault.AuditFault.{AuditFault}
 use Rattle.evidence.specs.declared.roster_file.RosterRead.{RosterRead}
-use Rattle.evidence.specs.Logs.{GivesLogsIn}
+use Rattle.evidence.specs.Logs.{GivesLogs, GivesLogsIn}
 use Rattle.evidence.specs.Refusal.{Refusal}
 use Rattle.evidence.specs.Reading.{StoreSeen, IsReadFrom}
 use Rattle.auditor.specs.declared.auditing.Begun.{Begun}
 use Rattle.auditor.specs.Report.{AuditReport, ReportParts, report_of}
 use Rattle.auditor.specs.Sources.{RuleSource, rule_files}
-use Rattle.auditor.specs.Audits.{OnFiles, WithRules, WithRoster, GivesReportIn}
+use Rattle.auditor.specs.Audits.{AndThen, RulesThen, WithLogs, OnFiles, GivesReportIn}
+
+-- what the files of logs give with the roster and the rules: the end of what all files give
+abbrev pub WithRules : RosterRead → RuleSource → List RuleTree → List (List ℕ) → List (Option (List ℕ))
+    → Result AuditReport Refusal → Type 0
+WithRules read source rules names files =
+    AndThen (GivesLogs read.roster.machines read.election names files)
+    (WithLogs read.roster.machines source rules names)
+
+-- what the file of the rules, if there is one, and those of the logs give with a roster
+abbrev pub WithRoster : RosterRead → RuleSource → List (List ℕ) → List (Option (List ℕ))
+    → Result AuditReport Refusal → Type 0
+WithRoster read source names = RulesThen source (λ rules files. WithRules read source rules names files)
 
 -- the logs of these names were read by the roster
 abbrev pub AreLogsOf : Begun → List (List ℕ) → StoreSeen → Result (Vec LogRead Global) AuditFault → StoreSeen → Type 0

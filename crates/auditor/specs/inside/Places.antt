@@ -7,7 +7,7 @@ use Rattle.rule_engine.specs.declared.verdict.Verdict.TheVariants.{Kept, Broken,
 abbrev pub AreBelow : ℕ → List ℕ → Type 0
 AreBelow count places = All (λ place. place < count) places
 
--- so are the places of a verdict
+-- the places that a verdict names are below the count
 abbrev pub IsBelow : ℕ → Verdict → Type 0
 IsBelow count Kept = Unit {0}
 IsBelow count (Broken places) = AreBelow count places.items

@@ -18,7 +18,7 @@ module _ {T : Type 0} (node : T → Node) where
   NamesLower es =
       (e f : T) → Contains es e → Contains es f → Names node e f → (node f).stamp < (node e).stamp
 
-  -- the only fault but want of memory is a collision
+  -- the only fault except out of memory is a collision
   abbrev pub IsDistinctFault : (T → List ℕ) → List T → GraphFault T → Type 0
   IsDistinctFault text given (Collision e f) = IsCollision node text given e f
   IsDistinctFault text given TooMany = ⊥

@@ -16,7 +16,7 @@ abbrev pub is_from : ℕ → Option ℕ → Bool
 is_from least None = false
 is_from least (Some n) = nat_le least n
 
--- a number is found exactly where one belongs to the digest, and it is such a one
+-- a number is found exactly when one belongs to the digest, and it is such a one
 pub record IsTableOf (Belongs : List ℕ → ℕ → Type 0) (table : List (List ℕ × ℕ)) : Type 0 where
   pub found : (d : List ℕ) (n : ℕ) → number_at table d ≡ Some n → Belongs d n
   pub lacks : (d : List ℕ) (n : ℕ) → number_at table d ≡ None → ¬ (Belongs d n)

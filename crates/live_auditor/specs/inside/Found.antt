@@ -15,7 +15,7 @@ pub record FindsNames (digests names : List (List ℕ)) (parents : List ℕ) (mi
   pub lacks : (d : List ℕ) → Contains missing d → Contains names d × (Contains digests d → ⊥)
 
 -- the entry has the highest stamp, the digest of no gap and of none of its names, and the maker and
--- number of no row; its names stand at the parents' places, or nowhere
+-- number of no row; its names are at the parents' places, or nowhere
 pub record IsUsualBy (added : List SealedEntry) (gaps digests : List (List ℕ)) (rows : List Row)
     (e : SealedEntry) (parents : List ℕ) (missing : List (List ℕ)) : Type 0 where
   pub few : length digests < 16384

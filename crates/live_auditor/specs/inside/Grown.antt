@@ -24,7 +24,7 @@ said_with summary gaps verdicts = record {
   verdicts = verdicts;
 }
 
--- and what is kept, by its digest and its link, and the rows of all
+-- what is kept with one survivor more: its digest and its link, and the rows of all
 abbrev pub kept_with : SurvivorsKept → List ℕ → List Row → Links → SurvivorsKept
 kept_with kept digest rows link = record {
   digests = kept.digests ++ digest ∷ [];

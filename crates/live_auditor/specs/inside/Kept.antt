@@ -17,7 +17,7 @@ pub record SurvivorsKept : Type 0 where
   pub rows : List Row
   pub links : List Links
 
--- they are those of the graph's survivors
+-- the digests, rows and links that are kept are those of the graph's survivors
 pub record AreSurvivorsOf (machines : List Post) (graph : EntryGraph SealedEntry)
     (kept : SurvivorsKept) : Type 0 where
   pub digests : kept.digests ≡ map (λ (e : SealedEntry). e.digest) graph.survivors

@@ -1,5 +1,4 @@
-use Rattle.std.proofs.Common.{map, string_bytes}
-use Rattle.evidence.specs.Reading.{store_seen}
+use Rattle.auditor.proofs.Imports.{map, string_bytes, store_seen}
 use Rattle.auditor.proofs.auditing.audit.Goals as goal
 
 pub finish-requires : goal.finish-requires

@@ -1,10 +1,6 @@
-use Rattle.std.proofs.Common.{List, map, subst, string_bytes}
-use Rattle.std.specs.Prelude.{Ok, Err, IfOk, IfErr, IfSome}
-use Rattle.rule_language.specs.Trees.{RuleTree}
-use Rattle.evidence.specs.Refusal.{refusal_of}
-use Rattle.auditor.specs.Report.{report_of}
-use Rattle.auditor.specs.Sources.{standard}
-use Rattle.auditor.specs.Audits.{WithLogs}
+use Rattle.auditor.proofs.Imports.{List, map, subst, string_bytes, Ok, Err, IfOk, IfSome, RuleTree, refusal_of}
+use Rattle.auditor.proofs.Imports.{report_of, standard, WithLogs}
+use Rattle.std.specs.Prelude.{IfErr}
 use Rattle.auditor.proofs.auditing.audit_logs.Goals as goal
 
 pub returns-in-Ok-clause-ok : goal.returns-in-Ok-clause-ok

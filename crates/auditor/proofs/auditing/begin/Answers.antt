@@ -1,5 +1,4 @@
-use Rattle.evidence.specs.Reading.{store_seen}
-use Rattle.auditor.specs.Sources.{source_of}
+use Rattle.auditor.proofs.Imports.{store_seen, source_of}
 use Rattle.auditor.proofs.Audited.{begun_after, roster_ends}
 use Rattle.auditor.proofs.auditing.begin.Goals as goal
 

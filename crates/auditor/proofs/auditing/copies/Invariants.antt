@@ -1,4 +1,4 @@
-use Rattle.std.proofs.Common.{◌≡◌, map, take, string_bytes}
+use Rattle.auditor.proofs.Imports.{◌≡◌, map, take, string_bytes}
 use Rattle.auditor.proofs.auditing.copies.Given as goal
 
 -- the names so far

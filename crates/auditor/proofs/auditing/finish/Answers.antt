@@ -1,14 +1,7 @@
-use Rattle.std.proofs.Common.{◌∙◌, map, inl, inr, refl, subst, sym, string_bytes}
-use Rattle.std.proofs.lemmas.List.{length-map}
-use Rattle.std.specs.Prelude.{Ok, Err}
-use Rattle.rule_language.specs.Forms.{rule_tree}
-use Rattle.evidence.specs.Logs.{GivesLogsIn}
-use Rattle.auditor.specs.Report.{ReportParts, report_of}
-use Rattle.auditor.specs.Sources.{source_of}
-use Rattle.auditor.specs.Audits.{WithLogs, WithRules, OnFiles}
-use Rattle.auditor.specs.inside.Begun.{AreLogsOf}
+use Rattle.auditor.proofs.Imports.{◌∙◌, map, inl, inr, refl, subst, sym, string_bytes, length-map, Ok, Err, rule_tree}
+use Rattle.auditor.proofs.Imports.{GivesLogsIn, ReportParts, report_of, source_of, WithLogs, WithRules, OnFiles}
+use Rattle.auditor.proofs.Imports.{AreLogsOf, read_last, read_ends}
 use Rattle.auditor.proofs.Makers.{a_log_each, logs_have_makers}
-use Rattle.evidence.proofs.Steps.{read_last, read_ends}
 use Rattle.auditor.proofs.Audited.{ok_by, err_by}
 use Rattle.auditor.proofs.auditing.finish.Goals as goal
 

@@ -1,8 +1,5 @@
-use Rattle.std.proofs.Common.{◌∙◌, IfErr, map, subst}
-use Rattle.std.proofs.lemmas.Result.{IfErr-weaker}
-use Rattle.rule_language.specs.Forms.{rule_tree}
-use Rattle.auditor.specs.Judged.{nodes_of}
-use Rattle.auditor.specs.inside.Unjudged.{IsUnjudged}
+use Rattle.std.proofs.Common.{IfErr}
+use Rattle.auditor.proofs.Imports.{◌∙◌, map, subst, IfErr-weaker, rule_tree, nodes_of, IsUnjudged}
 use Rattle.auditor.proofs.auditing.judge_graph.Goals as goal
 
 pub returns-clause-err : goal.returns-clause-err

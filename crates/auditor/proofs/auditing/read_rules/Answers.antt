@@ -1,9 +1,5 @@
-use Rattle.std.proofs.Common.{map, refl}
-use Rattle.rule_language.specs.Forms.{rule_tree}
-use Rattle.evidence.specs.Reading.{store_seen}
-use Rattle.auditor.specs.Sources.{max_rules, GivesRules}
-use Rattle.evidence.proofs.FilesRead.{was_read, not_read}
-use Rattle.evidence.proofs.Readings.{stands}
+use Rattle.auditor.proofs.Imports.{map, refl, rule_tree, store_seen, max_rules, GivesRules, was_read, not_read}
+use Rattle.auditor.proofs.Imports.{stands}
 use Rattle.auditor.proofs.Audited.{long_rules}
 use Rattle.auditor.proofs.auditing.read_rules.Goals as goal
 

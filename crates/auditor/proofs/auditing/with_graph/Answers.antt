@@ -1,7 +1,4 @@
-use Rattle.std.proofs.Common.{map, string_bytes, ap, refl}
-use Rattle.rule_language.specs.Forms.{rule_tree}
-use Rattle.auditor.specs.Rows.{row_of}
-use Rattle.auditor.specs.Sources.{source_of}
+use Rattle.auditor.proofs.Imports.{map, string_bytes, ap, refl, rule_tree, row_of, source_of}
 use Rattle.auditor.proofs.Audited.{too_wide_gives}
 use Rattle.auditor.proofs.auditing.with_graph.Goals as goal
 

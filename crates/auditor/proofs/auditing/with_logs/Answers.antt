@@ -1,14 +1,7 @@
-use Rattle.std.proofs.Common.{List, ℕ, inl, inr, map, refl, subst, string_bytes}
-use Rattle.std.specs.Prelude.{Result, Ok, Err}
-use Rattle.log_files.specs.declared.sealed_log.LogRead.{LogRead}
-use Rattle.rule_language.specs.Forms.{rule_tree}
-use Rattle.evidence.specs.Refusal.{Refusal, refusal_of}
-use Rattle.evidence.specs.Graphs.{entries_of, GivesGraph}
-use Rattle.auditor.specs.Report.{AuditReport, ReportParts, report_of}
-use Rattle.auditor.specs.Sources.{source_of}
-use Rattle.auditor.specs.Audits.{WithGraph, WithLogs}
+use Rattle.auditor.proofs.Imports.{List, ℕ, inl, inr, map, refl, subst, string_bytes, Result, Ok, Err, LogRead}
+use Rattle.auditor.proofs.Imports.{rule_tree, Refusal, refusal_of, entries_of, GivesGraph, AuditReport, ReportParts}
+use Rattle.auditor.proofs.Imports.{report_of, source_of, WithGraph, WithLogs, on_refusal}
 use Rattle.auditor.proofs.Makers.{survivors_have_makers}
-use Rattle.evidence.proofs.Steps.{on_refusal}
 use Rattle.auditor.proofs.Audited.{ok_by, err_by}
 use Rattle.auditor.proofs.auditing.with_logs.Goals as goal
 

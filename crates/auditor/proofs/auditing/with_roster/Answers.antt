@@ -1,7 +1,4 @@
-use Rattle.std.proofs.Common.{ap, map}
-use Rattle.rule_language.specs.Forms.{rule_tree}
-use Rattle.evidence.specs.Reading.{store_seen}
-use Rattle.auditor.specs.Sources.{source_of}
+use Rattle.auditor.proofs.Imports.{ap, map, rule_tree, store_seen, source_of}
 use Rattle.auditor.proofs.Audited.{standard_joins, rules_join, rules_end}
 use Rattle.auditor.proofs.auditing.with_roster.Goals as goal
 

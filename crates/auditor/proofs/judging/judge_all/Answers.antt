@@ -1,7 +1,4 @@
-use Rattle.std.proofs.Common.{◌+◌, List, map, take, sym, subst}
-use Rattle.rule_language.specs.Forms.{rule_tree}
-use Rattle.rule_engine.specs.declared.verdict.Verdict.{Verdict}
-use Rattle.auditor.specs.Judged.{AreJudged}
+use Rattle.auditor.proofs.Imports.{◌+◌, List, map, take, sym, subst, rule_tree, Verdict, AreJudged}
 use Rattle.auditor.proofs.OneByOne.{judged_more, first_too_wide, wide_by}
 use Rattle.auditor.proofs.judging.judge_all.Goals as goal
 

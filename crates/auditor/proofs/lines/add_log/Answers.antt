@@ -1,7 +1,5 @@
-use Rattle.std.proofs.Common.{◌∙◌, ◌++◌, List, ℕ, ap, string_bytes}
-use Rattle.entry_format.specs.declared.plain.EntryFault.{EntryFault}
-use Rattle.report_lines.specs.Lines.{refused_lines, end_line}
-use Rattle.auditor.specs.ReportText.{log_head_line, break_line}
+use Rattle.auditor.proofs.Imports.{◌∙◌, ◌++◌, List, ℕ, ap, string_bytes, EntryFault, refused_lines, end_line}
+use Rattle.auditor.proofs.Imports.{log_head_line, break_line}
 use Rattle.auditor.proofs.Pieces.{four_added}
 use Rattle.auditor.proofs.lines.add_log.Goals as goal
 

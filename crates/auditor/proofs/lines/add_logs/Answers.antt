@@ -1,5 +1,4 @@
-use Rattle.std.proofs.Common.{◌∙◌, ◌++◌, List, ℕ, ap, string_bytes}
-use Rattle.auditor.specs.ReportText.{log_lines}
+use Rattle.auditor.proofs.Imports.{◌∙◌, ◌++◌, List, ℕ, ap, string_bytes, log_lines}
 use Rattle.auditor.proofs.Pieces.{pair_more, pairs_all}
 use Rattle.auditor.proofs.lines.add_logs.Goals as goal
 

@@ -1,6 +1,4 @@
-use Rattle.std.proofs.Common.{◌≡◌, ◌++◌, string_bytes, map, take}
-use Rattle.std.specs.List.{flat_map, zip}
-use Rattle.auditor.specs.ReportText.{log_lines}
+use Rattle.auditor.proofs.Imports.{◌≡◌, ◌++◌, string_bytes, map, take, flat_map, zip, log_lines}
 use Rattle.auditor.proofs.lines.add_logs.Given as goal
 
 -- the lines of the logs so far

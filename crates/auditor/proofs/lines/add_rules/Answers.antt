@@ -1,7 +1,5 @@
-use Rattle.std.proofs.Common.{◌∙◌, ◌++◌, List, ℕ, ap, sym, string_bytes}
-use Rattle.rule_language.specs.declared.formula.Rule.{Rule}
-use Rattle.rule_language.specs.Forms.{rule_tree}
-use Rattle.auditor.specs.ReportText.{verdict_line, rule_line}
+use Rattle.auditor.proofs.Imports.{◌∙◌, ◌++◌, List, ℕ, ap, sym, string_bytes, Rule, rule_tree, verdict_line}
+use Rattle.auditor.proofs.Imports.{rule_line}
 use Rattle.auditor.proofs.Pieces.{pair_more, pairs_all}
 use Rattle.auditor.proofs.lines.add_rules.Goals as goal
 

@@ -1,7 +1,4 @@
-use Rattle.std.proofs.Common.{◌≡◌, ◌++◌, string_bytes, map, take}
-use Rattle.std.specs.List.{flat_map, zip}
-use Rattle.rule_language.specs.Forms.{rule_tree}
-use Rattle.auditor.specs.ReportText.{rule_line}
+use Rattle.auditor.proofs.Imports.{◌≡◌, ◌++◌, string_bytes, map, take, flat_map, zip, rule_tree, rule_line}
 use Rattle.auditor.proofs.lines.add_rules.Given as goal
 
 -- the lines of the rules so far

@@ -1,7 +1,5 @@
-use Rattle.std.proofs.Common.{◌∙◌, ◌++◌, ◌∷◌, [], List, ℕ, ap, refl, get_or, string_bytes}
-use Rattle.std.specs.Prelude.{codes}
-use Rattle.hex.specs.Hex.{encode_lower}
-use Rattle.report_lines.specs.Lines.{line}
+use Rattle.auditor.proofs.Imports.{◌∙◌, ◌++◌, ◌∷◌, [], List, ℕ, ap, refl, get_or, string_bytes, codes, encode_lower}
+use Rattle.auditor.proofs.Imports.{line}
 use Rattle.auditor.proofs.Pieces.{piece_more}
 use Rattle.auditor.proofs.lines.add_strays.Goals as goal
 

@@ -1,5 +1,4 @@
-use Rattle.std.proofs.Common.{◌≡◌, ◌++◌, string_bytes, take}
-use Rattle.auditor.specs.ReportText.{stray_lines}
+use Rattle.auditor.proofs.Imports.{◌≡◌, ◌++◌, string_bytes, take, stray_lines}
 use Rattle.auditor.proofs.lines.add_strays.Given as goal
 
 -- the lines of the strays so far

@@ -1,6 +1,4 @@
-use Rattle.std.proofs.Common.{rules, ◌∙◌, ◌<◌, ap, length, subst, sym}
-use Rattle.entry_format.specs.SealedEntry.{SealedEntry}
-use Rattle.auditor.specs.Rows.{row_of}
+use Rattle.auditor.proofs.Imports.{rules, ◌∙◌, ◌<◌, ap, length, subst, sym, SealedEntry, row_of}
 use Rattle.auditor.proofs.Makers.{rows_more, maker_at}
 use Rattle.auditor.proofs.row.rows.Goals as goal
 

@@ -1,6 +1,4 @@
-use Rattle.std.proofs.Common.{◌≡◌, ◌≤◌, map, take}
-use Rattle.std.specs.Prelude.{vec_capacity}
-use Rattle.auditor.specs.Rows.{row_of}
+use Rattle.auditor.proofs.Imports.{◌≡◌, ◌≤◌, map, take, vec_capacity, row_of}
 use Rattle.auditor.proofs.row.rows.Given as goal
 
 -- the rows of the survivors so far, and room for the rest

@@ -1,6 +1,4 @@
-use Rattle.std.proofs.Common.{◌≡◌, ◌+◌, length, drop}
-use Rattle.std.specs.List.{flat_map}
-use Rattle.log_files.specs.Written.{record_text}
+use Rattle.demonstration.proofs.Imports.{◌≡◌, ◌+◌, length, drop, flat_map, record_text}
 use Rattle.demonstration.proofs.kept.begin_of.Given as goal
 
 -- the records from here on aren't counted yet

@@ -1,7 +1,5 @@
-use Rattle.std.proofs.Common.{◌∙◌, ◌+◌, List, length, ap, subst, inl, inr, arith}
-use Rattle.entry_format.specs.SealedEntry.{SealedEntry}
-use Rattle.entry_order.specs.declared.event.Event.{Event}
-use Rattle.demonstration.specs.Kept.{HasNoEnd, IsLastEnd}
+use Rattle.demonstration.proofs.Imports.{◌∙◌, ◌+◌, List, length, ap, subst, inl, inr, arith, SealedEntry, Event}
+use Rattle.demonstration.proofs.Imports.{HasNoEnd, IsLastEnd}
 use Rattle.demonstration.proofs.Records.{behind_within, cut_is}
 use Rattle.demonstration.proofs.kept.kept_text.Goals as goal
 

@@ -1,5 +1,5 @@
-use Rattle.std.proofs.Common.{◌∙◌, ◌+◌, Some, ap, sym, subst, take}
-use Rattle.std.proofs.lemmas.Option.{slice_get-get_or}
+use Rattle.std.proofs.Common.{take}
+use Rattle.demonstration.proofs.Imports.{◌∙◌, ◌+◌, Some, ap, sym, subst, slice_get-get_or}
 use Rattle.demonstration.proofs.Ends.{IsLastOf, kept_last, new_last}
 use Rattle.demonstration.proofs.kept.last_end.Goals.{then-ends_session, else-ends_session}
 use Rattle.demonstration.proofs.kept.last_end.Goals as goal

@@ -1,5 +1,5 @@
-use Rattle.std.proofs.Common.{MatchOption, take}
-use Rattle.demonstration.specs.Kept.{HasNoEnd, IsLastEnd}
+use Rattle.std.proofs.Common.{take}
+use Rattle.demonstration.proofs.Imports.{MatchOption, HasNoEnd, IsLastEnd}
 use Rattle.demonstration.proofs.kept.last_end.Given as goal
 
 -- the last of the events so far that ends the session, if one does

@@ -1,12 +1,6 @@
-use Rattle.std.proofs.Common.{rules, ◌≡◌, ℕ, List, [], ◌∷◌, map, subst, string_bytes}
-use Rattle.std.specs.Prelude.{Ok, Err, IfOk, IfErr, IfSome}
-use Rattle.log_files.specs.declared.sealed_log.LogRead.{LogRead}
-use Rattle.rule_language.specs.Standard.{standard_rules}
-use Rattle.evidence.specs.Refusal.{refusal_of}
-use Rattle.auditor.specs.Audits.{WithLogs}
-use Rattle.auditor.specs.Report.{report_of}
-use Rattle.auditor.specs.Sources.{standard}
-use Rattle.demonstration.specs.Shown.{log_name}
+use Rattle.demonstration.proofs.Imports.{rules, ◌≡◌, ℕ, List, [], ◌∷◌, map, subst, string_bytes, Ok, Err, IfOk, IfErr}
+use Rattle.demonstration.proofs.Imports.{IfSome, LogRead, standard_rules, refusal_of, WithLogs, report_of, standard}
+use Rattle.demonstration.proofs.Imports.{log_name}
 use Rattle.demonstration.proofs.shown.audit_log.Goals as goal
 
 pub returns-clause-ok : goal.returns-clause-ok

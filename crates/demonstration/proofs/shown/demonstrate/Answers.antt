@@ -1,21 +1,7 @@
-use Rattle.std.proofs.Common.{◌∙◌, ◌≤◌, List, ℕ, length, ap, sym, subst}
-use Rattle.std.specs.Prelude.{Ok, Err}
-use Rattle.canonical_sexp.specs.Text.{text_of}
-use Rattle.roster.specs.declared.post.Post.{Post}
-use Rattle.roster.specs.Machines.{HaveText}
-use Rattle.roster.specs.RosterText.{roster_tree}
-use Rattle.entry_order.specs.World.{history}
-use Rattle.log_files.specs.LogText.{HasHeader}
-use Rattle.polling_world.specs.Machines.{MachineState}
-use Rattle.polling_world.specs.Playing.{IsPlayed}
-use Rattle.polling_world.specs.Worlds.{WorldState, world_of}
-use Rattle.polling_world.proofs.Rosters.{roster_has_text}
-use Rattle.evidence.specs.Refusal.{refusal_of}
-use Rattle.evidence.specs.RosterFile.{max_roster}
-use Rattle.auditor.specs.Report.{report_of}
-use Rattle.evidence.proofs.Steps.{on_refusal}
-use Rattle.demonstration.specs.Kept.{IsKeptOf}
-use Rattle.demonstration.specs.Shown.{GivesAudit, IsRefusedSo}
+use Rattle.demonstration.proofs.Imports.{◌∙◌, ◌≤◌, List, ℕ, length, ap, sym, subst, Ok, Err, text_of, Post, HaveText}
+use Rattle.demonstration.proofs.Imports.{roster_tree, history, HasHeader, MachineState, IsPlayed, WorldState}
+use Rattle.demonstration.proofs.Imports.{world_of, roster_has_text, refusal_of, max_roster, report_of, on_refusal}
+use Rattle.demonstration.proofs.Imports.{IsKeptOf, GivesAudit, IsRefusedSo}
 use Rattle.demonstration.proofs.Plays.{demonstrated, kept_has_header, refused_so, roster_short}
 use Rattle.demonstration.proofs.shown.demonstrate.Goals as goal
 

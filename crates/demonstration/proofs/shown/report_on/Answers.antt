@@ -1,18 +1,6 @@
-use Rattle.std.proofs.Common.{[], ◌∷◌, Some}
-use Rattle.std.specs.Prelude.{Ok, Err}
-use Rattle.sha2.specs.Sha256.{sha256}
-use Rattle.canonical_sexp.specs.Text.{text_of}
-use Rattle.roster.specs.RosterText.{roster_tree}
-use Rattle.rule_language.specs.Standard.{standard_rules}
-use Rattle.evidence.specs.Logs.{IsLogRefusal}
-use Rattle.evidence.specs.Refusal.{refusal_of}
-use Rattle.auditor.specs.Audits.{WithLogs}
-use Rattle.auditor.specs.Report.{ReportParts, report_of}
-use Rattle.auditor.specs.Sources.{standard}
-use Rattle.auditor.proofs.Audited.{ok_by, err_by}
-use Rattle.auditor.proofs.Makers.{logs_have_makers}
-use Rattle.evidence.proofs.Steps.{on_refusal}
-use Rattle.demonstration.specs.Shown.{GivesAudit, log_name}
+use Rattle.demonstration.proofs.Imports.{[], ◌∷◌, Some, Ok, Err, sha256, text_of, roster_tree, standard_rules}
+use Rattle.demonstration.proofs.Imports.{IsLogRefusal, refusal_of, WithLogs, ReportParts, report_of, standard, ok_by}
+use Rattle.demonstration.proofs.Imports.{err_by, logs_have_makers, on_refusal, GivesAudit, log_name}
 use Rattle.demonstration.proofs.Reports.{of_log, of_refusal}
 use Rattle.demonstration.proofs.shown.report_on.Goals as goal
 

@@ -1,15 +1,8 @@
-use Rattle.std.proofs.Common.{rules, ◌≡◌, ◌≢◌, ◌∙◌, ◌++◌, ◌∷◌, [], Some, None, length, ap, sym, subst}
-use Rattle.std.specs.List.{Contains}
-use Rattle.std.specs.Str.{bytes_eq}
-use Rattle.std.proofs.lemmas.Bool.{true≢false, not-false, not_from_true}
-use Rattle.std.proofs.lemmas.List.{append_assoc}
-use Rattle.std.proofs.lemmas.Option.{get_or_from_slice_get, slice_get_within}
-use Rattle.std.proofs.lemmas.Slice.Eq.{bytes_eq-Decides}
-use Rattle.entry_order.specs.Naming.{IsBorneIn}
-use Rattle.entry_order.proofs.Lists.{Contains-none}
-use Rattle.entry_order.proofs.Places.{member_at}
-use Rattle.entry_graph.specs.inside.Distinct.{HasNoDigestTwice}
-use Rattle.entry_graph.specs.inside.Tables.{number_at, ArePlaces}
+use Rattle.std.proofs.Common.{◌≢◌}
+use Rattle.entry_graph.proofs.Imports.{rules, ◌≡◌, ◌∙◌, ◌++◌, ◌∷◌, [], Some, None, length, ap, sym, subst, Contains}
+use Rattle.entry_graph.proofs.Imports.{bytes_eq, true≢false, not-false, not_from_true, append_assoc}
+use Rattle.entry_graph.proofs.Imports.{get_or_from_slice_get, slice_get_within, bytes_eq-Decides, IsBorneIn}
+use Rattle.entry_graph.proofs.Imports.{Contains-none, member_at, HasNoDigestTwice, number_at, ArePlaces}
 use Rattle.entry_graph.proofs.DistinctFacts.{distinct_given, distinct_bears, distinct_new}
 use Rattle.entry_graph.proofs.DistinctFacts.{distinct_again, no_collision_new, no_collision_again}
 use Rattle.entry_graph.proofs.LinkFacts.{lacks_borne}

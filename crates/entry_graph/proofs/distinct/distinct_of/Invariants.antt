@@ -1,7 +1,4 @@
-use Rattle.std.proofs.Common.{◌≡◌, ◌++◌}
-use Rattle.entry_graph.specs.Given.{distinct, HasNoCollision}
-use Rattle.entry_graph.specs.inside.Distinct.{HasNoDigestTwice}
-use Rattle.entry_graph.specs.inside.Tables.{ArePlaces}
+use Rattle.entry_graph.proofs.Imports.{◌≡◌, ◌++◌, distinct, HasNoCollision, HasNoDigestTwice, ArePlaces}
 use Rattle.entry_graph.proofs.distinct.distinct_of.Given as goal
 
 -- no two so far collide, the distinct ones are those so far, and the table has their places; the rest are left

@@ -1,12 +1,7 @@
-use Rattle.std.proofs.Common.{rules, ◌≡◌, ◌∙◌, ◌<◌, ℕ}
-use Rattle.std.proofs.Common.{length, get_or, take, true, ap, subst}
-use Rattle.std.specs.Prelude.{◌&&◌, ◌||◌, ◌↔◌}
-use Rattle.std.specs.BTreeMap.{is_at}
-use Rattle.std.specs.BTreeSet.{contains}
-use Rattle.entry_graph.specs.EntryGraph.{pair_cmp, IsFork}
+use Rattle.entry_graph.proofs.Imports.{rules, ◌≡◌, ◌∙◌, ◌<◌, ℕ, length, get_or, take, true, ap, subst, ◌&&◌, ◌||◌}
+use Rattle.entry_graph.proofs.Imports.{◌↔◌, is_at, contains, pair_cmp, IsFork, take_all}
 use Rattle.entry_graph.proofs.ForkFacts.{pair_of, fork_step, seen_step, forks_from}
 use Rattle.entry_graph.proofs.Places.{if_ok_both}
-use Rattle.std.proofs.lemmas.List.{take_all}
 use Rattle.entry_graph.proofs.forks.forks_of.Goals as goal
 
 -- one pair more

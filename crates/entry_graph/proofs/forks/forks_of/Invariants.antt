@@ -1,7 +1,4 @@
-use Rattle.std.proofs.Common.{◌≡◌, ℕ, true, take}
-use Rattle.std.specs.Prelude.{◌↔◌}
-use Rattle.std.specs.BTreeSet.{contains}
-use Rattle.entry_graph.specs.EntryGraph.{pair_cmp, IsFork}
+use Rattle.entry_graph.proofs.Imports.{◌≡◌, ℕ, true, take, ◌↔◌, contains, pair_cmp, IsFork}
 use Rattle.entry_graph.proofs.ForkFacts.{has_pair}
 use Rattle.entry_graph.proofs.forks.forks_of.Given as goal
 

@@ -1,7 +1,5 @@
-use Rattle.std.proofs.Common.{rules, ◌≡◌, ◌+◌, ◌<◌, ◌++◌, ◌∷◌, [], ℕ, List}
-use Rattle.std.proofs.Common.{Some, None, true, length, get_or, take, ap, sym, subst}
-use Rattle.entry_graph.specs.EntryGraph.{Links}
-use Rattle.entry_graph.specs.inside.Tables.{IsLinked, number_at}
+use Rattle.entry_graph.proofs.Imports.{rules, ◌≡◌, ◌+◌, ◌<◌, ◌++◌, ◌∷◌, [], ℕ, List, Some, None, true, length, get_or}
+use Rattle.entry_graph.proofs.Imports.{take, ap, sym, subst, Links, IsLinked, number_at}
 use Rattle.entry_graph.proofs.LinkFacts.{found_step, lacking_step}
 use Rattle.entry_graph.proofs.links.links_at.Goals as goal
 use Rattle.entry_graph.proofs.links.links_at.Goals.{in-Some+in_ok-push-in-Some, in-None}

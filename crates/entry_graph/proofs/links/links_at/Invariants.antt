@@ -1,5 +1,4 @@
-use Rattle.std.proofs.Common.{take}
-use Rattle.entry_graph.specs.inside.Tables.{IsLinked}
+use Rattle.entry_graph.proofs.Imports.{take, IsLinked}
 use Rattle.entry_graph.proofs.links.links_at.Given as goal
 
 -- the links by the names so far

@@ -1,7 +1,5 @@
-use Rattle.std.proofs.Common.{rules, ◌≡◌, ◌+◌, ◌<◌, ◌++◌, ◌∷◌}
-use Rattle.std.proofs.Common.{[], length, get_or, take, sym, subst}
-use Rattle.std.proofs.lemmas.List.{take_all}
-use Rattle.entry_graph.specs.inside.Tables.{ArePlaces, AreLinked, IsLinked}
+use Rattle.entry_graph.proofs.Imports.{rules, ◌≡◌, ◌+◌, ◌<◌, ◌++◌, ◌∷◌, [], length, get_or, take, sym, subst}
+use Rattle.entry_graph.proofs.Imports.{take_all, ArePlaces, AreLinked, IsLinked}
 use Rattle.entry_graph.proofs.LinkFacts.{linked_step, links_are_right}
 use Rattle.entry_graph.proofs.links.links_of.Goals as goal
 

@@ -1,5 +1,4 @@
-use Rattle.std.proofs.Common.{take}
-use Rattle.entry_graph.specs.inside.Tables.{AreLinked}
+use Rattle.entry_graph.proofs.Imports.{take, AreLinked}
 use Rattle.entry_graph.proofs.links.links_of.Given as goal
 
 -- the links of the survivors so far

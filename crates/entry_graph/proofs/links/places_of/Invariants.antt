@@ -1,5 +1,4 @@
-use Rattle.std.proofs.Common.{take}
-use Rattle.entry_graph.specs.inside.Tables.{ArePlaces}
+use Rattle.entry_graph.proofs.Imports.{take, ArePlaces}
 use Rattle.entry_graph.proofs.links.places_of.Given as goal
 
 -- the places of the survivors so far

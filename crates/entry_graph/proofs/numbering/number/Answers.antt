@@ -1,5 +1,4 @@
-use Rattle.std.proofs.Common.{rules, ◌≡◌}
-use Rattle.std.proofs.lemmas.Fn.{always_returns_same}
+use Rattle.entry_graph.proofs.Imports.{rules, ◌≡◌, always_returns_same}
 use Rattle.entry_graph.proofs.NumberFacts.{key_of, rises_from_sorted, single_moved}
 use Rattle.entry_graph.proofs.numbering.number.Goals as goal
 

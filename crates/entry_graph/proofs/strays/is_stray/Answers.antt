@@ -1,4 +1,4 @@
-use Rattle.std.proofs.Common.{◌∙◌}
+use Rattle.entry_graph.proofs.Imports.{◌∙◌}
 use Rattle.entry_graph.proofs.StrayFacts.{stray_is_told}
 use Rattle.entry_graph.proofs.strays.is_stray.Goals as goal
 

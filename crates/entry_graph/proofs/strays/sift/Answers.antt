@@ -1,16 +1,6 @@
-use Rattle.std.proofs.Common.{rules, ◌≡◌, ◌∙◌, ◌++◌, ◌∷◌, []}
-use Rattle.std.proofs.Common.{true, false, not, cond, ap, sym, subst, map-id}
-use Rattle.std.specs.Prelude.{◌&&◌}
-use Rattle.std.specs.BTreeMap.{is_at}
-use Rattle.std.specs.BTreeSet.{contains}
-use Rattle.std.specs.List.{list_any}
-use Rattle.std.specs.Cmp.Lexicographic.{slice_cmp}
-use Rattle.std.specs.Ordering.{nat_cmp}
-use Rattle.std.proofs.lemmas.Iterator.Adapters.{YieldsList-from_vec}
-use Rattle.std.proofs.lemmas.Iterator.Consumers.{YieldsList-end}
-use Rattle.std.proofs.lemmas.Bool.{not_from_true, not_from_false}
-use Rattle.entry_order.specs.Survivors.{is_stray}
-use Rattle.entry_graph.specs.inside.Tables.{AreStamps}
+use Rattle.entry_graph.proofs.Imports.{rules, ◌≡◌, ◌∙◌, ◌++◌, ◌∷◌, [], true, false, not, cond, ap, sym, subst, map-id}
+use Rattle.entry_graph.proofs.Imports.{◌&&◌, is_at, contains, list_any, slice_cmp, nat_cmp, YieldsList-from_vec}
+use Rattle.entry_graph.proofs.Imports.{YieldsList-end, not_from_true, not_from_false, is_stray, AreStamps}
 use Rattle.entry_graph.proofs.DistinctFacts.{filter_keeps, filter_drops}
 use Rattle.entry_graph.proofs.StrayFacts.{stray_more, survivor_more, strays_from}
 use Rattle.entry_graph.proofs.strays.sift.Goals as goal

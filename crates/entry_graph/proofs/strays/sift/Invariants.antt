@@ -1,11 +1,5 @@
-use Rattle.std.proofs.Common.{◌≡◌, ℕ, List, not}
-use Rattle.std.specs.Prelude.{◌&&◌}
-use Rattle.std.specs.BTreeMap.{is_at}
-use Rattle.std.specs.BTreeSet.{contains}
-use Rattle.std.specs.List.{filter, list_any}
-use Rattle.std.specs.Cmp.Lexicographic.{slice_cmp}
-use Rattle.std.specs.Ordering.{nat_cmp}
-use Rattle.entry_order.specs.Survivors.{is_stray}
+use Rattle.entry_graph.proofs.Imports.{◌≡◌, ℕ, List, not, ◌&&◌, is_at, contains, filter, list_any, slice_cmp, nat_cmp}
+use Rattle.entry_graph.proofs.Imports.{is_stray}
 use Rattle.entry_graph.proofs.strays.sift.Given as goal
 
 -- the survivors so far, and the digests of the strays so far

@@ -1,4 +1,4 @@
-use Rattle.std.proofs.Common.{rules, ◌≡◌, ◌<◌, length, get_or}
+use Rattle.entry_graph.proofs.Imports.{rules, ◌≡◌, ◌<◌, length, get_or}
 use Rattle.entry_graph.proofs.TableFacts.{IsSet, stamps_step}
 use Rattle.entry_graph.proofs.strays.stamps_of.Goals as goal
 

@@ -1,5 +1,4 @@
-use Rattle.std.proofs.Common.{take}
-use Rattle.entry_graph.specs.inside.Tables.{AreStamps}
+use Rattle.entry_graph.proofs.Imports.{take, AreStamps}
 use Rattle.entry_graph.proofs.strays.stamps_of.Given as goal
 
 -- the stamps of the entries so far

@@ -1,12 +1,6 @@
-use Rattle.std.proofs.Common.{◌≡◌, ◌∙◌, ◌+◌, [], ◌∷◌, List, ℕ, map, drop, string_bytes, ap, sym, subst, arith}
-use Rattle.std.proofs.lemmas.List.{drop_all}
-use Rattle.std.proofs.lemmas.List.Elements.{All-append, All-cons, All-nil}
-use Rattle.hall_outside.specs.Files.{OnSomeFile}
-use Rattle.log_files.specs.declared.sealed_log.LogRead.{LogRead}
-use Rattle.log_files.specs.LogFile.{IsSealedLogOf, IsLogRefused}
-use Rattle.log_files.specs.SealedLog.{AreValid}
-use Rattle.evidence.specs.Logs.{GivesLogsIn}
-use Rattle.evidence.specs.Reading.{StoreSeen, store_seen}
+use Rattle.evidence.proofs.Imports.{◌≡◌, ◌∙◌, ◌+◌, [], ◌∷◌, List, ℕ, map, drop, string_bytes, ap, sym, subst, arith}
+use Rattle.evidence.proofs.Imports.{drop_all, All-append, All-cons, All-nil, OnSomeFile, LogRead, IsSealedLogOf}
+use Rattle.evidence.proofs.Imports.{IsLogRefused, AreValid, GivesLogsIn, StoreSeen, store_seen}
 use Rattle.evidence.proofs.LogLists.{GoesOn, goes_on_more, goes_on_all, goes_on_refused, names_from}
 use Rattle.evidence.proofs.LogLists.{log_not_read, unrisen}
 use Rattle.evidence.proofs.Readings.{no_cause, stands}

@@ -1,11 +1,8 @@
-use Rattle.std.proofs.Common.{◌≡◌, map, drop, string_bytes}
-use Rattle.std.specs.List.{All}
-use Rattle.log_files.specs.declared.sealed_log.LogRead.{LogRead}
-use Rattle.log_files.specs.SealedLog.{AreValid}
+use Rattle.evidence.proofs.Imports.{◌≡◌, map, drop, string_bytes, All, LogRead, AreValid}
 use Rattle.evidence.proofs.LogLists.{GoesOn}
 use Rattle.evidence.proofs.logs.read_logs_in.Given as goal
 
--- what the rest of the names give is what all give, behind the logs so far, whose entries are valid
+-- what the rest of the names give is what all give, after the logs so far, whose entries are valid
 abbrev pub invariant-loop-name : goal.invariant-loop-name
 invariant-loop-name g l =
     let store = g.S.Store in

@@ -1,4 +1,5 @@
-use Rattle.std.proofs.Common.{◌≡◌, take}
+use Rattle.live_auditor.proofs.Imports.{take}
+use Rattle.std.proofs.Common.{◌≡◌}
 use Rattle.live_auditor.proofs.borrowed.borrowed_with.Given as goal
 
 -- the entries so far

@@ -1,7 +1,5 @@
-use Rattle.std.proofs.Common.{◌∙◌, List, [], ◌∷◌, ◌++◌, ap, subst, sym}
-use Rattle.entry_graph.specs.EntryGraph.{Links, parents_of}
-use Rattle.entry_order.specs.Ancestors.{Descends}
-use Rattle.live_auditor.specs.inside.Kept.{link_to}
+use Rattle.live_auditor.proofs.Imports.{◌∙◌, List, [], ◌∷◌, ◌++◌, ap, subst, sym, Links, parents_of, Descends}
+use Rattle.live_auditor.proofs.Imports.{link_to}
 use Rattle.live_auditor.proofs.growth.growth_by.Goals as goal
 
 pub verdicts_by-requires-clause-falls : goal.verdicts_by-requires-clause-falls

@@ -1,9 +1,5 @@
-use Rattle.std.proofs.Common.{◌≡◌, Option, subst}
-use Rattle.std.specs.Prelude.{IfSome}
-use Rattle.auditor.specs.Rows.{row_of}
-use Rattle.live_auditor.specs.declared.usual.Usual.{Usual}
-use Rattle.live_auditor.specs.inside.Kept.{live_of}
-use Rattle.live_auditor.specs.inside.KeptOf.{kept_of}
+use Rattle.std.proofs.Common.{◌≡◌, Option}
+use Rattle.live_auditor.proofs.Imports.{subst, IfSome, row_of, Usual, live_of, kept_of}
 use Rattle.live_auditor.proofs.Finds.{usual_found}
 use Rattle.live_auditor.proofs.Steps.{falls_next, summed_next, unsummed_next}
 use Rattle.live_auditor.proofs.growth.growth_of.Goals as goal

@@ -1,10 +1,6 @@
-use Rattle.std.proofs.Common.{◌+◌, List, map, take, arith, sym, subst}
-use Rattle.std.proofs.lemmas.List.{length-map}
-use Rattle.precedence.specs.Known.{known_before, known_whole}
-use Rattle.rule_language.specs.Forms.{rule_tree}
-use Rattle.rule_engine.specs.declared.verdict.Verdict.{Verdict}
-use Rattle.auditor.specs.Judged.{AreJudged}
-use Rattle.auditor.proofs.OneByOne.{judged_more, first_too_wide, wide_by}
+use Rattle.live_auditor.proofs.Imports.{◌+◌, List, map, take, arith, sym, subst, length-map, known_before}
+use Rattle.live_auditor.proofs.Imports.{known_whole, rule_tree, Verdict, AreJudged, judged_more, first_too_wide}
+use Rattle.live_auditor.proofs.Imports.{wide_by}
 use Rattle.live_auditor.proofs.Judged.{judged_at, one_each}
 use Rattle.live_auditor.proofs.growth.judge_each.Goals as goal
 

@@ -1,13 +1,7 @@
-use Rattle.std.proofs.Common.{◌≡◌, List, length, map, take, ap, arith, sym, subst}
-use Rattle.std.proofs.lemmas.List.{length-take-le}
-use Rattle.std.proofs.lemmas.Result.{IfErr-weaker}
-use Rattle.entry_graph.specs.EntryGraph.{Links}
-use Rattle.precedence.specs.Known.{IsKnownOf, known_before, known_whole}
-use Rattle.rule_language.specs.Forms.{rule_tree}
-use Rattle.rule_engine.specs.Growth.{ComesBeforeNone, Ready}
-use Rattle.live_auditor.specs.inside.Grown.{AreJudgedOver}
-use Rattle.live_auditor.specs.inside.Kept.{nodes_by}
-use Rattle.live_auditor.specs.inside.Unsummed.{IsUnjudged}
+use Rattle.std.proofs.Common.{◌≡◌}
+use Rattle.live_auditor.proofs.Imports.{List, length, map, take, ap, arith, sym, subst, length-take-le, IfErr-weaker}
+use Rattle.live_auditor.proofs.Imports.{Links, IsKnownOf, known_before, known_whole, rule_tree, ComesBeforeNone}
+use Rattle.live_auditor.proofs.Imports.{Ready, AreJudgedOver, nodes_by, IsUnjudged}
 use Rattle.live_auditor.proofs.Judged.{judged_over, last_comes_last}
 use Rattle.live_auditor.proofs.growth.verdicts_by.Goals as goal
 

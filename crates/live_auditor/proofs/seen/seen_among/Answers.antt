@@ -1,8 +1,4 @@
-use Rattle.std.proofs.Common.{◌∙◌, subst, sym}
-use Rattle.std.specs.List.{Contains}
-use Rattle.std.proofs.lemmas.Bool.{true≢false}
-use Rattle.std.proofs.lemmas.List.{take_all}
-use Rattle.std.proofs.lemmas.Slice.Eq.{bytes_eq-Decides}
+use Rattle.live_auditor.proofs.Imports.{◌∙◌, subst, sym, Contains, true≢false, take_all, bytes_eq-Decides}
 use Rattle.live_auditor.proofs.Additions.{none_more}
 use Rattle.live_auditor.proofs.seen.seen_among.Goals as goal
 

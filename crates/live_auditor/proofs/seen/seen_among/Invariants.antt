@@ -1,6 +1,4 @@
-use Rattle.std.proofs.Common.{take}
-use Rattle.entry_format.specs.Nodes.{node_of_sealed}
-use Rattle.entry_order.specs.Naming.{IsNew}
+use Rattle.live_auditor.proofs.Imports.{take, node_of_sealed, IsNew}
 use Rattle.live_auditor.proofs.seen.seen_among.Given as goal
 
 -- none of the entries so far has the digest

@@ -1,14 +1,6 @@
-use Rattle.std.proofs.Common.{◌+◌, List, arith, map, take, sym, subst}
-use Rattle.std.specs.Prelude.{Ok, Err}
-use Rattle.std.proofs.lemmas.List.{take_all}
-use Rattle.precedence.specs.Known.{IsKnownOf}
-use Rattle.rule_language.specs.declared.formula.Rule.{Rule}
-use Rattle.rule_language.specs.Forms.{rule_tree}
-use Rattle.rule_engine.specs.Growth.{Ready}
-use Rattle.rule_engine.specs.Verdicts.{IsJudged}
-use Rattle.rule_engine.specs.declared.verdict.Verdict.{Verdict}
-use Rattle.auditor.specs.Judged.{AreJudged}
-use Rattle.auditor.proofs.OneByOne.{judged_more, first_too_wide, wide_by}
+use Rattle.live_auditor.proofs.Imports.{◌+◌, List, arith, map, take, sym, subst, Ok, Err, take_all, IsKnownOf, Rule}
+use Rattle.live_auditor.proofs.Imports.{rule_tree, Ready, IsJudged, Verdict, AreJudged, judged_more, first_too_wide}
+use Rattle.live_auditor.proofs.Imports.{wide_by}
 use Rattle.live_auditor.proofs.summary.judge_all.Goals as goal
 
 pub returns-in-Err-TooWide-clause-err : goal.returns-in-Err-TooWide-clause-err

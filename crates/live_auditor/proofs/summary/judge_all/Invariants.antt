@@ -1,8 +1,4 @@
-use Rattle.std.proofs.Common.{map, take}
-use Rattle.precedence.specs.Graph.{Graph}
-use Rattle.precedence.specs.Known.{IsKnownOf}
-use Rattle.rule_language.specs.Forms.{rule_tree}
-use Rattle.auditor.specs.Judged.{AreJudged}
+use Rattle.live_auditor.proofs.Imports.{map, take, Graph, IsKnownOf, rule_tree, AreJudged}
 use Rattle.live_auditor.proofs.summary.judge_all.Given as goal
 
 -- the verdicts on the rules so far

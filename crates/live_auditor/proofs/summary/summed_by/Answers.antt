@@ -1,8 +1,4 @@
-use Rattle.std.proofs.Common.{◌∙◌, List, map, subst}
-use Rattle.rule_language.specs.declared.row.Row.{Row}
-use Rattle.rule_language.specs.Forms.{rule_tree}
-use Rattle.auditor.specs.Judged.{nodes_of}
-use Rattle.live_auditor.specs.inside.Unsummed.{IsUnjudged}
+use Rattle.live_auditor.proofs.Imports.{◌∙◌, List, map, subst, Row, rule_tree, nodes_of, IsUnjudged}
 use Rattle.live_auditor.proofs.summary.summed_by.Goals as goal
 
 pub returns-in-Err-clause-err : goal.returns-in-Err-clause-err

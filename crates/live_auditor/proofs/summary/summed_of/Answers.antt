@@ -1,9 +1,4 @@
-use Rattle.std.proofs.Common.{map}
-use Rattle.std.proofs.lemmas.Result.{IfOk-weaker}
-use Rattle.auditor.proofs.Makers.{survivors_have_makers}
-use Rattle.rule_language.specs.Forms.{rule_tree}
-use Rattle.live_auditor.specs.inside.Kept.{IsSummed}
-use Rattle.live_auditor.specs.inside.KeptOf.{kept_of}
+use Rattle.live_auditor.proofs.Imports.{map, IfOk-weaker, survivors_have_makers, rule_tree, IsSummed, kept_of}
 use Rattle.live_auditor.proofs.Kept.{summed_is}
 use Rattle.live_auditor.proofs.summary.summed_of.Goals as goal
 

@@ -1,5 +1,4 @@
-use Rattle.std.proofs.Common.{rules}
-use Rattle.entry_format.specs.SealedEntry.{SealedEntry}
+use Rattle.live_auditor.proofs.Imports.{rules, SealedEntry}
 use Rattle.live_auditor.proofs.Kept.{mapped_more}
 use Rattle.live_auditor.proofs.survivors.digests_of.Goals as goal
 

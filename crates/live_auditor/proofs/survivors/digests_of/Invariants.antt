@@ -1,5 +1,5 @@
-use Rattle.std.proofs.Common.{◌≡◌, map, take}
-use Rattle.entry_format.specs.SealedEntry.{SealedEntry}
+use Rattle.std.proofs.Common.{◌≡◌}
+use Rattle.live_auditor.proofs.Imports.{map, take, SealedEntry}
 use Rattle.live_auditor.proofs.survivors.digests_of.Given as goal
 
 -- the digests so far

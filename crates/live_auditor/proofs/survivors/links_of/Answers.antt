@@ -1,6 +1,4 @@
-use Rattle.std.proofs.Common.{◌∙◌, ◌≤◌, length, arith, rules}
-use Rattle.std.proofs.lemmas.List.{take_all}
-use Rattle.entry_graph.specs.EntryGraph.{parents_of, ragged_of}
+use Rattle.live_auditor.proofs.Imports.{◌∙◌, ◌≤◌, length, arith, rules, take_all, parents_of, ragged_of}
 use Rattle.live_auditor.proofs.Kept.{links_more, same_links}
 use Rattle.live_auditor.proofs.survivors.links_of.Goals as goal
 

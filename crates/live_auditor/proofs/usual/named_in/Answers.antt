@@ -1,4 +1,4 @@
-use Rattle.std.proofs.Common.{◌∙◌, ap}
+use Rattle.live_auditor.proofs.Imports.{◌∙◌, ap}
 use Rattle.live_auditor.proofs.Finds.{finds_missing, finds_place}
 use Rattle.live_auditor.proofs.usual.named_in.Goals as goal
 use Rattle.live_auditor.proofs.usual.named_in.Goals.{in-Some+in_ok-push-in-Some, in-None+in_ok-push-in-None}

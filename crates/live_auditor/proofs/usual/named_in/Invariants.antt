@@ -1,5 +1,4 @@
-use Rattle.std.proofs.Common.{take}
-use Rattle.live_auditor.specs.inside.Found.{FindsNames}
+use Rattle.live_auditor.proofs.Imports.{take, FindsNames}
 use Rattle.live_auditor.proofs.usual.named_in.Given as goal
 
 -- what is found of the names so far

@@ -1,6 +1,5 @@
-use Rattle.std.proofs.Common.{◌∙◌, ◌-◌, ◌<◌, List, ℕ, Some, ap, arith, length, sym}
-use Rattle.std.proofs.lemmas.Option.{slice_get-get_or}
-use Rattle.std.proofs.lemmas.Slice.Eq.{bytes_eq-Decides}
+use Rattle.live_auditor.proofs.Imports.{◌∙◌, ◌-◌, ◌<◌, List, ℕ, Some, ap, arith, length, sym, slice_get-get_or}
+use Rattle.live_auditor.proofs.Imports.{bytes_eq-Decides}
 use Rattle.live_auditor.proofs.Finds.{looked_at, stands_nowhere}
 use Rattle.live_auditor.proofs.usual.place_of.Goals as goal
 

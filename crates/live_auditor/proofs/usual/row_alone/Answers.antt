@@ -1,6 +1,5 @@
-use Rattle.std.proofs.Common.{◌≡◌, ◌∙◌, List, [], ◌∷◌, ◌++◌, ap}
-use Rattle.entry_format.specs.SealedEntry.{SealedEntry}
-use Rattle.auditor.proofs.Makers.{survivors_have_makers}
+use Rattle.std.proofs.Common.{◌≡◌}
+use Rattle.live_auditor.proofs.Imports.{◌∙◌, List, [], ◌∷◌, ◌++◌, ap, SealedEntry, survivors_have_makers}
 use Rattle.live_auditor.proofs.Kept.{makers_one, row_is}
 use Rattle.live_auditor.proofs.usual.row_alone.Goals as goal
 

@@ -1,11 +1,5 @@
-use Rattle.std.proofs.Common.{◌∙◌, List, ap, sym, subst, length, map}
-use Rattle.std.proofs.lemmas.List.{length-map}
-use Rattle.std.specs.Prelude.{All}
-use Rattle.rule_language.specs.Forms.{rule_tree}
-use Rattle.rule_engine.specs.declared.verdict.Verdict.{Verdict}
-use Rattle.auditor.specs.Rows.{row_of}
-use Rattle.auditor.specs.Judged.{nodes_of}
-use Rattle.auditor.specs.inside.Places.{IsBelow}
+use Rattle.auditor.proofs.Imports.{◌∙◌, List, ap, sym, subst, length, map, length-map, All, rule_tree, Verdict}
+use Rattle.auditor.proofs.Imports.{row_of, nodes_of, IsBelow}
 use Rattle.auditor.proofs.Below.{verdicts_below, as_many}
 use Rattle.auditor.proofs.report.Report.add_to.Goals as goal
 

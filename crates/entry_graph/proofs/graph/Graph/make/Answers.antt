@@ -1,20 +1,17 @@
-use Rattle.std.proofs.Common.{rules, ◌∙◌, ◌≤◌, length, ap, sym, subst}
-use Rattle.std.specs.List.Sorted.{IsPermutation}
-use Rattle.entry_order.specs.Survivors.{gaps}
-use Rattle.entry_graph.specs.EntryGraph.{EntryGraph, AreForks, AreLinks, IsEntryGraph, IsGraphOfGiven}
-use Rattle.entry_graph.specs.inside.Distinct.{HasNoDigestTwice, NamesLower}
+use Rattle.entry_graph.proofs.Imports.{rules, ◌∙◌, ◌≤◌, length, ap, sym, subst, IsPermutation, gaps, EntryGraph}
+use Rattle.entry_graph.proofs.Imports.{AreForks, AreLinks, IsEntryGraph, IsGraphOfGiven, HasNoDigestTwice, NamesLower}
 use Rattle.entry_graph.proofs.GraphFacts.{survivors_single, survivors_few, parts_are_right, graph_is_right}
 use Rattle.entry_graph.proofs.NumberFacts.{single_moved}
 use Rattle.entry_graph.proofs.StrayFacts.{survivors_name_lower}
 use Rattle.entry_graph.proofs.graph.Graph.make.Goals as goal
 
--- no digest stands twice among the survivors
+-- the survivors have no digest twice
 pub number-requires : goal.number-requires
 number-requires g c =
     survivors_single g.T.Knot.node c.in_ok-distinct.distinct.items c.in_ok-sifted.sifted.survivors.items
     c.in_ok-distinct.ensures.single (sym c.in_ok-sifted.ensures.survivors)
 
--- nor once they are numbered
+-- the numbered survivors have no digest twice
 pub links_of-requires-clause-distinct : goal.links_of-requires-clause-distinct
 links_of-requires-clause-distinct g c =
     let node = g.T.Knot.node in

@@ -1,10 +1,5 @@
-use Rattle.std.proofs.Common.{◌≡◌, ◌∙◌, List, ℕ, Some}
-use Rattle.std.proofs.Common.{length, slice_index_or, refl, ap, sym, subst, arith}
-use Rattle.std.specs.Prelude.{slice_get}
-use Rattle.std.specs.List.{Contains}
-use Rattle.std.proofs.lemmas.List.{get_or_default}
-use Rattle.std.proofs.lemmas.Option.{slice_get_read}
-use Rattle.entry_graph.specs.EntryGraph.{parents_in, parents_of}
+use Rattle.entry_graph.proofs.Imports.{◌≡◌, ◌∙◌, List, ℕ, Some, length, slice_index_or, refl, ap, sym, subst, arith}
+use Rattle.entry_graph.proofs.Imports.{slice_get, Contains, get_or_default, slice_get_read, parents_in, parents_of}
 use Rattle.entry_graph.proofs.graph.GraphArrows.parents.Goals as goal
 
 -- the links descend

@@ -1,11 +1,6 @@
-use Rattle.std.proofs.Common.{◌≡◌, ◌∙◌, ◌<◌, ap, arith, length, refl, subst, sym}
-use Rattle.std.specs.List.{Contains}
-use Rattle.std.proofs.lemmas.List.Elements.{All-contains}
-use Rattle.entry_format.specs.SealedEntry.{SealedEntry}
-use Rattle.entry_format.specs.Nodes.{node_of_sealed}
-use Rattle.entry_order.specs.Naming.{IsNew}
-use Rattle.live_auditor.specs.Adding.{Collides}
-use Rattle.live_auditor.specs.Live.{LiveState, IsOfMachine}
+use Rattle.std.proofs.Common.{◌≡◌}
+use Rattle.live_auditor.proofs.Imports.{◌∙◌, ◌<◌, ap, arith, length, refl, subst, sym, Contains, All-contains}
+use Rattle.live_auditor.proofs.Imports.{SealedEntry, node_of_sealed, IsNew, Collides, LiveState, IsOfMachine}
 use Rattle.live_auditor.proofs.OneEntry.{same_text}
 use Rattle.live_auditor.proofs.live.Live.add.Goals as goal
 

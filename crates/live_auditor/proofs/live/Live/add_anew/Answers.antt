@@ -1,11 +1,6 @@
-use Rattle.std.proofs.Common.{◌∙◌, List, [], ◌∷◌, ◌++◌, ap, map, refl, subst, sym}
-use Rattle.std.proofs.lemmas.List.Elements.{All-push}
-use Rattle.entry_format.specs.SealedEntry.{SealedEntry}
-use Rattle.auditor.specs.Rows.{HaveMakers}
-use Rattle.rule_language.specs.Forms.{rule_tree}
-use Rattle.live_auditor.specs.Adding.{HasRoomFor, IsTooWideOver}
-use Rattle.live_auditor.specs.Live.{LiveState, IsOfMachine}
-use Rattle.live_auditor.specs.inside.KeptOf.{kept_of}
+use Rattle.live_auditor.proofs.Imports.{◌∙◌, List, [], ◌∷◌, ◌++◌, ap, map, refl, subst, sym, All-push, SealedEntry}
+use Rattle.live_auditor.proofs.Imports.{HaveMakers, rule_tree, HasRoomFor, IsTooWideOver, LiveState, IsOfMachine}
+use Rattle.live_auditor.proofs.Imports.{kept_of}
 use Rattle.live_auditor.proofs.Additions.{have_makers, wide_over}
 use Rattle.live_auditor.proofs.Kept.{kept_more}
 use Rattle.live_auditor.proofs.live.Live.add_anew.Goals as goal

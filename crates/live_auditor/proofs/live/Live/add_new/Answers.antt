@@ -1,14 +1,7 @@
-use Rattle.std.proofs.Common.{◌∙◌, List, ℕ, Option, [], ◌∷◌, ◌++◌, ap, map, refl, subst, sym}
-use Rattle.std.specs.Prelude.{IfSome}
-use Rattle.entry_format.specs.SealedEntry.{SealedEntry}
-use Rattle.rule_language.specs.declared.formula.Rule.{Rule}
-use Rattle.rule_language.specs.Forms.{rule_tree}
-use Rattle.live_auditor.specs.Adding.{HasRoomFor, IsTooWideOver}
-use Rattle.live_auditor.specs.Live.{LiveState, IsOfMachine}
-use Rattle.live_auditor.specs.declared.growth.Growth.{Growth}
-use Rattle.live_auditor.specs.inside.Grown.{said_with, kept_with}
-use Rattle.live_auditor.specs.inside.Kept.{SurvivorsKept, IsSummed}
-use Rattle.live_auditor.specs.inside.KeptOf.{kept_of}
+use Rattle.std.proofs.Common.{Option}
+use Rattle.live_auditor.proofs.Imports.{◌∙◌, List, ℕ, [], ◌∷◌, ◌++◌, ap, map, refl, subst, sym, IfSome, SealedEntry}
+use Rattle.live_auditor.proofs.Imports.{Rule, rule_tree, HasRoomFor, IsTooWideOver, LiveState, IsOfMachine, Growth}
+use Rattle.live_auditor.proofs.Imports.{said_with, kept_with, SurvivorsKept, IsSummed, kept_of}
 use Rattle.live_auditor.proofs.Additions.{wide_over}
 use Rattle.live_auditor.proofs.Kept.{kept_grown}
 use Rattle.live_auditor.proofs.live.Live.add_new.Goals as goal

@@ -1,6 +1,4 @@
-use Rattle.std.proofs.Common.{ap, map}
-use Rattle.rule_language.specs.Forms.{rule_tree}
-use Rattle.live_auditor.specs.inside.KeptOf.{kept_of}
+use Rattle.live_auditor.proofs.Imports.{ap, map, rule_tree, kept_of}
 use Rattle.live_auditor.proofs.Kept.{first_kept}
 use Rattle.live_auditor.proofs.live.Live.make.Goals as goal
 

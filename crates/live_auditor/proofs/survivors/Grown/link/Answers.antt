@@ -1,7 +1,6 @@
-use Rattle.std.proofs.Common.{◌<◌, List, [], ◌∷◌, ◌++◌, arith, length, subst, sym, Some}
-use Rattle.std.specs.Prelude.{◌≡◌, slice_get}
-use Rattle.entry_graph.specs.EntryGraph.{Links, parents_of}
-use Rattle.entry_order.specs.Ancestors.{Descends}
+use Rattle.live_auditor.proofs.Imports.{◌<◌, List, [], ◌∷◌, ◌++◌, arith, length, subst, sym, Some, slice_get, Links}
+use Rattle.live_auditor.proofs.Imports.{parents_of, Descends}
+use Rattle.std.specs.Prelude.{◌≡◌}
 use Rattle.live_auditor.proofs.Ends.{slice_get_end}
 use Rattle.live_auditor.proofs.survivors.Grown.link.Goals as goal
 

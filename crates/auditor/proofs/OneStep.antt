@@ -1,0 +1,136 @@
+-- Steps one after another give one answer where each of them does.
+use Rattle.auditor.proofs.Imports.{◌≡◌, ◌∙◌, ℕ, List, [], ◌∷◌, inl, inr, sym, subst, arith, Option, Some, None, Result}
+use Rattle.auditor.proofs.Imports.{Ok, Err, LogRead, SealedEntry, EntryGraph, RuleFault, At, Reads, RuleTree}
+use Rattle.auditor.proofs.Imports.{standard_rules, RosterRead, Refusal, GivesRoster, GivesLogs, entries_of, GivesGraph}
+use Rattle.auditor.proofs.Imports.{Agree, SameLogs, SameGraph, RosterFilesGiveOneAnswer, LogFilesGiveOneAnswer}
+use Rattle.auditor.proofs.Imports.{SameLogsKeepTheSameEntries, EntriesGiveOneGraph, RuleSource, standard, in_file}
+use Rattle.auditor.proofs.Imports.{GivesRules, AndThen, FileThen, RulesThen}
+
+-- what is given is one answer, up to what is the same
+abbrev pub IsOne : {T : Type 0} → (T → T → Type 0) → (Result T Refusal → Type 0) → Type 0
+IsOne {T} Same Gives = (p q : Result T Refusal) → Gives p → Gives q → Agree Same p q
+
+-- equal answers agree
+pub agree_equal : {T : Type 0} (p q : Result T Refusal) → p ≡ q → Agree (λ (x y : T). x ≡ y) p q
+agree_equal (Ok x) (Ok y) e = cc
+agree_equal (Ok x) (Err s) e = cc
+agree_equal (Err r) (Ok y) e = cc
+agree_equal (Err r) (Err s) e = cc
+
+-- two answers of steps one after another agree where those of each step do
+pub steps_agree : {A B : Type 0} (First Other : Result A Refusal → Type 0)
+    (Next Later : A → Result B Refusal → Type 0) (SameFirst : A → A → Type 0) (Same : B → B → Type 0) →
+    ((a b : Result A Refusal) → First a → Other b → Agree SameFirst a b) →
+    ((x y : A) → First (Ok x) → Other (Ok y) → SameFirst x y → (p q : Result B Refusal) → Next x p → Later y q →
+    Agree Same p q) →
+    (p q : Result B Refusal) → AndThen First Next p → AndThen Other Later q → Agree Same p q
+steps_agree First Other Next Later SameFirst Same first next p q (inl (x, is, n)) (inl (y, also, m)) =
+    next x y is also (first (Ok x) (Ok y) is also) p q n m
+steps_agree First Other Next Later SameFirst Same first next p q (inl (x, is, n)) (inr (s, also, f)) =
+    absurd (first (Ok x) (Err s) is also)
+steps_agree First Other Next Later SameFirst Same first next p q (inr (r, is, e)) (inl (y, also, m)) =
+    absurd (first (Err r) (Ok y) is also)
+steps_agree First Other Next Later SameFirst Same first next p q (inr (r, is, e)) (inr (s, also, f)) =
+    subst (λ o. Agree Same o q) (sym e)
+    (subst (λ o. Agree Same (Err r) o) (sym f) (first (Err r) (Err s) is also))
+
+-- what is answered at the end is one where what it is made of is the same
+pub ends_agree : {T : Type 0} (Same : T → T → Type 0) (x y : T) → Same x y → (p q : Result T Refusal) → p ≡ Ok x →
+    q ≡ Ok y → Agree Same p q
+ends_agree Same x y same p q e f =
+    subst (λ o. Agree Same o q) (sym e) (subst (λ o. Agree Same (Ok x) o) (sym f) same)
+
+-- a text of rules is read in one way
+abbrev pub RulesAreReadInOneWay : Type 0
+RulesAreReadInOneWay =
+    (text : List ℕ) (answer other : Result (List RuleTree) RuleFault) → Reads text answer → Reads text other →
+    answer ≡ other
+
+-- so a file of rules gives one answer
+one_rules : RulesAreReadInOneWay → (name : List ℕ) (file : Option (List ℕ)) →
+    IsOne (λ x y. x ≡ y) (GivesRules name file)
+one_rules one name None a b x y = agree_equal a b (x ∙ sym y)
+one_rules one name (Some bytes) (Ok rules) (Ok others) (_, read) (_, also) =
+    let same : Ok rules ≡ Ok others = one bytes (Ok rules) (Ok others) read also in cc
+one_rules one name (Some bytes) (Ok rules) (Err s) (fits, _) (inl (long, _)) = absurd (omega (arith, fits, long))
+one_rules one name (Some bytes) (Ok rules) (Err s) (_, read) (inr (fits, (at, why, first, e))) =
+    let same : Ok rules ≡ Err (At at why) = one bytes (Ok rules) (Err (At at why)) read first in cc
+one_rules one name (Some bytes) (Err r) (Ok others) (inl (long, _)) (fits, _) = absurd (omega (arith, long, fits))
+one_rules one name (Some bytes) (Err r) (Ok others) (inr (fits, (at, why, first, e))) (_, read) =
+    let same : Ok others ≡ Err (At at why) = one bytes (Ok others) (Err (At at why)) read first in cc
+one_rules one name (Some bytes) (Err r) (Err s) (inl (_, is)) (inl (_, also)) = is ∙ sym also
+one_rules one name (Some bytes) (Err r) (Err s) (inl (long, _)) (inr (fits, _)) = absurd (omega (arith, long, fits))
+one_rules one name (Some bytes) (Err r) (Err s) (inr (fits, _)) (inl (long, _)) = absurd (omega (arith, fits, long))
+one_rules one name (Some bytes) (Err r) (Err s) (inr (_, (at, why, first, e))) (inr (_, (at', why', first', e'))) =
+    let same : Err (At at why) ≡ Err (At at' why') = one bytes (Err (At at why)) (Err (At at' why')) first first' in
+    cc
+
+module _ {B : Type 0} (Same : B → B → Type 0) where
+  -- a step on the first file and the next one give one answer
+  pub file_then_one : {A : Type 0} (First : Option (List ℕ) → Result A Refusal → Type 0)
+      (Next : A → List (Option (List ℕ)) → Result B Refusal → Type 0) →
+      ((file : Option (List ℕ)) → IsOne (λ x y. x ≡ y) (First file)) →
+      ((x : A) (files : List (Option (List ℕ))) → IsOne Same (Next x files)) → (files : List (Option (List ℕ))) →
+      IsOne Same (FileThen First Next files)
+  file_then_one First Next first next [] p q x y = absurd x
+  file_then_one First Next first next (file ∷ files) p q x y =
+      steps_agree (First file) (First file) (λ found. Next found files) (λ found. Next found files) (λ x y. x ≡ y) Same
+      (first file)
+      (λ f g is also same a b left right. next f files a b left
+      (subst (λ found. Next found files b) (sym same) right))
+      p q x y
+
+  -- the rules and the next step give one answer
+  pub rules_then_one : RulesAreReadInOneWay → (source : RuleSource)
+      (Next : List RuleTree → List (Option (List ℕ)) → Result B Refusal → Type 0) →
+      ((rules : List RuleTree) (files : List (Option (List ℕ))) → IsOne Same (Next rules files)) →
+      (files : List (Option (List ℕ))) → IsOne Same (RulesThen source Next files)
+  rules_then_one one standard Next next files p q x y = next standard_rules files p q x y
+  rules_then_one one (in_file name) Next next files p q x y =
+      file_then_one (GivesRules name) Next (one_rules one name) next files p q x y
+
+-- what files give is one
+pub record Ones : Type 0 where
+  -- a roster's file gives one answer
+  pub rosters : RosterFilesGiveOneAnswer
+  -- a text of rules is read in one way
+  pub readings : RulesAreReadInOneWay
+  -- the files of logs give logs that say the same, or one refusal
+  pub logs : LogFilesGiveOneAnswer
+  -- logs that say the same keep the same entries
+  pub entries : SameLogsKeepTheSameEntries
+  -- given entries have graphs that say the same, or one refusal
+  pub graphs : EntriesGiveOneGraph
+
+module _ (ones : Ones) {B : Type 0} (Same : B → B → Type 0) where
+  -- a roster and the next step give one answer
+  pub roster_then_one : (roster : List ℕ) (Next : RosterRead → List (Option (List ℕ)) → Result B Refusal → Type 0) →
+      ((read : RosterRead) (files : List (Option (List ℕ))) → IsOne Same (Next read files)) →
+      (files : List (Option (List ℕ))) → IsOne Same (FileThen (GivesRoster roster) Next files)
+  roster_then_one roster Next next =
+      file_then_one Same (GivesRoster roster) Next
+      (λ file a b x y. agree_equal a b (ones.rosters roster file a b x y)) next
+
+  -- logs and the next step give one answer where logs that say the same give it
+  pub logs_then_one : (read : RosterRead) (names : List (List ℕ)) (files : List (Option (List ℕ)))
+      (Next : List LogRead → Result B Refusal → Type 0) →
+      ((logs others : List LogRead) → SameLogs logs others → (p q : Result B Refusal) → Next logs p → Next others q →
+      Agree Same p q) →
+      IsOne Same (AndThen (GivesLogs read.roster.machines read.election names files) Next)
+  logs_then_one read names files Next next =
+      let Gives = GivesLogs read.roster.machines read.election names files in
+      steps_agree Gives Gives Next Next SameLogs Same (ones.logs read.roster.machines read.election names files)
+      (λ logs others is also. next logs others)
+
+  -- logs that say the same give graphs that do, so one answer where these give it
+  pub graphs_then_agree : (logs others : List LogRead) → SameLogs logs others →
+      (Next Later : EntryGraph SealedEntry → Result B Refusal → Type 0) →
+      ((graph other : EntryGraph SealedEntry) → GivesGraph (entries_of logs) (Ok graph) →
+      GivesGraph (entries_of logs) (Ok other) → SameGraph graph other → (p q : Result B Refusal) → Next graph p →
+      Later other q → Agree Same p q) →
+      (p q : Result B Refusal) → AndThen (GivesGraph (entries_of logs)) Next p →
+      AndThen (GivesGraph (entries_of others)) Later q → Agree Same p q
+  graphs_then_agree logs others same Next Later next p q x y =
+      let Gives = GivesGraph (entries_of logs) in
+      steps_agree Gives Gives Next Later SameGraph Same (ones.graphs (entries_of logs)) next p q x
+      (subst (λ given. AndThen (GivesGraph given) Later q) (sym (ones.entries logs others same)) y)
