@@ -1,41 +1,21 @@
 -- The answers of `audit`.
-use Rattle.std.proofs.Common.{◌≡◌, ◌≢◌, ◌∙◌, ℕ, List, [], ◌∷◌, map, length, Option, inl, inr, refl, sym, ap, subst}
-use Rattle.std.specs.Prelude.{Ok, Err, IsTrue}
-use Rattle.std.specs.List.{AllZip}
-use Rattle.hall_outside.specs.Files.{Files}
-use Rattle.entry_order.specs.Completion.{Completion}
-use Rattle.entry_order.specs.Survivors.{GapsAreUnique}
-use Rattle.roster.specs.declared.post.Post.{Post}
-use Rattle.entry_format.specs.SealedEntry.{SealedEntry}
-use Rattle.entry_format.specs.Nodes.{node_of, node_of_sealed}
-use Rattle.entry_format.specs.declared.plain.Plain.{Plain}
-use Rattle.entry_format.specs.Plains.{plain_of, plains}
-use Rattle.auditor.proofs.PlainRules.{plain_rules}
-use Rattle.evidence.specs.Graphs.{entries_of}
+use Rattle.auditorium_core.proofs.Imports.{◌≡◌, ◌≢◌, ◌∙◌, ℕ, List, [], ◌∷◌, map, inl, inr, refl, sym, ap, subst, Ok}
+use Rattle.auditorium_core.proofs.Imports.{Err, IsTrue, AllZip, Files, Completion, GapsAreUnique, Post, SealedEntry}
+use Rattle.auditorium_core.proofs.Imports.{node_of, node_of_sealed, Plain, plain_of, plains, plain_rules, entries_of}
+use Rattle.auditorium_core.proofs.Imports.{EntryGraph, IsEntryGraph, parents_of, ragged_of, RuleTree, Holds}
+use Rattle.auditorium_core.proofs.Imports.{RulesAreSettled, UnknownOnlyByGaps, IsJudged, Refusal, Outcome, row_of}
+use Rattle.auditorium_core.proofs.Imports.{row_said, nodes_of, AreJudged, is_broken, outcome_of, AuditReport}
+use Rattle.auditorium_core.proofs.Imports.{ReportParts, IsReport, report_of, report_text, GivesReportIn, Status, audit}
+use Rattle.auditorium_core.proofs.Imports.{Answer, refusal_answer, status_by, report_answer, source_named, HoldsOf}
+use Rattle.auditorium_core.proofs.Imports.{Completes, IsAuditOf, IsAnswerTo}
+use Rattle.std.proofs.Common.{length, Option}
+use Rattle.auditorium_core.specs.Audit.{IsSound}
+use Rattle.auditorium_core.proofs.HonestAudits.{audit_right}
 use Rattle.auditorium_core.proofs.PlainSurvivors.{some_completion as some_here}
-use Rattle.entry_graph.specs.EntryGraph.{EntryGraph, IsEntryGraph, parents_of, ragged_of}
-use Rattle.rule_language.specs.Trees.{RuleTree}
-use Rattle.rule_meaning.specs.Meaning.{Holds}
-use Rattle.rule_meaning.specs.Sound.{RulesAreSettled, UnknownOnlyByGaps}
-use Rattle.rule_engine.specs.Verdicts.{IsJudged}
 use Rattle.rule_engine.specs.declared.verdict.Verdict.{Verdict}
 use Rattle.rule_engine.specs.declared.verdict.Verdict.TheVariants as verdict
-use Rattle.evidence.specs.Refusal.{Refusal}
-use Rattle.auditor.specs.declared.outcome.Outcome.{Outcome}
 use Rattle.auditor.specs.declared.outcome.Outcome.TheVariants as outcome
-use Rattle.auditor.specs.Rows.{row_of, row_said}
-use Rattle.auditor.specs.Judged.{nodes_of, AreJudged}
-use Rattle.auditor.specs.Outcomes.{is_broken, outcome_of}
-use Rattle.auditor.specs.Report.{AuditReport, ReportParts, IsReport, report_of}
-use Rattle.auditor.specs.ReportText.{report_text}
-use Rattle.auditor.specs.Audits.{GivesReportIn}
-use Rattle.auditorium_core.specs.declared.status.Status.{Status}
 use Rattle.auditorium_core.specs.declared.status.Status.TheVariants as status
-use Rattle.auditorium_core.specs.Words.{audit}
-use Rattle.auditorium_core.specs.Lines.{Answer, refusal_answer}
-use Rattle.auditorium_core.specs.ReportAnswers.{status_by, report_answer}
-use Rattle.auditorium_core.specs.Audit.{source_named, HoldsOf, Completes, IsAuditOf, IsAuditOver, IsAuditAnswer}
-use Rattle.auditorium_core.specs.Answer.{IsAnswerTo}
 
 module _ (machines : List Post) (graph : EntryGraph SealedEntry) (is : IsEntryGraph node_of_sealed graph)
     (settled : RulesAreSettled node_of_sealed (row_of machines))
@@ -88,12 +68,11 @@ some_completion : (report : AuditReport) → IsReport report → (G : List Plain
 some_completion report is =
     some_here report.machines (entries_of report.logs) report.graph is.makers is.graphed
 
--- a report is told with what its verdicts and its gaps say
-pub report_is_told : (report : AuditReport) (answer : Answer) →
-    RulesAreSettled node_of_sealed (row_of report.machines) →
-    UnknownOnlyByGaps node_of_sealed (row_of report.machines) →
-    GapsAreUnique node_of_sealed → IsReport report → answer ≡ report_answer report → IsAuditOf report answer
-report_is_told report answer settled unknown unique is told =
+-- the verdicts and the gaps of a report mean what they say
+pub report_is_sound : (report : AuditReport) → RulesAreSettled node_of_sealed (row_of report.machines) →
+    UnknownOnlyByGaps node_of_sealed (row_of report.machines) → GapsAreUnique node_of_sealed → IsReport report →
+    IsSound report
+report_is_sound report settled unknown unique is =
     let kept = is.graphed.2.kept in
     record {
       kept = each report.machines report.graph kept settled unknown
@@ -107,7 +86,6 @@ report_is_told report answer settled unknown unique is told =
           (λ rule v. v ≡ verdict.Unsettled → report.graph.gaps ≢ [])
           (unsettled_here report.machines report.graph kept settled unknown) report.rules report.verdicts is.judged;
       gaps = (unique report.graph.survivors report.graph.gaps).0 kept.gaps;
-      told = told;
     }
 
 -- the answer of a report
@@ -118,29 +96,24 @@ answer_is_told report text came how answer is is_outcome is_status made =
     made ∙ ap (λ (s : Status). record { status = s; files = []; output = text }) (is_status ∙ ap status_by is_outcome)
     ∙ ap (λ (t : List ℕ). record { status = status_by (outcome_of report); files = []; output = t }) is
 
--- its status isn't that of an absent file
+-- the status of a report isn't that of an absent file
 pub not_absent : (came : Outcome) (how : Status) → how ≡ status_by came → how ≢ status.Absent
 not_absent outcome.Kept how is e = let no : status.Done ≡ status.Absent = sym is ∙ e in cc
 not_absent outcome.Findings how is e = let no : status.Findings ≡ status.Absent = sym is ∙ e in cc
 not_absent outcome.Unsettled how is e = let no : status.Unsettled ≡ status.Absent = sym is ∙ e in cc
 not_absent outcome.Broken how is e = let no : status.Broken ≡ status.Absent = sym is ∙ e in cc
 
--- a right answer says what it says of honest places
-abbrev pub AreHonest : Type 0
-AreHonest =
-    (roster rules : List ℕ) (logs : List (List ℕ)) (files : List (Option (List ℕ))) (answer : Answer) →
-    IsAuditOver roster rules logs files answer → IsAuditAnswer roster rules logs files answer
-
--- the answer for the files
-pub audit_refused : AreHonest → (roster rules : List ℕ) (logs : List (List ℕ)) (told : Option Files)
+-- a refusal is the answer for the files
+pub audit_refused : (roster rules : List ℕ) (logs : List (List ℕ)) (told : Option Files)
     (refusal : Refusal) → GivesReportIn roster (source_named rules) logs told (Err refusal) →
     IsAnswerTo (audit roster rules logs) told (refusal_answer refusal)
-audit_refused honest roster rules logs told refusal (files, are, gives) =
-    (files, are, honest roster rules logs files (refusal_answer refusal) (inl (refusal, gives, refl)))
+audit_refused roster rules logs told refusal (files, are, gives) =
+    (files, are, audit_right roster rules logs files (refusal_answer refusal) (inl (refusal, gives, refl)))
 
-pub audit_told : AreHonest → (roster rules : List ℕ) (logs : List (List ℕ)) (told : Option Files)
+-- the answer of a report is that for the files
+pub audit_told : (roster rules : List ℕ) (logs : List (List ℕ)) (told : Option Files)
     (parts : ReportParts) (answer : Answer) →
     GivesReportIn roster (source_named rules) logs told (Ok (report_of parts)) → IsAuditOf (report_of parts) answer →
     IsAnswerTo (audit roster rules logs) told answer
-audit_told honest roster rules logs told parts answer (files, are, gives) is =
-    (files, are, honest roster rules logs files answer (inr (report_of parts, gives, is)))
+audit_told roster rules logs told parts answer (files, are, gives) is =
+    (files, are, audit_right roster rules logs files answer (inr (report_of parts, gives, is)))

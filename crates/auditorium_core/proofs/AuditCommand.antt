@@ -1,18 +1,10 @@
 -- The command `audit`.
-use Rattle.std.proofs.Common.{◌≡◌, ◌∙◌, ℕ, List, [], Option, inl, inr, ap, sym}
-use Rattle.std.specs.Prelude.{Ok, Err}
+use Rattle.std.proofs.Common.{Option}
+use Rattle.auditorium_core.proofs.Imports.{◌≡◌, ◌∙◌, ℕ, List, [], inl, inr, ap, sym, Ok, Err, Outcome, AuditReport}
+use Rattle.auditorium_core.proofs.Imports.{outcome_of, report_text, SameReport, GivesReport, FilesGiveOneReport}
+use Rattle.auditorium_core.proofs.Imports.{Answer, status_by, report_answer, report_statuses, source_named, IsAuditOf}
+use Rattle.auditorium_core.proofs.Imports.{IsAuditOver, audit_parts, IsCarriedOut}
 use Rattle.std.specs.List.{Contains}
-use Rattle.auditor.specs.declared.outcome.Outcome.{Outcome}
-use Rattle.auditor.specs.Report.{AuditReport}
-use Rattle.auditor.specs.Outcomes.{outcome_of}
-use Rattle.auditor.specs.ReportText.{report_text}
-use Rattle.auditor.specs.Same.{SameReport}
-use Rattle.auditor.specs.Audits.{GivesReport}
-use Rattle.auditor.specs.OneReport.{FilesGiveOneReport}
-use Rattle.auditorium_core.specs.Lines.{Answer}
-use Rattle.auditorium_core.specs.ReportAnswers.{status_by, report_answer, report_statuses}
-use Rattle.auditorium_core.specs.Audit.{source_named, IsAuditOf, IsAuditOver, audit_parts}
-use Rattle.auditorium_core.specs.Complete.{IsCarriedOut}
 use Rattle.auditorium_core.proofs.SameOr.{same_or}
 use Rattle.auditorium_core.proofs.CommandProofs.{HasStatuses, IsCompleted, HasOneAnswer, contains_as, carried_out_as}
 use Rattle.auditorium_core.proofs.CommandProofs.{of_read}
@@ -33,7 +25,7 @@ same_audit one roster rules logs files a b =
     (one roster (source_named rules) logs files)
     (λ f g gives same x y. x.told ∙ same_told f g same ∙ sym y.told)
 
--- and the command has
+-- `audit` has one answer over given files, as these give one report
 pub audit_one : FilesGiveOneReport → (roster rules : List ℕ) (logs : List (List ℕ)) →
     HasOneAnswer (audit_parts roster rules logs)
 audit_one one roster rules logs files a b x y = same_audit one roster rules logs files a b x.right y.right
@@ -47,12 +39,13 @@ over_done one roster rules logs files answer report given (inl (refusal, gives, 
 over_done one roster rules logs files answer report given (inr (other, gives, is)) =
     carried_out_as answer (report_answer other) is.told (outcome_done (outcome_of other))
 
+-- `audit` is carried out over files that give a report
 pub audit_completed : FilesGiveOneReport → (roster rules : List ℕ) (logs : List (List ℕ)) →
     IsCompleted (audit_parts roster rules logs)
 audit_completed one roster rules logs files answer right (report, given) =
     over_done one roster rules logs files answer report given right.right
 
--- and has its statuses
+-- `audit` answers with one of its statuses
 pub audit_has_statuses : (roster rules : List ℕ) (logs : List (List ℕ)) → HasStatuses (audit_parts roster rules logs)
 audit_has_statuses roster rules logs = record {
   own = λ files answer is.

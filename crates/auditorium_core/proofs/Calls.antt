@@ -1,12 +1,9 @@
 -- The calls by which files are put.
-use Rattle.std.proofs.Common.{◌≡◌, ◌∙◌, ℕ, ◌+◌, ◌<◌, List, [], ◌∷◌, get_or, drop, length, sym, subst, ap, Bool, true, false}
-use Rattle.std.proofs.Common.{Option, inr, refl}
-use Rattle.std.specs.Prelude.{Result}
-use Rattle.std.proofs.lemmas.List.{drop_more}
-use Rattle.hall_outside.specs.Writing.{PutsFile}
-use Rattle.hall_outside.specs.declared.stores.Failed.{Failed}
-use Rattle.auditorium_core.specs.Outcome.{with_files, SetsSome, PutsAll, puts, fails, PlacesAll, no_files, finishes}
-use Rattle.hall_outside.specs.Files.{Files, with_file}
+use Rattle.std.proofs.Common.{length, Bool, true, false}
+use Rattle.std.proofs.Common.{Option}
+use Rattle.auditorium_core.proofs.Imports.{◌≡◌, ◌∙◌, ℕ, ◌+◌, ◌<◌, List, [], ◌∷◌, get_or, drop, sym, subst, ap, inr}
+use Rattle.auditorium_core.proofs.Imports.{refl, Result, drop_more, PutsFile, Failed, with_files, SetsSome, PutsAll}
+use Rattle.auditorium_core.proofs.Imports.{puts, fails, PlacesAll, no_files, finishes, Files, with_file}
 
 -- the rest of the files begins with the one at its place
 rest_from : (files : List (List ℕ × List ℕ)) (i : ℕ) (file : List ℕ × List ℕ) → i < length files →
@@ -52,7 +49,7 @@ set_next old mid files i file within is set =
     ap (λ (m : Option Files). with_files m (drop (i + 1) files)) set
     ∙ ap (with_files old) (rest_from files i file within is)
 
--- and where the rest is set up to some place behind it, so are the files from its place on
+-- files are set up to some place where the first of them is set, and the ones after it up to that place
 pub some_next : (old mid new : Option Files) (files : List (List ℕ × List ℕ)) (i : ℕ) (file : List ℕ × List ℕ) →
     i < length files → file ≡ get_or files i file → mid ≡ with_file old file.0 file.1 →
     SetsSome mid (drop (i + 1) files) new → SetsSome old (drop i files) new

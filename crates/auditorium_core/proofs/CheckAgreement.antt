@@ -1,48 +1,21 @@
 -- A check by the proof that `prove` writes agrees with an audit.
-use Rattle.std.proofs.Common.{◌≡◌, ◌∙◌, ℕ, ◌≤◌, List, [], ◌∷◌, ◌++◌, map, length, Option, Some, inl, inr, refl, sym}
-use Rattle.std.proofs.Common.{ap, subst}
-use Rattle.std.specs.Prelude.{Result, Ok, Err}
-use Rattle.std.proofs.lemmas.List.{length-map}
-use Rattle.entry_order.specs.declared.three.Three.{Three}
-use Rattle.entry_order.specs.declared.three.Three.TheVariants.{False, Unknown, True}
-use Rattle.roster.specs.declared.post.Post.{Post}
-use Rattle.entry_format.specs.SealedEntry.{SealedEntry}
-use Rattle.entry_graph.specs.EntryGraph.{EntryGraph, parents_of, ragged_of}
-use Rattle.log_files.specs.declared.sealed_log.LogRead.{LogRead}
-use Rattle.rule_language.specs.declared.row.Row.{Row}
-use Rattle.rule_language.specs.Standard.{standard_rules}
-use Rattle.rule_language.specs.Trees.{RuleTree}
-use Rattle.rule_meaning.specs.Values.{three_in}
-use Rattle.rule_engine.specs.Verdicts.{IsJudged}
+use Rattle.std.proofs.Common.{length, Option, Some}
+use Rattle.auditorium_core.proofs.Imports.{◌≡◌, ◌∙◌, ℕ, ◌≤◌, List, [], ◌∷◌, ◌++◌, map, inl, inr, refl, sym, ap, subst}
+use Rattle.auditorium_core.proofs.Imports.{Result, Ok, Err, length-map, Three, False, Unknown, True, Post}
+use Rattle.auditorium_core.proofs.Imports.{SealedEntry, EntryGraph, parents_of, ragged_of, LogRead, Row}
+use Rattle.auditorium_core.proofs.Imports.{standard_rules, RuleTree, three_in, IsJudged, verdict_of, IsCheckAnswer}
+use Rattle.auditorium_core.proofs.Imports.{IsCanonicalText, IsCanonicalProof, three_by, Line, canonical_full}
+use Rattle.auditorium_core.proofs.Imports.{full_proofs_say_all, RosterRead, Refusal, absent, refused, GivesRoster}
+use Rattle.auditorium_core.proofs.Imports.{GivesLogs, entries_of, GivesGraph, SameLogs, SameGraph, same_entries}
+use Rattle.auditorium_core.proofs.Imports.{WithGraph, WithLogs, WithRules, WithRoster, GivesReport, nodes_of}
+use Rattle.auditorium_core.proofs.Imports.{AreJudged, AuditReport, report_on, row_of, RuleSource, standard, in_file}
+use Rattle.auditorium_core.proofs.Imports.{files_read, Answer, refusal_answer, source_named, ProofMade, ProvesFiles}
+use Rattle.auditorium_core.proofs.Imports.{GivesMade, proof_answer, IsProofOver, max_proof, GivesProof, CheckReport}
+use Rattle.auditorium_core.proofs.Imports.{AreChecked, ChecksLogs, ChecksFiles, GivesCheck, IsCheckOver, check_answer}
+use Rattle.auditorium_core.proofs.Imports.{without_entries, ChecksAgreeWithAudits}
 use Rattle.rule_engine.specs.declared.verdict.Verdict.{Verdict as AuditVerdict}
 use Rattle.rule_engine.specs.declared.verdict.Verdict.TheVariants as audited
 use Rattle.audit_proof.specs.declared.fault.Verdict.{Verdict}
-use Rattle.audit_proof.specs.Answers.{verdict_of, IsCheckAnswer}
-use Rattle.audit_proof.specs.Canonical.{IsCanonicalText, IsCanonicalProof}
-use Rattle.audit_proof.specs.KnownBy.{three_by}
-use Rattle.audit_proof.specs.Lines.{Line}
-use Rattle.audit_proof.proofs.Canonicals.{canonical_full}
-use Rattle.audit_proof.proofs.Trusted.{full_proofs_say_all}
-use Rattle.evidence.specs.declared.roster_file.RosterRead.{RosterRead}
-use Rattle.evidence.specs.Refusal.{Refusal, absent, refused}
-use Rattle.evidence.specs.RosterFile.{GivesRoster}
-use Rattle.evidence.specs.Logs.{GivesLogs}
-use Rattle.evidence.specs.Graphs.{entries_of, GivesGraph}
-use Rattle.evidence.specs.Same.{SameLogs, SameGraph}
-use Rattle.evidence.proofs.OneLogs.{same_entries}
-use Rattle.auditor.specs.Audits.{WithGraph, WithLogs, WithRules, WithRoster, GivesReport}
-use Rattle.auditor.specs.Judged.{nodes_of, AreJudged}
-use Rattle.auditor.specs.Report.{AuditReport, report_on}
-use Rattle.auditor.specs.Rows.{row_of}
-use Rattle.auditor.specs.Sources.{RuleSource, standard, in_file}
-use Rattle.honest_reports.specs.Places.{files_read}
-use Rattle.auditorium_core.specs.Lines.{Answer, refusal_answer}
-use Rattle.auditorium_core.specs.Audit.{source_named}
-use Rattle.auditorium_core.specs.Prove.{ProofMade, ProvesFiles, GivesMade, proof_answer, IsProofOver}
-use Rattle.auditorium_core.specs.ProofFile.{max_proof, GivesProof}
-use Rattle.auditorium_core.specs.Check.{CheckReport, AreChecked, ChecksLogs, ChecksFiles, GivesCheck, IsCheckOver}
-use Rattle.auditorium_core.specs.Check.{check_answer}
-use Rattle.auditorium_core.specs.CheckAgrees.{without_entries, ChecksAgreeWithAudits}
 use Rattle.auditorium_core.proofs.OneOrderAnswer.{OrderOne}
 use Rattle.auditorium_core.proofs.OneProof.{ProofOne, SameCheck, one_check}
 use Rattle.auditorium_core.proofs.SameNodes.{same_nodes}

@@ -1,54 +1,31 @@
 -- What `check` reads, and what it makes of it.
-use Rattle.std.proofs.Common.{◌≡◌, ◌≢◌, ◌∙◌, ℕ, Bool, true, false, cond, List, [], ◌∷◌, ◌++◌, map, Option, Some, None}
-use Rattle.std.proofs.Common.{inl, inr, refl, sym, ap, subst}
-use Rattle.std.specs.Prelude.{Result, Ok, Err, IfOk, IfErr, IfSome, codes}
-use Rattle.std.specs.Str.{bytes_eq}
-use Rattle.std.proofs.lemmas.Slice.Eq.{bytes_eq-Decides}
-use Rattle.hall_outside.specs.Files.{Files, OnSomeFile}
-use Rattle.hall_outside.specs.ReadFile.{IsFileRefused}
+use Rattle.std.proofs.Common.{Bool, true, false, Option, Some}
+use Rattle.auditorium_core.proofs.Imports.{◌≡◌, ◌≢◌, ◌∙◌, ℕ, cond, List, [], ◌∷◌, ◌++◌, map, None, inl, inr, refl}
+use Rattle.auditorium_core.proofs.Imports.{sym, ap, subst, Result, Ok, Err, IfOk, IfErr, IfSome, bytes_eq}
+use Rattle.auditorium_core.proofs.Imports.{bytes_eq-Decides, Files, OnSomeFile, IsFileRefused, Graph, Post}
+use Rattle.auditorium_core.proofs.Imports.{SealedEntry, EntryGraph, LogRead, standard_rules, RuleTree, Line}
+use Rattle.auditorium_core.proofs.Imports.{AuditFault, RosterRead, Refusal, refused, too_long, refusal_of, IsAbsent}
+use Rattle.auditorium_core.proofs.Imports.{IsFaultOf, GivesRosterIn, GivesLogs, GivesLogsIn, AreFiles, entries_of}
+use Rattle.auditorium_core.proofs.Imports.{GivesGraph, StoreSeen, IsReadFrom, some_files, of_refusal, on_refusal}
+use Rattle.auditorium_core.proofs.Imports.{read_then, read_ends, read_last, nodes_of, row_of, RuleSource, standard}
+use Rattle.auditorium_core.proofs.Imports.{in_file, source_word, rule_files, max_rules, GivesRules, Checked}
+use Rattle.auditorium_core.proofs.Imports.{Unchecked, source_named, ChecksLines, max_proof, GivesProof, GivesProofIn}
+use Rattle.auditorium_core.proofs.Imports.{report_by, IsUnchecked, ChecksProofIn, ChecksLogsIn, ChecksFilesIn}
+use Rattle.auditorium_core.proofs.Imports.{ChecksRulesIn, GivesCheckIn}
+use Rattle.std.specs.Prelude.{codes}
 use Rattle.hall_outside.specs.declared.reading.FileFault.TheVariants as file
-use Rattle.precedence.specs.Graph.{Graph}
-use Rattle.roster.specs.declared.post.Post.{Post}
-use Rattle.entry_format.specs.SealedEntry.{SealedEntry}
-use Rattle.entry_graph.specs.EntryGraph.{EntryGraph}
-use Rattle.log_files.specs.declared.sealed_log.LogRead.{LogRead}
-use Rattle.rule_language.specs.Standard.{standard_rules}
-use Rattle.rule_language.specs.Trees.{RuleTree}
-use Rattle.audit_proof.specs.Lines.{Line}
-use Rattle.evidence.specs.declared.fault.AuditFault.{AuditFault}
 use Rattle.evidence.specs.declared.fault.AuditFault.TheVariants.{ReadFault}
-use Rattle.evidence.specs.declared.roster_file.RosterRead.{RosterRead}
-use Rattle.evidence.specs.Refusal.{Refusal, refused, too_long, refusal_of, IsAbsent, IsFaultOf}
-use Rattle.evidence.specs.RosterFile.{GivesRosterIn}
-use Rattle.evidence.specs.Logs.{GivesLogs, GivesLogsIn}
-use Rattle.evidence.specs.NamedFiles.{AreFiles}
-use Rattle.evidence.specs.Graphs.{entries_of, GivesGraph}
-use Rattle.evidence.specs.Reading.{StoreSeen, IsReadFrom}
-use Rattle.evidence.proofs.LogLists.{some_files}
-use Rattle.evidence.proofs.Readings.{of_refusal}
-use Rattle.evidence.proofs.Steps.{on_refusal, read_then, read_ends, read_last}
-use Rattle.auditor.specs.Judged.{nodes_of}
-use Rattle.auditor.specs.Rows.{row_of}
-use Rattle.auditor.specs.Sources.{RuleSource, standard, in_file, source_word, rule_files, max_rules}
-use Rattle.auditor.specs.Sources.{GivesRules}
-use Rattle.auditorium_core.specs.declared.check.Checked.{Checked}
-use Rattle.auditorium_core.specs.declared.check.Unchecked.{Unchecked}
 use Rattle.auditorium_core.specs.declared.check.Unchecked.TheVariants.{TooWide}
-use Rattle.auditorium_core.specs.Audit.{source_named}
-use Rattle.auditorium_core.specs.Check.{ChecksLines}
-use Rattle.auditorium_core.specs.ProofFile.{max_proof, GivesProof}
-use Rattle.auditorium_core.specs.inside.Checking.{GivesProofIn, report_by, IsUnchecked, ChecksProofIn, ChecksLogsIn}
-use Rattle.auditorium_core.specs.inside.Checking.{ChecksFilesIn, ChecksRulesIn, GivesCheckIn}
 use Rattle.auditorium_core.proofs.ProveAnswers.{graph_not_absent}
 use Rattle.auditorium_core.proofs.ReadSteps.{ok_as, err_as, read_as, refused_unread, files_more}
 
--- a proof's file that is too long gives that refusal
+-- a proof's file that is too long is refused as too long
 pub long_proof : (name : List ℕ) (graph : Graph) (this : Option (List ℕ)) →
     IsFileRefused max_proof file.TooLong this → GivesProof name graph this (Err (too_long name))
 long_proof name graph None is = absurd is
 long_proof name graph (Some bytes) is = inl (is, refl)
 
--- and so does a file of rules
+-- a file of rules that is too long is refused as too long
 pub long_rules : (name : List ℕ) (this : Option (List ℕ)) → IsFileRefused max_rules file.TooLong this →
     GivesRules name this (Err (too_long name))
 long_rules name None is = absurd is
@@ -65,7 +42,7 @@ names_itself word = by (bytes_eq word (codes "standard")) refl
         ∙ sym ((bytes_eq-Decides word (codes "standard")).0 e)
     by false e = ap (λ (c : Bool). source_word (cond c standard (in_file word))) e
 
--- a rule that is too wide is told by its place
+-- a check by a rule that is too wide is refused with the place of that rule
 pub too_wide_checked : (machines : List Post) (word : List ℕ) (rules given : List RuleTree)
     (graph : EntryGraph SealedEntry) (lines : List Line) (unchecked : Unchecked) (place : ℕ) (fault : AuditFault) →
     given ≡ rules → IsUnchecked (map (row_of machines) graph.survivors) given unchecked →
@@ -106,7 +83,7 @@ module _ (machines : List Post) (source : RuleSource) (rules : List RuleTree) (p
         (λ refusal is. (this, at, inl (lines_of read, gives, is))) err)
         only
 
-    -- or the proof is refused
+    -- a refusal of the proof's file is that of the check
     pub proof_refused : (fault : AuditFault) →
         IsReadFrom lines_of (GivesProofIn proof (nodes_of graph)) old (Err fault) new →
         IsReadFrom report_by (ChecksProofIn machines source rules proof graph) old (Err fault) new
@@ -125,7 +102,7 @@ module _ (machines : List Post) (source : RuleSource) (rules : List RuleTree) (p
       (ChecksLogsIn machines source rules proof logs) old new result read
       (λ answer (this, at, is). (this, at, inl (graph, gives, is)))
 
-  -- or they are refused
+  -- a refusal of the graph is that of the check
   pub graph_refused : (logs : List LogRead) (seen : StoreSeen) (fault : AuditFault) →
       IfSome (refusal_of fault) (λ refusal. GivesGraph (entries_of logs) (Err refusal)) → fault ≢ ReadFault →
       IsReadFrom report_by (ChecksLogsIn machines source rules proof logs) seen (Err fault) seen
@@ -137,7 +114,7 @@ module _ (machines : List Post) (source : RuleSource) (rules : List RuleTree) (p
       (λ refusal gives. there files are refusal gives) err)
       no_read (graph_not_absent (entries_of logs) fault err)
     where
-      -- with a proof's file that isn't looked at
+      -- with a proof's file that isn't read
       there : (files : List (Option (List ℕ))) → AreFiles seen.files (proof ∷ []) files → (refusal : Refusal) →
           GivesGraph (entries_of logs) (Err refusal) →
           ChecksLogsIn machines source rules proof logs seen.files (Err refusal)
@@ -162,7 +139,7 @@ module _ (read : RosterRead) (source : RuleSource) (rules : List RuleTree) (proo
           (files, this, refl, inl (items logs, gives, with)),
         ))
 
-    -- or refused
+    -- a refusal of the logs is that of the check
     pub logs_end : (old new : StoreSeen) (fault : AuditFault) →
         IsReadFrom items (GivesLogsIn read.roster.machines read.election names) old (Err fault) new →
         IsReadFrom report_by (ChecksFilesIn read source rules proof names) old (Err fault) new
@@ -172,7 +149,7 @@ module _ (read : RosterRead) (source : RuleSource) (rules : List RuleTree) (proo
         (ChecksFilesIn read source rules proof names) old new fault first
         (λ refusal (files, are, gives). there last is refusal files are gives)
       where
-        -- with a proof's file that isn't looked at
+        -- with a proof's file that isn't read
         there : (last : List (Option (List ℕ))) → AreFiles old.files (proof ∷ []) last → (refusal : Refusal)
             (files : List (Option (List ℕ))) → AreFiles old.files names files →
             GivesLogs read.roster.machines read.election names files (Err refusal) →
@@ -202,7 +179,7 @@ module _ (read : RosterRead) (source : RuleSource) (proof : List ℕ) (names : L
     abbrev Rules : Option Files → Result (List RuleTree) Refusal → Type 0
     Rules told answer = OnSomeFile told name (λ this. GivesRules name this answer)
 
-    -- those of a file are read before the logs
+    -- the rules of a file are read before the logs
     pub rules_then : (old mid new : StoreSeen) (rules : R) (result : Result Checked AuditFault) →
         IsReadFrom trees Rules old (Ok rules) mid →
         IsReadFrom report_by (ChecksFilesIn read source (trees rules) proof names) mid result new →
@@ -216,7 +193,7 @@ module _ (read : RosterRead) (source : RuleSource) (proof : List ℕ) (names : L
         (ChecksRulesIn read (in_file name) proof names) old mid new rules result first (subst Q is rest)
         (λ answer (this, at, gives) (files, are, with). (this ∷ files, (at, are), inl (trees rules, gives, with))))
 
-    -- or refused
+    -- a refusal of the file of the rules is that of the check
     pub rules_end : (old new : StoreSeen) (fault : AuditFault) → IsReadFrom trees Rules old (Err fault) new →
         IsReadFrom report_by (ChecksRulesIn read source proof names) old (Err fault) new
     rules_end old new fault first =
@@ -238,7 +215,7 @@ module _ (roster : List ℕ) (source : RuleSource) (proof : List ℕ) (names : L
       (GivesCheckIn roster source proof names) old mid new read result first rest
       (λ answer (this, at, gives) (files, are, with). (this ∷ files, (at, are), inl (read, gives, with)))
 
-  -- or refused
+  -- a refusal of the roster is that of the check
   pub roster_end : (old new : StoreSeen) (fault : AuditFault) →
       IsReadFrom (λ (r : RosterRead). r) (GivesRosterIn roster) old (Err fault) new →
       IsReadFrom report_by (GivesCheckIn roster source proof names) old (Err fault) new

@@ -1,23 +1,14 @@
 -- The command `check`.
-use Rattle.std.proofs.Common.{◌≡◌, ◌≢◌, ◌∙◌, ℕ, List, [], ◌∷◌, Option, inl, inr, refl, sym, ap, arith}
-use Rattle.std.specs.Prelude.{Result, Ok, Err}
+use Rattle.std.proofs.Common.{Option}
+use Rattle.auditorium_core.proofs.Imports.{◌≡◌, ◌≢◌, ◌∙◌, ℕ, List, [], ◌∷◌, inl, inr, refl, sym, ap, arith, Result}
+use Rattle.auditorium_core.proofs.Imports.{Ok, Err, All-from_recursion, Files, RuleTree, Refusal, Status, Answer}
+use Rattle.auditorium_core.proofs.Imports.{refusal_answer, source_named, CheckReport, GivesCheck, IsCheckOf}
+use Rattle.auditorium_core.proofs.Imports.{verdict_on_all, checked_status, check_answer, check_parts, check}
+use Rattle.auditorium_core.proofs.Imports.{IsAnswerTo, IsCarriedOut, GivesCheckIn}
 use Rattle.std.specs.List.{Contains}
-use Rattle.std.proofs.lemmas.List.Elements.{All-from_recursion}
-use Rattle.hall_outside.specs.Files.{Files}
-use Rattle.rule_language.specs.Trees.{RuleTree}
 use Rattle.audit_proof.specs.declared.fault.Verdict.{Verdict}
 use Rattle.audit_proof.specs.declared.fault.Verdict.TheVariants.{Kept, Broken, Unsettled}
-use Rattle.evidence.specs.Refusal.{Refusal}
-use Rattle.auditorium_core.specs.declared.status.Status.{Status}
 use Rattle.auditorium_core.specs.declared.status.Status.TheVariants as status
-use Rattle.auditorium_core.specs.Lines.{Answer, refusal_answer}
-use Rattle.auditorium_core.specs.Audit.{source_named}
-use Rattle.auditorium_core.specs.Check.{CheckReport, GivesCheck, IsCheckOf, verdict_on_all, checked_status, check_answer}
-use Rattle.auditorium_core.specs.Check.{check_parts}
-use Rattle.auditorium_core.specs.Words.{check}
-use Rattle.auditorium_core.specs.Answer.{IsAnswerTo}
-use Rattle.auditorium_core.specs.Complete.{IsCarriedOut}
-use Rattle.auditorium_core.specs.inside.Checking.{GivesCheckIn}
 use Rattle.auditorium_core.proofs.CommandProofs.{IsOfCommands, HasStatuses, IsCompleted, HasOneAnswer, contains_as}
 use Rattle.auditorium_core.proofs.CommandProofs.{carried_out_as, of_read}
 use Rattle.auditorium_core.proofs.OneOrderAnswer.{OrderOne}
@@ -40,7 +31,7 @@ verdict_done Kept = tt
 verdict_done Broken = tt
 verdict_done Unsettled = tt
 
--- so it is carried out over what gives a report
+-- `check` is carried out over files that give a report
 pub check_completed : OrderOne → ProofOne → (roster rules proof : List ℕ) (logs : List (List ℕ)) →
     IsCompleted (check_parts roster rules proof logs)
 check_completed order one roster rules proof logs files answer (inl (refusal, gives, e)) (report, given) =
@@ -81,7 +72,7 @@ module _ (roster rules proof : List ℕ) (logs : List (List ℕ)) (told : Option
       IsAnswerTo (check roster rules proof logs) told (refusal_answer refusal)
   check_refused refusal (files, are, gives) = (files, are, inl (refusal, gives, refl))
 
-  -- and a report, with what it says of all that there may have been
+  -- a report is answered, with what it says of all that there may have been
   pub check_told : (report : CheckReport) (answer : Answer) →
       ((files : List (Option (List ℕ))) → GivesCheck roster (source_named rules) proof logs files (Ok report) →
       IsCheckOf report answer) →

@@ -1,43 +1,17 @@
 -- What a check says holds, whoever made the proof.
-use Rattle.std.proofs.Common.{◌≡◌, ◌≢◌, ◌∙◌, ℕ, List, [], ◌∷◌, ◌++◌, map, length, Option, Some, None, inl, inr, refl}
-use Rattle.std.proofs.Common.{suc, sym, ap, subst}
-use Rattle.std.specs.Prelude.{Result, Ok, Err}
-use Rattle.std.specs.List.{AllZip}
-use Rattle.std.proofs.lemmas.List.{length-map}
-use Rattle.entry_order.specs.declared.three.Three.{Three}
-use Rattle.entry_order.specs.declared.three.Three.TheVariants.{False, Unknown, True}
-use Rattle.entry_order.specs.Completion.{Completion}
-use Rattle.roster.specs.declared.post.Post.{Post}
-use Rattle.entry_format.specs.SealedEntry.{SealedEntry}
-use Rattle.entry_format.specs.Nodes.{node_of}
-use Rattle.entry_format.specs.declared.plain.Plain.{Plain}
-use Rattle.entry_format.specs.Plains.{plains}
-use Rattle.entry_graph.specs.EntryGraph.{EntryGraph, parents_of, ragged_of}
-use Rattle.log_files.specs.declared.sealed_log.LogRead.{LogRead}
-use Rattle.rule_language.specs.declared.row.Row.{Row}
-use Rattle.rule_language.specs.Standard.{standard_rules}
-use Rattle.rule_language.specs.Trees.{RuleTree}
-use Rattle.rule_meaning.specs.Knowledge.{IsLessKnown}
-use Rattle.rule_meaning.specs.Values.{three_in}
+use Rattle.std.proofs.Common.{length, Option, Some}
+use Rattle.auditorium_core.proofs.Imports.{◌≡◌, ◌≢◌, ◌∙◌, ℕ, List, [], ◌∷◌, ◌++◌, map, None, inl, inr, refl, suc, sym}
+use Rattle.auditorium_core.proofs.Imports.{ap, subst, Result, Ok, Err, AllZip, length-map, Three, False, Unknown}
+use Rattle.auditorium_core.proofs.Imports.{True, Completion, Post, SealedEntry, node_of, Plain, plains, EntryGraph}
+use Rattle.auditorium_core.proofs.Imports.{parents_of, ragged_of, LogRead, Row, standard_rules, RuleTree, IsLessKnown}
+use Rattle.auditorium_core.proofs.Imports.{three_in, verdict_of, IsCheckAnswer, three_by, Line, IsProofOf}
+use Rattle.auditorium_core.proofs.Imports.{ProofsSayNoMore, RosterRead, entries_of, GivesGraph, Refusal, GivesLogs}
+use Rattle.auditorium_core.proofs.Imports.{HaveMakers, row_of, row_said, nodes_of, RuleSource, standard, in_file}
+use Rattle.auditorium_core.proofs.Imports.{logs_have_makers, survivors_have_makers, plain_rules, Answer, GivesProof}
+use Rattle.auditorium_core.proofs.Imports.{CheckReport, AreChecked, ChecksLines, ChecksProof, ChecksLogs, ChecksFiles}
+use Rattle.auditorium_core.proofs.Imports.{ChecksRules, GivesCheck, MayBeAll, HoldsAmong, IsCheckOf, check_answer}
 use Rattle.audit_proof.specs.declared.fault.Verdict.{Verdict}
 use Rattle.audit_proof.specs.declared.fault.Verdict.TheVariants.{Kept, Broken, Unsettled}
-use Rattle.audit_proof.specs.Answers.{verdict_of, IsCheckAnswer}
-use Rattle.audit_proof.specs.KnownBy.{three_by}
-use Rattle.audit_proof.specs.Lines.{Line, IsProofOf}
-use Rattle.audit_proof.specs.Trust.{ProofsSayNoMore}
-use Rattle.evidence.specs.declared.roster_file.RosterRead.{RosterRead}
-use Rattle.evidence.specs.Graphs.{entries_of, GivesGraph}
-use Rattle.evidence.specs.Refusal.{Refusal}
-use Rattle.evidence.specs.Logs.{GivesLogs}
-use Rattle.auditor.specs.Rows.{HaveMakers, row_of, row_said}
-use Rattle.auditor.specs.Judged.{nodes_of}
-use Rattle.auditor.specs.Sources.{RuleSource, standard, in_file}
-use Rattle.auditor.proofs.Makers.{logs_have_makers, survivors_have_makers}
-use Rattle.auditor.proofs.PlainRules.{plain_rules}
-use Rattle.auditorium_core.specs.Lines.{Answer}
-use Rattle.auditorium_core.specs.ProofFile.{GivesProof}
-use Rattle.auditorium_core.specs.Check.{CheckReport, AreChecked, ChecksLines, ChecksProof, ChecksLogs, ChecksFiles}
-use Rattle.auditorium_core.specs.Check.{ChecksRules, GivesCheck, MayBeAll, HoldsAmong, IsCheckOf, check_answer}
 use Rattle.auditorium_core.proofs.PlainSurvivors.{some_completion}
 
 -- lists that go together have one length
@@ -48,7 +22,7 @@ zipped_length P [] (y ∷ ys) all = absurd all
 zipped_length P (x ∷ xs) [] all = absurd all
 zipped_length P (x ∷ xs) (y ∷ ys) all = ap suc (zipped_length P xs ys all.1)
 
--- a verdict tells the value
+-- a verdict says what the value is
 kept_true : (x : Three) → verdict_of x ≡ Kept → x ≡ True
 kept_true True e = refl
 kept_true Unknown e = cc
@@ -237,7 +211,7 @@ module _ (report : CheckReport) where
       files_found read (in_file name) rules proof names files with
   rules_found read (in_file name) proof names (file ∷ files) (inr (r, bad, e)) = absurd (not_refused r e)
 
-  -- and of all files
+  -- a report that files give is found by their roster, logs, proof and rules
   pub check_found : (roster : List ℕ) (source : RuleSource) (proof : List ℕ) (names : List (List ℕ))
       (files : List (Option (List ℕ))) → GivesCheck roster source proof names files (Ok report) → IsFound report
   check_found roster source proof names [] gives = absurd gives
@@ -245,13 +219,13 @@ module _ (report : CheckReport) where
       rules_found read source proof names files with
   check_found roster source proof names (file ∷ files) (inr (r, bad, e)) = absurd (not_refused r e)
 
-  -- so there is a verdict for each rule
+  -- a report that was found has a verdict for each rule
   pub a_verdict_each : IsFound report → length report.rules ≡ length report.verdicts
   a_verdict_each found =
       zipped_length (λ rule v. IsCheckAnswer (map (row_of report.machines) found.graph.survivors)
       (ragged_of found.graph.links) found.lines rule.body (Ok v)) report.rules report.verdicts found.checked
 
-  -- and what is told of them holds
+  -- what the answer says of the rules holds, since a proof says no more than the graph
   pub check_right : ProofsSayNoMore → (answer : Answer) → answer ≡ check_answer report.rules report.verdicts →
       IsFound report → IsCheckOf report answer
   check_right less answer told found =

@@ -1,22 +1,12 @@
 -- Rules checked one after another.
-use Rattle.std.proofs.Common.{◌≡◌, ◌∙◌, ℕ, zero, suc, ◌+◌, ◌<◌, List, [], ◌∷◌, ◌++◌, length, take, get_or, map, true}
-use Rattle.std.proofs.Common.{false, ap, sym, subst, arith, Some}
-use Rattle.std.specs.Prelude.{slice_get, Ok, Err}
-use Rattle.std.proofs.lemmas.Slice.Zip.{all_zipped_more}
-use Rattle.std.proofs.lemmas.List.{take_more, map-append}
-use Rattle.precedence.specs.Graph.{Graph}
-use Rattle.rule_language.specs.declared.formula.Rule.{Rule}
-use Rattle.rule_language.specs.declared.row.Row.{Row}
-use Rattle.rule_language.specs.Trees.{RuleTree}
-use Rattle.rule_language.specs.Forms.{rule_tree}
-use Rattle.rule_meaning.specs.Widths.{is_too_wide}
-use Rattle.audit_proof.specs.declared.fault.CheckFault.{CheckFault}
+use Rattle.std.proofs.Common.{length, true}
+use Rattle.std.proofs.Common.{false, Some}
+use Rattle.auditorium_core.proofs.Imports.{◌≡◌, ◌∙◌, ℕ, zero, suc, ◌+◌, ◌<◌, List, [], ◌∷◌, ◌++◌, take, get_or, map}
+use Rattle.auditorium_core.proofs.Imports.{ap, sym, subst, arith, slice_get, Ok, Err, all_zipped_more, take_more}
+use Rattle.auditorium_core.proofs.Imports.{map-append, Graph, Rule, Row, RuleTree, rule_tree, is_too_wide, CheckFault}
+use Rattle.auditorium_core.proofs.Imports.{IsCheckAnswer, Line, IsFirstTooWide, AreChecked}
 use Rattle.audit_proof.specs.declared.fault.CheckFault.TheVariants.{TooWide, Memory}
 use Rattle.audit_proof.specs.declared.fault.Verdict.{Verdict}
-use Rattle.audit_proof.specs.Answers.{IsCheckAnswer}
-use Rattle.audit_proof.specs.Lines.{Line}
-use Rattle.auditor.specs.Judged.{IsFirstTooWide}
-use Rattle.auditorium_core.specs.Check.{AreChecked}
 use Rattle.auditorium_core.proofs.OneProof.{checked_is_narrow}
 
 -- the first rules and one more
@@ -53,7 +43,7 @@ module _ (rows : List Row) (graph : Graph) (lines : List Line) (rules : List Rul
         (early rules i k tree below there);
   }
     where
-      -- the tree of the rule at a place stands at the same place among the trees
+      -- the tree of the rule at a place is at the same place among the trees
       stands : (list : List Rule) (n : ℕ) (one : Rule) → n < length list → one ≡ get_or list n one →
           slice_get (map rule_tree list) n ≡ Some (rule_tree one)
       stands [] n one below same = absurd (omega arith)

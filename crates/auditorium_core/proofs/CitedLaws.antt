@@ -1,5 +1,5 @@
 -- The laws of the crates below that the laws of all commands rest on.
-use Rattle.auditor.specs.OneReport.{FilesGiveOneReport}
+use Rattle.auditorium_core.proofs.Imports.{FilesGiveOneReport}
 use Rattle.auditorium_core.proofs.GapsCommand.{SayOne}
 use Rattle.auditorium_core.proofs.OnePlayAnswer.{PlayOne}
 use Rattle.auditorium_core.proofs.OneOrderAnswer.{OrderOne}

@@ -1,13 +1,10 @@
 -- What is shown of each command.
-use Rattle.std.proofs.Common.{◌≡◌, List, Option, ℕ, inl, inr, ap, sym, subst}
-use Rattle.std.specs.Prelude.{Result, Ok, Err, ⊤}
+use Rattle.std.proofs.Common.{Option}
+use Rattle.auditorium_core.proofs.Imports.{◌≡◌, List, ℕ, inl, inr, ap, sym, subst, Result, Ok, Err, ⊤, Refusal}
+use Rattle.auditorium_core.proofs.Imports.{absent, refused, Status, Answer, OrRefused, refusal_answer, CommandParts}
+use Rattle.auditorium_core.proofs.Imports.{IsCarriedOut}
 use Rattle.std.specs.List.{All, Contains}
-use Rattle.evidence.specs.Refusal.{Refusal, absent, refused}
-use Rattle.auditorium_core.specs.declared.status.Status.{Status}
 use Rattle.auditorium_core.specs.declared.status.Status.TheVariants as status
-use Rattle.auditorium_core.specs.Lines.{Answer, OrRefused, refusal_answer}
-use Rattle.auditorium_core.specs.CommandParts.{CommandParts}
-use Rattle.auditorium_core.specs.Complete.{IsCarriedOut}
 
 -- the statuses that the answer of a command can have
 abbrev pub IsOfCommands : Status → Type 0
@@ -40,11 +37,11 @@ HasOneAnswer parts =
 pub status_is : (answer other : Answer) → answer ≡ other → answer.status ≡ other.status
 status_is answer other e = ap (λ (a : Answer). a.status) e
 
--- so it is carried out where the other is
+-- an answer says that a command was carried out where an equal answer does
 pub carried_out_as : (answer other : Answer) → answer ≡ other → IsCarriedOut other.status → IsCarriedOut answer.status
 carried_out_as answer other e is = subst IsCarriedOut (sym (status_is answer other e)) is
 
--- and it has one of the statuses where the other has
+-- an answer has one of the statuses where an equal answer has
 pub contains_as : (statuses : List Status) (answer other : Answer) → answer ≡ other →
     Contains statuses other.status → Contains statuses answer.status
 contains_as statuses answer other e is = subst (λ (how : Status). Contains statuses how) (sym (status_is answer other e)) is
@@ -56,7 +53,7 @@ module _ (statuses : List Status) (is_refused : Contains statuses status.Refused
   of_refusal (absent file) = is_absent
   of_refusal (refused file place cause) = is_refused
 
-  -- so what is read or refused is answered with one of the statuses where what is read is
+  -- what is read or refused is answered with one of the statuses where what is read is
   pub of_read : {T : Type 0} (Gives : Result T Refusal → Type 0) (IsFor : T → Answer → Type 0) (answer : Answer) →
       ((found : T) → IsFor found answer → Contains statuses answer.status) → OrRefused Gives IsFor answer →
       Contains statuses answer.status

@@ -1,14 +1,12 @@
 -- What is shown of each command, by its own file. The tables are in the order of the words.
-use Rattle.std.proofs.Common.{◌≡◌, ◌∙◌, ℕ, ◌+◌, ◌*◌, List, [], ◌∷◌, get_or, ap, sym, arith}
-use Rattle.std.specs.Prelude.{codes, Ok}
-use Rattle.std.specs.Fmt.{decimal}
-use Rattle.std.proofs.lemmas.Fmt.{decimal_injective}
-use Rattle.hex.specs.Hex.{decode_of, encode_lower}
-use Rattle.hex.proofs.HexLemmas.{decode_of-encode_lower}
-use Rattle.auditorium_core.specs.WordForms.{AreSessions}
-use Rattle.auditorium_core.specs.Office.{IsOfficeSeed}
-use Rattle.auditorium_core.specs.Words.{Command, audit, check, demonstrate, endorse, endorsed, gaps, generate, office}
-use Rattle.auditorium_core.specs.Words.{order, play, prove, repair, run, watch, command_parts, IsStill, Means}
+use Rattle.auditorium_core.proofs.Imports.{◌≡◌, ◌∙◌, ℕ, ◌+◌, ◌*◌, List, [], ◌∷◌, get_or, ap, sym, arith, Ok, decimal}
+use Rattle.auditorium_core.proofs.Imports.{decimal_injective, decode_of, encode_lower, decode_of-encode_lower}
+use Rattle.auditorium_core.proofs.Imports.{AreSessions, IsOfficeSeed, Command, audit, check, demonstrate, endorse}
+use Rattle.auditorium_core.proofs.Imports.{endorsed, generate, office, order, prove, repair, run, watch}
+use Rattle.auditorium_core.proofs.Imports.{command_parts, IsStill, Means}
+use Rattle.std.specs.Prelude.{codes}
+use Rattle.auditorium_core.specs.Words.{gaps}
+use Rattle.auditorium_core.specs.Words.{play}
 use Rattle.auditorium_core.proofs.CitedLaws.{CitedLaws}
 use Rattle.auditorium_core.proofs.CommandProofs.{HasStatuses, IsCompleted, HasOneAnswer}
 use Rattle.auditorium_core.proofs.AuditCommand.{audit_has_statuses, audit_completed, audit_one}
@@ -62,7 +60,7 @@ are_completed laws (run script prefix) = run_completed laws.plays script prefix
 are_completed laws (watch roster rules logs) =
     watch_completed laws.orders laws.proofs.rules laws.reports roster rules logs
 
--- and, without threads, has one answer
+-- each command without threads has one answer over given files
 pub have_one_answer : CitedLaws → (command : Command) → IsStill command → HasOneAnswer (command_parts command)
 have_one_answer laws (audit roster rules logs) still = audit_one laws.reports roster rules logs
 have_one_answer laws (check roster rules proof logs) still = check_one laws.orders laws.proofs roster rules proof logs

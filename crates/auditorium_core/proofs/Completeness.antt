@@ -1,15 +1,9 @@
 -- A command whose inputs are all accepted is carried out.
-use Rattle.std.proofs.Common.{◌≡◌, ◌⊎◌, inl, inr, ℕ, List, refl, sym, subst}
-use Rattle.std.specs.Prelude.{⊤}
-use Rattle.hall_outside.specs.Counts.{HasRisen}
-use Rattle.auditorium_core.specs.declared.status.Status.{Status}
+use Rattle.std.proofs.Common.{◌⊎◌}
+use Rattle.auditorium_core.proofs.Imports.{◌≡◌, inl, inr, ℕ, List, refl, sym, subst, ⊤, HasRisen, Status, Command}
+use Rattle.auditorium_core.proofs.Imports.{Means, Answer, IsAnswerTo, AnswersWords, Outside, GivesAnswer, IsWritten}
+use Rattle.auditorium_core.proofs.Imports.{HasDone, IsCarriedOut, HasNoFailure, IsComplete}
 use Rattle.auditorium_core.specs.declared.status.Status.TheVariants as status
-use Rattle.auditorium_core.specs.Words.{Command, Means}
-use Rattle.auditorium_core.specs.Lines.{Answer}
-use Rattle.auditorium_core.specs.Answer.{IsAnswerTo, AnswersWords}
-use Rattle.auditorium_core.specs.Outside.{Outside}
-use Rattle.auditorium_core.specs.Outcome.{GivesAnswer, IsWritten, HasDone}
-use Rattle.auditorium_core.specs.Complete.{IsCarriedOut, HasNoFailure, IsComplete}
 use Rattle.auditorium_core.proofs.CitedLaws.{CitedLaws}
 use Rattle.auditorium_core.proofs.Commands.{are_completed, same_command}
 
@@ -25,7 +19,7 @@ pub complete : CitedLaws → (IsDone : Command → Type 0)
     HasDone IsDone words (λ _ _. ⊤) old how new → IsComplete IsDone words old how new
 complete laws IsDone words old how new = by how
   where
-    -- the answer of good words is the command's
+    -- the answer to a valid command line is the command's
     of_command : (command : Command) (answer : Answer) → IsDone command → Means words command →
         AnswersWords IsDone words old.store.files answer → IsAnswerTo command old.store.files answer
     of_command command answer done means (inl (other, done', means', is)) =
@@ -57,7 +51,7 @@ complete laws IsDone words old how new = by how
           },
         )
 
-    -- by the status: where no count rose, no read and no write failed, so there is an answer or no memory
+    -- by the status: as no count rose, no read and no write failed, so there is an answer, or it ran out of memory
     by : (how : Status) → HasDone IsDone words (λ _ _. ⊤) old how new → IsComplete IsDone words old how new
     by status.ReadFault (risen, unwritten) command done means fault = absurd (fault.reads risen)
     by status.WriteFault (answer, gives, calls, cut) command done means fault = absurd (no_cut old new fault cut.cause)

@@ -1,14 +1,10 @@
 -- The command `demo`.
-use Rattle.std.proofs.Common.{◌≡◌, ℕ, List, [], ◌∷◌, Option, inl, inr, subst}
+use Rattle.std.proofs.Common.{Option}
 use Rattle.std.specs.List.{Contains}
-use Rattle.election_script.specs.Generated.{generated}
-use Rattle.demonstration.specs.declared.shown.Demonstration.{Demonstration}
-use Rattle.demonstration.specs.Shown.{IsRefusedSo}
-use Rattle.auditorium_core.specs.Lines.{Answer, OrRefused}
-use Rattle.auditorium_core.specs.ReportAnswers.{report_statuses}
-use Rattle.auditorium_core.specs.Demonstrated.{GivesDemonstration, demonstration_answer, IsDemonstrationAnswer}
-use Rattle.auditorium_core.specs.Demonstrated.{ShowsReport, demonstration_parts}
-use Rattle.auditorium_core.specs.Complete.{IsCarriedOut}
+use Rattle.auditorium_core.proofs.Imports.{◌≡◌, ℕ, List, [], ◌∷◌, inl, inr, subst, generated, Demonstration}
+use Rattle.auditorium_core.proofs.Imports.{IsRefusedSo, Answer, OrRefused, report_statuses, GivesDemonstration}
+use Rattle.auditorium_core.proofs.Imports.{demonstration_answer, IsDemonstrationAnswer, ShowsReport}
+use Rattle.auditorium_core.proofs.Imports.{demonstration_parts, IsCarriedOut}
 use Rattle.auditorium_core.proofs.CommandProofs.{HasStatuses, IsCompleted, HasOneAnswer, contains_as, carried_out_as}
 use Rattle.auditorium_core.proofs.CommandProofs.{of_read}
 use Rattle.auditorium_core.proofs.OneDemonstrationAnswer.{ShowOne, same_half, same_demonstration}

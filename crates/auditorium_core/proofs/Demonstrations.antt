@@ -1,65 +1,36 @@
 -- What `demo` answers of the machines of a script that have played.
-use Rattle.std.proofs.Common.{◌≡◌, ◌≢◌, ◌∙◌, ◌⊎◌, ℕ, ◌+◌, ◌/◌, ◌%◌, min, Bool, false, List, [], ◌∷◌, length}
-use Rattle.std.proofs.Common.{Contains, Option, Some, None, cond, inl, inr, refl, sym, ap, subst, arith}
-use Rattle.std.specs.Prelude.{IfOk, IfSome, IsSomeAnd, Result, Ok, Err, codes, count_by}
-use Rattle.std.proofs.lemmas.Bool.{cases_lt}
-use Rattle.std.proofs.lemmas.List.{length-map, nil_from_length}
-use Rattle.std.proofs.lemmas.List.Elements.{All-cons, All-nil}
-use Rattle.std.proofs.lemmas.List.Sums.{sum_by-cons}
-use Rattle.canonical_sexp.specs.Text.{text_of}
-use Rattle.roster.specs.RosterText.{roster_tree}
-use Rattle.entry_format.specs.Nodes.{node_of_sealed}
-use Rattle.entry_format.specs.SealedEntry.{SealedEntry}
-use Rattle.entry_order.specs.Naming.{Distinct}
-use Rattle.entry_order.specs.World.{World, history, sent_in}
-use Rattle.entry_order.proofs.Lists.{Contains-head, Contains-later}
-use Rattle.election_script.specs.declared.script.Script.{Script}
-use Rattle.election_script.specs.Generated.{generated}
-use Rattle.election_script.specs.Lawful.{IsLawful}
-use Rattle.rule_language.specs.Standard.{standard_rules}
+use Rattle.auditorium_core.proofs.Imports.{◌≡◌, ◌≢◌, ◌∙◌, ℕ, ◌+◌, ◌/◌, ◌%◌, min, List, [], ◌∷◌, None, cond, inl, inr}
+use Rattle.auditorium_core.proofs.Imports.{refl, sym, ap, subst, arith, IfOk, IfSome, IsSomeAnd, Result, Ok, Err}
+use Rattle.auditorium_core.proofs.Imports.{count_by, cases_lt, length-map, nil_from_length, All-cons, All-nil}
+use Rattle.auditorium_core.proofs.Imports.{sum_by-cons, text_of, roster_tree, node_of_sealed, Distinct, history}
+use Rattle.auditorium_core.proofs.Imports.{sent_in, Contains-head, Contains-later, Script, generated, IsLawful}
+use Rattle.auditorium_core.proofs.Imports.{standard_rules, roster_of, MachineState, IsPlayed, machine_of, world_of}
+use Rattle.auditorium_core.proofs.Imports.{AuditFault, Refusal, refusal_of, IsLeftIn, GivesReport, is_broken}
+use Rattle.auditorium_core.proofs.Imports.{is_unsettled, AuditReport, standard, SaysNoneBroken, Demonstration, IsKeptOf}
+use Rattle.auditorium_core.proofs.Imports.{IsAudited, IsDemonstrationOf, IsRefusedSo, is_kept, log_name, kept_is_left}
+use Rattle.auditorium_core.proofs.Imports.{some_machine, Fault, Answer, IsAnswerOfShown, IsDemonstrationAnswer}
+use Rattle.auditorium_core.proofs.Imports.{IsHalfOf, GivesDemonstration, TellsNoneBroken, demonstration_answer}
+use Rattle.auditorium_core.proofs.Imports.{one_order, entries_of, scripts_are_honest, IsReport, report_on, row_of}
+use Rattle.auditorium_core.proofs.Imports.{logs_have_makers, survivors_have_makers}
+use Rattle.std.proofs.Common.{◌⊎◌, Bool, false, length}
+use Rattle.std.proofs.Common.{Contains, Option, Some}
+use Rattle.std.specs.Prelude.{codes}
 use Rattle.rule_engine.specs.declared.verdict.Verdict.{Verdict}
 use Rattle.rule_engine.specs.declared.verdict.Verdict.TheVariants as verdict
-use Rattle.polling_world.specs.Keys.{roster_of}
-use Rattle.polling_world.specs.Machines.{MachineState}
-use Rattle.polling_world.specs.Playing.{IsPlayed, ScriptsArePlayedInOneWay}
-use Rattle.polling_world.specs.Worlds.{machine_of, world_of}
-use Rattle.evidence.specs.declared.fault.AuditFault.{AuditFault}
-use Rattle.evidence.specs.Refusal.{Refusal, refusal_of}
-use Rattle.honest_logs.specs.LeftFiles.{AreFilesOf}
-use Rattle.honest_logs.specs.WhatIsLeft.{IsLeftIn}
-use Rattle.auditor.specs.Audits.{GivesReport}
-use Rattle.auditor.specs.Outcomes.{is_broken, is_unsettled}
-use Rattle.auditor.specs.Report.{AuditReport}
-use Rattle.auditor.specs.Sources.{standard}
-use Rattle.honest_reports.specs.Kept.{SaysNoneBroken}
-use Rattle.honest_reports.specs.Places.{IsRosterOf}
-use Rattle.honest_reports.specs.Refusals.{IsHonestRefusal, IsTooWideFor}
-use Rattle.demonstration.specs.declared.shown.Demonstration.{Demonstration}
-use Rattle.demonstration.specs.Kept.{IsKeptOf}
-use Rattle.demonstration.specs.Shown.{IsAudited, IsDemonstrationOf, IsRefusedSo, is_kept, log_name}
-use Rattle.demonstration.proofs.Plays.{kept_is_left, some_machine}
-use Rattle.auditorium_core.specs.declared.answer.Fault.{Fault}
 use Rattle.auditorium_core.specs.declared.status.Status.TheVariants as status
-use Rattle.auditorium_core.specs.Lines.{Answer, refusal_answer}
-use Rattle.auditorium_core.specs.Demonstrated.{IsAnswerOfShown, IsDemonstrationAnswer, IsHalfOf, IsRefusedAsTooWide}
-use Rattle.auditorium_core.specs.Demonstrated.{GivesDemonstration, TellsNoneBroken, demonstration_answer}
-use Rattle.auditorium_core.proofs.AuditAnswers.{not_absent}
+use Rattle.entry_order.proofs.Completions.{gaps_are_unique}
+use Rattle.rule_meaning.proofs.Sounds.{rules_are_settled}
+use Rattle.rule_meaning.proofs.Unknowns.{unknown_only_by_gaps}
+use Rattle.polling_world.proofs.OnePlay.{one_play}
+use Rattle.auditor.proofs.Makers.{a_log_each}
+use Rattle.honest_reports.specs.Places.{HasLeft}
+use Rattle.honest_reports.proofs.Accused.{found_in}
+use Rattle.honest_reports.proofs.AuditLaws.{audits_are_refused_only_so, reports_say_none_broken}
+use Rattle.auditorium_core.specs.Audit.{IsSound}
+use Rattle.auditorium_core.specs.Play.{KeepOrder}
+use Rattle.auditorium_core.proofs.AuditAnswers.{not_absent, report_is_sound}
 use Rattle.auditorium_core.proofs.Faults.{IsAnswerOfFault, refused_or}
-use Rattle.auditorium_core.proofs.HonestAudits.{only_broken, AreNeverBroken}
-use Rattle.auditorium_core.proofs.ShortFiles.{none_over_limit}
-
--- what is known of plays, and of audits by the standard rules of what is left of honest places
-pub record AreKnown : Type 0 where
-  -- a script is played in one way
-  pub one_play : ScriptsArePlayedInOneWay
-  -- where digests differ, no report by the standard rules on what is left of such a place says that one is broken
-  pub unbroken : AreNeverBroken
-  -- and such an audit is refused only for a log over its limit or for a too wide rule
-  pub refuses : (script : Script) (w : World SealedEntry) (roster : Option (List ℕ)) → IsRosterOf script w roster →
-      Distinct node_of_sealed (sent_in w) → (files : List (Option (List ℕ))) → AreFilesOf w files →
-      (name : List ℕ) (names : List (List ℕ)) (refusal : Refusal) →
-      GivesReport name standard names (roster ∷ files) (Err refusal) →
-      IsHonestRefusal script w standard None names files refusal
+use Rattle.auditorium_core.proofs.HonestAudits.{only_broken}
 
 -- what no verdict is, none is counted as
 none_counted : (is : Verdict → Bool) (verdicts : List Verdict) →
@@ -113,50 +84,66 @@ module _ (report : AuditReport) (says : SaysNoneBroken report) where
       says.unsettled (subst (λ (u : Verdict). Contains report.verdicts u) is inside)
       (nil_from_length report.graph.gaps none)))
 
-module _ (known : AreKnown) (script : Script) (lawful : IsLawful script) (session : ℕ) (machines : List MachineState)
-    (played : IsPlayed script machines) (apart : Distinct node_of_sealed (sent_in (world_of machines))) where
+-- a report on files is a report, of which what is printed is sound
+given_is_sound : (name : List ℕ) (roster : Option (List ℕ)) (names : List (List ℕ)) (files : List (Option (List ℕ)))
+    (report : AuditReport) → GivesReport name standard names (roster ∷ files) (Ok report) → IsSound report
+given_is_sound name roster names files report gives =
+    let found = found_in name roster standard None names files report gives in
+    let machines = found.read.roster.machines in
+    let given = entries_of found.logs in
+    let is : IsReport (report_on machines names found.logs found.graph found.rules found.verdicts) = record {
+      a_log_each = a_log_each machines found.read.election names files found.logs found.gives_logs;
+      makers = survivors_have_makers machines given found.graph
+          (logs_have_makers machines found.read.election names files found.logs found.gives_logs) found.gives_graph;
+      graphed = found.gives_graph;
+      judged = found.judged;
+    } in
+    report_is_sound report (rules_are_settled node_of_sealed (row_of report.machines))
+    (unknown_only_by_gaps node_of_sealed (row_of report.machines)) (gaps_are_unique node_of_sealed)
+    (subst IsReport (sym found.is) is)
+
+module _ (script : Script) (lawful : IsLawful script) (session : ℕ) (machines : List MachineState)
+    (played : IsPlayed script machines) where
   -- the file of the script's roster
   abbrev roster : Option (List ℕ)
   roster = Some (text_of (roster_tree (roster_of script)))
 
-  -- it is the roster of the place to which the script's machines come
-  of_script : IsRosterOf script (world_of machines) roster
-  of_script = record { steps = script.steps; lawful = lawful; comes = played.played; text = refl }
-
-  -- what is kept is left of the first machine's log
-  of_first : (bytes : List ℕ) → IsKeptOf session 0 (history (world_of machines) 0) bytes →
-      AreFilesOf (world_of machines) (Some bytes ∷ [])
-  of_first bytes kept =
+  -- the script's roster and what is kept of the first machine's log are left of the place to which the machines come
+  has_left : (bytes : List ℕ) → IsKeptOf session 0 (history (world_of machines) 0) bytes →
+      HasLeft script (world_of machines) roster (Some bytes ∷ [])
+  has_left bytes kept =
       let left : IsLeftIn (world_of machines) bytes = record {
         machine = 0;
         there = omega (arith, some_machine script lawful machines played, length-map machines machine_of);
         left = kept_is_left session 0 (history (world_of machines) 0) bytes kept;
       } in
       let P : Option (List ℕ) → Type 0 = λ file. IsSomeAnd file (IsLeftIn (world_of machines)) in
-      All-cons P (Some bytes) [] left (All-nil P)
+      record {
+        roster = record { steps = script.steps; lawful = lawful; comes = played.played; text = refl };
+        logs = All-cons P (Some bytes) [] left (All-nil P);
+      }
 
-  -- so a report on what is kept says of no rule that it is broken
-  unbroken_here : (report : AuditReport) → IsAudited script session machines (Ok report) → SaysNoneBroken report
-  unbroken_here report audited =
-      known.unbroken script (world_of machines) roster of_script apart (Some audited.bytes ∷ [])
-      (of_first audited.bytes audited.kept) (codes "roster") (log_name ∷ []) report audited.gives
+  -- in the world of the machines the order of entries is that of receipt
+  keep_order : KeepOrder machines
+  keep_order apart =
+      one_order node_of_sealed (world_of machines)
+      (scripts_are_honest script lawful script.steps (world_of machines) played.played).orderly apart
 
-  -- what is kept is within its limit, so only a rule that is too wide is refused
-  too_wide_here : (refusal : Refusal) (audited : IsAudited script session machines (Err refusal)) →
-      IsTooWideFor script (world_of machines) standard None (Some audited.bytes ∷ []) refusal
-  too_wide_here refusal audited = elim (known.refuses script (world_of machines) roster of_script apart
-      (Some audited.bytes ∷ []) (of_first audited.bytes audited.kept) (codes "roster") (log_name ∷ []) refusal
-      audited.gives) [
-        | inl rules ↦ absurd rules
-        | inr limit ↦ elim limit [
-          | inl over ↦
-              absurd (none_over_limit script lawful script.steps (world_of machines) played.played (log_name ∷ [])
-              (Some audited.bytes ∷ []) (of_first audited.bytes audited.kept) refusal over)
-          | inr too_wide ↦ too_wide
-        ]
-      ]
+  module _ (apart : Distinct node_of_sealed (sent_in (world_of machines))) where
+    -- a report on what is kept says of no rule that it is broken
+    unbroken_here : (report : AuditReport) → IsAudited script session machines (Ok report) → SaysNoneBroken report
+    unbroken_here report audited =
+        reports_say_none_broken script (world_of machines) roster (Some audited.bytes ∷ [])
+        (has_left audited.bytes audited.kept) apart (codes "roster") (log_name ∷ []) report audited.gives
 
-module _ (known : AreKnown) (sessions : ℕ) (lawful : IsLawful (generated sessions)) (half : ℕ) (answer : Answer)
+    -- the audit of what is kept isn't refused
+    never_refused : (refusal : Refusal) → ¬ IsAudited script session machines (Err refusal)
+    never_refused refusal audited =
+        audits_are_refused_only_so script (world_of machines) roster (Some audited.bytes ∷ [])
+        (has_left audited.bytes audited.kept) apart (codes "roster") standard None (log_name ∷ []) refusal
+        audited.gives
+
+module _ (sessions : ℕ) (lawful : IsLawful (generated sessions)) (half : ℕ) (answer : Answer)
     (machines : List MachineState) (played : IsPlayed (generated sessions) machines)
     (apart : Distinct node_of_sealed (sent_in (world_of machines))) where
   -- the machines of an audit are those that have played
@@ -164,28 +151,15 @@ module _ (known : AreKnown) (sessions : ℕ) (lawful : IsLawful (generated sessi
       IsAudited (generated sessions) half others result → IsAudited (generated sessions) half machines result
   of_these others result audited =
       subst (λ (ms : List MachineState). IsAudited (generated sessions) half ms result)
-      (known.one_play (generated sessions) others machines audited.played played) audited
+      (one_play (generated sessions) others machines audited.played played) audited
 
-  -- so a refusal is for such a rule
-  is_too_wide : (refusal : Refusal) → IsRefusedSo (generated sessions) half refusal → answer ≡ refusal_answer refusal →
-      IsRefusedAsTooWide sessions half machines answer
-  is_too_wide refusal (others, is) told =
-      let audited = of_these others (Err refusal) is in
-      record {
-        bytes = audited.bytes;
-        refusal = refusal;
-        kept = audited.kept;
-        too_wide = too_wide_here known (generated sessions) lawful half machines played apart refusal audited;
-        told = told;
-      }
-
-  -- and what is counted of a report says that no rule is broken
+  -- what is counted of a report says that no rule is broken
   is_unbroken : (shown : Demonstration) → IsDemonstrationOf (generated sessions) half shown →
       answer ≡ demonstration_answer sessions shown → TellsNoneBroken sessions half answer
   is_unbroken shown is told =
       let report = is.report in
       let audited = of_these is.machines (Ok report) is.audited in
-      let says = unbroken_here known (generated sessions) lawful half machines played apart report audited in
+      let says = unbroken_here (generated sessions) lawful half machines played apart report audited in
       let counted = is.counted in
       record {
         shown = shown;
@@ -198,33 +172,31 @@ module _ (known : AreKnown) (sessions : ℕ) (lawful : IsLawful (generated sessi
             ∙ only_broken shown.outcome (sym (ap (λ (a : Answer). a.status) told) ∙ e));
       }
 
-  -- so it is with each answer, be it of what is shown or a refusal
-  honest_here : IsAnswerOfShown sessions half answer →
-      TellsNoneBroken sessions half answer ⊎ IsRefusedAsTooWide sessions half machines answer
-  honest_here (inl (refusal, is, told)) = inr (is_too_wide refusal is told)
-  honest_here (inr (shown, is, told)) = inl (is_unbroken shown is told)
+  -- each answer is that of what is shown, since the audit isn't refused
+  honest_here : IsAnswerOfShown sessions half answer → TellsNoneBroken sessions half answer
+  honest_here (inl (refusal, (others, is), told)) =
+      absurd (never_refused (generated sessions) lawful half machines played apart refusal
+      (of_these others (Err refusal) is))
+  honest_here (inr (shown, is, told)) = is_unbroken shown is told
 
--- what is shown of a generated day is right of it
-pub shown_is_honest : AreKnown → (sessions half : ℕ) (answer : Answer) → IsLawful (generated sessions) →
-    IsHalfOf sessions half → IsAnswerOfShown sessions half answer → IsDemonstrationAnswer sessions answer
-shown_is_honest known sessions half answer lawful is_half right = record {
-  half = half;
-  is_half = is_half;
-  right = right;
-  honest = λ machines played apart. honest_here known sessions lawful half answer machines played apart right;
-}
+module _ (sessions half : ℕ) (script : Script) (same : script ≡ generated sessions) (lawful : IsLawful script)
+    (is_half : IsHalfOf sessions half) where
+  -- the script of the day is lawful
+  day_lawful : IsLawful (generated sessions)
+  day_lawful = subst IsLawful same lawful
 
--- so every answer of what is shown of a generated day is
-abbrev pub AreHonest : Type 0
-AreHonest =
-    (sessions half : ℕ) (answer : Answer) → IsLawful (generated sessions) → IsHalfOf sessions half →
-    IsAnswerOfShown sessions half answer → IsDemonstrationAnswer sessions answer
-
-module _ (honest : AreHonest) (sessions half : ℕ) (script : Script) (same : script ≡ generated sessions)
-    (lawful : IsLawful script) (is_half : IsHalfOf sessions half) where
   -- each answer of what the generated script shows is one of `demo`
   of_shown : (answer : Answer) → IsAnswerOfShown sessions half answer → IsDemonstrationAnswer sessions answer
-  of_shown answer is = honest sessions half answer (subst IsLawful same lawful) is_half is
+  of_shown answer right = record {
+    half = half;
+    is_half = is_half;
+    right = right;
+    order = λ machines played. keep_order (generated sessions) day_lawful half machines played;
+    sound = λ machines report audited.
+        given_is_sound (codes "roster") (Some (text_of (roster_tree (roster_of (generated sessions)))))
+        (log_name ∷ []) (Some audited.bytes ∷ []) report audited.gives;
+    honest = λ machines played apart. honest_here sessions day_lawful half answer machines played apart right;
+  }
 
   -- what is shown is answered
   pub shown_told : (shown : Demonstration) (answer : Answer) → IsDemonstrationOf script half shown →
@@ -232,7 +204,7 @@ module _ (honest : AreHonest) (sessions half : ℕ) (script : Script) (same : sc
   shown_told shown answer is told =
       of_shown answer (inr (shown, subst (λ (s : Script). IsDemonstrationOf s half shown) same is, told))
 
-  -- and so is a refusal
+  -- a refusal of the kept log is answered
   pub refusal_told : (fault : AuditFault) (result : Result Answer Fault) →
       IfSome (refusal_of fault) (IsRefusedSo script half) → IfOk result (IsAnswerOfFault fault) →
       IfOk result (IsDemonstrationAnswer sessions)

@@ -1,22 +1,12 @@
--- What the program has done, by the answer that was made and how it was told.
-use Rattle.std.proofs.Common.{◌≡◌, ◌∙◌, ◌⊎◌, ℕ, List, Option, Bool, true, false, inl, inr, refl, sym, ap, subst}
-use Rattle.std.specs.Prelude.{Result, Ok, Err, IfOk}
-use Rattle.hall_outside.specs.Counts.{HasRisen, ComesExactly}
-use Rattle.hall_outside.specs.Files.{Files}
-use Rattle.hall_outside.specs.Reading.{Answered}
-use Rattle.evidence.specs.Reading.{StoreSeen}
-use Rattle.evidence.proofs.Readings.{stands}
-use Rattle.auditorium_core.specs.declared.answer.Fault.{Fault}
+-- What the program has done, by the answer that was made and how it was written.
+use Rattle.std.proofs.Common.{◌⊎◌, Option, Bool, true, false}
+use Rattle.auditorium_core.proofs.Imports.{◌≡◌, ◌∙◌, ℕ, List, inl, inr, refl, sym, ap, subst, Result, Ok, Err, IfOk}
+use Rattle.auditorium_core.proofs.Imports.{HasRisen, ComesExactly, Files, Answered, StoreSeen, stands, Fault, Status}
+use Rattle.auditorium_core.proofs.Imports.{Answer, Command, run, IsAny, IsStill, Means, IsAnswerTo, AnswersWords}
+use Rattle.auditorium_core.proofs.Imports.{TellsAbsence, WordsTellAbsence, Outside, with_files, SetsSome, GivesAnswer}
+use Rattle.auditorium_core.proofs.Imports.{HasDone, IsToldAs, EndsWith, IsAnsweredBy, AreAnswered}
 use Rattle.auditorium_core.specs.declared.answer.Fault.TheVariants as fault
-use Rattle.auditorium_core.specs.declared.status.Status.{Status}
 use Rattle.auditorium_core.specs.declared.status.Status.TheVariants as status
-use Rattle.auditorium_core.specs.Lines.{Answer}
-use Rattle.auditorium_core.specs.Words.{Command, run, IsAny, IsStill, Means}
-use Rattle.auditorium_core.specs.Answer.{IsAnswerTo, AnswersWords, TellsAbsence, WordsTellAbsence}
-use Rattle.auditorium_core.specs.Outside.{Outside}
-use Rattle.auditorium_core.specs.Outcome.{with_files, SetsSome, GivesAnswer, HasDone}
-use Rattle.auditorium_core.specs.inside.Ending.{IsToldAs, EndsWith}
-use Rattle.auditorium_core.specs.inside.Promise.{IsAnsweredBy, AreAnswered}
 use Rattle.auditorium_core.proofs.Commands.{same_command}
 use Rattle.auditorium_core.proofs.Statuses.{is_done}
 use Rattle.auditorium_core.proofs.StillAnswers.{any_of_still}
@@ -39,7 +29,7 @@ answered_words IsDone words command old new result done means given = record {
     right (Ok answer) is = inl (command, done, means, is)
     right (Err why) is = tt
 
-    -- and it tells of an absence exactly where it does so for the command, which is the only one of the words
+    -- and it says that a file is absent exactly where it does so for the command, which is the only one of the words
     absent : (result : Result Answer Fault) →
         IfOk result (λ answer. ComesExactly old.answered.absences new.answered.absences (TellsAbsence command answer)) →
         IfOk result (λ answer. ComesExactly old.answered.absences new.answered.absences (WordsTellAbsence words answer))
@@ -69,7 +59,7 @@ module _ (IsDone : Command → Type 0) (words : List (List ℕ)) (is_told_by is_
       (WordsTellAbsence words answer) in
       record { answers = made.answer; absent = subst P (sym same) made.absent }
 
-  -- making it changed no file, so what is written is told of the files as they were
+  -- making it changed no file, so what is written is seen against the files as they were
   was_told : (answer : Answer) (how : Status) → AreAnswered IsDone words before (Ok answer) after →
       new.store.answered ≡ after.answered → IsToldAs answer is_told_by mid how new →
       HasDone IsDone words is_written_by old how new

@@ -1,30 +1,21 @@
 -- The command `endorse`.
-use Rattle.std.proofs.Common.{◌≡◌, ◌≢◌, ◌∙◌, ℕ, ◌<◌, List, [], ◌∷◌, Option, Some, None, inl, inr, refl, sym, ap, subst}
-use Rattle.std.proofs.Common.{arith}
-use Rattle.std.specs.Prelude.{Result, Ok, Err, IsSomeAnd}
+use Rattle.std.proofs.Common.{Option, Some}
+use Rattle.auditorium_core.proofs.Imports.{agree_equal, ◌≡◌, ◌≢◌, ◌∙◌, ℕ, ◌<◌, List, [], ◌∷◌, None, inl, inr, refl}
+use Rattle.auditorium_core.proofs.Imports.{sym, ap, subst, arith, Result, Ok, Err, IsSomeAnd, All-from_recursion}
+use Rattle.auditorium_core.proofs.Imports.{Files, IsFileRefused, Office, IsOffice, max_signatures, one_office, Refusal}
+use Rattle.auditorium_core.proofs.Imports.{refused, too_long, OnFiles, Answer, refusal_answer, AtLast, FileThen}
+use Rattle.auditorium_core.proofs.Imports.{GivesBytes, max_signed, max_small, GivesOffice, GivesOfficeOf, GivesUnspent}
+use Rattle.auditorium_core.proofs.Imports.{office_file, GivesUnsigned, IsEndorsement, Unsigned, endorse_answer}
+use Rattle.auditorium_core.proofs.Imports.{endorse_parts, endorse, IsAnswerTo}
 use Rattle.std.specs.List.{Contains}
-use Rattle.std.proofs.lemmas.List.Elements.{All-from_recursion}
-use Rattle.hall_outside.specs.Files.{Files}
-use Rattle.hall_outside.specs.ReadFile.{IsFileRefused}
 use Rattle.hall_outside.specs.declared.reading.FileFault.TheVariants as file
-use Rattle.office_key.specs.declared.office.Office.{Office}
-use Rattle.office_key.specs.Offices.{IsOffice, max_signatures}
-use Rattle.office_key.proofs.OfficeTexts.{one_office}
-use Rattle.evidence.specs.Refusal.{Refusal, refused, too_long}
-use Rattle.auditor.specs.Audits.{OnFiles}
 use Rattle.auditorium_core.specs.declared.status.Status.TheVariants as status
-use Rattle.auditorium_core.specs.Lines.{Answer, refusal_answer}
-use Rattle.auditorium_core.specs.NamedBytes.{AtLast, FileThen, GivesBytes, max_signed, max_small}
-use Rattle.auditorium_core.specs.OfficeFile.{GivesOffice, GivesOfficeOf, GivesUnspent, office_file}
-use Rattle.auditorium_core.specs.Endorse.{GivesUnsigned, IsEndorsement, Unsigned, endorse_answer, endorse_parts}
-use Rattle.auditorium_core.specs.Words.{endorse}
-use Rattle.auditorium_core.specs.Answer.{IsAnswerTo}
 use Rattle.auditorium_core.proofs.CommandProofs.{IsOfCommands, HasStatuses, IsCompleted, HasOneAnswer, contains_as}
 use Rattle.auditorium_core.proofs.CommandProofs.{carried_out_as, of_read, status_is}
 use Rattle.auditorium_core.proofs.FileSteps.{one_bytes, one_last, one_of_files, read_completed}
-use Rattle.auditorium_core.proofs.SameOr.{agree_equal, same_or}
+use Rattle.auditorium_core.proofs.SameOr.{same_or}
 
--- an office's file that is too long gives that refusal
+-- an office's file that is too long is refused as too long
 pub long_office : (name : List ℕ) (this : Option (List ℕ)) → IsFileRefused max_small file.TooLong this →
     GivesOffice name this (Err (too_long name))
 long_office name None is = absurd is
@@ -48,7 +39,7 @@ one_office_of name bytes p q (inl (a, is, x)) (inr (none, f)) = absurd (none a i
 one_office_of name bytes p q (inr (none, e)) (inl (b, also, y)) = absurd (none b also)
 one_office_of name bytes p q (inr (none, e)) (inr (also, f)) = e ∙ sym f
 
--- so an office's file gives one answer
+-- an office's file gives one answer
 pub one_file : (name : List ℕ) (this : Option (List ℕ)) (p q : Result Office Refusal) → GivesOffice name this p →
     GivesOffice name this q → p ≡ q
 one_file name None p q x y = x ∙ sym y
@@ -57,7 +48,7 @@ one_file name (Some bytes) p q (inl (long, e)) (inr (short, y)) = absurd (omega 
 one_file name (Some bytes) p q (inr (short, x)) (inl (long, f)) = absurd (omega (arith, long, short))
 one_file name (Some bytes) p q (inr (short, x)) (inr (also, y)) = one_office_of name bytes p q x y
 
--- and so do both files
+-- an office's file and the file to be signed give one answer
 pub one_unsigned : (name file : List ℕ) (files : List (Option (List ℕ))) (p q : Result Unsigned Refusal) →
     GivesUnsigned name file files p → GivesUnsigned name file files q → p ≡ q
 one_unsigned name file =
@@ -74,14 +65,14 @@ endorse_one name file files a b x y =
     (λ p q g h. agree_equal p q (one_unsigned name file files p q g h))
     (λ r s gives same is also. is.told ∙ ap (endorse_answer name file) same ∙ sym also.told) x y
 
--- which is that of a command that was carried out
+-- `endorse` is carried out over files that are accepted
 pub endorse_completed : (name file : List ℕ) → IsCompleted (endorse_parts name file)
 endorse_completed name file files answer right (read, given) =
     read_completed (GivesUnsigned name file files) (IsEndorsement name file) answer read
     (one_unsigned name file files) given
     (λ found is. carried_out_as answer (endorse_answer name file found) is.told tt) right
 
--- and has its statuses
+-- `endorse` answers with one of its statuses
 pub endorse_has_statuses : (name file : List ℕ) → HasStatuses (endorse_parts name file)
 endorse_has_statuses name file = record {
   own = λ files answer is.
@@ -123,26 +114,26 @@ unsigned_parts name file first (second ∷ more) read (inl (office, is, inr (ref
     absurd (let no : ⊥ = cc in no)
 unsigned_parts name file first others read (inr (refusal, is, e)) = absurd (let no : ⊥ = cc in no)
 
--- so it has a number left
+-- an office that was read has a number left
 pub unsigned_left : (name file : List ℕ) (files : List (Option (List ℕ))) (read : Unsigned) →
     GivesUnsigned name file files (Ok read) → read.office.next < max_signatures
 unsigned_left name file [] read is = absurd is
 unsigned_left name file (first ∷ others) read is =
     (office_read (office_file name) first read.office (unsigned_parts name file first others read is)).1
 
--- files that are refused are answered so
+-- where its files are refused, `endorse` answers with that refusal
 pub endorse_refused : (name file : List ℕ) (told : Option Files) (refusal : Refusal) →
     OnFiles (endorse_parts name file).files (λ files. GivesUnsigned name file files (Err refusal)) told →
     IsAnswerTo (endorse name file) told (refusal_answer refusal)
 endorse_refused name file told refusal (files, are, gives) = (files, are, inl (refusal, gives, refl))
 
--- and a signature of what they give is an answer
+-- a signature of what its files give is an answer of `endorse`
 pub endorse_told : (name file : List ℕ) (told : Option Files) (read : Unsigned) (answer : Answer) →
     OnFiles (endorse_parts name file).files (λ files. GivesUnsigned name file files (Ok read)) told →
     IsEndorsement name file read answer → IsAnswerTo (endorse name file) told answer
 endorse_told name file told read answer (files, are, gives) is = (files, are, inr (read, gives, is))
 
--- which isn't that of an absent file
+-- the status of an answer with a signature isn't that of an absent file
 pub endorse_is_there : (name file : List ℕ) (read : Unsigned) (answer : Answer) → IsEndorsement name file read answer →
     answer.status ≢ status.Absent
 endorse_is_there name file read answer is absent =

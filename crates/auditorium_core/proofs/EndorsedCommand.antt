@@ -1,25 +1,19 @@
 -- The command `endorsed`.
-use Rattle.std.proofs.Common.{◌≡◌, ◌≢◌, ◌∙◌, ℕ, List, Option, inl, inr, refl, sym, ap, subst, arith}
-use Rattle.std.specs.Prelude.{codes, Result, Ok, Err}
+use Rattle.std.proofs.Common.{Option}
+use Rattle.std.specs.Prelude.{codes}
 use Rattle.std.specs.List.{Contains}
-use Rattle.std.proofs.lemmas.List.Elements.{All-from_recursion}
-use Rattle.hss_sign.specs.Signs.{HssSigns}
-use Rattle.hall_outside.specs.Files.{Files}
-use Rattle.evidence.specs.Refusal.{Refusal}
-use Rattle.auditor.specs.Audits.{OnFiles}
+use Rattle.auditorium_core.proofs.Imports.{agree_equal, ◌≡◌, ◌≢◌, ◌∙◌, ℕ, List, inl, inr, refl, sym, ap, subst, arith}
+use Rattle.auditorium_core.proofs.Imports.{Result, Ok, Err, All-from_recursion, HssSigns, Files, Refusal, OnFiles}
+use Rattle.auditorium_core.proofs.Imports.{Answer, line_answer, refusal_answer, AtLast, FileThen, GivesBytes}
+use Rattle.auditorium_core.proofs.Imports.{max_signed, max_small, GivesSigned, IsEndorsedVerdict, Signed}
+use Rattle.auditorium_core.proofs.Imports.{endorsed_parts, endorsed, IsAnswerTo, IsCarriedOut}
 use Rattle.auditorium_core.specs.declared.status.Status.TheVariants as status
-use Rattle.auditorium_core.specs.Lines.{Answer, line_answer, refusal_answer}
-use Rattle.auditorium_core.specs.NamedBytes.{AtLast, FileThen, GivesBytes, max_signed, max_small}
-use Rattle.auditorium_core.specs.Endorsed.{GivesSigned, IsEndorsedVerdict, Signed, endorsed_parts}
-use Rattle.auditorium_core.specs.Words.{endorsed}
-use Rattle.auditorium_core.specs.Answer.{IsAnswerTo}
-use Rattle.auditorium_core.specs.Complete.{IsCarriedOut}
 use Rattle.auditorium_core.proofs.CommandProofs.{IsOfCommands, HasStatuses, IsCompleted, HasOneAnswer, contains_as}
 use Rattle.auditorium_core.proofs.CommandProofs.{carried_out_as, of_read, status_is}
 use Rattle.auditorium_core.proofs.FileSteps.{one_bytes, one_last, one_of_files, read_completed}
-use Rattle.auditorium_core.proofs.SameOr.{agree_equal, same_or}
+use Rattle.auditorium_core.proofs.SameOr.{same_or}
 
--- what is told of a signature
+-- what is printed of a signature
 abbrev pub good : Answer
 good = line_answer status.Done (codes "good")
 
@@ -82,13 +76,13 @@ endorsed_has_statuses key file signature = record {
   some = All-from_recursion IsOfCommands (endorsed_parts key file signature).statuses (tt, (tt, (tt, (tt, tt))));
 }
 
--- files that are refused are answered so
+-- where its files are refused, `endorsed` answers with that refusal
 pub endorsed_refused : (key file signature : List ℕ) (told : Option Files) (refusal : Refusal) →
     OnFiles (endorsed_parts key file signature).files (λ files. GivesSigned key file signature files (Err refusal))
     told → IsAnswerTo (endorsed key file signature) told (refusal_answer refusal)
 endorsed_refused key file signature told refusal (files, are, gives) = (files, are, inl (refusal, gives, refl))
 
--- and a verdict on what they give is an answer
+-- a verdict on what its files give is an answer of `endorsed`
 pub endorsed_told : (key file signature : List ℕ) (told : Option Files) (read : Signed) (answer : Answer) →
     OnFiles (endorsed_parts key file signature).files (λ files. GivesSigned key file signature files (Ok read)) told →
     IsEndorsedVerdict read answer → IsAnswerTo (endorsed key file signature) told answer

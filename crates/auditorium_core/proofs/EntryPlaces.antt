@@ -1,23 +1,13 @@
 -- Looking for an entry among survivors.
-use Rattle.std.proofs.Common.{◌≡◌, ◌≢◌, ◌∙◌, ℕ, ◌+◌, ◌<◌, ◌≤◌, List, Option, Some, None, Bool, true, length, get_or}
-use Rattle.std.proofs.Common.{refl, sym, ap, subst, arith}
-use Rattle.std.specs.Prelude.{slice_get, IsTrue, ◌↔◌, nat_lt}
-use Rattle.std.specs.Str.{bytes_eq}
+use Rattle.std.proofs.Common.{Option, Some, Bool, true, length}
+use Rattle.auditorium_core.proofs.Imports.{◌≡◌, ◌≢◌, ◌∙◌, ℕ, ◌+◌, ◌<◌, ◌≤◌, List, None, get_or, refl, sym, ap, subst}
+use Rattle.auditorium_core.proofs.Imports.{arith, slice_get, IsTrue, nat_lt, bytes_eq, slice_cmp, nat_cmp}
+use Rattle.auditorium_core.proofs.Imports.{ordering_reverse, is_lt, Ordering, Less, Equal, Greater, ltb-true}
+use Rattle.auditorium_core.proofs.Imports.{bytes_eq-Decides, nat_list_cmp_total, slice_get-get_or, slice_get_within}
+use Rattle.auditorium_core.proofs.Imports.{below_more, Post, SealedEntry, IsNumbered, IsNamedBy, by_number, IsPlaceOf}
+use Rattle.auditorium_core.proofs.Imports.{IsLowerAt, member_at, one_at}
+use Rattle.std.specs.Prelude.{◌↔◌}
 use Rattle.std.specs.List.{Contains}
-use Rattle.std.specs.Cmp.Lexicographic.{slice_cmp}
-use Rattle.std.specs.Ordering.{nat_cmp, ordering_reverse, is_lt}
-use Rattle.std.specs.declared.cmp.Ordering.{Ordering}
-use Rattle.std.specs.declared.cmp.Ordering.TheVariants.{Less, Equal, Greater}
-use Rattle.std.proofs.lemmas.Bool.{ltb-true}
-use Rattle.std.proofs.lemmas.Slice.Eq.{bytes_eq-Decides}
-use Rattle.std.proofs.lemmas.Cmp.{nat_list_cmp_total}
-use Rattle.std.proofs.lemmas.Option.{slice_get-get_or, slice_get_within}
-use borrow.Author.Count.{below_more}
-use Rattle.roster.specs.declared.post.Post.{Post}
-use Rattle.entry_format.specs.SealedEntry.{SealedEntry}
-use Rattle.auditorium_core.specs.EntryWords.{IsNumbered, IsNamedBy, by_number}
-use Rattle.auditorium_core.specs.inside.EntryNames.{IsPlaceOf, IsLowerAt}
-use Rattle.entry_order.proofs.Places.{member_at, one_at}
 
 -- e has a lower digest than f
 abbrev pub IsUnder : SealedEntry → SealedEntry → Type 0
@@ -34,13 +24,13 @@ module _ (P : SealedEntry → Type 0) (S : List SealedEntry) where
   abbrev pub NoneBefore : ℕ → Type 0
   NoneBefore at = (i : ℕ) → i < at → (f : SealedEntry) → slice_get S i ≡ Some f → ¬ P f
 
-  -- nor before the next place, where it doesn't hold of the entry at this one
+  -- P holds of no entry before the next place, where it doesn't hold of the entry at this one
   pub none_more : (at : ℕ) (e : SealedEntry) → slice_get S at ≡ Some e → ¬ P e → NoneBefore at → NoneBefore (at + 1)
   none_more at e is not_this before =
       below_more (λ i. (f : SealedEntry) → slice_get S i ≡ Some f → ¬ P f) at before
       (λ f same holds. not_this (subst P (sym (one_at S at e f is same)) holds))
 
-  -- where all places are looked at, it holds of no entry of S
+  -- where all places are checked, it holds of no entry of S
   pub none_at_all : (at : ℕ) → length S ≤ at → NoneBefore at → IsPlaceOf P S None
   none_at_all at past before f (k, within, is) =
       before k (omega arith) f (slice_get-get_or S k f within ∙ ap Some is)
@@ -53,7 +43,7 @@ module _ (P : SealedEntry → Type 0) (S : List SealedEntry) where
       (e : SealedEntry) × (slice_get S place ≡ Some e) × P e
       × ((i : ℕ) → i < at → (f : SealedEntry) → slice_get S i ≡ Some f → P f → ¬ IsUnder f e)
 
-  -- it is a place of S
+  -- the place of the entry with the least digest is a place of S
   pub least_within : (at place : ℕ) → LeastBefore at (Some place) → place < length S
   least_within at place (e, is, holds, least) = slice_get_within S place e is
 
@@ -92,7 +82,7 @@ module _ (P : SealedEntry → Type 0) (S : List SealedEntry) where
         (λ f same has. absurd (not_this (subst P (sym (one_at S at e f is same)) has))),
   )
 
-  -- or its digest isn't lower
+  -- the entry with the least digest stays that where the one at this place doesn't have a lower digest
   pub least_stays : (at : ℕ) (least : Option ℕ) (e : SealedEntry) → slice_get S at ≡ Some e → ¬ IsLowerAt S at least →
       LeastBefore at least → LeastBefore (at + 1) least
   least_stays at None e is not_lower before = absurd (not_lower tt)
@@ -104,7 +94,7 @@ module _ (P : SealedEntry → Type 0) (S : List SealedEntry) where
         (λ f same has under. not_lower (f, k, same, at_k, under)),
   )
 
-  -- all entries were looked at
+  -- all entries were checked
   pub least_of_all : (at : ℕ) (place : ℕ) → length S ≤ at → LeastBefore at (Some place) →
       (e : SealedEntry) × (slice_get S place ≡ Some e) × P e
       × ((f : SealedEntry) → Contains S f → P f → slice_cmp nat_cmp f.digest e.digest ≢ Less)

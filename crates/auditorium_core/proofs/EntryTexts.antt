@@ -1,22 +1,16 @@
 -- Words with a dot.
-use Rattle.std.proofs.Common.{◌≡◌, ◌≢◌, ℕ, ◌<◌, ◌+◌, List, [], ◌∷◌, ◌++◌, Some, None, take, drop, suc, inl, inr, refl}
-use Rattle.std.proofs.Common.{sym, ap, subst, ◌∙◌, ◌/◌, ◌%◌, arith, append_assoc}
-use Rattle.std.specs.Prelude.{All, Bool, true, not, ◌==◌, slice_index, Option}
-use Rattle.std.specs.List.{list_all, Contains}
-use Rattle.std.specs.Fmt.{decimal}
-use Rattle.std.proofs.lemmas.Bool.{and_parts, and_from, agree_below_at, true≢false}
-use Rattle.std.proofs.lemmas.Fmt.{decimal_injective}
-use Rattle.hex.specs.Hex.{encode_with, encode_lower, lower_digits, decode_of, IsBytes}
-use Rattle.hex.proofs.HexLemmas.{decode_of-same, decode_of-encode_lower}
-use Rattle.hall_text.specs.Words.{IsDigestText}
-use Rattle.roster.specs.Machines.{IsNameByte, IsName}
-use Rattle.roster.specs.declared.post.Post.{Post}
-use Rattle.entry_format.specs.SealedEntry.{SealedEntry}
-use Rattle.auditorium_core.specs.EntryWords.{EntryName, by_digest, by_number, IsSpelt, IsNamedBy, MeansEntry}
-use Rattle.auditorium_core.specs.inside.EntryNames.{IsFirstDot, IsPlaceOf}
-use Rattle.entry_order.proofs.Places.{member_at}
+use Rattle.std.proofs.Common.{Some}
+use Rattle.auditorium_core.proofs.Imports.{◌≡◌, ◌≢◌, ℕ, ◌<◌, ◌+◌, List, [], ◌∷◌, ◌++◌, None, take, drop, suc, inl}
+use Rattle.auditorium_core.proofs.Imports.{inr, refl, sym, ap, subst, ◌∙◌, ◌/◌, ◌%◌, arith, append_assoc, ◌==◌}
+use Rattle.auditorium_core.proofs.Imports.{slice_index, list_all, decimal, and_parts, and_from, agree_below_at}
+use Rattle.auditorium_core.proofs.Imports.{true≢false, decimal_injective, encode_with, encode_lower, lower_digits}
+use Rattle.auditorium_core.proofs.Imports.{decode_of, IsBytes, decode_of-same, decode_of-encode_lower, IsDigestText}
+use Rattle.auditorium_core.proofs.Imports.{IsNameByte, IsName, Post, SealedEntry, EntryName, by_digest, by_number}
+use Rattle.auditorium_core.proofs.Imports.{IsSpelt, IsNamedBy, MeansEntry, IsFirstDot, IsPlaceOf, member_at}
+use Rattle.std.specs.Prelude.{All, Bool, true, not, Option}
+use Rattle.std.specs.List.{Contains}
 
--- in front of the first dot stands one text, and behind it one
+-- in front of the first dot is one text, and after it one
 one_split : (a b c d : List ℕ) → All (λ byte. byte ≢ 46) a → All (λ byte. byte ≢ 46) c → a ++ 46 ∷ b ≡ c ++ 46 ∷ d →
     (a ≡ c) × (b ≡ d)
 one_split [] b [] d none other e = (refl, cc)
@@ -39,7 +33,7 @@ no_dot byte (inr digit) e = omega arith
 name_has_no_dot : (name : List ℕ) → IsName name → All (λ byte. byte ≢ 46) name
 name_has_no_dot name is = λ i d within. no_dot _ (is.bytes i d within)
 
--- a name and a dot stand in front of the text behind the first dot
+-- a name and a dot are in front of the text after the first dot
 pub dot_splits : (word : List ℕ) (dot : ℕ) (name rest : List ℕ) → IsFirstDot word (Some dot) → IsName name →
     word ≡ (name ++ 46 ∷ []) ++ rest → (take dot word ≡ name) × (drop (dot + 1) word ≡ rest)
 dot_splits word dot name rest first is spelt =

@@ -1,17 +1,12 @@
 -- The answers where what an audit goes on is refused.
-use Rattle.std.proofs.Common.{◌≡◌, ◌≢◌, ◌∙◌, ◌↔◌, Option, Some, None, inl, sym, ap, subst}
-use Rattle.std.specs.Prelude.{Result, Ok, Err, IfOk, IfErr, IfSome, IsSomeAnd}
-use Rattle.hall_outside.specs.Files.{Files}
-use Rattle.evidence.specs.declared.fault.AuditFault.{AuditFault}
+use Rattle.std.proofs.Common.{◌↔◌, Option, Some}
+use Rattle.auditorium_core.proofs.Imports.{◌≡◌, ◌≢◌, ◌∙◌, None, inl, sym, ap, subst, Result, Ok, Err, IfOk, IfErr}
+use Rattle.auditorium_core.proofs.Imports.{IfSome, IsSomeAnd, Files, AuditFault, Refusal, refusal_of, IsAbsent}
+use Rattle.auditorium_core.proofs.Imports.{StoreSeen, IsReadFrom, stands, no_cause, cause_as, Fault, Answer}
+use Rattle.auditorium_core.proofs.Imports.{OrRefused, refusal_answer, IsAnswered}
 use Rattle.evidence.specs.declared.fault.AuditFault.TheVariants as audit
-use Rattle.evidence.specs.Refusal.{Refusal, refusal_of, IsAbsent}
-use Rattle.evidence.specs.Reading.{StoreSeen, IsReadFrom}
-use Rattle.evidence.proofs.Readings.{stands, no_cause, cause_as}
-use Rattle.auditorium_core.specs.declared.answer.Fault.{Fault}
 use Rattle.auditorium_core.specs.declared.answer.Fault.TheVariants.{ReadFault, Memory}
 use Rattle.auditorium_core.specs.declared.status.Status.TheVariants as status
-use Rattle.auditorium_core.specs.Lines.{Answer, OrRefused, refusal_answer}
-use Rattle.auditorium_core.specs.inside.Promise.{IsAnswered}
 
 -- the answer of a fault is a refusal's
 abbrev pub IsAnswerOfFault : AuditFault → Answer → Type 0
@@ -52,7 +47,7 @@ status_absent (audit.Refused file place cause) answer told is = absurd is
 status_absent audit.ReadFault answer told is = absurd told
 status_absent audit.Memory answer told is = absurd told
 
--- want of memory has no such answer
+-- running out of memory has no such answer
 not_memory : (fault : AuditFault) (answer : Answer) → IsAnswerOfFault fault answer → fault ≢ audit.Memory
 not_memory fault answer told e = subst (λ f. IsAnswerOfFault f answer) e told
 

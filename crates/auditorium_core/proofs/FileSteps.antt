@@ -1,20 +1,13 @@
 -- Files that are read one after another.
-use Rattle.std.proofs.Common.{◌≡◌, ◌∙◌, ℕ, List, [], ◌∷◌, Option, Some, None, inl, inr, refl, sym, ap, subst, arith}
-use Rattle.std.specs.Prelude.{Result, Ok, Err}
-use Rattle.hall_outside.specs.Files.{Files, OnSomeFile}
-use Rattle.hall_outside.specs.ReadFile.{IsFileRefused}
+use Rattle.std.proofs.Common.{Option, Some}
+use Rattle.auditorium_core.proofs.Imports.{◌≡◌, ◌∙◌, ℕ, List, [], ◌∷◌, None, inl, inr, refl, sym, ap, subst, arith}
+use Rattle.auditorium_core.proofs.Imports.{Result, Ok, Err, Files, OnSomeFile, IsFileRefused, AuditFault, Refusal}
+use Rattle.auditorium_core.proofs.Imports.{too_long, StoreSeen, IsReadFrom, some_files, read_ends, read_last}
+use Rattle.auditorium_core.proofs.Imports.{read_then, OnFiles, Answer, OrRefused, AtLast, FileThen, GivesBytes}
+use Rattle.auditorium_core.proofs.Imports.{IsCarriedOut}
 use Rattle.hall_outside.specs.declared.reading.FileFault.TheVariants as file
-use Rattle.evidence.specs.declared.fault.AuditFault.{AuditFault}
-use Rattle.evidence.specs.Refusal.{Refusal, too_long}
-use Rattle.evidence.specs.Reading.{StoreSeen, IsReadFrom}
-use Rattle.evidence.proofs.LogLists.{some_files}
-use Rattle.evidence.proofs.Steps.{read_ends, read_last, read_then}
-use Rattle.auditor.specs.Audits.{OnFiles}
-use Rattle.auditorium_core.specs.Lines.{Answer, OrRefused}
-use Rattle.auditorium_core.specs.NamedBytes.{AtLast, FileThen, GivesBytes}
-use Rattle.auditorium_core.specs.Complete.{IsCarriedOut}
 
--- a file that is too long gives that refusal
+-- a file that is too long is refused as too long
 pub long_bytes : (limit : ℕ) (name : List ℕ) (this : Option (List ℕ)) → IsFileRefused limit file.TooLong this →
     GivesBytes limit name this (Err (too_long name))
 long_bytes limit name None is = absurd is
@@ -29,7 +22,7 @@ one_bytes limit name (Some bytes) p q (inl (long, e)) (inr (short, f)) = absurd 
 one_bytes limit name (Some bytes) p q (inr (short, e)) (inl (long, f)) = absurd (omega arith)
 one_bytes limit name (Some bytes) p q (inr (short, e)) (inr (also, f)) = e ∙ sym f
 
--- so do several, one after another
+-- several files, read one after another, give one answer where each step has one
 pub one_of_files : {A B : Type 0} (First : Option (List ℕ) → Result A Refusal → Type 0)
     (Next : A → List (Option (List ℕ)) → Result B Refusal → Type 0) →
     ((this : Option (List ℕ)) (p q : Result A Refusal) → First this p → First this q → p ≡ q) →
@@ -51,7 +44,7 @@ one_of_files {A} {B} First Next one next (this ∷ files) p q (inr (r, is, e)) (
     let same : r ≡ s = cc in
     e ∙ ap (λ (x : Refusal). Err x) same ∙ sym f
 
--- and what is found with the last of them
+-- what was found with the last file is one answer
 pub one_last : {B : Type 0} (found : B) (files : List (Option (List ℕ))) (p q : Result B Refusal) →
     AtLast found files p → AtLast found files q → p ≡ q
 one_last found [] p q x y = x ∙ sym y

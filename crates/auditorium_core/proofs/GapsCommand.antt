@@ -1,29 +1,18 @@
 -- The command `gaps`.
-use Rattle.std.proofs.Common.{◌≡◌, ◌∙◌, ℕ, ◌<◌, ◌≤◌, ◌⊎◌, inl, inr, List, ◌++◌, [], ◌∷◌, Option, Some, None, length}
-use Rattle.std.proofs.Common.{ap, sym, subst, arith, refl}
+use Rattle.std.proofs.Common.{◌⊎◌, Option, Some, length}
+use Rattle.auditorium_core.proofs.Imports.{◌≡◌, ◌∙◌, ℕ, ◌<◌, ◌≤◌, inl, inr, List, ◌++◌, [], ◌∷◌, None, ap, sym, subst}
+use Rattle.auditorium_core.proofs.Imports.{arith, refl, All-from_recursion, node_of, Plain, EntryFault, End, PlainLog}
+use Rattle.auditorium_core.proofs.Imports.{LogFault, TooLong, Header, HasHeader, Says, max_bytes, IsLogOf}
+use Rattle.auditorium_core.proofs.Imports.{IsLogRefused, Files, OnSomeFile, on_some, refused_lines, end_line}
+use Rattle.auditorium_core.proofs.Imports.{gap_lines, Status, Answer, absent_answer, refused_answer, gaps_log_lines}
+use Rattle.auditorium_core.proofs.Imports.{findings_answer, status_of, IsRefusal, IsGapsAnswer, gaps_parts}
+use Rattle.auditorium_core.proofs.Imports.{IsAnswerTo, IsCarriedOut}
 use Rattle.std.specs.Prelude.{codes}
 use Rattle.std.specs.List.{Contains}
-use Rattle.std.proofs.lemmas.List.Elements.{All-from_recursion}
 use Rattle.entry_order.specs.Survivors.{gaps as gaps_of}
-use Rattle.entry_format.specs.Nodes.{node_of}
-use Rattle.entry_format.specs.declared.plain.Plain.{Plain}
-use Rattle.entry_format.specs.declared.plain.EntryFault.{EntryFault}
-use Rattle.log_files.specs.declared.plain_log.End.{End}
-use Rattle.log_files.specs.declared.plain_log.PlainLog.{PlainLog}
-use Rattle.log_files.specs.declared.plain_log.LogFault.{LogFault}
-use Rattle.log_files.specs.declared.plain_log.LogFault.TheVariants.{Absent, TooLong, Header, ReadFault, Memory}
-use Rattle.log_files.specs.LogText.{HasHeader, Says}
-use Rattle.log_files.specs.LogFile.{max_bytes, IsLogOf, IsLogRefused}
-use Rattle.hall_outside.specs.Files.{Files, OnSomeFile}
-use Rattle.hall_outside.proofs.SomeFile.{on_some}
-use Rattle.report_lines.specs.Lines.{refused_lines, end_line, gap_lines}
-use Rattle.auditorium_core.specs.declared.status.Status.{Status}
+use Rattle.log_files.specs.declared.plain_log.LogFault.TheVariants.{Absent, ReadFault, Memory}
 use Rattle.auditorium_core.specs.declared.status.Status.TheVariants as status
-use Rattle.auditorium_core.specs.Lines.{Answer, absent_answer, refused_answer}
-use Rattle.auditorium_core.specs.Gaps.{gaps_log_lines, findings_answer, status_of, IsRefusal, IsGapsAnswer, gaps_parts}
 use Rattle.auditorium_core.specs.Words.{gaps}
-use Rattle.auditorium_core.specs.Answer.{IsAnswerTo}
-use Rattle.auditorium_core.specs.Complete.{IsCarriedOut}
 use Rattle.auditorium_core.proofs.CommandProofs.{IsOfCommands, HasStatuses, IsCompleted, HasOneAnswer, contains_as}
 use Rattle.auditorium_core.proofs.CommandProofs.{carried_out_as}
 
@@ -69,7 +58,7 @@ refusal_cases name bytes answer Header is e = inr (inl (is.0, is.1, e))
 refusal_cases name bytes answer ReadFault is e = absurd e
 refusal_cases name bytes answer Memory is e = absurd e
 
--- so is every answer
+-- every answer of `gaps` over a file is of one of the three cases
 pub cases : (name bytes : List ℕ) (answer : Answer) → IsGapsAnswer name (Some bytes) answer → Cases name bytes answer
 cases name bytes answer (inl (log, is, e)) = inr (inr (log, is.0, is.1, e))
 cases name bytes answer (inr (fault, is, e)) = refusal_cases name bytes answer fault is e
@@ -111,7 +100,7 @@ same_gaps : SayOne → (name : List ℕ) (file : Option (List ℕ)) (a b : Answe
 same_gaps one name None a b x y = no_file name a x ∙ sym (no_file name b y)
 same_gaps one name (Some bytes) a b x y = same_case one name bytes a b (cases name bytes a x) (cases name bytes b y)
 
--- so the command has
+-- `gaps` has one answer over a given file
 pub gaps_one : SayOne → (log : List ℕ) → HasOneAnswer (gaps_parts log)
 gaps_one one log (file ∷ []) a b x y = same_gaps one log file a b x y
 gaps_one one log [] a b x y = absurd x
@@ -135,7 +124,7 @@ log_done one name (Some bytes) answer read is right = by (cases name bytes answe
     by (inr (inr (log, short, says, e))) =
         carried_out_as answer (findings_answer (gaps_log_lines name log)) e (lines_done (gaps_log_lines name log))
 
--- so the command is
+-- `gaps` is carried out over a file that says a log
 pub gaps_completed : SayOne → (log : List ℕ) → IsCompleted (gaps_parts log)
 gaps_completed one log (file ∷ []) answer right (read, is) = log_done one log file answer read is right
 gaps_completed one log [] answer right given = absurd right
@@ -195,7 +184,7 @@ gaps_findings told log plain answer e said =
     gaps_to told log answer
     (on_some told log (IsLogOf plain) (λ file. IsGapsAnswer log file answer) (λ file is. inl (plain, is, e)) said)
 
--- and so is why a log was refused
+-- the refusal of a log is an answer of `gaps`
 pub gaps_refusal : (told : Option Files) (log : List ℕ) (fault given : LogFault) (answer : Answer) → given ≡ fault →
     IsRefusal log fault answer → OnSomeFile told log (IsLogRefused given) → IsAnswerTo (gaps log) told answer
 gaps_refusal told log fault given answer same is said =

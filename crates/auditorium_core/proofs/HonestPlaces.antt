@@ -1,26 +1,12 @@
 -- The logs of machines, as they are written, are the logs of each world with their histories.
-use Rattle.std.proofs.Common.{◌≡◌, ◌∙◌, ℕ, ◌<◌, inl, inr, List, length, Option, Some, None, refl, ap, sym, subst, arith}
-use Rattle.std.specs.Prelude.{slice_get, IsSomeAnd, option_map}
+use Rattle.std.proofs.Common.{length, Option, Some}
+use Rattle.auditorium_core.proofs.Imports.{◌≡◌, ◌∙◌, ℕ, ◌<◌, inl, inr, List, None, refl, ap, sym, subst, arith}
+use Rattle.auditorium_core.proofs.Imports.{slice_get, IsSomeAnd, option_map, length-map, slice_get_cases}
+use Rattle.auditorium_core.proofs.Imports.{slice_get-map, Event, Step, World, history, Contains-map, all_from_places}
+use Rattle.auditorium_core.proofs.Imports.{member_at, SealedEntry, log_text, Script, IsLawful, MachineState, ComesTo}
+use Rattle.auditorium_core.proofs.Imports.{IsPlayed, machine_of, world_of, history_there, AreAllFilesOf, written_logs}
+use Rattle.auditorium_core.proofs.Imports.{file_of, AreWholeFilesOf, IsWholeIn, LeaveHonestFiles}
 use Rattle.std.specs.List.{Contains}
-use Rattle.std.proofs.lemmas.List.{length-map}
-use Rattle.std.proofs.lemmas.Option.{slice_get_cases, slice_get-map}
-use Rattle.entry_order.specs.declared.event.Event.{Event}
-use Rattle.entry_order.specs.declared.step.Step.{Step}
-use Rattle.entry_order.specs.World.{World, history}
-use Rattle.entry_order.proofs.Lists.{Contains-map}
-use Rattle.entry_order.proofs.Places.{all_from_places, member_at}
-use Rattle.entry_format.specs.SealedEntry.{SealedEntry}
-use Rattle.log_files.specs.Written.{log_text}
-use Rattle.election_script.specs.declared.script.Script.{Script}
-use Rattle.election_script.specs.Lawful.{IsLawful}
-use Rattle.polling_world.specs.Machines.{MachineState}
-use Rattle.polling_world.specs.Playing.{ComesTo, IsPlayed}
-use Rattle.polling_world.specs.Worlds.{machine_of, world_of}
-use Rattle.polling_world.proofs.Placing.{history_there}
-use Rattle.honest_logs.specs.LeftFiles.{AreAllFilesOf, written_logs}
-use Rattle.honest_logs.proofs.PlayedFiles.{file_of}
-use Rattle.honest_reports.specs.Places.{AreWholeFilesOf, IsWholeIn}
-use Rattle.auditorium_core.specs.HonestPlace.{LeaveHonestFiles}
 
 module _ (machines : List MachineState) (w : World SealedEntry) (many : length w ≡ length machines)
     (numbered : (place : ℕ) (m : MachineState) → slice_get machines place ≡ Some m → m.config.number ≡ place)
@@ -70,7 +56,7 @@ module _ (machines : List MachineState) (w : World SealedEntry) (many : length w
         | inr past ↦ absurd (omega (arith, below, past.0, many))
       ]
 
-  -- so they are those of an honest place, where a script's machines come to w
+  -- the files are those of an honest place, where a script's machines come to w
   pub leave_honest_files : (script : Script) → IsLawful script → (steps : List Step) → ComesTo script steps w →
       LeaveHonestFiles script machines w
   leave_honest_files script lawful steps comes = record {

@@ -1,55 +1,34 @@
 -- What `watch` says where the logs' files are left of an honest place.
-use Rattle.std.proofs.Common.{◌≡◌, ◌≢◌, ◌∙◌, ℕ, ◌+◌, Bool, false, not, List, [], ◌∷◌, take, drop, get_or, map, Option, None}
-use Rattle.std.proofs.Common.{inl, inr, refl, sym, ap, subst, take-append-drop}
-use Rattle.std.specs.Prelude.{All, Ok, Err, count_by, length}
-use Rattle.std.specs.List.{Contains, filter}
-use Rattle.std.proofs.lemmas.Bool.{cond-false}
-use Rattle.std.proofs.lemmas.List.Elements.{Contains-append_left}
-use Rattle.std.proofs.lemmas.List.Sums.{length-filter}
-use Rattle.std.proofs.lemmas.Option.{slice_get-get_or}
-use Rattle.election_script.specs.declared.script.Script.{Script}
-use Rattle.entry_format.specs.Nodes.{node_of_sealed}
-use Rattle.entry_format.specs.SealedEntry.{SealedEntry}
-use Rattle.entry_graph.specs.Given.{distinct}
-use Rattle.entry_graph.specs.EntryGraph.{parents_of, ragged_of}
-use Rattle.entry_graph.proofs.DistinctFacts.{distinct_given}
+use Rattle.auditorium_core.proofs.Imports.{None, ◌≡◌, ◌≢◌, ◌∙◌, ℕ, ◌+◌, List, [], ◌∷◌, take, drop, get_or, map, inl}
+use Rattle.auditorium_core.proofs.Imports.{inr, refl, sym, ap, subst, take-append-drop, Result, Ok, Err, count_by}
+use Rattle.auditorium_core.proofs.Imports.{filter, cond-false, Contains-append_left, length-filter, slice_get-get_or}
+use Rattle.auditorium_core.proofs.Imports.{Script, node_of_sealed, SealedEntry, EntryGraph, parents_of, ragged_of}
+use Rattle.auditorium_core.proofs.Imports.{distinct, distinct_given, Distinct, is_stray, World, sent_in, Contains-head}
+use Rattle.auditorium_core.proofs.Imports.{Contains-later, Contains-filter_cases, member_at, LogRead, Post}
+use Rattle.auditorium_core.proofs.Imports.{standard_rules, RuleTree, three_in, roster_of, election_of, RosterRead}
+use Rattle.auditorium_core.proofs.Imports.{GivesGraph, entries_of, GivesLogs, Refusal, refused, IsHonestWorld}
+use Rattle.auditorium_core.proofs.Imports.{IsOfScript, left_agrees, scripts_are_honest, IsHonest, WereSentIn}
+use Rattle.auditorium_core.proofs.Imports.{honest_audits_never_say_broken, none_broken, AndThen, GivesReport, WithGraph}
+use Rattle.auditorium_core.proofs.Imports.{is_broken, outcome_of, row_of, standard, IsTooWideOver, Summary, After}
+use Rattle.auditorium_core.proofs.Imports.{Answer, refusal_answer, AreSummaries, Evidence, GivesEvidence}
+use Rattle.auditorium_core.proofs.Imports.{GivesSummaries, Watches, watch_answer, BreaksNoRule}
+use Rattle.auditorium_core.proofs.Imports.{HonestWatchesBreakNoRule}
+use Rattle.std.proofs.Common.{Bool, false, not, Option}
+use Rattle.std.specs.Prelude.{All, length, codes}
+use Rattle.std.specs.List.{Contains}
 use Rattle.entry_order.specs.declared.three.Three.TheVariants as three
-use Rattle.entry_order.specs.Naming.{Distinct}
-use Rattle.entry_order.specs.Survivors.{is_stray}
-use Rattle.entry_order.specs.World.{World, sent_in}
-use Rattle.entry_order.proofs.Lists.{Contains-head, Contains-later, Contains-filter_cases}
-use Rattle.roster.specs.declared.post.Post.{Post}
-use Rattle.rule_language.specs.Standard.{standard_rules}
-use Rattle.rule_language.specs.Trees.{RuleTree}
-use Rattle.rule_meaning.specs.Values.{three_in}
-use Rattle.evidence.specs.declared.roster_file.RosterRead.{RosterRead}
-use Rattle.evidence.specs.Graphs.{entries_of}
-use Rattle.evidence.specs.RosterFile.{GivesRoster}
-use Rattle.honest_logs.specs.LeftFiles.{AreFilesOf}
-use Rattle.honest_logs.specs.WhatIsLeft.{AreReadIn}
-use Rattle.honest_logs.proofs.Given.{left_agrees}
-use Rattle.honest_logs.proofs.HonestGraphs.{of_script_is_honest}
-use Rattle.honest_rules.specs.Honest.{IsHonest}
-use Rattle.honest_rules.specs.Kept.{WereSentIn}
-use Rattle.honest_rules.proofs.Audits.{honest_audits_never_say_broken}
-use Rattle.honest_reports.specs.Places.{IsRosterOf, files_read}
-use Rattle.honest_reports.specs.Reports.{IsHonestReport}
-use Rattle.honest_reports.proofs.Judged.{none_broken}
-use Rattle.honest_reports.proofs.RosterGiven.{is_honest, of_script}
-use Rattle.auditor.specs.Audits.{GivesReport}
-use Rattle.auditor.specs.Outcomes.{is_broken, outcome_of}
-use Rattle.auditor.specs.Report.{AuditReport}
-use Rattle.auditor.specs.Rows.{row_of}
-use Rattle.auditor.specs.Sources.{RuleSource, standard}
-use Rattle.live_auditor.specs.Summary.{Summary, After}
-use Rattle.auditorium_core.specs.Lines.{Answer, refusal_answer}
-use Rattle.auditorium_core.specs.HonestAudit.{IsOfReport}
-use Rattle.auditorium_core.specs.Watch.{AreSummaries, Evidence, GivesEvidence, watch_answer}
-use Rattle.auditorium_core.specs.WatchAgrees.{BreaksNoRule, HonestWatchesBreakNoRule}
+use Rattle.evidence.specs.Graphs.{IsSealedGraph}
+use Rattle.honest_logs.proofs.HonestFiles.{script_given, script_not_refused}
+use Rattle.honest_logs.proofs.LeftFileFacts.{files_are_read}
+use Rattle.honest_logs.proofs.RosterTexts.{read_of_script, world_of_script}
+use Rattle.honest_rules.proofs.Scripts.{scripts_are_never_too_wide, scripts_lead_to_honest_places}
+use Rattle.honest_reports.specs.Places.{HasLeft}
+use Rattle.honest_reports.proofs.AuditLaws.{audits_are_refused_only_so, reports_say_none_broken}
+use Rattle.honest_reports.proofs.RosterGiven.{read_same, roster_not_refused}
+use Rattle.auditorium_core.specs.WatchAgrees.{IsHonestWatch}
 use Rattle.auditorium_core.proofs.CommandProofs.{status_is}
-use Rattle.auditorium_core.proofs.HonestAudits.{AreNeverBroken, only_broken}
+use Rattle.auditorium_core.proofs.HonestAudits.{only_broken}
 use Rattle.auditorium_core.proofs.OneWatch.{report_by}
-use Rattle.auditorium_core.proofs.WatchAgreement.{not_of_report, of_logs}
 use Rattle.auditorium_core.proofs.WatchCommand.{IsToldOf, told_of}
 
 -- what no member is leaves none
@@ -60,116 +39,189 @@ none_left test (x ∷ xs) none =
     cond-false (test x) (x ∷ filter test xs) (filter test xs) (none x (Contains-head x xs))
     ∙ none_left test xs (λ y c. none y (Contains-later x xs y c))
 
--- where digests differ, a report on what is left of such a place accuses nobody
-abbrev pub AreHonestReports : Type 0
-AreHonestReports =
-    (script : Script) (w : World SealedEntry) (roster : Option (List ℕ)) → IsRosterOf script w roster →
-    Distinct node_of_sealed (sent_in w) → (files : List (Option (List ℕ))) → AreFilesOf w files → (name : List ℕ)
-    (source : RuleSource) (rules : Option (List ℕ)) (names : List (List ℕ)) (report : AuditReport) →
-    GivesReport name source names (files_read roster source rules files) (Ok report) →
-    IsHonestReport script w names files report
+module _ (script : Script) (w : World SealedEntry) (roster : Option (List ℕ)) (files : List (Option (List ℕ)))
+    (place : HasLeft script w roster files) (apart : Distinct node_of_sealed (sent_in w)) where
+  -- the machines of the script
+  abbrev posts : List Post
+  posts = roster_of script
 
--- the evidence of a roster's file and of the standard rules
-record IsOfRoster (name : List ℕ) (roster : Option (List ℕ)) (found : Evidence) : Type 0 where
-  read : RosterRead
-  given : GivesRoster name roster (Ok read)
-  machines : found.machines ≡ read.roster.machines
-  rules : found.rules ≡ standard_rules
+  -- each of the entries was sent
+  abbrev WereSent : List SealedEntry → Type 0
+  WereSent es = (e : SealedEntry) → Contains es e → Contains (sent_in w) e
 
-of_roster : (name : List ℕ) (names : List (List ℕ)) (roster : Option (List ℕ)) (files : List (Option (List ℕ)))
-    (found : Evidence) → GivesEvidence name standard names (roster ∷ files) (Ok found) → IsOfRoster name roster found
-of_roster name names roster files found (inl (read, given, inl (logs, gives, e))) =
-    let these : Evidence = record { machines = read.roster.machines; rules = standard_rules; logs = logs } in
-    let same : found ≡ these = cc in
-    record {
-      read = read;
-      given = given;
-      machines = ap (λ (ev : Evidence). ev.machines) same;
-      rules = ap (λ (ev : Evidence). ev.rules) same;
-    }
-of_roster name names roster files found (inl (read, given, inr (refusal, gives, e))) = cc
-of_roster name names roster files found (inr (refusal, gives, e)) = cc
+  -- the survivors of entries that were sent were sent
+  survivors_sent : (es : List SealedEntry) → WereSent es → (graph : EntryGraph SealedEntry) →
+      IsSealedGraph es (Ok graph) → WereSentIn w graph.survivors
+  survivors_sent es sent graph graphed e inside =
+      let kept = Contains-filter_cases (λ (f : SealedEntry). not (is_stray node_of_sealed (distinct node_of_sealed es) f))
+      (distinct node_of_sealed es) e ((graphed.2.members e).0 inside) in
+      sent e (distinct_given node_of_sealed es e kept.0)
 
-module _ (machines : List Post) (w : World SealedEntry) (place : IsHonest machines w)
-    (apart : Distinct node_of_sealed (sent_in w)) where
-  -- of entries that were sent no standard rule is broken
-  unbroken : (es : List SealedEntry) → ((e : SealedEntry) → Contains es e → Contains (sent_in w) e) → (s : Summary) →
-      After machines standard_rules es s → count_by is_broken s.verdicts ≡ 0
+  -- over survivors of entries that were sent no standard rule is too wide
+  never_too_wide : (es : List SealedEntry) → WereSent es → (at : ℕ) → ¬ IsTooWideOver posts standard_rules es at
+  never_too_wide es sent at (graph, graphed, first) =
+      let narrow =
+      scripts_are_never_too_wide script place.roster.steps w place.roster.lawful place.roster.comes apart graph.survivors
+      (survivors_sent es sent graph graphed) graphed.2.kept.single first.rule
+      (member_at standard_rules at first.rule first.stands) in
+      let wide = first.too_wide in
+      cc
+
+  -- of survivors of entries that were sent no standard rule is broken
+  unbroken : (es : List SealedEntry) → WereSent es → (s : Summary) → After posts standard_rules es s →
+      count_by is_broken s.verdicts ≡ 0
   unbroken es sent s a =
       sym (length-filter is_broken s.verdicts) ∙ ap length (none_left is_broken s.verdicts
-      (none_broken (map (row_of machines) a.graph.survivors) a.graph standard_rules s.verdicts a.judged free))
+      (none_broken (map (row_of posts) a.graph.survivors) a.graph standard_rules s.verdicts a.judged free))
     where
-      -- each survivor was sent
-      were_sent : WereSentIn w a.graph.survivors
-      were_sent e inside =
-          let kept = Contains-filter_cases (λ (f : SealedEntry). not (is_stray node_of_sealed (distinct node_of_sealed es) f))
-          (distinct node_of_sealed es) e ((a.graphed.2.members e).0 inside) in
-          sent e (distinct_given node_of_sealed es e kept.0)
+      -- the machines keep the rules of their roles
+      honest : IsHonest posts w
+      honest = scripts_lead_to_honest_places script place.roster.steps w place.roster.lawful place.roster.comes
 
-      -- so none is known to be broken
+      -- no rule is known to be broken
       free : (rule : RuleTree) → Contains standard_rules rule →
-          three_in (map (row_of machines) a.graph.survivors) (parents_of a.graph.links) (ragged_of a.graph.links) rule.body
+          three_in (map (row_of posts) a.graph.survivors) (parents_of a.graph.links) (ragged_of a.graph.links) rule.body
           ≢ three.False
       free rule inside =
-          honest_audits_never_say_broken machines w place apart a.graph.survivors were_sent a.graphed.2.kept.single
-          (parents_of a.graph.links) (ragged_of a.graph.links) a.graphed.2.kept.linked.arrows rule inside
+          honest_audits_never_say_broken posts w honest apart a.graph.survivors
+          (survivors_sent es sent a.graph a.graphed) a.graphed.2.kept.single (parents_of a.graph.links)
+          (ragged_of a.graph.links) a.graphed.2.kept.linked.arrows rule inside
 
-  -- nor is one in any of the summaries
-  none_in : (es : List SealedEntry) → ((e : SealedEntry) → Contains es e → Contains (sent_in w) e) →
-      (ss : List Summary) → AreSummaries machines standard_rules es ss →
+  -- the first of entries that were sent were sent
+  first_sent : (es : List SealedEntry) → WereSent es → (n : ℕ) → WereSent (take n es)
+  first_sent es sent n e inside =
+      sent e (subst (λ gs. Contains gs e) (take-append-drop n es)
+      (Contains-append_left (take n es) (drop n es) e inside))
+
+  -- none is broken in any of the summaries
+  none_in : (es : List SealedEntry) → WereSent es → (ss : List Summary) → AreSummaries posts standard_rules es ss →
       All (λ (s : Summary). count_by is_broken s.verdicts ≡ 0) ss
   none_in es sent ss said k d within =
-      unbroken (take (k + 1) es)
-      (λ e c. sent e (subst (λ gs. Contains gs e) (take-append-drop (k + 1) es)
-      (Contains-append_left (take (k + 1) es) (drop (k + 1) es) e c)))
-      (get_or ss k d) (said.each k (get_or ss k d) (slice_get-get_or ss k d within))
+      unbroken (take (k + 1) es) (first_sent es sent (k + 1)) (get_or ss k d)
+      (said.each k (get_or ss k d) (slice_get-get_or ss k d within))
 
--- so `watch` says of none that it is broken
-pub watches_break_none : AreHonestReports → AreNeverBroken → HonestWatchesBreakNoRule
-watches_break_none honest never script w roster is apart files left name names watched (inl (refusal, gives, e)) of =
-    absurd (not_of_report refusal (subst IsOfReport (status_is watched (refusal_answer refusal) e) of))
-watches_break_none honest never script w roster is apart files left name names watched
-    (inr (told, inr (refusal, gives, differs), e)) of = cc
-watches_break_none honest never script w roster is apart files left name names watched
-    (inr (told, inl (found, gives, watches), e)) of = record {
-      summaries = made.summaries;
-      lines = ap (λ (a : Answer). a.output) e ∙ ap (λ (a : Answer). a.output) made.is;
-      unbroken = none_in machines w place apart (entries_of found.logs) sent made.summaries said;
-      status = λ broken. (never script w roster is apart files left name names made.report given).outcome
-          (only_broken (outcome_of made.report) (sym (status_is watched told e
-          ∙ status_is told (watch_answer made.summaries made.report) made.is) ∙ broken));
-    }
-  where
-    -- what is told
-    made : IsToldOf standard names found told
-    made = told_of standard names found told watches
+  -- the summaries of entries that were sent are refused only where there are too many entries
+  too_many : (es : List SealedEntry) → WereSent es → (refusal : Refusal) →
+      GivesSummaries posts standard standard_rules es (Err refusal) →
+      refusal ≡ refused (codes "entries") 0 (codes "TooMany")
+  too_many es sent refusal (inl (many, e)) = e
+  too_many es sent refusal (inr (few, (at, after, e))) =
+      absurd (never_too_wide (take (after.before + 1) es) (first_sent es sent (after.before + 1)) at after.too_wide)
 
-    -- the report of the files
-    given : GivesReport name standard names (roster ∷ files) (Ok made.report)
-    given = report_by names name standard (roster ∷ files) found (Ok made.report) gives
-        (inl (made.graph, made.graphed, made.reported))
+  -- ---- the files
 
-    -- the roster that was read
-    from : IsOfRoster name roster found
-    from = of_roster name names roster files found gives
+  -- under the script's roster the world is of the script
+  of : IsOfScript posts (election_of posts) w
+  of = world_of_script script place.roster.lawful place.roster.steps w place.roster.comes
 
-    machines : List Post
-    machines = from.read.roster.machines
+  -- the world is honest
+  world : IsHonestWorld posts w
+  world = scripts_are_honest script place.roster.lawful place.roster.steps w place.roster.comes
 
-    place : IsHonest machines w
-    place = is_honest script w roster is name from.read from.given
+  -- what is read of the files: the script's roster, the standard rules and these logs
+  abbrev evidence : List LogRead → Evidence
+  evidence logs = record { machines = posts; rules = standard_rules; logs = logs }
 
-    -- the logs are left of the world
-    read : AreReadIn w found.logs
-    read = subst (AreReadIn w) (of_logs standard names found told made)
-        (honest script w roster is apart files left name standard None names made.report given).logs
+  module _ (name : List ℕ) (names : List (List ℕ)) where
+    -- what the files give
+    abbrev Gives : Result Evidence Refusal → Type 0
+    Gives = GivesEvidence name standard names (roster ∷ files)
 
-    -- so their entries were sent
-    sent : (f : SealedEntry) → Contains (entries_of found.logs) f → Contains (sent_in w) f
-    sent = (left_agrees machines w
-        (of_script_is_honest machines from.read.election w (of_script script w roster is name from.read from.given))
-        apart found.logs read).were_sent
+    -- the logs that are read are given under the script's roster
+    record IsOfPlace (found : Evidence) : Type 0 where
+      is : found ≡ evidence found.logs
+      gives : GivesLogs posts (election_of posts) names files (Ok found.logs)
 
-    said : AreSummaries machines standard_rules (entries_of found.logs) made.summaries
-    said = subst (λ ms. AreSummaries ms standard_rules (entries_of found.logs) made.summaries) from.machines
-        (subst (λ rs. AreSummaries found.machines rs (entries_of found.logs) made.summaries) from.rules made.said)
+    -- what is read of the files is the script's roster, the standard rules and the logs
+    of_place : (found : Evidence) → Gives (Ok found) → IsOfPlace found
+    of_place found (inl (read, given, inl (logs, gives, e))) =
+        let these : Evidence = record { machines = read.roster.machines; rules = standard_rules; logs = logs } in
+        let here : found ≡ these = cc in
+        let same : logs ≡ found.logs = sym (ap (λ (ev : Evidence). ev.logs) here) in
+        let own = read_same script w roster place.roster name read given in
+        record {
+          is = here
+              ∙ ap (λ (r : RosterRead).
+              record { machines = r.roster.machines; rules = standard_rules; logs = logs }) own
+              ∙ ap evidence same;
+          gives = subst (λ (ls : List LogRead). GivesLogs posts (election_of posts) names files (Ok ls)) same
+              (subst (λ (r : RosterRead). GivesLogs r.roster.machines r.election names files (Ok logs)) own gives);
+        }
+    of_place found (inl (read, given, inr (refusal, gives, e))) = cc
+    of_place found (inr (refusal, gives, e)) = cc
+
+    -- neither the roster nor a log is refused
+    always_read : (refusal : Refusal) → ¬ Gives (Err refusal)
+    always_read refusal (inl (read, given, inl (logs, gives, e))) = cc
+    always_read refusal (inl (read, given, inr (other, gives, e))) =
+        let own = read_same script w roster place.roster name read given in
+        script_given posts (election_of posts) w of names files place.logs other
+        (subst (λ (r : RosterRead). GivesLogs r.roster.machines r.election names files (Err other)) own gives)
+    always_read refusal (inr (other, gives, e)) = roster_not_refused script w roster place.roster name other gives
+
+    module _ (logs : List LogRead) (given : Gives (Ok (evidence logs)))
+        (gives : GivesLogs posts (election_of posts) names files (Ok logs)) where
+      -- the entries of the logs
+      abbrev entries : List SealedEntry
+      entries = entries_of logs
+
+      -- the entries of the logs were sent
+      sent : WereSent entries
+      sent = (left_agrees posts w world apart logs
+          (files_are_read posts w world names files place.logs logs gives)).were_sent
+
+      -- `watch` is refused only where there are too many entries
+      refused_so : (refusal : Refusal) → Watches standard names (evidence logs) (Err refusal) →
+          refusal ≡ refused (codes "entries") 0 (codes "TooMany")
+      refused_so refusal (inr (other, none, e)) =
+          absurd (script_not_refused posts (election_of posts) w of apart names files place.logs logs gives other none)
+      refused_so refusal (inl (graph, graphed, inr (other, none, e))) =
+          let same : refusal ≡ other = cc in same ∙ too_many entries sent other none
+      refused_so refusal (inl (graph, graphed, inl (summaries, said, inl (report, with, e)))) = cc
+      refused_so refusal (inl (graph, graphed, inl (summaries, said, inr (other, none, e)))) =
+          absurd (audits_are_refused_only_so script w roster files place apart name standard None names other
+          (report_by names name standard (roster ∷ files) (evidence logs) (Err other) given (inl (graph, graphed, none))))
+
+      -- what is printed says of no rule that it is broken
+      prints_so : (told : Answer) → Watches standard names (evidence logs) (Ok told) → BreaksNoRule told
+      prints_so told watches =
+          let made : IsToldOf standard names (evidence logs) told =
+          told_of standard names (evidence logs) told watches in
+          let report : GivesReport name standard names (roster ∷ files) (Ok made.report) =
+          report_by names name standard (roster ∷ files) (evidence logs) (Ok made.report) given
+          (inl (made.graph, made.graphed, made.reported)) in
+          record {
+            summaries = made.summaries;
+            lines = ap (λ (a : Answer). a.output) made.is;
+            unbroken = none_in entries sent made.summaries made.said;
+            status = λ broken.
+                (reports_say_none_broken script w roster files place apart name names made.report report).outcome
+                (only_broken (outcome_of made.report)
+                (sym (status_is told (watch_answer made.summaries made.report) made.is) ∙ broken));
+          }
+
+    -- over whatever was read `watch` is refused only where there are too many entries
+    refused_read : (found : Evidence) → Gives (Ok found) → (refusal : Refusal) →
+        Watches standard names found (Err refusal) → refusal ≡ refused (codes "entries") 0 (codes "TooMany")
+    refused_read found given refusal watches =
+        let of = of_place found given in
+        refused_so found.logs (subst (λ (ev : Evidence). Gives (Ok ev)) of.is given) of.gives refusal
+        (subst (λ (ev : Evidence). Watches standard names ev (Err refusal)) of.is watches)
+
+    -- over whatever was read `watch` prints of no rule that it is broken
+    prints_read : (found : Evidence) → Gives (Ok found) → (told : Answer) → Watches standard names found (Ok told) →
+        BreaksNoRule told
+    prints_read found given told watches =
+        let of = of_place found given in
+        prints_so found.logs (subst (λ (ev : Evidence). Gives (Ok ev)) of.is given) of.gives told
+        (subst (λ (ev : Evidence). Watches standard names ev (Ok told)) of.is watches)
+
+-- over what is left of an honest place `watch` says of no standard rule that it is broken
+pub watches_break_none : HonestWatchesBreakNoRule
+watches_break_none roster logs script w place apart name names watched (inl (refusal, inr (other, gives, same), e)) =
+    absurd (always_read script w roster logs place apart name names other gives)
+watches_break_none roster logs script w place apart name names watched (inl (refusal, inl (found, given, watches), e)) =
+    inl (e ∙ ap refusal_answer (refused_read script w roster logs place apart name names found given refusal watches))
+watches_break_none roster logs script w place apart name names watched (inr (told, inr (other, gives, same), e)) = cc
+watches_break_none roster logs script w place apart name names watched (inr (told, inl (found, given, watches), e)) =
+    inr (subst BreaksNoRule (sym e) (prints_read script w roster logs place apart name names found given told watches))

@@ -1,20 +1,11 @@
 -- What a word says of two entries that were sent in an honest world.
-use Rattle.std.proofs.Common.{◌≡◌, ◌≢◌, ℕ, List, [], refl, sym, subst}
+use Rattle.auditorium_core.proofs.Imports.{◌≡◌, ◌≢◌, ℕ, List, [], refl, sym, subst, Completion, HeldBefore}
+use Rattle.auditorium_core.proofs.Imports.{OrderIsReceiptIn, World, sent_in, Contains-none, node_of, node_of_sealed}
+use Rattle.auditorium_core.proofs.Imports.{plain_of, plains, order_seen, order_back, completion_seen, SealedEntry}
+use Rattle.auditorium_core.proofs.Imports.{OrderWord, IsExactIn, IsWordIn, AreWhole, IsSettled, IsWordOf}
 use Rattle.std.specs.List.{Contains}
-use Rattle.entry_order.specs.Completion.{Completion}
-use Rattle.entry_order.specs.HeldBefore.{HeldBefore}
-use Rattle.entry_order.specs.Receipt.{OrderIsReceiptIn}
 use Rattle.entry_order.specs.Survivors.{gaps}
-use Rattle.entry_order.specs.World.{World, sent_in}
-use Rattle.entry_order.proofs.Lists.{Contains-none}
-use Rattle.entry_format.specs.Nodes.{node_of, node_of_sealed}
-use Rattle.entry_format.specs.Plains.{plain_of, plains}
-use Rattle.entry_order.proofs.Images.{order_seen, order_back, completion_seen}
-use Rattle.entry_format.specs.SealedEntry.{SealedEntry}
-use Rattle.auditorium_core.specs.declared.order_word.OrderWord.{OrderWord}
 use Rattle.auditorium_core.specs.declared.order_word.OrderWord.TheVariants as says
-use Rattle.auditorium_core.specs.Honest.{IsExactIn, IsWordIn}
-use Rattle.auditorium_core.specs.Order.{AreWhole, IsSettled, IsWordOf}
 
 module _ (w : World SealedEntry) (e f : SealedEntry) where
   -- what a word promises of each completion holds of what was sent, and so of what the machines held
@@ -47,7 +38,7 @@ module _ (w : World SealedEntry) (e f : SealedEntry) where
         record { itself = λ d named gap. no d gap; ancestors = λ y before d named gap. no d gap },
       )
 
-  -- so nothing is unknown
+  -- without a gap no word is `unknown`
   pub word_known : (S : List SealedEntry) → gaps node_of_sealed S ≡ [] → (word : OrderWord) → IsWordOf S e f word →
       word ≢ says.Unknown
   word_known S none word right unknown =

@@ -1,3 +1,4 @@
+mod Imports
 pub mod WordLists
 pub mod SameOr
 pub mod Cuts
@@ -12,7 +13,6 @@ pub mod OrderWords
 pub mod OrderAnswers
 pub mod Faults
 pub mod OneOrderAnswer
-pub mod OneByOne
 pub mod SameNodes
 pub mod OneProof
 pub mod CheckedRules
@@ -21,7 +21,6 @@ pub mod ReadSteps
 pub mod ProveAnswers
 pub mod CheckAnswers
 pub mod HonestWords
-pub mod ShortFiles
 pub mod HonestOrders
 pub mod HonestAudits
 pub mod Demonstrations
@@ -65,3 +64,4 @@ pub mod OneAnswer
 pub mod Completeness
 pub mod StillAnswers
 pub mod Endings
+pub mod ReadBack

@@ -1,9 +1,8 @@
 -- The command `make`.
-use Rattle.std.proofs.Common.{◌≡◌, ◌∙◌, ℕ, List, [], ◌∷◌, Option, refl, sym, arith}
+use Rattle.std.proofs.Common.{Option}
 use Rattle.std.specs.List.{Contains}
-use Rattle.std.proofs.lemmas.List.Elements.{All-from_recursion}
-use Rattle.auditorium_core.specs.Lines.{Answer}
-use Rattle.auditorium_core.specs.Made.{made_answer, make_parts}
+use Rattle.auditorium_core.proofs.Imports.{◌≡◌, ◌∙◌, ℕ, List, [], ◌∷◌, refl, sym, arith, All-from_recursion, Answer}
+use Rattle.auditorium_core.proofs.Imports.{made_answer, make_parts}
 use Rattle.auditorium_core.proofs.CommandProofs.{IsOfCommands, HasStatuses, IsCompleted, HasOneAnswer, contains_as}
 use Rattle.auditorium_core.proofs.CommandProofs.{carried_out_as}
 
@@ -12,7 +11,7 @@ pub make_one : (sessions : ℕ) → HasOneAnswer (make_parts sessions)
 make_one sessions [] a b x y = x ∙ sym y
 make_one sessions (file ∷ files) a b x y = absurd x
 
--- which is that of a command that was carried out
+-- `make` is carried out for every number of sessions
 pub make_completed : (sessions : ℕ) → IsCompleted (make_parts sessions)
 make_completed sessions [] answer right given = carried_out_as answer (made_answer sessions) right tt
 make_completed sessions (file ∷ files) answer right given = absurd right

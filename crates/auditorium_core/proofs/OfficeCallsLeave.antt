@@ -1,25 +1,15 @@
--- What a call of the program leaves on a store that tells its files.
-use Rattle.std.proofs.Common.{◌≡◌, ◌≢◌, ◌∙◌, ◌⊎◌, ℕ, ◌+◌, ◌-◌, ◌<◌, ◌≤◌, List, [], ◌∷◌, ◌++◌, length, take, get_or, codes}
-use Rattle.std.proofs.Common.{Option, Some, None, Bool, true, false, inl, inr, refl, sym, ap, subst, cond, arith}
-use Rattle.std.specs.Prelude.{Err, Ok, ⊤, IsSomeAnd}
-use Rattle.std.specs.Str.{bytes_eq}
-use Rattle.std.proofs.lemmas.Bool.{cases_lt}
-use Rattle.std.proofs.lemmas.List.{get_or-append_right, length-append, take_all}
-use Rattle.std.proofs.lemmas.Slice.Eq.{bytes_eq-Decides}
-use Rattle.hall_outside.specs.Files.{Files, SetsPrefix, file_set, with_file}
-use Rattle.hall_outside.proofs.FileLists.{eq_self}
-use Rattle.office_key.specs.declared.office.Office.{Office}
-use Rattle.office_key.specs.Endorsements.{endorsement}
-use Rattle.office_key.specs.Offices.{IsOffice, office_text, next_office}
-use Rattle.office_key.proofs.OfficeTexts.{cut_text}
-use Rattle.evidence.specs.Refusal.{Refusal, absent, refused}
-use Rattle.auditorium_core.specs.declared.status.Status.{Status}
+-- What a call of the program leaves on a store that exposes its files.
+use Rattle.std.proofs.Common.{◌⊎◌, length, codes}
+use Rattle.std.proofs.Common.{Option, Some, Bool, true, false}
+use Rattle.auditorium_core.proofs.Imports.{◌≡◌, ◌≢◌, ◌∙◌, ℕ, ◌+◌, ◌-◌, ◌<◌, ◌≤◌, List, [], ◌∷◌, ◌++◌, take, get_or}
+use Rattle.auditorium_core.proofs.Imports.{None, inl, inr, refl, sym, ap, subst, cond, arith, Err, Ok, ⊤, IsSomeAnd}
+use Rattle.auditorium_core.proofs.Imports.{bytes_eq, cases_lt, get_or-append_right, take_all, bytes_eq-Decides, Files}
+use Rattle.auditorium_core.proofs.Imports.{SetsPrefix, file_set, with_file, eq_self, Office, endorsement, IsOffice}
+use Rattle.auditorium_core.proofs.Imports.{office_text, next_office, cut_text, Refusal, absent, refused, Status}
+use Rattle.auditorium_core.proofs.Imports.{Answer, refusal_answer, IsAnswerTo, AnswersWords, HasDone, IsWritten}
+use Rattle.auditorium_core.proofs.Imports.{SetsSome, with_files, Outside, Command, Means}
+use Rattle.std.proofs.lemmas.List.{length-append}
 use Rattle.auditorium_core.specs.declared.status.Status.TheVariants as status
-use Rattle.auditorium_core.specs.Lines.{Answer, refusal_answer}
-use Rattle.auditorium_core.specs.Answer.{IsAnswerTo, AnswersWords}
-use Rattle.auditorium_core.specs.Outcome.{HasDone, IsWritten, SetsSome, with_files}
-use Rattle.auditorium_core.specs.Outside.{Outside}
-use Rattle.auditorium_core.specs.Words.{Command, Means}
 use Rattle.auditorium_core.proofs.Commands.{same_command}
 
 -- a set file has its bytes
@@ -94,7 +84,7 @@ module _ (IsDone : Command → Type 0) (words : List (List ℕ)) (command : Comm
     whole = λ _. (is, written.files);
   })
 
-  -- so it is with whatever was done
+  -- whatever was done, nothing was written, or the answer's files were set
   pub set_or_not : Means words command → IsDone command → (how : Status) → HasDone IsDone words (λ _ _. ⊤) old how new →
       IsSetOrNot how
   set_or_not means has status.ReadFault (risen, unwritten) = inl (λ e. cc, unwritten.files)

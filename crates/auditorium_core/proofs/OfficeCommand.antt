@@ -1,26 +1,14 @@
 -- The command `office`.
-use Rattle.std.proofs.Common.{◌≡◌, ◌≢◌, ◌∙◌, ℕ, List, [], ◌∷◌, Option, Some, None, Bool, true, false, refl, sym, ap}
-use Rattle.std.proofs.Common.{subst, arith}
-use Rattle.std.specs.Prelude.{Result, Ok, Err, codes, IsSome}
+use Rattle.std.proofs.Common.{Option, Some, Bool, true, false}
+use Rattle.auditorium_core.proofs.Imports.{◌≡◌, ◌≢◌, ◌∙◌, ℕ, List, [], ◌∷◌, None, refl, sym, ap, subst, arith, Result}
+use Rattle.auditorium_core.proofs.Imports.{Ok, Err, IsSome, All-from_recursion, ComesExactly, Files, OnFile, Failed}
+use Rattle.auditorium_core.proofs.Imports.{some_file, StoreSeen, no_cause, Fault, Answer, refused_answer}
+use Rattle.auditorium_core.proofs.Imports.{IsOfficeAnswer, made_office, office_parts, office_file, office, IsAnswerTo}
+use Rattle.auditorium_core.proofs.Imports.{IsCarriedOut, IsThere, IsAnsweredBy}
+use Rattle.std.specs.Prelude.{codes}
 use Rattle.std.specs.List.{Contains}
-use Rattle.std.proofs.lemmas.List.Elements.{All-from_recursion}
-use Rattle.hall_outside.specs.Counts.{ComesExactly}
-use Rattle.hall_outside.specs.Files.{Files, OnFile}
-use Rattle.hall_outside.specs.declared.stores.Failed.{Failed}
-use Rattle.hall_outside.proofs.SomeFile.{some_file}
-use Rattle.evidence.specs.Reading.{StoreSeen}
-use Rattle.evidence.proofs.Readings.{no_cause}
-use Rattle.auditorium_core.specs.declared.answer.Fault.{Fault}
 use Rattle.auditorium_core.specs.declared.answer.Fault.TheVariants.{ReadFault, Memory}
 use Rattle.auditorium_core.specs.declared.status.Status.TheVariants as status
-use Rattle.auditorium_core.specs.Lines.{Answer, refused_answer}
-use Rattle.auditorium_core.specs.Office.{IsOfficeAnswer, made_office, office_parts}
-use Rattle.auditorium_core.specs.OfficeFile.{office_file}
-use Rattle.auditorium_core.specs.Words.{office}
-use Rattle.auditorium_core.specs.Answer.{IsAnswerTo}
-use Rattle.auditorium_core.specs.Complete.{IsCarriedOut}
-use Rattle.auditorium_core.specs.inside.Presence.{IsThere}
-use Rattle.auditorium_core.specs.inside.Promise.{IsAnsweredBy}
 use Rattle.auditorium_core.proofs.CommandProofs.{IsOfCommands, HasStatuses, IsCompleted, HasOneAnswer, contains_as}
 use Rattle.auditorium_core.proofs.CommandProofs.{carried_out_as, status_is}
 
@@ -35,7 +23,7 @@ office_one name seed (Some bytes ∷ []) a b x y = x ∙ sym y
 office_one name seed [] a b x y = absurd x
 office_one name seed (this ∷ other ∷ more) a b x y = absurd x
 
--- it is carried out where there is none
+-- `office` is carried out where the office's file is absent
 pub office_completed : (name seed : List ℕ) → IsCompleted (office_parts name seed)
 office_completed name seed (None ∷ []) answer right given = carried_out_as answer (made_office name seed) right tt
 office_completed name seed (Some bytes ∷ []) answer right given = absurd (let no : ⊥ = cc in no)
@@ -71,7 +59,7 @@ right_of name seed true None is = absurd (let no : ⊥ = cc in no)
 right_of name seed false None is = refl
 right_of name seed false (Some bytes) is = absurd (let no : ⊥ = cc in no)
 
--- and of some where none is told
+-- the answer is right for some file where the store exposes none
 told_of : (name seed : List ℕ) (there : Bool) (told : Option Files) → OnFile told (office_file name) (IsThere there) →
     IsAnswerTo (office name seed) told (answer_by name seed there)
 told_of name seed true told is =
@@ -85,7 +73,7 @@ told_of name seed false told is =
 abbrev pub SaysNone : Result Bool Failed → Type 0
 SaysNone result = result ≡ Ok false
 
--- it is done exactly where the store said that there is no file
+-- `office` is done exactly where the store said that there is no file
 pub office_answered : (name seed : List ℕ) (there : Bool) (answer : Answer) (old new : StoreSeen) →
     OnFile old.files (office_file name) (IsThere there) →
     ComesExactly old.answered.absences new.answered.absences (SaysNone (Ok there)) →

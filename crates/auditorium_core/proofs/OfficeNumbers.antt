@@ -1,34 +1,21 @@
 -- The numbers of an office rise.
-use Rattle.std.proofs.Common.{◌≡◌, ◌≢◌, ◌∙◌, ◌⊎◌, ℕ, ◌+◌, ◌<◌, ◌≤◌, List, [], ◌∷◌, ◌++◌, length, take, codes, Bool, true}
-use Rattle.std.proofs.Common.{Option, Some, None, false, inl, inr, refl, sym, ap, subst, arith}
-use Rattle.std.specs.Prelude.{Ok, Err, ⊤, IsSomeAnd}
-use Rattle.std.specs.List.{All, AllPairs}
-use Rattle.std.specs.Str.{bytes_eq}
-use Rattle.std.proofs.lemmas.Bool.{cases_lt}
-use Rattle.std.proofs.lemmas.List.{take_all}
-use Rattle.std.proofs.lemmas.List.Elements.{All-cons}
-use Rattle.std.proofs.lemmas.List.Kept.{AllPairs-cons}
-use Rattle.std.proofs.lemmas.Slice.Eq.{bytes_eq-Decides}
-use Rattle.hall_outside.specs.Files.{Files, file_set}
-use Rattle.hss_sign.specs.Signs.{HssSigns}
-use Rattle.office_key.specs.declared.office.Office.{Office}
-use Rattle.office_key.specs.Endorsements.{endorsement, office_public}
-use Rattle.office_key.specs.Offices.{IsOffice, max_signatures, office_of, office_text, next_office}
-use Rattle.office_key.proofs.GoodSignatures.{endorsed as signs_well, short_signature}
-use Rattle.office_key.proofs.OfficeTexts.{cut_text, one_office}
+use Rattle.std.proofs.Common.{◌⊎◌, length, codes, Bool, true}
+use Rattle.std.proofs.Common.{Option, Some, false}
+use Rattle.auditorium_core.proofs.Imports.{◌≡◌, ◌≢◌, ◌∙◌, ℕ, ◌+◌, ◌<◌, ◌≤◌, List, [], ◌∷◌, ◌++◌, take, None, inl, inr}
+use Rattle.auditorium_core.proofs.Imports.{refl, sym, ap, subst, arith, Ok, Err, ⊤, IsSomeAnd, AllPairs, bytes_eq}
+use Rattle.auditorium_core.proofs.Imports.{cases_lt, take_all, All-cons, AllPairs-cons, bytes_eq-Decides, Files}
+use Rattle.auditorium_core.proofs.Imports.{file_set, HssSigns, Office, endorsement, office_public, IsOffice}
+use Rattle.auditorium_core.proofs.Imports.{max_signatures, office_of, office_text, next_office, short_signature}
+use Rattle.auditorium_core.proofs.Imports.{cut_text, one_office, Answer, refusal_answer, refused_answer, IsAnswerTo}
+use Rattle.auditorium_core.proofs.Imports.{GivesUnsigned, IsEndorsement, Unsigned, endorse_answer, signature_file}
+use Rattle.auditorium_core.proofs.Imports.{GivesSigned, IsEndorsedAnswer, IsEndorsedVerdict, Signed, max_signed}
+use Rattle.auditorium_core.proofs.Imports.{key_file, made_office, office_file, AreCallsOn, Call, IsCall}
+use Rattle.auditorium_core.proofs.Imports.{IsCallOrOther, IsCutOff, IsLeftSo, IsOfficeIn, ReadsUnsigned}
+use Rattle.auditorium_core.proofs.Imports.{IsSignedByNumber, IsUsedUp, NumbersRise, UsesNumber, with_next, HasDone}
+use Rattle.auditorium_core.proofs.Imports.{SetsSome, Outside, Command, Means, endorse, endorsed, office}
+use Rattle.std.specs.List.{All}
+use Rattle.office_key.proofs.GoodSignatures.{endorsed as signs_well}
 use Rattle.auditorium_core.specs.declared.status.Status.TheVariants as status
-use Rattle.auditorium_core.specs.Lines.{Answer, refusal_answer, refused_answer}
-use Rattle.auditorium_core.specs.Answer.{IsAnswerTo}
-use Rattle.auditorium_core.specs.Endorse.{GivesUnsigned, IsEndorsement, Unsigned, endorse_answer, signature_file}
-use Rattle.auditorium_core.specs.Endorsed.{GivesSigned, IsEndorsedAnswer, IsEndorsedVerdict, Signed}
-use Rattle.auditorium_core.specs.NamedBytes.{max_signed}
-use Rattle.auditorium_core.specs.Office.{key_file, made_office}
-use Rattle.auditorium_core.specs.OfficeFile.{office_file}
-use Rattle.auditorium_core.specs.OfficeCalls.{AreCallsOn, Call, IsCall, IsCallOrOther, IsCutOff, IsLeftSo, IsOfficeIn}
-use Rattle.auditorium_core.specs.OfficeCalls.{ReadsUnsigned, IsSignedByNumber, IsUsedUp, NumbersRise, UsesNumber, with_next}
-use Rattle.auditorium_core.specs.Outcome.{HasDone, SetsSome}
-use Rattle.auditorium_core.specs.Outside.{Outside}
-use Rattle.auditorium_core.specs.Words.{Command, Means, endorse, endorsed, office}
 use Rattle.auditorium_core.proofs.EndorseCommand.{office_read, unsigned_parts}
 use Rattle.auditorium_core.proofs.EndorsedCommand.{bad, good, one_signed}
 use Rattle.auditorium_core.proofs.OfficeCallsLeave.{IsLeftOfTwo, IsSetBy, IsSetOrNot, left_elsewhere, left_of_two}
@@ -119,19 +106,19 @@ module _ (name file : List ℕ) (before after : Files) (read : Unsigned) (is : R
     left = inr (n, e);
   }
 
-  -- so one of the three states stands
+  -- so the files are in one of the three states
   states : IsLeftOfTwo before (office_file name) text (signature_file file) signature after →
       IsLeftSo name file before after
   states (inl e) = inl e
   states (inr (inl (n, e))) = inr (read, is, first_set n e)
   states (inr (inr (n, e))) = inr (read, is, inr (both_set n e))
 
--- files that are told are as they were
+-- files that are exposed are as they were
 as_before : (old new : Option Files) (before after : Files) → old ≡ Some before → new ≡ Some after → new ≡ old →
     after ≡ before
 as_before old new before after told left e = let same : Some after ≡ Some before = sym left ∙ e ∙ told in cc
 
--- and what was set is told
+-- what was set is seen in the files that are exposed
 told_sets : (old new : Option Files) (before after : Files) (files : List (List ℕ × List ℕ)) → old ≡ Some before →
     new ≡ Some after → SetsSome old files new → SetsSome (Some before) files (Some after)
 told_sets old new before after files told left sets =
@@ -163,7 +150,7 @@ module _ (IsDone : Command → Type 0) (call : Call) (is : IsCall IsDone call) w
       SetsSome is.old.store.files answer.files is.new.store.files → after ≡ before
   none_of answer other e none sets = none_set before after other.files none (sets_of answer other e sets)
 
-  -- the answer of the command over the files that are told
+  -- the answer of the command over the files that are exposed
   told_answer : (command : Command) (answer : Answer) → IsAnswerTo command is.old.store.files answer →
       IsAnswerTo command (Some before) answer
   told_answer command answer right =
@@ -186,7 +173,7 @@ module _ (IsDone : Command → Type 0) (call : Call) (is : IsCall IsDone call) w
   endorse_sets name file answer (first ∷ [], (e, are), right) sets = absurd are
   endorse_sets name file answer (first ∷ second ∷ third ∷ more, (e, (f, are)), right) sets = absurd are
 
-  -- and what a call of `endorse` leaves, whatever its status
+  -- what a call of `endorse` leaves of the files, whatever its status
   pub endorse_leaves : (name file : List ℕ) → IsDone (endorse name file) → Means call.words (endorse name file) →
       IsLeftSo name file before after
   endorse_leaves name file done means =
@@ -418,7 +405,7 @@ module _ (IsDone : Command → Type 0) (name : List ℕ) (offices : (n s : List 
       (later first second.after calls
       (λ read uses. call_keeps (read.office.next + 1) second is (at read uses)) rest)
 
-  -- so the numbers rise
+  -- the numbers that an office uses rise over its calls
   pub numbers_rise : (files : Files) (calls : List Call) → AreCallsOn IsDone name files calls → NumbersRise name calls
   numbers_rise files [] on = λ i j d less within. absurd (let no : ⊥ = omega (arith, less, within) in no)
   numbers_rise files (call ∷ calls) (e, is, rest) =

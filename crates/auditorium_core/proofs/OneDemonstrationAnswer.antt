@@ -1,15 +1,8 @@
 -- A number of sessions has at most one answer to `demo`.
-use Rattle.std.proofs.Common.{◌≡◌, ◌∙◌, ℕ, inl, inr, ap, sym, subst, arith}
-use Rattle.std.specs.Prelude.{Result, Ok, Err}
-use Rattle.election_script.specs.declared.script.Script.{Script}
-use Rattle.election_script.specs.Generated.{generated}
-use Rattle.evidence.specs.Refusal.{Refusal}
-use Rattle.evidence.specs.Same.{Agree}
-use Rattle.demonstration.specs.declared.shown.Demonstration.{Demonstration}
-use Rattle.demonstration.specs.OneShown.{ScriptsAreShownInOneWay, ScriptsAreRefusedInOneWay, ScriptsAreShownOrRefused}
-use Rattle.auditorium_core.specs.Lines.{Answer, OrRefused}
-use Rattle.auditorium_core.specs.Demonstrated.{IsHalfOf, GivesDemonstration, demonstration_answer}
-use Rattle.auditorium_core.specs.Demonstrated.{IsDemonstrationAnswer}
+use Rattle.auditorium_core.proofs.Imports.{◌≡◌, ◌∙◌, ℕ, inl, inr, ap, sym, subst, arith, Result, Ok, Err, Script}
+use Rattle.auditorium_core.proofs.Imports.{generated, Refusal, Agree, Demonstration, ScriptsAreShownInOneWay}
+use Rattle.auditorium_core.proofs.Imports.{ScriptsAreRefusedInOneWay, ScriptsAreShownOrRefused, Answer, OrRefused}
+use Rattle.auditorium_core.proofs.Imports.{IsHalfOf, GivesDemonstration, demonstration_answer, IsDemonstrationAnswer}
 use Rattle.auditorium_core.proofs.SameOr.{same_or}
 
 -- a script shows one thing or is refused in one way, and not both
@@ -52,7 +45,7 @@ module _ (one : ShowOne) (script : Script) (sessions session : ℕ) (a b : Answe
       (given_agree one script session)
       (λ f g gives same e e'. e ∙ ap (demonstration_answer sessions) same ∙ sym e')
 
--- and so is that of a number of sessions
+-- two answers of a demonstration of the same number of sessions are one
 pub same_demonstration : ShowOne → (sessions : ℕ) (a b : Answer) → IsDemonstrationAnswer sessions a →
     IsDemonstrationAnswer sessions b → a ≡ b
 same_demonstration one sessions a b x y =

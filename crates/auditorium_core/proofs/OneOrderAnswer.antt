@@ -1,35 +1,19 @@
 -- Files have at most one answer to `order`.
-use Rattle.std.proofs.Common.{◌≡◌, ◌≢◌, ◌∙◌, ℕ, inl, inr, List, [], ◌∷◌, ◌++◌, Option, refl, ap, sym, subst}
+use Rattle.std.proofs.Common.{Option}
 use Rattle.std.specs.List.{Contains}
-use Rattle.std.specs.Cmp.Lexicographic.{slice_cmp}
-use Rattle.std.specs.Ordering.{nat_cmp, ordering_reverse}
-use Rattle.std.specs.declared.cmp.Ordering.{Ordering}
-use Rattle.std.specs.declared.cmp.Ordering.TheVariants.{Less, Equal, Greater}
-use Rattle.std.proofs.lemmas.Cmp.{nat_list_cmp_total}
-use Rattle.std.proofs.lemmas.Map.Lookups.{exact_bytes}
-use Rattle.entry_order.specs.Naming.{Distinct}
-use Rattle.entry_order.specs.Precedes.{IsPath, Precedes}
-use Rattle.roster.specs.declared.post.Post.{Post}
-use Rattle.entry_format.specs.SealedEntry.{SealedEntry}
-use Rattle.entry_format.specs.Nodes.{node_of_sealed}
-use Rattle.log_files.specs.declared.sealed_log.LogRead.{LogRead}
-use Rattle.entry_graph.specs.EntryGraph.{EntryGraph}
-use Rattle.evidence.specs.declared.roster_file.RosterRead.{RosterRead}
-use Rattle.evidence.specs.RosterFile.{GivesRoster}
-use Rattle.evidence.specs.Logs.{GivesLogs}
-use Rattle.evidence.specs.Graphs.{entries_of, GivesGraph}
-use Rattle.evidence.specs.Same.{SameLogs, SameGraph}
-use Rattle.evidence.specs.OneAnswer.{RosterFilesGiveOneAnswer, LogFilesGiveOneAnswer, EntriesGiveOneGraph}
-use Rattle.evidence.specs.OneAnswer.{SurvivorsAreDistinct, NoSurvivorPrecedesItself}
-use Rattle.evidence.proofs.OneLogs.{same_entries}
-use Rattle.auditorium_core.specs.declared.order_word.OrderWord.{OrderWord}
+use Rattle.auditorium_core.proofs.Imports.{agree_equal, ◌≡◌, ◌≢◌, ◌∙◌, ℕ, inl, inr, List, [], ◌∷◌, ◌++◌, refl, ap, sym}
+use Rattle.auditorium_core.proofs.Imports.{subst, slice_cmp, nat_cmp, ordering_reverse, Ordering, Less, Equal, Greater}
+use Rattle.auditorium_core.proofs.Imports.{nat_list_cmp_total, exact_bytes, Distinct, IsPath, Precedes, Post}
+use Rattle.auditorium_core.proofs.Imports.{SealedEntry, node_of_sealed, LogRead, EntryGraph, RosterRead, GivesRoster}
+use Rattle.auditorium_core.proofs.Imports.{GivesLogs, entries_of, GivesGraph, SameLogs, SameGraph}
+use Rattle.auditorium_core.proofs.Imports.{RosterFilesGiveOneAnswer, LogFilesGiveOneAnswer, EntriesGiveOneGraph}
+use Rattle.auditorium_core.proofs.Imports.{SurvivorsAreDistinct, NoSurvivorPrecedesItself, same_entries, OrderWord}
+use Rattle.auditorium_core.proofs.Imports.{Done, Answer, line_answer, order_word, EntryName, by_digest, by_number}
+use Rattle.auditorium_core.proofs.Imports.{IsNamedBy, MeansEntry, IsBefore, IsWordOf, IsOrderAmong, IsOrderOver}
+use Rattle.auditorium_core.proofs.Imports.{IsOrderUnder, IsOrderAnswer}
 use Rattle.auditorium_core.specs.declared.order_word.OrderWord.TheVariants as says
-use Rattle.auditorium_core.specs.declared.status.Status.TheVariants.{Done}
-use Rattle.auditorium_core.specs.Lines.{Answer, line_answer, order_word}
-use Rattle.auditorium_core.specs.EntryWords.{EntryName, by_digest, by_number, IsNamedBy, MeansEntry}
-use Rattle.auditorium_core.specs.Order.{IsBefore, IsWordOf, IsOrderAmong, IsOrderOver, IsOrderUnder, IsOrderAnswer}
 use Rattle.auditorium_core.proofs.EntryTexts.{one_name}
-use Rattle.auditorium_core.proofs.SameOr.{same_or, agree_equal}
+use Rattle.auditorium_core.proofs.SameOr.{same_or}
 
 -- files give one roster and one list of logs, entries give one graph, and its survivors are sound
 pub record OrderOne : Type 0 where
@@ -37,7 +21,7 @@ pub record OrderOne : Type 0 where
   pub roster : RosterFilesGiveOneAnswer
   -- the files of logs give logs that say the same, or one refusal
   pub logs : LogFilesGiveOneAnswer
-  -- given entries have graphs that tell the same, or one refusal
+  -- given entries have graphs that agree, or one refusal
   pub graph : EntriesGiveOneGraph
   -- no two survivors have one digest
   pub digests : SurvivorsAreDistinct
@@ -156,13 +140,13 @@ same_under one read u v logs files a b first second =
     (λ f g gives same x y. same_over one read.roster.machines u v (entries_of f) a b x
     (subst (λ es. IsOrderOver read.roster.machines u v es b) (sym (same_entries f g same)) y)) first.right second.right
 
--- so there is over files
+-- `order` has one answer over given files
 pub same_order : OrderOne → (roster u v : List ℕ) (logs : List (List ℕ)) (file : Option (List ℕ))
     (files : List (Option (List ℕ))) (a b : Answer) → IsOrderAnswer roster u v logs file files a →
     IsOrderAnswer roster u v logs file files b → a ≡ b
-same_order one roster u v logs file files a b =
+same_order one roster u v logs file files a b first second =
     same_or (λ (f g : RosterRead). f ≡ g) (GivesRoster roster file)
     (λ (read : RosterRead). IsOrderUnder read u v logs files) a b
     (λ p q x y. agree_equal p q (one.roster roster file p q x y))
     (λ f g gives same x y. same_under one f u v logs files a b x
-    (subst (λ r. IsOrderUnder r u v logs files b) (sym same) y))
+    (subst (λ r. IsOrderUnder r u v logs files b) (sym same) y)) first.right second.right

@@ -1,24 +1,15 @@
 -- A script has at most one answer to `play`.
-use Rattle.std.proofs.Common.{◌≡◌, ◌∙◌, ℕ, inl, inr, List, [], ◌∷◌, ◌++◌, Option, Some, None, ap, sym, subst, arith}
-use Rattle.std.specs.Prelude.{Result, Ok, Err}
-use Rattle.election_script.specs.declared.script.Script.{Script}
-use Rattle.election_script.specs.declared.faults.ScriptFault.{ScriptFault}
+use Rattle.std.proofs.Common.{Option, Some}
+use Rattle.auditorium_core.proofs.Imports.{agree_equal, ◌≡◌, ◌∙◌, ℕ, inl, inr, List, [], ◌∷◌, ◌++◌, None, ap, sym}
+use Rattle.auditorium_core.proofs.Imports.{subst, arith, Result, Ok, Err, Script, ScriptFault, ScriptWhy, Left}
+use Rattle.auditorium_core.proofs.Imports.{roster_of, MachineState, ScriptsArePlayedInOneWay, WhatIsLeftIsToldInOneWay}
+use Rattle.auditorium_core.proofs.Imports.{script_why_word, Refusal, refused, Answer, undone_line, SayUndone}
+use Rattle.auditorium_core.proofs.Imports.{play_answer, IsPlayOf, IsPlayAnswer, GivesScript}
 use Rattle.election_script.specs.declared.faults.ScriptFault.TheVariants.{At}
-use Rattle.election_script.specs.declared.faults.ScriptWhy.{ScriptWhy}
 use Rattle.election_script.specs.Reading.{Reads}
-use Rattle.polling_world.specs.declared.left.Left.{Left}
-use Rattle.polling_world.specs.Keys.{roster_of}
-use Rattle.polling_world.specs.Machines.{MachineState}
-use Rattle.polling_world.specs.Playing.{ScriptsArePlayedInOneWay}
-use Rattle.polling_world.specs.Waiting.{WhatIsLeftIsToldInOneWay}
-use Rattle.election_script.specs.CauseWords.{script_why_word}
-use Rattle.evidence.specs.Refusal.{Refusal, refused}
-use Rattle.auditorium_core.specs.Lines.{Answer}
-use Rattle.auditorium_core.specs.Play.{undone_line, SayUndone, play_answer, IsPlayOf, IsPlayAnswer}
-use Rattle.auditorium_core.specs.ScriptFile.{GivesScript}
-use Rattle.auditorium_core.proofs.SameOr.{same_or, agree_equal}
+use Rattle.auditorium_core.proofs.SameOr.{same_or}
 
--- a text is read in one way, a script is played in one way, and what is left is told in one way
+-- a text is read in one way, a script is played in one way, and what is left is reported in one way
 pub record PlayOne : Type 0 where
   -- a text is one script, or has one first fault
   pub reading : (text : List ℕ) (answer other : Result Script ScriptFault) → Reads text answer → Reads text other
@@ -74,7 +65,7 @@ one_script one name (Some bytes) p q (inr (inr (short, (script, is, e)))) (inr (
     let same : script ≡ other = cc in
     e ∙ ap (λ (s : Script). Ok s) same ∙ sym f
 
--- so its play has one answer
+-- the play of a script's file has one answer
 pub same_play : PlayOne → (name prefix : List ℕ) (file : Option (List ℕ)) (a b : Answer)
     → IsPlayAnswer name prefix file a → IsPlayAnswer name prefix file b → a ≡ b
 same_play one name prefix file a b =

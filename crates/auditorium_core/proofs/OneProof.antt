@@ -1,50 +1,24 @@
 -- Files give at most one proof to write, and at most one report of a check.
-use Rattle.std.proofs.Common.{◌≡◌, ◌≢◌, ◌∙◌, ℕ, zero, suc, ◌<◌, ◌≤◌, Bool, List, [], ◌∷◌, ◌++◌, map, length, Option, Some}
-use Rattle.std.proofs.Common.{None, inl, inr, refl, sym, ap, subst, arith}
-use Rattle.std.specs.Prelude.{Result, Ok, Err, codes, slice_get, false}
-use Rattle.std.proofs.lemmas.Bool.{false≢true}
-use Rattle.std.proofs.lemmas.List.{length-map}
-use Rattle.std.proofs.lemmas.Option.{same_Some}
-use Rattle.precedence.specs.Graph.{Graph}
-use Rattle.roster.specs.declared.post.Post.{Post}
-use Rattle.entry_format.specs.SealedEntry.{SealedEntry}
-use Rattle.log_files.specs.declared.sealed_log.LogRead.{LogRead}
-use Rattle.entry_graph.specs.EntryGraph.{EntryGraph}
-use Rattle.rule_language.specs.declared.row.Row.{Row}
-use Rattle.rule_language.specs.Standard.{standard_rules}
-use Rattle.rule_language.specs.Trees.{RuleTree}
-use Rattle.rule_meaning.specs.Widths.{is_too_wide}
-use Rattle.audit_proof.specs.declared.fault.ProofFault.{ProofFault}
+use Rattle.std.proofs.Common.{length, Option, Some}
+use Rattle.auditorium_core.proofs.Imports.{◌≡◌, ◌≢◌, ◌∙◌, ℕ, zero, suc, ◌≤◌, List, [], ◌∷◌, ◌++◌, map, None, inl, inr}
+use Rattle.auditorium_core.proofs.Imports.{refl, sym, ap, subst, arith, Result, Ok, Err, slice_get, false≢true}
+use Rattle.auditorium_core.proofs.Imports.{length-map, same_Some, Graph, Post, SealedEntry, LogRead, EntryGraph, Row}
+use Rattle.auditorium_core.proofs.Imports.{RuleTree, is_too_wide, ProofFault, ProofWhy, verdict_of, IsCanonicalText}
+use Rattle.auditorium_core.proofs.Imports.{OneTextIsCanonical, proof_why_word, Line, IsProofOf, HaveSameArrows}
+use Rattle.auditorium_core.proofs.Imports.{TextsAreReadInOneWay, SameArrowsHaveOneText, SameArrowsGiveOneValue}
+use Rattle.auditorium_core.proofs.Imports.{IsReadAnswer, RosterRead, Refusal, refused, GivesLogs, entries_of}
+use Rattle.auditorium_core.proofs.Imports.{GivesGraph, Agree, SameLogs, SameGraph, same_entries, AndThen, row_of}
+use Rattle.auditorium_core.proofs.Imports.{nodes_of, RuleSource, source_word, GivesProof, ProofMade, GivesText}
+use Rattle.auditorium_core.proofs.Imports.{ProvesLogs, ProvesFiles, GivesMade, CheckReport, AreChecked, GivesChecked}
+use Rattle.auditorium_core.proofs.Imports.{ChecksLines, ChecksProof, ChecksLogs, ChecksFiles, ChecksRules, GivesCheck}
+use Rattle.auditorium_core.proofs.Imports.{IsOne, Ones, RulesAreReadInOneWay, agree_equal, ends_agree}
+use Rattle.auditorium_core.proofs.Imports.{graphs_then_agree, logs_then_one, roster_then_one, rules_then_one}
+use Rattle.auditorium_core.proofs.Imports.{steps_agree, one_place}
+use Rattle.std.specs.Prelude.{codes, false}
 use Rattle.audit_proof.specs.declared.fault.ProofFault.TheVariants.{At, Memory}
-use Rattle.audit_proof.specs.declared.fault.ProofWhy.{ProofWhy}
 use Rattle.audit_proof.specs.declared.fault.Verdict.{Verdict}
-use Rattle.audit_proof.specs.Answers.{verdict_of}
-use Rattle.audit_proof.specs.Canonical.{IsCanonicalText, OneTextIsCanonical}
-use Rattle.audit_proof.specs.CauseWords.{proof_why_word}
-use Rattle.audit_proof.specs.KnownBy.{three_by}
-use Rattle.audit_proof.specs.Lines.{Line, IsProofOf}
-use Rattle.audit_proof.specs.OneReading.{HaveSameArrows, TextsAreReadInOneWay, SameArrowsHaveOneText}
-use Rattle.audit_proof.specs.OneReading.{SameArrowsGiveOneValue}
-use Rattle.audit_proof.specs.Reads.{IsReadAnswer}
-use Rattle.evidence.specs.declared.roster_file.RosterRead.{RosterRead}
-use Rattle.evidence.specs.Refusal.{Refusal, refused, too_long}
-use Rattle.evidence.specs.RosterFile.{GivesRoster}
-use Rattle.evidence.specs.Logs.{GivesLogs}
-use Rattle.evidence.specs.Graphs.{entries_of, GivesGraph}
-use Rattle.evidence.specs.Same.{Agree, SameLogs, SameGraph}
-use Rattle.evidence.proofs.OneLogs.{same_entries}
-use Rattle.auditor.specs.Audits.{AndThen}
-use Rattle.auditor.specs.Rows.{row_of}
-use Rattle.auditor.specs.Judged.{nodes_of, IsFirstTooWide}
-use Rattle.auditor.specs.Sources.{RuleSource, standard, in_file, source_word, GivesRules}
-use Rattle.auditorium_core.specs.ProofFile.{GivesProof}
-use Rattle.auditorium_core.specs.Prove.{ProofMade, GivesText, ProvesLogs, ProvesFiles, GivesMade}
-use Rattle.auditorium_core.specs.Check.{CheckReport, AreChecked, GivesChecked, ChecksLines, ChecksProof, ChecksLogs}
-use Rattle.auditorium_core.specs.Check.{ChecksFiles, ChecksRules, GivesCheck}
-use Rattle.auditorium_core.proofs.OneByOne.{RulesAreReadInOneWay, steps_agree, one_rules, one_place, same_ends}
 use Rattle.auditorium_core.proofs.OneOrderAnswer.{OrderOne}
 use Rattle.auditorium_core.proofs.SameNodes.{same_nodes}
-use Rattle.auditorium_core.proofs.SameOr.{agree_equal}
 
 -- a proof is written and read in one way
 pub record ProofOne : Type 0 where
@@ -58,6 +32,16 @@ pub record ProofOne : Type 0 where
   pub value : SameArrowsGiveOneValue
   -- a text of rules is read in one way
   pub rules : RulesAreReadInOneWay
+
+-- what files give is one
+pub ones_of : OrderOne → RulesAreReadInOneWay → Ones
+ones_of order readings = record {
+  rosters = order.roster;
+  readings = readings;
+  logs = order.logs;
+  entries = same_entries;
+  graphs = order.graph;
+}
 
 -- ---- what is written
 
@@ -96,44 +80,20 @@ text_agrees one name given g h is also same = by
     by (Err r) (Err s) (text, is, long, e) (text', is', long', f) = e ∙ sym f
 
 -- so do logs that say the same
-made_logs_agree : OrderOne → ProofOne → (name : List ℕ) (logs others : List LogRead) → SameLogs logs others →
-    (p q : Result ProofMade Refusal) → ProvesLogs name logs p → ProvesLogs name others q →
-    Agree (λ m n. m ≡ n) p q
-made_logs_agree order one name logs others same p q x y =
-    steps_agree (GivesGraph (entries_of logs)) (GivesGraph (entries_of others))
-    (λ (g : EntryGraph SealedEntry). GivesText name (nodes_of g))
-    (λ (h : EntryGraph SealedEntry). GivesText name (nodes_of h)) SameGraph (λ m n. m ≡ n)
-    (λ a b is also. order.graph (entries_of logs) a b is (back b also))
-    (λ g h is also alike left right. text_agrees one name (entries_of logs) g h is (back (Ok h) also) alike left right)
-    p q x y
-  where
-    -- both keep the same entries
-    back : (b : Result (EntryGraph SealedEntry) Refusal) → GivesGraph (entries_of others) b →
-        GivesGraph (entries_of logs) b
-    back b also =
-        subst (λ (given : List SealedEntry). GivesGraph given b) (sym (same_entries logs others same)) also
+made_logs_agree : Ones → ProofOne → (name : List ℕ) (logs others : List LogRead) → SameLogs logs others →
+    (p q : Result ProofMade Refusal) → ProvesLogs name logs p → ProvesLogs name others q → Agree (λ m n. m ≡ n) p q
+made_logs_agree ones one name logs others same =
+    graphs_then_agree ones (λ m n. m ≡ n) logs others same (λ g. GivesText name (nodes_of g))
+    (λ h. GivesText name (nodes_of h)) (text_agrees one name (entries_of logs))
 
--- and files
-pub one_made : OrderOne → ProofOne → (roster proof : List ℕ) (names : List (List ℕ)) (files : List (Option (List ℕ)))
-    (p q : Result ProofMade Refusal) → GivesMade roster proof names files p → GivesMade roster proof names files q →
-    Agree (λ m n. m ≡ n) p q
-one_made order one roster proof names [] p q x y = absurd x
-one_made order one roster proof names (file ∷ files) p q x y =
-    steps_agree (GivesRoster roster file) (GivesRoster roster file) (λ read. ProvesFiles read proof names files)
-    (λ read. ProvesFiles read proof names files) (λ (r s : RosterRead). r ≡ s) (λ m n. m ≡ n)
-    (λ a b is also. agree_equal a b (order.roster roster file a b is also))
-    (λ r s is also same left right u v. under r left right u
-    (subst (λ (t : RosterRead). ProvesFiles t proof names files right) (sym same) v))
-    p q x y
-  where
-    -- under one roster
-    under : (r : RosterRead) (left right : Result ProofMade Refusal) → ProvesFiles r proof names files left →
-        ProvesFiles r proof names files right → Agree (λ m n. m ≡ n) left right
-    under r =
-        steps_agree (GivesLogs r.roster.machines r.election names files) (GivesLogs r.roster.machines r.election names files)
-        (ProvesLogs proof) (ProvesLogs proof) SameLogs (λ m n. m ≡ n)
-        (order.logs r.roster.machines r.election names files)
-        (λ logs others is also same. made_logs_agree order one proof logs others same)
+-- files give one proof, or one refusal
+pub one_made : OrderOne → ProofOne → (roster proof : List ℕ) (names : List (List ℕ)) (files : List (Option (List ℕ))) →
+    IsOne (λ m n. m ≡ n) (GivesMade roster proof names files)
+one_made order one roster proof names =
+    let ones = ones_of order one.rules in
+    roster_then_one ones (λ m n. m ≡ n) roster (λ read files. ProvesFiles read proof names files)
+    (λ read files. logs_then_one ones (λ m n. m ≡ n) read names files (ProvesLogs proof)
+    (made_logs_agree ones one proof))
 
 -- ---- what is checked
 
@@ -235,7 +195,7 @@ pub record SameCheck (report other : CheckReport) : Type 0 where
   pub rules : report.rules ≡ other.rules
   pub verdicts : report.verdicts ≡ other.verdicts
 
-module _ (order : OrderOne) (one : ProofOne) (machines : List Post) (source : RuleSource) (rules : List RuleTree)
+module _ (ones : Ones) (one : ProofOne) (machines : List Post) (source : RuleSource) (rules : List RuleTree)
     (proof : List ℕ) where
   -- by graphs of the same entries, with one proof
   lines_agree : (given : List SealedEntry) (g h : EntryGraph SealedEntry) → GivesGraph given (Ok g) →
@@ -251,9 +211,8 @@ module _ (order : OrderOne) (one : ProofOne) (machines : List Post) (source : Ru
       (length-map g.survivors (row_of machines)) (same_nodes given g h is also same) proof_is rules a b left
       (subst (λ (S : List SealedEntry). GivesChecked source (map (row_of machines) S) (nodes_of h) lines rules b)
       (sym same.survivors) right))
-      (λ vs ws left right alike a b e f.
-      subst (λ o. Agree SameCheck o b) (sym e)
-      (subst (λ o. Agree SameCheck (Ok (report g vs)) o) (sym f) (record { rules = refl; verdicts = alike })))
+      (λ vs ws left right alike.
+      ends_agree SameCheck (report g vs) (report h ws) (record { rules = refl; verdicts = alike }))
       p q x y
     where
       -- the survivors' rows
@@ -292,71 +251,48 @@ module _ (order : OrderOne) (one : ProofOne) (machines : List Post) (source : Ru
   check_logs_agree : (file : Option (List ℕ)) (logs others : List LogRead) → SameLogs logs others →
       (p q : Result CheckReport Refusal) → ChecksLogs machines source rules proof file logs p →
       ChecksLogs machines source rules proof file others q → Agree SameCheck p q
-  check_logs_agree file logs others same p q x y =
-      steps_agree (GivesGraph (entries_of logs)) (GivesGraph (entries_of others))
-      (ChecksProof machines source rules proof file) (ChecksProof machines source rules proof file) SameGraph SameCheck
-      (λ a b is also. order.graph (entries_of logs) a b is (back b also))
-      (λ g h is also alike left right. proofs_agree (entries_of logs) g h is (back (Ok h) also) alike file left right)
-      p q x y
-    where
-      -- both keep the same entries
-      back : (b : Result (EntryGraph SealedEntry) Refusal) → GivesGraph (entries_of others) b →
-          GivesGraph (entries_of logs) b
-      back b also =
-          subst (λ (given : List SealedEntry). GivesGraph given b) (sym (same_entries logs others same)) also
+  check_logs_agree file logs others same =
+      graphs_then_agree ones SameCheck logs others same (ChecksProof machines source rules proof file)
+      (ChecksProof machines source rules proof file)
+      (λ g h is also alike. proofs_agree (entries_of logs) g h is also alike file)
 
-module _ (order : OrderOne) (one : ProofOne) (proof : List ℕ) (names : List (List ℕ)) where
-  -- by the files of logs and of a proof
-  check_files_agree : (read : RosterRead) (source : RuleSource) (rules : List RuleTree)
-      (files : List (Option (List ℕ))) (p q : Result CheckReport Refusal) →
-      ChecksFiles read source rules proof names files p → ChecksFiles read source rules proof names files q →
-      Agree SameCheck p q
-  check_files_agree read source rules files p q (fs, last, e, x) (others, end, f, y) =
-      let (front, ends) = same_ends fs others last end (sym e ∙ f) in
-      by (subst (λ (gs : List (Option (List ℕ))). Over gs last q) (sym front)
-      (subst (λ (o : Option (List ℕ)). Over others o q) (sym ends) y))
-    where
-      -- what logs' files and a proof's give
-      Over : List (Option (List ℕ)) → Option (List ℕ) → Result CheckReport Refusal → Type 0
-      Over gs o =
-          AndThen (GivesLogs read.roster.machines read.election names gs)
-          (ChecksLogs read.roster.machines source rules proof o)
+-- lists with one more at the end are one where both parts are
+pub same_ends : {X : Type 0} (xs ys : List X) (x y : X) → xs ++ x ∷ [] ≡ ys ++ y ∷ [] → (xs ≡ ys) × (x ≡ y)
+same_ends [] [] x y e = (refl, cc)
+same_ends [] (z ∷ []) x y e = cc
+same_ends [] (z ∷ w ∷ ys) x y e = cc
+same_ends (z ∷ []) [] x y e = cc
+same_ends (z ∷ w ∷ xs) [] x y e = cc
+same_ends (z ∷ xs) (w ∷ ys) x y e =
+    let rest : xs ++ x ∷ [] ≡ ys ++ y ∷ [] = cc in
+    let first : z ≡ w = cc in
+    let (front, last) = same_ends xs ys x y rest in
+    (ap (λ v. v ∷ xs) first ∙ ap (λ vs. w ∷ vs) front, last)
 
-      by : Over fs last q → Agree SameCheck p q
-      by z =
-          steps_agree (GivesLogs read.roster.machines read.election names fs)
-          (GivesLogs read.roster.machines read.election names fs)
-          (ChecksLogs read.roster.machines source rules proof last)
-          (ChecksLogs read.roster.machines source rules proof last) SameLogs SameCheck
-          (order.logs read.roster.machines read.election names fs)
-          (λ logs more is also same. check_logs_agree order one read.roster.machines source rules proof last logs more same)
-          p q x z
+-- by the files of logs and of a proof
+check_files_agree : Ones → ProofOne → (read : RosterRead) (source : RuleSource) (rules : List RuleTree)
+    (proof : List ℕ) (names : List (List ℕ)) (files : List (Option (List ℕ))) →
+    IsOne SameCheck (ChecksFiles read source rules proof names files)
+check_files_agree ones one read source rules proof names files p q (fs, last, e, x) (others, end, f, y) =
+    let (front, ends) = same_ends fs others last end (sym e ∙ f) in
+    logs_then_one ones SameCheck read names fs (Checks last)
+    (check_logs_agree ones one read.roster.machines source rules proof last) p q x
+    (subst (λ gs. Over gs last q) (sym front) (subst (λ o. Over others o q) (sym ends) y))
+  where
+    -- what logs give with a proof's file
+    Checks : Option (List ℕ) → List LogRead → Result CheckReport Refusal → Type 0
+    Checks o = ChecksLogs read.roster.machines source rules proof o
 
-  -- and of the rules
-  check_rules_agree : (read : RosterRead) (source : RuleSource) (files : List (Option (List ℕ)))
-      (p q : Result CheckReport Refusal) → ChecksRules read source proof names files p →
-      ChecksRules read source proof names files q → Agree SameCheck p q
-  check_rules_agree read standard files p q x y = check_files_agree read standard standard_rules files p q x y
-  check_rules_agree read (in_file name) [] p q x y = absurd x
-  check_rules_agree read (in_file name) (file ∷ files) p q x y =
-      steps_agree (GivesRules name file) (GivesRules name file)
-      (λ rules. ChecksFiles read (in_file name) rules proof names files)
-      (λ rules. ChecksFiles read (in_file name) rules proof names files) (λ (r s : List RuleTree). r ≡ s) SameCheck
-      (one_rules one.rules name file)
-      (λ r s is also same u v left right. check_files_agree read (in_file name) r files u v left
-      (subst (λ (trees : List RuleTree). ChecksFiles read (in_file name) trees proof names files v) (sym same) right))
-      p q x y
+    -- what logs' files and a proof's give
+    Over : List (Option (List ℕ)) → Option (List ℕ) → Result CheckReport Refusal → Type 0
+    Over gs o = AndThen (GivesLogs read.roster.machines read.election names gs) (Checks o)
 
--- so files give one report of a check, or one refusal
+-- files give one report of a check, or one refusal
 pub one_check : OrderOne → ProofOne → (roster : List ℕ) (source : RuleSource) (proof : List ℕ) (names : List (List ℕ))
-    (files : List (Option (List ℕ))) (p q : Result CheckReport Refusal) → GivesCheck roster source proof names files p →
-    GivesCheck roster source proof names files q → Agree SameCheck p q
-one_check order one roster source proof names [] p q x y = absurd x
-one_check order one roster source proof names (file ∷ files) p q x y =
-    steps_agree (GivesRoster roster file) (GivesRoster roster file)
-    (λ read. ChecksRules read source proof names files) (λ read. ChecksRules read source proof names files)
-    (λ (r s : RosterRead). r ≡ s) SameCheck
-    (λ a b is also. agree_equal a b (order.roster roster file a b is also))
-    (λ r s is also same u v left right. check_rules_agree order one proof names r source files u v left
-    (subst (λ (t : RosterRead). ChecksRules t source proof names files v) (sym same) right))
-    p q x y
+    (files : List (Option (List ℕ))) → IsOne SameCheck (GivesCheck roster source proof names files)
+one_check order one roster source proof names =
+    let ones = ones_of order one.rules in
+    roster_then_one ones SameCheck roster (λ read. ChecksRules read source proof names)
+    (λ read. rules_then_one SameCheck one.rules source
+    (λ rules files. ChecksFiles read source rules proof names files)
+    (λ rules. check_files_agree ones one read source rules proof names))

@@ -1,34 +1,16 @@
 -- Files give at most one answer to `watch`.
-use Rattle.std.proofs.Common.{◌≡◌, ◌∙◌, ℕ, List, [], ◌∷◌, Option, inl, inr, refl, sym, ap, subst}
-use Rattle.std.specs.Prelude.{Result, Ok, Err}
-use Rattle.roster.specs.declared.post.Post.{Post}
-use Rattle.entry_format.specs.SealedEntry.{SealedEntry}
-use Rattle.entry_graph.specs.EntryGraph.{EntryGraph}
-use Rattle.log_files.specs.declared.sealed_log.LogRead.{LogRead}
-use Rattle.rule_language.specs.Standard.{standard_rules}
-use Rattle.rule_language.specs.Trees.{RuleTree}
-use Rattle.evidence.specs.declared.roster_file.RosterRead.{RosterRead}
-use Rattle.evidence.specs.Refusal.{Refusal}
-use Rattle.evidence.specs.RosterFile.{GivesRoster}
-use Rattle.evidence.specs.Logs.{GivesLogs}
-use Rattle.evidence.specs.Graphs.{entries_of, GivesGraph}
-use Rattle.evidence.specs.Same.{Agree, SameLogs, SameGraph}
-use Rattle.evidence.proofs.OneLogs.{same_entries}
-use Rattle.auditor.specs.declared.outcome.Outcome.{Outcome}
-use Rattle.auditor.specs.Audits.{AndThen, WithGraph, WithLogs, WithRules, WithRoster, GivesReport}
-use Rattle.auditor.specs.OneReport.{FilesGiveOneReport}
-use Rattle.auditor.specs.Outcomes.{outcome_of}
-use Rattle.auditor.specs.Report.{AuditReport}
-use Rattle.auditor.specs.Same.{SameReport}
-use Rattle.auditor.specs.Sources.{RuleSource, standard, in_file, GivesRules}
-use Rattle.live_auditor.specs.Summary.{Summary}
-use Rattle.auditorium_core.specs.Lines.{Answer}
-use Rattle.auditorium_core.specs.ReportAnswers.{status_by}
-use Rattle.auditorium_core.specs.Watch.{Evidence, ReadsLogs, ReadsRules, GivesEvidence, GivesSummaries, GivesWatch}
-use Rattle.auditorium_core.specs.Watch.{Watches, watch_answer, watch_lines}
-use Rattle.auditorium_core.proofs.OneByOne.{RulesAreReadInOneWay, steps_agree, one_rules}
+use Rattle.std.proofs.Common.{Option}
+use Rattle.auditorium_core.proofs.Imports.{◌≡◌, ◌∙◌, ℕ, List, [], ◌∷◌, inl, inr, refl, sym, ap, subst, Result, Ok}
+use Rattle.auditorium_core.proofs.Imports.{Post, SealedEntry, EntryGraph, LogRead, standard_rules, RuleTree}
+use Rattle.auditorium_core.proofs.Imports.{RosterRead, Refusal, entries_of, GivesGraph, Agree, SameLogs, SameGraph}
+use Rattle.auditorium_core.proofs.Imports.{same_entries, Outcome, AndThen, WithGraph, WithLogs, WithRules, WithRoster}
+use Rattle.auditorium_core.proofs.Imports.{GivesReport, FilesGiveOneReport, outcome_of, AuditReport, SameReport}
+use Rattle.auditorium_core.proofs.Imports.{RuleSource, standard, in_file, Summary, Answer, status_by, Evidence}
+use Rattle.auditorium_core.proofs.Imports.{ReadsLogs, ReadsRules, GivesEvidence, GivesSummaries, GivesWatch, Watches}
+use Rattle.auditorium_core.proofs.Imports.{watch_answer, watch_lines, IsOne, Ones, RulesAreReadInOneWay, agree_equal}
+use Rattle.auditorium_core.proofs.Imports.{ends_agree, logs_then_one, roster_then_one, rules_then_one, steps_agree}
 use Rattle.auditorium_core.proofs.OneOrderAnswer.{OrderOne}
-use Rattle.auditorium_core.proofs.SameOr.{agree_equal}
+use Rattle.auditorium_core.proofs.OneProof.{ones_of}
 use Rattle.auditorium_core.proofs.Summaries.{summaries_agree}
 
 -- ---- the evidence
@@ -39,52 +21,20 @@ pub record SameEvidence (a b : Evidence) : Type 0 where
   pub rules : a.rules ≡ b.rules
   pub logs : SameLogs a.logs b.logs
 
-module _ (order : OrderOne) (readings : RulesAreReadInOneWay) (names : List (List ℕ)) where
-  -- by the files of logs
-  logs_agree : (read : RosterRead) (rules : List RuleTree) (files : List (Option (List ℕ)))
-      (p q : Result Evidence Refusal) → ReadsLogs read rules names files p → ReadsLogs read rules names files q →
-      Agree SameEvidence p q
-  logs_agree read rules files p q x y =
-      steps_agree (GivesLogs read.roster.machines read.election names files)
-      (GivesLogs read.roster.machines read.election names files) (λ logs answer. answer ≡ Ok (these logs))
-      (λ logs answer. answer ≡ Ok (these logs)) SameLogs SameEvidence
-      (order.logs read.roster.machines read.election names files)
-      (λ logs others is also same a b e f.
-      subst (λ o. Agree SameEvidence o b) (sym e)
-      (subst (λ o. Agree SameEvidence (Ok (these logs)) o) (sym f)
-      (record { machines = refl; rules = refl; logs = same })))
-      p q x y
-    where
-      -- the evidence with these logs
-      these : List LogRead → Evidence
-      these logs = record { machines = read.roster.machines; rules = rules; logs = logs }
+-- what an audit goes on with these logs
+abbrev these : RosterRead → List RuleTree → List LogRead → Evidence
+these read rules logs = record { machines = read.roster.machines; rules = rules; logs = logs }
 
-  -- and of the rules
-  rules_agree : (read : RosterRead) (source : RuleSource) (files : List (Option (List ℕ)))
-      (p q : Result Evidence Refusal) → ReadsRules read source names files p → ReadsRules read source names files q →
-      Agree SameEvidence p q
-  rules_agree read standard files p q x y = logs_agree read standard_rules files p q x y
-  rules_agree read (in_file name) [] p q x y = absurd x
-  rules_agree read (in_file name) (file ∷ files) p q x y =
-      steps_agree (GivesRules name file) (GivesRules name file) (λ rules. ReadsLogs read rules names files)
-      (λ rules. ReadsLogs read rules names files) (λ (r s : List RuleTree). r ≡ s) SameEvidence
-      (one_rules readings name file)
-      (λ r s is also same a b left right. logs_agree read r files a b left
-      (subst (λ (trees : List RuleTree). ReadsLogs read trees names files b) (sym same) right))
-      p q x y
-
-  -- so files give one evidence, or one refusal
-  evidence_agrees : (roster : List ℕ) (source : RuleSource) (files : List (Option (List ℕ)))
-      (p q : Result Evidence Refusal) → GivesEvidence roster source names files p →
-      GivesEvidence roster source names files q → Agree SameEvidence p q
-  evidence_agrees roster source [] p q x y = absurd x
-  evidence_agrees roster source (file ∷ files) p q x y =
-      steps_agree (GivesRoster roster file) (GivesRoster roster file) (λ read. ReadsRules read source names files)
-      (λ read. ReadsRules read source names files) (λ (r s : RosterRead). r ≡ s) SameEvidence
-      (λ a b is also. agree_equal a b (order.roster roster file a b is also))
-      (λ r s is also same a b left right. rules_agree r source files a b left
-      (subst (λ (t : RosterRead). ReadsRules t source names files b) (sym same) right))
-      p q x y
+-- files give one evidence, or one refusal
+evidence_agrees : Ones → (names : List (List ℕ)) (roster : List ℕ) (source : RuleSource)
+    (files : List (Option (List ℕ))) → IsOne SameEvidence (GivesEvidence roster source names files)
+evidence_agrees ones names roster source =
+    roster_then_one ones SameEvidence roster (λ read. ReadsRules read source names)
+    (λ read. rules_then_one SameEvidence ones.readings source (λ rules files. ReadsLogs read rules names files)
+    (λ rules files. logs_then_one ones SameEvidence read names files
+    (λ logs answer. answer ≡ Ok (these read rules logs))
+    (λ logs others same. ends_agree SameEvidence (these read rules logs) (these read rules others)
+    (record { machines = refl; rules = refl; logs = same }))))
 
 -- ---- the report
 
@@ -185,14 +135,14 @@ module _ (order : OrderOne) (readings : RulesAreReadInOneWay) (reports : FilesGi
           AndThen (GivesSummaries evidence.machines source evidence.rules (entries_of evidence.logs))
           (With_summaries evidence graph)
 
--- so files give one answer, or one refusal
+-- files give one answer of `watch`, or one refusal
 pub one_watch : OrderOne → RulesAreReadInOneWay → FilesGiveOneReport → (roster : List ℕ) (source : RuleSource)
     (names : List (List ℕ)) (files : List (Option (List ℕ))) (p q : Result Answer Refusal) →
     GivesWatch roster source names files p → GivesWatch roster source names files q → Agree (λ x y. x ≡ y) p q
 one_watch order readings reports roster source names files p q x y =
     steps_agree (GivesEvidence roster source names files) (GivesEvidence roster source names files)
     (Watches source names) (Watches source names) SameEvidence (λ x y. x ≡ y)
-    (evidence_agrees order readings names roster source files)
+    (evidence_agrees (ones_of order readings) names roster source files)
     (λ a b is also same u v left right.
     watches_agree order readings reports roster source names files a b is also same u v left right)
     p q x y

@@ -1,28 +1,14 @@
 -- The answers of `order`.
-use Rattle.std.proofs.Common.{◌≡◌, ◌∙◌, ℕ, List, ◌∷◌, Option, Some, None, length, inl, inr, refl, ap}
-use Rattle.std.specs.Prelude.{Result, Ok, Err, IfOk}
-use Rattle.hall_outside.specs.Files.{Files}
-use Rattle.entry_order.specs.Settled.{PathsAreSettled}
-use Rattle.entry_order.proofs.Places.{member_at}
-use Rattle.roster.specs.declared.post.Post.{Post}
-use Rattle.entry_format.specs.SealedEntry.{SealedEntry}
-use Rattle.entry_format.specs.Nodes.{node_of_sealed}
-use Rattle.log_files.specs.declared.sealed_log.LogRead.{LogRead}
-use Rattle.evidence.specs.declared.roster_file.RosterRead.{RosterRead}
-use Rattle.evidence.specs.Refusal.{Refusal}
-use Rattle.evidence.specs.RosterFile.{GivesRosterIn}
-use Rattle.evidence.specs.Logs.{GivesLogsIn}
-use Rattle.evidence.specs.Graphs.{entries_of}
-use Rattle.evidence.proofs.LogLists.{some_files}
-use Rattle.auditorium_core.specs.declared.order_word.OrderWord.{OrderWord}
+use Rattle.auditorium_core.proofs.Imports.{◌≡◌, ◌∙◌, ℕ, List, ◌∷◌, None, inl, inr, refl, ap, Result, Ok, Err, IfOk}
+use Rattle.auditorium_core.proofs.Imports.{Files, PathsAreSettled, member_at, Post, SealedEntry, node_of_sealed}
+use Rattle.auditorium_core.proofs.Imports.{LogRead, RosterRead, Refusal, GivesRosterIn, GivesLogsIn, entries_of}
+use Rattle.auditorium_core.proofs.Imports.{some_files, OrderWord, Answer, no_entry, order_word, line_answer}
+use Rattle.auditorium_core.proofs.Imports.{refusal_answer, MeansEntry, MeansNone, IsOrderAmong, IsOrderOver, order}
+use Rattle.auditorium_core.proofs.Imports.{IsAnswerTo, IsPlaceOf, IsWordAt}
+use Rattle.std.proofs.Common.{Option, Some, length}
 use Rattle.auditorium_core.specs.declared.status.Status.TheVariants as status
-use Rattle.auditorium_core.specs.Lines.{Answer, no_entry, order_word, line_answer, refusal_answer}
-use Rattle.auditorium_core.specs.EntryWords.{MeansEntry, MeansNone}
-use Rattle.auditorium_core.specs.Order.{IsOrderAmong, IsOrderOver, IsOrderOverLogs, IsOrderUnder}
-use Rattle.auditorium_core.specs.Words.{order}
-use Rattle.auditorium_core.specs.Answer.{IsAnswerTo}
-use Rattle.auditorium_core.specs.inside.EntryNames.{IsPlaceOf, IsWordAt}
 use Rattle.auditorium_core.proofs.EntryTexts.{named_has}
+use Rattle.auditorium_core.proofs.HonestOrders.{order_right}
 use Rattle.auditorium_core.proofs.OrderWords.{word_is_settled}
 
 module _ (machines : List Post) (S : List SealedEntry) where
@@ -75,29 +61,32 @@ module _ (roster x y : List ℕ) (logs : List (List ℕ)) (told : Option Files) 
   pub roster_refused : (refusal : Refusal) → GivesRosterIn roster told (Err refusal) →
       IsAnswerTo (order roster x y logs) told (refusal_answer refusal)
   roster_refused refusal (file, is, gives) =
-      let more = some_files told logs in
-      (file ∷ more.0, (is, more.1), inl (refusal, gives, refl))
-
-  -- what is answered over the files of logs says what it says of honest places
-  abbrev pub AreHonest : Type 0
-  AreHonest =
-      (read : RosterRead) (u v : List ℕ) (names : List (List ℕ)) (files : List (Option (List ℕ))) (answer : Answer) →
-      IsOrderOverLogs read u v names files answer → IsOrderUnder read u v names files answer
+      let more = some_files told logs in (
+        file ∷ more.0,
+        (is, more.1),
+        order_right roster x y logs file more.0 (refusal_answer refusal) (inl (refusal, gives, refl)),
+      )
 
   -- a log is refused
-  pub log_refused : AreHonest → (read : RosterRead) → GivesRosterIn roster told (Ok read) → (refusal : Refusal) →
+  pub log_refused : (read : RosterRead) → GivesRosterIn roster told (Ok read) → (refusal : Refusal) →
       GivesLogsIn read.roster.machines read.election logs told (Err refusal) →
       IsAnswerTo (order roster x y logs) told (refusal_answer refusal)
-  log_refused honest read (file, is, gives) refusal (files, are, refuses) =
-      let right = inl (refusal, refuses, refl) in
-      (file ∷ files, (is, are), inr (read, gives, honest read x y logs files (refusal_answer refusal) right))
+  log_refused read (file, is, gives) refusal (files, are, refuses) = (
+    file ∷ files,
+    (is, are),
+    order_right roster x y logs file files (refusal_answer refusal)
+        (inr (read, gives, inl (refusal, refuses, refl))),
+  )
 
   -- all are read
-  pub all_read : {E : Type 0} → AreHonest → (read : RosterRead) → GivesRosterIn roster told (Ok read) →
+  pub all_read : {E : Type 0} → (read : RosterRead) → GivesRosterIn roster told (Ok read) →
       (found : List LogRead) → GivesLogsIn read.roster.machines read.election logs told (Ok found) →
       (result : Result Answer E) →
       IfOk result (IsOrderOver read.roster.machines x y (entries_of found)) →
       IfOk result (IsAnswerTo (order roster x y logs) told)
-  all_read honest read (file, is, gives) found (files, are, says) (Ok answer) over =
-      (file ∷ files, (is, are), inr (read, gives, honest read x y logs files answer (inr (found, says, over))))
-  all_read honest read roster_is found logs_are (Err fault) over = tt
+  all_read read (file, is, gives) found (files, are, says) (Ok answer) over = (
+    file ∷ files,
+    (is, are),
+    order_right roster x y logs file files answer (inr (read, gives, inr (found, says, over))),
+  )
+  all_read read roster_is found logs_are (Err fault) over = tt

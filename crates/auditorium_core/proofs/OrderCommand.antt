@@ -1,24 +1,13 @@
 -- The command `order`.
-use Rattle.std.proofs.Common.{◌≡◌, ℕ, List, [], ◌∷◌, Option, inl, inr, refl, subst, arith}
-use Rattle.std.specs.Prelude.{Ok, Err}
+use Rattle.auditorium_core.proofs.Imports.{◌≡◌, ℕ, List, [], ◌∷◌, inl, inr, refl, subst, arith, Ok, Err}
+use Rattle.auditorium_core.proofs.Imports.{All-from_recursion, Post, SealedEntry, LogRead, EntryGraph, RosterRead}
+use Rattle.auditorium_core.proofs.Imports.{GivesRoster, GivesLogs, entries_of, GivesGraph, same_entries, Status, Answer}
+use Rattle.auditorium_core.proofs.Imports.{line_answer, no_entry, order_word, MeansEntry, IsOrderAmong, IsOrderOver}
+use Rattle.auditorium_core.proofs.Imports.{IsOrderOverLogs, IsOrderUnder, IsOrderAnswer, GiveEntries, order_parts}
+use Rattle.auditorium_core.proofs.Imports.{IsCarriedOut, OrRefused}
+use Rattle.std.proofs.Common.{Option}
 use Rattle.std.specs.List.{Contains}
-use Rattle.std.proofs.lemmas.List.Elements.{All-from_recursion}
-use Rattle.roster.specs.declared.post.Post.{Post}
-use Rattle.entry_format.specs.SealedEntry.{SealedEntry}
-use Rattle.log_files.specs.declared.sealed_log.LogRead.{LogRead}
-use Rattle.entry_graph.specs.EntryGraph.{EntryGraph}
-use Rattle.evidence.specs.declared.roster_file.RosterRead.{RosterRead}
-use Rattle.evidence.specs.RosterFile.{GivesRoster}
-use Rattle.evidence.specs.Logs.{GivesLogs}
-use Rattle.evidence.specs.Graphs.{entries_of, GivesGraph}
-use Rattle.evidence.proofs.OneLogs.{same_entries}
-use Rattle.auditorium_core.specs.declared.status.Status.{Status}
 use Rattle.auditorium_core.specs.declared.status.Status.TheVariants as status
-use Rattle.auditorium_core.specs.Lines.{Answer, line_answer, no_entry, order_word}
-use Rattle.auditorium_core.specs.EntryWords.{MeansEntry}
-use Rattle.auditorium_core.specs.Order.{IsOrderAmong, IsOrderOver, IsOrderOverLogs, IsOrderUnder, IsOrderAnswer}
-use Rattle.auditorium_core.specs.Order.{GiveEntries, order_parts}
-use Rattle.auditorium_core.specs.Complete.{IsCarriedOut}
 use Rattle.auditorium_core.proofs.CommandProofs.{IsOfCommands, HasStatuses, IsCompleted, HasOneAnswer, contains_as}
 use Rattle.auditorium_core.proofs.CommandProofs.{carried_out_as, of_read}
 use Rattle.auditorium_core.proofs.OneOrderAnswer.{OrderOne, same_order}
@@ -39,7 +28,8 @@ module _ (one : OrderOne) (x y : List ℕ) (answer : Answer) where
 
   -- `order` is carried out over a roster and logs
   order_complete : (roster : List ℕ) (logs : List (List ℕ)) (file : Option (List ℕ)) (files : List (Option (List ℕ))) →
-      GiveEntries roster x y logs file files → IsOrderAnswer roster x y logs file files answer →
+      GiveEntries roster x y logs file files →
+      OrRefused (GivesRoster roster file) (λ (read : RosterRead). IsOrderUnder read x y logs files) answer →
       IsCarriedOut answer.status
   order_complete roster logs file files given (inl (refusal, gives, e)) =
       let same : Err refusal ≡ Ok given.read =
@@ -78,7 +68,7 @@ module _ (one : OrderOne) (x y : List ℕ) (answer : Answer) where
 pub order_completed : OrderOne → (roster x y : List ℕ) (logs : List (List ℕ)) →
     IsCompleted (order_parts roster x y logs)
 order_completed one roster x y logs (file ∷ files) answer right given =
-    order_complete one x y answer roster logs file files given right
+    order_complete one x y answer roster logs file files given right.right
 order_completed one roster x y logs [] answer right given = absurd right
 
 -- its statuses
@@ -89,7 +79,7 @@ own_statuses = status.Done ∷ status.Refused ∷ status.Absent ∷ []
 abbrev Has : Answer → Type 0
 Has answer = Contains own_statuses answer.status
 
--- an order is told, or one of its words is refused
+-- an order is printed, or one of its words is refused
 of_among : (machines : List Post) (S : List SealedEntry) (x y : List ℕ) (answer : Answer) →
     IsOrderAmong machines S x y answer → Has answer
 of_among machines S x y answer (inl (none, e)) =
@@ -117,7 +107,7 @@ of_files : (roster x y : List ℕ) (logs : List (List ℕ)) (files : List (Optio
 of_files roster x y logs (file ∷ files) answer is =
     of_read own_statuses (1, omega arith, refl) (2, omega arith, refl) (GivesRoster roster file)
     (λ (read : RosterRead). IsOrderUnder read x y logs files) answer
-    (λ (read : RosterRead) under. of_over_logs read x y logs files answer under.right) is
+    (λ (read : RosterRead) under. of_over_logs read x y logs files answer under.right) is.right
 of_files roster x y logs [] answer is = absurd is
 
 pub order_has_statuses : (roster x y : List ℕ) (logs : List (List ℕ)) → HasStatuses (order_parts roster x y logs)

@@ -1,22 +1,13 @@
 -- What the word says of two survivors, and what it promises.
-use Rattle.std.proofs.Common.{◌≡◌, ◌≢◌, ℕ, List, Some, refl, Bool, true, false}
-use Rattle.std.specs.Prelude.{slice_get, if◌then◌else◌, ◌↔◌}
+use Rattle.std.proofs.Common.{Some, Bool, true, false}
+use Rattle.std.specs.Prelude.{◌↔◌}
 use Rattle.std.specs.List.{Contains}
-use Rattle.std.proofs.lemmas.Bool.{false≢true}
-use Rattle.entry_order.specs.declared.three.Three.{Three}
-use Rattle.entry_order.specs.declared.three.Three.TheVariants.{False, Unknown, True}
-use Rattle.entry_order.specs.Ancestors.{reaches, is_whole, before}
-use Rattle.entry_order.specs.Settled.{IsWhole, IsGraphOf, GraphsAreExact, PathsAreSettled}
-use Rattle.entry_format.specs.SealedEntry.{SealedEntry}
-use Rattle.entry_format.specs.Nodes.{node_of, node_of_sealed}
-use Rattle.entry_order.proofs.Lists.{Contains-map}
-use Rattle.entry_order.proofs.Completions.{paths_are_settled}
-use Rattle.entry_format.specs.Plains.{plain_of, plains}
-use Rattle.entry_order.proofs.Images.{order_seen, order_back, whole_seen}
-use Rattle.auditorium_core.specs.declared.order_word.OrderWord.{OrderWord}
+use Rattle.auditorium_core.proofs.Imports.{◌≡◌, ◌≢◌, ℕ, List, refl, slice_get, if◌then◌else◌, false≢true, Three}
+use Rattle.auditorium_core.proofs.Imports.{False, Unknown, True, reaches, is_whole, before, IsWhole, IsGraphOf}
+use Rattle.auditorium_core.proofs.Imports.{GraphsAreExact, PathsAreSettled, SealedEntry, node_of, node_of_sealed}
+use Rattle.auditorium_core.proofs.Imports.{Contains-map, paths_are_settled, plain_of, plains, order_seen, order_back}
+use Rattle.auditorium_core.proofs.Imports.{whole_seen, OrderWord, IsBefore, IsWordOf, IsSettled, word_by}
 use Rattle.auditorium_core.specs.declared.order_word.OrderWord.TheVariants as says
-use Rattle.auditorium_core.specs.Order.{IsBefore, IsWordOf, IsSettled}
-use Rattle.auditorium_core.specs.inside.EntryNames.{word_by}
 
 -- what is said of e before f
 abbrev pub SaysBefore : List SealedEntry → SealedEntry → SealedEntry → Three → Type 0
@@ -31,7 +22,7 @@ pub graph_says : GraphsAreExact node_of_sealed → (S : List SealedEntry) (paren
 graph_says exact S parents ragged graph y x e f at_y at_x =
     by (reaches parents x y x) (is_whole parents ragged x x) (exact S parents ragged graph y x e f at_y at_x)
   where
-    -- by what it tells, which is exact: whether f is whole counts only where e isn't before it
+    -- by what it says, which is exact: whether f is whole counts only where e isn't before it
     by : (r w : Bool) → ((r ≡ true) ↔ IsBefore S e f) × ((w ≡ true) ↔ IsWhole node_of_sealed S f) →
         SaysBefore S e f (if r then True else if w then False else Unknown)
     by true w ((is_before, _), _) = is_before refl

@@ -1,26 +1,14 @@
 -- What survives, by what it says.
-use Rattle.std.proofs.Common.{◌≡◌, ◌∙◌, ℕ, ◌<◌, List, [], map, length, refl, sym, ap, subst}
-use Rattle.std.specs.Prelude.{Ok, ◌↔◌}
+use Rattle.std.proofs.Common.{length}
+use Rattle.std.specs.Prelude.{◌↔◌}
 use Rattle.std.specs.List.{Contains}
-use Rattle.std.proofs.lemmas.List.Elements.{All-contains}
-use Rattle.entry_order.specs.Completion.{Completion}
-use Rattle.entry_order.specs.Settled.{IsWhole}
-use Rattle.entry_order.proofs.Lists.{Contains-none, Contains-map, Contains-map_cases}
-use Rattle.entry_order.proofs.Strays.{survivors_are_no_strays}
-use Rattle.roster.specs.declared.post.Post.{Post}
-use Rattle.entry_format.specs.declared.plain.Plain.{Plain}
-use Rattle.entry_format.specs.SealedEntry.{SealedEntry}
-use Rattle.entry_format.specs.Nodes.{node_of, node_of_sealed}
-use Rattle.entry_graph.specs.EntryGraph.{EntryGraph}
-use Rattle.evidence.specs.Graphs.{entries_of, GivesGraph}
-use Rattle.evidence.proofs.Survivors.{survivors_distinct}
-use Rattle.auditor.specs.Rows.{HaveMakers}
-use Rattle.entry_order.specs.Exact.{AreSurvivors}
-use Rattle.entry_format.specs.Plains.{plain_of, plains}
-use Rattle.entry_order.proofs.Filled.{completions_exist, order_is_exact}
-use Rattle.entry_format.proofs.Fillers.{made}
-use Rattle.entry_order.proofs.Images.{order_seen, order_back, whole_seen, whole_back}
-use Rattle.auditorium_core.specs.Order.{IsBefore, InEach, ComesFirst, IsExact}
+use Rattle.auditorium_core.proofs.Imports.{◌≡◌, ◌∙◌, ℕ, ◌<◌, List, [], map, refl, sym, ap, subst, Ok, All-contains}
+use Rattle.auditorium_core.proofs.Imports.{Completion, IsWhole, Contains-none, Contains-map, Contains-map_cases}
+use Rattle.auditorium_core.proofs.Imports.{survivors_are_no_strays, Post, Plain, SealedEntry, node_of, node_of_sealed}
+use Rattle.auditorium_core.proofs.Imports.{EntryGraph, entries_of, GivesGraph, survivors_distinct, HaveMakers}
+use Rattle.auditorium_core.proofs.Imports.{AreSurvivors, plain_of, plains, completions_exist, order_is_exact, made}
+use Rattle.auditorium_core.proofs.Imports.{order_seen, order_back, whole_seen, whole_back, IsBefore, InEach}
+use Rattle.auditorium_core.proofs.Imports.{ComesFirst, IsExact}
 
 module _ (machines : List Post) (given : List SealedEntry) (graph : EntryGraph SealedEntry)
     (makers : HaveMakers machines graph.survivors) (gives : GivesGraph given (Ok graph)) where
@@ -41,13 +29,13 @@ module _ (machines : List Post) (given : List SealedEntry) (graph : EntryGraph S
             sym to_v ∙ ap plain_of (apart x z in_x in_z digests) ∙ to_u;
       }
 
-  -- so they have a completion
+  -- the survivors have a completion
   pub some_completion : (G : List Plain) × Completion node_of (length machines) (plains graph.survivors) G
   some_completion =
       completions_exist node_of (made []) (λ d. refl) (λ d. refl) (λ d e there. Contains-none e there)
       (length machines) (plains graph.survivors) are_survivors
 
-  -- and what is told of their order is exact
+  -- what is printed of the survivors' order is exact
   pub is_exact : IsExact (length machines) graph.survivors
   is_exact =
       let S : List SealedEntry = graph.survivors in

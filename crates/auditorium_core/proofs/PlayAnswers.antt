@@ -1,13 +1,7 @@
 -- The answers of plays, of runs and of repairs, from their files and lines.
-use Rattle.std.proofs.Common.{◌≡◌, ◌∙◌, ℕ, List, [], ◌++◌, ap}
-use Rattle.entry_order.specs.declared.step.Step.{Step}
-use Rattle.roster.specs.declared.post.Post.{Post}
-use Rattle.floor_losses.specs.declared.loss.Loss.{Loss}
-use Rattle.polling_world.specs.Machines.{MachineState}
-use Rattle.auditorium_core.specs.Lines.{Answer}
-use Rattle.auditorium_core.specs.Play.{machine_lines, play_answer, play_files, status_of_undone}
-use Rattle.auditorium_core.specs.Repair.{mended_lines, repair_answer}
-use Rattle.auditorium_core.specs.Run.{loss_lines, run_answer}
+use Rattle.auditorium_core.proofs.Imports.{◌≡◌, ◌∙◌, ℕ, List, [], ◌++◌, ap, Step, Post, Loss, MachineState, Answer}
+use Rattle.auditorium_core.proofs.Imports.{machine_lines, play_answer, play_files, status_of_undone, mended_lines}
+use Rattle.auditorium_core.proofs.Imports.{repair_answer, loss_lines, run_answer}
 
 -- the answer of a script's machines, with these lines before those on what is left
 abbrev pub answer_with : List ℕ → List Post → List MachineState → List ℕ → List ℕ → Answer

@@ -1,18 +1,11 @@
 -- The command `play`.
-use Rattle.std.proofs.Common.{◌≢◌, ℕ, List, [], ◌∷◌, Option, inl, inr, refl, ap}
-use Rattle.std.specs.Prelude.{Ok, Err}
+use Rattle.std.proofs.Common.{Option}
+use Rattle.auditorium_core.proofs.Imports.{◌≢◌, ℕ, List, [], ◌∷◌, inl, inr, refl, ap, Ok, Err, Files, Script}
+use Rattle.auditorium_core.proofs.Imports.{roster_of, Refusal, Answer, refusal_answer, play_statuses, IsPlayOf}
+use Rattle.auditorium_core.proofs.Imports.{play_answer, play_parts, GivesScriptIn, IsAnswerTo}
 use Rattle.std.specs.List.{Contains}
-use Rattle.hall_outside.specs.Files.{Files}
-use Rattle.election_script.specs.declared.script.Script.{Script}
-use Rattle.polling_world.specs.Keys.{roster_of}
-use Rattle.evidence.specs.Refusal.{Refusal}
 use Rattle.auditorium_core.specs.declared.status.Status.TheVariants as status
-use Rattle.auditorium_core.specs.Lines.{Answer, refusal_answer}
-use Rattle.auditorium_core.specs.Play.{play_statuses}
-use Rattle.auditorium_core.specs.Play.{IsPlayOf, play_answer, play_parts}
-use Rattle.auditorium_core.specs.ScriptFile.{GivesScriptIn}
 use Rattle.auditorium_core.specs.Words.{play}
-use Rattle.auditorium_core.specs.Answer.{IsAnswerTo}
 use Rattle.auditorium_core.proofs.CommandProofs.{HasStatuses, IsCompleted, HasOneAnswer, contains_as, carried_out_as}
 use Rattle.auditorium_core.proofs.OnePlayAnswer.{PlayOne, same_play}
 use Rattle.auditorium_core.proofs.ScriptCommands.{script_completed, undone_done, undone_status, play_statuses_some}
@@ -28,7 +21,7 @@ play_one one script prefix (file ∷ []) a b x y = same_play one script prefix f
 play_one one script prefix [] a b x y = absurd x
 play_one one script prefix (file ∷ other ∷ more) a b x y = absurd x
 
--- it is carried out over a script's file
+-- `play` is carried out over a script's file
 pub play_completed : PlayOne → (script prefix : List ℕ) → IsCompleted (play_parts script prefix)
 play_completed one script prefix (file ∷ []) answer right given =
     script_completed one script file (IsPlayOf prefix) answer given
@@ -60,7 +53,7 @@ pub play_told : (name prefix : List ℕ) (told : Option Files) (script : Script)
     GivesScriptIn name told (Ok script) → IsPlayOf prefix script answer → IsAnswerTo (play name prefix) told answer
 play_told name prefix told script answer (file, is, gives) of = (file ∷ [], (is, tt), inr (script, gives, of))
 
--- which isn't that of an absent file
+-- the status of an answer of `play` isn't that of an absent file
 pub play_is_there : (prefix : List ℕ) (script : Script) (answer : Answer) → IsPlayOf prefix script answer →
     answer.status ≢ status.Absent
 play_is_there prefix script answer of = not_absent of.undone answer.status (ap (λ (a : Answer). a.status) of.told)

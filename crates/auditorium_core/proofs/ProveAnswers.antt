@@ -1,23 +1,13 @@
 -- What `prove` reads, and what it makes of it.
-use Rattle.std.proofs.Common.{◌≡◌, ◌≢◌, ℕ, List, [], ◌∷◌, Option, inl, inr, refl, subst}
-use Rattle.std.specs.Prelude.{Result, Ok, Err, IfOk, IfErr, IfSome}
-use Rattle.log_files.specs.declared.sealed_log.LogRead.{LogRead}
-use Rattle.entry_format.specs.SealedEntry.{SealedEntry}
-use Rattle.entry_graph.specs.EntryGraph.{EntryGraph}
-use Rattle.evidence.specs.declared.fault.AuditFault.{AuditFault}
-use Rattle.evidence.specs.declared.fault.AuditFault.TheVariants.{Absent, Refused, ReadFault, Memory}
-use Rattle.evidence.specs.declared.roster_file.RosterRead.{RosterRead}
-use Rattle.evidence.specs.Refusal.{Refusal, absent, refused, refusal_of, IsAbsent}
-use Rattle.evidence.specs.RosterFile.{GivesRosterIn}
-use Rattle.evidence.specs.Logs.{GivesLogsIn}
-use Rattle.evidence.specs.Graphs.{GivesGraph, graph_refusal}
-use Rattle.entry_graph.specs.declared.fault.GraphFault.{GraphFault}
+use Rattle.std.proofs.Common.{Option}
+use Rattle.auditorium_core.proofs.Imports.{◌≡◌, ◌≢◌, ℕ, List, [], ◌∷◌, inl, inr, refl, subst, Result, Ok, Err, IfOk}
+use Rattle.auditorium_core.proofs.Imports.{IfErr, IfSome, LogRead, SealedEntry, EntryGraph, AuditFault, Refused}
+use Rattle.auditorium_core.proofs.Imports.{RosterRead, Refusal, absent, refused, refusal_of, IsAbsent, GivesRosterIn}
+use Rattle.auditorium_core.proofs.Imports.{GivesLogsIn, GivesGraph, graph_refusal, GraphFault, StoreSeen, IsReadFrom}
+use Rattle.auditorium_core.proofs.Imports.{some_files, read_then, read_ends, read_last, ProofMade, ProvesLogs}
+use Rattle.auditorium_core.proofs.Imports.{ProvesFilesIn, GivesMadeIn}
+use Rattle.evidence.specs.declared.fault.AuditFault.TheVariants.{Absent, ReadFault, Memory}
 use Rattle.entry_graph.specs.declared.fault.GraphFault.TheVariants as graph
-use Rattle.evidence.specs.Reading.{StoreSeen, IsReadFrom}
-use Rattle.evidence.proofs.LogLists.{some_files}
-use Rattle.evidence.proofs.Steps.{read_then, read_ends, read_last}
-use Rattle.auditorium_core.specs.Prove.{ProofMade, ProvesLogs}
-use Rattle.auditorium_core.specs.inside.Checking.{ProvesFilesIn, GivesMadeIn}
 use Rattle.auditorium_core.proofs.ReadSteps.{ok_as, err_as}
 
 -- entries that have no graph aren't an absent file
@@ -55,7 +45,7 @@ module _ {L : Type 0} (items : L → List LogRead) (read : RosterRead) (proof : 
       (λ refusal is. (files, are, inl (items logs, gives, is))) err)
       only
 
-  -- or a log is refused
+  -- a refusal of the logs is that of the proof
   pub logs_refused : (fault : AuditFault) →
       IsReadFrom items (GivesLogsIn read.roster.machines read.election names) old (Err fault) new →
       IsReadFrom itself (ProvesFilesIn read proof names) old (Err fault) new
@@ -74,7 +64,7 @@ module _ (roster proof : List ℕ) (names : List (List ℕ)) where
       (GivesMadeIn roster proof names) old mid new read result first rest
       (λ answer (this, at, gives) (files, are, with). (this ∷ files, (at, are), inl (read, gives, with)))
 
-  -- or refused
+  -- a refusal of the roster is that of the proof
   pub roster_ends : (old new : StoreSeen) (fault : AuditFault) →
       IsReadFrom (λ (r : RosterRead). r) (GivesRosterIn roster) old (Err fault) new →
       IsReadFrom itself (GivesMadeIn roster proof names) old (Err fault) new

@@ -1,18 +1,11 @@
 -- The command `prove`.
-use Rattle.std.proofs.Common.{◌≡◌, ◌≢◌, ◌∙◌, ℕ, List, [], ◌∷◌, Option, inl, inr, refl, sym, ap, arith}
-use Rattle.std.specs.Prelude.{Result, Ok, Err}
+use Rattle.std.proofs.Common.{Option}
+use Rattle.auditorium_core.proofs.Imports.{◌≡◌, ◌≢◌, ◌∙◌, ℕ, List, [], ◌∷◌, inl, inr, refl, sym, ap, arith, Result}
+use Rattle.auditorium_core.proofs.Imports.{Ok, Err, All-from_recursion, Files, Refusal, Status, Answer}
+use Rattle.auditorium_core.proofs.Imports.{refusal_answer, ProofMade, GivesMade, IsProofOver, proof_answer}
+use Rattle.auditorium_core.proofs.Imports.{prove_parts, prove, IsAnswerTo, IsCarriedOut, GivesMadeIn}
 use Rattle.std.specs.List.{Contains}
-use Rattle.std.proofs.lemmas.List.Elements.{All-from_recursion}
-use Rattle.hall_outside.specs.Files.{Files}
-use Rattle.evidence.specs.Refusal.{Refusal}
-use Rattle.auditorium_core.specs.declared.status.Status.{Status}
 use Rattle.auditorium_core.specs.declared.status.Status.TheVariants as status
-use Rattle.auditorium_core.specs.Lines.{Answer, refusal_answer}
-use Rattle.auditorium_core.specs.Prove.{ProofMade, GivesMade, IsProofOver, proof_answer, prove_parts}
-use Rattle.auditorium_core.specs.Words.{prove}
-use Rattle.auditorium_core.specs.Answer.{IsAnswerTo}
-use Rattle.auditorium_core.specs.Complete.{IsCarriedOut}
-use Rattle.auditorium_core.specs.inside.Checking.{GivesMadeIn}
 use Rattle.auditorium_core.proofs.CommandProofs.{IsOfCommands, HasStatuses, IsCompleted, HasOneAnswer, contains_as}
 use Rattle.auditorium_core.proofs.CommandProofs.{carried_out_as, of_read, status_is}
 use Rattle.auditorium_core.proofs.OneOrderAnswer.{OrderOne}
@@ -28,7 +21,7 @@ prove_one order one roster proof logs files a b =
     (one_made order one roster proof logs files)
     (λ f g gives same x y. x ∙ ap (proof_answer proof) same ∙ sym y)
 
--- it is carried out over what gives a proof
+-- `prove` is carried out over files that give a proof
 pub prove_completed : OrderOne → ProofOne → (roster proof : List ℕ) (logs : List (List ℕ)) →
     IsCompleted (prove_parts roster proof logs)
 prove_completed order one roster proof logs files answer (inl (refusal, gives, e)) (made, given) =
@@ -55,12 +48,12 @@ module _ (roster proof : List ℕ) (logs : List (List ℕ)) (told : Option Files
       IsAnswerTo (prove roster proof logs) told (refusal_answer refusal)
   prove_refused refusal (files, are, gives) = (files, are, inl (refusal, gives, refl))
 
-  -- and a proof
+  -- a proof is answered
   pub prove_told : (made : ProofMade) (answer : Answer) → GivesMadeIn roster proof logs told (Ok made) →
       answer ≡ proof_answer proof made → IsAnswerTo (prove roster proof logs) told answer
   prove_told made answer (files, are, gives) is = (files, are, inr (made, gives, is))
 
--- its status isn't that of an absent file
+-- the status of an answer with a proof isn't that of an absent file
 pub prove_is_there : (proof : List ℕ) (made : ProofMade) (answer : Answer) → answer ≡ proof_answer proof made →
     answer.status ≢ status.Absent
 prove_is_there proof made answer told is =

@@ -1,14 +1,9 @@
 -- Steps that read, and steps between them that don't.
-use Rattle.std.proofs.Common.{◌≡◌, ◌≢◌, ℕ, ◌<◌, ◌≤◌, List, [], ◌∷◌, ◌++◌, Option, refl, subst, arith}
-use Rattle.std.specs.Prelude.{Result, Ok, Err, IfOk, IfErr, IfSome}
-use Rattle.hall_outside.specs.Files.{Files, OnFile}
-use Rattle.evidence.specs.declared.fault.AuditFault.{AuditFault}
+use Rattle.std.proofs.Common.{Option}
+use Rattle.auditorium_core.proofs.Imports.{◌≡◌, ◌≢◌, ℕ, ◌<◌, ◌≤◌, List, [], ◌∷◌, ◌++◌, refl, subst, arith, Result, Ok}
+use Rattle.auditorium_core.proofs.Imports.{Err, IfOk, IfErr, IfSome, Files, OnFile, AuditFault, AreFiles, Refusal}
+use Rattle.auditorium_core.proofs.Imports.{refusal_of, IsAbsent, StoreSeen, IsReadFrom, no_cause, on_refusal}
 use Rattle.evidence.specs.declared.fault.AuditFault.TheVariants.{ReadFault}
-use Rattle.evidence.specs.NamedFiles.{AreFiles}
-use Rattle.evidence.specs.Refusal.{Refusal, refusal_of, IsAbsent}
-use Rattle.evidence.specs.Reading.{StoreSeen, IsReadFrom}
-use Rattle.evidence.proofs.Readings.{no_cause}
-use Rattle.evidence.proofs.Steps.{on_refusal}
 
 -- what holds of an answer holds in another way
 pub ok_as : {T E : Type 0} (result : Result T E) (P Q : T → Type 0) → ((found : T) → P found → Q found) →
@@ -16,7 +11,7 @@ pub ok_as : {T E : Type 0} (result : Result T E) (P Q : T → Type 0) → ((foun
 ok_as (Ok found) P Q step is = step found is
 ok_as (Err e) P Q step is = tt
 
--- and of a refusal
+-- what holds of a refusal holds in another way
 pub err_as : {T : Type 0} (result : Result T AuditFault) (P Q : Refusal → Type 0) → ((r : Refusal) → P r → Q r) →
     IfErr result (λ fault. IfSome (refusal_of fault) P) → IfErr result (λ fault. IfSome (refusal_of fault) Q)
 err_as (Ok found) P Q step is = tt

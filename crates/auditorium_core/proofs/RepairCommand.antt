@@ -1,18 +1,10 @@
 -- The command `repair`.
-use Rattle.std.proofs.Common.{◌≢◌, ℕ, List, [], ◌∷◌, Option, inl, inr, refl, ap}
-use Rattle.std.specs.Prelude.{Ok, Err}
+use Rattle.std.proofs.Common.{Option}
+use Rattle.auditorium_core.proofs.Imports.{◌≢◌, ℕ, List, [], ◌∷◌, inl, inr, refl, ap, Ok, Err, Files, Script}
+use Rattle.auditorium_core.proofs.Imports.{roster_of, Refusal, Answer, refusal_answer, play_statuses, IsRepairOf}
+use Rattle.auditorium_core.proofs.Imports.{repair_answer, repair_parts, GivesScriptIn, repair, IsAnswerTo}
 use Rattle.std.specs.List.{Contains}
-use Rattle.hall_outside.specs.Files.{Files}
-use Rattle.election_script.specs.declared.script.Script.{Script}
-use Rattle.polling_world.specs.Keys.{roster_of}
-use Rattle.evidence.specs.Refusal.{Refusal}
 use Rattle.auditorium_core.specs.declared.status.Status.TheVariants as status
-use Rattle.auditorium_core.specs.Lines.{Answer, refusal_answer}
-use Rattle.auditorium_core.specs.Play.{play_statuses}
-use Rattle.auditorium_core.specs.Repair.{IsRepairOf, repair_answer, repair_parts}
-use Rattle.auditorium_core.specs.ScriptFile.{GivesScriptIn}
-use Rattle.auditorium_core.specs.Words.{repair}
-use Rattle.auditorium_core.specs.Answer.{IsAnswerTo}
 use Rattle.auditorium_core.proofs.CommandProofs.{HasStatuses, IsCompleted, HasOneAnswer, contains_as, carried_out_as}
 use Rattle.auditorium_core.proofs.OnePlayAnswer.{PlayOne}
 use Rattle.auditorium_core.proofs.Repairs.{same_repair}
@@ -29,7 +21,7 @@ repair_one one script prefix (file ∷ []) a b x y = same_repair one script pref
 repair_one one script prefix [] a b x y = absurd x
 repair_one one script prefix (file ∷ other ∷ more) a b x y = absurd x
 
--- it is carried out over a script's file
+-- `repair` is carried out over a script's file
 pub repair_completed : PlayOne → (script prefix : List ℕ) → IsCompleted (repair_parts script prefix)
 repair_completed one script prefix (file ∷ []) answer right given =
     script_completed one script file (IsRepairOf prefix) answer given
@@ -61,7 +53,7 @@ pub repair_told : (name prefix : List ℕ) (told : Option Files) (script : Scrip
     GivesScriptIn name told (Ok script) → IsRepairOf prefix script answer → IsAnswerTo (repair name prefix) told answer
 repair_told name prefix told script answer (file, is, gives) of = (file ∷ [], (is, tt), inr (script, gives, of))
 
--- which isn't that of an absent file
+-- the status of an answer of `repair` isn't that of an absent file
 pub repair_is_there : (prefix : List ℕ) (script : Script) (answer : Answer) → IsRepairOf prefix script answer →
     answer.status ≢ status.Absent
 repair_is_there prefix script answer of = not_absent of.undone answer.status (ap (λ (a : Answer). a.status) of.told)

@@ -1,39 +1,20 @@
 -- A script whose machines play, are mended and finish.
-use mathlib.Core.Path.{fun_ext}
-use Rattle.std.proofs.Common.{◌≡◌, ◌∙◌, ℕ, List, [], ◌∷◌, ◌++◌, length, map, get_or, Option, Some, None}
-use Rattle.std.proofs.Common.{false, refl, sym, ap, subst}
-use Rattle.std.specs.Prelude.{All, option_map, slice_get}
-use Rattle.std.proofs.lemmas.List.{length-map}
-use Rattle.std.proofs.lemmas.Option.{slice_get-get_or, slice_get-map}
-use Rattle.entry_format.specs.Nodes.{node_of_sealed}
-use Rattle.entry_format.specs.SealedEntry.{SealedEntry}
-use Rattle.entry_order.specs.declared.event.Event.{Event}
-use Rattle.entry_order.specs.declared.step.Step.{Step}
-use Rattle.entry_order.specs.World.{World, happens, play, start}
-use Rattle.election_script.specs.declared.script.Cast0.{Cast0}
-use Rattle.election_script.specs.declared.script.Script.{Script}
-use Rattle.polling_world.specs.Configs.{Config, IsOf, config_of, script_configs}
-use Rattle.polling_world.specs.Keys.{post_of, roster_of}
-use Rattle.polling_world.specs.Machines.{MachineState}
-use Rattle.polling_world.specs.Playing.{AreOf, IsPlayed}
-use Rattle.polling_world.specs.Steps.{IsStepOf}
-use Rattle.polling_world.specs.Worlds.{WorldState, HaveLog, TellsNext, configs_of, machine_of, stops_of, world_of}
-use Rattle.polling_world.proofs.NextTold.{tells_same}
-use Rattle.polling_world.proofs.Placing.{get-map_from}
-use Rattle.polling_world.proofs.WorldMaking.{fresh_configs}
-use Rattle.log_repair.specs.Mending.{Finishes, Repairs}
-use Rattle.log_repair.specs.Outcomes.{LeadsTo}
-use Rattle.log_repair.proofs.InWorld.{repairs_are_of}
-use Rattle.log_repair.proofs.Making.{same_log}
-use Rattle.log_repair.proofs.OneWay.{finishes_is_one, repairs_is_one}
-use Rattle.log_repair.proofs.Plays.{finishes_is_a_play, play-append, repairs_is_a_play}
-use Rattle.auditorium_core.specs.Lines.{Answer}
-use Rattle.auditorium_core.specs.Play.{SayUndone}
-use Rattle.auditorium_core.specs.Repair.{AreMendedBy, IsRepairAnswer, IsRepairOf, repair_answer, with_steps}
-use Rattle.auditorium_core.specs.ScriptFile.{GivesScript}
-use Rattle.auditorium_core.specs.inside.Repaired.{ComesByRepair}
+use Rattle.auditorium_core.proofs.Imports.{agree_equal, fun_ext, ◌≡◌, ◌∙◌, ℕ, List, [], ◌∷◌, ◌++◌, map, get_or, None}
+use Rattle.auditorium_core.proofs.Imports.{refl, sym, ap, subst, option_map, slice_get, length-map, slice_get-get_or}
+use Rattle.auditorium_core.proofs.Imports.{slice_get-map, node_of_sealed, SealedEntry, Event, Step, World, happens}
+use Rattle.auditorium_core.proofs.Imports.{start, Cast0, Script, Config, IsOf, config_of, script_configs, post_of}
+use Rattle.auditorium_core.proofs.Imports.{roster_of, MachineState, AreOf, IsPlayed, IsStepOf, WorldState, HaveLog}
+use Rattle.auditorium_core.proofs.Imports.{TellsNext, configs_of, machine_of, stops_of, world_of, tells_same}
+use Rattle.auditorium_core.proofs.Imports.{get-map_from, fresh_configs, Finishes, Repairs, LeadsTo, repairs_are_of}
+use Rattle.auditorium_core.proofs.Imports.{same_log, finishes_is_one, repairs_is_one, finishes_is_a_play, play-append}
+use Rattle.auditorium_core.proofs.Imports.{repairs_is_a_play, Answer, SayUndone, AreMendedBy, IsRepairAnswer}
+use Rattle.auditorium_core.proofs.Imports.{IsRepairOf, repair_answer, with_steps, GivesScript, ComesByRepair}
+use Rattle.std.proofs.Common.{length, Option, Some}
+use Rattle.std.proofs.Common.{false}
+use Rattle.std.specs.Prelude.{All}
+use Rattle.entry_order.specs.World.{play}
 use Rattle.auditorium_core.proofs.OnePlayAnswer.{PlayOne, one_script, same_undone}
-use Rattle.auditorium_core.proofs.SameOr.{same_or, agree_equal}
+use Rattle.auditorium_core.proofs.SameOr.{same_or}
 
 -- ---- what the script's machines are made of
 

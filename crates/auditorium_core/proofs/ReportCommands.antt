@@ -1,12 +1,9 @@
 -- The commands that answer with a report.
-use Rattle.std.proofs.Common.{◌≡◌, [], ◌∷◌, refl, arith}
+use Rattle.auditorium_core.proofs.Imports.{◌≡◌, [], ◌∷◌, refl, arith, All-from_recursion, Outcome, status_by}
+use Rattle.auditorium_core.proofs.Imports.{report_statuses, IsCarriedOut}
 use Rattle.std.specs.List.{All, Contains}
-use Rattle.std.proofs.lemmas.List.Elements.{All-from_recursion}
-use Rattle.auditor.specs.declared.outcome.Outcome.{Outcome}
 use Rattle.auditor.specs.declared.outcome.Outcome.TheVariants as outcome
 use Rattle.auditorium_core.specs.declared.status.Status.TheVariants as status
-use Rattle.auditorium_core.specs.ReportAnswers.{status_by, report_statuses}
-use Rattle.auditorium_core.specs.Complete.{IsCarriedOut}
 use Rattle.auditorium_core.proofs.CommandProofs.{IsOfCommands}
 
 -- each outcome of a report has a status of a command that was carried out
@@ -16,20 +13,21 @@ outcome_done outcome.Findings = tt
 outcome_done outcome.Unsettled = tt
 outcome_done outcome.Broken = tt
 
--- and one of those of a report
+-- each outcome of a report has one of a report's statuses
 pub outcome_status : (came : Outcome) → Contains report_statuses (status_by came)
 outcome_status outcome.Kept = (0, omega arith, refl)
 outcome_status outcome.Findings = (1, omega arith, refl)
 outcome_status outcome.Unsettled = (2, omega arith, refl)
 outcome_status outcome.Broken = (3, omega arith, refl)
 
--- among which a refusal's are
+-- the status of a refusal is one of a report's
 pub refused_status : Contains report_statuses status.Refused
 refused_status = (4, omega arith, refl)
 
+-- the status of an absent file is one of a report's
 pub absent_status : Contains report_statuses status.Absent
 absent_status = (5, omega arith, refl)
 
--- and which commands can have
+-- a report's statuses are ones that commands can have
 pub report_statuses_some : All IsOfCommands report_statuses
 report_statuses_some = All-from_recursion IsOfCommands report_statuses (tt, (tt, (tt, (tt, (tt, (tt, tt))))))

@@ -1,18 +1,10 @@
 -- The command `run`.
-use Rattle.std.proofs.Common.{◌≢◌, ℕ, List, [], ◌∷◌, Option, inl, inr, refl, ap}
-use Rattle.std.specs.Prelude.{Ok, Err}
+use Rattle.std.proofs.Common.{Option}
+use Rattle.auditorium_core.proofs.Imports.{◌≢◌, ℕ, List, [], ◌∷◌, inl, inr, refl, ap, Ok, Err, Files, Script}
+use Rattle.auditorium_core.proofs.Imports.{roster_of, Refusal, Answer, refusal_answer, play_statuses, IsRunOf}
+use Rattle.auditorium_core.proofs.Imports.{run_answer, run_parts, GivesScriptIn, run, IsAnswerTo}
 use Rattle.std.specs.List.{Contains}
-use Rattle.hall_outside.specs.Files.{Files}
-use Rattle.election_script.specs.declared.script.Script.{Script}
-use Rattle.polling_world.specs.Keys.{roster_of}
-use Rattle.evidence.specs.Refusal.{Refusal}
 use Rattle.auditorium_core.specs.declared.status.Status.TheVariants as status
-use Rattle.auditorium_core.specs.Lines.{Answer, refusal_answer}
-use Rattle.auditorium_core.specs.Play.{play_statuses}
-use Rattle.auditorium_core.specs.Run.{IsRunOf, run_answer, run_parts}
-use Rattle.auditorium_core.specs.ScriptFile.{GivesScriptIn}
-use Rattle.auditorium_core.specs.Words.{run}
-use Rattle.auditorium_core.specs.Answer.{IsAnswerTo}
 use Rattle.auditorium_core.proofs.CommandProofs.{HasStatuses, IsCompleted, contains_as, carried_out_as}
 use Rattle.auditorium_core.proofs.OnePlayAnswer.{PlayOne}
 use Rattle.auditorium_core.proofs.ScriptCommands.{script_completed, undone_done, undone_status, play_statuses_some}
@@ -22,7 +14,7 @@ use Rattle.auditorium_core.proofs.ScriptCommands.{script_status, not_absent}
 abbrev told_by : (prefix : List ℕ) (script : Script) (answer : Answer) → IsRunOf prefix script answer → Answer
 told_by prefix script answer done = run_answer prefix (roster_of script) done.machines done.losses done.undone
 
--- it is carried out over a script's file
+-- `run` is carried out over a script's file
 pub run_completed : PlayOne → (script prefix : List ℕ) → IsCompleted (run_parts script prefix)
 run_completed one script prefix (file ∷ []) answer right given =
     script_completed one script file (IsRunOf prefix) answer given
@@ -54,7 +46,7 @@ pub run_told : (name prefix : List ℕ) (told : Option Files) (script : Script) 
     GivesScriptIn name told (Ok script) → IsRunOf prefix script answer → IsAnswerTo (run name prefix) told answer
 run_told name prefix told script answer (file, is, gives) of = (file ∷ [], (is, tt), inr (script, gives, of))
 
--- which isn't that of an absent file
+-- the status of an answer of `run` isn't that of an absent file
 pub run_is_there : (prefix : List ℕ) (script : Script) (answer : Answer) → IsRunOf prefix script answer →
     answer.status ≢ status.Absent
 run_is_there prefix script answer of = not_absent of.undone answer.status (ap (λ (a : Answer). a.status) of.told)

@@ -1,30 +1,13 @@
 -- What a run of a script in threads comes to is an answer.
-use Rattle.std.proofs.Common.{◌≡◌, ◌∙◌, ℕ, List, length, map, Option, Some, refl, sym, ap, subst, arith}
-use Rattle.std.specs.Prelude.{slice_get, All}
-use Rattle.std.proofs.lemmas.List.{length-map}
-use Rattle.entry_format.specs.Nodes.{node_of_sealed}
-use Rattle.entry_format.specs.SealedEntry.{SealedEntry}
-use Rattle.entry_order.specs.declared.step.Step.{Step}
-use Rattle.entry_order.specs.Merged.{PlacedEvent, IsMergedOf, step_of}
-use Rattle.entry_order.specs.World.{World, history, play, start}
-use Rattle.entry_order.proofs.Machines.{length_play, length_start}
-use Rattle.entry_order.proofs.MergedOrder.{worlds_have_one_merged_order}
-use Rattle.entry_order.proofs.Orders.{one_order}
-use Rattle.roster.specs.declared.post.Post.{Post}
-use Rattle.floor_losses.specs.declared.loss.Loss.{Loss}
-use Rattle.election_script.specs.declared.script.Script.{Script}
-use Rattle.election_script.specs.Lawful.{IsLawful}
-use Rattle.polling_world.specs.Configs.{script_configs}
-use Rattle.polling_world.specs.Keys.{post_of}
-use Rattle.polling_world.specs.Machines.{MachineState}
-use Rattle.polling_world.specs.Playing.{ComesTo}
-use Rattle.polling_world.specs.Worlds.{world_of}
-use Rattle.polling_world.proofs.NextTold.{next_of, tells_next}
-use Rattle.finished_floor.specs.Floors.{ArePlayedAgain, IsFloorOf}
-use Rattle.auditorium_core.specs.Lines.{Answer}
-use Rattle.auditorium_core.specs.Play.{SayUndone}
-use Rattle.auditorium_core.specs.inside.Losses.{IsBetween}
-use Rattle.auditorium_core.specs.Run.{IsRunOf, run_answer}
+use Rattle.std.proofs.Common.{length, Option, Some}
+use Rattle.std.specs.Prelude.{All}
+use Rattle.auditorium_core.proofs.Imports.{◌≡◌, ◌∙◌, ℕ, List, map, refl, sym, ap, subst, arith, slice_get, length-map}
+use Rattle.auditorium_core.proofs.Imports.{node_of_sealed, SealedEntry, Step, PlacedEvent, IsMergedOf, step_of, World}
+use Rattle.auditorium_core.proofs.Imports.{history, start, length_play, length_start, worlds_have_one_merged_order}
+use Rattle.auditorium_core.proofs.Imports.{one_order, Post, Loss, Script, IsLawful, script_configs, post_of}
+use Rattle.auditorium_core.proofs.Imports.{MachineState, ComesTo, world_of, next_of, tells_next, ArePlayedAgain}
+use Rattle.auditorium_core.proofs.Imports.{IsFloorOf, Answer, SayUndone, IsBetween, IsRunOf, run_answer}
+use Rattle.entry_order.specs.World.{play}
 use Rattle.auditorium_core.proofs.HonestPlaces.{leave_honest_files}
 
 module _ (prefix : List ℕ) (script : Script) (lawful : IsLawful script) (posts : List Post)

@@ -1,20 +1,10 @@
 -- The graphs of the same entries have the same arrows.
-use Rattle.std.proofs.Common.{◌≡◌, ℕ, ◌<◌, Bool, true, false, List, length, Option, Some, None, refl, sym, ap, ◌∙◌}
-use Rattle.std.proofs.Common.{subst, arith}
-use Rattle.std.specs.Prelude.{slice_get, Ok}
+use Rattle.std.proofs.Common.{Bool, true, false, length, Option, Some}
+use Rattle.auditorium_core.proofs.Imports.{◌≡◌, ℕ, ◌<◌, List, None, refl, sym, ap, ◌∙◌, subst, arith, slice_get, Ok}
+use Rattle.auditorium_core.proofs.Imports.{slice_get_within, Node, IsGraphOf, Contains-none, element_at, SealedEntry}
+use Rattle.auditorium_core.proofs.Imports.{node_of_sealed, EntryGraph, Links, parents_in, parents_of, ragged_of}
+use Rattle.auditorium_core.proofs.Imports.{HaveSameArrows, GivesGraph, SameGraph, nodes_of}
 use Rattle.std.specs.List.{Contains}
-use Rattle.std.proofs.lemmas.Option.{slice_get_within}
-use Rattle.entry_order.specs.Node.{Node}
-use Rattle.entry_order.specs.Settled.{IsGraphOf}
-use Rattle.entry_order.proofs.Lists.{Contains-none}
-use Rattle.entry_order.proofs.Places.{element_at}
-use Rattle.entry_format.specs.SealedEntry.{SealedEntry}
-use Rattle.entry_format.specs.Nodes.{node_of_sealed}
-use Rattle.entry_graph.specs.EntryGraph.{EntryGraph, Links, parents_in, parents_of, ragged_of}
-use Rattle.audit_proof.specs.OneReading.{HaveSameArrows}
-use Rattle.evidence.specs.Graphs.{GivesGraph}
-use Rattle.evidence.specs.Same.{SameGraph}
-use Rattle.auditor.specs.Judged.{nodes_of}
 
 -- two tests that fail in the same cases are one
 same_test : (a b : Bool) → (a ≡ false → b ≡ false) → (b ≡ false → a ≡ false) → a ≡ b
@@ -46,7 +36,7 @@ module _ {T : Type 0} (node : T → Node) (S : List T) (links others : List Link
       (λ no. (two.gaps_shown x e at).1 ((one.gaps_shown x e at).0 no))
       (λ no. (one.gaps_shown x e at).1 ((two.gaps_shown x e at).0 no))
 
--- so two graphs of the same entries have the same arrows
+-- two graphs of the same entries have the same arrows
 pub same_nodes : (given : List SealedEntry) (g h : EntryGraph SealedEntry) → GivesGraph given (Ok g) →
     GivesGraph given (Ok h) → SameGraph g h → HaveSameArrows (nodes_of g) (nodes_of h)
 same_nodes given g h is also same =

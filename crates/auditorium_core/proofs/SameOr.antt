@@ -1,9 +1,6 @@
 -- What is read in one way has one answer.
-use Rattle.std.proofs.Common.{◌≡◌, ◌∙◌, inl, inr, ap, sym}
-use Rattle.std.specs.Prelude.{Result, Ok, Err}
-use Rattle.evidence.specs.Refusal.{Refusal}
-use Rattle.evidence.specs.Same.{Agree}
-use Rattle.auditorium_core.specs.Lines.{Answer, OrRefused, refusal_answer}
+use Rattle.auditorium_core.proofs.Imports.{◌≡◌, ◌∙◌, inl, inr, ap, sym, Result, Ok, Err, Refusal, Agree, Answer}
+use Rattle.auditorium_core.proofs.Imports.{OrRefused, refusal_answer}
 
 -- what is read in one way has one answer, where what is found has
 pub same_or : {T : Type 0} (Same : T → T → Type 0) (Gives : Result T Refusal → Type 0) (IsFor : T → Answer → Type 0)
@@ -18,10 +15,3 @@ same_or Same Gives IsFor a b one next (inr (f, gives, is)) (inl (s, gives', e)) 
     absurd (one (Ok f) (Err s) gives gives')
 same_or Same Gives IsFor a b one next (inr (f, gives, is)) (inr (g, gives', is')) =
     next f g gives (one (Ok f) (Ok g) gives gives') is is'
-
--- two equal answers agree
-pub agree_equal : {T : Type 0} (p q : Result T Refusal) → p ≡ q → Agree (λ (f g : T). f ≡ g) p q
-agree_equal (Ok f) (Ok g) e = cc
-agree_equal (Ok f) (Err s) e = cc
-agree_equal (Err r) (Ok g) e = cc
-agree_equal (Err r) (Err s) e = cc

@@ -1,15 +1,10 @@
 -- The commands that go by a script.
-use Rattle.std.proofs.Common.{◌≡◌, ◌≢◌, ◌∙◌, ℕ, List, [], ◌∷◌, Option, Some, None, inl, inr, refl, sym, arith}
-use Rattle.std.specs.Prelude.{Ok, Err}
+use Rattle.std.proofs.Common.{Option, Some}
+use Rattle.auditorium_core.proofs.Imports.{◌≡◌, ◌≢◌, ◌∙◌, ℕ, List, [], ◌∷◌, None, inl, inr, refl, sym, arith, Ok, Err}
+use Rattle.auditorium_core.proofs.Imports.{All-from_recursion, Script, Status, Answer, OrRefused, GivesScript}
+use Rattle.auditorium_core.proofs.Imports.{IsScriptFile, play_statuses, status_of_undone, IsCarriedOut}
 use Rattle.std.specs.List.{All, Contains}
-use Rattle.std.proofs.lemmas.List.Elements.{All-from_recursion}
-use Rattle.election_script.specs.declared.script.Script.{Script}
-use Rattle.auditorium_core.specs.declared.status.Status.{Status}
 use Rattle.auditorium_core.specs.declared.status.Status.TheVariants as status
-use Rattle.auditorium_core.specs.Lines.{Answer, OrRefused}
-use Rattle.auditorium_core.specs.ScriptFile.{GivesScript, IsScriptFile}
-use Rattle.auditorium_core.specs.Play.{play_statuses, status_of_undone}
-use Rattle.auditorium_core.specs.Complete.{IsCarriedOut}
 use Rattle.auditorium_core.proofs.CommandProofs.{IsOfCommands, of_read}
 use Rattle.auditorium_core.proofs.OnePlayAnswer.{PlayOne, one_script}
 
@@ -30,12 +25,12 @@ pub undone_done : (lines : List ℕ) → IsCarriedOut (status_of_undone lines)
 undone_done [] = tt
 undone_done (byte ∷ bytes) = tt
 
--- and is one of those of machines that play
+-- each status of lines on what is left is one of those of machines that play
 pub undone_status : (lines : List ℕ) → Contains play_statuses (status_of_undone lines)
 undone_status [] = (0, omega arith, refl)
 undone_status (byte ∷ bytes) = (1, omega arith, refl)
 
--- which commands can have
+-- the statuses of machines that play are ones that commands can have
 pub play_statuses_some : All IsOfCommands play_statuses
 play_statuses_some = All-from_recursion IsOfCommands play_statuses (tt, (tt, (tt, (tt, tt))))
 

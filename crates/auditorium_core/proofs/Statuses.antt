@@ -1,15 +1,10 @@
 -- What the status of an answer says of the words.
-use Rattle.std.proofs.Common.{◌≡◌, List, ℕ, Option, Bool, true, inl, inr, sym, ap, subst}
+use Rattle.std.proofs.Common.{Option, Bool, true}
 use Rattle.std.specs.List.{Contains}
-use Rattle.std.proofs.lemmas.List.Elements.{All-contains}
-use Rattle.hall_outside.specs.Files.{Files}
-use Rattle.auditorium_core.specs.declared.status.Status.{Status}
+use Rattle.auditorium_core.proofs.Imports.{◌≡◌, List, ℕ, inl, inr, sym, ap, subst, All-contains, Files, Status}
+use Rattle.auditorium_core.proofs.Imports.{Command, command_parts, Means, AreGood, Answer, usage_answer, AnswersWords}
+use Rattle.auditorium_core.proofs.Imports.{IsOfAnswers, HasItsWords, Outside, GivesAnswer, IsWritten, HasDone}
 use Rattle.auditorium_core.specs.declared.status.Status.TheVariants as status
-use Rattle.auditorium_core.specs.Words.{Command, command_parts, Means, AreGood}
-use Rattle.auditorium_core.specs.Lines.{Answer, usage_answer}
-use Rattle.auditorium_core.specs.Answer.{AnswersWords, IsOfAnswers, HasItsWords}
-use Rattle.auditorium_core.specs.Outside.{Outside}
-use Rattle.auditorium_core.specs.Outcome.{GivesAnswer, IsWritten, HasDone}
 use Rattle.auditorium_core.proofs.CommandProofs.{IsOfCommands}
 use Rattle.auditorium_core.proofs.Commands.{have_statuses}
 
@@ -35,7 +30,7 @@ command_words IsDone words command answer done means has = record {
     some : IsOfCommands answer.status
     some = All-contains IsOfCommands (command_parts command).statuses answer.status (have_statuses command).some has
 
--- what the status of words that aren't good says
+-- what the status of an invalid command line says
 usage_words : (IsDone : Command → Type 0) (words : List (List ℕ)) (answer : Answer) → ¬ AreGood IsDone words →
     answer ≡ usage_answer → HasItsWords IsDone words answer
 usage_words IsDone words answer bad e = record {
@@ -48,7 +43,7 @@ usage_words IsDone words answer bad e = record {
     is : answer.status ≡ status.Usage
     is = ap (λ (a : Answer). a.status) e
 
--- what the status says of the words of any command, and of words that aren't good
+-- what the status says of the words of any command, and of an invalid command line
 pub status_words : (IsDone : Command → Type 0) (words : List (List ℕ)) (told : Option Files) (answer : Answer) →
     AnswersWords IsDone words told answer → HasItsWords IsDone words answer
 status_words IsDone words told answer (inl (command, done, means, (files, are, is))) =
@@ -63,7 +58,7 @@ pub is_done : (IsDone : Command → Type 0) (words : List (List ℕ)) (is_writte
 is_done IsDone words is_written_by old new answer how same gives calls written =
     by_status how same (status_words IsDone words old.store.files answer gives.answers).some
   where
-    -- by the status: failed calls and want of memory have none that is an answer's
+    -- by the status: failed calls and running out of memory have none that is an answer's
     by_status : (how : Status) → how ≡ answer.status → IsOfAnswers answer.status →
         HasDone IsDone words is_written_by old how new
     by_status status.ReadFault e some = absurd (subst IsOfAnswers (sym e) some)

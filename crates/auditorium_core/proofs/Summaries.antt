@@ -1,36 +1,17 @@
 -- What is said of entries, one after another.
-use Rattle.std.proofs.Common.{◌≡◌, ◌∙◌, ℕ, suc, zero, ◌+◌, ◌<◌, ◌≤◌, Bool, true, false, cond, List, [], ◌∷◌, ◌++◌}
-use Rattle.std.proofs.Common.{length, map, take, Some, inl, inr, refl, sym, ap, subst, arith, append_assoc}
-use Rattle.std.proofs.Common.{length-append, append-nil}
-use Rattle.std.specs.Prelude.{◌⊎◌, slice_get, Result, Ok, Err, codes, count_by}
-use Rattle.std.specs.List.{AllZip, filter}
-use Rattle.std.proofs.lemmas.Bool.{false≢true, cases_lt, cases_order}
-use Rattle.std.proofs.lemmas.List.{length-map, length-take-le, take-take}
-use Rattle.std.proofs.lemmas.List.Sums.{length-filter}
-use Rattle.std.proofs.lemmas.Option.{slice_get_within, same_Some}
-use Rattle.entry_format.specs.SealedEntry.{SealedEntry}
-use Rattle.entry_order.proofs.Places.{element_at, push_before, last_at}
-use Rattle.entry_graph.specs.EntryGraph.{EntryGraph}
-use Rattle.roster.specs.declared.post.Post.{Post}
-use Rattle.rule_language.specs.Trees.{RuleTree}
-use Rattle.rule_meaning.specs.Widths.{is_too_wide}
-use Rattle.rule_engine.specs.declared.verdict.Verdict.{Verdict}
-use Rattle.rule_engine.specs.declared.verdict.Verdict.TheVariants.{Kept, Broken, Unsettled}
-use Rattle.evidence.specs.OneAnswer.{EntriesGiveOneGraph}
-use Rattle.evidence.specs.Refusal.{Refusal, refused}
-use Rattle.evidence.specs.Same.{Agree, SameGraph}
-use Rattle.auditor.specs.Judged.{AreJudged, IsFirstTooWide, nodes_of}
-use Rattle.auditor.specs.Outcomes.{is_broken, is_unsettled}
-use Rattle.auditor.specs.Rows.{row_of}
-use Rattle.auditor.specs.Sources.{RuleSource, standard, source_word}
-use Rattle.auditor.proofs.OneByOne.{judged_is_narrow}
-use Rattle.auditor.proofs.OneVerdict.{SameVerdict, verdicts_agree}
-use Rattle.live_auditor.specs.Adding.{IsTooWideOver}
-use Rattle.live_auditor.specs.Summary.{Summary, After}
-use Rattle.demonstration.specs.Shown.{is_kept}
-use Rattle.auditorium_core.specs.Watch.{AreSummaries, GivesSummaries, IsTooWideAfter, numbers_line, watch_line}
-use Rattle.auditorium_core.specs.Watch.{watch_lines}
-use Rattle.auditorium_core.proofs.OneByOne.{one_place}
+use Rattle.std.proofs.Common.{suc, true, length, Some, length-append}
+use Rattle.std.specs.Prelude.{◌⊎◌, codes}
+use Rattle.auditorium_core.proofs.Imports.{one_count, same_count}
+use Rattle.auditorium_core.proofs.Imports.{one_place, ◌≡◌, ◌∙◌, ℕ, ◌+◌, ◌<◌, ◌≤◌, List, [], ◌∷◌, ◌++◌, map, take, inl}
+use Rattle.auditorium_core.proofs.Imports.{inr, refl, sym, ap, subst, arith, append_assoc, append-nil, slice_get}
+use Rattle.auditorium_core.proofs.Imports.{Result, Ok, Err, AllZip, false≢true, cases_lt, cases_order, length-map}
+use Rattle.auditorium_core.proofs.Imports.{length-take-le, take-take, slice_get_within, same_Some, SealedEntry}
+use Rattle.auditorium_core.proofs.Imports.{element_at, push_before, last_at, Post, RuleTree, is_too_wide}
+use Rattle.auditorium_core.proofs.Imports.{EntriesGiveOneGraph, Refusal, refused, Agree, SameGraph, AreJudged}
+use Rattle.auditorium_core.proofs.Imports.{IsFirstTooWide, nodes_of, is_broken, is_unsettled, row_of, RuleSource}
+use Rattle.auditorium_core.proofs.Imports.{standard, source_word, judged_is_narrow, SameVerdict, verdicts_agree}
+use Rattle.auditorium_core.proofs.Imports.{IsTooWideOver, Summary, After, is_kept, AreSummaries, GivesSummaries}
+use Rattle.auditorium_core.proofs.Imports.{IsTooWideAfter, watch_line, watch_lines}
 
 -- ---- one more
 
@@ -87,55 +68,14 @@ module _ (machines : List Post) (rules : List RuleTree) (entries : List SealedEn
 
 -- ---- at most one answer
 
--- verdicts that are the same are of one kind
-same_kind : (v w : Verdict) → SameVerdict v w →
-    (is_kept v ≡ is_kept w) × (is_broken v ≡ is_broken w) × (is_unsettled v ≡ is_unsettled w)
-same_kind Kept Kept same = (refl, refl, refl)
-same_kind Kept (Broken q) same = absurd same
-same_kind Kept Unsettled same = absurd same
-same_kind (Broken p) Kept same = absurd same
-same_kind (Broken p) (Broken q) same = (refl, refl, refl)
-same_kind (Broken p) Unsettled same = absurd same
-same_kind Unsettled Kept same = absurd same
-same_kind Unsettled (Broken q) same = absurd same
-same_kind Unsettled Unsettled same = (refl, refl, refl)
-
--- so there are as many of a kind
-same_number : (test : Verdict → Bool) → ((v w : Verdict) → SameVerdict v w → test v ≡ test w) →
-    (vs ws : List Verdict) → AllZip SameVerdict vs ws → length (filter test vs) ≡ length (filter test ws)
-same_number test alike [] [] same = refl
-same_number test alike [] (w ∷ ws) same = absurd same
-same_number test alike (v ∷ vs) [] same = absurd same
-same_number test alike (v ∷ vs) (w ∷ ws) same =
-    ap (λ b. length (cond b (v ∷ filter test vs) (filter test vs))) (alike v w same.0)
-    ∙ by (test w) (same_number test alike vs ws same.1)
-  where
-    -- by whether both are of the kind
-    by : (b : Bool) → length (filter test vs) ≡ length (filter test ws) →
-        length (cond b (v ∷ filter test vs) (filter test vs)) ≡ length (cond b (w ∷ filter test ws) (filter test ws))
-    by true rest = ap suc rest
-    by false rest = rest
-
--- and so the counts are
-same_count : (test : Verdict → Bool) → ((v w : Verdict) → SameVerdict v w → test v ≡ test w) →
-    (vs ws : List Verdict) → AllZip SameVerdict vs ws → count_by test vs ≡ count_by test ws
-same_count test alike vs ws same =
-    sym (length-filter test vs) ∙ same_number test alike vs ws same ∙ length-filter test ws
-
 -- summaries that say the same have one line
 same_line : (n : ℕ) (s t : Summary) → s.survivors ≡ t.survivors → s.gaps ≡ t.gaps →
     AllZip SameVerdict s.verdicts t.verdicts → watch_line n s ≡ watch_line n t
 same_line n s t survivors gaps verdicts =
-    let number : (Verdict → Bool) → Summary → ℕ = λ test u. count_by test u.verdicts in
-    let kept = same_count is_kept (λ v w same. (same_kind v w same).0) s.verdicts t.verdicts verdicts in
-    let broken = same_count is_broken (λ v w same. (same_kind v w same).1) s.verdicts t.verdicts verdicts in
-    let unsettled = same_count is_unsettled (λ v w same. (same_kind v w same).2) s.verdicts t.verdicts verdicts in
-    ap (λ (k : ℕ). numbers_line n k (length s.gaps) (number is_kept s) (number is_broken s) (number is_unsettled s)) survivors
-    ∙ ap (λ (g : List (List ℕ)).
-    numbers_line n t.survivors (length g) (number is_kept s) (number is_broken s) (number is_unsettled s)) gaps
-    ∙ ap (λ (k : ℕ). numbers_line n t.survivors (length t.gaps) k (number is_broken s) (number is_unsettled s)) kept
-    ∙ ap (λ (k : ℕ). numbers_line n t.survivors (length t.gaps) (number is_kept t) k (number is_unsettled s)) broken
-    ∙ ap (λ (k : ℕ). numbers_line n t.survivors (length t.gaps) (number is_kept t) (number is_broken t) k) unsettled
+    let kept = same_count is_kept (λ v w same. (one_count v w same).kept) s.verdicts t.verdicts verdicts in
+    let broken = same_count is_broken (λ v w same. (one_count v w same).broken) s.verdicts t.verdicts verdicts in
+    let unsettled = same_count is_unsettled (λ v w same. (one_count v w same).unsettled) s.verdicts t.verdicts verdicts in
+    rw (survivors, gaps, kept, broken, unsettled) refl
 
 module _ (graphs : EntriesGiveOneGraph) (machines : List Post) (rules : List RuleTree) (entries : List SealedEntry) where
   -- entries are said in one way

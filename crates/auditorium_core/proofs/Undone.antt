@@ -1,11 +1,8 @@
 -- Lines on machines, one machine more.
-use Rattle.std.proofs.Common.{◌≡◌, ◌∙◌, ℕ, ◌+◌, ◌<◌, List, [], ◌∷◌, ◌++◌, Option, length, take, get_or, refl, ap, sym}
-use Rattle.std.proofs.Common.{subst, append_assoc, append-nil}
-use Rattle.std.proofs.lemmas.List.{take_more}
-use Rattle.polling_world.specs.declared.left.Left.{Left}
-use Rattle.polling_world.specs.Machines.{MachineState}
-use Rattle.polling_world.specs.Waiting.{IsLeft}
-use Rattle.auditorium_core.specs.Play.{undone_line, SayUndone}
+use Rattle.std.proofs.Common.{Option, length}
+use Rattle.auditorium_core.proofs.Imports.{◌≡◌, ◌∙◌, ℕ, ◌+◌, ◌<◌, List, [], ◌∷◌, ◌++◌, take, get_or, refl, ap, sym}
+use Rattle.auditorium_core.proofs.Imports.{subst, append_assoc, append-nil, take_more, Left, MachineState, IsLeft}
+use Rattle.auditorium_core.proofs.Imports.{undone_line, SayUndone}
 
 -- one machine more adds a line at the end, if an action is left for it
 undone_push : (machines : List MachineState) (m : MachineState) (left : Option Left) (lines : List ℕ)

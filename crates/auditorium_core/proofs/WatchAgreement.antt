@@ -1,28 +1,16 @@
 -- What `watch` has in common with an audit.
-use Rattle.std.proofs.Common.{◌≡◌, ◌≢◌, ◌∙◌, ℕ, ◌+◌, suc, zero, List, [], ◌∷◌, ◌++◌, length, take, Option, inl, inr}
-use Rattle.std.proofs.Common.{refl, sym, ap, subst, arith}
-use Rattle.std.specs.Prelude.{Result, Ok, Err, Some, slice_get}
-use Rattle.std.proofs.lemmas.List.{take_all}
-use Rattle.entry_order.proofs.Places.{last_at}
-use Rattle.evidence.specs.Graphs.{entries_of, GivesGraph}
-use Rattle.evidence.specs.OneAnswer.{EntriesGiveOneGraph}
-use Rattle.evidence.specs.Refusal.{Refusal, absent, refused}
-use Rattle.auditor.specs.Audits.{GivesReport, WithGraph}
-use Rattle.auditor.specs.OneReport.{FilesGiveOneReport}
-use Rattle.auditor.specs.Outcomes.{outcome_of}
-use Rattle.auditor.specs.Report.{AuditReport, report_on}
-use Rattle.auditor.specs.Same.{SameReport}
-use Rattle.auditor.specs.Sources.{RuleSource}
-use Rattle.live_auditor.specs.Summary.{Summary, After}
-use Rattle.auditorium_core.specs.declared.status.Status.{Status}
+use Rattle.std.proofs.Common.{length, Option}
+use Rattle.auditorium_core.proofs.Imports.{◌≡◌, ◌≢◌, ◌∙◌, ℕ, ◌+◌, suc, zero, List, [], ◌∷◌, ◌++◌, take, inl, inr}
+use Rattle.auditorium_core.proofs.Imports.{refl, sym, ap, subst, arith, Result, Ok, Err, slice_get, take_all, last_at}
+use Rattle.auditorium_core.proofs.Imports.{entries_of, GivesGraph, EntriesGiveOneGraph, Refusal, absent, refused}
+use Rattle.auditorium_core.proofs.Imports.{GivesReport, WithGraph, FilesGiveOneReport, outcome_of, AuditReport}
+use Rattle.auditorium_core.proofs.Imports.{report_on, SameReport, RuleSource, Summary, After, Status, Answer}
+use Rattle.auditorium_core.proofs.Imports.{refusal_answer, source_named, IsAuditOver, IsOfReport, report_answer}
+use Rattle.auditorium_core.proofs.Imports.{status_by, AreSummaries, Evidence, GivesEvidence, GivesWatch, IsWatchOver}
+use Rattle.auditorium_core.proofs.Imports.{watch_answer, watch_line, watch_lines, AgreesWithAudit}
+use Rattle.auditorium_core.proofs.Imports.{WatchesAgreeWithAudits, summary_of}
+use Rattle.std.specs.Prelude.{Some}
 use Rattle.auditorium_core.specs.declared.status.Status.TheVariants as status
-use Rattle.auditorium_core.specs.Lines.{Answer, refusal_answer}
-use Rattle.auditorium_core.specs.Audit.{source_named, IsAuditOver}
-use Rattle.auditorium_core.specs.HonestAudit.{IsOfReport}
-use Rattle.auditorium_core.specs.ReportAnswers.{report_answer, status_by}
-use Rattle.auditorium_core.specs.Watch.{AreSummaries, Evidence, GivesEvidence, GivesWatch, IsWatchOver, watch_answer}
-use Rattle.auditorium_core.specs.Watch.{watch_line, watch_lines}
-use Rattle.auditorium_core.specs.WatchAgrees.{AgreesWithAudit, WatchesAgreeWithAudits, summary_of}
 use Rattle.auditorium_core.proofs.AuditCommand.{same_told}
 use Rattle.auditorium_core.proofs.CommandProofs.{status_is}
 use Rattle.auditorium_core.proofs.OneWatch.{report_by}
@@ -125,7 +113,7 @@ last_line graphs source names evidence told of some =
     ends [] s = refl
     ends (t ∷ front) s = let rest = ends front s in omega (arith, rest)
 
--- so `watch` agrees with the audit
+-- `watch` agrees with the audit of the same files
 pub watches_agree : EntriesGiveOneGraph → FilesGiveOneReport → WatchesAgreeWithAudits
 watches_agree graphs reports roster rules logs files watched audited (inl (refusal, gives, e)) is audit =
     absurd (not_of_report refusal (subst IsOfReport (status_is watched (refusal_answer refusal) e) is))
@@ -134,7 +122,7 @@ watches_agree graphs reports roster rules logs files watched audited (inr (told,
 watches_agree graphs reports roster rules logs files watched audited (inr (told, inl (found, gives, watches), e)) is audit =
     by audit
   where
-    -- what is told
+    -- what is printed
     of : IsToldOf (source_named rules) logs found told
     of = told_of (source_named rules) logs found told watches
 

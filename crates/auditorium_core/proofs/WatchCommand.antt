@@ -1,31 +1,15 @@
 -- The command `watch`.
-use Rattle.std.proofs.Common.{◌≡◌, ◌∙◌, ℕ, List, Option, inl, inr, refl, ap, sym, subst}
-use Rattle.std.specs.Prelude.{Result, Ok, Err}
+use Rattle.std.proofs.Common.{Option}
+use Rattle.auditorium_core.proofs.Imports.{RulesAreReadInOneWay, ◌≡◌, ◌∙◌, ℕ, List, inl, inr, refl, ap, sym, subst}
+use Rattle.auditorium_core.proofs.Imports.{Result, Ok, Err, Files, SealedEntry, EntryGraph, entries_of, GivesGraph}
+use Rattle.auditorium_core.proofs.Imports.{Refusal, AndThen, WithGraph, FilesGiveOneReport, outcome_of, AuditReport}
+use Rattle.auditorium_core.proofs.Imports.{RuleSource, Summary, Status, Answer, refusal_answer, status_by}
+use Rattle.auditorium_core.proofs.Imports.{report_statuses, source_named, Evidence, AreFewDistinct, AreSummaries}
+use Rattle.auditorium_core.proofs.Imports.{GivesEvidence, GivesSummaries, GivesWatch, Watches, watch_answer}
+use Rattle.auditorium_core.proofs.Imports.{watch_parts, watch, IsAnswerTo, IsCarriedOut, GivesWatchIn}
 use Rattle.std.specs.List.{Contains}
-use Rattle.hall_outside.specs.Files.{Files}
-use Rattle.entry_format.specs.SealedEntry.{SealedEntry}
-use Rattle.entry_graph.specs.EntryGraph.{EntryGraph}
-use Rattle.evidence.specs.Graphs.{entries_of, GivesGraph}
-use Rattle.evidence.specs.Refusal.{Refusal}
-use Rattle.auditor.specs.Audits.{AndThen, WithGraph}
-use Rattle.auditor.specs.OneReport.{FilesGiveOneReport}
-use Rattle.auditor.specs.Outcomes.{outcome_of}
-use Rattle.auditor.specs.Report.{AuditReport}
-use Rattle.auditor.specs.Sources.{RuleSource}
-use Rattle.live_auditor.specs.Summary.{Summary}
-use Rattle.auditorium_core.specs.declared.status.Status.{Status}
-use Rattle.auditorium_core.specs.Lines.{Answer, refusal_answer}
-use Rattle.auditorium_core.specs.ReportAnswers.{status_by, report_statuses}
-use Rattle.auditorium_core.specs.Audit.{source_named}
-use Rattle.auditorium_core.specs.Watch.{Evidence, AreFewDistinct, AreSummaries, GivesEvidence, GivesSummaries}
-use Rattle.auditorium_core.specs.Watch.{GivesWatch, Watches, watch_answer, watch_parts}
-use Rattle.auditorium_core.specs.Words.{watch}
-use Rattle.auditorium_core.specs.Answer.{IsAnswerTo}
-use Rattle.auditorium_core.specs.Complete.{IsCarriedOut}
-use Rattle.auditorium_core.specs.inside.Watching.{GivesWatchIn}
 use Rattle.auditorium_core.proofs.CommandProofs.{HasStatuses, IsCompleted, HasOneAnswer, carried_out_as, contains_as}
 use Rattle.auditorium_core.proofs.CommandProofs.{of_refusal, status_is}
-use Rattle.auditorium_core.proofs.OneByOne.{RulesAreReadInOneWay}
 use Rattle.auditorium_core.proofs.OneOrderAnswer.{OrderOne}
 use Rattle.auditorium_core.proofs.OneWatch.{one_watch}
 use Rattle.auditorium_core.proofs.ReportCommands.{outcome_done, outcome_status, refused_status, absent_status}
@@ -109,7 +93,7 @@ module _ (roster : List ℕ) (source : RuleSource) (names : List (List ℕ)) (fi
       let (report, is) = status_of_report gives in
       subst (λ (how : Status). Contains report_statuses how) (sym is) (outcome_status (outcome_of report))
 
--- it is carried out over what gives such an answer
+-- `watch` is carried out over files that give its answer
 pub watch_completed : OrderOne → RulesAreReadInOneWay → FilesGiveOneReport → (roster rules : List ℕ)
     (logs : List (List ℕ)) → IsCompleted (watch_parts roster rules logs)
 watch_completed order readings reports roster rules logs files answer (inl (refusal, gives, e)) (other, given) =
@@ -117,7 +101,7 @@ watch_completed order readings reports roster rules logs files answer (inl (refu
 watch_completed order readings reports roster rules logs files answer (inr (told, gives, is)) accepted =
     carried_out_as answer told is (told_done roster (source_named rules) logs files told gives)
 
--- and has its statuses
+-- `watch` answers with one of its statuses
 pub watch_has_statuses : (roster rules : List ℕ) (logs : List (List ℕ)) → HasStatuses (watch_parts roster rules logs)
 watch_has_statuses roster rules logs = record { own = own; some = report_statuses_some }
   where
@@ -135,7 +119,7 @@ module _ (roster rules : List ℕ) (logs : List (List ℕ)) (told : Option Files
       IsAnswerTo (watch roster rules logs) told (refusal_answer refusal)
   watch_refused refusal (files, are, gives) = (files, are, inl (refusal, gives, refl))
 
-  -- and so are the lines
+  -- the lines of `watch` are answered
   pub watch_told : (answer : Answer) → GivesWatchIn roster (source_named rules) logs told (Ok answer) →
       IsAnswerTo (watch roster rules logs) told answer
   watch_told answer (files, are, gives) = (files, are, inr (answer, gives, refl))

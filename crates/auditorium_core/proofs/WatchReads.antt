@@ -1,32 +1,18 @@
 -- What `watch` reads.
-use Rattle.std.proofs.Common.{◌≡◌, ◌≢◌, ℕ, List, [], ◌∷◌, ◌++◌, map, Option, Some, None, inl, inr, refl, sym, subst}
-use Rattle.std.specs.Prelude.{All, Result, Ok, Err, IfOk, IfErr, IfSome}
-use Rattle.std.proofs.lemmas.List.Elements.{All-nil, All-append, All-map}
-use Rattle.hall_outside.specs.Files.{Files, OnSomeFile}
-use Rattle.roster.specs.declared.post.Post.{Post}
+use Rattle.std.proofs.Common.{Option, Some}
+use Rattle.std.specs.Prelude.{All}
+use Rattle.auditorium_core.proofs.Imports.{◌≡◌, ◌≢◌, ℕ, List, [], ◌∷◌, ◌++◌, map, None, inl, inr, refl, sym, subst}
+use Rattle.auditorium_core.proofs.Imports.{Result, Ok, Err, IfOk, IfErr, IfSome, All-nil, All-append, All-map, Files}
+use Rattle.auditorium_core.proofs.Imports.{OnSomeFile, Post, LogRead, IsSealedLogOf, log_is_valid, standard_rules}
+use Rattle.auditorium_core.proofs.Imports.{RuleTree, AuditFault, RosterRead, Refusal, refusal_of, IsAbsent}
+use Rattle.auditorium_core.proofs.Imports.{GivesRosterIn, GivesLogs, GivesLogsIn, entries_of, entries_of_records}
+use Rattle.auditorium_core.proofs.Imports.{StoreSeen, IsReadFrom, some_files, read_then, read_ends, read_last}
+use Rattle.auditorium_core.proofs.Imports.{RuleSource, standard, in_file, rule_files, GivesRules, IsOfMachine}
+use Rattle.auditorium_core.proofs.Imports.{EvidenceRead, Answer, Evidence, ReadsLogs, ReadsRules, GivesEvidence}
+use Rattle.auditorium_core.proofs.Imports.{Watches, evidence_of, ReadsLogsIn, ReadsRulesIn, GivesEvidenceIn}
+use Rattle.auditorium_core.proofs.Imports.{GivesWatchIn}
 use Rattle.log_files.specs.declared.sealed_log.Kept.{Kept}
-use Rattle.log_files.specs.declared.sealed_log.LogRead.{LogRead}
-use Rattle.log_files.specs.LogFile.{IsSealedLogOf}
-use Rattle.log_files.proofs.ValidEntries.{log_is_valid}
-use Rattle.rule_language.specs.Standard.{standard_rules}
-use Rattle.rule_language.specs.Trees.{RuleTree}
-use Rattle.evidence.specs.declared.fault.AuditFault.{AuditFault}
 use Rattle.evidence.specs.declared.fault.AuditFault.TheVariants.{ReadFault}
-use Rattle.evidence.specs.declared.roster_file.RosterRead.{RosterRead}
-use Rattle.evidence.specs.Refusal.{Refusal, refusal_of, IsAbsent}
-use Rattle.evidence.specs.RosterFile.{GivesRosterIn}
-use Rattle.evidence.specs.Logs.{GivesLogs, GivesLogsIn}
-use Rattle.evidence.specs.Graphs.{entries_of, entries_of_records}
-use Rattle.evidence.specs.Reading.{StoreSeen, IsReadFrom}
-use Rattle.evidence.proofs.LogLists.{some_files}
-use Rattle.evidence.proofs.Steps.{read_then, read_ends, read_last}
-use Rattle.auditor.specs.Sources.{RuleSource, standard, in_file, rule_files, GivesRules}
-use Rattle.live_auditor.specs.Live.{IsOfMachine}
-use Rattle.auditorium_core.specs.declared.watch.EvidenceRead.{EvidenceRead}
-use Rattle.auditorium_core.specs.Lines.{Answer}
-use Rattle.auditorium_core.specs.Watch.{Evidence, ReadsLogs, ReadsRules, GivesEvidence, Watches}
-use Rattle.auditorium_core.specs.inside.Watching.{evidence_of, ReadsLogsIn, ReadsRulesIn, GivesEvidenceIn}
-use Rattle.auditorium_core.specs.inside.Watching.{GivesWatchIn}
 use Rattle.auditorium_core.proofs.ReadSteps.{ok_as, err_as}
 
 -- ---- the entries are of the machines
@@ -74,7 +60,7 @@ module _ (names : List (List ℕ)) (found : Evidence) where
   read_rules_of read (in_file name) (file ∷ files) (inl (rules, gives, rest)) = read_logs_of read rules files rest
   read_rules_of read (in_file name) (file ∷ files) (inr (refusal, gives, e)) = cc
 
-  -- so are those of the evidence
+  -- the entries of the evidence were made by machines of its roster
   pub evidence_of_machines : (roster : List ℕ) (source : RuleSource) (files : List (Option (List ℕ))) →
       GivesEvidence roster source names files (Ok found) → OfMachines
   evidence_of_machines roster source [] reads = absurd reads
@@ -95,7 +81,7 @@ module _ (read : RosterRead) (rules : List RuleTree) (names : List (List ℕ)) {
       old new logs (Ok found) given
       (files, are, inl (items logs, gives, (let e : Ok (evidence_of found) ≡ Ok _ = λ i. Ok (is i) in e))) tt tt
 
-  -- or refused
+  -- a refusal of the logs is that of the evidence
   pub logs_refused : (old new : StoreSeen) (fault : AuditFault) →
       IsReadFrom items (GivesLogsIn read.roster.machines read.election names) old (Err fault) new →
       IsReadFrom evidence_of (ReadsLogsIn read rules names) old (Err fault) new
@@ -119,7 +105,7 @@ module _ (read : RosterRead) (source : RuleSource) (names : List (List ℕ)) whe
     abbrev Rules : Option Files → Result (List RuleTree) Refusal → Type 0
     Rules told answer = OnSomeFile told name (λ this. GivesRules name this answer)
 
-    -- those of a file are read before the logs
+    -- the rules of a file are read before the logs
     pub rules_found : (old mid new : StoreSeen) (rules : R) (result : Result EvidenceRead AuditFault) →
         IsReadFrom trees Rules old (Ok rules) mid →
         IsReadFrom evidence_of (ReadsLogsIn read (trees rules) names) mid result new →
@@ -131,7 +117,7 @@ module _ (read : RosterRead) (source : RuleSource) (names : List (List ℕ)) whe
         (ReadsRulesIn read (in_file name) names) old mid new rules result first rest
         (λ answer (this, at, gives) (files, are, with). (this ∷ files, (at, are), inl (trees rules, gives, with))))
 
-    -- or refused
+    -- a refusal of the file of the rules is that of the evidence
     pub rules_refused : (old new : StoreSeen) (fault : AuditFault) → IsReadFrom trees Rules old (Err fault) new →
         IsReadFrom evidence_of (ReadsRulesIn read source names) old (Err fault) new
     rules_refused old new fault first =
@@ -152,7 +138,7 @@ module _ (roster : List ℕ) (source : RuleSource) (names : List (List ℕ)) whe
       (GivesEvidenceIn roster source names) old mid new read result first rest
       (λ answer (this, at, gives) (files, are, with). (this ∷ files, (at, are), inl (read, gives, with)))
 
-  -- or refused
+  -- a refusal of the roster is that of the evidence
   pub roster_refused : (old new : StoreSeen) (fault : AuditFault) →
       IsReadFrom (λ (r : RosterRead). r) (GivesRosterIn roster) old (Err fault) new →
       IsReadFrom evidence_of (GivesEvidenceIn roster source names) old (Err fault) new
@@ -181,7 +167,7 @@ module _ (roster : List ℕ) (source : RuleSource) (names : List (List ℕ)) whe
       (λ refusal is. (files, are, inl (evidence_of found, gives, is))) err)
       only
 
-  -- or refused
+  -- a refusal of the evidence is that of `watch`
   pub evidence_refused : (old new : StoreSeen) (fault : AuditFault) →
       IsReadFrom evidence_of (GivesEvidenceIn roster source names) old (Err fault) new →
       IsReadFrom (λ (answer : Answer). answer) (GivesWatchIn roster source names) old (Err fault) new

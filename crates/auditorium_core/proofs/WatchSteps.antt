@@ -1,57 +1,30 @@
 -- Entries that are watched one after another.
-use Rattle.std.proofs.Common.{◌≡◌, ◌≢◌, ◌∙◌, ℕ, ◌+◌, ◌<◌, ◌≤◌, Bool, true, false, List, [], ◌∷◌, ◌++◌, map, length}
-use Rattle.std.proofs.Common.{take, drop, get_or, inl, inr, refl, sym, ap, subst, arith, append-nil, append_assoc}
-use Rattle.std.proofs.Common.{length-append, length-take, take-append-drop}
-use Rattle.std.specs.Prelude.{All, ◌⊎◌, ◌||◌, Result, Ok, Err, IfSome, OnOk, codes, count_by}
-use Rattle.std.specs.List.{Contains, list_any}
-use Rattle.std.specs.Fmt.{decimal}
-use Rattle.std.specs.Str.{bytes_eq}
-use Rattle.std.proofs.lemmas.Bool.{cases_Bool, true≢false}
-use Rattle.std.proofs.lemmas.List.{get_or-map, length-map, map-append, take_all, take_more}
-use Rattle.std.proofs.lemmas.List.Elements.{Contains-append_left, Contains-get_or}
-use Rattle.entry_format.specs.Nodes.{node_of_sealed}
-use Rattle.entry_format.specs.SealedEntry.{SealedEntry}
-use Rattle.entry_graph.specs.EntryGraph.{EntryGraph}
-use Rattle.entry_graph.specs.Given.{distinct, HasNoCollision}
-use Rattle.entry_graph.proofs.DistinctFacts.{distinct_new, distinct_again, distinct_given, distinct_bears}
-use Rattle.entry_order.specs.Naming.{IsNew, has_digest}
-use Rattle.entry_order.proofs.Naming.{has_digest_of, has_digest_from}
-use Rattle.roster.specs.declared.post.Post.{Post}
-use Rattle.log_files.specs.declared.sealed_log.LogRead.{LogRead}
-use Rattle.rule_language.specs.declared.formula.Rule.{Rule}
-use Rattle.rule_language.specs.Forms.{rule_tree}
-use Rattle.rule_language.specs.Trees.{RuleTree}
+use Rattle.std.proofs.Common.{Bool, true, false, length}
+use Rattle.auditorium_core.proofs.Imports.{◌≡◌, ◌≢◌, ◌∙◌, ℕ, ◌+◌, ◌<◌, ◌≤◌, List, [], ◌∷◌, ◌++◌, map, take, drop}
+use Rattle.auditorium_core.proofs.Imports.{get_or, inl, inr, refl, sym, ap, subst, arith, append-nil, append_assoc}
+use Rattle.auditorium_core.proofs.Imports.{take-append-drop, ◌||◌, Result, Ok, Err, IfSome, OnOk, count_by, list_any}
+use Rattle.auditorium_core.proofs.Imports.{decimal, bytes_eq, cases_Bool, true≢false, get_or-map, length-map}
+use Rattle.auditorium_core.proofs.Imports.{map-append, take_all, take_more, Contains-append_left, Contains-get_or}
+use Rattle.auditorium_core.proofs.Imports.{node_of_sealed, SealedEntry, EntryGraph, distinct, HasNoCollision}
+use Rattle.auditorium_core.proofs.Imports.{distinct_new, distinct_again, distinct_given, distinct_bears, IsNew}
+use Rattle.auditorium_core.proofs.Imports.{has_digest, has_digest_of, has_digest_from, Post, LogRead, Rule, rule_tree}
+use Rattle.auditorium_core.proofs.Imports.{RuleTree, AuditFault, entries_of, GivesGraph, EntriesGiveOneGraph, Refusal}
+use Rattle.auditorium_core.proofs.Imports.{refused, refusal_of, IsFaultOf, SameGraph, StandFor, text_of_sealed}
+use Rattle.auditorium_core.proofs.Imports.{of_refusal, none_stand, same_gives, stand_copied, stand_repeated, Outcome}
+use Rattle.auditorium_core.proofs.Imports.{graph_has_finding, has_some, is_broken, is_unsettled, log_has_finding}
+use Rattle.auditorium_core.proofs.Imports.{outcome_by, AuditReport, report_on, RuleSource, source_word, is_kept}
+use Rattle.auditorium_core.proofs.Imports.{Fresh, New, Known, LiveFault, Collision, TooMany, Becomes, Collides}
+use Rattle.auditorium_core.proofs.Imports.{IsAddAnswer, IsOfSameAudit, IsTooWideOver, LiveState, IsLive, max_added}
+use Rattle.auditorium_core.proofs.Imports.{Summary, After, Status, Unwatched, Answer, status_by, source_named}
+use Rattle.auditorium_core.proofs.Imports.{AreFewDistinct, AreSummaries, IsTooWideAfter, Watches, watch_answer}
+use Rattle.auditorium_core.proofs.Imports.{numbers_line, watch_line, watch_lines, AddsTo, AreLinesOf, IsUnadded}
+use Rattle.auditorium_core.proofs.Imports.{IsUnwatched, evidence_by, first_half, second_half}
+use Rattle.std.proofs.Common.{length-append, length-take}
+use Rattle.std.specs.Prelude.{All, ◌⊎◌, codes}
+use Rattle.std.specs.List.{Contains}
 use Rattle.rule_engine.specs.declared.verdict.Verdict.{Verdict}
-use Rattle.evidence.specs.declared.fault.AuditFault.{AuditFault}
-use Rattle.evidence.specs.Graphs.{entries_of, GivesGraph}
-use Rattle.evidence.specs.OneAnswer.{EntriesGiveOneGraph}
-use Rattle.evidence.specs.Refusal.{Refusal, refused, refusal_of, IsFaultOf}
-use Rattle.evidence.specs.Same.{SameGraph}
-use Rattle.evidence.specs.inside.Copies.{StandFor, text_of_sealed}
-use Rattle.evidence.proofs.Readings.{of_refusal}
-use Rattle.evidence.proofs.Repeats.{none_stand, same_gives, stand_copied, stand_repeated}
-use Rattle.auditor.specs.declared.outcome.Outcome.{Outcome}
-use Rattle.auditor.specs.Outcomes.{graph_has_finding, has_some, is_broken, is_unsettled, log_has_finding, outcome_by}
-use Rattle.auditor.specs.Report.{AuditReport, report_on}
-use Rattle.auditor.specs.Sources.{RuleSource, source_word}
-use Rattle.demonstration.specs.Shown.{is_kept}
-use Rattle.live_auditor.specs.declared.fresh.Fresh.{Fresh}
-use Rattle.live_auditor.specs.declared.fresh.Fresh.TheVariants.{New, Known}
-use Rattle.live_auditor.specs.declared.fresh.LiveFault.{LiveFault}
-use Rattle.live_auditor.specs.declared.fresh.LiveFault.TheVariants.{Collision, TooMany, TooWide as LiveTooWide}
-use Rattle.live_auditor.specs.Adding.{Becomes, Collides, IsAddAnswer, IsOfSameAudit, IsTooWideOver}
-use Rattle.live_auditor.specs.Live.{LiveState, IsLive, max_added}
-use Rattle.live_auditor.specs.Summary.{Summary, After}
-use Rattle.auditorium_core.specs.declared.status.Status.{Status}
-use Rattle.auditorium_core.specs.declared.watch.Unwatched.{Unwatched}
+use Rattle.live_auditor.specs.declared.fresh.LiveFault.TheVariants.{TooWide as LiveTooWide}
 use Rattle.auditorium_core.specs.declared.watch.Unwatched.TheVariants.{TooWide, Memory}
-use Rattle.auditorium_core.specs.Lines.{Answer}
-use Rattle.auditorium_core.specs.ReportAnswers.{status_by}
-use Rattle.auditorium_core.specs.Audit.{source_named}
-use Rattle.auditorium_core.specs.Watch.{AreFewDistinct, AreSummaries, IsTooWideAfter, Watches, watch_answer}
-use Rattle.auditorium_core.specs.Watch.{numbers_line, watch_line, watch_lines}
-use Rattle.auditorium_core.specs.inside.Watching.{AddsTo, AreLinesOf, IsUnadded, IsUnwatched, evidence_by}
-use Rattle.auditorium_core.specs.inside.Watching.{first_half, second_half}
 use Rattle.auditorium_core.proofs.CheckAnswers.{names_itself}
 use Rattle.auditorium_core.proofs.Summaries.{lines_more, none_said, said_more}
 
@@ -65,7 +38,7 @@ not_one_more es different e are has =
     distinct_again node_of_sealed es e g
     (distinct_given node_of_sealed es g (subst (λ gs. Contains gs g) are there)) same ∙ sym are
 
--- and any other is
+-- an entry whose digest none of the different ones has is one more
 pub one_more : (es different : List SealedEntry) (e : SealedEntry) → different ≡ distinct node_of_sealed es →
     has_digest node_of_sealed different e.digest ≡ false →
     distinct node_of_sealed (es ++ e ∷ []) ≡ different ++ e ∷ []
@@ -123,7 +96,7 @@ module _ {R : Type 0} (now : R → SealedEntry) (entries : List R) (k : ℕ) (r 
   pub read_at : now r ≡ get_or (map now entries) k (now r)
   read_at = ap now is ∙ sym (get_or-map now entries k r (now r) within)
 
-  -- which is within
+  -- the entry's place is within the entries
   pub read_within : k < length (map now entries)
   read_within = subst (λ n. k < n) (sym (length-map entries now)) within
 
@@ -139,7 +112,7 @@ module _ {R : Type 0} (now : R → SealedEntry) (entries : List R) (k : ℕ) (r 
 
   module _ (different : List R) (are : map now different ≡ distinct node_of_sealed (take k (map now entries)))
       (d : List ℕ) (same : d ≡ (now r).digest) where
-    -- it is one of the different ones
+    -- an entry with a new digest is one of the different ones
     pub counted : list_any (λ x. bytes_eq (now x).digest d) different ≡ false →
         map now (different ++ r ∷ []) ≡ distinct node_of_sealed (take (k + 1) (map now entries))
     counted none =
@@ -149,7 +122,7 @@ module _ {R : Type 0} (now : R → SealedEntry) (entries : List R) (k : ℕ) (r 
         (subst (λ q. has_digest node_of_sealed (map now different) q ≡ false) same
         (sym (has_among now different d) ∙ none)))
 
-    -- or not
+    -- an entry with a known digest adds none to the different ones
     pub not_counted : list_any (λ x. bytes_eq (now x).digest d) different ≡ true →
         map now different ≡ distinct node_of_sealed (take (k + 1) (map now entries))
     not_counted has =
@@ -172,7 +145,7 @@ module _ {R : Type 0} (now : R → SealedEntry) (entries : List R) (k : ℕ) (r 
           full,
         )
 
--- where all were looked at, no more than these are different
+-- where all were checked, no more than these are different
 pub few_of : {R : Type 0} (now : R → SealedEntry) (entries different : List R) (k : ℕ) → length entries ≤ k →
     map now different ≡ distinct node_of_sealed (take k (map now entries)) → length different ≤ 1024 →
     AreFewDistinct (map now entries)
@@ -188,12 +161,12 @@ few_of now entries different k past are few =
 
 -- ---- one entry after another
 
--- the same audit goes on
+-- an audit stays the same over two steps, as its machines and rules do
 pub same_audit : (a b c : LiveState) → IsOfSameAudit a b → IsOfSameAudit b c → IsOfSameAudit a c
 same_audit a b c first then =
     record { machines = then.machines ∙ first.machines; rules = then.rules ∙ first.rules }
 
--- and says of its entries what there is to say by the rules that it began with
+-- an audit that goes on says of its entries what there is to say by the rules that it began with
 pub after_same : (live next : LiveState) → IsOfSameAudit live next → IsLive next →
     After live.machines (map rule_tree live.rules) next.added next.summary
 after_same live next same is =
@@ -208,7 +181,7 @@ adds_to live next e s New same (new, room) becomes =
 adds_to live next e s Known same has becomes =
     inl (subst (Contains live.added) same has, ap (λ (l : LiveState). l.added) becomes)
 
--- or a rule would be too wide with it
+-- an entry isn't added where a rule would be too wide with it
 pub wide_with : (live : LiveState) (e s back : SealedEntry) (fault : LiveFault) (place : ℕ) → s ≡ e →
     fault ≡ LiveTooWide back place → IsAddAnswer live s (Err fault) → IsUnadded live e (TooWide place)
 wide_with live e s back fault place same is answer =
@@ -217,14 +190,14 @@ wide_with live e s back fault place same is answer =
       subst (λ f. IsTooWideOver live.machines (map rule_tree live.rules) (live.added ++ f ∷ []) place) same wide,
     )
 
--- there is room for it
+-- an entry isn't refused as one too many where there is room for each new one
 pub never_full : (live : LiveState) (e s back : SealedEntry) (fault : LiveFault) → s ≡ e → fault ≡ TooMany back →
     IsAddAnswer live s (Err fault) → ¬ (IsNew node_of_sealed live.added e → length live.added < max_added)
 never_full live e s back fault same is answer room =
     let (_, new, full) = subst (λ f. IsAddAnswer live s (Err f)) is answer in
     omega (arith, full, room (subst (IsNew node_of_sealed live.added) same new))
 
--- and it collides with none
+-- an entry isn't refused as a collision where it collides with none
 pub never_apart : (live : LiveState) (e s back : SealedEntry) (fault : LiveFault) → s ≡ e → fault ≡ Collision back →
     IsAddAnswer live s (Err fault) → ¬ ¬ Collides live.added e
 never_apart live e s back fault same is answer none =
@@ -276,7 +249,7 @@ module _ (es : List SealedEntry) (k : ℕ) (e : SealedEntry) (within : k < lengt
   there : Contains es e
   there = subst (λ f. Contains es f) (sym is) (Contains-get_or es k e within)
 
-  -- it collides with none
+  -- an entry collides with none that was added, where no two of all entries collide
   pub collides_not : HasNoCollision node_of_sealed text_of_sealed es → ¬ Collides added e
   collides_not none (f, has, digest, text) =
       text (none f e (subst (λ gs. Contains gs f) (take-append-drop k es)
@@ -319,7 +292,7 @@ module _ (es : List SealedEntry) (k : ℕ) (e : SealedEntry) (within : k < lengt
 
   module _ (machines : List Post) (rules : List RuleTree) (text : List ℕ)
       (so_far : AreLinesOf machines rules (take k es) text) where
-    -- its line comes after the others
+    -- the line of an entry that was added comes after the others
     pub told_more : (next : List SealedEntry) (s : Summary) → AddsTo added e next → After machines rules next s →
         AreLinesOf machines rules (take (k + 1) es) (text ++ watch_line (k + 1) s)
     told_more next s adds a =
@@ -351,14 +324,14 @@ module _ (es : List SealedEntry) (k : ℕ) (e : SealedEntry) (within : k < lengt
         }
     not_added live Memory one_roster one_list same why = tt
 
--- before the first entry nothing is told
+-- before the first entry nothing is printed
 pub none_told : (machines : List Post) (rules : List RuleTree) (es : List SealedEntry) →
     AreLinesOf machines rules (take 0 es) []
 none_told machines rules es = ([], none_said machines rules es, refl)
 
 -- ---- the answer
 
--- graphs that tell the same both have a finding, or neither has
+-- of two graphs that agree both have a finding, or neither has
 same_findings : (graph other : EntryGraph SealedEntry) → SameGraph graph other →
     graph_has_finding graph ≡ graph_has_finding other
 same_findings graph other same =
@@ -379,7 +352,7 @@ module _ (machines : List Post) (word : List ℕ) (rules : List Rule) (logs : Li
       (inl (graph, graphed, inr (refused (codes "entries") 0 (codes "TooMany"), inl (many, refl), refl)))
 
   module _ (es : List SealedEntry) (all : es ≡ entries_of logs) (few : AreFewDistinct (entries_of logs)) where
-    -- and so is a rule that is too wide, by its place
+    -- a rule that is too wide is refused, by its place
     pub too_wide : (why : Unwatched) (fault : AuditFault) (place : ℕ) → why ≡ TooWide place →
         IsUnwatched machines (map rule_tree rules) es why → IsFaultOf (refused word place (codes "TooWide")) fault →
         IfSome (refusal_of fault)
@@ -400,7 +373,7 @@ module _ (machines : List Post) (word : List ℕ) (rules : List Rule) (logs : Li
           ),
         ))
 
-    -- otherwise the lines are told, with the status of the report
+    -- otherwise the lines are printed, with the status of the report
     pub lines_told : EntriesGiveOneGraph → (live : LiveState) (text : List ℕ) (answer : Answer) →
         live.machines ≡ machines → live.rules ≡ rules → IsLive live →
         StandFor node_of_sealed text_of_sealed live.added es → AreLinesOf machines (map rule_tree rules) es text →
@@ -432,7 +405,7 @@ module _ (machines : List Post) (word : List ℕ) (rules : List Rule) (logs : Li
         ∙ ap (λ (t : List ℕ). record { status = ends (graph_has_finding a.graph); files = []; output = t }) lines in
         inl (a.graph, a.graphed, inl (ss, (few, said), inl (report, inl (verdicts, a.judged, refl), ap Ok is_told)))
 
--- what is told by the machines and the rules of an audit is told by those that it was made of
+-- what is said by the machines and the rules of an audit is said by those that it was made of
 module _ (live : LiveState) (machines : List Post) (rules : List Rule) (es : List SealedEntry) where
   pub told_there : (text : List ℕ) → live.machines ≡ machines → live.rules ≡ rules →
       AreLinesOf live.machines (map rule_tree live.rules) es text → AreLinesOf machines (map rule_tree rules) es text
@@ -440,14 +413,14 @@ module _ (live : LiveState) (machines : List Post) (rules : List Rule) (es : Lis
       subst (λ ms. AreLinesOf ms (map rule_tree rules) es text) one_roster
       (subst (λ rs. AreLinesOf live.machines (map rule_tree rs) es text) one_list told)
 
-  -- and so is why they aren't watched
+  -- why entries aren't watched is said by the machines and rules that an audit was made of
   pub unwatched_there : (why : Unwatched) → live.machines ≡ machines → live.rules ≡ rules →
       IsUnwatched live.machines (map rule_tree live.rules) es why → IsUnwatched machines (map rule_tree rules) es why
   unwatched_there why one_roster one_list unwatched =
       subst (λ ms. IsUnwatched ms (map rule_tree rules) es why) one_roster
       (subst (λ rs. IsUnwatched live.machines (map rule_tree rs) es why) one_list unwatched)
 
--- a piece behind others
+-- a piece after others
 behind : (front pieces piece both : List ℕ) → front ++ pieces ≡ both → front ++ (pieces ++ piece) ≡ both ++ piece
 behind front pieces piece both is = sym (append_assoc front pieces piece) ∙ ap (λ t. t ++ piece) is
 
@@ -472,7 +445,7 @@ halves n survivors gaps kept broken unsettled =
     (behind front one (codes " broken ") (front ++ codes " kept " ++ decimal kept)
     (behind front (codes " kept ") (decimal kept) (front ++ codes " kept ") refl)))))
 
--- so where both are added the line is
+-- where both halves of a line are added the line is
 pub halves_added : {T E : Type 0} (result : Result T E) (n survivors gaps kept broken unsettled : ℕ)
     (s : Summary) (start mid end : List ℕ) →
     numbers_line n survivors gaps kept broken unsettled ≡ watch_line n s → mid ≡ start ++ first_half n survivors gaps →

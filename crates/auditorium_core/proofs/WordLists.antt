@@ -1,9 +1,8 @@
 -- The words as lists of bytes.
-use Rattle.std.proofs.Common.{◌≡◌, ◌∙◌, ℕ, ◌<◌, ◌≤◌, List, length, map, get_or, String, Global}
-use Rattle.std.proofs.Common.{string_bytes, ap, sym, subst, arith}
+use Rattle.std.proofs.Common.{length}
+use Rattle.auditorium_core.proofs.Imports.{◌≡◌, ◌∙◌, ℕ, ◌<◌, ◌≤◌, List, map, get_or, String, Global, string_bytes, ap}
+use Rattle.auditorium_core.proofs.Imports.{sym, subst, arith, get_or-map, length-map, IsCommandWord}
 use Rattle.std.specs.Prelude.{All}
-use Rattle.std.proofs.lemmas.List.{get_or-map, length-map}
-use Rattle.auditorium_core.specs.WordForms.{IsCommandWord}
 
 -- the bytes of a word
 pub bytes_at : (words : List (String Global)) (i : ℕ) (word : String Global) (d : List ℕ) → i < length words

@@ -9,13 +9,13 @@ use Rattle.auditorium_core.specs.declared.status.Status.TheVariants as status
 use Rattle.auditorium_core.specs.Words.{Command, command_parts, Means, AreGood}
 use Rattle.auditorium_core.specs.Lines.{Answer, usage_answer}
 
--- what a command gives, over these files or, where none are told, over some
+-- what a command gives, over these files or, where none are exposed, over some
 abbrev pub IsAnswerTo : Command → Option Files → Answer → Type 0
 IsAnswerTo command told answer =
     (files : List (Option (List ℕ))) × AreFiles told (command_parts command).files files
     × (command_parts command).IsAnswer files answer
 
--- what words give where these are the commands, likewise
+-- what words give where these are the commands: the answer of the command that they mean, or that of a usage error
 abbrev pub AnswersWords : (Command → Type 0) → List (List ℕ) → Option Files → Answer → Type 0
 AnswersWords IsDone words told answer =
     ((command : Command) × IsDone command × Means words command × IsAnswerTo command told answer)
@@ -25,7 +25,7 @@ AnswersWords IsDone words told answer =
 abbrev pub TellsAbsence : Command → Answer → Type 0
 TellsAbsence command answer = answer.status ≡ (command_parts command).absence
 
--- so does that of words which are those of a command
+-- the answer says that a file is absent, for a command that the words mean
 abbrev pub WordsTellAbsence : List (List ℕ) → Answer → Type 0
 WordsTellAbsence words answer = (command : Command) × Means words command × TellsAbsence command answer
 
@@ -46,8 +46,8 @@ IsOfAnswers other = ⊤
 abbrev pub MeansOneWith : List (List ℕ) → Status → Type 0
 MeansOneWith words how = (command : Command) × Means words command × Contains (command_parts command).statuses how
 
--- What the status of an answer says of the words, where these are the commands: Usage, that they aren't good, and any
--- other, which command they may be.
+-- What the status of an answer says of the words, where these are the commands: Usage, that the command line is
+-- invalid, and any other, which command they may be.
 pub record HasItsWords (IsDone : Command → Type 0) (words : List (List ℕ)) (answer : Answer) : Type 0 where
   pub some : IsOfAnswers answer.status
   pub usage : (answer.status ≡ status.Usage) ↔ ¬ AreGood IsDone words

@@ -35,10 +35,10 @@ HoldsOf report G rule =
 abbrev pub Completes : AuditReport → List Plain → Type 0
 Completes report G = Completion node_of (length report.machines) (plains report.graph.survivors) G
 
--- The answer is that of the report, of which this holds: a rule that is reported kept holds whatever was lost, and one
--- that is reported broken holds in no case. There is such a case. A rule is unsettled only where there is a gap. The
--- gaps are exactly the digests that a survivor names and none has, each once, ascending.
-pub record IsAuditOf (report : AuditReport) (answer : Answer) : Type 0 where
+-- What the verdicts and the gaps of a report mean: a rule that is reported kept holds whatever was lost, and one that is
+-- reported broken holds in no case. There is such a case. A rule is unsettled only where there is a gap. The gaps are
+-- exactly the digests that a survivor names and none has, each once, ascending.
+pub record IsSound (report : AuditReport) : Type 0 where
   pub kept : AllZip (λ rule is. is ≡ verdict.Kept → (G : List Plain) → Completes report G → HoldsOf report G rule)
       report.rules report.verdicts
   pub broken : AllZip
@@ -47,6 +47,10 @@ pub record IsAuditOf (report : AuditReport) (answer : Answer) : Type 0 where
   pub some : (G : List Plain) × Completes report G
   pub unsettled : AllZip (λ rule is. is ≡ verdict.Unsettled → report.graph.gaps ≢ []) report.rules report.verdicts
   pub gaps : IsGaps node_of_sealed report.graph.survivors report.graph.gaps
+
+-- the answer is that of the report, whose verdicts and gaps mean what they say
+pub record IsAuditOf (report : AuditReport) (answer : Answer) : Type 0 where
+  pub sound : IsSound report
   pub told : answer ≡ report_answer report
 
 -- the answer for these files: the first refusal, or that of the report

@@ -9,26 +9,22 @@ use Rattle.entry_format.specs.Nodes.{node_of}
 use Rattle.entry_format.specs.declared.plain.Plain.{Plain}
 use Rattle.entry_format.specs.Plains.{plains}
 use Rattle.entry_order.specs.Completion.{Completion}
-use Rattle.log_files.specs.declared.sealed_log.LogRead.{LogRead}
-use Rattle.entry_graph.specs.EntryGraph.{EntryGraph}
 use Rattle.rule_language.specs.declared.row.Row.{Row}
-use Rattle.rule_language.specs.Standard.{standard_rules}
 use Rattle.rule_language.specs.Trees.{RuleTree}
 use Rattle.rule_meaning.specs.Meaning.{Holds}
 use Rattle.audit_proof.specs.declared.fault.Verdict.{Verdict}
 use Rattle.audit_proof.specs.declared.fault.Verdict.TheVariants.{Kept, Broken, Unsettled}
 use Rattle.audit_proof.specs.Answers.{IsCheckAnswer}
 use Rattle.audit_proof.specs.Lines.{Line}
-use Rattle.evidence.specs.declared.roster_file.RosterRead.{RosterRead}
 use Rattle.evidence.specs.Refusal.{Refusal, refused}
 use Rattle.evidence.specs.RosterFile.{GivesRoster}
 use Rattle.evidence.specs.Logs.{GivesLogs}
 use Rattle.evidence.specs.Graphs.{entries_of, GivesGraph}
 use Rattle.auditor.specs.Rows.{row_of, row_said}
 use Rattle.auditor.specs.Judged.{nodes_of, IsFirstTooWide}
-use Rattle.auditor.specs.Audits.{AndThen}
-use Rattle.auditor.specs.Sources.{RuleSource, standard, in_file, source_word, rule_files, GivesRules}
-use Rattle.report_lines.specs.Lines.{line}
+use Rattle.auditor.specs.Audits.{AndThen, FileThen, RulesThen}
+use Rattle.auditor.specs.Sources.{RuleSource, source_word, rule_files}
+use Rattle.log_files.specs.Lines.{line}
 use Rattle.auditorium_core.specs.declared.status.Status.{Status}
 use Rattle.auditorium_core.specs.declared.status.Status.TheVariants as status
 use Rattle.auditorium_core.specs.Lines.{Answer, OrRefused}
@@ -58,66 +54,34 @@ GivesChecked source rows graph lines rules (Err refusal) =
     (place : ℕ) × IsFirstTooWide rows rules place
     × (refusal ≡ refused (source_word source) place (codes "TooWide"))
 
--- what the lines of a proof give with the machines, the rules and the graph
-abbrev pub ChecksLines : List Post → RuleSource → List RuleTree → EntryGraph SealedEntry → List Line →
-    Result CheckReport Refusal → Type 0
-ChecksLines machines source rules graph lines =
-    AndThen
-    (GivesChecked source (map (row_of machines) graph.survivors) (nodes_of graph) lines rules)
-    (λ verdicts answer. answer ≡ Ok (record {
-      machines = machines;
-      survivors = graph.survivors;
-      rules = rules;
-      verdicts = verdicts;
-    }))
-
--- what a proof's file gives with the graph that it is for: its lines, and what they give
-abbrev pub ChecksProof : List Post → RuleSource → List RuleTree → List ℕ → Option (List ℕ) →
-    EntryGraph SealedEntry → Result CheckReport Refusal → Type 0
-ChecksProof machines source rules proof file graph =
-    AndThen (GivesProof proof (nodes_of graph) file) (ChecksLines machines source rules graph)
-
--- what logs and a proof's file give: the logs' graph, and what the file gives with it
-abbrev pub ChecksLogs : List Post → RuleSource → List RuleTree → List ℕ → Option (List ℕ) →
-    List LogRead → Result CheckReport Refusal → Type 0
-ChecksLogs machines source rules proof file logs =
-    AndThen (GivesGraph (entries_of logs)) (ChecksProof machines source rules proof file)
-
--- what the files of logs and a proof's file, the last, give with the roster and the rules
-abbrev pub ChecksFiles : RosterRead → RuleSource → List RuleTree → List ℕ → List (List ℕ) →
-    List (Option (List ℕ)) → Result CheckReport Refusal → Type 0
-ChecksFiles read source rules proof names files answer =
-    (of_logs : List (Option (List ℕ))) × (last : Option (List ℕ)) × (files ≡ of_logs ++ last ∷ [])
-    × AndThen (GivesLogs read.roster.machines read.election names of_logs)
-    (ChecksLogs read.roster.machines source rules proof last) answer
-
--- what the file of the rules, if there is one, gives with the roster and the other files
-abbrev pub ChecksRules : RosterRead → RuleSource → List ℕ → List (List ℕ) → List (Option (List ℕ)) →
-    Result CheckReport Refusal → Type 0
-ChecksRules read standard proof names files =
-    ChecksFiles read standard standard_rules proof names files
-ChecksRules read (in_file name) proof names (file ∷ files) =
-    AndThen (GivesRules name file)
-    (λ rules. ChecksFiles read (in_file name) rules proof names files)
-ChecksRules read (in_file name) proof names [] = λ answer. ⊥
-
 -- the files that a check reads, in order
 abbrev pub check_files : List ℕ → RuleSource → List ℕ → List (List ℕ) → List (List ℕ)
 check_files roster source proof logs = roster ∷ (rule_files source ++ (logs ++ proof ∷ []))
 
--- what they give
+-- what they give: the roster, the rules, the logs, the graph of the entries that these keep, the lines of the proof for
+-- it, which is the last file, and a verdict for each rule by them; or the first refusal
 abbrev pub GivesCheck : List ℕ → RuleSource → List ℕ → List (List ℕ) → List (Option (List ℕ)) →
     Result CheckReport Refusal → Type 0
-GivesCheck roster source proof logs (file ∷ files) =
-    AndThen (GivesRoster roster file)
-    (λ (read : RosterRead). ChecksRules read source proof logs files)
-GivesCheck roster source proof logs [] = λ answer. ⊥
+GivesCheck roster source proof names =
+    FileThen (GivesRoster roster) (λ read. RulesThen source (λ rules files answer.
+    (of_logs : List (Option (List ℕ))) × (last : Option (List ℕ)) × (files ≡ of_logs ++ last ∷ [])
+    × AndThen (GivesLogs read.roster.machines read.election names of_logs) (λ logs.
+    AndThen (GivesGraph (entries_of logs)) (λ graph.
+    AndThen (GivesProof proof (nodes_of graph) last) (λ lines.
+    AndThen (GivesChecked source (map (row_of read.roster.machines) graph.survivors) (nodes_of graph) lines rules)
+    (λ verdicts other. other ≡ Ok (record {
+      machines = read.roster.machines;
+      survivors = graph.survivors;
+      rules = rules;
+      verdicts = verdicts;
+    }))))) answer))
 
--- whether a rule is broken, and whether one is unsettled
+-- whether a rule is broken
 abbrev pub says_broken : Verdict → Bool
 says_broken Broken = true
 says_broken other = false
 
+-- whether a rule is unsettled
 abbrev pub says_unsettled : Verdict → Bool
 says_unsettled Unsettled = true
 says_unsettled other = false
@@ -128,13 +92,13 @@ verdict_on_all verdicts =
     if list_any says_broken verdicts then Broken
     else if list_any says_unsettled verdicts then Unsettled else Kept
 
--- its status
+-- the status of a verdict on all rules
 abbrev pub checked_status : Verdict → Status
 checked_status Kept = status.Done
 checked_status Broken = status.Broken
 checked_status Unsettled = status.Unsettled
 
--- its word
+-- the word of a verdict on all rules
 abbrev pub checked_word : Verdict → List ℕ
 checked_word Kept = codes "kept"
 checked_word Broken = codes "broken"

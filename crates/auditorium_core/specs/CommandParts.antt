@@ -20,17 +20,17 @@ pub record CommandParts : Type 1 where
   -- the one that says that a file is absent
   pub absence : Status
 
--- this holds where there are no files
+-- P holds, and the command reads no file
 abbrev pub OnNoFile : Type 0 → List (Option (List ℕ)) → Type 0
 OnNoFile P [] = P
 OnNoFile P files = ⊥
 
--- this holds of the one file
+-- P holds of the one file that the command reads
 abbrev pub OnOneFile : (Option (List ℕ) → Type 0) → List (Option (List ℕ)) → Type 0
 OnOneFile P (file ∷ []) = P file
 OnOneFile P files = ⊥
 
--- this holds of the first file and of the others
+-- P holds of the first file that the command reads and of the others
 abbrev pub OnFirstFile : (Option (List ℕ) → List (Option (List ℕ)) → Type 0) → List (Option (List ℕ)) → Type 0
 OnFirstFile P (file ∷ files) = P file files
 OnFirstFile P [] = ⊥

@@ -35,7 +35,7 @@ pub record IsAnsweredOver (command : Command) (files : List (Option (List ℕ)))
   pub written : IsWritten answer old new
 
 -- Where the words are one of these commands' and no count of faults rose in the call, the command was answered over its
--- files, which are those of the store or, where none are told, some; or memory was wanting, and nothing was written.
+-- files, which are those of the store or, where none are exposed, some; or it ran out of memory, with nothing written.
 abbrev pub IsComplete : (Command → Type 0) → List (List ℕ) → Outside → Status → Outside → Type 0
 IsComplete IsDone words old how new =
     (command : Command) → IsDone command → Means words command → HasNoFailure old new →

@@ -4,7 +4,7 @@ use Rattle.std.specs.Prelude.{codes}
 use Rattle.std.specs.Fmt.{decimal}
 use Rattle.entry_format.specs.Nodes.{node_of_sealed}
 use Rattle.entry_order.specs.Naming.{Distinct}
-use Rattle.entry_order.specs.World.{history, sent_in}
+use Rattle.entry_order.specs.World.{sent_in}
 use Rattle.election_script.specs.declared.script.Script.{Script}
 use Rattle.election_script.specs.Generated.{generated}
 use Rattle.polling_world.specs.Machines.{MachineState}
@@ -13,19 +13,18 @@ use Rattle.polling_world.specs.Worlds.{world_of}
 use Rattle.rule_language.specs.Standard.{standard_rules}
 use Rattle.evidence.specs.Refusal.{Refusal}
 use Rattle.auditor.specs.Report.{AuditReport}
-use Rattle.auditor.specs.Sources.{standard}
-use Rattle.honest_reports.specs.Refusals.{IsTooWideFor}
 use Rattle.demonstration.specs.declared.shown.Demonstration.{Demonstration}
-use Rattle.demonstration.specs.Kept.{IsKeptOf}
 use Rattle.demonstration.specs.Lines.{demonstration_text}
 use Rattle.demonstration.specs.Shown.{IsAudited, IsDemonstrationOf, IsRefusedSo}
 use Rattle.auditorium_core.specs.declared.status.Status.TheVariants as status
+use Rattle.auditorium_core.specs.Audit.{IsSound}
 use Rattle.auditorium_core.specs.ReportAnswers.{status_by, report_statuses}
-use Rattle.auditorium_core.specs.Lines.{Answer, OrRefused, refusal_answer}
+use Rattle.auditorium_core.specs.Lines.{Answer, OrRefused}
+use Rattle.auditorium_core.specs.Play.{KeepOrder}
 use Rattle.auditorium_core.specs.WordForms.{AreSessions}
 use Rattle.auditorium_core.specs.CommandParts.{CommandParts, OnNoFile}
 
--- the number is half of so many sessions, rounded up
+-- the number is half that of the sessions, rounded up
 abbrev pub IsHalfOf : ℕ → ℕ → Type 0
 IsHalfOf sessions half = (half + half ≡ sessions) ⊎ (half + half ≡ sessions + 1)
 
@@ -42,7 +41,7 @@ demonstration_answer sessions shown = record {
   output = demonstration_text sessions shown;
 }
 
--- the answer of what a demonstration of so many sessions gives, in which the log is kept up to the end of one
+-- the answer of what a demonstration of this number of sessions gives, in which the log is kept up to the end of one
 abbrev pub IsAnswerOfShown : ℕ → ℕ → Answer → Type 0
 IsAnswerOfShown sessions session =
     OrRefused (GivesDemonstration (generated sessions) session)
@@ -59,25 +58,18 @@ pub record TellsNoneBroken (sessions session : ℕ) (answer : Answer) : Type 0 w
   pub unsettled : shown.gaps ≡ 0 → shown.unsettled ≡ 0
   pub not_broken : answer.status ≢ status.Broken
 
--- The answer is a refusal, because a standard rule is too wide over what survives in the log that is kept of these
--- machines.
-pub record IsRefusedAsTooWide (sessions session : ℕ) (machines : List MachineState) (answer : Answer) : Type 0 where
-  pub bytes : List ℕ
-  pub refusal : Refusal
-  pub kept : IsKeptOf session 0 (history (world_of machines) 0) bytes
-  pub too_wide : IsTooWideFor (generated sessions) (world_of machines) standard None (Some bytes ∷ []) refusal
-  pub told : answer ≡ refusal_answer refusal
-
--- The answer of a demonstration of so many sessions, in which the log is kept up to the end of the middle one. Where
--- different entries that the machines sent have different digests, no rule is broken, and only a rule that is too wide
--- is refused.
+-- The answer of a demonstration of this number of sessions, in which the log is kept up to the end of the middle one. In
+-- its machines the order of entries is that of receipt, and the verdicts that are counted mean what those of an audit
+-- do. Where different entries that the machines sent have different digests, nothing is refused, and no rule is broken.
 pub record IsDemonstrationAnswer (sessions : ℕ) (answer : Answer) : Type 0 where
   pub half : ℕ
   pub is_half : IsHalfOf sessions half
   pub right : IsAnswerOfShown sessions half answer
+  pub order : (machines : List MachineState) → IsPlayed (generated sessions) machines → KeepOrder machines
+  pub sound : (machines : List MachineState) (report : AuditReport) →
+      IsAudited (generated sessions) half machines (Ok report) → IsSound report
   pub honest : (machines : List MachineState) → IsPlayed (generated sessions) machines →
-      Distinct node_of_sealed (sent_in (world_of machines)) →
-      TellsNoneBroken sessions half answer ⊎ IsRefusedAsTooWide sessions half machines answer
+      Distinct node_of_sealed (sent_in (world_of machines)) → TellsNoneBroken sessions half answer
 
 -- the audit of what is kept isn't refused
 abbrev pub ShowsReport : ℕ → Type 0

@@ -6,10 +6,11 @@ use Rattle.office_key.specs.declared.office.Office.{Office}
 use Rattle.office_key.specs.Endorsements.{endorsement, office_public}
 use Rattle.office_key.specs.Offices.{office_text, next_office}
 use Rattle.evidence.specs.Refusal.{Refusal}
-use Rattle.report_lines.specs.Lines.{line}
+use Rattle.log_files.specs.Lines.{line}
+use Rattle.auditor.specs.Audits.{FileThen}
 use Rattle.auditorium_core.specs.declared.status.Status.TheVariants as status
 use Rattle.auditorium_core.specs.Lines.{Answer, OrRefused}
-use Rattle.auditorium_core.specs.NamedBytes.{AtLast, FileThen, GivesBytes, max_signed}
+use Rattle.auditorium_core.specs.NamedBytes.{AtLast, GivesBytes, max_signed}
 use Rattle.auditorium_core.specs.OfficeFile.{GivesOffice, office_file}
 use Rattle.auditorium_core.specs.CommandParts.{CommandParts}
 

@@ -8,11 +8,11 @@ use Rattle.log_files.specs.declared.plain_log.LogFault.TheVariants.{Absent, TooL
 use Rattle.log_files.specs.LogFile.{IsLogOf, IsLogRefused}
 use Rattle.auditorium_core.specs.declared.status.Status.{Status}
 use Rattle.auditorium_core.specs.declared.status.Status.TheVariants as status
-use Rattle.report_lines.specs.Lines.{refused_lines, end_line, gap_lines}
+use Rattle.log_files.specs.Lines.{refused_lines, end_line, gap_lines}
 use Rattle.auditorium_core.specs.Lines.{Answer, absent_answer, refused_answer}
 use Rattle.auditorium_core.specs.CommandParts.{CommandParts, OnOneFile}
 
--- all lines of a log: the gaps are the digests that its entries name and none of them bears
+-- all lines of a log: the gaps are the digests that its entries name and none of them has
 abbrev pub gaps_log_lines : List ℕ → PlainLog → List ℕ
 gaps_log_lines name log =
     refused_lines name log.refused.items ++ end_line name log.end ++ gap_lines (gaps node_of log.kept.items)
@@ -26,7 +26,7 @@ status_of (byte ∷ bytes) = status.Findings
 abbrev pub findings_answer : List ℕ → Answer
 findings_answer lines = record { status = status_of lines; files = []; output = lines }
 
--- the answer where the log is refused; a failed read and want of memory have none
+-- the answer where the log is refused; a failed read and running out of memory have none
 abbrev pub IsRefusal : List ℕ → LogFault → Answer → Type 0
 IsRefusal name Absent answer = answer ≡ absent_answer name
 IsRefusal name TooLong answer = answer ≡ refused_answer name 0 (codes "TooLong")

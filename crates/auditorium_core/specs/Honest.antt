@@ -1,22 +1,24 @@
 -- What `order` says where the logs' files are left of an honest place.
 use Rattle.std.specs.Prelude.{◌≡◌, ◌≢◌, ◌↔◌, ℕ, List, Option, ⊤}
 use Rattle.std.specs.List.{Contains}
-use Rattle.roster.specs.declared.post.Post.{Post}
 use Rattle.entry_format.specs.Nodes.{node_of_sealed}
 use Rattle.entry_format.specs.SealedEntry.{SealedEntry}
 use Rattle.entry_graph.specs.EntryGraph.{EntryGraph}
 use Rattle.entry_order.specs.HeldBefore.{HeldBefore}
 use Rattle.entry_order.specs.Naming.{Distinct}
 use Rattle.entry_order.specs.World.{World, sent_in}
+use Rattle.election_script.specs.declared.script.Script.{Script}
 use Rattle.log_files.specs.declared.sealed_log.LogRead.{LogRead}
+use Rattle.polling_world.specs.Keys.{roster_of}
+use Rattle.polling_world.specs.Making.{election_of}
 use Rattle.honest_logs.specs.HonestReading.{IsHonestlyRead}
-use Rattle.honest_logs.specs.LeftFiles.{AreAllFilesOf, AreFilesOf}
-use Rattle.honest_logs.specs.OfScript.{IsOfScript}
+use Rattle.honest_logs.specs.LeftFiles.{AreAllFilesOf}
 use Rattle.auditorium_core.specs.declared.order_word.OrderWord.{OrderWord}
 use Rattle.auditorium_core.specs.declared.order_word.OrderWord.TheVariants.{Same, Before, After, Apart, Unknown}
 use Rattle.auditorium_core.specs.declared.status.Status.TheVariants.{Done}
 use Rattle.auditorium_core.specs.Lines.{Answer, line_answer, no_entry, order_word}
 use Rattle.auditorium_core.specs.EntryWords.{MeansEntry, MeansNone}
+use Rattle.auditorium_core.specs.HonestPlace.{OnEachPlace}
 
 -- two different entries, neither of which was held before the other in w
 pub record WereApart (w : World SealedEntry) (e f : SealedEntry) : Type 0 where
@@ -32,7 +34,7 @@ IsWordIn w e f After = HeldBefore w f e
 IsWordIn w e f Apart = WereApart w e f
 IsWordIn w e f Unknown = ⊤
 
--- each word is told exactly where it is so in w, and `unknown` never
+-- each word is printed exactly where it is true in w, and `unknown` never
 pub record IsExactIn (w : World SealedEntry) (e f : SealedEntry) (word : OrderWord) : Type 0 where
   pub same : (word ≡ Same) ↔ (e ≡ f)
   pub before : (word ≡ Before) ↔ HeldBefore w e f
@@ -49,33 +51,35 @@ pub record IsHonestWord (w : World SealedEntry) (files : List (Option (List ℕ)
   pub right : IsWordIn w e f word
   pub exact : AreAllFilesOf w files → IsExactIn w e f word
 
+-- these files give the logs and their graph under the script's roster, in its election
+abbrev pub AreReadUnder : Script → World SealedEntry → List (List ℕ) → List (Option (List ℕ)) → List LogRead
+    → EntryGraph SealedEntry → Type 0
+AreReadUnder script w names files logs graph =
+    IsHonestlyRead (roster_of script) (election_of (roster_of script)) w names files logs graph
+
 -- What is answered over such files of w: a refusal, because a word means no survivor; or a word that is right in w. The
--- logs and their graph accuse nobody.
-pub data IsHonestOrder (machines : List Post) (election : List ℕ) (w : World SealedEntry) (x y : List ℕ)
-    (names : List (List ℕ)) (files : List (Option (List ℕ))) : Answer → Type 0 where
-  no_first : (logs : List LogRead) (graph : EntryGraph SealedEntry) →
-      IsHonestlyRead machines election w names files logs graph → MeansNone machines graph.survivors x →
-      IsHonestOrder machines election w x y names files (no_entry x)
-  no_second : (logs : List LogRead) (graph : EntryGraph SealedEntry) →
-      IsHonestlyRead machines election w names files logs graph → (e : SealedEntry) →
-      MeansEntry machines graph.survivors x e → MeansNone machines graph.survivors y →
-      IsHonestOrder machines election w x y names files (no_entry y)
-  both : (logs : List LogRead) (graph : EntryGraph SealedEntry) →
-      IsHonestlyRead machines election w names files logs graph → (e f : SealedEntry) →
-      MeansEntry machines graph.survivors x e → MeansEntry machines graph.survivors y f → (word : OrderWord) →
-      IsHonestWord w files e f word →
-      IsHonestOrder machines election w x y names files (line_answer Done (order_word word))
+-- roster is accepted, and the logs and their graph accuse nobody.
+pub data IsHonestOrder (script : Script) (w : World SealedEntry) (x y : List ℕ) (names : List (List ℕ))
+    (files : List (Option (List ℕ))) : Answer → Type 0 where
+  no_first : (logs : List LogRead) (graph : EntryGraph SealedEntry) → AreReadUnder script w names files logs graph →
+      MeansNone (roster_of script) graph.survivors x → IsHonestOrder script w x y names files (no_entry x)
+  no_second : (logs : List LogRead) (graph : EntryGraph SealedEntry) → AreReadUnder script w names files logs graph →
+      (e : SealedEntry) → MeansEntry (roster_of script) graph.survivors x e →
+      MeansNone (roster_of script) graph.survivors y → IsHonestOrder script w x y names files (no_entry y)
+  both : (logs : List LogRead) (graph : EntryGraph SealedEntry) → AreReadUnder script w names files logs graph →
+      (e f : SealedEntry) → MeansEntry (roster_of script) graph.survivors x e →
+      MeansEntry (roster_of script) graph.survivors y f → (word : OrderWord) → IsHonestWord w files e f word →
+      IsHonestOrder script w x y names files (line_answer Done (order_word word))
 
 -- The answer is such a one where different entries of w have different digests. A word over all logs of w, whole, shows
 -- that they have.
-pub record IsOrderOfPlace (machines : List Post) (election : List ℕ) (w : World SealedEntry) (x y : List ℕ)
-    (names : List (List ℕ)) (files : List (Option (List ℕ))) (answer : Answer) : Type 0 where
-  pub honest : Distinct node_of_sealed (sent_in w) → IsHonestOrder machines election w x y names files answer
+pub record IsOrderOfPlace (script : Script) (w : World SealedEntry) (x y : List ℕ) (names : List (List ℕ))
+    (files : List (Option (List ℕ))) (answer : Answer) : Type 0 where
+  pub honest : Distinct node_of_sealed (sent_in w) → IsHonestOrder script w x y names files answer
   pub shown : AreAllFilesOf w files → answer.status ≡ Done → Distinct node_of_sealed (sent_in w)
 
--- so it is with each world of a script whose roster was read and of whose logs the files are left
-abbrev pub IsOrderOfPlaces : List Post → List ℕ → List ℕ → List ℕ → List (List ℕ) → List (Option (List ℕ)) →
-    Answer → Type 0
-IsOrderOfPlaces machines election x y names files answer =
-    (w : World SealedEntry) → IsOfScript machines election w → AreFilesOf w files →
-    IsOrderOfPlace machines election w x y names files answer
+-- the answer is right for each honest place that left the roster's file and the logs' files
+abbrev pub IsOrderOfPlaces : List ℕ → List ℕ → List (List ℕ) → Option (List ℕ) → List (Option (List ℕ)) → Answer →
+    Type 0
+IsOrderOfPlaces x y names roster files answer =
+    OnEachPlace (λ script w. IsOrderOfPlace script w x y names files answer) roster files

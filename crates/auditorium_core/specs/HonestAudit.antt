@@ -6,15 +6,16 @@ use Rattle.entry_order.specs.Naming.{Distinct}
 use Rattle.entry_order.specs.World.{World, sent_in}
 use Rattle.election_script.specs.declared.script.Script.{Script}
 use Rattle.evidence.specs.Refusal.{Refusal}
-use Rattle.honest_logs.specs.LeftFiles.{AreAllFilesOf, AreFilesOf}
+use Rattle.honest_logs.specs.LeftFiles.{AreAllFilesOf}
 use Rattle.auditor.specs.Report.{AuditReport}
 use Rattle.auditor.specs.Sources.{RuleSource, standard}
 use Rattle.honest_reports.specs.Kept.{SaysAllKept, SaysNoneBroken, kept_text}
-use Rattle.honest_reports.specs.Places.{AreWholeFilesOf, IsRosterOf, files_read}
-use Rattle.honest_reports.specs.Refusals.{IsRefusalOfRules, IsTooWideFor}
+use Rattle.honest_reports.specs.Places.{AreWholeFilesOf, files_read}
+use Rattle.honest_reports.specs.Refusals.{IsHonestRefusal}
 use Rattle.honest_reports.specs.Reports.{IsHonestReport}
 use Rattle.auditorium_core.specs.declared.status.Status.{Status}
 use Rattle.auditorium_core.specs.declared.status.Status.TheVariants as status
+use Rattle.auditorium_core.specs.HonestPlace.{OnEachPlace}
 use Rattle.auditorium_core.specs.Lines.{Answer, refusal_answer}
 use Rattle.auditorium_core.specs.ReportAnswers.{report_answer}
 
@@ -39,14 +40,12 @@ pub record TellsHonestReport (script : Script) (w : World SealedEntry) (source :
   pub not_broken : source ≡ standard → answer.status ≢ status.Broken
   pub all_kept : source ≡ standard → AreAllFilesOf w files → SaysAllKept w files report
 
--- What is answered over such files: a refusal, because of the file of the rules or because a rule is too wide; or a
--- report that accuses nobody.
+-- What is answered over such files: a report that accuses nobody; or, never by the standard rules, a refusal because of
+-- the file of the rules, or because one of its rules is too wide.
 abbrev pub IsHonestAudit : Script → World SealedEntry → RuleSource → Option (List ℕ) → List (List ℕ) →
     List (Option (List ℕ)) → Answer → Type 0
 IsHonestAudit script w source rules_file names files answer =
-    ((refusal : Refusal)
-    × (IsRefusalOfRules source rules_file refusal ⊎ IsTooWideFor script w source rules_file files refusal)
-    × (answer ≡ refusal_answer refusal))
+    ((refusal : Refusal) × IsHonestRefusal script w source rules_file files refusal × (answer ≡ refusal_answer refusal))
     ⊎ TellsHonestReport script w source names files answer
 
 -- The answer is that of such a report which finds nothing: the status is Done, and the output says of each standard
@@ -57,21 +56,21 @@ pub record TellsAllKept (script : Script) (w : World SealedEntry) (names : List 
   pub honest : IsHonestReport script w names files report
   pub told : answer ≡ record { status = status.Done; files = []; output = kept_text report }
 
--- The answer is an honest one where different entries of w have different digests. A report over all logs of w, whole,
--- shows that they have. By the standard rules, and where each of the files is a whole log, it finds nothing.
+-- The answer is an honest one where different entries of w have different digests. By the standard rules, over all logs of
+-- w and where each of the files is a whole log, it finds nothing. A report over all logs of w, whole, shows that digests
+-- differ.
 pub record IsAuditOfPlace (script : Script) (w : World SealedEntry) (source : RuleSource)
     (rules_file : Option (List ℕ)) (names : List (List ℕ)) (files : List (Option (List ℕ))) (answer : Answer)
     : Type 0 where
   pub honest : Distinct node_of_sealed (sent_in w) → IsHonestAudit script w source rules_file names files answer
+  pub kept : Distinct node_of_sealed (sent_in w) → source ≡ standard → AreAllFilesOf w files →
+      AreWholeFilesOf w files → TellsAllKept script w names files answer
   pub shown : AreAllFilesOf w files → IsOfReport answer.status → Distinct node_of_sealed (sent_in w)
-  pub kept : source ≡ standard → AreAllFilesOf w files → AreWholeFilesOf w files → IsOfReport answer.status →
-      TellsAllKept script w names files answer
 
--- So it is with each world w of a script, where the files are that of the script's roster, that of the rules, if they
--- are in one, and those that are left of the logs of w.
+-- the answer is right for each honest place that left the roster's file and the logs' files, where the files are these
+-- and that of the rules, if they are in one
 abbrev pub IsAuditOfPlaces : RuleSource → List (List ℕ) → List (Option (List ℕ)) → Answer → Type 0
 IsAuditOfPlaces source names files answer =
-    (script : Script) (w : World SealedEntry) (roster_file : Option (List ℕ)) → IsRosterOf script w roster_file →
-    (log_files : List (Option (List ℕ))) → AreFilesOf w log_files → (rules_file : Option (List ℕ)) →
-    files ≡ files_read roster_file source rules_file log_files →
-    IsAuditOfPlace script w source rules_file names log_files answer
+    (roster rules_file : Option (List ℕ)) (logs : List (Option (List ℕ))) →
+    files ≡ files_read roster source rules_file logs →
+    OnEachPlace (λ script w. IsAuditOfPlace script w source rules_file names logs answer) roster logs

@@ -13,7 +13,6 @@ pub mod HonestAudit
 pub mod Audit
 pub mod ProofFile
 pub mod Check
-pub mod Demonstrated
 pub mod Endorse
 pub mod Endorsed
 pub mod Gaps
@@ -21,6 +20,7 @@ pub mod Made
 pub mod Office
 pub mod Order
 pub mod Play
+pub mod Demonstrated
 pub mod Prove
 pub mod Watch
 pub mod CheckAgrees
@@ -32,5 +32,6 @@ pub mod Answer
 pub mod Outside
 pub mod Outcome
 pub mod Complete
+pub mod ReadBack
 pub mod OfficeCalls
 pub mod inside

@@ -1,7 +1,7 @@
 -- Answers that write no file.
 use Rattle.std.specs.Prelude.{◌≡◌, ◌⊎◌, ℕ, List, [], ◌++◌, codes, Result, Ok, Err}
 use Rattle.evidence.specs.Refusal.{Refusal, absent, refused}
-use Rattle.report_lines.specs.Lines.{line, refused_line}
+use Rattle.log_files.specs.Lines.{line, refused_line}
 use Rattle.auditorium_core.specs.declared.order_word.OrderWord.{OrderWord}
 use Rattle.auditorium_core.specs.declared.order_word.OrderWord.TheVariants.{Same, Before, After, Apart, Unknown}
 use Rattle.auditorium_core.specs.declared.status.Status.{Status}
@@ -17,7 +17,7 @@ pub record Answer : Type 0 where
 abbrev pub line_answer : Status → List ℕ → Answer
 line_answer how text = record { status = how; files = []; output = line text }
 
--- the words aren't good
+-- the answer to an invalid command line
 abbrev pub usage_answer : Answer
 usage_answer = line_answer status.Usage (codes "usage")
 

@@ -8,7 +8,7 @@ use Rattle.auditorium_core.specs.Lines.{Answer}
 use Rattle.auditorium_core.specs.WordForms.{AreSessions}
 use Rattle.auditorium_core.specs.CommandParts.{CommandParts, OnNoFile}
 
--- the text of the script of a day of so many sessions
+-- the text of the script of a day of this number of sessions
 abbrev pub made_answer : ℕ → Answer
 made_answer sessions = record { status = status.Done; files = []; output = script_text (generated sessions) }
 

@@ -1,7 +1,6 @@
 -- Files that are read whole, one after another.
 use Rattle.std.specs.Prelude.{◌≡◌, ◌⊎◌, ℕ, ◌<◌, ◌≤◌, List, [], ◌∷◌, length, Option, Some, None, Result, Ok, Err}
 use Rattle.evidence.specs.Refusal.{Refusal, absent, too_long}
-use Rattle.auditor.specs.Audits.{AndThen}
 
 -- the most bytes of a file that is signed
 abbrev pub max_signed : ℕ
@@ -11,19 +10,13 @@ max_signed = 67108864
 abbrev pub max_small : ℕ
 max_small = 65536
 
--- what a file of at most so many bytes gives, or that there is none: its bytes
+-- what a file gives: its bytes, or the refusal of one that is absent or over the limit
 abbrev pub GivesBytes : ℕ → List ℕ → Option (List ℕ) → Result (List ℕ) Refusal → Type 0
 GivesBytes limit name None answer = answer ≡ Err (absent name)
 GivesBytes limit name (Some bytes) answer =
     ((limit < length bytes) × (answer ≡ Err (too_long name))) ⊎ ((length bytes ≤ limit) × (answer ≡ Ok bytes))
 
--- what the first file gives, and the others with what was found in it; the first refusal ends it
-abbrev pub FileThen : {A B : Type 0} → (Option (List ℕ) → Result A Refusal → Type 0)
-    → (A → List (Option (List ℕ)) → Result B Refusal → Type 0) → List (Option (List ℕ)) → Result B Refusal → Type 0
-FileThen First Next (file ∷ files) answer = AndThen (First file) (λ found. Next found files) answer
-FileThen First Next [] answer = ⊥
-
--- this was found, and no file is left
+-- the answer is what was found, and no file is left to read
 abbrev pub AtLast : {B : Type 0} → B → List (Option (List ℕ)) → Result B Refusal → Type 0
 AtLast found [] answer = answer ≡ Ok found
 AtLast found (file ∷ files) answer = ⊥

@@ -3,7 +3,7 @@ use Rattle.std.specs.Prelude.{◌≡◌, ℕ, List, [], ◌∷◌, ◌++◌, len
 use Rattle.hex.specs.Hex.{encode_lower, IsBytes}
 use Rattle.office_key.specs.Endorsements.{office_public}
 use Rattle.office_key.specs.Offices.{office_of, office_text}
-use Rattle.report_lines.specs.Lines.{line}
+use Rattle.log_files.specs.Lines.{line}
 use Rattle.auditorium_core.specs.declared.status.Status.TheVariants as status
 use Rattle.auditorium_core.specs.Lines.{Answer, refused_answer}
 use Rattle.auditorium_core.specs.OfficeFile.{office_file}

@@ -1,4 +1,4 @@
--- What calls of the program leave of an office's file and of its signatures, on a store that tells its files.
+-- What calls of the program leave of an office's file and of its signatures, on a store that exposes its files.
 use Rattle.std.specs.Prelude.{◌≡◌, ◌≢◌, ◌⊎◌, ℕ, ◌<◌, List, [], ◌∷◌, length, take, Option, Some, Ok, IsSomeAnd, ⊤}
 use Rattle.std.specs.List.{AllPairs}
 use Rattle.hall_outside.specs.Files.{Files, file_set}
@@ -53,14 +53,14 @@ IsSignedByNumber name file before after =
     after (signature_file file) ≢ before (signature_file file) →
     (read : Unsigned) × ReadsUnsigned before name file read × IsOfficeIn after name (next_office read.office)
 
--- a call of the program on a store that tells its files
+-- a call of the program on a store that exposes its files
 pub record Call : Type 0 where
   pub words : List (List ℕ)
   pub before : Files
   pub how : Status
   pub after : Files
 
--- it does what the program does, where these are its commands
+-- the call does what the program does, where these are its commands
 pub record IsCall (IsDone : Command → Type 0) (call : Call) : Type 0 where
   pub old : Outside
   pub new : Outside
@@ -75,13 +75,13 @@ AreOfOffices words =
     ⊎ ((name file : List ℕ) × Means words (endorse name file))
     ⊎ ((key file signature : List ℕ) × Means words (endorsed key file signature))
 
--- a call of one of these, or what leaves the office's file
+-- a call of `office`, `endorse` or `endorsed`, or what leaves the office's file as it was
 abbrev pub IsCallOrOther : (Command → Type 0) → List ℕ → Call → Type 0
 IsCallOrOther IsDone name call =
     (IsCall IsDone call × AreOfOffices call.words)
     ⊎ (call.after (office_file name) ≡ call.before (office_file name))
 
--- such calls one after another, the first of which finds these files
+-- calls of these commands, or ones that leave the office's file, one after another, from these files on
 abbrev pub AreCallsOn : (Command → Type 0) → List ℕ → Files → List Call → Type 0
 AreCallsOn IsDone name files [] = ⊤
 AreCallsOn IsDone name files (call ∷ calls) =

@@ -50,12 +50,12 @@ IsWordOf S e f Unknown = AreApart S e f × (¬ AreWhole S e f)
 abbrev pub ComesFirst : List Plain → SealedEntry → SealedEntry → Type 0
 ComesFirst G e f = Precedes node_of G (plain_of e) (plain_of f)
 
--- so it is in all that the entries may have been of which S survives
+-- P holds in each completion of S, that is, in all that the entries may have been of which S survives
 abbrev pub InEach : ℕ → List SealedEntry → (List Plain → Type 0) → Type 0
 InEach machines S P = (G : List Plain) → Completion node_of machines (plains S) G → P G
 
 -- What the word promises of all that the entries may have been of which S survives: `before` and `after` hold in each
--- completion, of `apart` neither holds in any, and `unknown` is told only where one of the two isn't whole.
+-- completion, of `apart` neither holds in any, and `unknown` is printed only where one of the two isn't whole.
 abbrev pub IsSettled : ℕ → List SealedEntry → SealedEntry → SealedEntry → OrderWord → Type 0
 IsSettled machines S e f Same = e ≡ f
 IsSettled machines S e f Before = InEach machines S (λ G. ComesFirst G e f)
@@ -97,7 +97,7 @@ IsGraphIn read logs files graph =
     × GivesGraph (entries_of found) (Ok graph)
 
 -- Some entries complete S. Of two survivors e is before f exactly where it is so in each completion; and f is whole and
--- e not before it exactly where it is so in none. So a word other than unknown is told wherever completions agree.
+-- e not before it exactly where it is so in none. So a word other than unknown is printed wherever completions agree.
 pub record IsExact (machines : ℕ) (S : List SealedEntry) : Type 0 where
   pub some : (G : List Plain) × Completion node_of machines (plains S) G
   pub before : (e f : SealedEntry) → Contains S e → Contains S f →
@@ -105,19 +105,19 @@ pub record IsExact (machines : ℕ) (S : List SealedEntry) : Type 0 where
   pub not_before : (e f : SealedEntry) → Contains S e → Contains S f →
       (IsWhole node_of_sealed S f × (¬ IsBefore S e f)) ↔ InEach machines S (λ G. ¬ ComesFirst G e f)
 
--- the same, and what it says where the files are left of an honest place
+-- the answer of `order` under a roster
 pub record IsOrderUnder (read : RosterRead) (x y : List ℕ) (logs : List (List ℕ)) (files : List (Option (List ℕ)))
     (answer : Answer) : Type 0 where
   pub right : IsOrderOverLogs read x y logs files answer
   pub exact : (graph : EntryGraph SealedEntry) → IsGraphIn read logs files graph →
       IsExact (length read.roster.machines) graph.survivors
-  pub honest : IsOrderOfPlaces read.roster.machines read.election x y logs files answer
 
--- the answer for the roster's file and the logs' files, each of which may be absent
-abbrev pub IsOrderAnswer : List ℕ → List ℕ → List ℕ → List (List ℕ) → Option (List ℕ) → List (Option (List ℕ)) →
-    Answer → Type 0
-IsOrderAnswer roster x y logs file files answer =
-    OrRefused (GivesRoster roster file) (λ (read : RosterRead). IsOrderUnder read x y logs files) answer
+-- the answer for the roster's file and the logs' files, each of which may be absent, and what it says where they are left
+-- of an honest place
+pub record IsOrderAnswer (roster x y : List ℕ) (logs : List (List ℕ)) (file : Option (List ℕ))
+    (files : List (Option (List ℕ))) (answer : Answer) : Type 0 where
+  pub right : OrRefused (GivesRoster roster file) (λ (read : RosterRead). IsOrderUnder read x y logs files) answer
+  pub honest : IsOrderOfPlaces x y logs file files answer
 
 -- two words for entries, and 1 to 16 logs
 pub record AreOrderWords (x y : List ℕ) (logs : List (List ℕ)) : Type 0 where

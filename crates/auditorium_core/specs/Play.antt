@@ -20,20 +20,27 @@ use Rattle.polling_world.specs.Worlds.{world_of}
 use Rattle.polling_world.specs.Waiting.{IsLeft}
 use Rattle.auditorium_core.specs.declared.status.Status.{Status}
 use Rattle.auditorium_core.specs.declared.status.Status.TheVariants as status
-use Rattle.report_lines.specs.Lines.{line}
+use Rattle.log_files.specs.Lines.{line}
 use Rattle.auditorium_core.specs.HonestPlace.{LeaveHonestFiles}
 use Rattle.auditorium_core.specs.Lines.{Answer, OrRefused}
 use Rattle.auditorium_core.specs.ScriptFile.{GivesScript, IsScriptFile}
 use Rattle.auditorium_core.specs.CommandParts.{CommandParts, OnOneFile}
 use Rattle.polling_world.specs.CauseWords.{left_why_word}
 
--- the roster goes into this file, and a machine's log into that one
-abbrev pub roster_file : List ℕ → List Post → List ℕ × List ℕ
-roster_file prefix machines = (prefix ++ codes ".roster", text_of (roster_tree machines))
+-- the names of the files of the roster and of a machine's log
+abbrev pub roster_name : List ℕ → List ℕ
+roster_name prefix = prefix ++ codes ".roster"
 
+abbrev pub machine_log_name : List ℕ → MachineState → List ℕ
+machine_log_name prefix m = prefix ++ codes "." ++ m.config.name ++ codes ".log"
+
+-- the file of the roster: its name and its text
+abbrev pub roster_file : List ℕ → List Post → List ℕ × List ℕ
+roster_file prefix machines = (roster_name prefix, text_of (roster_tree machines))
+
+-- the file of a machine's log: its name and its text
 abbrev pub log_file : List ℕ → MachineState → List ℕ × List ℕ
-log_file prefix m =
-    (prefix ++ codes "." ++ m.config.name ++ codes ".log", log_text m.config.number m.events)
+log_file prefix m = (machine_log_name prefix m, log_text m.config.number m.events)
 
 -- the files of machines with this roster
 abbrev pub play_files : List ℕ → List Post → List MachineState → List (List ℕ × List ℕ)
@@ -45,6 +52,7 @@ played_line m =
     line (codes "machine " ++ m.config.name ++ codes " sent " ++ decimal (length (sent m.events))
     ++ codes " held " ++ decimal (length m.events))
 
+-- the line of each machine, in order
 abbrev pub machine_lines : List MachineState → List ℕ
 machine_lines machines = flat_map played_line machines
 
@@ -66,7 +74,7 @@ abbrev pub status_of_undone : List ℕ → Status
 status_of_undone [] = status.Done
 status_of_undone (byte ∷ bytes) = status.Undone
 
--- those of machines that play, and of a refusal
+-- the statuses of machines that play, and of a refusal
 abbrev pub play_statuses : List Status
 play_statuses = status.Done ∷ status.Undone ∷ status.Refused ∷ status.Absent ∷ []
 

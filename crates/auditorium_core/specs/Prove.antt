@@ -3,18 +3,14 @@ use Rattle.std.specs.Prelude.{◌≡◌, ℕ, ◌<◌, ◌≤◌, List, [], ◌�
 use Rattle.std.specs.Prelude.{Result, Ok, Err}
 use Rattle.std.specs.Fmt.{decimal}
 use Rattle.precedence.specs.Graph.{Graph}
-use Rattle.log_files.specs.declared.sealed_log.LogRead.{LogRead}
-use Rattle.entry_format.specs.SealedEntry.{SealedEntry}
-use Rattle.entry_graph.specs.EntryGraph.{EntryGraph}
 use Rattle.audit_proof.specs.Canonical.{IsCanonicalText}
-use Rattle.evidence.specs.declared.roster_file.RosterRead.{RosterRead}
 use Rattle.evidence.specs.Refusal.{Refusal, too_long}
 use Rattle.evidence.specs.RosterFile.{GivesRoster}
 use Rattle.evidence.specs.Logs.{GivesLogs}
 use Rattle.evidence.specs.Graphs.{entries_of, GivesGraph}
 use Rattle.auditor.specs.Judged.{nodes_of}
-use Rattle.auditor.specs.Audits.{AndThen}
-use Rattle.report_lines.specs.Lines.{line}
+use Rattle.auditor.specs.Audits.{AndThen, FileThen}
+use Rattle.log_files.specs.Lines.{line}
 use Rattle.auditorium_core.specs.declared.status.Status.TheVariants as status
 use Rattle.auditorium_core.specs.Lines.{Answer, OrRefused}
 use Rattle.auditorium_core.specs.WordForms.{AreLogs}
@@ -36,24 +32,14 @@ GivesText name graph (Err refusal) =
     (text : List ℕ) × IsCanonicalText graph text × (max_proof < length text)
     × (refusal ≡ too_long name)
 
--- what logs give: the graph of the entries that they keep, and its text
-abbrev pub ProvesLogs : List ℕ → List LogRead → Result ProofMade Refusal → Type 0
-ProvesLogs proof logs =
-    AndThen (GivesGraph (entries_of logs))
-    (λ (graph : EntryGraph SealedEntry). GivesText proof (nodes_of graph))
-
--- what the files of logs give with the roster: the logs, and what they give
-abbrev pub ProvesFiles : RosterRead → List ℕ → List (List ℕ) → List (Option (List ℕ)) →
-    Result ProofMade Refusal → Type 0
-ProvesFiles read proof names files =
-    AndThen (GivesLogs read.roster.machines read.election names files) (ProvesLogs proof)
-
--- what the files of a roster and of logs give
+-- what the files give: the roster, the logs, the graph of the entries that these keep, and its text; or the first
+-- refusal
 abbrev pub GivesMade : List ℕ → List ℕ → List (List ℕ) → List (Option (List ℕ)) →
     Result ProofMade Refusal → Type 0
-GivesMade roster proof logs (file ∷ files) =
-    AndThen (GivesRoster roster file) (λ (read : RosterRead). ProvesFiles read proof logs files)
-GivesMade roster proof logs [] = λ answer. ⊥
+GivesMade roster proof names =
+    FileThen (GivesRoster roster) (λ read files.
+    AndThen (GivesLogs read.roster.machines read.election names files) (λ logs.
+    AndThen (GivesGraph (entries_of logs)) (λ graph. GivesText proof (nodes_of graph))))
 
 -- the answer: the text goes into the file
 abbrev pub proof_answer : List ℕ → ProofMade → Answer

@@ -16,7 +16,7 @@ use Rattle.polling_world.specs.Machines.{MachineState}
 use Rattle.polling_world.specs.Playing.{IsPlayed}
 use Rattle.polling_world.specs.Worlds.{TellsNext, world_of}
 use Rattle.log_repair.specs.Mending.{Finishes, Repairs}
-use Rattle.report_lines.specs.Lines.{line}
+use Rattle.log_files.specs.Lines.{line}
 use Rattle.auditor.specs.ReportText.{maker_name}
 use Rattle.auditorium_core.specs.HonestPlace.{LeaveHonestFiles}
 use Rattle.auditorium_core.specs.declared.status.Status.TheVariants as status
@@ -34,6 +34,7 @@ mended_line roster (Hear at from number) =
 mended_line roster (Act at) = []
 mended_line roster (Stop at) = []
 
+-- the lines of the entries that machines were answered by these steps
 abbrev pub mended_lines : List Post → List Step → List ℕ
 mended_lines roster steps = flat_map (mended_line roster) steps
 

@@ -16,7 +16,7 @@ status_by outcome.Findings = status.Findings
 status_by outcome.Unsettled = status.Unsettled
 status_by outcome.Broken = status.Broken
 
--- those of a report, and of a refusal
+-- the statuses of a report, and of a refusal
 abbrev pub report_statuses : List Status
 report_statuses =
     status.Done ∷ status.Findings ∷ status.Unsettled ∷ status.Broken ∷ status.Refused ∷ status.Absent ∷ []

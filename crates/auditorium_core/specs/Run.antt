@@ -12,10 +12,10 @@ use Rattle.polling_world.specs.Machines.{MachineState}
 use Rattle.polling_world.specs.Merging.{IsMerged}
 use Rattle.polling_world.specs.Playing.{ComesTo}
 use Rattle.polling_world.specs.Worlds.{world_of}
-use Rattle.floor_losses.specs.CauseWords.{loss_why_word}
-use Rattle.floor_losses.specs.declared.loss.Loss.{Loss}
+use Rattle.finished_floor.specs.CauseWords.{loss_why_word}
+use Rattle.finished_floor.specs.declared.loss.Loss.{Loss}
 use Rattle.finished_floor.specs.Floors.{IsFloorOf}
-use Rattle.report_lines.specs.Lines.{line}
+use Rattle.log_files.specs.Lines.{line}
 use Rattle.auditor.specs.ReportText.{maker_name}
 use Rattle.auditorium_core.specs.HonestPlace.{LeaveHonestFiles}
 use Rattle.auditorium_core.specs.declared.status.Status.TheVariants as status
@@ -31,6 +31,7 @@ loss_line roster loss =
     line (codes "loss " ++ maker_name roster loss.from ++ codes "." ++ decimal loss.number ++ codes " "
     ++ maker_name roster loss.to ++ codes " " ++ loss_why_word loss.why)
 
+-- the line of each entry that didn't arrive
 abbrev pub loss_lines : List Post → List Loss → List ℕ
 loss_lines roster losses = flat_map (loss_line roster) losses
 
@@ -51,8 +52,8 @@ pub record ArePlayedAgainBy (script : Script) (machines : List MachineState) (st
   pub comes : ComesTo script steps w
   pub same : (m : ℕ) → history w m ≡ history (world_of machines) m
 
--- The answer of a run of the script's machines: they did what a play on one thread does, each entry arrived or is told
--- as lost, once and with its cause, and nothing that could be done was left.
+-- The answer of a run of the script's machines: they did what a play on one thread does, each entry arrived or is
+-- reported as lost, once and with its cause, and nothing that could be done was left.
 pub record IsRunOf (prefix : List ℕ) (script : Script) (answer : Answer) : Type 0 where
   pub machines : List MachineState
   pub losses : List Loss

@@ -21,7 +21,7 @@ GivesScript name (Some bytes) answer =
     × (answer ≡ Err (refused name number (script_why_word why)))))
     ⊎ ((length bytes ≤ max_script) × ((script : Script) × Reads bytes (Ok script) × (answer ≡ Ok script)))
 
--- the same of the named file: of the one that is told, or of some where none is
+-- what the named file gives as a script: the one that is exposed, or some where none is
 abbrev pub GivesScriptIn : List ℕ → Option Files → Result Script Refusal → Type 0
 GivesScriptIn name told answer = OnSomeFile told name (λ file. GivesScript name file answer)
 

@@ -7,18 +7,16 @@ use Rattle.entry_format.specs.Nodes.{node_of_sealed}
 use Rattle.entry_format.specs.SealedEntry.{SealedEntry}
 use Rattle.entry_graph.specs.Given.{distinct}
 use Rattle.log_files.specs.declared.sealed_log.LogRead.{LogRead}
-use Rattle.rule_language.specs.Standard.{standard_rules}
 use Rattle.rule_language.specs.Trees.{RuleTree}
-use Rattle.evidence.specs.declared.roster_file.RosterRead.{RosterRead}
 use Rattle.evidence.specs.Refusal.{Refusal, refused}
 use Rattle.evidence.specs.RosterFile.{GivesRoster}
 use Rattle.evidence.specs.Logs.{GivesLogs}
 use Rattle.evidence.specs.Graphs.{entries_of, GivesGraph}
-use Rattle.report_lines.specs.Lines.{line}
-use Rattle.auditor.specs.Audits.{AndThen, WithGraph, audit_files}
+use Rattle.log_files.specs.Lines.{line}
+use Rattle.auditor.specs.Audits.{AndThen, FileThen, RulesThen, WithGraph, audit_files}
 use Rattle.auditor.specs.Outcomes.{is_broken, is_unsettled, outcome_of}
 use Rattle.auditor.specs.Report.{AuditReport}
-use Rattle.auditor.specs.Sources.{RuleSource, standard, in_file, source_word, GivesRules}
+use Rattle.auditor.specs.Sources.{RuleSource, source_word}
 use Rattle.demonstration.specs.Shown.{is_kept}
 use Rattle.live_auditor.specs.Adding.{IsTooWideOver}
 use Rattle.live_auditor.specs.Live.{max_added}
@@ -36,30 +34,15 @@ pub record Evidence : Type 0 where
   pub rules : List RuleTree
   pub logs : List LogRead
 
--- what the files of logs give with the roster and the rules
-abbrev pub ReadsLogs : RosterRead → List RuleTree → List (List ℕ) → List (Option (List ℕ)) →
-    Result Evidence Refusal → Type 0
-ReadsLogs read rules names files =
-    AndThen (GivesLogs read.roster.machines read.election names files)
-    (λ logs answer.
-    answer ≡ Ok (record { machines = read.roster.machines; rules = rules; logs = logs }))
-
--- what the file of the rules, if there is one, and those of the logs give with the roster
-abbrev pub ReadsRules : RosterRead → RuleSource → List (List ℕ) → List (Option (List ℕ)) →
-    Result Evidence Refusal → Type 0
-ReadsRules read standard names files = ReadsLogs read standard_rules names files
-ReadsRules read (in_file name) names (file ∷ files) =
-    AndThen (GivesRules name file) (λ rules. ReadsLogs read rules names files)
-ReadsRules read (in_file name) names [] = λ answer. ⊥
-
--- what the files that an audit reads give
+-- what the files that an audit reads give: the roster, the rules and the logs, or the first refusal
 abbrev pub GivesEvidence : List ℕ → RuleSource → List (List ℕ) → List (Option (List ℕ)) →
     Result Evidence Refusal → Type 0
-GivesEvidence roster source names (file ∷ files) =
-    AndThen (GivesRoster roster file) (λ (read : RosterRead). ReadsRules read source names files)
-GivesEvidence roster source names [] = λ answer. ⊥
+GivesEvidence roster source names =
+    FileThen (GivesRoster roster) (λ read. RulesThen source (λ rules files.
+    AndThen (GivesLogs read.roster.machines read.election names files)
+    (λ logs answer. answer ≡ Ok (record { machines = read.roster.machines; rules = rules; logs = logs }))))
 
--- at each place stands the summary of the entries up to there: what an audit of them says
+-- at each place is the summary of the entries up to there: what an audit of them says
 pub record AreSummaries (machines : List Post) (rules : List RuleTree) (entries : List SealedEntry)
     (summaries : List Summary) : Type 0 where
   pub one_each : length summaries ≡ length entries
@@ -99,13 +82,13 @@ numbers_line n survivors gaps kept broken unsettled =
     ++ codes " kept " ++ decimal kept ++ codes " broken " ++ decimal broken
     ++ codes " unsettled " ++ decimal unsettled)
 
--- the line after so many entries, with what is said of them
+-- the line after the n-th entry, with what is said of them
 abbrev pub watch_line : ℕ → Summary → List ℕ
 watch_line n summary =
     numbers_line n summary.survivors (length summary.gaps) (count_by is_kept summary.verdicts)
     (count_by is_broken summary.verdicts) (count_by is_unsettled summary.verdicts)
 
--- a line for each summary, of which the first is of so many entries
+-- a line for each summary, of which the first is that of n entries
 abbrev pub watch_lines : ℕ → List Summary → List ℕ
 watch_lines n [] = []
 watch_lines n (summary ∷ summaries) = watch_line n summary ++ watch_lines (n + 1) summaries

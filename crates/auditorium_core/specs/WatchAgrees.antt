@@ -1,20 +1,17 @@
 -- What `watch` has in common with an audit, and what it says where the logs' files are left of an
 -- honest place.
-use Rattle.std.specs.Prelude.{◌≡◌, ◌≢◌, ℕ, List, [], ◌∷◌, ◌++◌, length, codes, All, Option, Ok, count_by}
+use Rattle.std.specs.Prelude.{◌≡◌, ◌≢◌, ◌⊎◌, ℕ, List, [], ◌∷◌, ◌++◌, length, codes, All, Option, Ok, count_by}
 use Rattle.entry_format.specs.Nodes.{node_of_sealed}
-use Rattle.entry_format.specs.SealedEntry.{SealedEntry}
 use Rattle.entry_order.specs.Naming.{Distinct}
-use Rattle.entry_order.specs.World.{World, sent_in}
-use Rattle.election_script.specs.declared.script.Script.{Script}
+use Rattle.entry_order.specs.World.{sent_in}
 use Rattle.evidence.specs.Graphs.{entries_of}
-use Rattle.honest_logs.specs.LeftFiles.{AreFilesOf}
-use Rattle.honest_reports.specs.Places.{IsRosterOf}
 use Rattle.auditor.specs.Audits.{GivesReport}
 use Rattle.auditor.specs.Outcomes.{is_broken}
 use Rattle.auditor.specs.Report.{AuditReport}
 use Rattle.live_auditor.specs.Summary.{Summary}
 use Rattle.auditorium_core.specs.declared.status.Status.TheVariants as status
-use Rattle.auditorium_core.specs.Lines.{Answer}
+use Rattle.auditorium_core.specs.HonestPlace.{OnEachPlace}
+use Rattle.auditorium_core.specs.Lines.{Answer, refused_answer}
 use Rattle.auditorium_core.specs.Audit.{source_named, IsAuditOver}
 use Rattle.auditorium_core.specs.HonestAudit.{IsOfReport}
 use Rattle.auditorium_core.specs.ReportAnswers.{report_answer}
@@ -42,7 +39,7 @@ pub record AgreesWithAudit (roster rules : List ℕ) (logs : List (List ℕ))
       × (watched.output
       ≡ earlier ++ watch_line (length (entries_of report.logs)) (summary_of report))
 
--- so it is over all files by which `watch` isn't refused
+-- `watch` agrees with the audit over all files by which it isn't refused
 abbrev pub WatchesAgreeWithAudits : Type 0
 WatchesAgreeWithAudits =
     (roster rules : List ℕ) (logs : List (List ℕ)) (files : List (Option (List ℕ)))
@@ -57,13 +54,16 @@ pub record BreaksNoRule (watched : Answer) : Type 0 where
   pub unbroken : All (λ (summary : Summary). count_by is_broken summary.verdicts ≡ 0) summaries
   pub status : watched.status ≢ status.Broken
 
--- The roster's file is that of a script, those of the logs are left of a world to which its machines
--- come, and there different entries have different digests. Then `watch` by the standard rules, if
--- it isn't refused, says in no line that one is broken.
+-- `watch` is refused because more than 1,024 different entries are in the logs, or it says of no rule that it is broken
+abbrev pub IsHonestWatch : Answer → Type 0
+IsHonestWatch watched =
+    (watched ≡ refused_answer (codes "entries") 0 (codes "TooMany")) ⊎ BreaksNoRule watched
+
+-- The law: over what is left of an honest place, and where different entries have different digests, `watch` by the
+-- standard rules is refused only because of too many entries, and otherwise says of no rule that it is broken.
 abbrev pub HonestWatchesBreakNoRule : Type 0
 HonestWatchesBreakNoRule =
-    (script : Script) (w : World SealedEntry) (roster : Option (List ℕ)) →
-    IsRosterOf script w roster → Distinct node_of_sealed (sent_in w) →
-    (files : List (Option (List ℕ))) → AreFilesOf w files → (name : List ℕ) (names : List (List ℕ))
-    (watched : Answer) → IsWatchOver name (codes "standard") names (roster ∷ files) watched →
-    IsOfReport watched.status → BreaksNoRule watched
+    (roster : Option (List ℕ)) (logs : List (Option (List ℕ))) →
+    OnEachPlace (λ script w. Distinct node_of_sealed (sent_in w) → (name : List ℕ) (names : List (List ℕ))
+    (watched : Answer) → IsWatchOver name (codes "standard") names (roster ∷ logs) watched → IsHonestWatch watched)
+    roster logs

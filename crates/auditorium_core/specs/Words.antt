@@ -17,13 +17,13 @@ use Rattle.auditorium_core.specs.Repair.{repair_parts}
 use Rattle.auditorium_core.specs.Run.{run_parts}
 use Rattle.auditorium_core.specs.Watch.{watch_parts}
 
--- what good words ask for
+-- what a valid command line asks for
 pub data Command : Type 0 where
   -- `audit`: the report by a roster, rules and logs
   audit : (roster rules : List ℕ) (logs : List (List ℕ)) → Command
   -- `check`: what the rules come to, by a roster, the proof in a file, and logs
   check : (roster rules proof : List ℕ) (logs : List (List ℕ)) → Command
-  -- `demo`: what an audit shows of a day of so many sessions, of which the log of one machine is left, cut
+  -- `demo`: what an audit shows of a day of this many sessions, of which the log of one machine is left, cut
   demonstrate : (sessions : ℕ) → Command
   -- `endorse`: a file signed with the key of the office of this name
   endorse : (name file : List ℕ) → Command
@@ -35,7 +35,7 @@ pub data Command : Type 0 where
   generate : (sessions : ℕ) → Command
   -- `office`: the files of an office of this name, whose key is made of this seed
   office : (name seed : List ℕ) → Command
-  -- `order`: how two entries stand to each other, by a roster and logs
+  -- `order`: which of two entries came first, by a roster and logs
   order : (roster x y : List ℕ) (logs : List (List ℕ)) → Command
   -- `play`: a script played on one thread, and what the names of its files begin with
   play : (script prefix : List ℕ) → Command

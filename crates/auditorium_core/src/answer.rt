@@ -86,7 +86,7 @@ impl Answer {
         }
     }
 
-    /// The answer that writes these files, and tells these lines.
+    /// The answer that writes these files, and prints these lines.
     pub fn of_files(files: Vec<OutputFile>, lines: String) -> Answer
         ensures { result ≡ record {
           status = Done;
@@ -125,7 +125,7 @@ impl Answer {
         })
     }
 
-    /// The answer to words that aren't good.
+    /// The answer to an invalid command line.
     pub fn usage(alloc: Global) -> Result<Answer, AllocError>
         ensures { IfOk result (λ answer. answer ≡ usage_answer) }
     {
@@ -180,7 +180,8 @@ impl Answer {
         })
     }
 
-    /// The answer where what an audit goes on is refused; a failed read and want of memory have none.
+    /// The answer where what an audit goes on is refused; a failed read and running out of memory
+    /// have none.
     pub fn of_fault(alloc: Global, fault: &AuditFault) -> Result<Answer, Fault>
         ensures ok { IfOk result (λ answer. IsSomeAnd (refusal_of fault.now)
             (λ refusal. answer ≡ refusal_answer refusal)) }

@@ -12,7 +12,6 @@ ghost use Rattle.auditorium_core.specs.inside.Meaning.{IsReadAs};
 ghost use Rattle.auditorium_core.specs.inside.Promise.{IsAnsweredBy};
 
 use crate::answer::{Answer, Fault};
-use crate::honest::audits_are_honest;
 use crate::status::Status;
 use crate::word_forms::are_logs;
 use crate::words::Request;
@@ -78,7 +77,6 @@ fn answered(alloc: Global, audited: Result<Report, AuditFault>) -> Result<Answer
         IsReadFrom report_of (GivesReportIn roster (source_named rules) logs) before audited after →
         IsAnsweredBy (audit roster rules logs) before result after }
 {
-    audits_are_honest();
     match audited {
         Ok(report) => Ok(answer_of(alloc, &report)?),
         Err(fault) => Answer::of_fault(alloc, &fault),

@@ -14,7 +14,6 @@ ghost use Rattle.auditor.specs.Rows.{HaveMakers, row_of};
 ghost use Rattle.auditorium_core.specs.Audit.{source_named};
 ghost use Rattle.auditorium_core.specs.Check.{
   AreChecked,
-  ChecksLines,
   check_answer,
   checked_line,
   checked_status,
@@ -28,6 +27,7 @@ ghost use Rattle.auditorium_core.specs.Outside.{seen};
 ghost use Rattle.auditorium_core.specs.Words.{check};
 ghost use Rattle.auditorium_core.specs.inside.Checking.{
   ChecksFilesIn,
+  ChecksLines,
   ChecksLogsIn,
   ChecksProofIn,
   ChecksRulesIn,
@@ -121,7 +121,8 @@ fn check_each(
     requires rows { length rows.now ≡ length graph.now.survivors }
     requires proof { IsProofOf (nodes_of graph.now) proof.now }
     ensures ok { IfOk result (λ verdicts.
-        AreChecked rows.now (nodes_of graph.now) proof.now (map rule_tree rules.now) verdicts.items) }
+        AreChecked rows.now (nodes_of graph.now) proof.now (map rule_tree rules.now)
+        verdicts.items) }
     ensures err { IfErr result (IsUnchecked rows.now (map rule_tree rules.now)) }
 {
     let mut verdicts = Vec::new(alloc);

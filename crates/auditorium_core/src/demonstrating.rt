@@ -3,7 +3,6 @@ ghost use Rattle.std.specs.Prelude.{◌≡◌, ℕ, IfOk, codes, map, string_byt
 ghost use Rattle.election_script.specs.Generated.{generated};
 ghost use Rattle.election_script.specs.Lawful.{IsLawful};
 ghost use Rattle.polling_world.specs.Keys.{key_of};
-ghost use Rattle.auditorium_core.specs.Demonstrated.{IsAnswerOfShown, IsDemonstrationAnswer};
 ghost use Rattle.auditorium_core.specs.Demonstrated.{IsHalfOf, demonstration_answer};
 ghost use Rattle.auditorium_core.specs.Lines.{Answer};
 ghost use Rattle.auditorium_core.specs.WordForms.{AreSessions};
@@ -16,9 +15,8 @@ use crate::word_forms::sessions_of;
 use crate::words::Request;
 use demonstration::{Demonstration, write_demonstration};
 use election_script::Script;
-use honest_reports::{honest_audits_are_refused_only_so, honest_places_keep_the_standard_rules};
 use lms_sign::LmsSecret;
-use polling_world::{keys_in, keys_of, scripts_are_played_in_one_way};
+use polling_world::{keys_in, keys_of};
 use std::alloc::{AllocError, Global};
 use std::thread::Threads;
 
@@ -32,25 +30,14 @@ pub(crate) fn demonstration_request(rest: &[String]) -> Option<Request<'_>>
     }
 }
 
-/// What is shown of a generated day says of no rule that it is broken.
-fn demonstrations_are_honest()
-    ensures { (sessions half : ℕ) (answer : Answer) → IsLawful (generated sessions) →
-        IsHalfOf sessions half → IsAnswerOfShown sessions half answer →
-        IsDemonstrationAnswer sessions answer }
-{
-    scripts_are_played_in_one_way();
-    honest_places_keep_the_standard_rules();
-    honest_audits_are_refused_only_so();
-}
-
-/// Half of so many sessions, rounded up.
+/// Half of the number of sessions, rounded up.
 fn half_of(sessions: u32) -> u32
     ensures { IsHalfOf sessions result }
 {
     sessions.div_ceil(2)
 }
 
-/// The answer of what is shown of so many sessions.
+/// The answer of what is shown of this number of sessions.
 fn answer_of(alloc: Global, sessions: u32, shown: &Demonstration) -> Result<Answer, AllocError>
     ensures { IfOk result (λ answer. answer ≡ demonstration_answer sessions shown.now) }
 {
@@ -58,7 +45,8 @@ fn answer_of(alloc: Global, sessions: u32, shown: &Demonstration) -> Result<Answ
     Ok(Answer::of_text(alloc, status_by(shown.outcome), lines.into_bytes()))
 }
 
-/// The answer of what is shown of the script of so many sessions, whose machines have these keys.
+/// The answer of what is shown of the script of this number of sessions, whose machines have
+/// these keys.
 fn answered(
     alloc: Global,
     sessions: u32,
@@ -70,7 +58,6 @@ fn answered(
     requires keys { keys.items ≡ map (key_of script.now) script.now.machines }
     ensures { IsShown sessions result }
 {
-    demonstrations_are_honest();
     match demonstration::demonstrate(alloc, script, keys, half_of(sessions)) {
         Ok(shown) => Ok(answer_of(alloc, sessions, &shown)?),
         Err(fault) => Answer::of_fault(alloc, &fault),

@@ -8,7 +8,7 @@ use crate::status::Status;
 use crate::writing::write_answer;
 use hall_outside::{Failed, Sink, Store};
 
-/// Writes the answer, if there is one, and tells how the program ends.
+/// Writes the answer, if there is one, and returns how the program ends.
 pub(crate) fn end_with<S: Store, K: Sink>(
     answer: Result<Answer, Fault>,
     store: &mut S,

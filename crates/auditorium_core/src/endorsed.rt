@@ -2,8 +2,9 @@
 ghost use Rattle.std.specs.Prelude.{◌≡◌, ◌≢◌, [], ◌∷◌, IfOk, codes, map, string_bytes};
 ghost use Rattle.evidence.specs.Reading.{IsReadFrom};
 ghost use Rattle.auditor.specs.Audits.{OnFiles};
+ghost use Rattle.auditor.specs.Audits.{FileThen};
 ghost use Rattle.auditorium_core.specs.Endorsed.{GivesSigned, IsEndorsedVerdict};
-ghost use Rattle.auditorium_core.specs.NamedBytes.{AtLast, FileThen, GivesBytes};
+ghost use Rattle.auditorium_core.specs.NamedBytes.{AtLast, GivesBytes};
 ghost use Rattle.auditorium_core.specs.NamedBytes.{max_signed, max_small};
 ghost use Rattle.auditorium_core.specs.Outside.{seen};
 ghost use Rattle.auditorium_core.specs.Words.{endorsed};

@@ -15,7 +15,7 @@ pub(crate) enum Read<'a> {
     Number(&'a [u8], u32),
 }
 
-/// What the word says: 64 lower-case hexadecimal digits, or `NAME.NUMBER`. Of any other word `None`.
+/// What the word says: 64 lower-case hexadecimal digits, or `NAME.NUMBER`. `None` for any other.
 pub(crate) fn read_word(word: &[u8]) -> Option<Read<'_>>
     ensures found { IfSome result (λ read. IsSpelt (name_of read) word.now) }
     ensures none { IfNone result (¬ IsEntryWord word.now) }

@@ -9,8 +9,7 @@ ghost use Rattle.auditorium_core.specs.inside.Promise.{IsAnsweredBy};
 use crate::answer::{Answer, Fault};
 use crate::words::Request;
 use hall_outside::Store;
-use log_files::{LogFault, PlainLog, read_plain_log};
-use report_lines::{add_end, add_gaps, add_refused};
+use log_files::{LogFault, PlainLog, add_end, add_gaps, add_refused, read_plain_log};
 use std::alloc::{AllocError, Global};
 
 /// The request that the words after `gaps` make.

@@ -9,6 +9,7 @@ ghost use Rattle.auditorium_core.specs.Outcome.{HasDone};
 ghost use Rattle.auditorium_core.specs.Outside.{Outside};
 ghost use Rattle.auditorium_core.specs.CheckAgrees.{ChecksAgreeWithAudits};
 ghost use Rattle.auditorium_core.specs.Complete.{IsComplete};
+ghost use Rattle.auditorium_core.specs.ReadBack.{PlaysAreReadBack, RunsAreReadBack};
 
 use audit_proof::{one_text_is_canonical, proofs_are_read_in_one_way};
 use auditor::files_give_one_report;
@@ -26,8 +27,8 @@ use rule_language::one_reading_is_right as rules_are_read_in_one_way;
 /// determined by a script, so `run` may have several. It does nothing.
 pub fn one_answer_is_right()
     ensures { (words : List (List ℕ)) (files : Files) (answer other : Answer) →
-        AnswersWords IsStill words (Some files) answer → AnswersWords IsStill words (Some files) other →
-        answer ≡ other }
+        AnswersWords IsStill words (Some files) answer →
+        AnswersWords IsStill words (Some files) other → answer ≡ other }
 {
     bytes_say_one_log();
     one_reading_is_right();
@@ -78,8 +79,8 @@ pub fn checks_agree_with_audits()
 }
 
 /// What the program has done is complete, by whatever calls it was written: where no count of
-/// faults rose, a command over files that are all accepted is carried out, or memory was wanting.
-/// It does nothing.
+/// faults rose, a command over files that are all accepted is carried out, or the program ran out
+/// of memory. It does nothing.
 pub fn answers_are_complete()
     ensures any { (words : List (List ℕ)) (old : Outside) (how : Status) (new : Outside) →
         HasDone IsAny words (λ _ _. ⊤) old how new → IsComplete IsAny words old how new }
@@ -101,3 +102,11 @@ pub fn answers_are_complete()
     files_give_one_report();
     scripts_are_shown_in_one_way();
 }
+
+/// Where different entries have different digests, `audit` by the standard rules over exactly the
+/// files that a play or a run wrote, read back by their names, says of each rule that it is kept,
+/// with the status `Done`, and `order` says what the machines held. It does nothing.
+pub fn written_files_are_read_back()
+    ensures play { PlaysAreReadBack }
+    ensures run { RunsAreReadBack }
+{}

@@ -13,7 +13,6 @@ mod endorse;
 mod endorsed;
 mod entry_word;
 mod gaps;
-mod honest;
 mod laws;
 mod make;
 mod named_bytes;
@@ -39,7 +38,7 @@ mod writing;
 
 pub use laws::{
     answers_are_complete, checks_agree_with_audits, one_answer_is_right, only_runs_need_threads,
-    statuses_have_their_words,
+    statuses_have_their_words, written_files_are_read_back,
 };
 pub use office_laws::{
     endorsements_are_called_good, endorsements_leave_three_states, numbers_sign_once,

@@ -14,7 +14,7 @@ pub(crate) const MAX_SIGNED: usize = 67_108_864;
 /// The most bytes of an office's file, of a public key and of a signature.
 pub(crate) const MAX_SMALL: usize = 65_536;
 
-/// Reads a file of at most so many bytes. No file changes.
+/// Reads a file of at most `limit` bytes. No file changes.
 pub(crate) fn read_bytes<S: Store>(
     alloc: Global,
     store: &mut S,

@@ -22,9 +22,9 @@ pub fn endorsements_are_called_good()
         ∷ Some (endorsement name of bytes) ∷ []) answer → answer ≡ line_answer Done (codes "good") }
 {}
 
-/// On a store that tells its files a call of `endorse`, whatever its status, leaves them in one of
-/// three states, and the signature's file differs from before only where the office's file has the
-/// next number. It does nothing.
+/// On a store that exposes its files a call of `endorse`, whatever its status, leaves them in one
+/// of three states, and the signature's file differs from before only where the office's file has
+/// the next number. It does nothing.
 pub fn endorsements_leave_three_states()
     ensures any { (name file : List ℕ) (call : Call) → Means call.words (endorse name file) →
         IsCall IsAny call → IsLeftSo name file call.before call.after }
@@ -34,7 +34,7 @@ pub fn endorsements_leave_three_states()
         IsCall IsAny call → IsSignedByNumber name file call.before call.after }
 {}
 
-/// Over any calls of `office`, `endorse` and `endorsed` on one store that tells its files, and
+/// Over any calls of `office`, `endorse` and `endorsed` on one store that exposes its files, and
 /// whatever else leaves the office's file as it is, the numbers that the office uses rise. So none
 /// signs twice. It does nothing.
 pub fn numbers_sign_once()

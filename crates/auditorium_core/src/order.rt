@@ -1,4 +1,4 @@
-// The command `order`: how two entries stand to each other, whatever was lost.
+// The command `order`: which of two entries came first, whatever was lost.
 ghost use Rattle.std.specs.Prelude.{
   ◌≡◌,
   ◌≢◌,
@@ -35,7 +35,6 @@ ghost use Rattle.auditorium_core.specs.inside.Promise.{IsAnsweredBy};
 
 use crate::answer::{Answer, Fault};
 use crate::entry_word::{Read, is_entry_word, read_word};
-use crate::honest::orders_are_honest;
 use crate::order_word::OrderWord;
 use crate::status::Status;
 use crate::word_forms::are_logs;
@@ -127,7 +126,6 @@ fn order_of(
         (GivesLogsIn read.now.roster.machines read.now.election names) mid logs new →
         IsAnsweredBy (order roster x.now y.now names) old result new }
 {
-    orders_are_honest();
     match logs {
         Ok(logs) => order_over(alloc, &read.roster, x, y, logs),
         Err(fault) => Answer::of_fault(alloc, &fault),
@@ -142,7 +140,8 @@ fn order_over(
     y: &str,
     logs: Vec<LogRead>,
 ) -> Result<Answer, Fault>
-    ensures told { IfOk result (IsOrderOver roster.now.machines x.now y.now (entries_of logs.items)) }
+    ensures told { IfOk result
+        (IsOrderOver roster.now.machines x.now y.now (entries_of logs.items)) }
     ensures status { IfOk result (λ answer. answer.status ≢ Status.Absent) }
     ensures fault { IfErr result (λ fault. fault ≡ Fault.Memory) }
 {
@@ -247,7 +246,7 @@ fn has_name(roster: &Roster, place: usize, machine: &[u8]) -> bool
     place < posts.len() && posts[place].name.as_str().as_bytes() == machine
 }
 
-/// How the survivor at the first place stands to that at the second.
+/// Where the survivor at the first place comes relative to the one at the second.
 fn word_at(
     alloc: Global,
     graph: &Graph,

@@ -1,8 +1,8 @@
-// How two entries stand to each other.
+// The order of two entries.
 ghost use Rattle.std.specs.Prelude.{◌≡◌};
 ghost use Rattle.auditorium_core.specs.Lines.{order_word};
 
-/// How one entry stands to another, as far as it is known.
+/// Where one entry comes relative to another, as far as it is known.
 #[derive(Clone, Copy, Debug, PartialEq, Eq)]
 pub(crate) enum OrderWord {
     /// They are one.

@@ -55,7 +55,8 @@ pub fn auditorium<R: Threads + Wait + Sync, S: Store, K: Sink, G: Gate + Sync>(
     }
 }
 
-/// The same without threads: `run` isn't one of the commands. It takes no runtime and always returns.
+/// `auditorium` without threads: `run` isn't one of the commands. It takes no runtime and always
+/// returns.
 pub fn auditorium_still<S: Store, K: Sink>(
     alloc: Global,
     words: &[String],

@@ -8,9 +8,9 @@ ghost use Rattle.evidence.specs.Reading.{IsReadFrom};
 ghost use Rattle.evidence.specs.Refusal.{IsAbsent, refusal_of};
 ghost use Rattle.auditor.specs.Judged.{nodes_of};
 ghost use Rattle.auditorium_core.specs.Outside.{seen};
-ghost use Rattle.auditorium_core.specs.Prove.{GivesText, ProvesLogs, proof_answer};
+ghost use Rattle.auditorium_core.specs.Prove.{GivesText, proof_answer};
 ghost use Rattle.auditorium_core.specs.Words.{prove};
-ghost use Rattle.auditorium_core.specs.inside.Checking.{GivesMadeIn, ProvesFilesIn};
+ghost use Rattle.auditorium_core.specs.inside.Checking.{GivesMadeIn, ProvesFilesIn, ProvesLogs};
 ghost use Rattle.auditorium_core.specs.inside.Meaning.{IsReadAs};
 ghost use Rattle.auditorium_core.specs.inside.Promise.{IsAnsweredBy};
 

@@ -5,15 +5,15 @@ ghost use Rattle.auditorium_core.specs.ExitStatus.{exit_status_of};
 /// How the program ends.
 #[derive(Clone, Copy, Debug, PartialEq, Eq)]
 pub enum Status {
-    /// Nothing was to be told, or what was asked for was done.
+    /// Success: there was nothing to report, or what was asked for was done.
     Done,
-    /// Something stands that shouldn't, and no rule is broken.
+    /// There are findings, and no rule is broken.
     Findings,
     /// No rule is broken, and some can't be settled.
     Unsettled,
     /// Some rule is broken.
     Broken,
-    /// The words of the command line aren't good.
+    /// The command line is invalid.
     Usage,
     /// An input was refused.
     Refused,

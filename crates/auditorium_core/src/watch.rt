@@ -292,7 +292,7 @@ fn add_second_half(
     )
 }
 
-/// Adds the line after so many entries.
+/// Adds the line after the entry of this number.
 fn add_line(lines: &mut String, number: usize, live: &Live) -> Result<(), AllocError>
     ensures { OnOk result (string_bytes lines.new
         ≡ string_bytes lines.old ++ watch_line number live.now.summary) }

@@ -6,7 +6,6 @@ ghost use Rattle.auditorium_core.specs.WatchAgrees.{
 
 use auditor::files_give_one_report;
 use evidence::entries_give_one_graph;
-use honest_reports::{honest_places_have_honest_reports, honest_places_keep_the_standard_rules};
 
 /// Where `watch` isn't refused, `audit` of the same words and files isn't either, and has the same
 /// status; and the last line of `watch` is what the report of `audit` says. It does nothing.
@@ -17,11 +16,9 @@ pub fn watches_agree_with_audits()
     files_give_one_report();
 }
 
-/// Over what is left of an honest place's logs `watch` by the standard rules says in no line that one
-/// is broken, nor does its status. It does nothing.
+/// Over what is left of an honest place's logs `watch` by the standard rules is refused only because
+/// of more than 1,024 different entries, and otherwise says in no line that a rule is broken, nor does
+/// its status. It does nothing.
 pub fn honest_watches_break_no_rule()
     ensures { HonestWatchesBreakNoRule }
-{
-    honest_places_have_honest_reports();
-    honest_places_keep_the_standard_rules();
-}
+{}

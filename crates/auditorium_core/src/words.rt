@@ -19,7 +19,7 @@ use crate::run::run_request;
 use crate::watch::watch_request;
 use crate::word_forms::have_form;
 
-/// What good words ask for.
+/// What a valid command line asks for.
 #[derive(Clone, Copy)]
 pub(crate) enum Request<'a> {
     /// `audit`: the report by the roster in the first file, the rules that the second word names,
@@ -28,7 +28,7 @@ pub(crate) enum Request<'a> {
     /// `check`: what the rules that the second word names come to, by the roster in the first file,
     /// the proof in the third and the logs in the others.
     Check(&'a str, &'a str, &'a str, &'a [String]),
-    /// `demo`: what an audit shows of a day of so many sessions, of which one log is left, cut.
+    /// `demo`: what an audit shows of a day of this many sessions, of which one log is left, cut.
     Demonstrate(u32),
     /// `endorse`: the office of the first name signs the file of the second.
     Endorse(&'a str, &'a str),
@@ -41,8 +41,8 @@ pub(crate) enum Request<'a> {
     Make(u32),
     /// `office`: the files of an office of this name with this seed.
     Office(&'a str, [u8; 32]),
-    /// `order`: how the entries of the second word and the third stand to each other, by the roster
-    /// in the first file and the logs in the others.
+    /// `order`: which of the entries of the second word and the third came first, by the roster in
+    /// the first file and the logs in the others.
     Order(&'a str, &'a str, &'a str, &'a [String]),
     /// `play`: the script in the first file, into files whose names begin with the second word.
     Play(&'a str, &'a str),
@@ -53,12 +53,12 @@ pub(crate) enum Request<'a> {
     Repair(&'a str, &'a str),
     /// `run`: `play` in threads.
     Run(&'a str, &'a str),
-    /// `watch`: what an audit says after each entry, by the roster in the first file, the rules that
-    /// the second word names, and the logs in the other files.
+    /// `watch`: what an audit says after each entry, by the roster in the first file, the rules
+    /// that the second word names, and the logs in the other files.
     Watch(&'a str, &'a str, &'a [String]),
 }
 
-/// What the words ask for; nothing where they aren't good.
+/// What the words ask for; nothing where they are an invalid command line.
 pub(crate) fn request_of(words: &[String]) -> Option<Request<'_>>
     ensures some { IfSome result (λ request. Means (map string_bytes words.now) (asked request)) }
     ensures none { IfNone result

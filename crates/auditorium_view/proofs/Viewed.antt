@@ -40,7 +40,7 @@ status_absent (audit.Refused file place cause) answer told is = absurd is
 status_absent audit.ReadFault answer told is = absurd told
 status_absent audit.Memory answer told is = absurd told
 
--- want of memory has no such answer
+-- running out of memory has no such answer
 not_memory : (fault : AuditFault) (answer : ViewAnswer) → IsViewOfFault fault answer → fault ≢ audit.Memory
 not_memory fault answer told e = subst (λ f. IsViewOfFault f answer) e told
 
@@ -122,7 +122,7 @@ viewed_found request old new report (Err fault) given told memory = record {
   write_faults = given.write_faults;
 }
 
--- the same where the rules come from the source that their word names
+-- a refusal is right of the request where the rules come from the source that their word names
 pub refused_by : (request : ViewRequest) (source : RuleSource) (old new : StoreSeen) (fault : AuditFault)
     (result : Result ViewAnswer Fault) → source ≡ rules_named request.rules →
     IsReadFrom report_of (GivesReportIn request.roster source request.logs) old (Err fault) new →

@@ -10,8 +10,8 @@ use Rattle.auditorium_view.specs.declared.answer.Fault.TheVariants.{ReadFault, M
 use Rattle.auditorium_view.specs.ViewWords.{ViewRequest, request_by}
 use Rattle.auditorium_view.specs.View.{ViewAnswer, IsViewFor}
 
--- The answer is right for the files. It says that a file is absent exactly where the store said so in the call, a failed
--- read comes only where a read failed in it, and no file changes.
+-- The answer is right for the files. It says that a file is absent exactly where the store said so in the call, a
+-- failed read comes only where a read failed in it, and no file changes.
 pub record IsViewedBy (request : Option ViewRequest) (old : StoreSeen) (result : Result ViewAnswer Fault) (new : StoreSeen)
     : Type 0 where
   pub answer : IfOk result (IsViewFor request old.files)
@@ -21,11 +21,11 @@ pub record IsViewedBy (request : Option ViewRequest) (old : StoreSeen) (result :
   pub files : new.files ≡ old.files
   pub write_faults : new.write_faults ≡ old.write_faults
 
--- so words are answered
+-- the result of a call is right for the words of the command line
 abbrev pub IsViewed : List (List ℕ) → StoreSeen → Result ViewAnswer Fault → StoreSeen → Type 0
 IsViewed words = IsViewedBy (request_by words)
 
--- what can be seen of a sink: the output, where it is told, and how many writes have failed
+-- what can be seen of a sink: the output, where it is exposed, and how many writes have failed
 pub record SinkSeen : Type 0 where
   pub output : Option (List ℕ)
   pub faults : ℕ

@@ -2,7 +2,7 @@
 use Rattle.std.specs.Prelude.{◌≡◌, ◌⊎◌, ℕ, List, codes, Option, Result, Ok, Err, MatchOption, ◌++◌}
 use Rattle.hall_outside.specs.Files.{Files}
 use Rattle.evidence.specs.Refusal.{Refusal, absent, refused}
-use Rattle.report_lines.specs.Lines.{line, refused_line}
+use Rattle.log_files.specs.Lines.{line, refused_line}
 use Rattle.auditor.specs.declared.outcome.Outcome.{Outcome}
 use Rattle.auditor.specs.declared.outcome.Outcome.TheVariants as outcome
 use Rattle.auditor.specs.Report.{AuditReport}
@@ -29,7 +29,7 @@ view_status outcome.Broken = status.Broken
 abbrev pub picture_answer : AuditReport → ViewAnswer
 picture_answer report = record { status = view_status (outcome_of report); output = picture_text report }
 
--- the answer to words that aren't good
+-- the answer to an invalid command line
 abbrev pub usage_view : ViewAnswer
 usage_view = record { status = status.Usage; output = line (codes "usage") }
 

@@ -32,7 +32,7 @@ request_in (roster ∷ rules ∷ []) = None
 request_in (roster ∷ rules ∷ log ∷ logs) =
     if nat_le (length (log ∷ logs)) 16 then Some (record { roster = roster; rules = rules; logs = log ∷ logs }) else None
 
--- the same of words which have their form
+-- what is asked for by words that each have the form of one, if anything is
 abbrev pub request_by : List (List ℕ) → Option ViewRequest
 request_by words = if have_view_form words then request_in words else None
 

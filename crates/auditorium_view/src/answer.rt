@@ -56,7 +56,7 @@ fn status_by(outcome: Outcome) -> Status
 }
 
 impl Answer {
-    /// The answer to words that aren't good.
+    /// The answer to an invalid command line.
     pub fn usage(alloc: Global) -> Result<Answer, AllocError>
         ensures { IfOk result (λ answer. answer ≡ usage_view) }
     {
@@ -76,8 +76,8 @@ impl Answer {
         })
     }
 
-    /// The answer where an input is refused, or isn't there; a failed read and want of memory have
-    /// none.
+    /// The answer where an input is refused, or isn't there; a failed read and running out of
+    /// memory have none.
     pub fn of_fault(alloc: Global, fault: &AuditFault) -> Result<Answer, Fault>
         ensures ok { IfOk result (λ answer. IsSomeAnd (refusal_of fault.now)
             (λ refusal. answer ≡ refusal_view refusal)) }

@@ -9,7 +9,7 @@ use crate::viewing::view;
 use hall_outside::{Failed, Sink, Store, write_all};
 use std::alloc::Global;
 
-/// Writes the answer, if there is one, and tells how the program ends.
+/// Writes the answer, if there is one, and returns how the program ends.
 fn end_with<K: Sink>(answer: &Result<Answer, Fault>, out: &mut K) -> Status
     ensures { EndsAs answer.now (record { output = K.written out.old; faults = K.faults out.old })
         result (record { output = K.written out.new; faults = K.faults out.new }) }

@@ -1,7 +1,7 @@
 //! The program `auditorium_view`: it prints a picture of what the logs show, and ends with the
 //! status with which `auditorium audit` would. Where the system failed, a line on standard error
-//! says at what and why; where the command line isn't valid, or an input was refused or isn't there,
-//! a hint does.
+//! says at what and why; where the command line isn't valid, or an input was refused or isn't
+//! there, a hint does.
 #![tactic(auto)]
 
 mod answer;

@@ -13,7 +13,7 @@ pub(crate) enum Status {
     Unsettled,
     /// Some rule is broken.
     Broken,
-    /// The words of the command line aren't good.
+    /// The command line is invalid.
     Usage,
     /// An input was refused.
     Refused,

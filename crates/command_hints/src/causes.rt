@@ -119,8 +119,8 @@ pub fn sentence(cause: Cause) -> &'static str {
             "a log begins with its header, as (3:log1:11:0); the logs of play and run do"
         }
         Cause::TooLong => {
-            "a script, a roster or a file of rules has at most 4,194,304 bytes; a log, a proof or a \
-             file that is signed 67,108,864; and an office's file, a key or a signature 65,536"
+            "a script, a roster or a file of rules has at most 4,194,304 bytes; a log, a proof or \
+             a file that is signed 67,108,864; and an office's file, a key or a signature 65,536"
         }
         Cause::TooWide => {
             "the rows of the rule's nested quantifiers multiply to more than 268,435,456"

@@ -37,7 +37,7 @@ impl<'a> Excerpt<'a> {
         })
     }
 
-    /// The line in which the byte at this place is, or behind whose end the text ends too early.
+    /// The line in which the byte at this place is, or after whose end the text ends too early.
     pub(crate) fn of_byte(text: &'a [u8], at: usize) -> Option<Excerpt<'a>> {
         let front = text.get(..at)?;
         let back = text.get(at..)?;
@@ -56,7 +56,7 @@ fn is_plain(byte: u8) -> bool {
     byte >= b' ' && byte <= b'~'
 }
 
-/// At most so many bytes at the end, and whether that is all.
+/// At most `MOST` bytes at the end, and whether that is all.
 fn last_of(bytes: &[u8]) -> (&[u8], bool) {
     match bytes.get(bytes.len().saturating_sub(MOST)..) {
         Some(last) => (last, last.len() == bytes.len()),
@@ -64,7 +64,7 @@ fn last_of(bytes: &[u8]) -> (&[u8], bool) {
     }
 }
 
-/// At most so many bytes at the beginning, and whether that is all.
+/// At most `MOST` bytes at the beginning, and whether that is all.
 fn first_of(bytes: &[u8]) -> (&[u8], bool) {
     match bytes.get(..MOST) {
         Some(first) => (first, first.len() == bytes.len()),
@@ -85,7 +85,7 @@ fn write_bytes<W: fmt::Write>(f: &mut Formatter<W>, bytes: &[u8]) -> fmt::Result
     Ok(())
 }
 
-/// Writes so many of these characters.
+/// Writes `count` of these characters.
 fn write_row<W: fmt::Write>(f: &mut Formatter<W>, shown: char, count: usize) -> fmt::Result {
     for _ in 0..count {
         f.write_char(shown)?;

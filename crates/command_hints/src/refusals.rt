@@ -16,7 +16,7 @@ pub struct Refusal<'a> {
     /// What it counts is said by the cause.
     place: u64,
     cause: Cause,
-    /// What stands after the cause: the digest of a collision.
+    /// What follows the cause: the digest of a collision.
     rest: &'a str,
 }
 
@@ -105,8 +105,8 @@ fn is_file_of(role: &str, word: &str, name: &str) -> bool {
     }
 }
 
-/// The program's refusal of which this stands after `refused`, or none where it isn't one of those
-/// words.
+/// The program's refusal of which this is the rest after `refused`, or none where it isn't one of
+/// those words.
 pub(crate) fn refusal_in<'a>(
     program: &'static str,
     words: &[String],

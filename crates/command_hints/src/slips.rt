@@ -27,7 +27,7 @@ pub enum Slip<'a> {
     NoWords,
     /// The word at this place, counted from 1, where the command is, has no byte.
     Empty(usize),
-    /// The word at this place has so many bytes, which are too many.
+    /// The word at this place has this many bytes, which are too many.
     TooLong(usize, usize),
     /// The word begins with `-`.
     Option(&'a str),
@@ -35,7 +35,7 @@ pub enum Slip<'a> {
     NotPlain(&'a str),
     /// The word is no command; the other is the one whose name is nearest.
     NoCommand(&'a str, &'static str),
-    /// So many words stand after the command, which wants these.
+    /// This many words follow the command, which wants these.
     Count(&'a str, &'static str, usize),
     /// The word isn't what the help says of the other.
     Meaning(&'a str, &'static str),
@@ -58,7 +58,7 @@ fn asks_for_help(words: &[String]) -> bool {
     words.iter().any(|word| { matches!(word.as_str(), "--help" | "-h" | "--version" | "-V") })
 }
 
-/// The first word that hasn't the form of a word.
+/// The first word that doesn't have the form of a word.
 fn slip_of_form(words: &[String]) -> Option<Slip<'_>> {
     for (before, word) in words.iter().enumerate() {
         let word = word.as_str();
@@ -119,7 +119,7 @@ fn slip_of_words<'a>(command: &'a str, wanted: &'static str, words: &'a [String]
     Slip::Unknown
 }
 
-/// Whether so many words are as many as are wanted.
+/// Whether this is the number of words that are wanted.
 fn is_count(wanted: &str, count: usize) -> bool {
     let least = wanted.split(' ').count();
     if wanted.ends_with("..") {
@@ -129,7 +129,7 @@ fn is_count(wanted: &str, count: usize) -> bool {
     }
 }
 
-/// Whether the word may stand where the help has this name. Any word may be a file's name.
+/// Whether the word is allowed where the help has this name. Any word may be a file's name.
 fn has_meaning(name: &str, word: &str) -> bool {
     match name {
         "N" => matches!(decimal(word.as_bytes()), Some(1..=800)),

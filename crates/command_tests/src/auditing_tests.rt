@@ -1,5 +1,5 @@
-//! The command `audit`. The lines are those of the worked rows, and were computed by a separate plain
-//! program.
+//! The command `audit`. The lines are those of the worked rows, and were computed by a separate
+//! plain program.
 use crate::play_tests::{Parts, joined};
 use auditorium_core::{Status, auditorium_still};
 use hall_outside::{MemorySink, MemoryStore};
@@ -48,7 +48,7 @@ const FILES: &[(&str, &str)] = &[
     ("free", "(rule A1 (every x opened (same x y)))\n"),
 ];
 
-/// The words that stand in one text.
+/// The words of one text.
 pub(super) fn words_of(alloc: Global, text: &str) -> Result<Vec<String>, Fail> {
     let mut words = Vec::new(alloc);
     for word in text.split(' ') {
@@ -67,7 +67,7 @@ pub(super) fn wide(alloc: Global) -> MemorySink {
     MemorySink::make(alloc, 1000, Vec::new(alloc))
 }
 
-/// The program's status for words that stand in one text.
+/// The program's status for the words of one text.
 pub(super) fn answer(
     alloc: Global,
     words: &str,
@@ -98,7 +98,7 @@ pub(super) fn told(alloc: Global, words: &str, store: &mut MemoryStore) -> Resul
     Ok(format!(in alloc; "{status} {lines}")?)
 }
 
-/// The bytes of the parts, one behind the other.
+/// The bytes of the parts, one after the other.
 pub(super) fn all_of(alloc: Global, parts: &[&[u8]]) -> Result<Vec<u8>, Fail> {
     let mut bytes = Vec::new(alloc);
     for part in parts {

@@ -8,7 +8,7 @@ use std::test::Fail;
 /// Where the header of the log ends, and each record.
 const ENDS: [usize; 7] = [13, 2452, 4935, 7413, 9924, 12433, 14907];
 
-/// Cuts at each of these places, and one byte before and behind it.
+/// Cuts at each of these places, and one byte before and after it.
 const CUTS: &[usize] = &[
     12, 13, 14, 2451, 2452, 2453, 4934, 4935, 4936, 7412, 7413, 7414, 9923, 9924, 9925, 12432,
     12433, 12434, 14906, 14907,
@@ -25,7 +25,7 @@ fn played(alloc: Global) -> Result<(MemoryStore, Vec<u8>), Fail> {
     Ok((store, log))
 }
 
-/// How many of the ends aren't behind this place.
+/// How many of the ends aren't after this place.
 fn ends_up_to(place: usize) -> usize {
     let mut count = 0;
     for (at, end) in ENDS.iter().enumerate() {
@@ -36,8 +36,8 @@ fn ends_up_to(place: usize) -> usize {
     count
 }
 
-/// The first lines of the report on the log's first bytes: each whole record is kept, and an end that
-/// is none of these is torn behind the last one.
+/// The first lines of the report on the log's first bytes: each whole record is kept, and an end
+/// that is none of these is torn after the last one.
 fn lines_of_cut(alloc: Global, length: usize) -> Result<String, Fail> {
     let count = ends_up_to(length);
     if count == 0 || count > 7 {

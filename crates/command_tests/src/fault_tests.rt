@@ -28,9 +28,9 @@ const CHECKED: &str =
 /// Words, how many reads they make, their status and their output.
 type Command = (&'static str, u32, Status, &'static str);
 
-/// Words over the worked files, with how many reads they make, their status and their output. Of each
-/// file one read gives the bytes and one finds the end. The run comes to the files of the play in
-/// whatever order its threads take their turns.
+/// Words over the worked files, with how many reads they make, their status and their output. Of
+/// each file one read gives the bytes and one finds the end. The run comes to the files of the play
+/// in whatever order its threads take their turns.
 const COMMANDS: &[Command] = &[
     ("play script q", 2, Status::Done, PLAYED),
     ("repair script q", 2, Status::Done, PLAYED),
@@ -107,7 +107,7 @@ fn copied(alloc: Global, files: &MemoryStore, read: u64, write: u64) -> Result<M
     Ok(store)
 }
 
-/// The program's status for words that stand in one text.
+/// The program's status for the words of one text.
 pub(super) fn ends<R: Threads + Wait + Sync>(
     rt: &R,
     alloc: Global,
@@ -177,8 +177,8 @@ fn leaves<R: Threads + Wait + Sync>(
     Ok(ended == status && out.bytes() == output && left.as_str() == lengths)
 }
 
-/// Whether the command, over a copy of the files, tells that its read behind so many others fails,
-/// or is whole where it makes no such read.
+/// Whether the command, over a copy of the files, reports that its read after this many others
+/// fails, or is carried out where it makes no such read.
 fn tells_of_read<R: Threads + Wait + Sync>(
     rt: &R,
     alloc: Global,
@@ -212,7 +212,8 @@ fn each_read_may_fail(rt: HostRuntime) -> Result<(), Fail> {
     Ok(())
 }
 
-/// Whether the command is whole over a copy of the files whose reads give at most so many bytes.
+/// Whether the command is carried out over a copy of the files whose reads give at most this many
+/// bytes.
 fn reads_slowly<R: Threads + Wait + Sync>(
     rt: &R,
     alloc: Global,
@@ -253,9 +254,9 @@ fn short_reads_change_no_answer(rt: HostRuntime) -> Result<(), Fail> {
     Ok(())
 }
 
-/// The creates, appends and finishes that fail, counted from 1, with the lengths of the files that are
-/// left. Each file is created, and takes its bytes in one piece; the seventh call says that they are
-/// all, and the eighth doesn't come.
+/// The creates, appends and finishes that fail, counted from 1, with the lengths of the files that
+/// are left. Each file is created, and takes its bytes in one piece; the seventh call says that
+/// they are all, and the eighth doesn't come.
 const STOPS: &[(u64, &str)] = &[
     (1, " - - -"),
     (2, " 0 - -"),
@@ -301,7 +302,7 @@ fn a_stop_at_each_call_that_writes_leaves_the_files_before_it(rt: HostRuntime) -
     Ok(())
 }
 
-/// What the command comes to where the write of the output behind this many bytes fails, or where
+/// What the command comes to where the write of the output after this many bytes fails, or where
 /// it has no more bytes.
 fn stopped_behind(command: &Command, sent: usize) -> Ending<'static> {
     let (words, _, _, output) = *command;
@@ -316,8 +317,8 @@ fn stopped_behind(command: &Command, sent: usize) -> Ending<'static> {
     }
 }
 
-/// Whether the command, over a copy of the files, tells that this write of its output fails, before
-/// which so many bytes are sent, or is whole where it has no more bytes.
+/// Whether the command, over a copy of the files, reports that this write of its output fails,
+/// before which this many bytes are sent, or is carried out where it has no more bytes.
 fn tells_of_write<R: Threads + Wait + Sync>(
     rt: &R,
     alloc: Global,

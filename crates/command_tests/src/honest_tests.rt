@@ -1,5 +1,5 @@
-//! What audits say of the scripts that are played in other tests: of all logs, whole, that each rule
-//! is kept, and of one alone that none is broken.
+//! What audits say of the scripts that are played in other tests: of all logs, whole, that each
+//! rule is kept, and of one alone that none is broken.
 use crate::auditing_tests::{answer, play};
 use crate::play_tests::{PLAYS, joined};
 use auditorium_core::Status;

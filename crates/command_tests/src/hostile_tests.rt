@@ -1,5 +1,5 @@
-//! Files that were made to harm their reader. Each is refused at the first byte, or on the first line,
-//! that can't stand.
+//! Files that were made to harm their reader. Each is refused at the first byte, or on the first
+//! line, that is invalid.
 use crate::auditing_tests::{empty, place_parts, play, told};
 use crate::play_tests::Parts;
 use hall_outside::MemoryStore;
@@ -135,7 +135,7 @@ const LOGS: &[(Parts, usize, &str)] = &[
         1,
         "refused x 0 WrongShape\ntorn x 15\n",
     ),
-    // Bytes that stand nowhere.
+    // Bytes that are invalid everywhere.
     (&[(1, HEADER), (1, "\0")], 0, "malformed x 13 NotAToken\n"),
     (
         &[(1, HEADER), (1_000_000, "\n")],
@@ -144,7 +144,7 @@ const LOGS: &[(Parts, usize, &str)] = &[
     ),
 ];
 
-/// Whether `gaps` tells these lines of the log of these parts.
+/// Whether `gaps` prints these lines for the log of these parts.
 fn has_gaps(
     alloc: Global,
     parts: Parts,
@@ -155,7 +155,8 @@ fn has_gaps(
     is_told(alloc, "gaps x", parts, store, want.as_str())
 }
 
-/// Whether `audit` reports so many refused records and these lines of the log of these parts.
+/// Whether `audit` reports this number of refused records and these lines for the log of these
+/// parts.
 fn has_report(
     alloc: Global,
     parts: Parts,
@@ -280,7 +281,7 @@ const RULES: &[(Parts, &str)] = &[
         "163 TooDeep",
     ),
     (&[(1, "(rule A "), (200_000, "(not ")], "163 TooDeep"),
-    // The formula behind the sixty-fourth.
+    // The formula after the sixty-fourth.
     (
         &[(1, "(rule A (and"), (65, " true"), (1, "))")],
         "333 Shape",

@@ -1,5 +1,5 @@
-//! As many distinct entries as an audit has room for, 16,384, and one more. All are of one maker and
-//! have the number 0: its key signs each of them with its first index.
+//! As many distinct entries as an audit has room for, 16,384, and one more. All are of one maker
+//! and have the number 0: its key signs each of them with its first index.
 use crate::auditing_tests::{all_of, empty, is_answered, play};
 use auditorium_core::Status;
 use hall_outside::MemoryStore;

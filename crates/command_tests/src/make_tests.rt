@@ -100,7 +100,7 @@ fn printed(alloc: Global, words: &str) -> Result<Option<MemorySink>, Fail> {
     })
 }
 
-/// Whether the words print so many bytes with this digest.
+/// Whether the words print this many bytes with this digest.
 fn prints(alloc: Global, words: &str, length: usize, digest: &str) -> Result<bool, Fail> {
     match printed(alloc, words)? {
         Some(out) => Ok(out.bytes().len() == length && is_digest(out.bytes(), digest)),

@@ -46,8 +46,10 @@ endorsed o.key g long|6 absent g
 endorsed o.key f long|5 refused long 0 TooLong
 endorse l f|5 refused l.office 0 TooLong
 endorse l g|5 refused l.office 0 TooLong
-office l 0000000000000000000000000000000000000000000000000000000000000000|5 refused l.office 0 Exists
-office e 0000000000000000000000000000000000000000000000000000000000000000|5 refused e.office 0 Exists
+office l 0000000000000000000000000000000000000000000000000000000000000000|5 \
+    refused l.office 0 Exists
+office e 0000000000000000000000000000000000000000000000000000000000000000|5 \
+    refused e.office 0 Exists
 endorse e f|5 refused e.office 0 Office";
 
 /// A store with the files that the rows read: `l.office` is over the limit of 65,536 bytes, and
@@ -64,7 +66,7 @@ fn begun(alloc: Global) -> Result<MemoryStore, Fail> {
     Ok(store)
 }
 
-/// So many bytes.
+/// A file of this many bytes.
 fn long_file(alloc: Global, length: usize) -> Result<Vec<u8>, Fail> {
     Ok(vec![in alloc; b'a'; length]?)
 }
@@ -101,8 +103,8 @@ fn each_command_has_its_status_and_output(rt: HostRuntime) -> Result<(), Fail> {
     Ok(())
 }
 
-/// The number in the office's file; what `endorse` answers; and the length of the signature with its
-/// digest. The numbers go from one low tree to the next, and to the last.
+/// The number in the office's file; what `endorse` answers; and the length of the signature with
+/// its digest. The numbers go from one low tree to the next, and to the last.
 const SIGNATURES: &str = "\
 0|0 endorsed f 0|4916 e245ce29c6ec7c813ff369d61797fb7e5638296572647d74d651b95c416eb510
 1|0 endorsed f 1|4916 93fe3db140bb224f7e49adaf030b9fe8765c99629c2fda6bb3d52fafb54bf93a
@@ -141,7 +143,7 @@ fn keys_and_signatures_are_those_of_another_program(rt: HostRuntime) -> Result<(
     Ok(())
 }
 
-/// What may stand in an office's file between `(6:office1:132:`, 32 zeros and the end, but no
+/// What an office's file may have between `(6:office1:132:`, 32 zeros and the end, but no
 /// office.
 const NO_OFFICES: &str = "\
 5:32769)|1:00)|2:00)|2:01)|01:0)|1:a)|0:)|10:4294967296)|1:0))|1:01:0)|1:0) |1:0|1:|(1:0))";
@@ -182,7 +184,8 @@ fn a_cut_office_is_none(rt: HostRuntime) -> Result<(), Fail> {
 }
 
 /// The create, append or finish that fails, where each file takes its bytes in one piece; the
-/// office's file after it; the length of the signature's file, or a hyphen; and what the next call answers.
+/// office's file after it; the length of the signature's file, or a hyphen; and what the next call
+/// answers.
 const STOPS: &str = "\
 1|0|-|0 endorsed f 0
 2||-|5 refused o.office 0 Office
@@ -271,9 +274,9 @@ const KEY: &str = "\
 /// Places in a public key: the number of levels, the top tree's types, identifier and root.
 const IN_KEY: &[usize] = &[3, 7, 11, 12, 27, 28, 59];
 
-/// Places in a signature: the number of signed keys; the index, the types, the randomizer, an element
-/// and the path of the top tree's signature; the types, identifier and root of the low tree's key;
-/// and the parts of its signature.
+/// Places in a signature: the number of signed keys; the index, the types, the randomizer, an
+/// element and the path of the top tree's signature; the types, identifier and root of the low
+/// tree's key; and the parts of its signature.
 const IN_SIGNATURE: &[usize] = &[
     3, 7, 11, 12, 44, 2187, 2191, 2192, 2351, 2355, 2359, 2360, 2376, 2407, 2411, 2415, 2416, 2448,
     4591, 4595, 4596, 4915,

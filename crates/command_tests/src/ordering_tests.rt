@@ -62,9 +62,9 @@ fn plays(alloc: Global) -> Result<MemoryStore, Fail> {
     Ok(store)
 }
 
-/// Words behind `order`, with the status and the line that are told. The digests are those of b1's
+/// Words after `order`, with the status and the line that it prints. The digests are those of b1's
 /// first entry, and of the two that sv sent under the number 1. Over all logs of `q` each pair is
-/// told as its machines held it.
+/// reported as its machines held it.
 const ROWS: &str = "p.roster b1.0 b2.0 p.b1.log p.b2.log = 0 before
 p.roster b2.0 b1.0 p.b1.log p.b2.log = 0 after
 p.roster sv.1 sv.0 p.sv.log = 0 after
@@ -143,7 +143,7 @@ p.roster sv.0 sv.1 p.sv.log p.sv.log p.sv.log p.sv.log p.sv.log p.sv.log p.sv.lo
 p.sv.log p.sv.log \
 p.sv.log p.sv.log p.sv.log p.sv.log p.sv.log p.sv.log p.sv.log = 4 usage";
 
-/// Whether `order` with these words tells this.
+/// Whether `order` with these words prints this.
 fn is_told(alloc: Global, words: &str, want: &str, store: &mut MemoryStore) -> Result<bool, Fail> {
     let words = format!(in alloc; "order {words}")?;
     let line = told(alloc, words.as_str(), store)?;

@@ -1,6 +1,6 @@
-//! How much memory a call takes at most over a file that was made to harm its reader, as Linux tells
-//! it of the process. Each test has a process of its own, so that none has memory at hand that another
-//! gave back. `rt try` runs them with an allocator that takes more.
+//! How much memory a call takes at most over a file that was made to harm its reader, as Linux
+//! reports it of the process. Each test has a process of its own, so that none has memory at hand
+//! that another gave back. `rt try` runs them with an allocator that takes more.
 use crate::auditing_tests::{answer, empty, place_parts, play, wide};
 use crate::play_tests::{Parts, TWO};
 use auditorium_core::Status;

@@ -47,7 +47,7 @@ const PARTED: &str = "step act sv\nstep act sv\nstep act sv\n\
     step hear b2 sv 0\nstep hear b2 sv 1\nstep hear b2 sv 2\n\
     step act b1\nstep act b1\nstep hear b2 b1 1\nstep act b2\n";
 
-/// After that the second booth has an action behind its commitment.
+/// After that the second booth has an action after its commitment.
 pub(super) const BALLOT_STEPS: &str = "step act sv\nstep act sv\nstep act sv\n\
     step hear b1 sv 0\nstep hear b1 sv 1\nstep hear b1 sv 2\n\
     step hear b2 sv 0\nstep hear b2 sv 1\nstep hear b2 sv 2\n\
@@ -71,10 +71,10 @@ const COMMITTED: &str = "step act sv\nstep act sv\nstep hear b1 sv 0\nstep hear 
 /// The supervisor overrides, and the booth acts once more.
 const OVERRIDDEN: &str = "step act sv\nstep hear b1 sv 2\nstep act b1\n";
 
-/// Parts of a text, each so many times over.
+/// Parts of a text, each with the number of times that it is repeated.
 pub(super) type Parts = &'static [(usize, &'static str)];
 
-/// The text of the parts, one behind the other.
+/// The text of the parts, one after the other.
 pub(super) fn joined(alloc: Global, parts: &[(usize, &str)]) -> Result<String, Fail> {
     let mut text = String::new(alloc);
     for (count, part) in parts {
@@ -325,8 +325,8 @@ fn entries_name_what_was_held_last(rt: HostRuntime) -> Result<(), Fail> {
     Ok(())
 }
 
-/// Scripts with the status and the output of their plays: a spent key, a log that isn't whole, and one
-/// that is refused.
+/// Scripts with the status and the output of their plays: a spent key, a log that isn't whole, and
+/// one that is refused.
 const LEFT: &[(Parts, Status, &str)] = &[
     (
         &[

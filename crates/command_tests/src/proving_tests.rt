@@ -203,7 +203,7 @@ const LENGTHS: &[(usize, &str)] = &[
     (67_108_865, "5 refused long 0 TooLong/"),
 ];
 
-/// What is told of a proof of so many bytes. No clause, so that no check computes the bytes.
+/// What is printed of a proof of this length. No clause, so that no check computes the bytes.
 fn told_of_long(alloc: Global, length: usize, store: &mut MemoryStore) -> Result<String, Fail> {
     let text = vec![in alloc; b'x'; length]?;
     store.place(alloc, "long", text.as_slice())?;

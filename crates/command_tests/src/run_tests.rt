@@ -161,12 +161,12 @@ fn two_threads_of_a_run_meet(rt: HostRuntime) -> Result<(), Fail> {
     Ok(())
 }
 
-/// Whether a line tells no loss, or one of an entry before which another was put on the link.
+/// Whether a line reports no loss, or one of an entry before which another was put on the link.
 fn is_licensed(line: &str) -> bool {
     !line.starts_with("loss ") || line.ends_with(" LinkFull") && !line.contains(".0 ")
 }
 
-/// What a run over the narrow links tells.
+/// What a run over the narrow links prints.
 fn narrow_lines<R: Threads + Wait + Sync>(rt: &R, alloc: Global) -> Result<String, Fail> {
     let script = joined(alloc, &[(1, NARROW), (1, SESSION)])?;
     let mut out = wide(alloc);

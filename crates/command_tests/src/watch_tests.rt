@@ -1,5 +1,5 @@
-//! The command `watch`. The lines are those of the worked rows, and were computed by a separate plain
-//! program.
+//! The command `watch`. The lines are those of the worked rows, and were computed by a separate
+//! plain program.
 use crate::auditing_tests::{THREE, all_of, answer, empty, hall, is_answered, play, told, wide};
 use crate::limit_tests::place_log;
 use auditorium_core::Status;
@@ -67,7 +67,7 @@ watch p.roster -x p.sv.log = 4 usage/
 watch a b d d d d d d d d d d d d d d d d = 6 absent a/
 watch a b d d d d d d d d d d d d d d d d d = 4 usage/";
 
-/// The store of the audits, with a log in which a stray stands before the entry that it names.
+/// The store of the audits, with a log in which a stray comes before the entry that it names.
 fn watched_hall(alloc: Global) -> Result<MemoryStore, Fail> {
     let mut store = hall(alloc)?;
     let log = store.file("stray.log").unwrap_or(b"");
@@ -148,8 +148,8 @@ fn wide_hall(alloc: Global) -> Result<MemoryStore, Fail> {
     Ok(store)
 }
 
-/// Words with the exit status, the number of lines and the last of them. Too many entries are told
-/// before a rule that is too wide.
+/// Words with the exit status, the number of lines and the last of them. Too many entries are
+/// reported before a rule that is too wide.
 const LIMITS: &str = "watch p.roster own most again = 1 1025 \
 1025 1024 gaps 0 kept 1 broken 0 unsettled 0
 watch p.roster own most one = 5 1 refused entries 0 TooMany

@@ -16,7 +16,8 @@ const GAP: &str = "gap fffffffffffffffffffffffffffffffffffffffffffffffffffffffff
 
 /// No entry, since its names don't rise.
 const EQUAL_NAMES: &[u8] = b"(6:sealed(5:entry1:132:eeeeeeeeeeeeeeeeeeeeeeeeeeeeeeee1:01:01:1\
-    (32:nnnnnnnnnnnnnnnnnnnnnnnnnnnnnnnn32:nnnnnnnnnnnnnnnnnnnnnnnnnnnnnnnn)(6:opened))9:signature)";
+    (32:nnnnnnnnnnnnnnnnnnnnnnnnnnnnnnnn32:nnnnnnnnnnnnnnnnnnnnnnnnnnnnnnnn)(6:opened))\
+    9:signature)";
 
 /// The SHA-256 of `EQUAL_NAMES`.
 const REFUSED: &str = "bca88ba140f12485200c12831ffea5f934a799307851fb74542d3b0bd7ad75f0";
@@ -54,7 +55,7 @@ fn log_of(alloc: Global, record: &[u8], digest: &str, more: bool) -> Result<Vec<
     )
 }
 
-/// The words that stand in one text: an empty text has none.
+/// The words of one text: an empty text has none.
 fn listed(alloc: Global, text: &str) -> Result<Vec<String>, Fail> {
     if text.is_empty() {
         Ok(Vec::new(alloc))
@@ -63,7 +64,7 @@ fn listed(alloc: Global, text: &str) -> Result<Vec<String>, Fail> {
     }
 }
 
-/// Runs the program on words that stand in one text, over a store whose file `x` has these bytes.
+/// Runs the program on the words of one text, over a store whose file `x` has these bytes.
 fn run(
     alloc: Global,
     words: &str,
@@ -157,7 +158,7 @@ fn gaps_says_what_a_log_lacks(rt: HostRuntime) -> Result<(), Fail> {
         );
     }
     assert!(rt; is_found(alloc, (OPENED, DIGEST, true), GAP)?);
-    // A refused record bears nothing.
+    // A refused record has no entry.
     assert!(rt; is_found(alloc, (EQUAL_NAMES, REFUSED, false), REFUSED_BEARER)?);
     Ok(())
 }
@@ -213,7 +214,7 @@ fn is_prefix_sent(alloc: Global, out: &mut MemorySink, sent: usize) -> Result<bo
     Ok(ended == status && GAP.as_bytes().starts_with(told) && told.len() == sent)
 }
 
-/// Whether so many bytes are sent where this write of at most so many fails.
+/// Whether `sent` bytes are sent where this write, of at most `greatest` bytes, fails.
 fn is_write_told(alloc: Global, greatest: usize, failing: u64, sent: usize) -> Result<bool, Fail> {
     if greatest == 0 {
         return Ok(false);
@@ -238,7 +239,8 @@ const LENGTHS: &[(usize, &str)] = &[
     (67_108_865, "refused x 0 TooLong\n"),
 ];
 
-/// Whether a log of so many bytes is refused so. No clause, so that no check computes the bytes.
+/// Whether a log of this length is refused with this line. No clause, so that no check computes
+/// the bytes.
 fn is_long_refused(alloc: Global, length: usize, line: &str) -> Result<bool, Fail> {
     let log = vec![in alloc; b'x'; length]?;
     is_run(alloc, "gaps x", log.as_slice(), (Status::Refused, line))

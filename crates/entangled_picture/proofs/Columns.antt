@@ -1,12 +1,8 @@
 -- Spots, one entry more.
-use Rattle.std.proofs.Common.{◌≡◌, ◌∙◌, ℕ, ◌+◌, ◌<◌, ◌≤◌, Bool, List, [], ◌∷◌, ◌++◌, length, take, drop, get_or, ap, sym}
-use Rattle.std.proofs.Common.{append_assoc, append-nil, arith}
-use Rattle.std.specs.List.{zip}
-use Rattle.std.proofs.lemmas.List.{take_more, drop_more, drop_all, get_or_default}
-use Rattle.std.proofs.lemmas.Slice.Zip.{length-zip, get_or-zip}
-use Rattle.entangled_picture.specs.declared.seen.Seen.{Seen}
-use Rattle.entangled_picture.specs.declared.placed.Placed.{Placed}
-use Rattle.entangled_picture.specs.Places.{next_column, next_stamp, placed_after, placed_as}
+use Rattle.entangled_picture.proofs.Imports.{◌≡◌, ◌∙◌, ℕ, ◌+◌, ◌<◌, ◌≤◌, Bool, List, [], ◌∷◌, ◌++◌, length, take}
+use Rattle.entangled_picture.proofs.Imports.{drop, get_or, ap, sym, append_assoc, append-nil, arith, zip, take_more}
+use Rattle.entangled_picture.proofs.Imports.{drop_more, drop_all, get_or_default, length-zip, get_or-zip, Seen}
+use Rattle.entangled_picture.proofs.Imports.{Placed, next_column, next_stamp, placed_after, placed_as}
 
 -- the next entry gets its spot, and those after it theirs
 pub placed_more : (seen : List Seen) (drawn : List Bool) (i column stamp column_then stamp_then : ℕ) (d : Seen)

@@ -1,3 +1,4 @@
+mod Imports
 pub mod Pieces
 pub mod Runs
 pub mod Finds

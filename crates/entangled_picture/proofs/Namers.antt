@@ -1,12 +1,7 @@
 -- The first survivor that names a digest.
-use Rattle.std.proofs.Common.{◌≡◌, ◌∙◌, ℕ, ◌+◌, ◌-◌, ◌<◌, ◌≤◌, Bool, true, false, List, length, ap, arith}
-use Rattle.std.specs.Prelude.{Option, Some, None, find, slice_get}
-use Rattle.std.specs.List.{range_with_len}
-use Rattle.entry_order.specs.Naming.{names_digest}
-use Rattle.entry_format.specs.SealedEntry.{SealedEntry}
-use Rattle.entry_format.specs.Nodes.{node_of_sealed}
-use Rattle.rule_engine.proofs.Broken.{find_here, find_more}
-use Rattle.entangled_picture.specs.Marks.{names_it}
+use Rattle.entangled_picture.proofs.Imports.{◌≡◌, ◌∙◌, ℕ, ◌+◌, ◌-◌, ◌<◌, ◌≤◌, Bool, true, false, List, length, ap}
+use Rattle.entangled_picture.proofs.Imports.{arith, Option, Some, None, find, slice_get, range_with_len, names_digest}
+use Rattle.entangled_picture.proofs.Imports.{SealedEntry, node_of_sealed, find_here, find_more, names_it}
 
 module _ (survivors : List SealedEntry) (digest : List ℕ) (i : ℕ) (x : SealedEntry) (found : Option ℕ)
     (within : i < length survivors) (at : slice_get survivors i ≡ Some x)

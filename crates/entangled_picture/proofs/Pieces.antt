@@ -1,11 +1,9 @@
 -- Lists made piece by piece.
-use Rattle.std.proofs.Common.{◌≡◌, ◌∙◌, ℕ, zero, suc, ◌+◌, ◌<◌, ◌≤◌, List, [], ◌∷◌, ◌++◌, length, take, get_or, map}
-use Rattle.std.proofs.Common.{ap, sym, refl, append_assoc, append-nil, arith, Vec, Global}
-use Rattle.std.specs.Prelude.{Result, Ok, Err, IfOk, OnOk, is_ok, if◌then◌else◌}
-use Rattle.std.specs.List.{flat_map, range_with_len}
-use Rattle.std.proofs.lemmas.Grind.{flat_map-append}
-use Rattle.std.proofs.lemmas.List.{take_more}
-use Rattle.std.proofs.lemmas.List.FromFn.{map-range_with_len_more}
+use Rattle.entangled_picture.proofs.Imports.{◌≡◌, ◌∙◌, ℕ, zero, suc, ◌+◌, ◌<◌, ◌≤◌, List, [], ◌∷◌, ◌++◌, length, take}
+use Rattle.entangled_picture.proofs.Imports.{get_or, map, ap, sym, refl, append_assoc, append-nil, arith, Vec, Global}
+use Rattle.entangled_picture.proofs.Imports.{Result, Ok, Err, IfOk, OnOk, is_ok, flat_map, range_with_len}
+use Rattle.entangled_picture.proofs.Imports.{flat_map-append, take_more, map-range_with_len_more}
+use Rattle.std.specs.Prelude.{if◌then◌else◌}
 
 range_last : (a n : ℕ) → range_with_len a (suc n) ≡ range_with_len a n ++ (a + n) ∷ []
 range_last a zero = let same : a ≡ a + 0 = omega arith in ap (λ k. k ∷ []) same
@@ -32,7 +30,7 @@ piece_more {A} {B} f xs i x d start now new within is so_far written =
     written ∙ ap (λ (t : List B). t ++ f x) so_far ∙ append_assoc start (flat_map f (take i xs)) (f x)
     ∙ ap (λ (t : List B). start ++ t) (sym grown)
 
--- so those of the first places
+-- the pieces of the first places and of the next one are those of one place more
 pub place_more : {B : Type 0} (f : ℕ → List B) (i : ℕ) (start now new : List B) →
     now ≡ start ++ flat_map f (range_with_len 0 i) → new ≡ now ++ f i →
     new ≡ start ++ flat_map f (range_with_len 0 (i + 1))
@@ -43,7 +41,7 @@ place_more {B} f i start now new so_far written =
     written ∙ ap (λ (t : List B). t ++ f i) so_far ∙ append_assoc start (flat_map f (range_with_len 0 i)) (f i)
     ∙ ap (λ (t : List B). start ++ t) (sym grown)
 
--- the same of one item for each place
+-- the items of the first places and that of the next one are those of one place more
 pub item_more : {B : Type 0} (f : ℕ → B) (i : ℕ) (start now new : List B) →
     now ≡ start ++ map f (range_with_len 0 i) → new ≡ now ++ f i ∷ [] →
     new ≡ start ++ map f (range_with_len 0 (i + 1))
@@ -72,7 +70,7 @@ three_added (Ok done) start a b c one two three p q r =
     let ab : b ≡ start ++ (one ++ two) = q ∙ ap (λ (t : List ℕ). t ++ two) p ∙ append_assoc start one two in
     r ∙ ap (λ (t : List ℕ). t ++ three) ab ∙ append_assoc start (one ++ two) three
 
--- the same, from nothing
+-- three texts, one added after another to nothing
 pub all_added : (start a b c one two three : List ℕ) → start ≡ [] → a ≡ start ++ one → b ≡ a ++ two →
     c ≡ b ++ three → c ≡ one ++ two ++ three
 all_added start a b c one two three o p q r =

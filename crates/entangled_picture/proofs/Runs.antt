@@ -1,10 +1,7 @@
 -- Going back over the entries of a lane.
-use Rattle.std.proofs.Common.{◌≡◌, ◌∙◌, ℕ, ◌+◌, ◌<◌, List, length, get_or, ap, add-one}
-use Rattle.std.specs.Prelude.{Option, Some, None, slice_get}
-use Rattle.std.proofs.lemmas.Option.{slice_get-get_or}
-use Rattle.entangled_picture.specs.declared.shape.Spot.{Spot}
-use Rattle.entangled_picture.specs.declared.placed.Placed.{Placed}
-use Rattle.entangled_picture.specs.Marks.{met, met_or, passed_at, run_before}
+use Rattle.entangled_picture.proofs.Imports.{◌≡◌, ◌∙◌, ℕ, ◌+◌, ◌<◌, List, length, get_or, ap, add-one, Option, Some}
+use Rattle.entangled_picture.proofs.Imports.{None, slice_get, slice_get-get_or, Spot, Placed, met, met_or, passed_at}
+use Rattle.entangled_picture.proofs.Imports.{run_before}
 
 step : (placed : List Placed) (maker at passed : ℕ) (d : Placed) → at < length placed →
     run_before placed maker (at + 1) passed

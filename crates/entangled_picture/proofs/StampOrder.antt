@@ -1,17 +1,11 @@
 -- Columns rise with stamps.
-use Rattle.std.proofs.Common.{◌≡◌, ◌∙◌, ◌⊎◌, ◌↔◌, inl, inr, ℕ, zero, suc, ◌+◌, ◌<◌, ◌≤◌, Bool, true, false, ◌&&◌, List, [], ◌∷◌, ◌++◌}
-use Rattle.std.proofs.Common.{if◌then◌else◌, ap, map, sym, refl, subst, arith}
-use Rattle.std.specs.Prelude.{nat_lt, Option, Some, None, slice_get}
-use Rattle.std.proofs.lemmas.Bool.{ltb-true, ltb-false}
-use Rattle.std.proofs.lemmas.Option.{same_Some, none-some}
-use Rattle.std.specs.List.{AllPairs, zip}
-use Rattle.entry_format.specs.SealedEntry.{SealedEntry}
-use Rattle.entry_format.specs.Nodes.{node_of_sealed}
-use Rattle.entry_graph.specs.EntryGraph.{IsLower}
-use Rattle.entangled_picture.specs.declared.shape.Spot.{Spot}
-use Rattle.entangled_picture.specs.declared.seen.Seen.{Seen}
-use Rattle.entangled_picture.specs.declared.placed.Placed.{Placed}
-use Rattle.entangled_picture.specs.Places.{next_column, next_stamp, placed_after, placed_as, seen_of, spot_of}
+use Rattle.entangled_picture.proofs.Imports.{◌≡◌, ◌∙◌, ◌⊎◌, ◌↔◌, inl, inr, ℕ, zero, suc, ◌+◌, ◌<◌, ◌≤◌, Bool, true}
+use Rattle.entangled_picture.proofs.Imports.{false, ◌&&◌, List, [], ◌∷◌, ◌++◌, ap, map, sym, refl, subst, arith}
+use Rattle.entangled_picture.proofs.Imports.{nat_lt, Option, Some, None, slice_get, ltb-true, ltb-false, same_Some}
+use Rattle.entangled_picture.proofs.Imports.{none-some, AllPairs, zip, SealedEntry, node_of_sealed, IsLower, Spot}
+use Rattle.entangled_picture.proofs.Imports.{Seen, Placed, next_column, next_stamp, placed_after, placed_as, seen_of}
+use Rattle.entangled_picture.proofs.Imports.{spot_of}
+use Rattle.std.proofs.Common.{if◌then◌else◌}
 
 -- stamps rise from this one on
 abbrev pub Rising : ℕ → List (Seen × Bool) → Type 0
@@ -88,7 +82,7 @@ own_after column stamp own is_drawn column_then stamp_then at most (inr (e, f, g
   from = λ h. let same = g drawn in omega (arith, h, same);
 }
 
--- what stands after an entry stands after what is before it
+-- what is after an entry is after what is before it
 earlier : (column stamp own : ℕ) (is_drawn : Bool) (column_then stamp_then other at : ℕ) →
     Goes column stamp own is_drawn column_then stamp_then → After column_then stamp_then other at →
     After column stamp other at
@@ -126,7 +120,7 @@ after_all before column stamp (next ∷ rest) rising (suc j) q b e at =
     (weaker stamp_then next.0.stamp rest
     (not_more column stamp next.0.stamp next.1 column_then stamp_then rising.0 step) rising.1) j q b e at)
 
--- of two entries that are drawn one stands further right exactly where its stamp is greater
+-- of two entries that are drawn one is further right if and only if its stamp is greater
 pub by_stamps : (before : List Seen) (column stamp : ℕ) (ps : List (Seen × Bool)) → Rising stamp ps → (i j : ℕ)
     (p q : Placed) (a b : Spot) → slice_get (placed_after before column stamp ps) i ≡ Some p →
     slice_get (placed_after before column stamp ps) j ≡ Some q → p.at ≡ Some a → q.at ≡ Some b →

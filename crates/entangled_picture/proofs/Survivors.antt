@@ -1,8 +1,6 @@
 -- What is shown of survivors, one survivor more.
-use Rattle.std.proofs.Common.{◌≡◌, ◌∙◌, ℕ, ◌+◌, ◌<◌, List, [], ◌∷◌, ◌++◌, length, take, get_or, map, ap, sym}
-use Rattle.std.specs.Prelude.{Some, slice_get}
-use Rattle.std.proofs.lemmas.List.{take_more, map-append}
-use Rattle.std.proofs.lemmas.Option.{get_or_from_slice_get}
+use Rattle.entangled_picture.proofs.Imports.{◌≡◌, ◌∙◌, ℕ, ◌+◌, ◌<◌, List, [], ◌∷◌, ◌++◌, length, take, get_or, map}
+use Rattle.entangled_picture.proofs.Imports.{ap, sym, Some, slice_get, take_more, map-append, get_or_from_slice_get}
 
 pub shown_more : {A B : Type 0} (f : A → B) (xs : List A) (i : ℕ) (x : A) (y : B) (now new : List B) →
     i < length xs → slice_get xs i ≡ Some x → now ≡ map f (take i xs) → y ≡ f x → new ≡ now ++ y ∷ [] →

@@ -8,7 +8,7 @@ use Rattle.entangled_picture.specs.declared.shape.Spot.{Spot}
 use Rattle.entangled_picture.specs.declared.placed.Placed.{Placed}
 use Rattle.entangled_picture.specs.Places.{placed_of}
 
--- of two survivors that are drawn one stands further right exactly where its stamp is greater
+-- of two survivors that are drawn one is further right if and only if its stamp is greater
 abbrev pub GoByStamps : List Placed → Type 0
 GoByStamps placed =
     (i j : ℕ) (p q : Placed) (a b : Spot) → slice_get placed i ≡ Some p → slice_get placed j ≡ Some q →

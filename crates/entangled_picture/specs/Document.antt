@@ -3,7 +3,7 @@ use Rattle.std.specs.Prelude.{ℕ, Bool, true, false, if◌then◌else◌, List,
 use Rattle.std.specs.Prelude.{Option, Some, None, slice_get}
 use Rattle.std.specs.List.{concat, flat_map, range_with_len}
 use Rattle.std.specs.Fmt.{decimal}
-use Rattle.report_lines.specs.Lines.{line}
+use Rattle.log_files.specs.Lines.{line}
 use Rattle.rule_engine.specs.declared.verdict.Verdict.{Verdict}
 use Rattle.auditor.specs.Report.{AuditReport}
 use Rattle.auditor.specs.Outcomes.{outcome_of, outcome_word, is_broken, is_unsettled}
@@ -41,14 +41,15 @@ verdict_lines verdict =
     codes "<rect width='100%' height='100%' fill='#fff'/>" ∷ (10 ∷ []) ∷
     codes "<text x='8' y='24' font-size='16' font-weight='bold'>verdict " ∷ verdict ∷ codes "</text>" ∷ (10 ∷ []) ∷ [])
 
--- both
+-- the size, the title, and what the report comes to
 abbrev pub size_lines : ℕ → ℕ → List ℕ → List ℕ
 size_lines width height verdict = size_line width height ++ verdict_lines verdict
 
--- a line with the names of the broken rules, and one with those of the unsettled
+-- a line with the names of the broken rules
 abbrev pub broken_line : AuditReport → List ℕ
 broken_line report = codes "<text x='8' y='44'>broken:" ++ rule_words is_broken report ++ line (codes "</text>")
 
+-- a line with the names of the unsettled rules
 abbrev pub unsettled_line : AuditReport → List ℕ
 unsettled_line report =
     codes "<text x='8' y='60'>unsettled:" ++ rule_words is_unsettled report ++ line (codes "</text>")

@@ -10,7 +10,7 @@ use Rattle.entangled_picture.specs.declared.shape.Shape.TheVariants.{Stray, Refu
 abbrev pub x_of : Spot → ℕ
 x_of at = 80 + 36 * at.column
 
--- how far right a mark is behind a spot, where so many marks stand between
+-- how far right a mark is after a spot, with this number of marks between
 abbrev pub x_behind : Spot → ℕ → ℕ
 x_behind at order = x_of at + 24 * (order + 1)
 

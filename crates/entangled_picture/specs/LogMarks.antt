@@ -1,4 +1,4 @@
--- The lanes, and what is told of the logs at their ends.
+-- The lanes, and what is shown of the logs at their ends.
 use Rattle.std.specs.Prelude.{ℕ, ◌+◌, ◌==◌, nat_lt, if◌then◌else◌, List, [], ◌∷◌, ◌++◌, length, take, map, count_by}
 use Rattle.std.specs.Prelude.{Option, Some, None, option_to_list, slice_get, slice_index_or}
 use Rattle.std.specs.List.{flat_map, range_with_len}
@@ -15,7 +15,7 @@ abbrev pub lanes_of : ℕ → ℕ → List Shape
 lanes_of machines column =
     map (λ lane. shape.Lane (record { column = column; lane = lane; level = 0 })) (range_with_len 0 machines)
 
--- the lane of a log: its owner's, or the one below all machines where the roster lacks the owner
+-- the lane of a log: its owner's, or the one below all machines where the owner isn't in the roster
 abbrev pub lane_of : ℕ → ℕ → ℕ
 lane_of owner machines = if nat_lt owner machines then owner else machines
 
@@ -45,14 +45,14 @@ abbrev pub break_of : Spot → ℕ → ℕ → Option ℕ → Option Shape
 break_of at order log None = None
 break_of at order log (Some place) = Some (shape.Break at order log place)
 
--- what is told of a log, side by side: its refused records, its break, and its end
+-- what is shown of a log, side by side: its refused records, its break, and its end
 abbrev pub marks_of_log : LogRead → ℕ → Spot → List Shape
 marks_of_log log place edge =
     refused_marks log.refused.items place edge
     ++ option_to_list (break_of edge (length log.refused.items) place log.broke)
     ++ option_to_list (ending_of edge (length log.refused.items + 1) place log.end)
 
--- the spot behind which this stands: in the last column, below the logs that have the same lane
+-- the spot after which a log's marks are: in the last column, below the logs that have the same lane
 abbrev pub edge_of : List LogRead → ℕ → ℕ → LogRead → Spot
 edge_of before machines column log = record {
   column = column;
@@ -60,12 +60,12 @@ edge_of before machines column log = record {
   level = logs_above before (lane_of log.owner machines) machines;
 }
 
--- the same of the log at a place
+-- what is shown of the log at a place
 abbrev pub log_at : List LogRead → ℕ → ℕ → ℕ → Option LogRead → List Shape
 log_at logs machines column place None = []
 log_at logs machines column place (Some log) = marks_of_log log place (edge_of (take place logs) machines column log)
 
--- so for each log
+-- what is shown of each log
 abbrev pub logs_of : List LogRead → ℕ → ℕ → List Shape
 logs_of logs machines column =
     flat_map (λ place. log_at logs machines column place (slice_get logs place)) (range_with_len 0 (length logs))

@@ -15,18 +15,21 @@ use Rattle.entangled_picture.specs.declared.seen.Seen.{Seen}
 use Rattle.entangled_picture.specs.declared.placed.Placed.{Placed}
 use Rattle.entangled_picture.specs.Places.{places_in}
 
--- the survivor at a place: its spot, if it is drawn, and its number
+-- the spot of a survivor that is drawn
 abbrev pub spot_in : Option Placed → Option Spot
 spot_in None = None
 spot_in (Some placed) = placed.at
 
+-- the number of a survivor, and 0 of none
 abbrev pub number_of_placed : Option Placed → ℕ
 number_of_placed None = 0
 number_of_placed (Some placed) = placed.seen.number
 
+-- the spot of the survivor at a place, if it is drawn
 abbrev pub spot_at : List Placed → ℕ → Option Spot
 spot_at placed place = spot_in (slice_get placed place)
 
+-- the number of the survivor at a place
 abbrev pub number_at : List Placed → ℕ → ℕ
 number_at placed place = number_of_placed (slice_get placed place)
 
@@ -74,8 +77,8 @@ abbrev pub met_or : Option Spot → ℕ → Option (Spot × ℕ) → Option (Spo
 met_or None passed before = before
 met_or (Some spot) passed before = Some (spot, passed)
 
--- Going back from a place, where so many entries of the maker that aren't drawn were passed: the spot of the next one
--- that is, and how many were passed then.
+-- Going back from a place, where this number of entries of the maker that aren't drawn was passed: the spot of the next
+-- one that is, and how many were passed then.
 abbrev pub run_before : List Placed → ℕ → ℕ → ℕ → Option (Spot × ℕ)
 run_before placed maker zero passed = None
 run_before placed maker (suc at) passed =
@@ -112,7 +115,7 @@ abbrev pub lights_by : List Placed → List Verdict → ℕ → List Shape
 lights_by placed verdicts rule =
     flat_map (λ place. option_to_list (light_in (spot_at placed place) rule)) (places_in (slice_get verdicts rule))
 
--- so for each rule
+-- a light for each survivor that the verdict on some rule names
 abbrev pub lights_of : List Placed → List Verdict → List Shape
 lights_of placed verdicts = flat_map (lights_by placed verdicts) (range_with_len 0 (length verdicts))
 
@@ -167,7 +170,7 @@ gap_of graph placed lane level digest =
     losses_of graph placed digest (gap_spot graph placed lane level digest)
     ++ shape.Gap (gap_spot graph placed lane level digest) digest ∷ []
 
--- so for each gap
+-- the arrows to each gap, and its mark
 abbrev pub gaps_of : EntryGraph SealedEntry → List Placed → ℕ → List Shape
 gaps_of graph placed lane =
     flat_map (λ level. gap_of graph placed lane level (slice_index_or graph.gaps level []))

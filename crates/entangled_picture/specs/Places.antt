@@ -10,7 +10,7 @@ use Rattle.entangled_picture.specs.declared.shape.Spot.{Spot}
 use Rattle.entangled_picture.specs.declared.seen.Seen.{Seen}
 use Rattle.entangled_picture.specs.declared.placed.Placed.{Placed}
 
--- up to so many survivors each is drawn
+-- up to this many survivors each is drawn
 abbrev pub most_drawn : ℕ
 most_drawn = 400
 
@@ -49,7 +49,7 @@ matters graph verdicts seen place entry =
     not (has_maker (take place seen) entry.maker) || not (has_maker (drop (place + 1) seen) entry.maker)
     || ragged_of graph.links place || is_forked graph.forks entry.maker entry.number || is_lit verdicts place
 
--- the same of the survivor at a place
+-- the survivor at a place matters
 abbrev pub matters_at : EntryGraph SealedEntry → List Verdict → List Seen → ℕ → Option Seen → Bool
 matters_at graph verdicts seen place None = false
 matters_at graph verdicts seen place (Some entry) = matters graph verdicts seen place entry
@@ -59,7 +59,7 @@ abbrev pub is_drawn : EntryGraph SealedEntry → List Verdict → List Seen → 
 is_drawn graph verdicts seen place =
     nat_le (length seen) most_drawn || matters_at graph verdicts seen place (slice_get seen place)
 
--- whether each is
+-- whether each survivor is drawn by itself
 abbrev pub drawn_of : EntryGraph SealedEntry → List Verdict → List Seen → List Bool
 drawn_of graph verdicts seen = map (is_drawn graph verdicts seen) (range_with_len 0 (length seen))
 
@@ -67,10 +67,11 @@ drawn_of graph verdicts seen = map (is_drawn graph verdicts seen) (range_with_le
 abbrev pub begins_column : ℕ → Seen × Bool → Bool
 begins_column stamp next = next.1 && nat_lt stamp next.0.stamp
 
--- the column after an entry, and its stamp
+-- the column after an entry
 abbrev pub next_column : ℕ → ℕ → Seen × Bool → ℕ
 next_column column stamp next = if begins_column stamp next then column + 1 else column
 
+-- the stamp of the column after an entry
 abbrev pub next_stamp : ℕ → Seen × Bool → ℕ
 next_stamp stamp next = if begins_column stamp next then next.0.stamp else stamp
 
@@ -90,7 +91,7 @@ placed_as before entry column is_drawn = record {
   at = if is_drawn then Some (spot_of before entry column) else None;
 }
 
--- entries after others, of which the last column and its stamp are these: each stands in the last column that begins at
+-- entries after others, of which the last column and its stamp are these: each is in the last column that begins at
 -- it or earlier
 abbrev pub placed_after : List Seen → ℕ → ℕ → List (Seen × Bool) → List Placed
 placed_after before column stamp [] = []

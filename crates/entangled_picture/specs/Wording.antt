@@ -19,27 +19,30 @@ use Rattle.entangled_picture.specs.declared.shape.Shape.TheVariants.{Stray, Refu
 use Rattle.entangled_picture.specs.Escaping.{escaped}
 use Rattle.entangled_picture.specs.Layout.{x_of, x_behind, x_of_gap, y_of}
 
--- the name of the machine of a lane
+-- the escaped name of a machine
 abbrev pub name_of_post : Option Post → List ℕ
 name_of_post None = []
 name_of_post (Some post) = escaped post.name
 
+-- the name of the machine of a lane
 abbrev pub machine_name : AuditReport → ℕ → List ℕ
 machine_name report lane = name_of_post (slice_get report.machines lane)
 
--- the name of a log
+-- the escaped name of a log's file
 abbrev pub name_of_file : Option (List ℕ) → List ℕ
 name_of_file None = []
 name_of_file (Some file) = escaped file
 
+-- the name of the log at a place
 abbrev pub log_title : AuditReport → ℕ → List ℕ
 log_title report log = name_of_file (slice_get report.files log)
 
--- the name of a rule
+-- the escaped name of a rule
 abbrev pub name_of_rule : Option RuleTree → List ℕ
 name_of_rule None = []
 name_of_rule (Some rule) = escaped rule.name
 
+-- the name of the rule at a place
 abbrev pub rule_name : AuditReport → ℕ → List ℕ
 rule_name report rule = name_of_rule (slice_get report.rules rule)
 
@@ -93,7 +96,7 @@ torn_text x y name offset =
     codes "</title><path d='M-6-10L2-4L-6 2L2 8'/>" ∷ label_begin ∷ codes "torn</text></g>" ∷
     (10 ∷ []) ∷ [])
 
--- the mark of a log that ends at a byte which can't stand there
+-- the mark of a log that ends at a byte which isn't allowed there
 abbrev pub malformed_text : ℕ → ℕ → List ℕ → ℕ → List ℕ → List ℕ
 malformed_text x y name offset cause =
     concat (codes "<g class='ending' transform='translate(" ∷ decimal x ∷ codes " " ∷ decimal y ∷
@@ -127,13 +130,13 @@ bar_title entries name =
     concat (codes "<g class='bar'><title>" ∷ decimal entries ∷ codes " more entries of " ∷ name ∷
     codes "</title>" ∷ [])
 
--- its line
+-- the line of a bar
 abbrev pub bar_line : ℕ → ℕ → ℕ → ℕ → List ℕ
 bar_line x y to_x to_y =
     concat (codes "<path d='M" ∷ decimal x ∷ codes " " ∷ decimal y ∷ codes "L" ∷ decimal to_x ∷
     codes " " ∷ decimal to_y ∷ codes "'/>" ∷ [])
 
--- its label
+-- the label of a bar
 abbrev pub bar_label : ℕ → ℕ → ℕ → List ℕ
 bar_label x y entries =
     concat (codes "<text x='" ∷ decimal x ∷ codes "' y='" ∷ decimal y ∷
@@ -145,13 +148,13 @@ entry_place kind x y =
     concat (codes "<g class='" ∷ kind ∷ codes "' transform='translate(" ∷ decimal x ∷ codes " " ∷
     decimal y ∷ codes ")'>" ∷ [])
 
--- its title
+-- the title of a survivor's mark
 abbrev pub entry_title : List ℕ → ℕ → List ℕ → List ℕ → List ℕ
 entry_title name number kind digits =
     concat (codes "<title>" ∷ name ∷ codes "." ∷ decimal number ∷ codes " " ∷ kind ∷ codes " " ∷
     digits ∷ codes "</title>" ∷ [])
 
--- its form and its label
+-- the circle and the label of a survivor's mark
 abbrev pub entry_label : ℕ → List ℕ → List ℕ
 entry_label number kind =
     concat (codes "<circle r='10'/><text class='number' y='3.5'>" ∷ decimal number ∷
@@ -163,7 +166,7 @@ loss_path x y to_x to_y =
     concat (codes "<path class='loss' d='M" ∷ decimal x ∷ codes " " ∷ decimal y ∷ codes "L" ∷
     decimal to_x ∷ codes " " ∷ decimal to_y ∷ codes "'>" ∷ [])
 
--- its title
+-- the title of an arrow to a gap
 abbrev pub loss_title : List ℕ → ℕ → List ℕ
 loss_title name number =
     concat (codes "<title>" ∷ name ∷ codes "." ∷ decimal number ∷
@@ -175,13 +178,13 @@ fork_title name number =
     concat (codes "<g class='fork'><title>fork " ∷ name ∷ codes "." ∷ decimal number ∷
     codes "</title>" ∷ [])
 
--- its line
+-- the line of a fork
 abbrev pub fork_line : ℕ → ℕ → ℕ → List ℕ
 fork_line x y to_x =
     concat (codes "<path d='M" ∷ decimal x ∷ codes " " ∷ decimal y ∷ codes "m-14 -13v-8H" ∷
     decimal to_x ∷ codes "h14v8'/>" ∷ [])
 
--- its label
+-- the label of a fork
 abbrev pub fork_label : ℕ → ℕ → List ℕ → ℕ → List ℕ
 fork_label x y name number =
     concat (codes "<text x='" ∷ decimal x ∷ codes "' y='" ∷ decimal y ∷

@@ -17,7 +17,7 @@ use precedence::Arrows;
 use rule_engine::Verdict;
 use std::alloc::{AllocError, Global};
 
-/// Up to so many survivors each is drawn.
+/// Up to this many survivors each is drawn.
 const MOST_DRAWN: usize = 400;
 
 /// Whether one of the entries has this maker.

@@ -20,7 +20,7 @@ fn add_byte(out: &mut String, byte: u8) -> Result<(), AllocError>
     }
 }
 
-/// The text, as it stands in a document.
+/// The text, as it is written in a document.
 pub(crate) fn escaped(alloc: Global, text: &str) -> Result<String, AllocError>
     ensures { IfOk result (λ out. string_bytes out ≡ escaped text.now) }
 {

@@ -21,7 +21,7 @@ pub(crate) fn x_of(at: Spot) -> u128
     80 + 36 * u128::from(at.column)
 }
 
-/// How far right a mark is behind a spot, where so many marks stand between.
+/// How far right a mark is after a spot, with this number of marks between.
 pub(crate) fn x_behind(at: Spot, order: usize) -> u128
     ensures value { result ≡ x_behind at order }
     ensures fits { result < 2 ^ 100 }

@@ -1,5 +1,5 @@
 //! The picture of what logs show: a lane for each machine, a mark for each entry at its stamp, an
-//! arrow for each name, and what the report tells of damage, gaps, forks, strays and broken rules.
+//! arrow for each name, and what the report says of damage, gaps, forks, strays and broken rules.
 //! It is an SVG document (Scalable Vector Graphics 1.1, W3C 2011) with nothing outside itself.
 #![tactic(auto)]
 

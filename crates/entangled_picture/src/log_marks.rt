@@ -1,4 +1,4 @@
-//! The lanes of the machines, and what is told of the logs at their ends.
+//! The lanes of the machines, and what is shown of the logs at their ends.
 ghost use Rattle.std.specs.Prelude.{◌≡◌, ◌++◌, ◌<◌, OnOk, length, slice_get, take};
 ghost use Rattle.entangled_picture.specs.LogMarks.{
   break_of,
@@ -39,7 +39,7 @@ pub(crate) fn add_lanes(
     Ok(())
 }
 
-/// The lane of a log: its owner's or, where the roster lacks the owner, the one below all machines.
+/// The lane of a log: its owner's, or the one below all machines if the owner isn't listed.
 fn lane_of(owner: u32, machines: usize) -> usize
     ensures { result ≡ lane_of owner machines }
 {
@@ -119,7 +119,7 @@ fn break_of(at: Spot, order: usize, log: usize, broke: Option<u32>) -> Option<Sh
     }
 }
 
-/// Adds what is told of a log, side by side: its refused records, its break, and its end.
+/// Adds what is shown of a log, side by side: its refused records, its break, and its end.
 fn add_log(
     shapes: &mut Vec<Shape>,
     log: &LogRead,
@@ -136,7 +136,7 @@ fn add_log(
     push_some(shapes, ending)
 }
 
-/// The spot behind which this stands: in the last column, below the logs that have the same lane.
+/// The spot after which a log's marks are: in the last column, below the logs with the same lane.
 fn edge_of(before: &[LogRead], machines: usize, column: u32, log: &LogRead) -> Spot
     ensures { result ≡ edge_of before.now machines column log.now }
 {
@@ -148,7 +148,7 @@ fn edge_of(before: &[LogRead], machines: usize, column: u32, log: &LogRead) -> S
     }
 }
 
-/// Adds what is told of each log, behind the last column.
+/// Adds what is shown of each log, after the last column.
 pub(crate) fn add_logs(
     shapes: &mut Vec<Shape>,
     logs: &[LogRead],

@@ -28,7 +28,7 @@ use std::alloc::{AllocError, Global};
 use std::fmt::Write;
 
 /// The style and the legend. The colours can be told apart by everybody (Okabe and Ito), and the
-/// marks by their forms alone.
+/// marks by shape alone.
 const LEGEND: &str = "<style>text{fill:#000}path{fill:none;stroke:#000;stroke-width:1.5}\
 .lane path{stroke:#aaa;stroke-width:1}.lane text{font-weight:bold}\
 .names{stroke:#444;stroke-width:1;marker-end:url(#n)}\
@@ -242,7 +242,7 @@ fn document_of(alloc: Global, report: &Report, shapes: &[Shape]) -> Result<Vec<u
 ///
 /// # Errors
 ///
-/// Want of memory.
+/// Out of memory.
 pub fn write_picture(alloc: Global, report: &Report) -> Result<Vec<u8>, AllocError>
     ensures { IfOk result (λ bytes. bytes.items ≡ picture_text (report_of report.now)) }
 {

@@ -88,8 +88,8 @@ fn next_stamp(stamp: u32, entry: &Seen, is_drawn: bool) -> u32
     }
 }
 
-/// The entries with their spots, if they are drawn. The next one that is drawn stands one further
-/// right if its stamp is greater.
+/// The entries with their spots, if they are drawn. The next one that is drawn is one column
+/// further right if its stamp is greater.
 pub(crate) fn all_placed(
     alloc: Global,
     seen: &[Seen],

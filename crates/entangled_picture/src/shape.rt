@@ -28,7 +28,7 @@ pub enum Shape {
         to: Spot,
         named: u32,
     },
-    /// So many entries of a machine between two that are drawn.
+    /// A number of entries of a machine, between two that are drawn.
     Bar {
         from: Spot,
         to: Spot,
@@ -63,13 +63,13 @@ pub enum Shape {
         to: Spot,
         number: u32,
     },
-    /// An entry that was set aside: so many stand to the left of it.
+    /// An entry that was set aside: this number of others is to the left of it.
     Stray {
         at: Spot,
         order: usize,
         digest: [u8; 32],
     },
-    /// A record of a log that was refused: so many marks stand between it and the end of the lane.
+    /// A record of a log that was refused: this number of marks is between it and the lane's end.
     Refused {
         at: Spot,
         order: usize,

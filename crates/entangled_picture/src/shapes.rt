@@ -87,7 +87,7 @@ fn add_graph(
 ///
 /// # Errors
 ///
-/// Want of memory.
+/// Out of memory.
 pub fn shapes_of(alloc: Global, report: &Report) -> Result<Vec<Shape>, AllocError>
     ensures { IfOk result (λ shapes. shapes.items ≡ shapes_of (report_of report.now)) }
 {

@@ -229,7 +229,7 @@ fn add_torn(
     )
 }
 
-/// Adds the mark of a log that ends at a byte which can't stand there.
+/// Adds the mark of a log that ends at a byte which isn't allowed there.
 fn add_malformed(
     alloc: Global,
     out: &mut String,
@@ -566,7 +566,8 @@ fn add_end(
     end: End,
 ) -> Result<(), AllocError>
     ensures { OnOk result (string_bytes out.new ≡ string_bytes out.old
-        ++ end_text (x_behind place.0 place.1) (y_of place.0) (log_title (report_of report.now) log) end) }
+        ++ end_text (x_behind place.0 place.1) (y_of place.0) (log_title (report_of report.now) log)
+        end) }
 {
     match end {
         End::Clean => Ok(()),

@@ -1,4 +1,4 @@
-//! Tests of the public calls of `entangled_picture`. They stand in a crate of their own, so that
+//! Tests of the public calls of `entangled_picture`. They are in a crate of their own, so that
 //! what they test isn't proved once more with them.
 #![tactic(auto)]
 

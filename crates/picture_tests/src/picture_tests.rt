@@ -74,7 +74,7 @@ fn spots_of(alloc: Global, report: &Report) -> Result<String, Fail> {
     Ok(spots)
 }
 
-/// The titles of a document, with a stroke behind each.
+/// The titles of a document, with a stroke after each.
 fn titles_in(alloc: Global, document: &str) -> Result<String, Fail> {
     let mut titles = String::new(alloc);
     for line in document.lines() {

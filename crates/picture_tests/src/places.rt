@@ -199,9 +199,9 @@ fn add_text(log: &mut Vec<u8>, text: &[u8], is_changed: bool) -> Result<(), Fail
     Ok(())
 }
 
-/// The text of a log of this name: its owner, and the letters of its entries, with `>` before those
-/// that are sent, `<` before those that are got, and `!` before one that is changed. With `-` at its
-/// end the last byte is lost.
+/// The text of a log of this name: its owner, and the letters of its entries, with `>` before
+/// those that are sent, `<` before those that are got, and `!` before one that is changed. With
+/// `-` at its end the last byte is lost.
 fn log_of(alloc: Global, place: &Place, name: &str) -> Result<Vec<u8>, Fail> {
     let [owner, rest @ ..] = name.as_bytes() else {
         return Err(Fail::from("the log has an owner"));

@@ -4,9 +4,11 @@ use Rattle.auditorium_core.specs.declared.endorsed.ToVerify.{ToVerify}
 use Rattle.auditorium_core.specs.Endorse.{Unsigned}
 use Rattle.auditorium_core.specs.Endorsed.{Signed}
 
+-- what was read for a signature, as a value
 abbrev pub unsigned_of : ToSign → Unsigned
 unsigned_of read = record { office = read.office; bytes = read.bytes.items }
 
+-- what was read for a verification, as a value
 abbrev pub signed_of : ToVerify → Signed
 signed_of read = record {
   key = read.key.items;

@@ -19,7 +19,7 @@ abbrev pub name_of : Read → EntryName
 name_of (Digest digest) = by_digest digest
 name_of (Number machine number) = by_number machine.now number
 
--- the first dot of the word stands at this place, or there is none
+-- the first dot of the word is at this place, or there is none
 abbrev pub IsFirstDot : List ℕ → Option ℕ → Type 0
 IsFirstDot word None = All (λ byte. byte ≢ 46) word
 IsFirstDot word (Some at) = (word ≡ take at word ++ 46 ∷ drop (at + 1) word) × All (λ byte. byte ≢ 46) (take at word)

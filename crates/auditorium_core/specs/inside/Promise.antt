@@ -9,8 +9,8 @@ use Rattle.auditorium_core.specs.Words.{Command}
 use Rattle.auditorium_core.specs.Lines.{Answer}
 use Rattle.auditorium_core.specs.Answer.{IsAnswerTo, AnswersWords, TellsAbsence, WordsTellAbsence}
 
--- The answer is right for the files. It tells of an absence exactly where the store said so in the call, a failed read
--- comes only where a read failed in it, and no file changes.
+-- The answer is right for the files. It says that a file is absent exactly where the store said so in the call, a
+-- failed read comes only where a read failed in it, and no file changes.
 pub record IsAnswered (IsRight : Option Files → Answer → Type 0) (is_of_absence : Answer → Type 0) (old : StoreSeen)
     (result : Result Answer Fault) (new : StoreSeen) : Type 0 where
   pub answer : IfOk result (IsRight old.files)
@@ -20,10 +20,10 @@ pub record IsAnswered (IsRight : Option Files → Answer → Type 0) (is_of_abse
   pub files : new.files ≡ old.files
   pub write_faults : new.write_faults ≡ old.write_faults
 
--- so a command is answered
+-- the result of a call is right for a command
 abbrev pub IsAnsweredBy : Command → StoreSeen → Result Answer Fault → StoreSeen → Type 0
 IsAnsweredBy command = IsAnswered (IsAnswerTo command) (TellsAbsence command)
 
--- so words are, where these are the commands
+-- the result of a call is right for words, where these are the commands
 abbrev pub AreAnswered : (Command → Type 0) → List (List ℕ) → StoreSeen → Result Answer Fault → StoreSeen → Type 0
 AreAnswered IsDone words = IsAnswered (AnswersWords IsDone words) (WordsTellAbsence words)

@@ -1,5 +1,5 @@
--- What named files give `watch`: those that are told, or some where none are.
-use Rattle.std.specs.Prelude.{◌≡◌, ℕ, List, [], ◌∷◌, ◌++◌, map, Option, Result, Ok, Err, ◌⊎◌, codes}
+-- What named files give `watch`: those that are exposed, or some where none are.
+use Rattle.std.specs.Prelude.{◌≡◌, ℕ, List, [], ◌∷◌, ◌++◌, map, Option, Result, Ok, ◌⊎◌, codes}
 use Rattle.std.specs.Fmt.{decimal}
 use Rattle.std.specs.List.{Contains}
 use Rattle.hall_outside.specs.Files.{Files}
@@ -13,8 +13,9 @@ use Rattle.rule_language.specs.Forms.{rule_tree}
 use Rattle.rule_language.specs.Trees.{RuleTree}
 use Rattle.evidence.specs.declared.roster_file.RosterRead.{RosterRead}
 use Rattle.evidence.specs.Refusal.{Refusal}
-use Rattle.report_lines.specs.Lines.{line}
-use Rattle.auditor.specs.Audits.{OnFiles, audit_files}
+use Rattle.evidence.specs.Logs.{GivesLogs}
+use Rattle.log_files.specs.Lines.{line}
+use Rattle.auditor.specs.Audits.{AndThen, RulesThen, OnFiles, audit_files}
 use Rattle.auditor.specs.Sources.{RuleSource, rule_files}
 use Rattle.live_auditor.specs.Adding.{IsTooWideOver}
 use Rattle.live_auditor.specs.Live.{LiveState}
@@ -23,10 +24,10 @@ use Rattle.auditorium_core.specs.declared.watch.EvidenceRead.{EvidenceRead}
 use Rattle.auditorium_core.specs.declared.watch.Unwatched.{Unwatched}
 use Rattle.auditorium_core.specs.declared.watch.Unwatched.TheVariants.{TooWide, Memory}
 use Rattle.auditorium_core.specs.Lines.{Answer}
-use Rattle.auditorium_core.specs.Watch.{Evidence, ReadsLogs, ReadsRules, GivesEvidence, GivesWatch}
+use Rattle.auditorium_core.specs.Watch.{Evidence, GivesEvidence, GivesWatch}
 use Rattle.auditorium_core.specs.Watch.{AreSummaries, IsTooWideAfter, watch_lines}
 
--- these, with the rules as they were read
+-- the evidence of machines, rules and logs, with the rules as they were read
 abbrev pub evidence_by : List Post → List Rule → List LogRead → Evidence
 evidence_by machines rules logs = record {
   machines = machines;
@@ -38,23 +39,39 @@ evidence_by machines rules logs = record {
 abbrev pub evidence_of : EvidenceRead → Evidence
 evidence_of found = evidence_by found.roster.machines found.rules.items found.logs.items
 
--- the named files
+-- what the files of logs give with the roster and the rules
+abbrev pub ReadsLogs : RosterRead → List RuleTree → List (List ℕ) → List (Option (List ℕ)) →
+    Result Evidence Refusal → Type 0
+ReadsLogs read rules names files =
+    AndThen (GivesLogs read.roster.machines read.election names files)
+    (λ logs answer.
+    answer ≡ Ok (record { machines = read.roster.machines; rules = rules; logs = logs }))
+
+-- what the file of the rules, if there is one, and those of the logs give with the roster
+abbrev pub ReadsRules : RosterRead → RuleSource → List (List ℕ) → List (Option (List ℕ)) →
+    Result Evidence Refusal → Type 0
+ReadsRules read source names = RulesThen source (λ rules files. ReadsLogs read rules names files)
+
+-- what the logs give `watch`
 abbrev pub ReadsLogsIn : RosterRead → List RuleTree → List (List ℕ) → Option Files →
     Result Evidence Refusal → Type 0
 ReadsLogsIn read rules names told answer =
     OnFiles names (λ files. ReadsLogs read rules names files answer) told
 
+-- what the rules and the logs give `watch`
 abbrev pub ReadsRulesIn : RosterRead → RuleSource → List (List ℕ) → Option Files →
     Result Evidence Refusal → Type 0
 ReadsRulesIn read source names told answer =
     OnFiles (rule_files source ++ names) (λ files. ReadsRules read source names files answer) told
 
+-- what the roster, the rules and the logs give `watch` as evidence
 abbrev pub GivesEvidenceIn : List ℕ → RuleSource → List (List ℕ) → Option Files →
     Result Evidence Refusal → Type 0
 GivesEvidenceIn roster source names told answer =
     OnFiles (audit_files roster source names)
     (λ files. GivesEvidence roster source names files answer) told
 
+-- the answer that the named files give `watch`
 abbrev pub GivesWatchIn : List ℕ → RuleSource → List (List ℕ) → Option Files →
     Result Answer Refusal → Type 0
 GivesWatchIn roster source names told answer =
@@ -84,11 +101,12 @@ AreLinesOf machines rules entries text =
     (summaries : List Summary) × AreSummaries machines rules entries summaries
     × (text ≡ watch_lines 1 summaries)
 
--- the two halves of a line
+-- the first half of a line: the entries, the survivors and the gaps
 abbrev pub first_half : ℕ → ℕ → ℕ → List ℕ
 first_half n survivors gaps =
     decimal n ++ codes " " ++ decimal survivors ++ codes " gaps " ++ decimal gaps
 
+-- the second half of a line: how many rules are kept, broken and unsettled
 abbrev pub second_half : ℕ → ℕ → ℕ → List ℕ
 second_half kept broken unsettled =
     line (codes " kept " ++ decimal kept ++ codes " broken " ++ decimal broken

@@ -1,13 +1,14 @@
-use Rattle.auditor.specs.Rows.{row_of}
-use Rattle.auditor.specs.Report.{report_of}
-use Rattle.auditorium_core.proofs.AuditAnswers.{report_is_told, answer_is_told}
+use Rattle.auditorium_core.proofs.Imports.{row_of, report_of}
+use Rattle.auditorium_core.proofs.AuditAnswers.{report_is_sound, answer_is_told}
 use Rattle.auditorium_core.proofs.audit.answer_of.Goals as goal
 
 pub returns-clause-told : goal.returns-clause-told
 returns-clause-told c =
     let report = report_of c.args.report.now in
-    report_is_told report c.of_text.result (c.rules_are_settled.ensures.settled (row_of report.machines))
-    (c.rules_are_settled.ensures.unknown (row_of report.machines)) c.gaps_are_unique.ensures
-    c.outcome-outcome.ensures.kept
-    (answer_is_told report c.in_ok-text.text.items c.outcome-outcome.result c.status_by.result c.of_text.result
-    c.in_ok-text.ensures c.outcome-outcome.ensures.value c.status_by.ensures c.of_text.ensures)
+    record {
+      sound = report_is_sound report (c.rules_are_settled.ensures.settled (row_of report.machines))
+          (c.rules_are_settled.ensures.unknown (row_of report.machines)) c.gaps_are_unique.ensures
+          c.outcome-outcome.ensures.kept;
+      told = answer_is_told report c.in_ok-text.text.items c.outcome-outcome.result c.status_by.result c.of_text.result
+          c.in_ok-text.ensures c.outcome-outcome.ensures.value c.status_by.ensures c.of_text.ensures;
+    }

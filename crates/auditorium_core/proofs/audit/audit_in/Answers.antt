@@ -1,9 +1,5 @@
-use Rattle.std.proofs.Common.{map, subst, string_bytes}
-use Rattle.evidence.specs.Reading.{IsReadFrom}
-use Rattle.auditor.specs.Report.{report_of}
-use Rattle.auditor.specs.Sources.{RuleSource}
-use Rattle.auditor.specs.Audits.{GivesReportIn}
-use Rattle.auditorium_core.specs.Outside.{seen}
+use Rattle.auditorium_core.proofs.Imports.{map, subst, string_bytes, IsReadFrom, report_of, RuleSource, GivesReportIn}
+use Rattle.auditorium_core.proofs.Imports.{seen}
 use Rattle.auditorium_core.proofs.audit.audit_in.Goals as goal
 
 pub returns : goal.returns

@@ -1,8 +1,5 @@
-use Rattle.std.proofs.Common.{sym, string_bytes}
-use Rattle.std.proofs.lemmas.Option.{get_or_from_slice_get}
-use Rattle.rule_language.specs.Forms.{rule_tree}
-use Rattle.auditor.proofs.Pieces.{pair_more, pairs_all}
-use Rattle.auditorium_core.specs.Check.{checked_line}
+use Rattle.auditorium_core.proofs.Imports.{sym, string_bytes, get_or_from_slice_get, rule_tree, pair_more, pairs_all}
+use Rattle.auditorium_core.proofs.Imports.{checked_line}
 use Rattle.auditorium_core.proofs.check.add_rules.Goals as goal
 
 pub loop-i-preserved : goal.loop-i-preserved

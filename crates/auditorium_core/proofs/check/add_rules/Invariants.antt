@@ -1,7 +1,4 @@
-use Rattle.std.proofs.Common.{◌≡◌, ◌++◌, string_bytes, map, take}
-use Rattle.std.specs.List.{flat_map, zip}
-use Rattle.rule_language.specs.Forms.{rule_tree}
-use Rattle.auditorium_core.specs.Check.{checked_line}
+use Rattle.auditorium_core.proofs.Imports.{◌≡◌, ◌++◌, string_bytes, map, take, flat_map, zip, rule_tree, checked_line}
 use Rattle.auditorium_core.proofs.check.add_rules.Given as goal
 
 -- the lines of the rules so far

@@ -1,13 +1,5 @@
-use Rattle.std.proofs.Common.{◌∙◌, map, sym, string_bytes}
-use Rattle.std.proofs.lemmas.List.{length-map}
-use Rattle.std.specs.Prelude.{Ok}
-use Rattle.rule_language.specs.Forms.{rule_tree}
-use Rattle.audit_proof.proofs.Trusted.{proofs_say_no_more}
-use Rattle.auditorium_core.specs.Outside.{seen}
-use Rattle.auditorium_core.specs.Words.{check}
-use Rattle.auditorium_core.specs.Audit.{source_named}
-use Rattle.auditorium_core.specs.Answer.{IsAnswerTo}
-use Rattle.auditorium_core.specs.inside.Checking.{GivesCheckIn, report_by}
+use Rattle.auditorium_core.proofs.Imports.{◌∙◌, map, sym, string_bytes, length-map, Ok, rule_tree, proofs_say_no_more}
+use Rattle.auditorium_core.proofs.Imports.{seen, check, source_named, IsAnswerTo, GivesCheckIn, report_by}
 use Rattle.auditorium_core.proofs.Faults.{refused_answered, found_answered}
 use Rattle.auditorium_core.proofs.CheckCommand.{check_refused, check_told}
 use Rattle.auditorium_core.proofs.CheckSound.{check_found, check_right, a_verdict_each}

@@ -1,6 +1,4 @@
-use Rattle.std.proofs.Common.{map, string_bytes}
-use Rattle.auditorium_core.specs.Outside.{seen}
-use Rattle.auditorium_core.specs.Audit.{source_named}
+use Rattle.auditorium_core.proofs.Imports.{map, string_bytes, seen, source_named}
 use Rattle.auditorium_core.proofs.CheckAnswers.{roster_then, roster_end}
 use Rattle.auditorium_core.proofs.check.check_all.Goals as goal
 

@@ -1,5 +1,4 @@
-use Rattle.std.proofs.Common.{ap, map}
-use Rattle.rule_language.specs.Forms.{rule_tree}
+use Rattle.auditorium_core.proofs.Imports.{ap, map, rule_tree}
 use Rattle.auditorium_core.proofs.CheckAnswers.{too_wide_checked}
 use Rattle.auditorium_core.proofs.check.check_by.Goals as goal
 

@@ -1,8 +1,5 @@
-use Rattle.std.proofs.Common.{◌+◌, List, map, take, sym, subst}
-use Rattle.rule_language.specs.Forms.{rule_tree}
+use Rattle.auditorium_core.proofs.Imports.{◌+◌, List, map, take, sym, subst, rule_tree, nodes_of, AreChecked}
 use Rattle.audit_proof.specs.declared.fault.Verdict.{Verdict}
-use Rattle.auditor.specs.Judged.{nodes_of}
-use Rattle.auditorium_core.specs.Check.{AreChecked}
 use Rattle.auditorium_core.proofs.CheckedRules.{checked_more, first_too_wide}
 use Rattle.auditorium_core.proofs.check.check_each.Goals as goal
 

@@ -1,7 +1,4 @@
-use Rattle.std.proofs.Common.{map, take}
-use Rattle.rule_language.specs.Forms.{rule_tree}
-use Rattle.auditor.specs.Judged.{nodes_of}
-use Rattle.auditorium_core.specs.Check.{AreChecked}
+use Rattle.auditorium_core.proofs.Imports.{map, take, rule_tree, nodes_of, AreChecked}
 use Rattle.auditorium_core.proofs.check.check_each.Given as goal
 
 -- the verdicts on the rules so far

@@ -1,8 +1,4 @@
-use Rattle.std.proofs.Common.{List, map}
-use Rattle.rule_language.specs.Forms.{rule_tree}
-use Rattle.audit_proof.specs.Lines.{Line}
-use Rattle.auditorium_core.specs.Outside.{seen}
-use Rattle.auditorium_core.specs.Audit.{source_named}
+use Rattle.auditorium_core.proofs.Imports.{List, map, rule_tree, Line, seen, source_named}
 use Rattle.auditorium_core.proofs.CheckAnswers.{proof_checked, proof_refused}
 use Rattle.auditorium_core.proofs.CheckSound.{proof_of}
 use Rattle.auditorium_core.proofs.check.check_graph.Goals as goal

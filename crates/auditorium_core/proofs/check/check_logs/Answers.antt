@@ -1,9 +1,4 @@
-use Rattle.std.proofs.Common.{map}
-use Rattle.rule_language.specs.Forms.{rule_tree}
-use Rattle.evidence.specs.Graphs.{entries_of}
-use Rattle.auditor.proofs.Makers.{survivors_have_makers}
-use Rattle.auditorium_core.specs.Outside.{seen}
-use Rattle.auditorium_core.specs.Audit.{source_named}
+use Rattle.auditorium_core.proofs.Imports.{map, rule_tree, entries_of, survivors_have_makers, seen, source_named}
 use Rattle.auditorium_core.proofs.CheckAnswers.{graph_checked, graph_refused}
 use Rattle.auditorium_core.proofs.check.check_logs.Goals as goal
 

@@ -1,8 +1,4 @@
-use Rattle.std.proofs.Common.{map, string_bytes}
-use Rattle.rule_language.specs.Forms.{rule_tree}
-use Rattle.auditor.proofs.Makers.{logs_have_makers}
-use Rattle.auditorium_core.specs.Outside.{seen}
-use Rattle.auditorium_core.specs.Audit.{source_named}
+use Rattle.auditorium_core.proofs.Imports.{map, string_bytes, rule_tree, logs_have_makers, seen, source_named}
 use Rattle.auditorium_core.proofs.CheckAnswers.{logs_then, logs_end}
 use Rattle.auditorium_core.proofs.check.check_rules.Goals as goal
 

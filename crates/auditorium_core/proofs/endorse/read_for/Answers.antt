@@ -1,7 +1,4 @@
-use Rattle.std.proofs.Common.{[], refl}
-use Rattle.auditorium_core.specs.NamedBytes.{AtLast, GivesBytes, max_signed}
-use Rattle.auditorium_core.specs.Outside.{seen}
-use Rattle.auditorium_core.specs.inside.Endorsing.{unsigned_of}
+use Rattle.auditorium_core.proofs.Imports.{[], refl, AtLast, GivesBytes, max_signed, seen, unsigned_of}
 use Rattle.auditorium_core.proofs.FileSteps.{file_ends, file_last}
 use Rattle.auditorium_core.proofs.endorse.read_for.Goals as goal
 

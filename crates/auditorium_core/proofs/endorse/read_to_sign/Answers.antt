@@ -1,12 +1,6 @@
-use Rattle.std.proofs.Common.{List, ℕ, [], ◌∷◌, subst}
-use Rattle.std.specs.Prelude.{Ok, Err}
-use Rattle.hall_outside.specs.Files.{OnSomeFile}
-use Rattle.office_key.specs.declared.office.Office.{Office}
-use Rattle.evidence.specs.Reading.{IsReadFrom}
-use Rattle.auditorium_core.specs.NamedBytes.{AtLast, FileThen, GivesBytes, max_signed}
-use Rattle.auditorium_core.specs.OfficeFile.{GivesOffice, office_file}
-use Rattle.auditorium_core.specs.Outside.{seen}
-use Rattle.auditorium_core.specs.inside.Endorsing.{unsigned_of}
+use Rattle.auditorium_core.proofs.Imports.{List, ℕ, [], ◌∷◌, subst, Ok, Err, OnSomeFile, Office, IsReadFrom, AtLast}
+use Rattle.auditorium_core.proofs.Imports.{FileThen, GivesBytes, max_signed, GivesOffice, office_file, seen}
+use Rattle.auditorium_core.proofs.Imports.{unsigned_of}
 use Rattle.auditorium_core.proofs.FileSteps.{file_ends, file_joins}
 use Rattle.auditorium_core.proofs.endorse.read_to_sign.Goals as goal
 

@@ -1,6 +1,4 @@
-use Rattle.std.proofs.Common.{◌≡◌, rules}
-use Rattle.auditorium_core.specs.Endorse.{endorse_answer}
-use Rattle.auditorium_core.specs.inside.Endorsing.{unsigned_of}
+use Rattle.auditorium_core.proofs.Imports.{◌≡◌, rules, endorse_answer, unsigned_of}
 use Rattle.auditorium_core.proofs.endorse.signed.Goals as goal
 
 pub returns : goal.returns

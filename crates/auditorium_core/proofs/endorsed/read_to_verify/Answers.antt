@@ -1,7 +1,5 @@
-use Rattle.std.proofs.Common.{[], ◌∷◌}
-use Rattle.auditorium_core.specs.NamedBytes.{AtLast, FileThen, GivesBytes, max_signed, max_small}
-use Rattle.auditorium_core.specs.Outside.{seen}
-use Rattle.auditorium_core.specs.inside.Endorsing.{signed_of}
+use Rattle.auditorium_core.proofs.Imports.{[], ◌∷◌, AtLast, FileThen, GivesBytes, max_signed, max_small, seen}
+use Rattle.auditorium_core.proofs.Imports.{signed_of}
 use Rattle.auditorium_core.proofs.FileSteps.{file_ends, file_joins}
 use Rattle.auditorium_core.proofs.endorsed.read_to_verify.Goals as goal
 

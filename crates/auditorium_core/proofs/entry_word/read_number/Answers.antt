@@ -1,12 +1,8 @@
-use Rattle.std.proofs.Common.{◌∙◌, ◌+◌, sym, subst}
-use Rattle.std.specs.Fmt.{decimal}
-use Rattle.std.proofs.lemmas.Bool.{false≢true}
-use Rattle.std.proofs.lemmas.List.{take_rest}
-use Rattle.roster.specs.Machines.{IsName}
+use Rattle.auditorium_core.proofs.Imports.{◌∙◌, ◌+◌, sym, subst, decimal, false≢true, take_rest, IsName}
 use Rattle.auditorium_core.proofs.EntryTexts.{dot_splits}
 use Rattle.auditorium_core.proofs.entry_word.read_number.Goals as goal
 
--- the text behind the dot would be a number
+-- the text after the dot would be a number
 pub returns-in_default-clause-none : goal.returns-in_default-clause-none
 returns-in_default-clause-none c machine number (is, fits, spelt) =
     let parts = dot_splits c.args.word.now c.in_ok-dot.dot machine (decimal number) c.in_ok-dot.ensures is spelt in

@@ -1,6 +1,5 @@
-use Rattle.std.proofs.Common.{◌∙◌, ap, rules}
-use Rattle.log_files.specs.declared.plain_log.LogFault.TheVariants.{Absent, TooLong, Header}
-use Rattle.auditorium_core.specs.Gaps.{findings_answer}
+use Rattle.auditorium_core.proofs.Imports.{◌∙◌, ap, rules, TooLong, Header, findings_answer}
+use Rattle.log_files.specs.declared.plain_log.LogFault.TheVariants.{Absent}
 use Rattle.auditorium_core.proofs.GapsCommand.{gaps_findings, gaps_refusal}
 use Rattle.auditorium_core.proofs.gaps.gaps.Goals as goal
 

@@ -1,4 +1,4 @@
-use Rattle.auditorium_core.specs.Words.{IsAny, IsStill}
+use Rattle.auditorium_core.proofs.Imports.{IsAny, IsStill}
 use Rattle.auditorium_core.proofs.CitedLaws.{CitedLaws}
 use Rattle.auditorium_core.proofs.Completeness.{complete}
 use Rattle.auditorium_core.proofs.laws.answers_are_complete.Goals as goal

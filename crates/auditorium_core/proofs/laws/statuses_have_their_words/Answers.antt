@@ -1,4 +1,4 @@
-use Rattle.auditorium_core.specs.Words.{IsAny, IsStill}
+use Rattle.auditorium_core.proofs.Imports.{IsAny, IsStill}
 use Rattle.auditorium_core.proofs.Statuses.{status_words}
 use Rattle.auditorium_core.proofs.laws.statuses_have_their_words.Goals as goal
 

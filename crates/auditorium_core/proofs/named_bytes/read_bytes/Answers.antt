@@ -1,9 +1,4 @@
-use Rattle.std.proofs.Common.{inr, refl}
-use Rattle.std.specs.Prelude.{Ok}
-use Rattle.evidence.proofs.FilesRead.{was_read, not_read}
-use Rattle.evidence.proofs.Readings.{stands}
-use Rattle.auditorium_core.specs.NamedBytes.{GivesBytes}
-use Rattle.auditorium_core.specs.Outside.{seen}
+use Rattle.auditorium_core.proofs.Imports.{inr, refl, Ok, was_read, not_read, stands, GivesBytes, seen}
 use Rattle.auditorium_core.proofs.FileSteps.{long_bytes}
 use Rattle.auditorium_core.proofs.named_bytes.read_bytes.Goals as goal
 

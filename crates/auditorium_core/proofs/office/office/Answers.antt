@@ -1,11 +1,7 @@
-use Rattle.std.proofs.Common.{◌≡◌, ◌∙◌, List, ℕ, true, false, ap, sym, subst, rules}
+use Rattle.std.proofs.Common.{true, false}
 use Rattle.std.specs.Prelude.{codes}
-use Rattle.hall_outside.specs.Files.{OnFile}
-use Rattle.evidence.proofs.Readings.{stands}
-use Rattle.auditorium_core.specs.Lines.{refused_answer}
-use Rattle.auditorium_core.specs.OfficeFile.{office_file}
-use Rattle.auditorium_core.specs.Outside.{seen}
-use Rattle.auditorium_core.specs.inside.Presence.{IsThere}
+use Rattle.auditorium_core.proofs.Imports.{◌≡◌, ◌∙◌, List, ℕ, ap, sym, subst, rules, OnFile, stands, refused_answer}
+use Rattle.auditorium_core.proofs.Imports.{office_file, seen, IsThere}
 use Rattle.auditorium_core.proofs.OfficeCommand.{answer_by, office_answered}
 use Rattle.auditorium_core.proofs.office.office.Goals as goal
 

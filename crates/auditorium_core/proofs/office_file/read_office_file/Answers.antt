@@ -1,10 +1,4 @@
-use Rattle.std.proofs.Common.{refl}
-use Rattle.office_key.specs.declared.office.Office.{Office}
-use Rattle.evidence.proofs.FilesRead.{was_read, not_read}
-use Rattle.evidence.proofs.Readings.{stands}
-use Rattle.auditorium_core.specs.NamedBytes.{max_small}
-use Rattle.auditorium_core.specs.OfficeFile.{GivesOffice}
-use Rattle.auditorium_core.specs.Outside.{seen}
+use Rattle.auditorium_core.proofs.Imports.{refl, Office, was_read, not_read, stands, max_small, GivesOffice, seen}
 use Rattle.auditorium_core.proofs.EndorseCommand.{long_office}
 use Rattle.auditorium_core.proofs.office_file.read_office_file.Goals as goal
 

@@ -1,4 +1,4 @@
-use Rattle.auditorium_core.specs.Words.{IsAny, IsStill}
+use Rattle.auditorium_core.proofs.Imports.{IsAny, IsStill}
 use Rattle.auditorium_core.proofs.OfficeNumbers.{endorse_leaves, signed_by_number}
 use Rattle.auditorium_core.proofs.office_laws.endorsements_leave_three_states.Goals as goal
 

@@ -1,4 +1,4 @@
-use Rattle.auditorium_core.specs.Words.{IsAny, IsStill}
+use Rattle.auditorium_core.proofs.Imports.{IsAny, IsStill}
 use Rattle.auditorium_core.proofs.OfficeNumbers.{numbers_rise}
 use Rattle.auditorium_core.proofs.office_laws.numbers_sign_once.Goals as goal
 

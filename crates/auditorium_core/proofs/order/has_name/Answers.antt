@@ -1,5 +1,4 @@
-use Rattle.std.proofs.Common.{◌∙◌, refl, ap, sym, arith}
-use Rattle.roster.specs.declared.post.Post.{Post}
+use Rattle.auditorium_core.proofs.Imports.{◌∙◌, refl, ap, sym, arith, Post}
 use Rattle.auditorium_core.proofs.EntryPlaces.{named_at, none_named}
 use Rattle.auditorium_core.proofs.order.has_name.Goals as goal
 

@@ -1,5 +1,4 @@
-use Rattle.std.proofs.Common.{◌∙◌, ap}
-use Rattle.std.specs.Ordering.{is_lt}
+use Rattle.auditorium_core.proofs.Imports.{◌∙◌, ap, is_lt}
 use Rattle.auditorium_core.proofs.EntryPlaces.{lower_at}
 use Rattle.auditorium_core.proofs.order.is_lower.Goals as goal
 

@@ -1,4 +1,4 @@
-use Rattle.std.proofs.lemmas.Option.{slice_get_within}
+use Rattle.auditorium_core.proofs.Imports.{slice_get_within}
 use Rattle.auditorium_core.proofs.OrderAnswers.{first_refused, second_refused, both_told}
 use Rattle.auditorium_core.proofs.order.order_among.Goals as goal
 

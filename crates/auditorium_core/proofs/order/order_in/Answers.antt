@@ -1,9 +1,4 @@
-use Rattle.std.proofs.Common.{map, string_bytes}
-use Rattle.evidence.specs.declared.roster_file.RosterRead.{RosterRead}
-use Rattle.evidence.specs.RosterFile.{GivesRosterIn}
-use Rattle.auditorium_core.specs.Outside.{seen}
-use Rattle.auditorium_core.specs.Words.{order}
-use Rattle.auditorium_core.specs.Answer.{IsAnswerTo}
+use Rattle.auditorium_core.proofs.Imports.{map, string_bytes, RosterRead, GivesRosterIn, seen, order, IsAnswerTo}
 use Rattle.auditorium_core.proofs.Faults.{refused_answered}
 use Rattle.auditorium_core.proofs.OrderAnswers.{roster_refused}
 use Rattle.auditorium_core.proofs.order.order_in.Goals as goal

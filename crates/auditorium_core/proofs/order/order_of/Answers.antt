@@ -1,11 +1,5 @@
-use Rattle.std.proofs.Common.{subst}
-use Rattle.evidence.specs.declared.roster_file.RosterRead.{RosterRead}
-use Rattle.evidence.specs.Logs.{GivesLogsIn}
-use Rattle.evidence.specs.Reading.{IsReadFrom}
-use Rattle.evidence.specs.RosterFile.{GivesRosterIn}
-use Rattle.evidence.proofs.Steps.{read_then}
-use Rattle.auditorium_core.specs.Answer.{IsAnswerTo}
-use Rattle.auditorium_core.specs.Words.{order}
+use Rattle.auditorium_core.proofs.Imports.{subst, RosterRead, GivesLogsIn, IsReadFrom, GivesRosterIn, read_then}
+use Rattle.auditorium_core.proofs.Imports.{IsAnswerTo, order}
 use Rattle.auditorium_core.proofs.Faults.{refused_answered, found_answered}
 use Rattle.auditorium_core.proofs.OrderAnswers.{log_refused, all_read}
 use Rattle.auditorium_core.proofs.order.order_of.Goals as goal
@@ -22,7 +16,7 @@ returns-in-Ok c = λ roster names old mid new first next.
     _ first last (λ answer before after. after) in
     found_answered (λ logs. logs.items) Logs (IsAnswerTo (order roster x y names)) old new found c.order_over.result
     both
-    (all_read roster x y names old.files c.orders_are_honest.ensures read first.ok found.items both.ok
+    (all_read roster x y names old.files read first.ok found.items both.ok
     c.order_over.result c.order_over.ensures.told)
     c.order_over.ensures.status c.order_over.ensures.fault
 
@@ -37,4 +31,4 @@ returns-in-Err c = λ roster names old mid new first next.
     _ first last (λ answer before after. after) in
     refused_answered (λ logs. logs.items) Logs (IsAnswerTo (order roster x y names)) old new c.in-Err.fault
     c.of_fault.result both c.of_fault.ensures.ok c.of_fault.ensures.err
-    (log_refused roster x y names old.files c.orders_are_honest.ensures read first.ok)
+    (log_refused roster x y names old.files read first.ok)

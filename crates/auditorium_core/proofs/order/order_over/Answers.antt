@@ -1,7 +1,4 @@
-use Rattle.entry_format.specs.SealedEntry.{SealedEntry}
-use Rattle.entry_graph.specs.EntryGraph.{EntryGraph}
-use Rattle.evidence.specs.Graphs.{entries_of, GivesGraph}
-use Rattle.auditorium_core.specs.Order.{IsOrderAmong}
+use Rattle.auditorium_core.proofs.Imports.{SealedEntry, EntryGraph, entries_of, GivesGraph, IsOrderAmong}
 use Rattle.auditorium_core.proofs.Faults.{refused_or}
 use Rattle.auditorium_core.proofs.order.order_over.Goals as goal
 

@@ -1,7 +1,5 @@
-use Rattle.std.proofs.Common.{◌≡◌, List, ℕ, subst}
-use Rattle.auditorium_core.specs.EntryWords.{by_digest, by_number, IsSpelt, IsEntryWord, IsNamedBy}
-use Rattle.auditorium_core.specs.declared.entry_word.Read.{Read}
-use Rattle.auditorium_core.specs.inside.EntryNames.{name_of}
+use Rattle.auditorium_core.proofs.Imports.{◌≡◌, List, ℕ, subst, by_digest, by_number, IsSpelt, IsEntryWord, IsNamedBy}
+use Rattle.auditorium_core.proofs.Imports.{Read, name_of}
 use Rattle.auditorium_core.proofs.EntryTexts.{place_means}
 use Rattle.auditorium_core.proofs.order.place_of.Goals as goal
 

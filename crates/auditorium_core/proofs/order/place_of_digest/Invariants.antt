@@ -1,4 +1,4 @@
-use Rattle.std.proofs.Common.{◌≡◌}
+use Rattle.auditorium_core.proofs.Imports.{◌≡◌}
 use Rattle.auditorium_core.proofs.EntryPlaces.{NoneBefore}
 use Rattle.auditorium_core.proofs.order.place_of_digest.Given as goal
 

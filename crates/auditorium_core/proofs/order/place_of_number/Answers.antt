@@ -1,6 +1,4 @@
-use Rattle.std.proofs.Common.{◌∙◌, ◌+◌, sym, subst, arith}
-use Rattle.std.proofs.lemmas.Bool.{true≢false}
-use Rattle.auditorium_core.specs.EntryWords.{IsNumbered}
+use Rattle.auditorium_core.proofs.Imports.{◌∙◌, ◌+◌, sym, subst, arith, true≢false, IsNumbered}
 use Rattle.auditorium_core.proofs.EntryPlaces.{LeastBefore, least_here, least_passes, least_stays, number_found}
 use Rattle.auditorium_core.proofs.order.place_of_number.Goals.{then-is_numbered+then-is_lower, else-is_numbered}
 use Rattle.auditorium_core.proofs.order.place_of_number.Goals.{else-is_numbered-via-then-is_numbered+else-is_lower}

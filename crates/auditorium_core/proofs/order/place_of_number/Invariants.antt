@@ -1,4 +1,4 @@
-use Rattle.auditorium_core.specs.EntryWords.{IsNumbered}
+use Rattle.auditorium_core.proofs.Imports.{IsNumbered}
 use Rattle.auditorium_core.proofs.EntryPlaces.{LeastBefore}
 use Rattle.auditorium_core.proofs.order.place_of_number.Given as goal
 

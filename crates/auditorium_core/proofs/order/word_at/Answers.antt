@@ -1,9 +1,6 @@
-use Rattle.std.proofs.Common.{◌≡◌, ◌∙◌, Some, ap, sym, subst}
-use Rattle.entry_order.specs.declared.three.Three.{Three}
-use Rattle.entry_order.specs.Ancestors.{before}
-use Rattle.entry_graph.specs.EntryGraph.{parents_of, ragged_of}
-use Rattle.auditorium_core.specs.declared.order_word.OrderWord.{OrderWord}
-use Rattle.auditorium_core.specs.Order.{IsWordOf}
+use Rattle.std.proofs.Common.{Some}
+use Rattle.auditorium_core.proofs.Imports.{◌≡◌, ◌∙◌, ap, sym, subst, Three, before, parents_of, ragged_of, OrderWord}
+use Rattle.auditorium_core.proofs.Imports.{IsWordOf}
 use Rattle.auditorium_core.proofs.OrderWords.{SaysBefore, graph_says, word_is_right}
 use Rattle.auditorium_core.proofs.order.word_at.Goals as goal
 

@@ -1,5 +1,4 @@
-use Rattle.std.proofs.Common.{◌≡◌, ◌++◌, map, take}
-use Rattle.auditorium_core.specs.Play.{log_file}
+use Rattle.auditorium_core.proofs.Imports.{◌≡◌, ◌++◌, map, take, log_file}
 use Rattle.auditorium_core.proofs.play.add_logs.Given as goal
 
 -- the files of the machines so far

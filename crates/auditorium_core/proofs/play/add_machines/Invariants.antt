@@ -1,5 +1,4 @@
-use Rattle.std.proofs.Common.{◌≡◌, ◌++◌, take, string_bytes}
-use Rattle.auditorium_core.specs.Play.{machine_lines}
+use Rattle.auditorium_core.proofs.Imports.{◌≡◌, ◌++◌, take, string_bytes, machine_lines}
 use Rattle.auditorium_core.proofs.play.add_machines.Given as goal
 
 -- the lines of the machines so far

@@ -1,8 +1,5 @@
-use Rattle.std.specs.Prelude.{Ok}
-use Rattle.auditorium_core.specs.Outside.{seen}
+use Rattle.auditorium_core.proofs.Imports.{Ok, seen, IsAnswerTo, GivesScriptIn}
 use Rattle.auditorium_core.specs.Words.{play}
-use Rattle.auditorium_core.specs.Answer.{IsAnswerTo}
-use Rattle.auditorium_core.specs.ScriptFile.{GivesScriptIn}
 use Rattle.auditorium_core.proofs.Faults.{refused_answered, found_answered}
 use Rattle.auditorium_core.proofs.ScriptFiles.{itself}
 use Rattle.auditorium_core.proofs.PlayCommand.{play_refused, play_told, play_is_there}

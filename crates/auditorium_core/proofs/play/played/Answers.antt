@@ -1,11 +1,5 @@
-use Rattle.std.proofs.Common.{◌≡◌, ◌∙◌, List, ap, sym, subst, string_bytes}
-use Rattle.roster.specs.declared.post.Post.{Post}
-use Rattle.roster.specs.Machines.{HaveText}
-use Rattle.polling_world.specs.Keys.{roster_of}
-use Rattle.polling_world.specs.Machines.{MachineState}
-use Rattle.polling_world.specs.Worlds.{WorldState}
-use Rattle.polling_world.proofs.Rosters.{roster_has_text}
-use Rattle.auditorium_core.specs.Play.{SayUndone}
+use Rattle.auditorium_core.proofs.Imports.{◌≡◌, ◌∙◌, List, ap, sym, subst, string_bytes, Post, HaveText, roster_of}
+use Rattle.auditorium_core.proofs.Imports.{MachineState, WorldState, roster_has_text, SayUndone}
 use Rattle.auditorium_core.proofs.HonestPlaces.{players_leave_honest_files}
 use Rattle.auditorium_core.proofs.PlayAnswers.{told_of_play}
 use Rattle.auditorium_core.proofs.play.played.Goals as goal

@@ -1,5 +1,4 @@
-use Rattle.std.proofs.Common.{◌∙◌, ◌++◌, List, ℕ, ap, string_bytes}
-use Rattle.auditorium_core.specs.Play.{undone_line}
+use Rattle.auditorium_core.proofs.Imports.{◌∙◌, ◌++◌, List, ℕ, ap, string_bytes, undone_line}
 use Rattle.auditorium_core.proofs.Undone.{undone_more}
 use Rattle.auditorium_core.proofs.play.undone_lines.Goals as goal
 

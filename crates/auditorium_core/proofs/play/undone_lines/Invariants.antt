@@ -1,5 +1,4 @@
-use Rattle.std.proofs.Common.{take, string_bytes}
-use Rattle.auditorium_core.specs.Play.{SayUndone}
+use Rattle.auditorium_core.proofs.Imports.{take, string_bytes, SayUndone}
 use Rattle.auditorium_core.proofs.play.undone_lines.Given as goal
 
 -- the lines of the machines so far

@@ -1,7 +1,4 @@
-use Rattle.std.proofs.Common.{rules, map, string_bytes}
-use Rattle.auditorium_core.specs.Outside.{seen}
-use Rattle.auditorium_core.specs.Words.{IsStill}
-use Rattle.auditorium_core.specs.inside.Meaning.{asked}
+use Rattle.auditorium_core.proofs.Imports.{rules, map, string_bytes, seen, IsStill, asked}
 use Rattle.auditorium_core.proofs.Endings.{answered_words}
 use Rattle.auditorium_core.proofs.program.answer_of.Goals as goal
 

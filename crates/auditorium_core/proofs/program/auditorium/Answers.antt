@@ -1,9 +1,6 @@
-use Rattle.std.proofs.Common.{Bool, map, string_bytes}
-use Rattle.auditorium_core.specs.Lines.{Answer}
-use Rattle.auditorium_core.specs.Outcome.{IsWrittenAfterReads, IsWrittenBy}
-use Rattle.auditorium_core.specs.Outside.{outside, seen}
-use Rattle.auditorium_core.specs.Words.{IsAny}
-use Rattle.auditorium_core.specs.inside.Meaning.{asked}
+use Rattle.std.proofs.Common.{Bool}
+use Rattle.auditorium_core.proofs.Imports.{map, string_bytes, Answer, IsWrittenAfterReads, IsWrittenBy, outside, seen}
+use Rattle.auditorium_core.proofs.Imports.{IsAny, asked}
 use Rattle.auditorium_core.proofs.Endings.{answered_words, was_done, done_as_any}
 use Rattle.auditorium_core.proofs.program.auditorium.Goals as goal
 

@@ -1,8 +1,6 @@
-use Rattle.std.proofs.Common.{Bool, map, string_bytes}
-use Rattle.auditorium_core.specs.Lines.{Answer}
-use Rattle.auditorium_core.specs.Outcome.{IsWrittenAfterReads, IsWrittenBy}
-use Rattle.auditorium_core.specs.Outside.{outside, seen}
-use Rattle.auditorium_core.specs.Words.{IsStill}
+use Rattle.std.proofs.Common.{Bool}
+use Rattle.auditorium_core.proofs.Imports.{map, string_bytes, Answer, IsWrittenAfterReads, IsWrittenBy, outside, seen}
+use Rattle.auditorium_core.proofs.Imports.{IsStill}
 use Rattle.auditorium_core.proofs.Endings.{was_done}
 use Rattle.auditorium_core.proofs.program.auditorium_still.Goals as goal
 

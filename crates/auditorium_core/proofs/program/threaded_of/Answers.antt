@@ -1,4 +1,4 @@
-use Rattle.auditorium_core.specs.Words.{run}
+use Rattle.auditorium_core.proofs.Imports.{run}
 use Rattle.auditorium_core.proofs.program.threaded_of.Goals as goal
 
 pub returns-in-None-clause-none : goal.returns-in-None-clause-none

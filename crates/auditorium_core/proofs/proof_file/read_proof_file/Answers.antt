@@ -1,10 +1,5 @@
-use Rattle.std.proofs.Common.{List, refl}
-use Rattle.audit_proof.specs.Lines.{Line}
-use Rattle.evidence.proofs.FilesRead.{was_read, not_read}
-use Rattle.evidence.proofs.Readings.{stands}
-use Rattle.auditor.specs.Judged.{nodes_of}
-use Rattle.auditorium_core.specs.Outside.{seen}
-use Rattle.auditorium_core.specs.ProofFile.{max_proof, GivesProof}
+use Rattle.auditorium_core.proofs.Imports.{List, refl, Line, was_read, not_read, stands, nodes_of, seen, max_proof}
+use Rattle.auditorium_core.proofs.Imports.{GivesProof}
 use Rattle.auditorium_core.proofs.CheckAnswers.{long_proof}
 use Rattle.auditorium_core.proofs.proof_file.read_proof_file.Goals as goal
 

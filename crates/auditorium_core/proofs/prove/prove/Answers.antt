@@ -1,9 +1,4 @@
-use Rattle.std.proofs.Common.{map, string_bytes}
-use Rattle.std.specs.Prelude.{Ok}
-use Rattle.auditorium_core.specs.Outside.{seen}
-use Rattle.auditorium_core.specs.Words.{prove}
-use Rattle.auditorium_core.specs.Answer.{IsAnswerTo}
-use Rattle.auditorium_core.specs.inside.Checking.{GivesMadeIn}
+use Rattle.auditorium_core.proofs.Imports.{map, string_bytes, Ok, seen, prove, IsAnswerTo, GivesMadeIn}
 use Rattle.auditorium_core.proofs.Faults.{refused_answered, found_answered}
 use Rattle.auditorium_core.proofs.ProveAnswers.{itself}
 use Rattle.auditorium_core.proofs.ProveCommand.{prove_refused, prove_told, prove_is_there}

@@ -1,5 +1,4 @@
-use Rattle.std.proofs.Common.{map, string_bytes}
-use Rattle.auditorium_core.specs.Outside.{seen}
+use Rattle.auditorium_core.proofs.Imports.{map, string_bytes, seen}
 use Rattle.auditorium_core.proofs.ProveAnswers.{roster_then, roster_ends}
 use Rattle.auditorium_core.proofs.prove.prove_all.Goals as goal
 

@@ -1,5 +1,4 @@
-use Rattle.std.proofs.Common.{◌≡◌, ◌++◌, take, string_bytes}
-use Rattle.auditorium_core.specs.Repair.{mended_lines}
+use Rattle.auditorium_core.proofs.Imports.{◌≡◌, ◌++◌, take, string_bytes, mended_lines}
 use Rattle.auditorium_core.proofs.repair.add_all_mended.Given as goal
 
 -- the lines of the steps so far

@@ -1,13 +1,7 @@
-use Rattle.std.proofs.Common.{◌≡◌, ◌∙◌, ◌++◌, List, length, ap, sym, subst, string_bytes}
+use Rattle.std.proofs.Common.{length}
 use Rattle.std.specs.Prelude.{All}
-use Rattle.roster.specs.declared.post.Post.{Post}
-use Rattle.roster.specs.Machines.{HaveText}
-use Rattle.polling_world.specs.Keys.{roster_of}
-use Rattle.polling_world.specs.Machines.{MachineState}
-use Rattle.polling_world.specs.Steps.{IsStepOf}
-use Rattle.polling_world.specs.Worlds.{WorldState}
-use Rattle.polling_world.proofs.Rosters.{roster_has_text}
-use Rattle.auditorium_core.specs.Play.{SayUndone}
+use Rattle.auditorium_core.proofs.Imports.{◌≡◌, ◌∙◌, ◌++◌, List, ap, sym, subst, string_bytes, Post, HaveText}
+use Rattle.auditorium_core.proofs.Imports.{roster_of, MachineState, IsStepOf, WorldState, roster_has_text, SayUndone}
 use Rattle.auditorium_core.proofs.HonestPlaces.{comers_leave_honest_files}
 use Rattle.auditorium_core.proofs.PlayAnswers.{told_of_repair}
 use Rattle.auditorium_core.proofs.repair.answer_of.Goals as goal

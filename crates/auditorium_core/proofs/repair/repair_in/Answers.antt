@@ -1,8 +1,4 @@
-use Rattle.std.specs.Prelude.{Ok}
-use Rattle.auditorium_core.specs.Outside.{seen}
-use Rattle.auditorium_core.specs.Words.{repair}
-use Rattle.auditorium_core.specs.Answer.{IsAnswerTo}
-use Rattle.auditorium_core.specs.ScriptFile.{GivesScriptIn}
+use Rattle.auditorium_core.proofs.Imports.{Ok, seen, repair, IsAnswerTo, GivesScriptIn}
 use Rattle.auditorium_core.proofs.Faults.{refused_answered, found_answered}
 use Rattle.auditorium_core.proofs.ScriptFiles.{itself}
 use Rattle.auditorium_core.proofs.RepairCommand.{repair_refused, repair_told, repair_is_there}

@@ -1,6 +1,4 @@
-use Rattle.std.proofs.Common.{List, sym, subst}
-use Rattle.entry_order.specs.declared.step.Step.{Step}
-use Rattle.auditorium_core.specs.inside.Repaired.{ComesByRepair}
+use Rattle.auditorium_core.proofs.Imports.{List, sym, subst, Step, ComesByRepair}
 use Rattle.auditorium_core.proofs.Repairs.{comes_by_repair}
 use Rattle.auditorium_core.proofs.repair.repaired.Goals as goal
 

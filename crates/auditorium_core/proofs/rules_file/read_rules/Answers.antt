@@ -1,9 +1,5 @@
-use Rattle.std.proofs.Common.{map, refl}
-use Rattle.rule_language.specs.Forms.{rule_tree}
-use Rattle.evidence.proofs.FilesRead.{was_read, not_read}
-use Rattle.evidence.proofs.Readings.{stands}
-use Rattle.auditor.specs.Sources.{max_rules, GivesRules}
-use Rattle.auditorium_core.specs.Outside.{seen}
+use Rattle.auditorium_core.proofs.Imports.{map, refl, rule_tree, was_read, not_read, stands, max_rules, GivesRules}
+use Rattle.auditorium_core.proofs.Imports.{seen}
 use Rattle.auditorium_core.proofs.CheckAnswers.{long_rules}
 use Rattle.auditorium_core.proofs.rules_file.read_rules.Goals as goal
 

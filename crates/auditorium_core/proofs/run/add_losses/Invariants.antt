@@ -1,5 +1,4 @@
-use Rattle.std.proofs.Common.{◌≡◌, ◌++◌, take, string_bytes}
-use Rattle.auditorium_core.specs.Run.{loss_lines}
+use Rattle.auditorium_core.proofs.Imports.{◌≡◌, ◌++◌, take, string_bytes, loss_lines}
 use Rattle.auditorium_core.proofs.run.add_losses.Given as goal
 
 -- the lines of the losses so far

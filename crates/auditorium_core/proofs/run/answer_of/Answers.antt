@@ -1,9 +1,5 @@
-use Rattle.std.proofs.Common.{◌≡◌, List, map, sym, subst, string_bytes}
-use Rattle.roster.specs.declared.post.Post.{Post}
-use Rattle.roster.specs.Machines.{HaveText}
-use Rattle.polling_world.specs.Machines.{MachineState}
-use Rattle.polling_world.proofs.Rosters.{roster_has_text}
-use Rattle.auditorium_core.specs.Play.{SayUndone}
+use Rattle.auditorium_core.proofs.Imports.{◌≡◌, List, map, sym, subst, string_bytes, Post, HaveText, MachineState}
+use Rattle.auditorium_core.proofs.Imports.{roster_has_text, SayUndone}
 use Rattle.auditorium_core.proofs.PlayAnswers.{told_of_run}
 use Rattle.auditorium_core.proofs.Runs.{between, is_run}
 use Rattle.auditorium_core.proofs.run.answer_of.Goals as goal

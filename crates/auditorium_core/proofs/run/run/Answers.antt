@@ -1,8 +1,4 @@
-use Rattle.std.specs.Prelude.{Ok}
-use Rattle.auditorium_core.specs.Outside.{seen}
-use Rattle.auditorium_core.specs.Words.{run}
-use Rattle.auditorium_core.specs.Answer.{IsAnswerTo}
-use Rattle.auditorium_core.specs.ScriptFile.{GivesScriptIn}
+use Rattle.auditorium_core.proofs.Imports.{Ok, seen, run, IsAnswerTo, GivesScriptIn}
 use Rattle.auditorium_core.proofs.Faults.{refused_answered, found_answered}
 use Rattle.auditorium_core.proofs.ScriptFiles.{itself}
 use Rattle.auditorium_core.proofs.RunCommand.{run_refused, run_told, run_is_there}

@@ -1,8 +1,4 @@
-use Rattle.std.proofs.Common.{refl}
-use Rattle.evidence.proofs.FilesRead.{was_read, not_read}
-use Rattle.evidence.proofs.Readings.{stands}
-use Rattle.auditorium_core.specs.Outside.{seen}
-use Rattle.auditorium_core.specs.ScriptFile.{max_script, GivesScript}
+use Rattle.auditorium_core.proofs.Imports.{refl, was_read, not_read, stands, seen, max_script, GivesScript}
 use Rattle.auditorium_core.proofs.ScriptFiles.{itself, long_script}
 use Rattle.auditorium_core.proofs.script_file.read_script.Goals as goal
 

@@ -11,7 +11,7 @@ returns-in-Err-TooWide-clause-err c =
     wide_with c.args.live.now c.args.entry.now c.in_ok-copy.copy c.in-Err-TooWide.field-0-0 c.in-Err-TooWide.field-0
     c.in-Err-TooWide.place c.in_ok-copy.ensures c.in-Err-TooWide.field-0-is c.in-Err-TooWide.ensures.answer
 
--- it isn't refused for anything else
+-- an entry isn't refused as one too many
 pub unreachable-requires-in-Err-TooMany : goal.unreachable-requires-in-Err-TooMany
 unreachable-requires-in-Err-TooMany c =
     never_full c.args.live.now c.args.entry.now c.in_ok-copy.copy c.in-Err-TooMany.field-0-0 c.in-Err-TooMany.field-0

@@ -1,5 +1,4 @@
-use Rattle.std.proofs.Common.{◌≡◌, ◌++◌, map, take}
-use Rattle.evidence.specs.Graphs.{entries_of_records}
+use Rattle.auditorium_core.proofs.Imports.{◌≡◌, ◌++◌, map, take, entries_of_records}
 use Rattle.auditorium_core.proofs.watch.add_kept.Given as goal
 
 -- the entries of the records so far

@@ -1,4 +1,5 @@
-use Rattle.std.proofs.Common.{length, string_bytes}
+use Rattle.auditorium_core.proofs.Imports.{string_bytes}
+use Rattle.std.proofs.Common.{length}
 use Rattle.auditorium_core.proofs.WatchSteps.{halves_added, line_told}
 use Rattle.auditorium_core.proofs.watch.add_line.Goals as goal
 

@@ -1,9 +1,6 @@
-use Rattle.std.proofs.Common.{rules, ◌≡◌, ◌+◌, ◌++◌, ◌∷◌, [], map, take, length, true, false, refl, sym, subst}
-use Rattle.std.specs.List.{list_any}
-use Rattle.std.specs.Str.{bytes_eq}
-use Rattle.std.proofs.lemmas.Bool.{false≢true}
-use Rattle.entry_format.specs.Nodes.{node_of_sealed}
-use Rattle.entry_graph.specs.Given.{distinct}
+use Rattle.std.proofs.Common.{length, true, false}
+use Rattle.auditorium_core.proofs.Imports.{rules, ◌≡◌, ◌+◌, ◌++◌, ◌∷◌, [], map, take, refl, sym, subst, list_any}
+use Rattle.auditorium_core.proofs.Imports.{bytes_eq, false≢true, node_of_sealed, distinct}
 use Rattle.auditorium_core.proofs.WatchSteps.{counted, few_of, not_counted, too_many_of}
 use Rattle.auditorium_core.proofs.watch.are_few_distinct.Goals as goal
 use Rattle.auditorium_core.proofs.watch.are_few_distinct.Goals.{then-not-some_has+else-len-eq-MOST_WATCHED+in_ok-push}

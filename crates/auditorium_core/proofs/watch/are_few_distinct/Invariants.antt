@@ -1,6 +1,5 @@
-use Rattle.std.proofs.Common.{◌≡◌, ◌≤◌, map, take, length}
-use Rattle.entry_format.specs.Nodes.{node_of_sealed}
-use Rattle.entry_graph.specs.Given.{distinct}
+use Rattle.std.proofs.Common.{length}
+use Rattle.auditorium_core.proofs.Imports.{◌≡◌, ◌≤◌, map, take, node_of_sealed, distinct}
 use Rattle.auditorium_core.proofs.watch.are_few_distinct.Given as goal
 
 -- the different ones of the entries so far, of which there aren't too many

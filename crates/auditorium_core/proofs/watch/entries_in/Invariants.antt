@@ -1,5 +1,4 @@
-use Rattle.std.proofs.Common.{◌≡◌, map, take}
-use Rattle.evidence.specs.Graphs.{entries_of}
+use Rattle.auditorium_core.proofs.Imports.{◌≡◌, map, take, entries_of}
 use Rattle.auditorium_core.proofs.watch.entries_in.Given as goal
 
 -- the entries of the logs so far

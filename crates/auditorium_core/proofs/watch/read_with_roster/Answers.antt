@@ -1,8 +1,4 @@
-use Rattle.std.proofs.Common.{◌∙◌, ap, map, sym, string_bytes}
-use Rattle.rule_language.specs.Forms.{rule_tree}
-use Rattle.auditor.specs.Sources.{source_of}
-use Rattle.auditorium_core.specs.Outside.{seen}
-use Rattle.auditorium_core.specs.Audit.{source_named}
+use Rattle.auditorium_core.proofs.Imports.{◌∙◌, ap, map, sym, string_bytes, rule_tree, source_of, seen, source_named}
 use Rattle.auditorium_core.proofs.WatchReads.{standard_found, rules_found, rules_refused}
 use Rattle.auditorium_core.proofs.watch.read_with_roster.Goals as goal
 

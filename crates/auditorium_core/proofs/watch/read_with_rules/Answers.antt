@@ -1,6 +1,4 @@
-use Rattle.std.proofs.Common.{map, refl, string_bytes}
-use Rattle.rule_language.specs.Forms.{rule_tree}
-use Rattle.auditorium_core.specs.Outside.{seen}
+use Rattle.auditorium_core.proofs.Imports.{map, refl, string_bytes, rule_tree, seen}
 use Rattle.auditorium_core.proofs.WatchReads.{logs_found, logs_refused}
 use Rattle.auditorium_core.proofs.watch.read_with_rules.Goals as goal
 

@@ -1,11 +1,5 @@
-use Rattle.std.proofs.Common.{map, refl, string_bytes}
-use Rattle.std.specs.Prelude.{Ok}
-use Rattle.auditorium_core.specs.Outside.{seen}
-use Rattle.auditorium_core.specs.Audit.{source_named}
-use Rattle.auditorium_core.specs.Lines.{Answer}
-use Rattle.auditorium_core.specs.Words.{watch}
-use Rattle.auditorium_core.specs.Answer.{IsAnswerTo}
-use Rattle.auditorium_core.specs.inside.Watching.{GivesWatchIn}
+use Rattle.auditorium_core.proofs.Imports.{map, refl, string_bytes, Ok, seen, source_named, Answer, watch, IsAnswerTo}
+use Rattle.auditorium_core.proofs.Imports.{GivesWatchIn}
 use Rattle.auditorium_core.proofs.Faults.{refused_answered, found_answered}
 use Rattle.auditorium_core.proofs.WatchCommand.{watch_refused, watch_told}
 use Rattle.auditorium_core.proofs.watch.watch.Goals as goal

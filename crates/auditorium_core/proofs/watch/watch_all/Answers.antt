@@ -1,7 +1,4 @@
-use Rattle.std.proofs.Common.{map, string_bytes}
-use Rattle.auditorium_core.specs.Outside.{seen}
-use Rattle.auditorium_core.specs.Audit.{source_named}
-use Rattle.auditorium_core.specs.inside.Watching.{evidence_of}
+use Rattle.auditorium_core.proofs.Imports.{map, string_bytes, seen, source_named, evidence_of}
 use Rattle.auditorium_core.proofs.WatchReads.{evidence_of_machines, evidence_refused, evidence_watched}
 use Rattle.auditorium_core.proofs.watch.watch_all.Goals as goal
 

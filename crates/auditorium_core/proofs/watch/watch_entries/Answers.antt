@@ -1,9 +1,5 @@
-use Rattle.std.proofs.Common.{◌≡◌, ◌++◌, List, ℕ, ◌+◌, map, take, sym, subst, string_bytes}
-use Rattle.entry_format.specs.SealedEntry.{SealedEntry}
-use Rattle.roster.specs.declared.post.Post.{Post}
-use Rattle.rule_language.specs.Forms.{rule_tree}
-use Rattle.live_auditor.specs.Live.{IsOfMachine}
-use Rattle.auditorium_core.specs.inside.Watching.{AreLinesOf}
+use Rattle.auditorium_core.proofs.Imports.{◌≡◌, ◌++◌, List, ℕ, ◌+◌, map, take, sym, subst, string_bytes, SealedEntry}
+use Rattle.auditorium_core.proofs.Imports.{Post, rule_tree, IsOfMachine, AreLinesOf}
 use Rattle.auditorium_core.proofs.WatchSteps.{after_same, collides_not, has_room, not_added, read_all, read_at}
 use Rattle.auditorium_core.proofs.WatchSteps.{read_within, same_audit, stands_then, told_more}
 use Rattle.auditorium_core.proofs.watch.watch_entries.Goals as goal

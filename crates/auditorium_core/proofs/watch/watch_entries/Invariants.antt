@@ -1,10 +1,5 @@
-use Rattle.std.proofs.Common.{map, take, string_bytes}
-use Rattle.entry_format.specs.Nodes.{node_of_sealed}
-use Rattle.rule_language.specs.Forms.{rule_tree}
-use Rattle.evidence.specs.inside.Copies.{StandFor, text_of_sealed}
-use Rattle.live_auditor.specs.Adding.{IsOfSameAudit}
-use Rattle.live_auditor.specs.Live.{IsLive}
-use Rattle.auditorium_core.specs.inside.Watching.{AreLinesOf}
+use Rattle.auditorium_core.proofs.Imports.{map, take, string_bytes, node_of_sealed, rule_tree, StandFor}
+use Rattle.auditorium_core.proofs.Imports.{text_of_sealed, IsOfSameAudit, IsLive, AreLinesOf}
 use Rattle.auditorium_core.proofs.watch.watch_entries.Given as goal
 
 -- what was added stands for the entries so far, of which the lines are

@@ -1,12 +1,6 @@
-use Rattle.std.proofs.Common.{◌∙◌, List, inr, refl, subst, sym}
-use Rattle.std.specs.Prelude.{Ok, Err, IfOk, IfErr, IfSome}
-use Rattle.log_files.specs.declared.sealed_log.LogRead.{LogRead}
-use Rattle.evidence.specs.Graphs.{entries_of, GivesGraph}
-use Rattle.evidence.specs.Refusal.{refusal_of}
-use Rattle.evidence.proofs.Steps.{on_refusal}
-use Rattle.auditorium_core.specs.Audit.{source_named}
-use Rattle.auditorium_core.specs.Watch.{Watches}
-use Rattle.auditorium_core.specs.inside.Watching.{evidence_by, evidence_of}
+use Rattle.auditorium_core.proofs.Imports.{◌∙◌, List, inr, refl, subst, sym, Ok, Err, IfOk, IfErr, IfSome, LogRead}
+use Rattle.auditorium_core.proofs.Imports.{entries_of, GivesGraph, refusal_of, on_refusal, source_named, Watches}
+use Rattle.auditorium_core.proofs.Imports.{evidence_by, evidence_of}
 use Rattle.auditorium_core.proofs.watch.watch_evidence.Goals as goal
 
 pub watch_graph-requires-clause-graphed : goal.watch_graph-requires-clause-graphed

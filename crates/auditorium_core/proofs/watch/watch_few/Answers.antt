@@ -1,13 +1,7 @@
-use Rattle.std.proofs.Common.{◌∙◌, map, subst, sym, string_bytes}
+use Rattle.auditorium_core.proofs.Imports.{◌∙◌, map, subst, sym, string_bytes, node_of_sealed, SealedEntry}
+use Rattle.auditorium_core.proofs.Imports.{HasNoCollision, entries_of, text_of_sealed, IsOfMachine, Outcome}
+use Rattle.auditorium_core.proofs.Imports.{AreFewDistinct}
 use Rattle.std.specs.Prelude.{All}
-use Rattle.entry_format.specs.Nodes.{node_of_sealed}
-use Rattle.entry_format.specs.SealedEntry.{SealedEntry}
-use Rattle.entry_graph.specs.Given.{HasNoCollision}
-use Rattle.evidence.specs.Graphs.{entries_of}
-use Rattle.evidence.specs.inside.Copies.{text_of_sealed}
-use Rattle.live_auditor.specs.Live.{IsOfMachine}
-use Rattle.auditor.specs.declared.outcome.Outcome.{Outcome}
-use Rattle.auditorium_core.specs.Watch.{AreFewDistinct}
 use Rattle.auditorium_core.proofs.WatchSteps.{lines_told, told_there, too_wide, unwatched_there}
 use Rattle.auditorium_core.proofs.watch.watch_few.Goals as goal
 

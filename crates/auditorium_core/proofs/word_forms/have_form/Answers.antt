@@ -1,7 +1,5 @@
-use Rattle.std.proofs.Common.{ℕ, List, map, get_or, string_bytes, refl}
-use Rattle.std.proofs.lemmas.Bool.{false≢true}
-use borrow.Author.Count.{below_more}
-use Rattle.auditorium_core.specs.WordForms.{IsCommandWord}
+use Rattle.auditorium_core.proofs.Imports.{ℕ, List, map, get_or, string_bytes, refl, false≢true, below_more}
+use Rattle.auditorium_core.proofs.Imports.{IsCommandWord}
 use Rattle.auditorium_core.proofs.WordLists.{has_form_at, lacks_form_at, all_have_form}
 use Rattle.auditorium_core.proofs.word_forms.have_form.Goals as goal
 

@@ -1,5 +1,4 @@
-use Rattle.std.proofs.Common.{ℕ, ◌<◌, List, map, get_or, string_bytes}
-use Rattle.auditorium_core.specs.WordForms.{IsCommandWord}
+use Rattle.auditorium_core.proofs.Imports.{ℕ, ◌<◌, List, map, get_or, string_bytes, IsCommandWord}
 use Rattle.auditorium_core.proofs.word_forms.have_form.Given as goal
 
 -- the words so far have the form

@@ -1,8 +1,7 @@
 -- The word of a number that is out of the range is that of no other.
-use Rattle.std.proofs.Common.{◌≡◌, ◌∙◌, ℕ, ◌<◌, ◌^◌, ◌⊎◌, List, sym, arith, inl, inr}
-use Rattle.std.specs.Fmt.{decimal}
-use Rattle.std.proofs.lemmas.Fmt.{decimal_injective}
-use Rattle.auditorium_core.specs.WordForms.{AreSessions}
+use Rattle.std.proofs.Common.{◌⊎◌}
+use Rattle.auditorium_core.proofs.Imports.{◌≡◌, ◌∙◌, ℕ, ◌<◌, ◌^◌, List, sym, arith, inl, inr, decimal}
+use Rattle.auditorium_core.proofs.Imports.{decimal_injective, AreSessions}
 use Rattle.auditorium_core.proofs.word_forms.sessions_of.Goals as goal
 
 none_in_range : (number : ℕ) (word : List ℕ) → word ≡ decimal number → number < 2 ^ 32 →

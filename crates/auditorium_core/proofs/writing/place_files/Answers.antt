@@ -1,6 +1,5 @@
-use Rattle.std.proofs.Common.{◌≡◌, ◌∙◌, ℕ, List, length, Bool, true, false, sym, subst, rules}
-use Rattle.std.specs.Prelude.{is_ok}
-use Rattle.auditorium_core.specs.Outcome.{PlacesAll, PutsAll, not_put}
+use Rattle.std.proofs.Common.{length, Bool, true, false}
+use Rattle.auditorium_core.proofs.Imports.{◌≡◌, ◌∙◌, ℕ, List, sym, subst, rules, is_ok, PlacesAll, PutsAll, not_put}
 use Rattle.auditorium_core.proofs.Calls.{none_placed, placed}
 use Rattle.auditorium_core.proofs.Cuts.{all_set_where}
 use Rattle.auditorium_core.proofs.writing.place_files.Goals as goal

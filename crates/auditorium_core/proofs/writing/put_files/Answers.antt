@@ -1,10 +1,7 @@
-use Rattle.std.proofs.Common.{◌≡◌, ◌∙◌, List, ℕ, Bool, true, false, ap, sym, subst, rules}
-use Rattle.std.specs.Prelude.{is_ok}
-use Rattle.hall_outside.specs.Files.{with_file}
-use Rattle.hall_outside.proofs.Offers.{unrisen}
-use Rattle.auditorium_core.specs.Outcome.{PutsAll, all_put}
+use Rattle.std.proofs.Common.{Bool, true, false}
+use Rattle.auditorium_core.proofs.Imports.{◌≡◌, ◌∙◌, List, ℕ, ap, sym, subst, rules, is_ok, with_file, unrisen}
+use Rattle.auditorium_core.proofs.Imports.{PutsAll, all_put, drop_all}
 use Rattle.auditorium_core.proofs.Calls.{as_put, put_next, put_fails, set_next, some_next}
-use Rattle.std.proofs.lemmas.List.{drop_all}
 use Rattle.auditorium_core.proofs.writing.put_files.Goals as goal
 
 pub returns-in_err-put_file-clause-calls : goal.returns-in_err-put_file-clause-calls

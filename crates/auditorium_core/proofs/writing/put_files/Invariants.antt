@@ -1,6 +1,5 @@
-use Rattle.std.proofs.Common.{◌≡◌, Option, Bool, drop}
-use Rattle.hall_outside.specs.Files.{Files}
-use Rattle.auditorium_core.specs.Outcome.{with_files, SetsSome, PutsAll}
+use Rattle.std.proofs.Common.{Option, Bool}
+use Rattle.auditorium_core.proofs.Imports.{◌≡◌, drop, Files, with_files, SetsSome, PutsAll}
 use Rattle.auditorium_core.proofs.writing.put_files.Given as goal
 
 -- what is left to be written leads to what all files lead to

@@ -1,5 +1,4 @@
-use Rattle.std.proofs.Common.{rules}
-use Rattle.auditorium_core.specs.Outside.{outside}
+use Rattle.auditorium_core.proofs.Imports.{rules, outside}
 use Rattle.auditorium_core.proofs.Cuts.{output_cut}
 use Rattle.auditorium_core.proofs.writing.write_answer.Goals as goal
 

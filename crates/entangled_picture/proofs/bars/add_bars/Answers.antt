@@ -1,7 +1,4 @@
-use Rattle.std.proofs.Common.{◌∙◌, ◌++◌, ap}
-use Rattle.std.specs.Prelude.{Option, option_to_list, slice_get}
-use Rattle.entangled_picture.specs.declared.shape.Shape.{Shape}
-use Rattle.entangled_picture.specs.Marks.{bar_to}
+use Rattle.entangled_picture.proofs.Imports.{◌∙◌, ◌++◌, ap, Option, option_to_list, slice_get, Shape, bar_to}
 use Rattle.entangled_picture.proofs.Pieces.{place_more}
 use Rattle.entangled_picture.proofs.bars.add_bars.Goals as goal
 

@@ -1,7 +1,4 @@
-use Rattle.std.proofs.Common.{◌≡◌, ◌++◌}
-use Rattle.std.specs.Prelude.{option_to_list, slice_get}
-use Rattle.std.specs.List.{flat_map, range_with_len}
-use Rattle.entangled_picture.specs.Marks.{bar_to}
+use Rattle.entangled_picture.proofs.Imports.{◌≡◌, ◌++◌, option_to_list, slice_get, flat_map, range_with_len, bar_to}
 use Rattle.entangled_picture.proofs.bars.add_bars.Given as goal
 
 -- the bars so far

@@ -1,5 +1,4 @@
-use Rattle.std.proofs.Common.{◌≡◌, ◌∙◌, ℕ, ◌+◌, ◌-◌, ap, sym, arith}
-use Rattle.entangled_picture.specs.Marks.{run_before}
+use Rattle.entangled_picture.proofs.Imports.{◌≡◌, ◌∙◌, ℕ, ◌+◌, ◌-◌, ap, sym, arith, run_before}
 use Rattle.entangled_picture.proofs.Runs.{run_met, run_on}
 use Rattle.entangled_picture.proofs.bars.run_before.Goals as goal
 

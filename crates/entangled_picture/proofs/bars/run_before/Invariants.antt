@@ -1,8 +1,7 @@
-use Rattle.std.proofs.Common.{◌≡◌, ◌+◌, ◌≤◌}
-use Rattle.entangled_picture.specs.Marks.{run_before}
+use Rattle.entangled_picture.proofs.Imports.{◌≡◌, ◌+◌, ◌≤◌, run_before}
 use Rattle.entangled_picture.proofs.bars.run_before.Given as goal
 
--- what is found from here on is what is found, and what was passed is behind
+-- the run before the place is the run before what is left, and no more were passed than places
 abbrev pub invariant-back : goal.invariant-back
 invariant-back l = record {
   same : run_before l.placed l.maker l.at l.passed ≡ run_before l.placed l.maker l.place 0;

@@ -1,5 +1,4 @@
-use Rattle.std.proofs.Common.{◌∙◌, ◌++◌, ◌∷◌, [], Bool, ap}
-use Rattle.entangled_picture.specs.Places.{is_drawn}
+use Rattle.entangled_picture.proofs.Imports.{◌∙◌, ◌++◌, ◌∷◌, [], Bool, ap, is_drawn}
 use Rattle.entangled_picture.proofs.Pieces.{item_more}
 use Rattle.entangled_picture.proofs.drawn.drawn_of.Goals as goal
 

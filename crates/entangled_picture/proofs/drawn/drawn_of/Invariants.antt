@@ -1,6 +1,4 @@
-use Rattle.std.proofs.Common.{◌≡◌, map}
-use Rattle.std.specs.List.{range_with_len}
-use Rattle.entangled_picture.specs.Places.{is_drawn}
+use Rattle.entangled_picture.proofs.Imports.{◌≡◌, map, range_with_len, is_drawn}
 use Rattle.entangled_picture.proofs.drawn.drawn_of.Given as goal
 
 -- the survivors so far

@@ -1,5 +1,4 @@
-use Rattle.std.proofs.Common.{◌≡◌, string_bytes, take}
-use Rattle.entangled_picture.specs.Escaping.{escaped}
+use Rattle.entangled_picture.proofs.Imports.{◌≡◌, string_bytes, take, escaped}
 use Rattle.entangled_picture.proofs.escaping.escaped.Given as goal
 
 -- the bytes so far

@@ -1,5 +1,4 @@
-use Rattle.std.proofs.Common.{◌∙◌, ◌++◌, [], List, ℕ, ap, get_or}
-use Rattle.entangled_picture.specs.Marks.{gap_of}
+use Rattle.entangled_picture.proofs.Imports.{◌∙◌, ◌++◌, [], List, ℕ, ap, get_or, gap_of}
 use Rattle.entangled_picture.proofs.Pieces.{place_more}
 use Rattle.entangled_picture.proofs.gap_marks.add_gaps.Goals as goal
 

@@ -1,6 +1,4 @@
-use Rattle.std.proofs.Common.{◌≡◌, ◌++◌, [], get_or}
-use Rattle.std.specs.List.{flat_map, range_with_len}
-use Rattle.entangled_picture.specs.Marks.{gap_of}
+use Rattle.entangled_picture.proofs.Imports.{◌≡◌, ◌++◌, [], get_or, flat_map, range_with_len, gap_of}
 use Rattle.entangled_picture.proofs.gap_marks.add_gaps.Given as goal
 
 -- the gaps so far

@@ -1,7 +1,4 @@
-use Rattle.std.proofs.Common.{◌∙◌, ◌++◌, ap}
-use Rattle.std.specs.Prelude.{Option, option_to_list}
-use Rattle.entangled_picture.specs.declared.shape.Shape.{Shape}
-use Rattle.entangled_picture.specs.Marks.{loss_at}
+use Rattle.entangled_picture.proofs.Imports.{◌∙◌, ◌++◌, ap, Option, option_to_list, Shape, loss_at}
 use Rattle.entangled_picture.proofs.Pieces.{place_more}
 use Rattle.entangled_picture.proofs.gap_marks.add_losses.Goals as goal
 

@@ -1,7 +1,4 @@
-use Rattle.std.proofs.Common.{◌≡◌, ◌++◌}
-use Rattle.std.specs.Prelude.{option_to_list}
-use Rattle.std.specs.List.{flat_map, range_with_len}
-use Rattle.entangled_picture.specs.Marks.{loss_at}
+use Rattle.entangled_picture.proofs.Imports.{◌≡◌, ◌++◌, option_to_list, flat_map, range_with_len, loss_at}
 use Rattle.entangled_picture.proofs.gap_marks.add_losses.Given as goal
 
 -- the arrows so far

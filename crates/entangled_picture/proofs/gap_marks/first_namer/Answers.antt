@@ -1,4 +1,4 @@
-use Rattle.std.proofs.Common.{rules, ◌∙◌, sym}
+use Rattle.entangled_picture.proofs.Imports.{rules, ◌∙◌, sym}
 use Rattle.entangled_picture.proofs.Namers.{namer_here, namer_on}
 use Rattle.entangled_picture.proofs.gap_marks.first_namer.Goals as goal
 

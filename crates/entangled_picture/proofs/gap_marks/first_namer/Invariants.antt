@@ -1,7 +1,4 @@
-use Rattle.std.proofs.Common.{◌≡◌, ◌-◌, length}
-use Rattle.std.specs.Prelude.{find, slice_get}
-use Rattle.std.specs.List.{range_with_len}
-use Rattle.entangled_picture.specs.Marks.{first_namer, names_it}
+use Rattle.entangled_picture.proofs.Imports.{◌≡◌, ◌-◌, length, find, slice_get, range_with_len, first_namer, names_it}
 use Rattle.entangled_picture.proofs.gap_marks.first_namer.Given as goal
 
 -- none so far

@@ -1,6 +1,4 @@
-use Rattle.std.proofs.Common.{[], map}
-use Rattle.std.specs.List.{zip}
-use Rattle.entangled_picture.specs.Places.{drawn_of, seen_of}
+use Rattle.entangled_picture.proofs.Imports.{[], map, zip, drawn_of, seen_of}
 use Rattle.entangled_picture.proofs.StampOrder.{by_stamps, rising_from_nothing}
 use Rattle.entangled_picture.proofs.laws.columns_go_by_stamps.Goals as goal
 

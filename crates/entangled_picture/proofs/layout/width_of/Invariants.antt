@@ -1,7 +1,4 @@
-use Rattle.std.proofs.Common.{◌≡◌, ◌<◌, ◌^◌, take}
-use Rattle.std.specs.Prelude.{max}
-use Rattle.std.specs.List.{fold}
-use Rattle.entangled_picture.specs.Layout.{right_of, foot_of, y_of}
+use Rattle.entangled_picture.proofs.Imports.{◌≡◌, ◌<◌, ◌^◌, take, max, fold, right_of, foot_of, y_of}
 use Rattle.entangled_picture.proofs.layout.width_of.Given as goal
 
 -- the greatest so far

@@ -1,5 +1,4 @@
-use Rattle.std.proofs.Common.{◌≡◌, ◌++◌, map}
-use Rattle.std.specs.List.{range_with_len}
+use Rattle.entangled_picture.proofs.Imports.{◌≡◌, ◌++◌, map, range_with_len}
 use Rattle.entangled_picture.specs.declared.shape.Shape.TheVariants as shape
 use Rattle.entangled_picture.proofs.log_marks.add_lanes.Given as goal
 

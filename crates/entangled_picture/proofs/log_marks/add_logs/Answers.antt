@@ -1,9 +1,5 @@
-use Rattle.std.proofs.Common.{◌≡◌, ◌∙◌, ◌++◌, List, ap, sym, refl, length}
-use Rattle.std.specs.Prelude.{Option, Some, slice_get}
-use Rattle.std.proofs.lemmas.Option.{slice_get_read}
-use Rattle.log_files.specs.declared.sealed_log.LogRead.{LogRead}
-use Rattle.entangled_picture.specs.declared.shape.Spot.{Spot}
-use Rattle.entangled_picture.specs.LogMarks.{log_at, marks_of_log}
+use Rattle.entangled_picture.proofs.Imports.{◌≡◌, ◌∙◌, ◌++◌, List, ap, sym, refl, length, Option, Some, slice_get}
+use Rattle.entangled_picture.proofs.Imports.{slice_get_read, LogRead, Spot, log_at, marks_of_log}
 use Rattle.entangled_picture.proofs.Pieces.{place_more}
 use Rattle.entangled_picture.proofs.log_marks.add_logs.Goals as goal
 

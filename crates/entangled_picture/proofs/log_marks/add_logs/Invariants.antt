@@ -1,7 +1,4 @@
-use Rattle.std.proofs.Common.{◌≡◌, ◌++◌}
-use Rattle.std.specs.Prelude.{slice_get}
-use Rattle.std.specs.List.{flat_map, range_with_len}
-use Rattle.entangled_picture.specs.LogMarks.{log_at}
+use Rattle.entangled_picture.proofs.Imports.{◌≡◌, ◌++◌, slice_get, flat_map, range_with_len, log_at}
 use Rattle.entangled_picture.proofs.log_marks.add_logs.Given as goal
 
 -- the logs so far

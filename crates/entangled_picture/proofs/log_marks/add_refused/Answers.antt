@@ -1,8 +1,5 @@
-use Rattle.std.proofs.Common.{◌∙◌, ◌++◌, ℕ, ap, sym}
-use Rattle.std.specs.Prelude.{Option, option_to_list, slice_get}
-use Rattle.std.proofs.lemmas.Option.{slice_get-get_or}
-use Rattle.entry_format.specs.declared.plain.EntryFault.{EntryFault}
-use Rattle.entangled_picture.specs.LogMarks.{refused_at}
+use Rattle.entangled_picture.proofs.Imports.{◌∙◌, ◌++◌, ℕ, ap, sym, Option, option_to_list, slice_get}
+use Rattle.entangled_picture.proofs.Imports.{slice_get-get_or, EntryFault, refused_at}
 use Rattle.entangled_picture.proofs.Pieces.{place_more}
 use Rattle.entangled_picture.proofs.log_marks.add_refused.Goals as goal
 

@@ -1,7 +1,5 @@
-use Rattle.std.proofs.Common.{◌≡◌, ◌++◌}
-use Rattle.std.specs.Prelude.{option_to_list, slice_get}
-use Rattle.std.specs.List.{flat_map, range_with_len}
-use Rattle.entangled_picture.specs.LogMarks.{refused_at}
+use Rattle.entangled_picture.proofs.Imports.{◌≡◌, ◌++◌, option_to_list, slice_get, flat_map, range_with_len}
+use Rattle.entangled_picture.proofs.Imports.{refused_at}
 use Rattle.entangled_picture.proofs.log_marks.add_refused.Given as goal
 
 -- the marks so far

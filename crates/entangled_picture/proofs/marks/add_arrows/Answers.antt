@@ -1,4 +1,4 @@
-use Rattle.entangled_picture.specs.Marks.{arrows_from}
+use Rattle.entangled_picture.proofs.Imports.{arrows_from}
 use Rattle.entangled_picture.proofs.Pieces.{place_more}
 use Rattle.entangled_picture.proofs.marks.add_arrows.Goals as goal
 

@@ -1,6 +1,4 @@
-use Rattle.std.proofs.Common.{◌≡◌, ◌++◌}
-use Rattle.std.specs.List.{flat_map, range_with_len}
-use Rattle.entangled_picture.specs.Marks.{arrows_from}
+use Rattle.entangled_picture.proofs.Imports.{◌≡◌, ◌++◌, flat_map, range_with_len, arrows_from}
 use Rattle.entangled_picture.proofs.marks.add_arrows.Given as goal
 
 -- the arrows so far

@@ -1,7 +1,4 @@
-use Rattle.std.proofs.Common.{◌≡◌, ◌++◌, take}
-use Rattle.std.specs.Prelude.{option_to_list}
-use Rattle.std.specs.List.{flat_map}
-use Rattle.entangled_picture.specs.Marks.{arrow_at}
+use Rattle.entangled_picture.proofs.Imports.{◌≡◌, ◌++◌, take, option_to_list, flat_map, arrow_at}
 use Rattle.entangled_picture.proofs.marks.add_arrows_from.Given as goal
 
 -- the arrows so far

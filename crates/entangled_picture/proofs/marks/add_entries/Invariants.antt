@@ -1,5 +1,4 @@
-use Rattle.std.proofs.Common.{◌≡◌, ◌++◌, take}
-use Rattle.entangled_picture.specs.Marks.{entry_marks}
+use Rattle.entangled_picture.proofs.Imports.{◌≡◌, ◌++◌, take, entry_marks}
 use Rattle.entangled_picture.proofs.marks.add_entries.Given as goal
 
 -- the marks so far

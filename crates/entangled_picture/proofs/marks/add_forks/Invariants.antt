@@ -1,5 +1,4 @@
-use Rattle.std.proofs.Common.{◌≡◌, ◌++◌, take}
-use Rattle.entangled_picture.specs.Marks.{forks_of}
+use Rattle.entangled_picture.proofs.Imports.{◌≡◌, ◌++◌, take, forks_of}
 use Rattle.entangled_picture.proofs.marks.add_forks.Given as goal
 
 -- the marks so far

@@ -1,4 +1,4 @@
-use Rattle.entangled_picture.specs.Marks.{lights_by}
+use Rattle.entangled_picture.proofs.Imports.{lights_by}
 use Rattle.entangled_picture.proofs.Pieces.{place_more}
 use Rattle.entangled_picture.proofs.marks.add_lights.Goals as goal
 

@@ -1,6 +1,4 @@
-use Rattle.std.proofs.Common.{◌≡◌, ◌++◌}
-use Rattle.std.specs.List.{flat_map, range_with_len}
-use Rattle.entangled_picture.specs.Marks.{lights_by}
+use Rattle.entangled_picture.proofs.Imports.{◌≡◌, ◌++◌, flat_map, range_with_len, lights_by}
 use Rattle.entangled_picture.proofs.marks.add_lights.Given as goal
 
 -- the lights so far

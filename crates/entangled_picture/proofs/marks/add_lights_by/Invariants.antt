@@ -1,7 +1,4 @@
-use Rattle.std.proofs.Common.{◌≡◌, ◌++◌, take}
-use Rattle.std.specs.Prelude.{option_to_list}
-use Rattle.std.specs.List.{flat_map}
-use Rattle.entangled_picture.specs.Marks.{light_in, spot_at}
+use Rattle.entangled_picture.proofs.Imports.{◌≡◌, ◌++◌, take, option_to_list, flat_map, light_in, spot_at}
 use Rattle.entangled_picture.proofs.marks.add_lights_by.Given as goal
 
 -- the lights so far

@@ -1,4 +1,4 @@
-use Rattle.std.proofs.Common.{[], get_or}
+use Rattle.entangled_picture.proofs.Imports.{[], get_or}
 use Rattle.entangled_picture.specs.declared.shape.Shape.TheVariants as shape
 use Rattle.entangled_picture.proofs.Pieces.{item_more}
 use Rattle.entangled_picture.proofs.marks.add_strays.Goals as goal

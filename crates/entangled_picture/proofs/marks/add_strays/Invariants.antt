@@ -1,5 +1,4 @@
-use Rattle.std.proofs.Common.{◌≡◌, ◌++◌, map, get_or, []}
-use Rattle.std.specs.List.{range_with_len}
+use Rattle.entangled_picture.proofs.Imports.{◌≡◌, ◌++◌, map, get_or, [], range_with_len}
 use Rattle.entangled_picture.specs.declared.shape.Shape.TheVariants as shape
 use Rattle.entangled_picture.proofs.marks.add_strays.Given as goal
 

@@ -1,5 +1,4 @@
-use Rattle.std.proofs.Common.{◌∙◌, ap, sym}
-use Rattle.entangled_picture.specs.Marks.{is_of_fork, spot_in}
+use Rattle.entangled_picture.proofs.Imports.{◌∙◌, ap, sym, is_of_fork, spot_in}
 use Rattle.entangled_picture.proofs.Finds.{find_here, find_on}
 use Rattle.entangled_picture.proofs.marks.first_of_fork.Goals as goal
 

@@ -1,6 +1,4 @@
-use Rattle.std.proofs.Common.{◌≡◌, drop}
-use Rattle.std.specs.Prelude.{find}
-use Rattle.entangled_picture.specs.Marks.{is_of_fork}
+use Rattle.entangled_picture.proofs.Imports.{◌≡◌, drop, find, is_of_fork}
 use Rattle.entangled_picture.proofs.marks.first_of_fork.Given as goal
 
 -- none so far

@@ -1,5 +1,4 @@
-use Rattle.std.proofs.Common.{◌≡◌, take}
-use Rattle.entangled_picture.specs.Marks.{last_of_fork}
+use Rattle.entangled_picture.proofs.Imports.{◌≡◌, take, last_of_fork}
 use Rattle.entangled_picture.proofs.marks.last_of_fork.Given as goal
 
 -- the last so far

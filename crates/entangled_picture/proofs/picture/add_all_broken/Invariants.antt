@@ -1,8 +1,5 @@
-use Rattle.std.proofs.Common.{◌≡◌, ◌++◌, string_bytes}
-use Rattle.std.specs.List.{flat_map, range_with_len}
-use Rattle.auditor.specs.Report.{report_of}
-use Rattle.auditor.specs.Outcomes.{is_broken}
-use Rattle.entangled_picture.specs.Document.{rule_word}
+use Rattle.entangled_picture.proofs.Imports.{◌≡◌, ◌++◌, string_bytes, flat_map, range_with_len, report_of, is_broken}
+use Rattle.entangled_picture.proofs.Imports.{rule_word}
 use Rattle.entangled_picture.proofs.picture.add_all_broken.Given as goal
 
 -- the names so far

@@ -1,7 +1,4 @@
-use Rattle.std.proofs.Common.{string_bytes}
-use Rattle.auditor.specs.Report.{report_of}
-use Rattle.auditor.specs.Outcomes.{is_unsettled}
-use Rattle.entangled_picture.specs.Document.{rule_word}
+use Rattle.entangled_picture.proofs.Imports.{string_bytes, report_of, is_unsettled, rule_word}
 use Rattle.entangled_picture.proofs.Pieces.{place_more}
 use Rattle.entangled_picture.proofs.picture.add_all_unsettled.Goals as goal
 

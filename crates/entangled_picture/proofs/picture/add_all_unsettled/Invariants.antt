@@ -1,8 +1,5 @@
-use Rattle.std.proofs.Common.{◌≡◌, ◌++◌, string_bytes}
-use Rattle.std.specs.List.{flat_map, range_with_len}
-use Rattle.auditor.specs.Report.{report_of}
-use Rattle.auditor.specs.Outcomes.{is_unsettled}
-use Rattle.entangled_picture.specs.Document.{rule_word}
+use Rattle.entangled_picture.proofs.Imports.{◌≡◌, ◌++◌, string_bytes, flat_map, range_with_len, report_of}
+use Rattle.entangled_picture.proofs.Imports.{is_unsettled, rule_word}
 use Rattle.entangled_picture.proofs.picture.add_all_unsettled.Given as goal
 
 -- the names so far

@@ -1,5 +1,4 @@
-use Rattle.std.proofs.Common.{string_bytes}
-use Rattle.entangled_picture.specs.Document.{size_line, verdict_lines}
+use Rattle.entangled_picture.proofs.Imports.{string_bytes, size_line, verdict_lines}
 use Rattle.entangled_picture.proofs.Pieces.{two_joined}
 use Rattle.entangled_picture.proofs.picture.add_first_lines.Goals as goal
 

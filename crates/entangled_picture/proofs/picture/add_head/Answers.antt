@@ -1,9 +1,5 @@
-use Rattle.std.proofs.Common.{◌∙◌, ◌++◌, List, ℕ, ap, string_bytes}
-use Rattle.auditor.specs.Report.{report_of}
-use Rattle.auditor.specs.Outcomes.{outcome_of, outcome_word}
-use Rattle.entangled_picture.specs.declared.picture.TheConstants.{LEGEND}
-use Rattle.entangled_picture.specs.Layout.{height_of, width_of}
-use Rattle.entangled_picture.specs.Document.{rule_lines, size_lines}
+use Rattle.entangled_picture.proofs.Imports.{◌∙◌, ◌++◌, List, ℕ, ap, string_bytes, report_of, outcome_of}
+use Rattle.entangled_picture.proofs.Imports.{outcome_word, LEGEND, height_of, width_of, rule_lines, size_lines}
 use Rattle.entangled_picture.proofs.Pieces.{three_added}
 use Rattle.entangled_picture.proofs.picture.add_head.Goals as goal
 

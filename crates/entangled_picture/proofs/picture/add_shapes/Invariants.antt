@@ -1,7 +1,4 @@
-use Rattle.std.proofs.Common.{◌≡◌, ◌++◌, string_bytes, take}
-use Rattle.std.specs.List.{flat_map}
-use Rattle.auditor.specs.Report.{report_of}
-use Rattle.entangled_picture.specs.Wording.{shape_text}
+use Rattle.entangled_picture.proofs.Imports.{◌≡◌, ◌++◌, string_bytes, take, flat_map, report_of, shape_text}
 use Rattle.entangled_picture.proofs.picture.add_shapes.Given as goal
 
 -- the texts so far

@@ -1,9 +1,5 @@
-use Rattle.std.proofs.Common.{◌∙◌, ℕ, ap, string_bytes, Vec, Global}
-use Rattle.std.specs.List.{flat_map}
-use Rattle.auditor.specs.Report.{report_of}
-use Rattle.entangled_picture.specs.declared.picture.TheConstants.{FOOT}
-use Rattle.entangled_picture.specs.Document.{document_head}
-use Rattle.entangled_picture.specs.Wording.{shape_text}
+use Rattle.entangled_picture.proofs.Imports.{◌∙◌, ℕ, ap, string_bytes, Vec, Global, flat_map, report_of, FOOT}
+use Rattle.entangled_picture.proofs.Imports.{document_head, shape_text}
 use Rattle.entangled_picture.proofs.Pieces.{all_added}
 use Rattle.entangled_picture.proofs.picture.document_of.Goals as goal
 

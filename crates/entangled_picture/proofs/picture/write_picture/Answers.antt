@@ -1,7 +1,4 @@
-use Rattle.std.proofs.Common.{List, ap, ◌∙◌}
-use Rattle.auditor.specs.Report.{report_of}
-use Rattle.entangled_picture.specs.declared.shape.Shape.{Shape}
-use Rattle.entangled_picture.specs.Document.{document_of}
+use Rattle.entangled_picture.proofs.Imports.{List, ap, ◌∙◌, report_of, Shape, document_of}
 use Rattle.entangled_picture.proofs.Pieces.{if_same}
 use Rattle.entangled_picture.proofs.picture.write_picture.Goals as goal
 

@@ -1,4 +1,4 @@
-use Rattle.std.proofs.Common.{arith}
+use Rattle.entangled_picture.proofs.Imports.{arith}
 use Rattle.entangled_picture.proofs.Columns.{placed_more, placed_all}
 use Rattle.entangled_picture.proofs.placed.all_placed.Goals as goal
 

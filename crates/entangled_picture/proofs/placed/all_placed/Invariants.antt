@@ -1,6 +1,4 @@
-use Rattle.std.proofs.Common.{◌≡◌, ◌≤◌, ◌++◌, [], take, drop}
-use Rattle.std.specs.List.{zip}
-use Rattle.entangled_picture.specs.Places.{placed_after}
+use Rattle.entangled_picture.proofs.Imports.{◌≡◌, ◌≤◌, ◌++◌, [], take, drop, zip, placed_after}
 use Rattle.entangled_picture.proofs.placed.all_placed.Given as goal
 
 -- the spots so far, and those of the rest after them

@@ -1,5 +1,4 @@
-use Rattle.std.proofs.Common.{rules}
-use Rattle.entangled_picture.specs.Places.{seen_of}
+use Rattle.entangled_picture.proofs.Imports.{rules, seen_of}
 use Rattle.entangled_picture.proofs.Survivors.{shown_more}
 use Rattle.entangled_picture.proofs.seen.all_seen.Goals as goal
 

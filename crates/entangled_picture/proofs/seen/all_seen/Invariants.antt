@@ -1,5 +1,4 @@
-use Rattle.std.proofs.Common.{◌≡◌, map, take}
-use Rattle.entangled_picture.specs.Places.{seen_of}
+use Rattle.entangled_picture.proofs.Imports.{◌≡◌, map, take, seen_of}
 use Rattle.entangled_picture.proofs.seen.all_seen.Given as goal
 
 -- the survivors so far

@@ -1,6 +1,4 @@
-use Rattle.std.proofs.Common.{◌∙◌, ap, sym, length}
-use Rattle.std.proofs.lemmas.List.FromFn.{length-map-range_with_len}
-use Rattle.entangled_picture.specs.Places.{is_drawn}
+use Rattle.entangled_picture.proofs.Imports.{◌∙◌, ap, sym, length, length-map-range_with_len, is_drawn}
 use Rattle.entangled_picture.proofs.shapes.placed_of.Goals as goal
 
 pub all_placed-requires-clause-one_each : goal.all_placed-requires-clause-one_each

@@ -1,7 +1,5 @@
-use Rattle.std.proofs.Common.{string_bytes}
-use Rattle.auditor.specs.Report.{report_of}
-use Rattle.entangled_picture.specs.Layout.{x_of, y_of}
-use Rattle.entangled_picture.specs.Wording.{arrow_line, arrow_title, machine_name}
+use Rattle.entangled_picture.proofs.Imports.{string_bytes, report_of, x_of, y_of, arrow_line, arrow_title}
+use Rattle.entangled_picture.proofs.Imports.{machine_name}
 use Rattle.entangled_picture.proofs.Pieces.{two_joined}
 use Rattle.entangled_picture.proofs.wording.add_arrow.Goals as goal
 

@@ -1,8 +1,5 @@
-use Rattle.std.proofs.Common.{◌∙◌, ◌++◌, List, ℕ, ap, sym, string_bytes}
-use Rattle.log_files.specs.declared.plain_log.End.{End}
-use Rattle.auditor.specs.Report.{report_of}
-use Rattle.entangled_picture.specs.Layout.{x_behind, y_of}
-use Rattle.entangled_picture.specs.Wording.{end_text, log_title, malformed_text}
+use Rattle.entangled_picture.proofs.Imports.{◌∙◌, ◌++◌, List, ℕ, ap, sym, string_bytes, End, report_of, x_behind}
+use Rattle.entangled_picture.proofs.Imports.{y_of, end_text, log_title, malformed_text}
 use Rattle.entangled_picture.proofs.Pieces.{on_same}
 use Rattle.entangled_picture.proofs.wording.add_end.Goals as goal
 

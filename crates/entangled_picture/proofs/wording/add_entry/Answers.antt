@@ -1,7 +1,5 @@
-use Rattle.std.proofs.Common.{string_bytes}
-use Rattle.auditor.specs.Report.{report_of}
-use Rattle.entangled_picture.specs.Layout.{x_of, y_of}
-use Rattle.entangled_picture.specs.Wording.{entry_label, entry_place, entry_title, first_digits, machine_name}
+use Rattle.entangled_picture.proofs.Imports.{string_bytes, report_of, x_of, y_of, entry_label, entry_place}
+use Rattle.entangled_picture.proofs.Imports.{entry_title, first_digits, machine_name}
 use Rattle.entangled_picture.proofs.Pieces.{three_joined}
 use Rattle.entangled_picture.proofs.wording.add_entry.Goals as goal
 

@@ -1,7 +1,5 @@
-use Rattle.std.proofs.Common.{◌∙◌, ◌++◌, List, ℕ, ap, string_bytes}
-use Rattle.auditor.specs.Report.{report_of}
-use Rattle.entangled_picture.specs.Layout.{}
-use Rattle.entangled_picture.specs.Wording.{entry_title, first_digits, machine_name}
+use Rattle.entangled_picture.proofs.Imports.{◌∙◌, ◌++◌, List, ℕ, ap, string_bytes, report_of, entry_title}
+use Rattle.entangled_picture.proofs.Imports.{first_digits, machine_name}
 use Rattle.entangled_picture.proofs.Pieces.{on_same}
 use Rattle.entangled_picture.proofs.wording.add_entry_title.Goals as goal
 

@@ -1,7 +1,5 @@
-use Rattle.std.proofs.Common.{◌∙◌, ◌++◌, List, ℕ, ap, string_bytes}
-use Rattle.auditor.specs.Report.{report_of}
-use Rattle.entangled_picture.specs.Layout.{x_of, y_of}
-use Rattle.entangled_picture.specs.Wording.{fork_label, machine_name}
+use Rattle.entangled_picture.proofs.Imports.{◌∙◌, ◌++◌, List, ℕ, ap, string_bytes, report_of, x_of, y_of, fork_label}
+use Rattle.entangled_picture.proofs.Imports.{machine_name}
 use Rattle.entangled_picture.proofs.Pieces.{on_same}
 use Rattle.entangled_picture.proofs.wording.add_fork_label.Goals as goal
 

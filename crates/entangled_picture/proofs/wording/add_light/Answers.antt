@@ -1,7 +1,5 @@
-use Rattle.std.proofs.Common.{◌∙◌, ◌++◌, List, ℕ, ap, string_bytes}
-use Rattle.auditor.specs.Report.{report_of}
-use Rattle.entangled_picture.specs.Layout.{x_of, y_of}
-use Rattle.entangled_picture.specs.Wording.{light_text, rule_name}
+use Rattle.entangled_picture.proofs.Imports.{◌∙◌, ◌++◌, List, ℕ, ap, string_bytes, report_of, x_of, y_of, light_text}
+use Rattle.entangled_picture.proofs.Imports.{rule_name}
 use Rattle.entangled_picture.proofs.Pieces.{on_same}
 use Rattle.entangled_picture.proofs.wording.add_light.Goals as goal
 

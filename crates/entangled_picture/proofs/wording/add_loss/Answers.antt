@@ -1,7 +1,5 @@
-use Rattle.std.proofs.Common.{string_bytes}
-use Rattle.auditor.specs.Report.{report_of}
-use Rattle.entangled_picture.specs.Layout.{x_of, x_of_gap, y_of}
-use Rattle.entangled_picture.specs.Wording.{loss_path, loss_title, machine_name}
+use Rattle.entangled_picture.proofs.Imports.{string_bytes, report_of, x_of, x_of_gap, y_of, loss_path, loss_title}
+use Rattle.entangled_picture.proofs.Imports.{machine_name}
 use Rattle.entangled_picture.proofs.Pieces.{two_joined}
 use Rattle.entangled_picture.proofs.wording.add_loss.Goals as goal
 

@@ -1,6 +1,4 @@
-use Rattle.std.proofs.Common.{◌∙◌, ◌++◌, List, ℕ, ap, string_bytes}
-use Rattle.entangled_picture.specs.Layout.{x_of, x_of_gap, y_of}
-use Rattle.entangled_picture.specs.Wording.{loss_path}
+use Rattle.entangled_picture.proofs.Imports.{◌∙◌, ◌++◌, List, ℕ, ap, string_bytes, x_of, x_of_gap, y_of, loss_path}
 use Rattle.entangled_picture.proofs.Pieces.{on_same}
 use Rattle.entangled_picture.proofs.wording.add_loss_path.Goals as goal
 

@@ -1,8 +1,5 @@
-use Rattle.std.proofs.Common.{◌∙◌, ◌++◌, List, ℕ, ap, sym, string_bytes}
-use Rattle.auditor.specs.Report.{report_of}
-use Rattle.entangled_picture.specs.declared.shape.Shape.{Shape}
-use Rattle.entangled_picture.specs.Layout.{x_behind, y_of}
-use Rattle.entangled_picture.specs.Wording.{entry_text, log_title, refused_text, shape_text}
+use Rattle.entangled_picture.proofs.Imports.{◌∙◌, ◌++◌, List, ℕ, ap, sym, string_bytes, report_of, Shape, x_behind}
+use Rattle.entangled_picture.proofs.Imports.{y_of, entry_text, log_title, refused_text, shape_text}
 use Rattle.entangled_picture.proofs.Pieces.{on_same}
 use Rattle.entangled_picture.proofs.wording.add_shape.Goals as goal
 

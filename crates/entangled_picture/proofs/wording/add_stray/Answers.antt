@@ -1,6 +1,5 @@
-use Rattle.std.proofs.Common.{◌∙◌, ◌++◌, List, ℕ, ap, string_bytes}
-use Rattle.entangled_picture.specs.Layout.{x_behind, y_of}
-use Rattle.entangled_picture.specs.Wording.{first_digits, stray_text}
+use Rattle.entangled_picture.proofs.Imports.{◌∙◌, ◌++◌, List, ℕ, ap, string_bytes, x_behind, y_of, first_digits}
+use Rattle.entangled_picture.proofs.Imports.{stray_text}
 use Rattle.entangled_picture.proofs.Pieces.{on_same}
 use Rattle.entangled_picture.proofs.wording.add_stray.Goals as goal
 

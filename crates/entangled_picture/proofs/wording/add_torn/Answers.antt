@@ -1,7 +1,5 @@
-use Rattle.std.proofs.Common.{◌∙◌, ◌++◌, List, ℕ, ap, string_bytes}
-use Rattle.auditor.specs.Report.{report_of}
-use Rattle.entangled_picture.specs.Layout.{x_behind, y_of}
-use Rattle.entangled_picture.specs.Wording.{log_title, torn_text}
+use Rattle.entangled_picture.proofs.Imports.{◌∙◌, ◌++◌, List, ℕ, ap, string_bytes, report_of, x_behind, y_of}
+use Rattle.entangled_picture.proofs.Imports.{log_title, torn_text}
 use Rattle.entangled_picture.proofs.Pieces.{on_same}
 use Rattle.entangled_picture.proofs.wording.add_torn.Goals as goal
 
