@@ -1,9 +1,7 @@
 -- Where bytes stop being exactly one text.
-use Rattle.std.proofs.Common.{◌≡◌, ◌∙◌, ℕ, inl, inr, List, [], length, ap, sym, refl, arith, append-nil}
-use Rattle.canonical_sexp.specs.declared.read.Read.{Read}
+use Rattle.canonical_sexp.proofs.Imports.{◌≡◌, ◌∙◌, ℕ, inl, inr, List, [], length, ap, sym, refl, arith, append-nil}
+use Rattle.canonical_sexp.proofs.Imports.{Read, text_of, Answers, IsCanonical, StopsAt}
 use Rattle.canonical_sexp.specs.declared.read.Read.TheVariants as read
-use Rattle.canonical_sexp.specs.Text.{text_of}
-use Rattle.canonical_sexp.specs.Reading.{Answers, IsCanonical, StopsAt}
 use Rattle.canonical_sexp.proofs.Exclusive.{whole_only, one_answer}
 
 -- one text is answered whole, up to its end
@@ -49,7 +47,7 @@ stop_answer bytes at (inl (why, is)) = record { answer = read.Bad at why; right 
 stop_answer bytes at (inr (inl (tree, is, more))) = record { answer = read.Whole tree at; right = is; stops = refl }
 stop_answer bytes at (inr (inr (is, end))) = record { answer = read.Cut; right = is; stops = sym end }
 
--- so they stop at one place
+-- bytes stop being one canonical text at one place
 pub one_stop : (bytes : List ℕ) (at other : ℕ) → StopsAt bytes at → StopsAt bytes other → at ≡ other
 one_stop bytes at other stops also =
     let first : HasStopAnswer bytes at = stop_answer bytes at stops in

@@ -1,9 +1,7 @@
 -- A list's members as they are built: those so far, and those that are left.
-use Rattle.std.proofs.Common.{◌≡◌, ℕ, ◌<◌, ◌≤◌, ap, refl, arith}
-use Rattle.canonical_sexp.specs.declared.sexp.Sexp.{Sexp}
-use Rattle.canonical_sexp.specs.declared.sexp.Sexp.TheVariants.{Atom, List as Branch}
-use Rattle.canonical_sexp.specs.Forest.{Forest, no_trees, atom_then, list_then, joined, size_of}
-use Rattle.canonical_sexp.specs.Sexp.{in_front}
+use Rattle.canonical_sexp.proofs.Imports.{◌≡◌, ℕ, ◌<◌, ◌≤◌, ap, refl, arith, Sexp, Atom, Forest, no_trees, atom_then}
+use Rattle.canonical_sexp.proofs.Imports.{list_then, joined, size_of, in_front}
+use Rattle.canonical_sexp.specs.declared.sexp.Sexp.TheVariants.{List as Branch}
 
 -- larger than that of each member
 abbrev pub weight : Sexp → ℕ

@@ -1,19 +1,12 @@
--- Texts where they stand: their bytes tell their tree, and the bytes of a list those of its members.
-use Rattle.std.proofs.Common.{◌≡◌, ◌≢◌, ◌∙◌, ℕ, ◌-◌, ◌<◌, ◌≤◌, IsTrue, inl, inr, Some, slice_index, List, [], ◌∷◌}
-use Rattle.std.proofs.Common.{◌++◌, length, take, drop, get_or}
-use Rattle.std.proofs.Common.{refl, ap, sym, arith, append_assoc, append-nil, length-append}
-use Rattle.std.proofs.lemmas.Bool.Decides.{nat_tests}
-use Rattle.std.proofs.lemmas.List.{take-append-drop, take_at, take_rest}
-use Rattle.std.specs.Fmt.{decimal}
-use Rattle.canonical_sexp.specs.declared.sexp.Sexp.{Sexp}
-use Rattle.canonical_sexp.specs.declared.sexp.Sexp.TheVariants.{Atom, List as Branch}
-use Rattle.canonical_sexp.specs.Forest.{Forest, no_trees, atom_then, list_then}
-use Rattle.canonical_sexp.specs.Sexp.{in_front, members_of}
-use Rattle.canonical_sexp.specs.Text.{text_of, texts_of, atom_text, AreWithin, Fits, IsProperPrefixOfText, max_octets}
-use Rattle.canonical_sexp.specs.declared.read.Why.{Why}
-use Rattle.canonical_sexp.specs.Causes.{is_digit, at_start, length_fault}
-use Rattle.canonical_sexp.specs.Reading.{IsFirstBad}
-use Rattle.canonical_sexp.specs.inside.Spelt.{IsSpelt, AreSpelt}
+-- Texts in place: their bytes determine their tree, and the bytes of a list those of its members.
+use Rattle.canonical_sexp.proofs.Imports.{◌≡◌, ◌≢◌, ◌∙◌, ℕ, ◌-◌, ◌<◌, ◌≤◌, IsTrue, inl, inr, Some, slice_index, List}
+use Rattle.canonical_sexp.proofs.Imports.{[], ◌∷◌, ◌++◌, length, take, drop, get_or, refl, ap, sym, arith}
+use Rattle.canonical_sexp.proofs.Imports.{append_assoc, append-nil, length-append, nat_tests, take-append-drop}
+use Rattle.canonical_sexp.proofs.Imports.{take_at, take_rest, decimal, Sexp, Atom, Forest, no_trees, atom_then}
+use Rattle.canonical_sexp.proofs.Imports.{list_then, in_front, members_of, text_of, texts_of, atom_text, AreWithin}
+use Rattle.canonical_sexp.proofs.Imports.{Fits, IsProperPrefixOfText, max_octets, Why, is_digit, at_start}
+use Rattle.canonical_sexp.proofs.Imports.{length_fault, IsFirstBad, IsSpelt, AreSpelt}
+use Rattle.canonical_sexp.specs.declared.sexp.Sexp.TheVariants.{List as Branch}
 use Rattle.canonical_sexp.proofs.Decimal.{behind_digits}
 use Rattle.canonical_sexp.proofs.Unique.{one_tree, no_atom, atom_starts}
 use Rattle.canonical_sexp.proofs.Atoms.{cut_in_length}
@@ -25,7 +18,7 @@ pub same_text : (tree other : Sexp) → Fits tree → Fits other → text_of tre
 same_text tree other fits other_fits e =
     (one_tree 8 tree other [] [] fits other_fits (append-nil (text_of tree) ∙ e ∙ sym (append-nil (text_of other)))).0
 
--- and the texts of one row
+-- the texts of a row of members determine the row
 pub same_members : (row other : Forest) → Fits (Branch row) → Fits (Branch other) → texts_of row ≡ texts_of other →
     row ≡ other
 same_members row other fits other_fits e =
@@ -33,11 +26,11 @@ same_members row other fits other_fits e =
     same_text (Branch row) (Branch other) fits other_fits (ap (λ bs. 40 ∷ (bs ++ 41 ∷ [])) e) in
     cc
 
--- so they determine it
+-- the text of a tree within the limits determines that tree
 pub spelt : (bytes : List ℕ) (tree : Sexp) → Fits tree → bytes ≡ text_of tree → IsSpelt bytes
 spelt bytes tree fits e = (tree, (fits, e, λ other other_fits is. same_text other tree other_fits fits (sym is ∙ e)))
 
--- a row likewise
+-- the texts of a row within the limits determine that row
 pub row_spelt : (bytes : List ℕ) (row : Forest) → Fits (Branch row) → bytes ≡ texts_of row → AreSpelt bytes
 row_spelt bytes row fits e =
     (row, (fits, e, λ other other_fits is. same_members other row other_fits fits (sym is ∙ e)))
@@ -59,7 +52,7 @@ pub record HasFirst (row : Forest) : Type 0 where
   pub text : texts_of row ≡ text_of tree ++ texts_of rest
   -- the tree is within the limits
   pub fits : Fits tree
-  -- and so are the others
+  -- the row without its first member is within the limits
   pub rest_fits : Fits (Branch rest)
 
 -- a row with a text has a first member
@@ -96,7 +89,7 @@ pub record HasBehind (bytes : List ℕ) (row : Forest) (tree : Sexp) : Type 0 wh
   pub fits : Fits (Branch rest)
   pub spelt : bytes ≡ texts_of rest
 
--- the member that was found in front, and what is behind it
+-- the member that was found in front, and what follows it
 pub taken : (bytes : List ℕ) (row : Forest) (used : ℕ) (tree : Sexp) → Fits (Branch row) → bytes ≡ texts_of row →
     Fits tree → take used bytes ≡ text_of tree →
     HasBehind (drop used bytes) row tree
@@ -116,7 +109,7 @@ taken bytes row used tree fits e tree_fits found =
       spelt = one.1;
     }
 
--- where no text stands in front, no member is left
+-- where no text is in front, no member is left
 pub none_left : (bytes : List ℕ) (row : Forest) → Fits (Branch row) → bytes ≡ texts_of row →
     ((tree : Sexp) (rest : List ℕ) → Fits tree → bytes ≡ text_of tree ++ rest → ⊥) → row ≡ no_trees
 none_left bytes no_trees fits e none = refl
@@ -133,7 +126,7 @@ pub none_if_cut : (bytes : List ℕ) (row : Forest) → Fits (Branch row) → by
 none_if_cut bytes row fits e cut =
     none_left bytes row fits e (λ tree rest tree_fits is. cut_has_none bytes tree rest tree_fits is cut)
 
--- nor is one left where a byte is bad
+-- no member is left where the rest of a list has a bad byte
 pub none_if_bad : (bytes : List ℕ) (row : Forest) (at : ℕ) → Fits (Branch row) → bytes ≡ texts_of row →
     IsFirstBad bytes at → row ≡ no_trees
 none_if_bad bytes row at fits e bad =
@@ -186,7 +179,7 @@ pub record IsAtomText (bytes : List ℕ) : Type 0 where
   pub spelt : bytes ≡ atom_text octets
   pub digit : IsTrue (is_digit (get_or bytes 0 0))
 
--- and what begins with no parenthesis is an atom's
+-- the text of a tree that doesn't begin with a parenthesis is that of an atom
 pub is_atom : (bytes : List ℕ) (tree : Sexp) → Fits tree → bytes ≡ text_of tree → get_or bytes 0 0 ≢ 40 →
     IsAtomText bytes
 is_atom [] (Atom octets) fits e other =
@@ -197,7 +190,7 @@ is_atom (c ∷ bytes) (Atom octets) fits e other =
     record { octets = octets; few = fits; spelt = e; digit = digit_in c digit.0 digit.1 }
 is_atom bytes (Branch row) fits e other = absurd (other (ap (λ bs. get_or bs 0 0) e))
 
--- the octets stand behind the length and its colon
+-- the octets come after the length and its colon
 pub behind_length : (bytes octets : List ℕ) (count used : ℕ) → length octets ≤ max_octets → bytes ≡ atom_text octets →
     count ≤ max_octets → take used bytes ≡ decimal count ++ 58 ∷ [] →
     take (length bytes - used) (drop used bytes) ≡ octets
@@ -218,7 +211,7 @@ not_cut bytes octets value small e few digits =
     cut_has_none bytes (Atom octets) [] small (e ∙ sym (append-nil (atom_text octets)))
     (atom_is_cut at_start bytes tt (omega arith) (cut_in_length bytes value few digits))
 
--- nor does one with a bad byte behind its digits
+-- an atom's text has no bad byte after the digits of its length
 pub not_bad : (bytes octets : List ℕ) (at value : ℕ) (why : Why) → length octets ≤ max_octets →
     bytes ≡ atom_text octets → at < length bytes → value ≤ max_octets → take at bytes ≡ decimal value →
     length_fault value (slice_index bytes at) ≡ Some why → ⊥

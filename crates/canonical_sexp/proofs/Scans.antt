@@ -1,19 +1,14 @@
 -- The pass over open lists, which keeps the counts of their members.
-use Rattle.std.proofs.Common.{◌≡◌, ◌∙◌, ℕ, ◌+◌, ◌-◌, ◌<◌, ◌≤◌, None, List, [], ◌∷◌, ◌++◌, length, take, drop, map, set}
-use Rattle.std.proofs.Common.{get_or, refl, ap, sym, subst, arith, length-append}
-use Rattle.std.proofs.lemmas.List.{take_more, take_more_set, take-take, take_at, get_or_push, take_rest, length-set}
-use Rattle.canonical_sexp.specs.declared.sexp.Sexp.{Sexp}
-use Rattle.canonical_sexp.specs.declared.sexp.Sexp.TheVariants.{Atom, List as Branch}
-use Rattle.canonical_sexp.specs.declared.scanning.Extent.{Extent}
+use Rattle.canonical_sexp.proofs.Imports.{◌≡◌, ◌∙◌, ℕ, ◌+◌, ◌-◌, ◌<◌, ◌≤◌, None, List, [], ◌∷◌, ◌++◌, length, take}
+use Rattle.canonical_sexp.proofs.Imports.{drop, map, set, get_or, refl, ap, sym, subst, arith, length-append}
+use Rattle.canonical_sexp.proofs.Imports.{take_more, take_more_set, take-take, take_at, get_or_push, take_rest}
+use Rattle.canonical_sexp.proofs.Imports.{length-set, Sexp, Atom, Extent, Answers, IsAtomScan, Scans, Forest}
+use Rattle.canonical_sexp.proofs.Imports.{no_trees, count_of, joined, in_front, atom_text, max_octets, max_members}
+use Rattle.canonical_sexp.proofs.Imports.{token_fault, at_start}
+use Rattle.canonical_sexp.specs.declared.sexp.Sexp.TheVariants.{List as Branch}
 use Rattle.canonical_sexp.specs.declared.read.Read.TheVariants as read
-use Rattle.canonical_sexp.specs.Reading.{Answers}
 use Rattle.canonical_sexp.specs.declared.scanning.Extent.TheVariants as scan
 use Rattle.canonical_sexp.proofs.Places.{atom_is_cut, is_bad_length}
-use Rattle.canonical_sexp.specs.inside.Scanning.{IsAtomScan, Scans}
-use Rattle.canonical_sexp.specs.Forest.{Forest, no_trees, count_of, joined}
-use Rattle.canonical_sexp.specs.Sexp.{in_front}
-use Rattle.canonical_sexp.specs.Text.{atom_text, max_octets, max_members}
-use Rattle.canonical_sexp.specs.Causes.{token_fault, at_start}
 use Rattle.canonical_sexp.proofs.Rows.{count_of-joined, count_of-one}
 use Rattle.canonical_sexp.proofs.Opened.{AreOpenWithin-pop}
 use Rattle.canonical_sexp.proofs.Steps.{AreRead, step_open, step_close, step_atom}
@@ -24,11 +19,11 @@ pub record AreScanned (bytes : List ℕ) (at : ℕ) (counts : List ℕ) (depth m
   pub current : Forest
   -- the bytes up to the place are theirs
   pub so_far : AreRead bytes at outer current
-  -- so many lists are around the innermost
+  -- the depth is the number of lists around the innermost
   pub depth_is : depth ≡ length outer
   -- the counts are those of the lists around
   pub counts_are : take depth counts ≡ map count_of outer
-  -- the innermost has so many members
+  -- `members` is the number of members of the innermost
   pub members_is : members ≡ count_of current
   -- there is room for eight counts
   pub size : length counts ≡ 8
@@ -84,7 +79,7 @@ pub record HasAround (bytes : List ℕ) (at : ℕ) (counts : List ℕ) (depth me
   pub current : Forest
   -- the bytes up to the place are theirs
   pub so_far : AreRead bytes at (outer ++ around ∷ []) current
-  -- so many lists are around that one
+  -- the depth less one is the number of lists around that one
   pub depth_is : depth - 1 ≡ length outer
   -- the counts before the last are those of the lists around it
   pub counts_are : take (depth - 1) counts ≡ map count_of outer
@@ -184,7 +179,7 @@ whole bytes at [] current h within is none = (
 )
 whole bytes at (f ∷ outer) current h within is none = absurd (omega arith)
 
--- so do the bytes of the text
+-- the parenthesis that closes the outermost list completes a text
 pub scan_whole : (bytes : List ℕ) (at : ℕ) (counts : List ℕ) (depth members : ℕ) →
     AreScanned bytes at counts depth members → at < length bytes → get_or bytes at 0 ≡ 41 → depth ≡ 0 →
     (tree : Sexp) × Answers bytes (read.Whole tree (at + 1))

@@ -1,4 +1,4 @@
-//! Texts that are read where they stand, without memory.
+//! Texts that are read in place, without memory.
 ghost use Rattle.std.specs.Prelude.{◌≡◌, ◌≢◌, ℕ, List, IfSome, IfNone, IsTrue, ◌↔◌};
 ghost use Rattle.canonical_sexp.specs.inside.Spelt.{IsSpelt, IsSpelt-prop, AreSpelt, AreSpelt-prop};
 
@@ -6,7 +6,7 @@ use crate::number::number_of;
 use crate::scanning::{Extent, octets_in, scan};
 use std::marker::Model;
 
-/// A text within the limits, where it stands. Contracts see the tree whose text it is.
+/// A text within the limits, in place. Contracts see the tree whose text it is.
 #[derive(Drop)]
 pub struct Text<'a> {
     bytes: &'a [u8],
@@ -89,7 +89,7 @@ impl<'a> Text<'a> {
     }
 }
 
-/// The members of a list that are left, where they stand. Contracts see their row.
+/// The members of a list that are left, in place. Contracts see their row.
 #[derive(Drop)]
 pub struct Rest<'a> {
     bytes: &'a [u8],

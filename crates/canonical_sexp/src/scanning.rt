@@ -11,10 +11,10 @@ use crate::limits::MAX_DEPTH;
 use crate::read::Why;
 use crate::tokens::{Length, fault_of, read_length};
 
-/// What stands at the front of some bytes.
+/// What is at the front of some bytes.
 #[derive(Clone, Copy)]
 pub(crate) enum Extent {
-    /// A whole text of so many bytes.
+    /// A complete text with this number of bytes.
     Whole { used: usize },
     /// The bytes end before a text does.
     Cut,
@@ -77,7 +77,7 @@ pub(crate) fn scan(bytes: &[u8]) -> Extent
 }
 
 /// Finds a list's text, its first parenthesis being there. The lists that are open around the
-/// innermost stand as the counts of their members.
+/// innermost are given as the counts of their members.
 fn scan_list(bytes: &[u8]) -> Extent
     requires some { 0 < length bytes.now }
     requires open { slice_index bytes.now 0 ≡ 40 }

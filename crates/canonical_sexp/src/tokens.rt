@@ -1,4 +1,4 @@
-//! What stands where a token begins: a parenthesis, or the length of an atom.
+//! The beginning of a token: a parenthesis, or the length of an atom.
 ghost use Rattle.std.specs.Prelude.{◌≡◌, ◌<◌, length, slice_index, IsTrue};
 ghost use Rattle.canonical_sexp.specs.Causes.{is_digit, token_fault};
 ghost use Rattle.canonical_sexp.specs.inside.Tokens.{IsLength};
@@ -6,7 +6,7 @@ ghost use Rattle.canonical_sexp.specs.inside.Tokens.{IsLength};
 use crate::limits::{MAX_DEPTH, MAX_MEMBERS, MAX_OCTETS};
 use crate::read::Why;
 
-/// What stands where a length begins.
+/// What is read where a length begins.
 #[derive(Clone, Copy)]
 pub(crate) enum Length {
     Whole { octets: usize, used: usize },

@@ -6,12 +6,12 @@ ghost use Rattle.canonical_sexp.specs.Reading.{IsCanonical, StopsAt};
 use crate::front::{Front, front_of};
 use crate::in_place::Text;
 
-/// The text that the bytes are, with nothing behind it. It takes no memory.
+/// The text that the bytes are, with nothing after it. It takes no memory.
 ///
 /// # Errors
 ///
 /// The place, counted from 0, where the bytes stop being exactly one text: that of the first byte
-/// that can't stand, the length of the text that other bytes follow, or the length of the bytes
+/// that is invalid, the length of the text that other bytes follow, or the length of the bytes
 /// where they end inside a text.
 pub fn whole_text(bytes: &[u8]) -> Result<Text<'_>, usize>
     ensures ok { IfOk result (λ tree. Fits tree × (bytes.now ≡ text_of tree)) }

@@ -1,14 +1,9 @@
 -- What the type of a log keeps, when it is made and when an event is appended.
-use Rattle.std.proofs.Common.{◌≡◌, ℕ, ◌+◌, ◌<◌, ◌≤◌, max, List, [], ◌∷◌, ◌++◌, take, length, refl, sym, ap, subst, ◌∙◌}
-use Rattle.std.proofs.Common.{arith, length-append, false}
-use Rattle.entry_order.specs.declared.event.Event.{Event}
-use Rattle.entry_order.specs.Node.{Node}
-use Rattle.entry_order.specs.History.{entry_of, MayFollow, IsLegal}
-use Rattle.entry_order.proofs.Histories.{IsLegal-push, IsLegal-none, greatest_push, new_from_may}
-use Rattle.entry_order.proofs.Lists.{Contains-map}
-use Rattle.log_frontier.specs.Places.{Places, StandsFor, HasNoDigestTwice}
-use Rattle.log_frontier.proofs.Tables.{StandsFor-none}
-use Rattle.entangled_log.specs.inside.Kept.{IsKept, own_after}
+use Rattle.entangled_log.proofs.Imports.{◌≡◌, ℕ, ◌+◌, ◌<◌, ◌≤◌, max, List, [], ◌∷◌, ◌++◌, take, length, refl, sym, ap}
+use Rattle.entangled_log.proofs.Imports.{subst, ◌∙◌, arith, length-append, false, Event, Node, entry_of, MayFollow}
+use Rattle.entangled_log.proofs.Imports.{IsLegal, IsLegal-push, IsLegal-none, greatest_push, new_from_may}
+use Rattle.entangled_log.proofs.Imports.{Contains-map, Places, StandsFor, HasNoDigestTwice, StandsFor-none, IsKept}
+use Rattle.entangled_log.proofs.Imports.{own_after}
 use Rattle.entangled_log.proofs.Own.{AreOwn-push}
 
 module _ {T : Type 0} (node : T → Node) (owner capacity : ℕ) where
@@ -52,7 +47,7 @@ module _ {T : Type 0} (node : T → Node) (owner capacity : ℕ) where
         own_reserved = kept.own_reserved;
       }
 
-  -- the same of equal fields
+  -- what is kept stays kept where each field is replaced by an equal one
   pub IsKept-at : (events events' : List (Event T)) (frontier : Places) (own own' : List ℕ)
       (top top' room room' own_room own_room' : ℕ) → events ≡ events' → own ≡ own' → top ≡ top' → room ≡ room' →
       own_room ≡ own_room' → IsKept node owner capacity events frontier own top room own_room →
@@ -64,7 +59,7 @@ module _ {T : Type 0} (node : T → Node) (owner capacity : ℕ) where
       (subst (λ (ps : List ℕ). IsKept node owner capacity events' frontier ps top room own_room) o
       (subst (λ (h : List (Event T)). IsKept node owner capacity h frontier own top room own_room) e kept))))
 
--- no digest stands twice in a legal history
+-- a legal history has no digest twice
 pub no_digest_twice : {T : Type 0} (node : T → Node) (owner : ℕ) (h : List (Event T)) → IsLegal node owner h →
     HasNoDigestTwice (λ x. node (entry_of x)) h
 no_digest_twice node owner h legal before x later e y c =
@@ -75,7 +70,7 @@ take_all : {A : Type 0} (xs : List A) (x : A) → take (length xs) (xs ++ x ∷ 
 take_all [] x = refl
 take_all (y ∷ xs) x = ap (λ ys. y ∷ ys) (take_all xs x)
 
--- for what stands before the last event the frontier stands as it did
+-- a frontier of some events is that of the first events of a history that is longer by one
 pub stands_before : {X : Type 0} (node : X → Node) (events : List X) (x : X) (n : ℕ) (longer : List X)
     (places : Places) → StandsFor node events places → n ≡ length events → longer ≡ events ++ x ∷ [] →
     StandsFor node (take n longer) places

@@ -1,16 +1,6 @@
 -- What the events miss the entries held miss.
-use Rattle.std.proofs.Common.{◌≡◌, ◌∙◌, List, sym, ap}
-use Rattle.std.specs.Prelude.{not}
-use Rattle.std.specs.List.{filter, flat_map}
-use Rattle.std.proofs.lemmas.List.Elements.{filter_agree}
-use Rattle.std.proofs.lemmas.List.Folds.{flat_map-map}
-use Rattle.entry_order.specs.declared.event.Event.{Event}
-use Rattle.entry_order.specs.Node.{Node}
-use Rattle.entry_order.specs.Naming.{has_digest}
-use Rattle.entry_order.specs.Ascending.{ascending}
-use Rattle.entry_order.specs.History.{entry_of, held}
-use Rattle.entry_order.specs.Survivors.{gaps}
-use Rattle.entry_order.proofs.Held.{has_digest_held}
+use Rattle.entangled_log.proofs.Imports.{◌≡◌, ◌∙◌, List, sym, ap, not, filter, flat_map, filter_agree, flat_map-map}
+use Rattle.entangled_log.proofs.Imports.{Event, Node, has_digest, ascending, entry_of, held, gaps, has_digest_held}
 
 -- the gaps of the events are those of the entries held
 pub gaps_held : {T : Type 0} (node : T → Node) (h : List (Event T)) →

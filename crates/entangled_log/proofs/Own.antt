@@ -1,16 +1,10 @@
 -- The places of what was sent.
-use Rattle.std.proofs.Common.{◌≡◌, ℕ, zero, suc, ◌≤◌, List, [], ◌∷◌, ◌++◌, map, length, Option, Some, None}
-use Rattle.std.proofs.Common.{refl, sym, ap, ◌∙◌, arith}
-use Rattle.std.specs.Prelude.{slice_get}
-use Rattle.std.proofs.lemmas.List.{length-map, map_push}
-use Rattle.entry_order.specs.declared.event.Event.{Event}
-use Rattle.entry_order.specs.declared.event.Event.TheVariants.{Sent, Got}
-use Rattle.entry_order.specs.History.{sent}
-use Rattle.entry_order.proofs.Histories.{sent-append, sent_few}
-use Rattle.entry_order.proofs.Places.{last_at, push_before}
-use Rattle.entangled_log.specs.inside.Kept.{AreOwn, own_after}
+use Rattle.std.proofs.Common.{Option, Some, None}
+use Rattle.entangled_log.proofs.Imports.{◌≡◌, ℕ, zero, suc, ◌≤◌, List, [], ◌∷◌, ◌++◌, map, length, refl, sym, ap, ◌∙◌}
+use Rattle.entangled_log.proofs.Imports.{arith, slice_get, length-map, map_push, Event, Sent, Got, sent, sent-append}
+use Rattle.entangled_log.proofs.Imports.{sent_few, last_at, push_before, AreOwn, own_after}
 
--- where two lists look the same, what stands at a place of the one has its like in the other
+-- where two lists look the same, what is at a place of the one has its like in the other
 paired : {A B X : Type 0} (f : A → X) (g : B → X) (xs : List A) (ys : List B) → map f xs ≡ map g ys → (n : ℕ) (x : A) →
     slice_get xs n ≡ Some x → (y : B) × (slice_get ys n ≡ Some y) × (f x ≡ g y)
 paired f g [] ys same n x is = cc
@@ -68,11 +62,11 @@ module _ {T : Type 0} where
         sym (length-map own (λ p. slice_get events p)) ∙ ap length are
         ∙ length-map (sent events) (λ e. Some (Sent e))
 
-    -- and no more than there are events
+    -- the places of what was sent are no more than there are events
     pub own_few : length own ≤ length events
     own_few = omega (arith, own_count, sent_few events)
 
-    -- at the place with a number stands the entry with that number
+    -- the entry with a number is at the place with that number
     pub own_at : (n p : ℕ) → slice_get own n ≡ Some p →
         (e : T) × (slice_get (sent events) n ≡ Some e) × (slice_get events p ≡ Some (Sent e))
     own_at n p is = paired (λ p. slice_get events p) (λ e. Some (Sent e)) own (sent events) are n p is

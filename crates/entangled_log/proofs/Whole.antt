@@ -1,24 +1,14 @@
 -- What the frontier answers of the events is so of the entries held.
-use Rattle.std.proofs.Common.{◌≡◌, ℕ, Bool, true, false, List, sym, ap, ◌∙◌, refl, subst}
-use Rattle.std.specs.Prelude.{◌↔◌, Some, not, option_map, slice_get, IsTrue}
-use Rattle.std.specs.List.{Contains}
-use Rattle.std.proofs.lemmas.Bool.{not-true, not_from_false, true≢false, false_from_ne_true}
-use Rattle.std.proofs.lemmas.Option.{same_Some}
-use Rattle.entry_order.specs.declared.event.Event.{Event}
-use Rattle.entry_order.specs.Node.{Node}
-use Rattle.entry_order.specs.History.{entry_of, held}
-use Rattle.entry_order.specs.Naming.{IsBorneIn, has_digest}
-use Rattle.entry_order.proofs.Held.{has_digest_held}
-use Rattle.entry_order.proofs.Lists.{Contains-map, Contains-map_cases}
-use Rattle.entry_order.proofs.Naming.{has_digest_of, has_digest_from}
-use Rattle.entry_order.proofs.Places.{member_at}
-use Rattle.log_frontier.specs.Places.{IsBorneAt, NamesUnborne}
-use Rattle.log_frontier.proofs.Tables.{lacks_decides}
-use Rattle.log_frontier.specs.inside.Noting.{lacks_some}
-use Rattle.entangled_log.specs.Whole.{NamesOnlyHeld}
+use Rattle.entangled_log.proofs.Imports.{◌≡◌, ℕ, Bool, true, false, List, sym, ap, ◌∙◌, refl, subst, ◌↔◌, not}
+use Rattle.entangled_log.proofs.Imports.{option_map, slice_get, IsTrue, Contains, not-true, not_from_false}
+use Rattle.entangled_log.proofs.Imports.{true≢false, false_from_ne_true, same_Some, Event, Node, entry_of, held}
+use Rattle.entangled_log.proofs.Imports.{IsBorneIn, has_digest, has_digest_held, Contains-map, Contains-map_cases}
+use Rattle.entangled_log.proofs.Imports.{has_digest_of, has_digest_from, member_at, IsBorneAt, NamesUnborne}
+use Rattle.entangled_log.proofs.Imports.{lacks_decides, lacks_some, NamesOnlyHeld}
+use Rattle.std.specs.Prelude.{Some}
 
 module _ {T : Type 0} (node : T → Node) where
-  -- a test that finds a name that none bears decides, turned round, whether only what is held is named
+  -- a test that finds a name that no entry has decides, negated, whether only held entries are named
   names_only_held : (es : List T) (b : Bool) → (IsTrue b ↔ NamesUnborne node es) →
       IsTrue (not b) ↔ NamesOnlyHeld node es
   names_only_held es b finds = (
@@ -39,7 +29,7 @@ module _ {T : Type 0} (node : T → Node) where
   whole_or_not es = (not (lacks_some node es), names_only_held es (lacks_some node es) (lacks_decides node es))
 
 module _ {T : Type 0} (node : T → Node) (h : List (Event T)) where
-  -- a digest that an event bears its entry bears, and the other way round
+  -- the events and their entries have the same digests
   borne_held : (d : List ℕ) → IsBorneIn (λ x. node (entry_of x)) h d ↔ IsBorneIn node (held h) d
   borne_held d = (
     λ (x, c, is). (entry_of x, Contains-map entry_of h x c, is),
@@ -65,7 +55,7 @@ module _ {T : Type 0} (node : T → Node) (h : List (Event T)) where
         λ whole. events.1 (λ x d c n. (borne_held d).1 (whole (entry_of x) d (Contains-map entry_of h x c) n)),
       )
 
-  -- the entry at a place where an event bears a digest is held, and bears it
+  -- the entry at a place where an event has a digest is held, and has the digest
   pub borne_at : (d : List ℕ) (p : ℕ) (e : T) → IsBorneAt (λ x. node (entry_of x)) h d p →
       option_map entry_of (slice_get h p) ≡ Some e → Contains (held h) e × ((node e).digest ≡ d)
   borne_at d p e (x, there, same) told =
@@ -74,6 +64,6 @@ module _ {T : Type 0} (node : T → Node) (h : List (Event T)) where
         ap (λ (u : T). (node u).digest) (sym is) ∙ same,
       )
 
-  -- a digest that no event bears none of the entries bears
+  -- none of the entries has a digest that no event has
   pub none_bears : (d : List ℕ) → has_digest (λ x. node (entry_of x)) h d ≡ false → ¬ (IsBorneIn node (held h) d)
   none_bears d none borne = true≢false (sym ((holds_entries d false (sym none)).1 borne))

@@ -167,7 +167,7 @@ impl<T: Knot> Log<T> {
         !self.frontier.wants(&self.events)
     }
 
-    /// The digests that held entries name and none of them bears, ascending.
+    /// The digests that held entries name and that none of them has, ascending.
     pub fn missing(&self, alloc: Global) -> Result<Vec<[u8; 32]>, Memory>
         ensures { IfOk result (λ digests. digests.items ≡ gaps T.node (held self.now.events)) }
     {
@@ -193,7 +193,7 @@ impl<T: Knot> Log<T> {
         }
     }
 
-    /// The entry with this number among those that the owner sent, if it sent so many.
+    /// The entry with this number among those that the owner sent, if the owner sent that many.
     pub fn sent_at(&self, number: usize) -> Option<&T>
         ensures found { IfSome result (λ entry.
             slice_get (sent self.now.events) number ≡ Some entry.now) }

@@ -1,12 +1,8 @@
 -- Digests ascend where each is below the next.
-use Rattle.std.proofs.Common.{◌≡◌, ℕ, zero, suc, ◌+◌, ◌-◌, ◌<◌, ◌≤◌, ◌⊎◌, inl, inr, List, [], ◌∷◌, length, get_or}
-use Rattle.std.proofs.Common.{refl, subst, arith}
-use Rattle.std.specs.List.{Contains}
-use Rattle.std.specs.Cmp.Lexicographic.{slice_cmp}
-use Rattle.std.specs.Ordering.{nat_cmp}
-use Rattle.std.specs.declared.cmp.Ordering.TheVariants.{Less}
-use Rattle.std.proofs.lemmas.Cmp.{nat_list_cmp_total}
-use Rattle.entry_order.specs.Ascending.{IsAscending}
+use Rattle.std.proofs.Common.{◌<◌, length}
+use Rattle.entry_format.proofs.Imports.{◌≡◌, ℕ, zero, suc, ◌+◌, ◌-◌, ◌≤◌, ◌⊎◌, inl, inr, List, [], ◌∷◌, get_or, refl}
+use Rattle.entry_format.proofs.Imports.{subst, arith, Contains, slice_cmp, nat_cmp, Less, nat_list_cmp_total}
+use Rattle.entry_format.proofs.Imports.{IsAscending}
 
 -- of two numbers one is at most the other, or else above it
 le_cases : (m n : ℕ) → (m ≤ n) ⊎ (n < m)
@@ -24,7 +20,7 @@ later_is_above d e ds first below c (zero, within, is) = let P : List ℕ →
 later_is_above d e ds first below c (suc k, within, is) =
     nat_list_cmp_total.trans d e c first (below.0 c (k, omega arith, is))
 
--- digests of which each is below the next ascend, and the other way round
+-- digests ascend where each is below the next
 pub ascends : (ds : List (List ℕ)) → RisesTo (length ds) ds → IsAscending ds
 ascends [] rises = tt
 ascends (d ∷ []) rises = ((λ (c : List ℕ) (h : Contains [] c). absurd (omega (arith, h.1))), tt)
@@ -33,7 +29,7 @@ ascends (d ∷ e ∷ ds) rises =
     (λ (k : ℕ) (within : suc k < length (e ∷ ds)). rises (suc k) (omega arith)) in
     (later_is_above d e ds (rises 0 (omega arith)) rest, rest)
 
--- in ascending digests each is below the one behind it
+-- in ascending digests each is below the one after it
 pub ascends_at : (ds : List (List ℕ)) (k : ℕ) → IsAscending ds → suc k < length ds →
     slice_cmp nat_cmp (get_or ds k []) (get_or ds (suc k) []) ≡ Less
 ascends_at [] k h within = absurd (omega arith)

@@ -1,23 +1,11 @@
 -- Which fault a text has.
-use Rattle.std.proofs.Common.{◌≡◌, ◌∙◌, ℕ, Result, Ok, Err, refl, List, [], ◌∷◌, sym, ap, subst}
-use Rattle.std.specs.Prelude.{codes}
-use Rattle.canonical_sexp.specs.declared.sexp.Sexp.{Sexp}
-use Rattle.canonical_sexp.specs.declared.sexp.Sexp.TheVariants.{Atom}
-use Rattle.canonical_sexp.specs.Text.{text_of, Fits}
-use Rattle.canonical_sexp.specs.Forms.{list_of}
-use Rattle.entry_order.specs.Ascending.{IsAscending}
-use Rattle.entry_format.specs.declared.entry.Entry.{Entry}
-use Rattle.entry_format.specs.EntryText.{IsEntry, body_tree, signed_tree, IsSignedText}
-use Rattle.entry_format.specs.inside.Parts.{IsSigned}
-use Rattle.entry_format.specs.declared.plain.Plain.{Plain}
-use Rattle.entry_format.specs.declared.plain.EntryFault.{EntryFault}
-use Rattle.entry_format.specs.declared.plain.EntryFault.TheVariants.{NotCanonical, WrongShape, NamesNotRising}
-use Rattle.entry_format.specs.declared.plain.EntryFault.TheVariants.{OtherElection, UnknownMaker, WrongIndex}
-use Rattle.entry_format.specs.declared.plain.EntryFault.TheVariants.{BadSignature, Memory}
-use Rattle.entry_format.specs.Reading.{HasForm, HasRisingNames, IsFormFault, Reads}
-use Rattle.canonical_sexp.specs.Reading.{IsCanonical}
+use Rattle.entry_format.proofs.Imports.{◌≡◌, ◌∙◌, ℕ, Result, Ok, Err, refl, List, [], ◌∷◌, sym, ap, subst, codes}
+use Rattle.entry_format.proofs.Imports.{Sexp, Atom, text_of, Fits, list_of, IsAscending, Entry, IsEntry, body_tree}
+use Rattle.entry_format.proofs.Imports.{signed_tree, IsSignedText, IsSigned, Plain, EntryFault, NotCanonical}
+use Rattle.entry_format.proofs.Imports.{WrongShape, NamesNotRising, OtherElection, UnknownMaker, WrongIndex}
+use Rattle.entry_format.proofs.Imports.{BadSignature, Memory, HasForm, HasRisingNames, IsFormFault, Reads}
+use Rattle.entry_format.proofs.Imports.{IsCanonical, one_text}
 use Rattle.entry_format.proofs.OneEntry.{one_entry, one_signed}
-use Rattle.roster.proofs.Forms.{one_text}
 
 -- the tree of a text with the form of an entry
 pub tree_of_form : (text : List ℕ) (tree : Sexp) (entry : Entry) (signature : List ℕ) → Fits tree →

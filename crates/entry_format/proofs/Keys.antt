@@ -1,16 +1,8 @@
 -- Signatures under keys, and the keys of machines.
-use Rattle.std.proofs.Common.{◌≡◌, ◌≢◌, ◌↔◌, ℕ, ◌+◌, ◌*◌, ◌<◌, ◌≤◌, ◌⊎◌, inl, inr, List, [], length, get_or}
-use Rattle.std.proofs.Common.{Result, Err, refl, subst, sym, arith}
-use Rattle.std.specs.Prelude.{IsErrOf}
-use Rattle.std.proofs.lemmas.List.{get_or-map}
-use Rattle.lms_ots.specs.declared.kind.OtsKind.{OtsKind}
-use Rattle.lms_ots.specs.declared.kind.OtsKind.TheVariants.{W1, W2, W4, W8}
-use Rattle.lms_ots.specs.Parameters.{signature_len}
-use Rattle.lms_sign.specs.declared.public.KeyFault.{KeyFault}
-use Rattle.lms_sign.specs.declared.public.KeyFault.TheVariants.{Length, UnknownType}
-use Rattle.lms_sign.specs.Signs.{HasTypes, Signs}
-use Rattle.roster.specs.declared.post.Post.{Post}
-use Rattle.entry_format.specs.Unsealing.{key_at}
+use Rattle.std.proofs.Common.{◌≢◌, ◌<◌, length}
+use Rattle.entry_format.proofs.Imports.{◌≡◌, ◌↔◌, ℕ, ◌+◌, ◌*◌, ◌≤◌, ◌⊎◌, inl, inr, List, [], get_or, Result, Err}
+use Rattle.entry_format.proofs.Imports.{refl, subst, sym, arith, IsErrOf, get_or-map, OtsKind, W1, W2, W4, W8}
+use Rattle.entry_format.proofs.Imports.{signature_len, KeyFault, Length, UnknownType, HasTypes, Signs, Post, key_at}
 
 -- the answer for what is no key
 abbrev refused : KeyFault → Result (List ℕ) KeyFault
@@ -26,7 +18,7 @@ no_key key message signature Length length_is unknown_is signs = length_is.0 ref
 no_key key message signature UnknownType length_is unknown_is signs =
     (unknown_is.0 refl).1 signs.kind signs.height signs.types
 
--- the same signature under the same key
+-- a signature under a key is one under an equal key, of an equal message
 pub signs_same : (key other message another signature : List ℕ) → key ≡ other → message ≡ another →
     Signs key message signature → Signs other another signature
 signs_same key other message another signature same also signs =

@@ -1,3 +1,4 @@
+mod Imports
 pub mod Ascending
 pub mod Taken
 pub mod OneEntry

@@ -1,24 +1,14 @@
 -- The texts of entries are within the limits of canonical texts.
-use Rattle.std.proofs.Common.{◌≡◌, ℕ, ◌^◌, ◌<◌, ◌≤◌, List, [], ◌∷◌, length, map, All, refl, arith}
-use Rattle.std.specs.Fmt.{decimal}
-use Rattle.std.specs.Prelude.{Bool, true, false, ◌==◌, if◌then◌else◌, codes}
-use Rattle.canonical_sexp.specs.Forms.{list_of, number_atom}
-use Rattle.std.proofs.lemmas.List.Elements.{All-head, All-tail}
-use Rattle.canonical_sexp.specs.declared.sexp.Sexp.{Sexp}
-use Rattle.canonical_sexp.specs.declared.sexp.Sexp.TheVariants.{Atom, List as Branch}
-use Rattle.canonical_sexp.specs.Forest.{Forest, no_trees, count_of}
-use Rattle.canonical_sexp.specs.Sexp.{forest_of}
-use Rattle.canonical_sexp.specs.Text.{AreWithin, IsWithin, Fits, max_octets, max_members}
-use Rattle.canonical_sexp.proofs.Decimal.{length-decimal-le_20}
-use Rattle.canonical_sexp.proofs.Rows.{AreWithin-one, count_of-one}
-use Rattle.canonical_sexp.proofs.InPlace.{more_deep}
-use Rattle.entry_format.specs.declared.deed.Deed.{Deed}
-use Rattle.entry_format.specs.declared.deed.Deed.TheVariants.{Opened, Authorise, Override, Closed, Activate, Commit}
-use Rattle.entry_format.specs.declared.deed.Deed.TheVariants.{Cast, Cancel, Challenge}
-use Rattle.entry_format.specs.declared.deed.How.{How}
+use Rattle.std.proofs.Common.{◌^◌, ◌<◌, length}
+use Rattle.entry_format.proofs.Imports.{◌≡◌, ℕ, ◌≤◌, List, [], ◌∷◌, map, All, refl, arith, decimal, codes, list_of}
+use Rattle.entry_format.proofs.Imports.{number_atom, All-head, All-tail, Sexp, Atom, Forest, no_trees, count_of}
+use Rattle.entry_format.proofs.Imports.{forest_of, AreWithin, IsWithin, Fits, max_octets, max_members}
+use Rattle.entry_format.proofs.Imports.{length-decimal-le_20, AreWithin-one, count_of-one, more_deep, Deed, Opened}
+use Rattle.entry_format.proofs.Imports.{Authorise, Override, Closed, Activate, Commit, Cast, Cancel, Challenge, How}
+use Rattle.entry_format.proofs.Imports.{Entry, IsDigest, IsDeed, IsEntry, how_word, deed_tree, body_tree, signed_tree}
+use Rattle.std.specs.Prelude.{Bool, true, false, ◌==◌, if◌then◌else◌}
+use Rattle.canonical_sexp.specs.declared.sexp.Sexp.TheVariants.{List as Branch}
 use Rattle.entry_format.specs.declared.deed.How.TheVariants as how
-use Rattle.entry_format.specs.declared.entry.Entry.{Entry}
-use Rattle.entry_format.specs.EntryText.{IsDigest, IsDeed, IsEntry, how_word, deed_tree, body_tree, signed_tree}
 use Rattle.entry_format.proofs.Taken.{version_small}
 
 -- the members of a list

@@ -1,26 +1,14 @@
 -- A text has one entry.
-use Rattle.std.proofs.Common.{◌≡◌, ◌∙◌, ℕ, ◌^◌, get_or, if◌then◌else◌, ◌<◌, ◌==◌, Bool, true, false, List, [], ◌∷◌, map}
-use Rattle.std.proofs.Common.{refl, ap, sym, arith}
-use Rattle.std.proofs.lemmas.Fmt.{decimal_injective}
-use Rattle.std.specs.Prelude.{codes}
-use Rattle.std.specs.Fmt.{decimal}
-use Rattle.canonical_sexp.specs.declared.sexp.Sexp.{Sexp}
-use Rattle.canonical_sexp.specs.declared.sexp.Sexp.TheVariants.{Atom, List as Branch}
-use Rattle.canonical_sexp.specs.Sexp.{forest_of, members_of}
-use Rattle.canonical_sexp.specs.Forms.{list_of, number_atom}
-use Rattle.canonical_sexp.proofs.Decimal.{number_from, number_from-decimal}
-use Rattle.canonical_sexp.proofs.Rows.{members_of-forest_of}
-use Rattle.std.specs.Str.{bytes_eq}
-use Rattle.entry_format.specs.declared.deed.Deed.{Deed}
-use Rattle.entry_format.specs.declared.deed.Deed.TheVariants.{Opened, Authorise, Override, Closed, Activate, Commit}
-use Rattle.entry_format.specs.declared.deed.Deed.TheVariants.{Cast, Cancel, Challenge}
-use Rattle.entry_format.specs.declared.deed.How.{How}
+use Rattle.std.proofs.Common.{◌^◌, if◌then◌else◌, ◌<◌, ◌==◌, Bool, true, false}
+use Rattle.entry_format.proofs.Imports.{◌≡◌, ◌∙◌, ℕ, get_or, List, [], ◌∷◌, map, refl, ap, sym, arith}
+use Rattle.entry_format.proofs.Imports.{decimal_injective, codes, decimal, Sexp, Atom, forest_of, members_of, list_of}
+use Rattle.entry_format.proofs.Imports.{number_atom, number_from, number_from-decimal, members_of-forest_of, bytes_eq}
+use Rattle.entry_format.proofs.Imports.{Deed, Opened, Authorise, Override, Closed, Activate, Commit, Cast, Cancel}
+use Rattle.entry_format.proofs.Imports.{Challenge, How, Entry, IsDeed, IsDeedIn, IsEntry, how_word, deed_tree}
+use Rattle.entry_format.proofs.Imports.{body_tree, signed_tree, IsSignedText, one_text}
+use Rattle.canonical_sexp.specs.declared.sexp.Sexp.TheVariants.{List as Branch}
 use Rattle.entry_format.specs.declared.deed.How.TheVariants as how
-use Rattle.entry_format.specs.declared.entry.Entry.{Entry}
-use Rattle.entry_format.specs.EntryText.{IsDeed, IsDeedIn, IsEntry, how_word, deed_tree}
-use Rattle.entry_format.specs.EntryText.{body_tree, signed_tree, IsSignedText}
 use Rattle.entry_format.proofs.Taken.{atoms_of, version_small}
-use Rattle.roster.proofs.Forms.{one_text}
 
 -- a number has one atom
 one_number : (m n : ℕ) → m < 2 ^ 32 → n < 2 ^ 32 → number_atom m ≡ number_atom n → m ≡ n

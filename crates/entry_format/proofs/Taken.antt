@@ -1,27 +1,15 @@
 -- Members of a row that are taken one after another.
-use Rattle.std.proofs.Common.{◌≡◌, ◌∙◌, inl, inr, refl, ap, sym, subst, arith, List, [], ◌∷◌, ◌++◌, ℕ, map, All, Option}
-use Rattle.std.proofs.Common.{Some, None}
-use Rattle.std.specs.Fmt.{decimal}
-use Rattle.std.specs.Prelude.{length, codes, ◌<◌, ◌^◌, ◌==◌, ◌≢◌, Bool, true, false, if◌then◌else◌}
-use Rattle.std.proofs.lemmas.List.Elements.{All-head, All-tail}
-use Rattle.std.proofs.lemmas.Fmt.{decimal_injective}
-use Rattle.canonical_sexp.specs.declared.sexp.Sexp.{Sexp}
-use Rattle.canonical_sexp.specs.declared.sexp.Sexp.TheVariants.{Atom, List as Branch}
-use Rattle.canonical_sexp.specs.Forest.{Forest, no_trees, atom_then, joined}
-use Rattle.canonical_sexp.specs.Sexp.{in_front, forest_of, members_of}
-use Rattle.canonical_sexp.specs.Forms.{Finds, list_of, number_atom}
-use Rattle.canonical_sexp.proofs.Decimal.{length-decimal-le_20, AreDigits, decimal_digits}
-use Rattle.canonical_sexp.proofs.Rows.{joined-none}
-use Rattle.std.specs.Option.{IsSome}
-use Rattle.entry_format.specs.EntryText.{IsVersion, IsDigest, IsDeedIn, IsEntry, how_word, deed_tree, body_tree}
-use Rattle.entry_format.specs.declared.deed.How.{How}
+use Rattle.entry_format.proofs.Imports.{◌≡◌, ◌∙◌, inl, inr, refl, ap, sym, subst, arith, List, [], ◌∷◌, ◌++◌, ℕ, map}
+use Rattle.entry_format.proofs.Imports.{All, Option, Some, None, decimal, codes, All-head, All-tail}
+use Rattle.entry_format.proofs.Imports.{decimal_injective, Sexp, Atom, Forest, no_trees, atom_then, joined, in_front}
+use Rattle.entry_format.proofs.Imports.{forest_of, members_of, Finds, list_of, number_atom, length-decimal-le_20}
+use Rattle.entry_format.proofs.Imports.{AreDigits, decimal_digits, joined-none, IsSome, IsVersion, IsDigest, IsDeedIn}
+use Rattle.entry_format.proofs.Imports.{IsEntry, how_word, deed_tree, body_tree, How, Entry, Head, IsHead}
+use Rattle.entry_format.proofs.Imports.{IsVersionDeed, head_then, Deed, Opened, Authorise, Override, Closed, Activate}
+use Rattle.entry_format.proofs.Imports.{Commit, Cast, Cancel, Challenge}
+use Rattle.std.specs.Prelude.{length, ◌<◌, ◌^◌, ◌==◌, ◌≢◌, Bool, true, false, if◌then◌else◌}
+use Rattle.canonical_sexp.specs.declared.sexp.Sexp.TheVariants.{List as Branch}
 use Rattle.entry_format.specs.declared.deed.How.TheVariants as how
-use Rattle.entry_format.specs.declared.entry.Entry.{Entry}
-use Rattle.entry_format.specs.declared.reading.Head.{Head}
-use Rattle.entry_format.specs.inside.Parts.{IsHead, IsVersionDeed, head_then}
-use Rattle.entry_format.specs.declared.deed.Deed.{Deed}
-use Rattle.entry_format.specs.declared.deed.Deed.TheVariants.{Opened, Authorise, Override, Closed, Activate, Commit}
-use Rattle.entry_format.specs.declared.deed.Deed.TheVariants.{Cast, Cancel, Challenge}
 
 -- the trees of a row of atoms
 pub atoms_of : (digests : List (List ℕ)) → members_of (forest_of (map Atom digests)) ≡ map Atom digests
@@ -35,7 +23,7 @@ pub atom_more : (digests : List (List ℕ)) (digest : List ℕ) (rest : Forest) 
 atom_more [] digest rest = refl
 atom_more (d ∷ digests) digest rest = ap (atom_then d) (atom_more digests digest rest)
 
--- the member behind some atoms of a row of atoms is an atom
+-- the member after some atoms of a row of atoms is an atom
 pub atom_behind : (digests all : List (List ℕ)) (tree : Sexp) (rest : Forest) → All IsDigest all →
     joined (forest_of (map Atom digests)) (in_front tree rest) ≡ forest_of (map Atom all) →
     (digest : List ℕ) × (IsDigest digest × (tree ≡ Atom digest))
@@ -58,7 +46,7 @@ pub how_no_digest : (how : How) (digest : List ℕ) → IsDigest digest → dige
 how_no_digest how.Cancel digest is e = omega (arith, ap length e)
 how_no_digest how.Cast digest is e = omega (arith, ap length e)
 
--- nor is it a number in decimal
+-- no word of what a booth is to do is a number in decimal
 pub how_no_number : (how : How) (number : ℕ) → number < 2 ^ 32 → decimal number ≡ how_word how → ⊥
 how_no_number how.Cancel number small e = let are = subst AreDigits e (decimal_digits number (omega arith)) in
     omega arith
@@ -93,7 +81,7 @@ numbers_authorise version word second first number (Cancel session) h small is e
 numbers_authorise version word second first number (Challenge session ballot) ((_, is_digest), _) small is e =
     let same : second ≡ ballot = cc in absurd (no_number number ballot small is_digest (sym is ∙ same))
 
--- some digests of a list were taken; the member behind them, if it is a list of digests
+-- some digests of a list were taken; the member after them, if it is a list of digests
 pub next_is_digest : (digests all : List (List ℕ)) (tree member : Sexp) (members left : Forest) →
     tree ≡ Branch (joined (forest_of (map Atom digests)) members) → members ≡ in_front member left →
     All IsDigest all → tree ≡ list_of (map Atom all) → (digest : List ℕ) × (IsDigest digest × (member ≡ Atom digest))
@@ -124,13 +112,13 @@ pub digest_found : (found : Option (List ℕ)) (tree : Sexp) → Finds (λ d. Is
 digest_found None tree none is = absurd (none is.0 is.1)
 digest_found (Some digest) tree found is = refl
 
--- and it is what was found
+-- where a digest is found, the member is the atom of that digest
 pub digest_is : (found : Option (List ℕ)) (digest : List ℕ) (tree : Sexp) →
     Finds (λ d. IsDigest d × (tree ≡ Atom d)) found → found ≡ Some digest → tree ≡ Atom digest
 digest_is None digest tree none same = absurd cc
 digest_is (Some other) digest tree is same = let one : other ≡ digest = cc in is.1 ∙ ap Atom one
 
--- what stands in a body before its names, and behind
+-- what is in a body before its names, and after them
 abbrev pub head_in : Entry → Head
 head_in entry = record {
   version = entry.version;
@@ -140,7 +128,7 @@ head_in entry = record {
   stamp = entry.stamp;
 }
 
--- what stands in a body behind its head: the names and the deed
+-- what is in a body after its head: the names and the deed
 abbrev pub behind_head : Entry → Forest
 behind_head entry = forest_of (list_of (map Atom entry.names) ∷ deed_tree entry.version entry.deed ∷ [])
 
@@ -174,7 +162,7 @@ rest_of_two (Atom a) (Branch b) rest left e = absurd cc
 rest_of_two (Branch a) (Atom b) rest left e = absurd cc
 rest_of_two (Branch a) (Branch b) rest left e = cc
 
--- what stands behind the head of a body, and the version that it says
+-- what comes after the head of a body, and the version that it says
 pub behind_same : (head : Head) (entry : Entry) (rest : Forest) → IsHead head → IsEntry entry →
     head_then head rest ≡ head_then (head_in entry) (behind_head entry) →
     (head.version ≡ entry.version) × (rest ≡ behind_head entry)

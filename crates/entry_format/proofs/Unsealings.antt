@@ -1,18 +1,10 @@
 -- At most one answer to a text is right.
-use Rattle.std.proofs.Common.{◌≡◌, ◌≢◌, ◌∙◌, ℕ, ◌<◌, ◌≤◌, inl, inr, Result, Ok, Err, refl, List, length, sym, ap}
-use Rattle.std.proofs.Common.{subst, arith}
-use Rattle.sha2.specs.Sha256.{sha256}
-use Rattle.canonical_sexp.specs.Text.{text_of}
-use Rattle.roster.specs.declared.post.Post.{Post}
-use Rattle.entry_format.specs.declared.entry.Entry.{Entry}
-use Rattle.entry_format.specs.declared.plain.EntryFault.{EntryFault}
-use Rattle.entry_format.specs.declared.plain.EntryFault.TheVariants.{NotCanonical, WrongShape, NamesNotRising}
-use Rattle.entry_format.specs.declared.plain.EntryFault.TheVariants.{OtherElection, UnknownMaker, WrongIndex}
-use Rattle.entry_format.specs.declared.plain.EntryFault.TheVariants.{BadSignature, Memory}
-use Rattle.entry_format.specs.EntryText.{body_tree, IsSignedText}
-use Rattle.entry_format.specs.SealedEntry.{SealedEntry}
-use Rattle.entry_format.specs.Sealing.{HasIndex}
-use Rattle.entry_format.specs.Unsealing.{key_at, IsValid, IsEntryFault, IsFault, Unseals}
+use Rattle.std.proofs.Common.{◌≢◌, ◌<◌, length}
+use Rattle.entry_format.proofs.Imports.{◌≡◌, ◌∙◌, ℕ, ◌≤◌, inl, inr, Result, Ok, Err, refl, List, sym, ap, subst}
+use Rattle.entry_format.proofs.Imports.{arith, sha256, text_of, Post, Entry, EntryFault, NotCanonical, WrongShape}
+use Rattle.entry_format.proofs.Imports.{NamesNotRising, OtherElection, UnknownMaker, WrongIndex, BadSignature, Memory}
+use Rattle.entry_format.proofs.Imports.{body_tree, IsSignedText, SealedEntry, HasIndex, key_at, IsValid, IsEntryFault}
+use Rattle.entry_format.proofs.Imports.{IsFault, Unseals}
 use Rattle.entry_format.proofs.OneEntry.{one_entry}
 use Rattle.entry_format.proofs.Forms.{no_fault, one_fault}
 use Rattle.entry_format.proofs.Keys.{signs_same}

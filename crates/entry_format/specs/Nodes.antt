@@ -15,7 +15,7 @@ node_with entry digest = record {
   stamp = entry.stamp;
 }
 
--- one whose signature isn't looked at
+-- one whose signature isn't checked
 abbrev pub node_of : Plain → Node
 node_of plain = node_with plain.entry plain.digest
 

@@ -9,7 +9,7 @@ use Rattle.entry_format.specs.Nodes.{node_of, node_of_sealed}
 abbrev pub plain_of : SealedEntry → Plain
 plain_of sealed = record { entry = sealed.entry; digest = sealed.digest }
 
--- the same of each
+-- what each sealed entry says, with its digest
 abbrev pub plains : List SealedEntry → List Plain
 plains sealed = map plain_of sealed
 

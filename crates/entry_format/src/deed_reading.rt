@@ -1,5 +1,5 @@
-//! Reading deeds where their texts stand. A deed is its word and what its table row says; the word
-//! is looked up by what the members behind it can be.
+//! Reading deeds in place. A deed is its word and what its table row says; the word
+//! is looked up by what the members after it can be.
 ghost use Rattle.std.specs.Prelude.{◌≡◌, ◌≢◌, ◌∷◌, ◌^◌, ◌<◌, ℕ, [], IfSome, IfNone};
 ghost use Rattle.std.specs.Fmt.{decimal};
 ghost use Rattle.canonical_sexp.specs.Forest.{no_trees, atom_then};
@@ -34,7 +34,8 @@ fn bare_deed(version: u32, word: &[u8]) -> Option<Deed>
     named(word, Deed::Opened).or(named(word, Deed::Closed))
 }
 
-/// The deed of a word and a session. An override that says no more is one of version 1, and cancels.
+/// The deed of a word and a session. An override that says no more is one of version 1, and
+/// cancels.
 fn session_deed(version: u32, word: &[u8], session: u32) -> Option<Deed>
     ensures { Finds (λ deed. IsVersionDeed version deed
         × (list_of (Atom word.now ∷ number_atom session ∷ []) ≡ deed_tree version deed)) result }
@@ -70,8 +71,9 @@ fn override_deed(version: u32, word: &[u8], session: u32, further: &[u8]) -> Opt
     requires version { IsVersion version }
     requires no_digest { ¬ IsDigest further.now }
     requires no_number { (number : ℕ) → number < 2 ^ 32 → further.now ≢ decimal number }
-    ensures { Finds (λ deed. IsVersionDeed version deed × (list_of
-        (Atom word.now ∷ number_atom session ∷ Atom further.now ∷ []) ≡ deed_tree version deed)) result }
+    ensures { Finds (λ deed. IsVersionDeed version deed
+        × (list_of (Atom word.now ∷ number_atom session ∷ Atom further.now ∷ [])
+        ≡ deed_tree version deed)) result }
 {
     let how = How::of_word(further)?;
     if version != 2 {
@@ -84,8 +86,9 @@ fn override_deed(version: u32, word: &[u8], session: u32, further: &[u8]) -> Opt
 /// to do: none is two of them.
 fn longer_deed(version: u32, word: &[u8], first: u32, second: &[u8]) -> Option<Deed>
     requires { IsVersion version }
-    ensures { Finds (λ deed. IsVersionDeed version deed × (list_of
-        (Atom word.now ∷ number_atom first ∷ Atom second.now ∷ []) ≡ deed_tree version deed)) result }
+    ensures { Finds (λ deed. IsVersionDeed version deed
+        × (list_of (Atom word.now ∷ number_atom first ∷ Atom second.now ∷ [])
+        ≡ deed_tree version deed)) result }
 {
     if let Some(session) = number_of(second) {
         let booth = first;
@@ -97,7 +100,7 @@ fn longer_deed(version: u32, word: &[u8], first: u32, second: &[u8]) -> Option<D
     override_deed(version, word, first, second)
 }
 
-/// The deed of a word and the members behind it, of which there are some.
+/// The deed of a word and the members after it, of which there are some.
 fn argued_deed(version: u32, word: &[u8], members: &mut Rest<'_>) -> Option<Deed>
     requires version { IsVersion version }
     requires some { members.old ≢ no_trees }

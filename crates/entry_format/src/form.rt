@@ -1,4 +1,4 @@
-//! What is read of an entry's text without a roster: the entry, and its parts where they stand.
+//! What is read of an entry's text without a roster: the entry, and its parts in place.
 ghost use Rattle.std.specs.Prelude.{◌≢◌, IfOk, IfErr};
 ghost use Rattle.canonical_sexp.specs.Text.{text_of, Fits};
 ghost use Rattle.entry_format.specs.Reading.{IsFormFault};
@@ -10,7 +10,7 @@ use crate::reading::{entry_of, is_rising, signed_parts};
 use canonical_sexp::Text;
 use std::alloc::Global;
 
-/// An entry with the parts of the text that it stands in.
+/// An entry with the parts of its text.
 #[derive(Drop)]
 pub(crate) struct Form<'a> {
     pub(crate) entry: Entry,

@@ -1,4 +1,5 @@
-//! Laws about entries and their texts, which hold of the definitions alone. Each is the contract of a
+//! Laws about entries and their texts, which hold of the definitions alone. Each is the contract of
+//! a function that does nothing.
 //! function that does nothing.
 ghost use Rattle.std.specs.Prelude.{◌≡◌, ℕ, List, Result};
 ghost use Rattle.entry_order.specs.Exact.{CompletionsExist, OrderIsExact};
@@ -39,8 +40,8 @@ pub fn completions_exist()
     ensures { CompletionsExist node_of }
 {}
 
-/// One of two survivors is known to precede the other exactly where it does in each completion, and
-/// is known not to exactly where it does in none.
+/// One of two survivors is known to precede the other exactly when it does in each completion, and
+/// is known not to exactly when it does in none.
 pub fn order_is_exact()
     ensures { OrderIsExact node_of }
 {}

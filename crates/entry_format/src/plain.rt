@@ -1,4 +1,4 @@
-//! Entries whose signatures aren't looked at.
+//! Entries whose signatures aren't checked.
 ghost use Rattle.std.specs.Prelude.{◌≡◌, ◌≢◌, Err};
 ghost use Rattle.canonical_sexp.specs.Text.{text_of};
 ghost use Rattle.entry_format.specs.Reading.{Reads, fault_word};
@@ -109,7 +109,8 @@ pub fn read_unsigned(alloc: Global, text: &[u8]) -> Result<Plain, EntryFault>
     }
 }
 
-/// The same of a text that stands in another, as that of a record in a log.
+/// Reads the text of an entry within another text, as within a record in a log. The signature
+/// isn't checked.
 ///
 /// # Errors
 ///

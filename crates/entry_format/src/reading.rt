@@ -1,4 +1,4 @@
-//! Reading the parts of an entry where its text stands. What is of the wrong shape is found without
+//! Reading the parts of an entry in place. What is of the wrong shape is found without
 //! memory; of what is read only the names are copied to the heap.
 ghost use Rattle.std.specs.Prelude.{◌≡◌, ◌≢◌, ◌↔◌, List, ℕ, map, codes, All};
 ghost use Rattle.std.specs.Prelude.{IfOk, IfSome, IfNone, IsTrue};

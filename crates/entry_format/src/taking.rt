@@ -20,7 +20,7 @@ pub(crate) fn digest_from(octets: &[u8]) -> Option<[u8; 32]>
     Some(digest)
 }
 
-/// Takes the next member, if it is an atom, and lends its octets.
+/// Takes the next member, if it is an atom, and returns a reference to its octets.
 pub(crate) fn take_atom<'a>(members: &mut Rest<'a>) -> Option<&'a [u8]>
     ensures found { IfSome result (λ octets. members.old ≡ atom_then octets.now members.new) }
     ensures none { IfNone result ((octets : List ℕ) (rest : Forest) →
@@ -32,7 +32,7 @@ pub(crate) fn take_atom<'a>(members: &mut Rest<'a>) -> Option<&'a [u8]>
     }
 }
 
-/// Takes the last member, if it is an atom, and lends its octets.
+/// Takes the last member, if it is an atom, and returns a reference to its octets.
 pub(crate) fn last_atom<'a>(members: &mut Rest<'a>) -> Option<&'a [u8]>
     ensures found { IfSome result (λ octets. members.old ≡ atom_then octets.now no_trees) }
     ensures none { IfNone result ((octets : List ℕ) → members.old ≢ atom_then octets no_trees) }

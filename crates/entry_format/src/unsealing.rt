@@ -87,11 +87,11 @@ pub fn unseal(
     }
 }
 
-/// The same of a text that stands in another, as that of a record in a log.
+/// Unseals the text of an entry within another text, as within a record in a log.
 ///
 /// # Errors
 ///
-/// The first cause that applies behind `NotCanonical`.
+/// The first cause that applies after `NotCanonical`.
 pub fn unseal_text(
     alloc: Global,
     roster: &Roster,

@@ -10,7 +10,7 @@ use Rattle.entry_order.proofs.Lists.{Contains-map, Contains-map_cases, Contains-
 use Rattle.entry_gaps.specs.inside.Without.{IsWithout}
 
 module _ {T : Type 0} (node : T → Node) (E : List T) where
-  -- what is among sorted names is named, and the other way round
+  -- a digest among the sorted names is named by an entry
   named_in : (names named : List (List ℕ)) (d : List ℕ) → names ≡ flat_map (λ e. (node e).names) E
       → IsPermutation names named → Contains named d → IsNamedIn node E d
   named_in names named d is moved h =
@@ -18,7 +18,7 @@ module _ {T : Type 0} (node : T → Node) (E : List T) where
       Contains-flat_map_cases (λ e. (node e).names) E d
       (subst P is (Contains-permutation named names d (IsPermutation-sym names named moved) h))
 
-  -- and what is named is among the sorted names
+  -- a digest that an entry names is among the sorted names
   named_by : (names named : List (List ℕ)) (d : List ℕ) → names ≡ flat_map (λ e. (node e).names) E
       → IsPermutation names named → IsNamedIn node E d → Contains named d
   named_by names named d is moved (e, among, names_d) =
@@ -26,7 +26,7 @@ module _ {T : Type 0} (node : T → Node) (E : List T) where
       Contains-permutation names named d moved
       (subst P (sym is) (Contains-flat_map (λ e. (node e).names) E e d among names_d))
 
-  -- the same of what is borne
+  -- an entry has each of the sorted digests
   borne_in : (digests borne : List (List ℕ)) (d : List ℕ) → digests ≡ map (λ e. (node e).digest) E
       → IsPermutation digests borne → Contains borne d → IsBorneIn node E d
   borne_in digests borne d is moved h =
@@ -34,7 +34,7 @@ module _ {T : Type 0} (node : T → Node) (E : List T) where
       Contains-map_cases (λ e. (node e).digest) E d
       (subst P is (Contains-permutation borne digests d (IsPermutation-sym digests borne moved) h))
 
-  -- and what is borne is among the sorted digests
+  -- a digest that an entry has is among the sorted digests
   borne_by : (digests borne : List (List ℕ)) (d : List ℕ) → digests ≡ map (λ e. (node e).digest) E
       → IsPermutation digests borne → IsBorneIn node E d → Contains borne d
   borne_by digests borne d is moved (e, among, bears_d) =
@@ -43,7 +43,7 @@ module _ {T : Type 0} (node : T → Node) (E : List T) where
       Contains-permutation digests borne d moved
       (subst P (sym is) (subst Q bears_d (Contains-map (λ e. (node e).digest) E e among)))
 
-  -- the named digests that aren't borne, each once and ascending, are the gaps
+  -- the named digests that no entry has, each once and ascending, are the gaps
   pub gaps_from : (names named digests borne found : List (List ℕ)) → GapsAreUnique node
       → names ≡ flat_map (λ e. (node e).names) E → digests ≡ map (λ e. (node e).digest) E
       → IsPermutation names named → IsPermutation digests borne → IsWithout named borne found → found ≡ gaps node E

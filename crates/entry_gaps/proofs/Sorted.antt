@@ -117,14 +117,14 @@ taken_last xs i d c within is same =
     subst P (sym (take_more xs i d within ∙ ap (λ x. take i xs ++ x ∷ []) (sym is)))
     (subst Q same (Contains-push (take i xs) d))
 
--- what stands before a place is among those up to it
+-- what is before a place is among those up to it
 taken_before : (xs : List (List ℕ)) (i : ℕ) (d c : List ℕ) → i < length xs → Contains (take i xs) c
     → Contains (take (i + 1) xs) c
 taken_before xs i d c within h =
     let P : List (List ℕ) → Type 0 = λ ys. Contains ys c in
     subst P (sym (take_more xs i d within)) (Contains-append_left (take i xs) (get_or xs i d ∷ []) c h)
 
--- a digest among those before a place stands at one of them
+-- a digest among those before a place is at one of them
 taken_at : (xs : List (List ℕ)) (i : ℕ) (c : List ℕ) → i ≤ length xs → Contains (take i xs) c
     → (k : ℕ) × (k < i) × (get_or xs k c ≡ c)
 taken_at xs i c within (k, below_k, is) =
@@ -141,7 +141,7 @@ taken_prev xs i d c within some is =
     subst Q is (subst P last (taken_last xs (i - 1) (get_or xs (i - 1) d) (get_or xs (i - 1) d) (omega arith)
     (get_or_default xs (i - 1) d (get_or xs (i - 1) d) (omega arith)) refl))
 
--- a digest that isn't taken up: it is borne, or the same as the one before it
+-- a digest isn't taken up where an entry has it, or where it equals the digest before it
 pub skips : (named borne found : List (List ℕ)) (i : ℕ) (d : List ℕ) → i < length named → d ≡ get_or named i d
     → Contains borne d ⊎ ((0 < i) × (get_or named (i - 1) d ≡ d)) → IsWithout (take i named) borne found
     → IsWithout (take (i + 1) named) borne found

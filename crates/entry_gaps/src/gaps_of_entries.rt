@@ -17,7 +17,7 @@ pub type Memory = AllocError;
 /// Digests of 32 bytes each. A contract sees them as a list.
 pub type Digests = Items<[u8; 32]>;
 
-/// The digests that one of the entries names and none of them bears, each once, ascending in the
+/// The digests that one of the entries names and none of them has, each once, ascending in the
 /// order of their bytes. It takes time for n entries and names as sorting them, n log n.
 pub fn gaps<T: Knot>(alloc: Global, entries: &[T]) -> Result<Digests, Memory>
     ensures { IfOk result (λ digests. digests ≡ gaps_of T.node entries.now) }
@@ -42,7 +42,7 @@ pub fn ascending(alloc: Global, digests: Vec<[u8; 32]>) -> Result<Digests, Memor
     Ok(Items::from_vec(found))
 }
 
-/// The digests that the entries bear, in their order.
+/// The digests that the entries have, in their order.
 fn digests_of<T: Knot>(alloc: Global, entries: &[T]) -> Result<Vec<[u8; 32]>, Memory>
     ensures { IfOk result (λ digests.
         digests.items ≡ map (λ entry. (T.node entry).digest) entries.now) }
@@ -66,7 +66,7 @@ fn names_of<T: Knot>(alloc: Global, entries: &[T]) -> Result<Vec<[u8; 32]>, Memo
     Ok(names)
 }
 
-/// Those of the named digests that aren't borne, each once. Both lists are sorted.
+/// Those of the named digests that no entry has, each once. Both lists are sorted.
 fn without(alloc: Global, named: &[[u8; 32]], borne: &[[u8; 32]]) -> Result<Vec<[u8; 32]>, Memory>
     requires named { IsSorted (slice_cmp nat_cmp) named.now }
     requires borne { IsSorted (slice_cmp nat_cmp) borne.now }

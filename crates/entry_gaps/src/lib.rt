@@ -1,4 +1,4 @@
-//! The gaps of entries: the digests that an entry names and none of them bears.
+//! The gaps of entries: the digests that an entry names and none of them has.
 #![tactic(auto)]
 
 mod gaps_of_entries;

@@ -42,7 +42,7 @@ is_set old new name bytes here others = fun_ext (λ other.
       | false ↦ λ e. others other (λ same. false≢true (sym e ∙ (bytes_eq-Decides other name).1 same))
     ] refl)
 
--- the files from a place on are the one there and those behind it
+-- the files from a place on are the one there and those after it
 at_drop : (files : List File) (i : ℕ) (d : File) → i < length files → drop i files ≡ get_or files i d
     ∷ drop (i + 1) files
 at_drop files i d h = drop-cons files i d h ∙ ap (λ k. get_or files i d ∷ drop k files) (sym (add-one i))
@@ -116,7 +116,7 @@ others_at ((old_name, old) ∷ files) name other zero (new_name, new) h n ne =
 others_at (file ∷ files) name other (suc i) pair h n ne = ap (cond (bytes_eq file.0 other) (Some file.1))
     (others_at files name other i pair h.1 n ne)
 
--- so another content at its place sets the named file
+-- new content at the place of a name sets the named file
 pub sets_at : (files : List (List ℕ × List ℕ)) (name bytes : List ℕ) (i : ℕ) (pair : List ℕ × List ℕ)
     → IsPlaceOf files name i → bytes_eq pair.0 name ≡ true → pair.1 ≡ bytes
     → content_of (set files i pair) ≡ file_set (content_of files) name bytes
@@ -142,7 +142,7 @@ added_others [] name bytes other ne = ap (λ b. cond b (Some bytes) None) (other
 added_others (file ∷ files) name bytes other ne = ap (cond (bytes_eq file.0 other) (Some file.1))
     (added_others files name bytes other ne)
 
--- so a file more sets the named file
+-- appending a file whose name is new sets the named file
 pub adds : (files : List (List ℕ × List ℕ)) (name bytes : List ℕ) → content_of files name ≡ None
     → content_of (files ++ (name, bytes) ∷ []) ≡ file_set (content_of files) name bytes
 adds files name bytes h =
@@ -188,7 +188,7 @@ file_set_at files name bytes i old new h is same e =
     ∙ name_at (stored files) name i (pair_of old) h in
     subst P (sym (map-set pair_of files i new)) (sets_at (stored files) name bytes i (pair_of new) h named e)
 
--- a file that is put behind the others is set
+-- a file that is put after the others is set
 pub file_added : (files : List File) (new : File) (name bytes : List ℕ) → content_of (stored files) name ≡ None
     → (pair_of new).0 ≡ name → new.bytes.items ≡ bytes
     → content_of (stored (files ++ new ∷ [])) ≡ file_set (content_of (stored files)) name bytes
@@ -199,7 +199,7 @@ file_added files new name bytes h n e =
     subst P (ap (λ p. stored files ++ p) pair ∙ sym (map-append pair_of files (new ∷ [])))
     (adds (stored files) name bytes h)
 
--- the same files, one of whose bytes were moved
+-- setting a file to one with the same name and bytes changes nothing
 pub stored_same : (files : List File) (i : ℕ) (old new : File) → old ≡ get_or files i old → pair_of new ≡ pair_of old
     → stored (set files i new) ≡ stored files
 stored_same files i old new is e = map-set_same pair_of files i new old (e ∙ ap pair_of is)
@@ -213,7 +213,7 @@ place_in a b name i e h = let P : List File → Type 0 = λ fs. IsPlaceOf (store
 pub some_and : (o : Option (List ℕ)) (x : List ℕ) (P : List ℕ → Type 0) → o ≡ Some x → P x → IsSomeAnd o P
 some_and o x P e h = let Q : Option (List ℕ) → Type 0 = λ p. IsSomeAnd p P in subst Q (sym e) h
 
--- a piece that is put behind a file's bytes is appended to the file
+-- a piece that is put after a file's bytes is appended to the file
 pub appended_at : (files : List File) (name piece : List ℕ) (i : ℕ) (old new : File)
     → IsPlaceOf (stored files) name i → old ≡ get_or files i old
     → (pair_of new).0 ≡ (pair_of old).0 → new.bytes.items ≡ old.bytes.items ++ piece

@@ -1,4 +1,4 @@
--- Reading a file piece by piece, where files are told.
+-- Reading a file piece by piece, where the store exposes its files.
 use Rattle.std.proofs.Common.{◌≡◌, ◌∙◌, ℕ, ◌+◌, ◌<◌, ◌≤◌, List, [], ◌++◌, length, take, drop, Option, Some, None, refl}
 use Rattle.std.proofs.Common.{ap, sym, subst, arith, length-append}
 use Rattle.std.specs.Prelude.{IsSomeAnd}
@@ -14,11 +14,11 @@ abbrev pub IsFront : List ℕ → Option (List ℕ) → Type 0
 IsFront bytes None = bytes ≡ []
 IsFront bytes (Some file) = bytes ≡ take (length bytes) file
 
--- what a read says of a file that is told
+-- what a read says of a file that the store exposes
 abbrev pub IsReadFrom : List ℕ → List ℕ → Option (List ℕ) → Type 0
 IsReadFrom bytes part file = IsSomeAnd file (IsPartFrom (length bytes) part)
 
--- a front and the part that was read behind it are a front
+-- a front of a file and the part that was read after it are a front
 front_more : (file : Option (List ℕ)) (bytes part : List ℕ) → IsFront bytes file → IsReadFrom bytes part file
     → IsFront (bytes ++ part) file
 front_more None bytes part front read = absurd read
@@ -46,7 +46,7 @@ long_front (Some file) bytes part limit front read long =
       length-append bytes part,
     )
 
--- the same of files that may not be told
+-- no bytes are a front of the named file, also where the store doesn't expose it
 pub begun : (files : Option Files) (name : List ℕ) → OnFile files name (IsFront [])
 begun None name = tt
 begun (Some files) name = empty (files name)

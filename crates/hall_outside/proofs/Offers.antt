@@ -12,7 +12,7 @@ abbrev pub Continues : {S : Type 0} → (S → List ℕ → Result ℕ Failed �
 Continues {S} step start now bytes left =
     (ok : Bool) (end : S) → OffersAll step now left ok end → OffersAll step start bytes ok end
 
--- the same behind a create
+-- what is still to be offered completes what was begun with a create
 abbrev pub Creates : {S : Type 0} → (S → Bool → S → Type 0) → (S → List ℕ → Result ℕ Failed → S → Type 0) → S → S
     → List ℕ → List ℕ → Type 0
 Creates {S} create step start now bytes left =
@@ -56,7 +56,7 @@ not_created_at create step old new bytes (Ok x) err c = absurd (false≢true err
 pub raised_twice : (before m n : ℕ) → raised (raised before m) n ≡ raised before (m + n)
 raised_twice before m n = omega arith
 
--- a count stands where what it counts didn't come
+-- a count is unchanged where what it counts didn't come
 pub unrisen : (before now : ℕ) → HasCause before now (false ≡ true) → now ≡ before
 unrisen before now cause =
     let stays : before < now → ⊥ = λ risen. false≢true (cause.always risen) in

@@ -15,7 +15,7 @@ front_grows : (bytes piece : List ℕ) (at n : ℕ) → piece ≡ drop at bytes
     → take at bytes ++ take n piece ≡ take (at + n) bytes
 front_grows bytes piece at n p = ap (λ q. take at bytes ++ take n q) p ∙ sym (take-add at n bytes)
 
--- the same behind what was written before
+-- a front of the bytes and the next part of them, appended to what was written before
 pub appended_more : (written mid new : Option (List ℕ)) (bytes piece : List ℕ) (at n : ℕ) → piece ≡ drop at bytes
     → mid ≡ appended written (take at bytes) → new ≡ appended mid (take n piece)
     → new ≡ appended written (take (at + n) bytes)
@@ -39,7 +39,7 @@ set_again files name first last other = elim (bytes_eq other name) as
       | false ↦ refl
     ]
 
--- a piece behind a file that was just set is part of what was set
+-- a piece after a file that was just set is part of what was set
 appended_set : (files : Files) (name bytes piece : List ℕ)
     → file_appended (file_set files name bytes) name piece ≡ file_set files name (bytes ++ piece)
 appended_set files name bytes piece =
@@ -63,7 +63,7 @@ there_now None name bytes = tt
 there_now (Some files) name bytes = let Q : Bool
     → Type 0 = λ b. IsSome (cond b (Some bytes) (files name)) in subst Q (sym (eq_self name)) refl
 
--- so it is there afterwards
+-- a file that was set is there afterwards
 pub put_there : (files now : Option Files) (name bytes : List ℕ) → now ≡ with_file files name bytes
     → OnFile now name IsSome
 put_there files now name bytes e = let P : Option Files

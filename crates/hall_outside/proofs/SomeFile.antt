@@ -1,11 +1,11 @@
--- Some file, where none is told.
+-- Some file, where the store exposes none.
 use Rattle.std.proofs.Common.{◌≡◌, ℕ, ◌+◌, List, [], ◌∷◌, length, Option, Some, None, refl, arith, zero, suc}
 use Rattle.hall_outside.specs.Files.{Files, OnFile, OnSomeFile}
 use Rattle.hall_outside.specs.ReadFile.{IsFileRefused}
 use Rattle.hall_outside.specs.declared.reading.FileFault.{FileFault}
 use Rattle.hall_outside.specs.declared.reading.FileFault.TheVariants.{Absent, TooLong, ReadFault, Memory}
 
--- what holds of the file that is told, and of one where none is
+-- what holds of the exposed file, and of a given one where none is exposed, holds of some file
 pub some_file : (files : Option Files) (name : List ℕ) (P : Option (List ℕ) → Type 0) (file : Option (List ℕ))
     → P file →
     OnFile files name P → OnSomeFile files name P
@@ -22,7 +22,7 @@ abbrev noughts : ℕ → List ℕ
 noughts zero = []
 noughts (suc n) = 0 ∷ noughts n
 
--- so many noughts are so many bytes
+-- this many noughts are this many bytes
 length_noughts : (n : ℕ) → length (noughts n) ≡ n
 length_noughts zero = refl
 length_noughts (suc n) = let rest = length_noughts n in omega (arith, rest)
@@ -34,7 +34,7 @@ refused_file limit TooLong = Some (noughts (limit + 1))
 refused_file limit ReadFault = None
 refused_file limit Memory = None
 
--- that file is refused for this fault
+-- the file that was chosen for a fault is refused for it
 pub is_refused_file : (limit : ℕ) (fault : FileFault) → IsFileRefused limit fault (refused_file limit fault)
 is_refused_file limit Absent = refl
 is_refused_file limit TooLong = let long = length_noughts (limit + 1) in omega (arith, long)

@@ -1,4 +1,4 @@
--- Files by their names, where a store tells them.
+-- Files by their names, where a store exposes them.
 use Rattle.std.specs.Prelude.{ℕ, List, Option, Some, if◌then◌else◌, ◌≡◌, ◌⊎◌, take, IfSome, option_map}
 use Rattle.std.specs.Str.{bytes_eq}
 
@@ -6,11 +6,11 @@ use Rattle.std.specs.Str.{bytes_eq}
 abbrev pub Files : Type 0
 Files = List ℕ → Option (List ℕ)
 
--- where files are told, this holds of the named one, which may be absent
+-- where files are exposed, this holds of the named one, which may be absent
 abbrev pub OnFile : Option Files → List ℕ → (Option (List ℕ) → Type 0) → Type 0
 OnFile files name P = IfSome files (λ at. P (at name))
 
--- This holds of the named file, which may be absent: of the one that is told, or of some where none is.
+-- This holds of the named file, which may be absent: of the exposed one, or of some where none is exposed.
 abbrev pub OnSomeFile : Option Files → List ℕ → (Option (List ℕ) → Type 0) → Type 0
 OnSomeFile files name P = (file : Option (List ℕ)) × OnFile files name (λ told. told ≡ file) × P file
 
@@ -18,7 +18,7 @@ OnSomeFile files name P = (file : Option (List ℕ)) × OnFile files name (λ to
 abbrev pub file_set : Files → List ℕ → List ℕ → Files
 file_set files name bytes other = if bytes_eq other name then Some bytes else files other
 
--- the same, where files are told
+-- the files with one of them set, where files are exposed
 abbrev pub with_file : Option Files → List ℕ → List ℕ → Option Files
 with_file files name bytes = option_map (λ at. file_set at name bytes) files
 

@@ -36,7 +36,7 @@ abbrev pub room_within : Option ℕ → ℕ → ℕ
 room_within None room = room
 room_within (Some n) room = min n room
 
--- a read fails exactly where its number is listed, and else takes all that there is room for, within the bound
+-- a read fails exactly when its number is listed, and else takes all that there is room for, within the bound
 pub record IsMemoryRead (name : List ℕ) (at room : ℕ) (old : StoreState) (result : Result Taken Failed)
     (new : StoreState) : Type 0 where
   pub number : new.reads ≡ raised old.reads 1

@@ -8,7 +8,7 @@ use Rattle.hall_outside.specs.declared.reading.FileFault.{FileFault}
 use Rattle.hall_outside.specs.declared.reading.FileFault.TheVariants.{Absent, TooLong, ReadFault, Memory}
 use Rattle.hall_outside.specs.Files.{Files, OnFile}
 
--- the bytes are within the limit and, where files are told, exactly the file's
+-- the bytes are within the limit and, where files are exposed, exactly the file's
 pub record IsFileWhole (files : Option Files) (name : List ℕ) (limit : ℕ) (bytes : List ℕ) : Type 0 where
   pub fits : length bytes ≤ limit
   pub whole : OnFile files name (λ file. file ≡ Some bytes)

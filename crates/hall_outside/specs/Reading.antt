@@ -6,12 +6,12 @@ use Rattle.hall_outside.specs.declared.stores.Taken.TheVariants.{Absent, Bytes}
 use Rattle.hall_outside.specs.Counts.{raised}
 use Rattle.hall_outside.specs.Files.{Files, OnFile}
 
--- these bytes are the file's from `at` on, and there are none exactly at its end and past it
+-- the part is the file's bytes from `at` on, and is empty exactly at the file's end and past it
 abbrev pub IsPartFrom : ℕ → List ℕ → List ℕ → Type 0
 IsPartFrom at part file =
     (part ≡ take (length part) (drop at file)) × ((length part ≡ 0) ↔ (length file ≤ at))
 
--- what the answer of a read says of the buffer and, where files are told, of the file
+-- what the answer of a read says of the buffer and, where files are exposed, of the file
 abbrev pub IsTaken : Option Files → List ℕ → ℕ → List ℕ → List ℕ → Taken → Type 0
 IsTaken files name at old new Absent = (new ≡ old) × OnFile files name (λ file. file ≡ None)
 IsTaken files name at old new (Bytes n) =
@@ -23,7 +23,7 @@ pub record Answered : Type 0 where
   pub absences : ℕ
   pub bytes : ℕ
 
--- the same with one read's answer
+-- all that reads have answered, once this read's answer is added
 abbrev pub counted : Answered → Result Taken Failed → Answered
 counted before (Ok Absent) = record before { absences = raised before.absences 1 }
 counted before (Ok (Bytes n)) = record before { bytes = raised before.bytes n }

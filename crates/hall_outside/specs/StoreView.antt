@@ -7,11 +7,11 @@ use Rattle.hall_outside.specs.declared.memory_store.File.{File}
 abbrev pub pair_of : File → List ℕ × List ℕ
 pair_of file = (string_bytes file.name, file.bytes.items)
 
--- the same of each file
+-- each file's name and bytes
 abbrev pub stored : List File → List (List ℕ × List ℕ)
 stored files = map pair_of files
 
--- the first file with this name stands there
+-- the first file with this name is there
 abbrev pub IsPlaceOf : List (List ℕ × List ℕ) → List ℕ → ℕ → Type 0
 IsPlaceOf [] name i = ⊥
 IsPlaceOf (file ∷ files) name zero = bytes_eq file.0 name ≡ true

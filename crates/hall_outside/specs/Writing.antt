@@ -9,7 +9,7 @@ pub record IsCountOf (piece : List ℕ) (n : ℕ) : Type 0 where
   pub some : 0 < n
   pub at_most : n ≤ length piece
 
--- the bytes with these at their end, where they are told
+-- the bytes with these at their end, where the sink exposes them
 abbrev pub appended : Option (List ℕ) → List ℕ → Option (List ℕ)
 appended written bytes = option_map (λ before. before ++ bytes) written
 
@@ -22,7 +22,7 @@ file_appended files name bytes =
 abbrev pub AppendsPrefix : Option (List ℕ) → List ℕ → Option (List ℕ) → Type 0
 AppendsPrefix old bytes new = (n : ℕ) × (new ≡ appended old (take n bytes))
 
--- the files with these bytes at the end of one that is there, where files are told
+-- the files with these bytes at the end of one that is there, where files are exposed
 abbrev pub with_appended : Option Files → List ℕ → List ℕ → Option Files
 with_appended files name bytes = option_map (λ at. file_appended at name bytes) files
 

@@ -16,7 +16,7 @@ use std::rt::Files;
 /// The files of the system, in the folder where the program runs. It exposes nothing of them, and
 /// counts what it answered.
 ///
-/// A file that is created is written under another name beside its own, and stands under its own
+/// A file that is created is written under another name beside its own, and gets its own
 /// from `finish` on: all are flushed to the disk, and then renamed in the order in which they were
 /// created. Until then no file is changed, and a read finds the old one. Where a create, an append
 /// or a flush fails, all are given up and removed; where a rename does, those before it stand. Only

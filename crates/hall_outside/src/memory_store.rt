@@ -104,7 +104,7 @@ impl MemoryStore {
         }
     }
 
-    /// Sets one file. It counts as no call. Where memory is wanting, the store is as it was.
+    /// Sets one file. It counts as no call. When memory runs out, the store is as it was.
     pub fn place(&mut self, alloc: Global, name: &str, bytes: &[u8]) -> Result<(), Memory>
         ensures ok { OnOk result
             (content_of self.new.files ≡ file_set (content_of self.old.files) name.now bytes.now) }

@@ -29,7 +29,7 @@ const OWNER_BITS: u32 = 0o700;
 /// The system's number for a folder where a file is wanted.
 const IS_A_FOLDER: i32 = 21;
 
-/// The front of the path up to its last slash; none where the file stands in the current folder.
+/// The front of the path up to its last slash; none where the file is in the current folder.
 pub(crate) fn folder_of(name: &str) -> &str {
     match name.rfind('/') {
         Some(at) => &name[..at + 1],
@@ -88,8 +88,8 @@ pub(crate) fn set_bits(file: &File, bits: u32) -> io::Result<()> {
 }
 
 /// A new file under this name, locked, with these bits or the default ones, but for those that the
-/// user's mask has. What a program that was ended left there is removed; a file that another program
-/// is writing is left alone, and the call fails.
+/// user's mask has. What a program that was ended left there is removed; a file that another
+/// program is writing is left alone, and the call fails.
 pub(crate) fn new_file<R: Files<File = File>>(
     rt: &R,
     name: &str,
@@ -141,7 +141,7 @@ fn in_use() -> io::Error {
     io::Error::new(ErrorKind::ResourceBusy, "another program is writing it")
 }
 
-/// Removes the file that stands there, unless a program has it locked. What is no file, as a link,
+/// Removes the file that is there, unless a program has it locked. What is no file, as a link,
 /// was left by no program.
 fn remove_left<R: Files<File = File>>(rt: &R, name: &str) -> io::Result<()> {
     match fs::symlink_metadata(rt, name) {

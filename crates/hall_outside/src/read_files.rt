@@ -13,7 +13,7 @@ const FILES: usize = 19;
 /// command adds more than 21.
 pub(crate) const ROOM: usize = 1_152;
 
-/// What tells a file from those that stood under its name before and from itself before it was
+/// What distinguishes a file from those that had its name before and from itself before it was
 /// written to: its device and its number there, and when its bytes and its entry were last changed,
 /// in seconds and nanoseconds.
 #[derive(Clone, Copy, PartialEq, Eq)]
@@ -35,7 +35,7 @@ impl Identity {
     }
 }
 
-/// A name, and the file that stood there when it was read first, if one did.
+/// A name, and the file that had it when it was read first, if one did.
 #[derive(Drop)]
 struct ReadFile {
     name: String,
@@ -51,7 +51,7 @@ impl ReadFile {
     }
 }
 
-/// The files that were read, of which the first `count` places tell.
+/// The files that were read, in the first `count` places.
 #[derive(Drop)]
 pub(crate) struct ReadFiles {
     alloc: Global,
@@ -78,7 +78,7 @@ impl ReadFiles {
         self.count = 0;
     }
 
-    /// Keeps what stood under the name, unless it was read before.
+    /// Keeps what had the name, unless it was read before.
     pub fn note(&mut self, name: &str, found: Option<Identity>) -> Result<(), AllocError> {
         for file in self.places.iter().take(self.count) {
             if file.name.as_str() == name {
@@ -97,8 +97,8 @@ impl ReadFiles {
         Ok(())
     }
 
-    /// Fails with `ResourceBusy` where the name was read, and what stands there now isn't what stood
-    /// there then.
+    /// Fails with `ResourceBusy` where the name was read, and what it names now isn't what it named
+    /// then.
     pub fn require_unchanged<R: Files>(&self, rt: &R, name: &str) -> io::Result<()> {
         for file in self.places.iter().take(self.count) {
             if file.name.as_str() == name && file.found != identity_at(rt, name)? {

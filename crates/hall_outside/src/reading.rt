@@ -58,7 +58,7 @@ pub trait TakePieces {
             takes start (bytes ++ piece.now) self.new) };
 }
 
-/// A vector keeps them behind what it has.
+/// A vector keeps them after what it has.
 impl TakePieces for Vec<u8> {
     ghost use Rattle.std.specs.Prelude.{◌≡◌, ◌++◌, ◌^◌};
 
@@ -87,7 +87,7 @@ pub fn read_pieces<S: Store, T: TakePieces>(
     ensures err { IfErr result (λ fault.
         OnFile (S.files store.old) name.now (IsFileRefused limit fault)) }
 
-    // Each refusal but want of memory comes only where the store said so in this call.
+    // Each refusal except out of memory comes only where the store said so in this call.
     ensures absent { ComesExactly (S.answered store.old).absences (S.answered store.new).absences
         (IsErrOf result FileFault.Absent) }
     ensures absences { (S.answered store.old).absences ≤ (S.answered store.new).absences }
@@ -134,7 +134,7 @@ pub fn read_file<S: Store>(
     ensures err { IfErr result (λ fault.
         OnFile (S.files store.old) name.now (IsFileRefused limit fault)) }
 
-    // Each refusal but want of memory comes only where the store said so in this call.
+    // Each refusal except out of memory comes only where the store said so in this call.
     ensures absent { ComesExactly (S.answered store.old).absences (S.answered store.new).absences
         (IsErrOf result FileFault.Absent) }
     ensures absences { (S.answered store.old).absences ≤ (S.answered store.new).absences }

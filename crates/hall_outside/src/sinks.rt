@@ -19,11 +19,11 @@ ghost use Rattle.hall_outside.specs.Writing.{IsCountOf, appended, AppendsPrefix,
 
 use crate::stores::Failed;
 
-/// Where bytes go out to. A sink tells what was written always or never.
+/// Where bytes go out to. A sink either always or never exposes what was written.
 pub trait Sink {
     ghost use Rattle.hall_outside.specs.declared.stores.Failed.{Failed};
 
-    /// The bytes written so far, where the sink tells them.
+    /// The bytes written so far, where the sink exposes them.
     ghost written: { Self → Option (List ℕ) };
 
     /// How many writes have failed, up to the greatest `u64`.

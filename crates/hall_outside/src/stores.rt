@@ -38,16 +38,16 @@ pub struct Failed;
 pub enum Taken {
     /// There is no such file.
     Absent,
-    /// So many bytes were read. It is 0 exactly at the end of the file and past it.
+    /// This many bytes were read. It is 0 exactly at the end of the file and past it.
     Bytes(usize),
 }
 
-/// Files by their names. A store tells its files always or never.
+/// Files by their names. A store either always or never exposes its files.
 pub trait Store {
     ghost use Rattle.hall_outside.specs.declared.stores.Failed.{Failed};
     ghost use Rattle.hall_outside.specs.declared.stores.Taken.{Taken};
 
-    /// The files, where the store tells them.
+    /// The files, where the store exposes them.
     ghost files: { Self → Option Files };
 
     /// How many reads have failed, up to the greatest `u64`.

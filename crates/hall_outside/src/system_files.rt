@@ -50,7 +50,7 @@ impl LastRead {
 }
 
 /// Reads on where the last read of the file ended, so that a pipe is read too; elsewhere the file
-/// is opened anew. What stands under the name is kept with the files that were read.
+/// is opened anew. What has the name is kept with the files that were read.
 pub(crate) fn read_part<R: Files<File = File>>(
     rt: &R,
     last: &mut LastRead,
@@ -124,7 +124,7 @@ fn part() -> [u8; PART] {
     [0; PART]
 }
 
-// std's `read` promises nothing of the bytes behind its count, so the part is read into an array.
+// std's `read` promises nothing of the bytes after its count, so the part is read into an array.
 fn read_some<F: Read>(file: &mut F, into: &mut [u8]) -> io::Result<usize>
     ensures { IfOk result (λ n. IsTaken None [] 0 into.old into.new (Bytes n)) }
 {

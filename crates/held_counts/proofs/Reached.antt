@@ -511,7 +511,7 @@ module _ {T : Type 0} (node : T → Node) (w : World T) (orderly : IsOrderly nod
       unfolding first
       long = taken_in_length node (history w b) j (replicate (length w) 0) ∙ length-replicate (length w) 0
 
-      -- who is at most so many links away is counted after so many rounds
+      -- who is at most n links away is counted after n rounds
       counted : (n : ℕ) (f : T) (gs : List T) → IsChain w f gs e → length gs ≤ n →
           (node f).number < slice_index (spread_times node n w first) (node f).maker
       counted n f [] (past, (m, later, split), c) l =

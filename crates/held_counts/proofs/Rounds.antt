@@ -1,11 +1,11 @@
--- Rounds behind one that raises nothing.
+-- Rounds after one that raises nothing.
 use Rattle.std.proofs.Common.{◌≡◌, ◌∙◌, ℕ, zero, suc, ◌≤◌, List, sym, ap, arith, inl, inr}
 use Rattle.std.proofs.lemmas.Bool.{cases_eq}
 use Rattle.entry_order.specs.Node.{Node}
 use Rattle.entry_order.specs.World.{World}
 use Rattle.held_counts.specs.inside.Counts.{spread, spread_times}
 
--- they raise nothing either
+-- further rounds raise nothing where one round raises nothing
 pub spread_times_fixed : {T : Type 0} (node : T → Node) (w : World T) (counts : List ℕ) (n m : ℕ) →
     spread node w 0 (spread_times node n w counts) ≡ spread_times node n w counts → n ≤ m →
     spread_times node m w counts ≡ spread_times node n w counts

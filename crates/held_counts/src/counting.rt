@@ -98,7 +98,7 @@ fn spread_rounds<M: Recorder>(machines: &[M], rounds: u32, counts: &mut [usize])
     }
 }
 
-// The counts from one entry on, after so many rounds.
+// The counts from one entry on, after this number of rounds.
 fn count_from<M: Recorder>(
     machines: &[M],
     rounds: u32,

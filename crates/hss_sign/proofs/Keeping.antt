@@ -14,7 +14,7 @@ use Rattle.hss_sign.proofs.Signed.{signed_is}
 abbrev pub IsReady : TwoLevelSecret → Secret → LowTree → Type 0
 IsReady s top tree = (i : ℕ) × (top ≡ top_tree s (i + 1)) × (kept : IsKept s i tree) × (kept.leaf < 2 ^ s.low)
 
--- it is the tree that was kept before
+-- where the low tree isn't used up, the tree that was kept before is ready for the next signature
 pub from_kept : (s : TwoLevelSecret) (top : Secret) (old : Option LowTree) (tree : LowTree) → Keeps s top old
     → old ≡ Some tree → tree.key.next ≢ 2 ^ tree.key.height → IsReady s top tree
 from_kept s top old tree keeps e left =
@@ -29,7 +29,7 @@ from_kept s top old tree keeps e left =
     ] in
     (i, at, kept, below)
 
--- it is a tree that was made for it
+-- a low tree that was made for the next signature is ready for it
 pub from_made : (s : TwoLevelSecret) (top after key : Secret) (tree : LowTree) → IsHeight s.low
     → top ≡ top_tree s (s.next / 2 ^ s.low) → key ≡ low_tree_of s s.next → tree.key ≡ key
     → tree.head.items ≡ head_of top key → after ≡ record top { next = top.next + 1 } → IsReady s after tree
@@ -56,7 +56,7 @@ to_make s top (Some tree) low (i, at, kept) spent =
     sym (ap (λ (k : Secret). k.next) kept.key) ∙ spent ∙ ap (λ (k : Secret). 2 ^ k.height) kept.key in
     at ∙ ap (top_tree s) (sym (next_tree s.low i kept.leaf s.next low kept.next all))
 
--- so it is where its next leaf is that of the next signature
+-- a kept top tree is that of the next signature where its next leaf is
 pub at_next : (s : TwoLevelSecret) (top : Secret) (old : Option LowTree) → Keeps s top old
     → top.next ≡ s.next / 2 ^ s.low → top ≡ top_tree s (s.next / 2 ^ s.low)
 at_next s top None keeps e = keeps

@@ -70,7 +70,7 @@ signed_is s i q key head items message ei eq ek eh e =
     ∙ ap (λ (k : Secret). head_of (top_tree s i) k ++ signed_by k message) tree
     ∙ ap (λ (n : ℕ). head_of (top_tree s n) low ++ signed_by low message) (sym ei)
 
--- it is a signature under the public key
+-- what is signed is a signature under the public key
 pub signed_verifies : (s : TwoLevelSecret) (message : List ℕ) → IsHeight s.top → IsHeight s.low → length s.id ≡ 16
     → s.next < 2 ^ (s.top + s.low) → HssSigns (hss_public s) message (hss_signed s s.next message)
 unfolding hss_public hss_signed
@@ -99,7 +99,7 @@ index_first kind h id seed q message rest small =
     (omega (arith, length-lms_signed kind h id seed q message)))
     ∙ index-signed kind h id seed q message small
 
--- it names its leaves
+-- what is signed names its leaves
 pub leaves_named : (s : TwoLevelSecret) (message : List ℕ) → IsHeight s.top → IsHeight s.low
     → s.next < 2 ^ (s.top + s.low) → leaves_in s.kind s.top (hss_signed s s.next message)
     ≡ (s.next / 2 ^ s.low, s.next % 2 ^ s.low)

@@ -25,7 +25,7 @@ length_is top low signed len known signs =
     signs.signs.size ∙ ap (λ (k : OtsKind). lms_signature_len k signs.height) kind
     ∙ ap (lms_signature_len known.kind) height ∙ sym known.size
 
--- so a signature has these parts
+-- a signature below a top key has these three parts
 pub divided : (top message parts : List ℕ) (len : ℕ) → HasSignatureLen top len → SignsBelow top message parts
     → IsDivided top message parts len
 divided top message parts len known below =
@@ -45,7 +45,7 @@ divided top message parts len known below =
       low_signs = rw (low, last) below.low_signs;
     }
 
--- and what has them is one
+-- parts that are signed one by the other make a signature below the top key
 pub below_of : (top message parts : List ℕ) (len : ℕ) → Signs top (take 56 (drop len parts)) (take len parts)
     → Signs (take 56 (drop len parts)) message (drop 56 (drop len parts)) → SignsBelow top message parts
 below_of top message parts len top_signs low_signs =
@@ -83,7 +83,7 @@ begun key message signature signs =
       },
     )
 
--- and what begins so is one
+-- what begins as a two-level key and signature do, and goes on as a signature below, is a signature
 pub signs_of : (key message signature : List ℕ) → take 4 key ≡ u32str 2 → take 4 signature ≡ u32str 1
     → SignsBelow (drop 4 key) message (drop 4 signature) → HssSigns key message signature
 signs_of key message signature ek es below =

@@ -15,7 +15,7 @@ hss_used s n = record s { next = s.next + n }
 abbrev pub leaves_of : ℕ → ℕ → ℕ × ℕ
 leaves_of low n = (n / 2 ^ low, n % 2 ^ low)
 
--- no pair stands twice in the list
+-- no pair is in the list twice
 abbrev pub EachOnce : List (ℕ × ℕ) → Type 0
 EachOnce pairs = (j k : ℕ) → j < k → k < length pairs →
     slice_index_or pairs j (0, 0) ≢ slice_index_or pairs k (0, 0)

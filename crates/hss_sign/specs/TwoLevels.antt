@@ -15,10 +15,11 @@ pub record TwoLevelSecret : Type 0 where
   pub seed : List ℕ
   pub next : ℕ
 
--- the identifier and the seed of low tree i: this project's choice
+-- the identifier of low tree i: this project's choice
 unfoldable pub low_id : List ℕ → List ℕ → ℕ → List ℕ
 low_id id seed i = take 16 (sha256 (codes "auditorium hss id" ++ id ++ u32str i ++ seed))
 
+-- the seed of low tree i: this project's choice
 unfoldable pub low_seed : List ℕ → List ℕ → ℕ → List ℕ
 low_seed id seed i = sha256 (codes "auditorium hss seed" ++ id ++ u32str i ++ seed)
 

@@ -1,4 +1,4 @@
-//! Rows of words that tell of keys and signatures, and the key that they speak of.
+//! Rows of words that describe keys and signatures, and the key that they describe.
 use lms_ots::OtsKind;
 use std::alloc::AllocError;
 use std::fmt::Write;

@@ -1,4 +1,4 @@
-//! Tests of the public calls of `lms_ots`, `lms_sign`, `hss_sign` and `entry_format`. They stand in
+//! Tests of the public calls of `lms_ots`, `lms_sign`, `hss_sign` and `entry_format`. They are in
 //! a crate of their own, so that what they test isn't proved once more with them.
 #![tactic(auto)]
 

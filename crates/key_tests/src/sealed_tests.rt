@@ -60,7 +60,7 @@ fn has(version: u32, deed: Deed) -> bool
 }
 
 /// Seals an entry with the key's next number. It answers no fault where the roster's text or the
-/// names can't stand, the maker has another key or the version hasn't the deed.
+/// names are invalid, the maker has another key or the version doesn't have the deed.
 fn sealed_by(
     alloc: Global,
     text: &[u8],

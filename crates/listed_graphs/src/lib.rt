@@ -21,7 +21,7 @@ impl Model for Listed {
     ghost view = { λ node. node.parents.items };
 }
 
-/// A graph as a list of nodes, and for each whether it is ragged; one that nothing is told of isn't.
+/// A graph as a list of nodes, and for each whether it is ragged; by default it isn't.
 /// A node that lists one that isn't below it has no parents.
 #[derive(Drop)]
 pub struct ListedGraph {

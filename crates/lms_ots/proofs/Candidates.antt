@@ -1,15 +1,10 @@
 -- A signature's candidate is the public key.
-use Rattle.std.proofs.Common.{◌≡◌, ℕ, zero, suc, ◌+◌, ◌-◌, ◌*◌, ◌^◌, ◌<◌, ◌≤◌, List, ◌++◌, length, refl, sym, ap, ◌∙◌}
-use Rattle.std.proofs.Common.{arith, length-append}
-use Rattle.std.proofs.lemmas.List.{append_assoc, drop-drop, take_at, drop_at}
-use Rattle.std.specs.List.{flat_map, fold, range_with_len}
-use Rattle.sha2.proofs.Facts256.{length-sha256}
-use Rattle.lms_ots.specs.declared.kind.OtsKind.{OtsKind}
-use Rattle.lms_ots.specs.Parameters.{parameters, signature_len}
-use Rattle.lms_ots.specs.Digits.{coef, cksm}
-use Rattle.lms_ots.specs.Ots.{candidate_of, chain, digit_of, element_in, key_from_elements, message_hash, public_key}
-use Rattle.lms_ots.specs.Ots.{randomizer, randomizer_in, secret_element, signature_of, step, u16str, u32str}
-use Rattle.lms_ots.specs.inside.Elements.{signed_element}
+use Rattle.lms_ots.proofs.Imports.{◌≡◌, ℕ, zero, suc, ◌+◌, ◌-◌, ◌*◌, ◌^◌, ◌<◌, ◌≤◌, List, ◌++◌, length, refl, sym, ap}
+use Rattle.lms_ots.proofs.Imports.{◌∙◌, arith, length-append, append_assoc, drop-drop, take_at, drop_at, flat_map}
+use Rattle.lms_ots.proofs.Imports.{fold, range_with_len, length-sha256, OtsKind, parameters, signature_len, coef}
+use Rattle.lms_ots.proofs.Imports.{cksm, candidate_of, chain, digit_of, element_in, key_from_elements, message_hash}
+use Rattle.lms_ots.proofs.Imports.{public_key, randomizer, randomizer_in, secret_element, signature_of, step, u16str}
+use Rattle.lms_ots.proofs.Imports.{u32str, signed_element}
 use Rattle.lms_ots.proofs.DigitLemmas.{coef_le}
 use Rattle.lms_ots.proofs.Pieces.{length-pieces, piece_at, same_pieces}
 
@@ -59,7 +54,7 @@ length-secret id seed q i = length-sha256 _
 pub length-signed : (id seed digits : List ℕ) (q w i : ℕ) → length (signed_element id q seed digits w i) ≡ 32
 length-signed id seed digits q w i = length-chain id _ q i 0 (coef digits i w) (length-secret id seed q i)
 
--- so has a randomizer
+-- a randomizer has 32 octets
 pub length-randomizer : (id seed : List ℕ) (q : ℕ) → length (randomizer id q seed) ≡ 32
 unfolding randomizer
 length-randomizer id seed q = length-sha256 _

@@ -1,16 +1,8 @@
 -- Checkpoints, one more and all.
-use Rattle.std.proofs.Common.{◌≡◌, ℕ, ◌+◌, ◌-◌, ◌*◌, ◌/◌, ◌^◌, ◌<◌, ◌≤◌, List, [], length, get_or}
-use Rattle.std.proofs.Common.{sym, ap, ◌∙◌, inl, inr, arith}
-use Rattle.std.proofs.lemmas.Bool.{cases_lt}
-use Rattle.std.proofs.lemmas.List.{get_or-set_other, get_or-set_same}
-use Rattle.std.proofs.Math.Nat.{mul-le-mul_right}
-use Rattle.std.specs.Prelude.{slice_set}
-use Rattle.lms_ots.specs.declared.kind.OtsKind.{OtsKind}
-use Rattle.lms_ots.specs.declared.kind.OtsKind.TheVariants.{W1, W2, W4, W8}
-use Rattle.lms_ots.specs.Parameters.{parameters}
-use Rattle.lms_ots.specs.Checkpoints.{chain_checkpoints, checkpoint, stride}
-use Rattle.lms_ots.specs.Ots.{chain, secret_element}
-use Rattle.lms_ots.specs.inside.Elements.{AreKeptTo}
+use Rattle.lms_ots.proofs.Imports.{◌≡◌, ℕ, ◌+◌, ◌-◌, ◌*◌, ◌/◌, ◌^◌, ◌<◌, ◌≤◌, List, [], length, get_or, sym, ap, ◌∙◌}
+use Rattle.lms_ots.proofs.Imports.{inl, inr, arith, cases_lt, get_or-set_other, get_or-set_same, mul-le-mul_right}
+use Rattle.lms_ots.proofs.Imports.{slice_set, OtsKind, W1, W2, W4, W8, parameters, chain_checkpoints, checkpoint}
+use Rattle.lms_ots.proofs.Imports.{stride, chain, secret_element, AreKeptTo}
 use Rattle.lms_ots.proofs.Candidates.{chain-chain}
 
 -- a checkpoint isn't past the end of its chain
@@ -20,7 +12,7 @@ within_chain W2 n h = omega arith
 within_chain W4 n h = omega arith
 within_chain W8 n h = omega arith
 
--- so its place is a byte
+-- the place of a checkpoint is a byte
 pub place_fits : (kind : OtsKind) (n : ℕ) → n ≤ chain_checkpoints kind → n * stride kind < 256
 place_fits W1 n h = omega arith
 place_fits W2 n h = omega arith
@@ -42,7 +34,7 @@ one_place W2 a m i n lm ln e = absurd (omega arith)
 one_place W4 a m i n lm ln e = (omega arith, omega arith)
 one_place W8 a m i n lm ln e = (omega arith, omega arith)
 
--- the checkpoints of a chain stand after those of the chain before it
+-- the checkpoints of a chain come after those of the chain before it
 pub next_chain : (kind : OtsKind) (i : ℕ)
     → (i + 1) * chain_checkpoints kind ≡ i * chain_checkpoints kind + chain_checkpoints kind
 next_chain W1 i = omega arith
@@ -70,7 +62,7 @@ from_checkpoint kind id seed block tmp q i n from place ef le eb et =
     et ∙ ap (chain id q i from place) (eb ∙ ap (λ (a : ℕ). chain id q i 0 a (secret_element id q seed i)) (sym ef))
     ∙ chain-chain id (secret_element id q seed i) q i from place le
 
--- the walk to a checkpoint, from the one before it
+-- the walk from one checkpoint to the next, continued from the start of the chain
 pub to_checkpoint : (id secret tmp next : List ℕ) (q i n steps : ℕ) → tmp ≡ chain id q i 0 (n * steps) secret
     → next ≡ chain id q i (n * steps) ((n + 1) * steps) tmp → next ≡ chain id q i 0 ((n + 1) * steps) secret
 to_checkpoint id secret tmp next q i n steps et en =

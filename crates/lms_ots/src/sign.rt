@@ -23,7 +23,7 @@ pub type Memory = AllocError;
 /// Why a signature has no candidate.
 #[derive(Clone, Copy)]
 pub enum OtsFault {
-    /// The signature hasn't the length of its kind.
+    /// The signature doesn't have the length of its kind.
     WrongLength,
     /// The signature has another typecode.
     WrongType,

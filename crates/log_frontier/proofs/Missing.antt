@@ -1,4 +1,4 @@
--- The digests that are named and that none bears, by the table of them.
+-- The digests that are named and that none has, by the table of them.
 use Rattle.std.proofs.Common.{◌≡◌, ℕ, true, List, refl, sym, subst, ◌∙◌, not}
 use Rattle.std.specs.Prelude.{◌&&◌}
 use Rattle.std.specs.List.{Contains}
@@ -14,7 +14,7 @@ use Rattle.entry_order.proofs.Lists.{list_any_some, list_any_of}
 use Rattle.entry_order.proofs.Naming.{is_named_of, is_named_from, has_digest_of, has_digest_from}
 use Rattle.log_frontier.specs.Digests.{has}
 
--- a digest is among these exactly where the test finds it
+-- a digest is among these exactly when the test finds it
 has_from : (digests : List (List ℕ)) (d : List ℕ) → Contains digests d → has digests d ≡ true
 has_from digests d h = list_any_of (λ c. bytes_eq d c) digests d h ((bytes_eq-Decides d d).1 refl)
 
@@ -24,7 +24,7 @@ has_of digests d t =
     subst (λ x. Contains digests x) (sym ((bytes_eq-Decides d c).0 same)) among
 
 module _ {T : Type 0} (node : T → Node) (es : List T) where
-  -- a digest that is named and that none bears passes both tests
+  -- a digest that is named and that none has passes both tests
   passes : (d : List ℕ) → IsNamedIn node es d × (¬ (IsBorneIn node es d)) →
       (is_named node es d && not (has_digest node es d)) ≡ true
   passes d (named, lost) =
@@ -41,7 +41,7 @@ module _ {T : Type 0} (node : T → Node) (es : List T) where
         λ borne. true≢false (sym (has_digest_of node es d borne) ∙ not-true (has_digest node es d) unborne),
       )
 
-  -- so the table has the gaps
+  -- the table has the gaps
   pub gaps_by_table : (wanted : List (List ℕ)) → GapsAreUnique node →
       ((d : List ℕ) → has wanted d ≡ (is_named node es d && not (has_digest node es d))) →
       ascending wanted ≡ gaps node es

@@ -34,7 +34,7 @@ last_test false true = refl
 last_test false false = refl
 
 module _ {T : Type 0} (node : T → Node) where
-  -- a digest of the table is named by an entry and borne by none
+  -- an entry names each digest of the table, and none has it
   lacks_if_wanted : (es : List T) (d : List ℕ) → (is_named node es d && not (has_digest node es d)) ≡ true →
       lacks_some node es ≡ true
   lacks_if_wanted es d t =
@@ -69,7 +69,7 @@ module _ {T : Type 0} (node : T → Node) where
         (false_from_ne_true (has_digest node es d) (λ t. lost (has_digest_from node es d t))))),
   )
 
-  -- the table of what is looked for isn't empty exactly where the scan would find something
+  -- the table of what is looked for isn't empty exactly when the scan would find something
   pub lacks_by_table : (es : List T) (wanted : List (List ℕ)) →
       ((d : List ℕ) → has wanted d ≡ (is_named node es d && not (has_digest node es d))) →
       (empty : Bool) → (IsTrue empty ↔ (wanted ≡ [])) → not empty ≡ lacks_some node es
@@ -95,7 +95,7 @@ module _ {T : Type 0} (node : T → Node) where
   }
 
   module _ (held : List T) (place : ℕ) (e : T) (last : place + 1 ≡ length held) (is : e ≡ get_or held place e) where
-    -- it stands after those before it
+    -- it is after those before it
     split : held ≡ take place held ++ e ∷ []
     split = last_split held place e (omega arith) is
 
@@ -117,7 +117,7 @@ module _ {T : Type 0} (node : T → Node) where
         ∙ sym (list_any-append (λ g. names_digest node g d) es (e ∷ []))
         ∙ sym (ap (λ (l : List T). is_named node l d) split)
 
-    -- with its place put in, all that are borne have places
+    -- with its place put in, all digests that entries have have places
     pub noted_more : (old new : List (List ℕ × ℕ)) → AreBorne node (take place held) old →
         ((d : List ℕ) → place_by new d ≡ (if bytes_eq (node e).digest d then Some place else place_by old d)) →
         AreBorne node held new

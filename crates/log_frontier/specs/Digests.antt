@@ -1,4 +1,4 @@
--- Sets of digests whose room was reserved, and where entries stand by their digests.
+-- Sets of digests whose room was reserved, and the places of entries by their digests.
 use Rattle.std.specs.Prelude.{ℕ, Bool, List, Option, is_some}
 use Rattle.std.specs.List.{list_any}
 use Rattle.std.specs.Map.{lookup}

@@ -30,31 +30,31 @@ module _ {T : Type 0} (node : T → Node) where
     pub inside : All (λ p. p < length es) places
     pub digests : map (λ p. digest_at es p) places ≡ frontier node es
 
-  -- no entry bears the digest of one before it
+  -- no entry has the digest of one before it
   abbrev pub HasNoDigestTwice : List T → Type 0
   HasNoDigestTwice es =
       (before : List T) (e : T) (later : List T) → es ≡ before ++ e ∷ later → IsNew node before e
 
-  -- the entry at the place bears the digest
+  -- the entry at the place has the digest
   abbrev pub IsBorneAt : List T → List ℕ → ℕ → Type 0
   IsBorneAt es d p = (e : T) × (slice_get es p ≡ Some e) × ((node e).digest ≡ d)
 
-  -- exactly the digests that the entries bear have places, and each is that of an entry that bears it
+  -- exactly the digests that the entries have have places, and each is that of an entry that has it
   pub record AreBorne (es : List T) (noted : List (List ℕ × ℕ)) : Type 0 where
     pub all : (d : List ℕ) → bears noted d ≡ has_digest node es d
     pub places : (d : List ℕ) (p : ℕ) → place_by noted d ≡ Some p → IsBorneAt es d p
 
-  -- one of the entries names a digest that none of them bears
+  -- one of the entries names a digest that none of them has
   abbrev pub NamesUnborne : List T → Type 0
   NamesUnborne es = (d : List ℕ) × IsNamedIn node es d × (¬ (IsBorneIn node es d))
 
-  -- these are exactly the digests that the entries name and none bears, unless that is found by a scan
+  -- these are exactly the digests that the entries name and none has, unless that is found by a scan
   abbrev pub AreWanted : List T → Wanted → Type 0
   AreWanted es wanted = wanted.scans ≡ false → (d : List ℕ) →
       has wanted.list d ≡ (is_named node es d && not (has_digest node es d))
 
-  -- the frontier's places are their frontier, the digests that it noted those that the entries bear, at their
-  -- places, and the digests that it looks for those that they name and none bears
+  -- the frontier's places are their frontier, the digests that it noted those that the entries have, at their
+  -- places, and the digests that it looks for those that they name and none has
   pub record StandsFor (es : List T) (frontier : Places) : Type 0 where
     pub front : IsFrontierAt es frontier.list
     pub noted : AreBorne es frontier.noted

@@ -1,4 +1,4 @@
-//! Where entries stand, by their digests, in room that is reserved.
+//! The places of entries by their digests, in room that is reserved.
 
 ghost use Rattle.std.specs.Prelude.{◌≡◌, ◌+◌, ◌<◌, ◌≤◌, ℕ, List, [], Some, IfOk, if◌then◌else◌};
 ghost use Rattle.std.specs.Str.{bytes_eq};

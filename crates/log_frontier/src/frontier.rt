@@ -19,7 +19,7 @@ pub type Memory = AllocError;
 
 /// The places, counted from 0, of the entries that no held entry names, in ascending order of
 /// their digests. Auditorium (EVT 2007): what a machine names in the next entry that it sends.
-/// Tables answer where an entry with a digest stands, and whether a digest is named that none bears.
+/// Tables answer where an entry with a digest is, and whether a digest is named that none has.
 #[derive(Drop)]
 pub struct Frontier {
     places: Vec<usize>,
@@ -56,7 +56,7 @@ impl Frontier {
         })
     }
 
-    /// Takes in the last of the entries that are held, which stands at `place`. It takes no memory,
+    /// Takes in the last of the entries that are held, which is at `place`. It takes no memory,
     /// and time as the entry's names and the frontier.
     pub fn note<T: Knot>(&mut self, held: &[T], place: usize)
         requires last { place + 1 ≡ length held.now }
@@ -71,7 +71,7 @@ impl Frontier {
         note_tables(&mut self.noted, &mut self.wanted, held, place);
     }
 
-    /// Whether one of the entries bears the digest.
+    /// Whether one of the entries has the digest.
     pub fn bears<T: Knot>(&self, held: &[T], digest: &[u8; 32]) -> bool
         requires { StandsFor T.node held.now self.now }
         ensures { result ≡ has_digest T.node held.now digest.now }
@@ -79,7 +79,7 @@ impl Frontier {
         self.noted.has(digest)
     }
 
-    /// The place, counted from 0, of an entry that bears the digest.
+    /// The place, counted from 0, of an entry that has the digest.
     pub fn place_of<T: Knot>(&self, held: &[T], digest: &[u8; 32]) -> Option<usize>
         requires { StandsFor T.node held.now self.now }
         ensures found { IfSome result (IsBorneAt T.node held.now digest.now) }
@@ -88,7 +88,7 @@ impl Frontier {
         self.noted.get(digest)
     }
 
-    /// Whether one of the entries names a digest that none of them bears. Where there was no room
+    /// Whether one of the entries names a digest that none of them has. Where there was no room
     /// for all such digests it looks at all names.
     pub fn wants<T: Knot>(&self, held: &[T]) -> bool
         requires { StandsFor T.node held.now self.now }
@@ -101,7 +101,7 @@ impl Frontier {
         }
     }
 
-    /// The digests that one of the entries names and none of them bears, ascending. The time is that
+    /// The digests that one of the entries names and none of them has, ascending. It takes the time
     /// of sorting them; where the table had no room for all of them, every name is looked at.
     pub fn missing<T: Knot>(&self, alloc: Global, held: &[T]) -> Result<Vec<[u8; 32]>, Memory>
         requires { StandsFor T.node held.now self.now }

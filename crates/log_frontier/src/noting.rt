@@ -15,7 +15,7 @@ use crate::digest_places::DigestPlaces;
 use crate::wanted::Wanted;
 use entry_order::{Knot, has_digest, is_named, names_digest};
 
-/// Whether one of these entries names the last, which stands at `place`.
+/// Whether one of these entries names the last, which is at `place`.
 pub fn is_last_named<T: Knot>(wanted: &Wanted, held: &[T], place: usize) -> bool
     requires last { place + 1 ≡ length held.now }
     requires wanted { AreWanted T.node (take place held.now) wanted.now }
@@ -54,7 +54,7 @@ pub fn note_tables<T: Knot>(noted: &mut DigestPlaces, wanted: &mut Wanted, held:
     wanted.want_all(entry.names(), noted);
 }
 
-/// Whether one of the entries names a digest that none of them bears, by search.
+/// Whether one of the entries names a digest that none of them has, by search.
 pub fn wants_by_scan<T: Knot>(held: &[T]) -> bool
     ensures { IsTrue result ↔ NamesUnborne T.node held.now }
 {
@@ -68,7 +68,7 @@ fn lacks_some<T: Knot>(held: &[T]) -> bool
     held.iter().any(|e| names_missing(held, e.names()))
 }
 
-// Whether none of the entries bears one of the digests.
+// Whether none of the entries has one of the digests.
 fn names_missing<T: Knot>(held: &[T], digests: &[[u8; 32]]) -> bool
     ensures { result ≡ lacks T.node held.now digests.now }
 {

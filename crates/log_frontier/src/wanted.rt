@@ -1,4 +1,4 @@
-//! The digests that are named and that none bears.
+//! The digests that are named and that none has.
 
 ghost use Rattle.std.specs.Prelude.{◌≡◌, ◌↔◌, ◌&&◌, ◌||◌, ℕ, List, [], not, true, false};
 ghost use Rattle.std.specs.Prelude.{IfOk, IsTrue};

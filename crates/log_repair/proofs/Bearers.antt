@@ -1,25 +1,12 @@
 -- Entries that a machine is answered: a machine of the world that runs holds them, and their maker sent them.
-use Rattle.std.proofs.Common.{◌≡◌, ◌∙◌, ℕ, zero, suc, ◌<◌, Bool, true, false, cond, List, [], ◌∷◌, length, inl, inr}
-use Rattle.std.proofs.Common.{Option, Some, None, refl, sym, ap, subst}
-use Rattle.std.specs.Prelude.{find, slice_get}
-use Rattle.std.specs.List.{Contains}
-use Rattle.std.specs.Option.{option_or}
-use Rattle.std.specs.Str.{bytes_eq}
+use Rattle.log_repair.proofs.Imports.{◌≡◌, ◌∙◌, ℕ, zero, suc, ◌<◌, Bool, true, false, cond, List, [], ◌∷◌, length}
+use Rattle.log_repair.proofs.Imports.{inl, inr, Option, Some, None, refl, sym, ap, subst, find, slice_get, Contains}
+use Rattle.log_repair.proofs.Imports.{option_or, bytes_eq, bytes_eq-Decides, Event, Sent, Got, IsBorneIn, Node}
+use Rattle.log_repair.proofs.Imports.{entry_of, held, sent, IsOrderly, Machine, World, history, sent_in, Contains-at}
+use Rattle.log_repair.proofs.Imports.{Contains-later, Contains-cons_cases, Contains-none, Contains-map_cases}
+use Rattle.log_repair.proofs.Imports.{in_world, nth_of_sent, sent_in_from, was_sent, answer_of, bearer}
+use Rattle.log_repair.proofs.Imports.{found_by_digest, NoneAnswers}
 use Rattle.std.proofs.lemmas.Bool.{true≢false}
-use Rattle.std.proofs.lemmas.Slice.Eq.{bytes_eq-Decides}
-use Rattle.entry_order.specs.declared.event.Event.{Event}
-use Rattle.entry_order.specs.declared.event.Event.TheVariants.{Sent, Got}
-use Rattle.entry_order.specs.Naming.{IsBorneIn}
-use Rattle.entry_order.specs.Node.{Node}
-use Rattle.entry_order.specs.History.{entry_of, held, sent}
-use Rattle.entry_order.specs.Receipt.{IsOrderly}
-use Rattle.entry_order.specs.World.{Machine, World, history, sent_in}
-use Rattle.entry_order.proofs.Lists.{Contains-at, Contains-later, Contains-cons_cases, Contains-none}
-use Rattle.entry_order.proofs.Lists.{Contains-map_cases}
-use Rattle.entry_order.proofs.Machines.{in_world, nth_of_sent}
-use Rattle.entry_order.proofs.Orders.{sent_in_from, was_sent}
-use Rattle.log_repair.specs.Mending.{answer_of, bearer, found_by_digest}
-use Rattle.log_repair.specs.Outcomes.{NoneAnswers}
 
 module _ {X : Type 0} (p : X → Bool) where
   -- what is found is one of them, and passes
@@ -74,7 +61,7 @@ module _ {T : Type 0} (node : T → Node) (d : List ℕ) where
           let (c, passes) = found_among (λ e. bytes_eq (node e).digest d) (held a.history) e f in
           (c, (bytes_eq-Decides (node e).digest d).0 passes)
 
-  -- so an answer is held in the world
+  -- a bearer that is found is held by some machine, and has the digest
   pub bearer_held : (w : World T) (e : T) → bearer node d w ≡ Some e →
       (m : ℕ) × Contains (held (history w m)) e × ((node e).digest ≡ d)
   bearer_held [] e is = absurd (cc is)
@@ -124,7 +111,7 @@ module _ {T : Type 0} (node : T → Node) (w : World T) (orderly : IsOrderly nod
       ∙ ap (λ (k : ℕ). slice_get (sent (history w by_whom)) k) own.number
       ∙ ap (λ (h : List (Event T)). slice_get (sent h) (length (sent past))) is ∙ nth_of_sent past e later
 
-  -- and its maker is in the world
+  -- the maker of an entry that a machine holds is in the world
   pub held_maker : (m : ℕ) (e : T) → Contains (held (history w m)) e → (node e).maker < length w
   held_maker m e c =
       let (past, (by_whom, later, is)) = was_sent w e (held_in m e c) in

@@ -1,20 +1,10 @@
 -- A step that is taken adds one event to one machine.
-use Rattle.std.proofs.Common.{◌≡◌, ◌∙◌, ◌⊎◌, ℕ, zero, suc, ◌+◌, ◌-◌, ◌<◌, ◌==◌, arith, Bool, ◌||◌, true, false}
-use Rattle.std.proofs.Common.{List, [], ◌∷◌, ◌++◌, length, Option, Some, None, refl, ap, inl, inr}
-use Rattle.std.specs.Prelude.{slice_get, if◌then◌else◌, nat_le}
-use Rattle.std.proofs.lemmas.Bool.{leb-false, or_parts}
-use Rattle.std.proofs.lemmas.List.{length-append}
-use Rattle.entry_order.specs.declared.event.Event.{Event}
-use Rattle.entry_order.specs.declared.event.Event.TheVariants.{Sent, Got}
-use Rattle.entry_order.specs.declared.step.Step.{Step}
-use Rattle.entry_order.specs.declared.step.Step.TheVariants.{Act, Hear}
-use Rattle.entry_order.specs.Naming.{has_digest}
-use Rattle.entry_order.specs.Node.{Node}
-use Rattle.entry_order.specs.History.{held, sent}
-use Rattle.entry_order.specs.World.{Machine, World, append, cannot_hear, happens, hear, history, send, with_machine}
-use Rattle.log_repair.specs.Laws.{SendsWithRoom}
-use Rattle.log_repair.specs.Mending.{Repairs, TakesRound}
-use Rattle.log_repair.specs.Sequences.{TakesStep}
+use Rattle.log_repair.proofs.Imports.{◌≡◌, ◌∙◌, ◌⊎◌, ℕ, zero, suc, ◌+◌, ◌-◌, ◌<◌, ◌==◌, arith, Bool, ◌||◌, true}
+use Rattle.log_repair.proofs.Imports.{false, List, [], ◌∷◌, ◌++◌, length, Option, Some, None, refl, ap, inl, inr}
+use Rattle.log_repair.proofs.Imports.{slice_get, if◌then◌else◌, nat_le, leb-false, or_parts, length-append, Event}
+use Rattle.log_repair.proofs.Imports.{Sent, Got, Step, Act, Hear, has_digest, Node, held, sent, Machine, World}
+use Rattle.log_repair.proofs.Imports.{append, cannot_hear, happens, hear, history, send, with_machine, SendsWithRoom}
+use Rattle.log_repair.proofs.Imports.{Repairs, TakesRound, TakesStep}
 use Rattle.log_repair.proofs.Ways.{step_so, round_so, repairs_so}
 
 -- the machine is as it was, or has one event more, and where it had fewer than log events
@@ -113,7 +103,7 @@ module _ {T : Type 0} (node : T → Node) (log : ℕ) where
           | inr (more, _) ↦ more
         ]) old new steps mended
 
-    -- and room for as many less
+    -- the logs have room for as many fewer events as there were steps
     abbrev pub TakesRoom : World T → List Step → World T → Type 0
     TakesRoom old steps new = room log new + length steps ≡ room log old
 

@@ -1,18 +1,8 @@
 -- Steps leave less room, so that rounds and actions end.
-use Rattle.std.proofs.Common.{◌≡◌, ◌≢◌, ◌∙◌, ℕ, ◌+◌, ◌≤◌, arith, Bool, true, false, List, [], ◌∷◌, ◌++◌, length}
-use Rattle.std.proofs.Common.{Option, refl, ap}
-use Rattle.std.specs.Prelude.{if◌then◌else◌}
-use Rattle.std.proofs.lemmas.List.{length-append}
-use Rattle.entry_format.specs.Nodes.{node_of_sealed}
-use Rattle.entry_format.specs.SealedEntry.{SealedEntry}
-use Rattle.entry_order.specs.declared.event.Event.{Event}
-use Rattle.entry_order.specs.declared.step.Step.{Step}
-use Rattle.entry_order.specs.World.{World, happens}
-use Rattle.polling_world.specs.Configs.{Config}
-use Rattle.polling_world.specs.Worlds.{WorldState, IsWorld, world_of, configs_of, TellsNext, HaveLog}
-use Rattle.log_repair.specs.Outcomes.{WorldWay}
-use Rattle.log_repair.specs.inside.Adding.{Adds}
-use Rattle.log_repair.specs.inside.Totals.{spare}
+use Rattle.log_repair.proofs.Imports.{◌≡◌, ◌≢◌, ◌∙◌, ℕ, ◌+◌, ◌≤◌, arith, Bool, true, false, List, [], ◌∷◌, ◌++◌}
+use Rattle.log_repair.proofs.Imports.{length, Option, refl, ap, if◌then◌else◌, length-append, node_of_sealed}
+use Rattle.log_repair.proofs.Imports.{SealedEntry, Event, Step, World, happens, Config, WorldState, IsWorld, world_of}
+use Rattle.log_repair.proofs.Imports.{configs_of, TellsNext, HaveLog, WorldWay, Adds, spare}
 use Rattle.log_repair.proofs.Events.{TakesRoom, room}
 use Rattle.log_repair.proofs.Making.{have_log, same_log, spare_room}
 

@@ -1,24 +1,13 @@
 -- Entries found by their digests, and machines that answer.
-use Rattle.std.proofs.Common.{◌≡◌, ◌∙◌, ℕ, zero, suc, ◌+◌, ◌<◌, arith, Bool, true, false, List, [], ◌∷◌, length, take}
-use Rattle.std.proofs.Common.{get_or, map, Option, Some, None, refl, sym, ap, subst, cond, ◌++◌, ◌⊎◌, inl, inr}
-use Rattle.std.specs.Prelude.{option_map}
-use Rattle.std.specs.Option.{option_or}
-use Rattle.std.specs.List.{Contains}
-use Rattle.std.specs.Str.{bytes_eq}
+use Rattle.log_repair.proofs.Imports.{◌≡◌, ◌∙◌, ℕ, zero, suc, ◌+◌, ◌<◌, arith, Bool, true, false, List, [], ◌∷◌}
+use Rattle.log_repair.proofs.Imports.{length, take, get_or, map, Option, Some, None, refl, sym, ap, subst, cond, ◌++◌}
+use Rattle.log_repair.proofs.Imports.{◌⊎◌, inl, inr, option_map, option_or, Contains, bytes_eq, bytes_eq-Decides}
+use Rattle.log_repair.proofs.Imports.{Event, IsNew, Node, entry_of, held, IsLegal, Machine, Contains-none}
+use Rattle.log_repair.proofs.Imports.{Contains-head, Contains-later, Contains-cons_cases, Contains-map_cases}
+use Rattle.log_repair.proofs.Imports.{member_split, no_digest_twice, answer_of, bearer, found_by_digest}
 use Rattle.std.proofs.lemmas.Bool.{true≢false}
-use Rattle.std.proofs.lemmas.Slice.Eq.{bytes_eq-Decides}
-use Rattle.entry_order.specs.declared.event.Event.{Event}
-use Rattle.entry_order.specs.Naming.{IsNew}
-use Rattle.entry_order.specs.Node.{Node}
-use Rattle.entry_order.specs.History.{entry_of, held, IsLegal}
-use Rattle.entry_order.specs.World.{Machine}
-use Rattle.entry_order.proofs.Lists.{Contains-none, Contains-head, Contains-later, Contains-cons_cases}
-use Rattle.entry_order.proofs.Lists.{Contains-map_cases}
-use Rattle.entry_order.proofs.Orders.{member_split}
-use Rattle.entangled_log.proofs.Kept.{no_digest_twice}
-use Rattle.log_repair.specs.Mending.{answer_of, bearer, found_by_digest}
 
--- no entry bears the digest of one before it
+-- no entry has the digest of one before it
 abbrev AreAllNew : {X : Type 0} → (X → Node) → List X → Type 0
 AreAllNew {X} node es = (before : List X) (e : X) (later : List X) → es ≡ before ++ e ∷ later → IsNew node before e
 
@@ -111,13 +100,13 @@ module _ {T : Type 0} (node : T → Node) (d : List ℕ) where
         let one : suc i ≡ i + 1 = omega arith in
         subst (λ n. bearer node d (map machine (take n xs)) ≡ None) one (lacks_one xs i x within is none lacks)
 
--- what is told of an entry is told of one that there is
+-- a value of a mapped option is made of a value that is there
 pub told_of : {A B : Type 0} (f : A → B) (o : Option A) (b : B) → option_map f o ≡ Some b →
     (a : A) × (o ≡ Some a) × (b ≡ f a)
 told_of f None b told = absurd (cc told)
 told_of f (Some a) b told = (a, refl, cc told)
 
--- and nothing is told of none
+-- an option that is mapped to none is none
 pub none_told : {A B : Type 0} (f : A → B) (o : Option A) → option_map f o ≡ None → o ≡ None
 none_told f None told = refl
 none_told f (Some a) told = absurd (cc told)

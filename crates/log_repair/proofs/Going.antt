@@ -1,17 +1,9 @@
 -- Steps that are taken and added to a list, until the whole way is gone.
-use Rattle.std.proofs.Common.{◌≡◌, ◌∙◌, ℕ, ◌+◌, ◌<◌, ◌≤◌, List, [], ◌∷◌, ◌++◌, length, drop, get_or, Option}
-use Rattle.std.proofs.Common.{refl, sym, ap, subst, Result, Ok, Err, OnErr}
-use Rattle.std.proofs.lemmas.List.{append_assoc, append-nil, drop_all, drop_more}
-use Rattle.entry_format.specs.Nodes.{node_of_sealed}
-use Rattle.entry_format.specs.SealedEntry.{SealedEntry}
-use Rattle.entry_order.specs.declared.event.Event.{Event}
-use Rattle.entry_order.specs.declared.step.Step.{Step}
-use Rattle.entry_order.specs.World.{World, happens, play}
-use Rattle.polling_world.specs.Configs.{Config}
-use Rattle.polling_world.specs.Worlds.{WorldState, world_of, configs_of, TellsNext, HaveLog}
-use Rattle.log_repair.specs.Outcomes.{LeadsTo, WorldWay}
-use Rattle.log_repair.specs.Sequences.{InOrder}
-use Rattle.log_repair.specs.inside.Adding.{Adds, Fails, IsMadeAsBefore}
+use Rattle.log_repair.proofs.Imports.{◌≡◌, ◌∙◌, ℕ, ◌+◌, ◌<◌, ◌≤◌, List, [], ◌∷◌, ◌++◌, length, drop, get_or, Option}
+use Rattle.log_repair.proofs.Imports.{refl, sym, ap, subst, Result, Ok, Err, OnErr, append_assoc, append-nil}
+use Rattle.log_repair.proofs.Imports.{drop_all, drop_more, node_of_sealed, SealedEntry, Event, Step, World, happens}
+use Rattle.log_repair.proofs.Imports.{play, Config, WorldState, world_of, configs_of, TellsNext, HaveLog, LeadsTo}
+use Rattle.log_repair.proofs.Imports.{WorldWay, InOrder, Adds, Fails, IsMadeAsBefore}
 use Rattle.log_repair.proofs.Making.{made_same, made_then, same_log}
 use Rattle.log_repair.proofs.Plays.{play-append}
 use Rattle.log_repair.proofs.Sequences.{Continues, in_order_next, in_order_none}
@@ -170,7 +162,7 @@ adds_as Way Other a b start end adds so = record {
       so (happens node_of_sealed next log) adds.taken (world_of b.machines) (adds.led next log tells have);
 }
 
--- and what broke off in one way did in the other
+-- what broke off in one way broke off in another, if all steps of the one are steps of the other
 pub fails_as : (Way Other : WorldWay) (a b : WorldState) → Fails Way a b →
     ((after : World SealedEntry → Step → World SealedEntry) (steps : List Step) (end : World SealedEntry) →
     Way after (world_of a.machines) steps end → Other after (world_of a.machines) steps end) → Fails Other a b
@@ -189,7 +181,7 @@ WayOfEach X =
     (World SealedEntry → Step → World SealedEntry) → X → World SealedEntry → List Step → World SealedEntry → Type 0
 
 module _ {X : Type 0} (Way : WayOfEach X) (xs : List X) where
-  -- the first so many are done
+  -- the first n are done
   abbrev pub GoingThrough : ℕ → WorldState → List Step → List Step → WorldState → Type 0
   GoingThrough i old start end now =
       Going (λ after. InOrder (Way after) (drop i xs)) (λ after. InOrder (Way after) xs) old start end now

@@ -1,18 +1,9 @@
 -- The steps of mending are of machines that are in the world.
-use Rattle.std.proofs.Common.{◌≡◌, ◌≢◌, ◌∙◌, ℕ, zero, suc, ◌<◌, ◌≤◌, ◌==◌, arith, Bool, true, false, List, [], ◌∷◌}
-use Rattle.std.proofs.Common.{◌++◌, length, All, Option, None, refl, ap, subst, inl, inr}
-use Rattle.std.specs.Prelude.{slice_get, if◌then◌else◌}
-use Rattle.std.proofs.lemmas.List.Elements.{All-append, All-cons, All-nil}
-use Rattle.std.proofs.lemmas.Option.{slice_get_cases}
-use Rattle.entry_order.specs.declared.event.Event.{Event}
-use Rattle.entry_order.specs.declared.step.Step.{Step}
-use Rattle.entry_order.specs.declared.step.Step.TheVariants.{Hear}
-use Rattle.entry_order.specs.Node.{Node}
-use Rattle.entry_order.specs.History.{sent}
-use Rattle.entry_order.specs.World.{Machine, World, happens, hear, history, history_of, with_machine}
-use Rattle.entry_order.proofs.Machines.{length_play}
-use Rattle.polling_world.specs.Steps.{IsStepOf}
-use Rattle.log_repair.specs.Mending.{Repairs}
+use Rattle.log_repair.proofs.Imports.{◌≡◌, ◌≢◌, ◌∙◌, ℕ, zero, suc, ◌<◌, ◌≤◌, ◌==◌, arith, Bool, true, false, List, []}
+use Rattle.log_repair.proofs.Imports.{◌∷◌, ◌++◌, length, All, Option, None, refl, ap, subst, inl, inr, slice_get}
+use Rattle.log_repair.proofs.Imports.{if◌then◌else◌, All-append, All-cons, All-nil, slice_get_cases, Event, Step}
+use Rattle.log_repair.proofs.Imports.{Hear, Node, sent, Machine, World, happens, hear, history, history_of}
+use Rattle.log_repair.proofs.Imports.{with_machine, length_play, IsStepOf, Repairs}
 use Rattle.log_repair.proofs.Ways.{repairs_so}
 
 module _ {T : Type 0} where
@@ -84,7 +75,7 @@ module _ {T : Type 0} (node : T → Node) (next : ℕ → List (Event T) → Opt
         (subst (λ (n : ℕ). All (IsStepOf n) rest) one.count two.each);
   }
 
-  -- so each step of mending is of machines of the world
+  -- each step of mending is of machines of the world
   pub repairs_are_of : (old new : World T) (steps : List Step) → Repairs node (happens node next log) old steps new →
       All (IsStepOf (length old)) steps
   repairs_are_of old new steps mended =

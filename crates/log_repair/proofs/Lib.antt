@@ -1,3 +1,4 @@
+mod Imports
 pub mod Sequences
 pub mod Ways
 pub mod Events

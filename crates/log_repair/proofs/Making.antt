@@ -1,24 +1,14 @@
 -- Machines that stay what they are made of.
-use Rattle.std.proofs.Common.{◌≡◌, ◌≢◌, ◌∙◌, ℕ, zero, suc, ◌<◌, arith, Bool, ◌||◌, List, [], ◌∷◌}
-use Rattle.std.proofs.Common.{length, get_or, Option, Some, None, refl, sym, ap, subst}
-use Rattle.std.specs.Prelude.{option_map, slice_get}
-use Rattle.std.proofs.Math.Bool.{or-false}
-use Rattle.std.proofs.lemmas.List.{get_or-map, length-map}
-use Rattle.std.proofs.lemmas.Option.{get_or_from_slice_get, slice_get_within, slice_get-get_or, slice_get-map}
-use Rattle.entry_format.specs.SealedEntry.{SealedEntry}
-use Rattle.entry_order.specs.declared.event.Event.{Event}
-use Rattle.entry_order.specs.World.{Machine}
-use Rattle.polling_world.specs.Configs.{Config}
-use Rattle.polling_world.specs.Machines.{MachineState, is_reached}
-use Rattle.polling_world.specs.Sending.{MaySend}
-use Rattle.polling_world.specs.Worlds.{WorldState, IsNextAt, IsWorld, machine_of, world_of, configs_of, stops_of}
-use Rattle.polling_world.specs.Worlds.{TellsNext, HaveLog}
-use Rattle.log_repair.specs.Laws.{SendsWithRoom}
-use Rattle.log_repair.specs.inside.Adding.{IsMadeAsBefore}
-use Rattle.log_repair.specs.inside.Totals.{spare}
+use Rattle.log_repair.proofs.Imports.{◌≡◌, ◌≢◌, ◌∙◌, ℕ, zero, suc, ◌<◌, arith, Bool, ◌||◌, List, [], ◌∷◌, length}
+use Rattle.log_repair.proofs.Imports.{get_or, Option, Some, None, refl, sym, ap, subst, option_map, slice_get}
+use Rattle.log_repair.proofs.Imports.{or-false, get_or-map, length-map, get_or_from_slice_get, slice_get_within}
+use Rattle.log_repair.proofs.Imports.{slice_get-get_or, slice_get-map, SealedEntry, Event, Machine, Config}
+use Rattle.log_repair.proofs.Imports.{MachineState, is_reached, MaySend, WorldState, IsNextAt, IsWorld, machine_of}
+use Rattle.log_repair.proofs.Imports.{world_of, configs_of, stops_of, TellsNext, HaveLog, SendsWithRoom}
+use Rattle.log_repair.proofs.Imports.{IsMadeAsBefore, spare}
 use Rattle.log_repair.proofs.Events.{room}
 
--- a machine is told by what it is made of and what is seen of it
+-- a machine is determined by what it is made of and what is seen of it
 same_machine : (m n : MachineState) → m.config ≡ n.config → m.stop ≡ None → n.stop ≡ None →
     machine_of m ≡ machine_of n → m ≡ n
 same_machine m n config stop stop' same =
@@ -48,7 +38,7 @@ same_machines (m ∷ ms) (n ∷ ns) configs stops none worlds =
     let rest : ms ≡ ns = same_machines ms ns (cc configs) (cc stops) (λ k a at. none (suc k) a at) (cc worlds) in
     ap (λ (a : MachineState). a ∷ ms) same ∙ ap (λ (l : List MachineState). n ∷ l) rest
 
--- a state is told by its parts
+-- a state is determined by its parts
 same_state : (a b : WorldState) → a.roster ≡ b.roster → a.machines ≡ b.machines → a ≡ b
 same_state a b roster machines =
     ap (λ r. record { roster = r; machines = a.machines }) roster

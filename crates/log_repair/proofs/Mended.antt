@@ -1,33 +1,15 @@
--- What stands after mending.
-use Rattle.std.proofs.Common.{◌≡◌, ◌∙◌, ℕ, ◌<◌, ◌≤◌, ◌==◌, arith, Bool, ◌||◌, true, false}
-use Rattle.std.proofs.Common.{List, [], ◌∷◌, length, Option, Some, None, refl, sym, ap, subst, inl, inr, unwrap_or}
-use Rattle.std.specs.Prelude.{slice_get, if◌then◌else◌, nat_le}
-use Rattle.std.specs.List.{Contains, range_with_len}
-use Rattle.std.proofs.lemmas.Bool.{eqb-true, leb-true}
-use Rattle.std.proofs.lemmas.List.{length-append}
-use Rattle.std.proofs.lemmas.List.FromFn.{get_or-range_with_len, length-range_with_len}
-use Rattle.std.proofs.lemmas.Option.{slice_get_within}
-use Rattle.entry_order.specs.declared.event.Event.{Event}
-use Rattle.entry_order.specs.declared.event.Event.TheVariants.{Sent, Got}
-use Rattle.entry_order.specs.declared.step.Step.{Step}
-use Rattle.entry_order.specs.Naming.{IsBorneIn, has_digest}
-use Rattle.entry_order.specs.Node.{Node}
-use Rattle.entry_order.specs.History.{entry_of, held, sent}
-use Rattle.entry_order.specs.Receipt.{IsOrderly}
-use Rattle.entry_order.specs.Survivors.{gaps}
-use Rattle.entry_order.specs.World.{Machine, World, append, cannot_hear, happens, hear, history, history_of}
-use Rattle.entry_order.specs.World.{with_machine}
-use Rattle.entry_order.proofs.Completions.{gap_cases, gap_or_bearer}
-use Rattle.entry_order.proofs.Lists.{Contains-cons_cases, Contains-head, Contains-map, Contains-none}
-use Rattle.entry_order.proofs.Machines.{get_same}
-use Rattle.entry_order.proofs.Naming.{has_digest_from}
-use Rattle.entry_order.proofs.Orders.{Contains-sent_cases}
-use Rattle.entry_order.proofs.Places.{member_at}
-use Rattle.log_repair.specs.Laws.{RunningMachinesAreMended}
-use Rattle.log_repair.specs.Mending.{Asks, HearsOf, Repairs, TakesRound, TakesTurn, bearer, wants}
-use Rattle.log_repair.specs.Mending.{is_mended, goes_on}
-use Rattle.log_repair.specs.Outcomes.{IsMended}
-use Rattle.log_repair.specs.Sequences.{InOrder}
+-- What is true after mending.
+use Rattle.log_repair.proofs.Imports.{◌≡◌, ◌∙◌, ℕ, ◌<◌, ◌≤◌, ◌==◌, arith, Bool, ◌||◌, true, false, List, [], ◌∷◌}
+use Rattle.log_repair.proofs.Imports.{length, Option, Some, None, refl, sym, ap, subst, inl, inr, unwrap_or}
+use Rattle.log_repair.proofs.Imports.{slice_get, if◌then◌else◌, nat_le, Contains, range_with_len, eqb-true, leb-true}
+use Rattle.log_repair.proofs.Imports.{length-append, get_or-range_with_len, length-range_with_len, slice_get_within}
+use Rattle.log_repair.proofs.Imports.{Event, Sent, Got, Step, IsBorneIn, has_digest, Node, entry_of, held, sent}
+use Rattle.log_repair.proofs.Imports.{IsOrderly, gaps, Machine, World, append, cannot_hear, happens, hear, history}
+use Rattle.log_repair.proofs.Imports.{history_of, with_machine, gap_cases, gap_or_bearer, Contains-cons_cases}
+use Rattle.log_repair.proofs.Imports.{Contains-head, Contains-map, Contains-none, get_same, has_digest_from}
+use Rattle.log_repair.proofs.Imports.{Contains-sent_cases, member_at, RunningMachinesAreMended, Asks, HearsOf}
+use Rattle.log_repair.proofs.Imports.{Repairs, TakesRound, TakesTurn, bearer, wants, is_mended, goes_on, IsMended}
+use Rattle.log_repair.proofs.Imports.{InOrder}
 use Rattle.log_repair.proofs.Bearers.{bearer_held, held_sent, none_answers}
 use Rattle.log_repair.proofs.OneWay.{both_none, asks_still, turn_still}
 

@@ -1,17 +1,9 @@
 -- The machines of a polling place after mending.
-use Rattle.std.proofs.Common.{◌≡◌, ◌∙◌, ℕ, ◌≤◌, arith, List, length, Option, Some, None, refl, sym, ap, subst}
-use Rattle.std.specs.Prelude.{option_map, slice_get}
-use Rattle.std.proofs.lemmas.Option.{slice_get-map}
-use Rattle.entry_format.specs.Nodes.{node_of_sealed}
-use Rattle.entry_format.specs.SealedEntry.{SealedEntry}
-use Rattle.entry_order.specs.declared.event.Event.{Event}
-use Rattle.entry_order.specs.declared.step.Step.{Step}
-use Rattle.entry_order.specs.World.{Machine, history, history_of}
-use Rattle.polling_world.specs.Machines.{MachineState}
-use Rattle.polling_world.specs.Worlds.{WorldState, IsWorld, machine_of, world_of, configs_of, HaveLog, TellsNext}
-use Rattle.log_repair.specs.Mending.{Repairs}
-use Rattle.log_repair.specs.Outcomes.{AreMended, IsMended, LeadsTo}
-use Rattle.log_repair.specs.inside.Adding.{IsMadeAsBefore}
+use Rattle.log_repair.proofs.Imports.{◌≡◌, ◌∙◌, ℕ, ◌≤◌, arith, List, length, Option, Some, None, refl, sym, ap, subst}
+use Rattle.log_repair.proofs.Imports.{option_map, slice_get, slice_get-map, node_of_sealed, SealedEntry, Event, Step}
+use Rattle.log_repair.proofs.Imports.{Machine, history, history_of, MachineState, WorldState, IsWorld, machine_of}
+use Rattle.log_repair.proofs.Imports.{world_of, configs_of, HaveLog, TellsNext, Repairs, AreMended, IsMended, LeadsTo}
+use Rattle.log_repair.proofs.Imports.{IsMadeAsBefore}
 use Rattle.log_repair.proofs.Making.{have_log, log_there, same_log}
 use Rattle.log_repair.proofs.Mended.{running_machines_are_mended}
 

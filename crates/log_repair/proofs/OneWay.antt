@@ -1,15 +1,10 @@
 -- Mending and finishing lead one way.
-use Rattle.std.proofs.Common.{◌≡◌, ◌≢◌, ◌∙◌, ◌⊎◌, ℕ, zero, suc, ◌+◌, ◌≤◌, arith, Bool, true, false, List, [], ◌∷◌, ◌++◌}
-use Rattle.std.proofs.Common.{drop, Option, Some, None, refl, sym, ap, subst, inl, inr, true≢false}
-use Rattle.entry_order.specs.declared.event.Event.{Event}
-use Rattle.entry_order.specs.declared.step.Step.{Step}
-use Rattle.entry_order.specs.declared.step.Step.TheVariants.{Act, Hear, Stop}
-use Rattle.entry_order.specs.Node.{Node}
-use Rattle.entry_order.specs.World.{World, happens, stop, with_machine}
-use Rattle.log_repair.specs.Laws.{SendsWithRoom, WorldsAreMendedInOneWay}
-use Rattle.log_repair.specs.Mending.{Asks, ActsOn, Finishes, HearsOf, Repairs, TakesRound, TakesTurn, bearer}
-use Rattle.log_repair.specs.Mending.{is_mended, goes_on, is_idle, acts}
-use Rattle.log_repair.specs.Sequences.{InOrder, TakesStep}
+use Rattle.log_repair.proofs.Imports.{◌≡◌, ◌≢◌, ◌∙◌, ◌⊎◌, ℕ, zero, suc, ◌+◌, ◌≤◌, arith, Bool, true, false, List, []}
+use Rattle.log_repair.proofs.Imports.{◌∷◌, ◌++◌, drop, Option, Some, None, refl, sym, ap, subst, inl, inr, Event}
+use Rattle.log_repair.proofs.Imports.{Step, Act, Hear, Stop, Node, World, happens, stop, with_machine, SendsWithRoom}
+use Rattle.log_repair.proofs.Imports.{WorldsAreMendedInOneWay, Asks, ActsOn, Finishes, HearsOf, Repairs, TakesRound}
+use Rattle.log_repair.proofs.Imports.{TakesTurn, bearer, is_mended, goes_on, is_idle, acts, InOrder, TakesStep}
+use Rattle.std.proofs.Common.{true≢false}
 use Rattle.log_repair.proofs.Events.{room, total, hear_adds, act_adds, act_takes, round_takes}
 use Rattle.log_repair.proofs.Sequences.{Continues, in_order_continues, in_order_is_one}
 use Rattle.log_repair.proofs.Ways.{asks_so, round_so, turn_so}

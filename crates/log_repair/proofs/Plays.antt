@@ -1,20 +1,10 @@
 -- Mending and finishing are plays, and plays only add to histories.
-use Rattle.std.proofs.Common.{◌≡◌, ◌∙◌, ℕ, ◌==◌, Bool, true, false, List, [], ◌∷◌, ◌++◌, Option, Some, None}
-use Rattle.std.proofs.Common.{refl, sym, ap, inl, inr}
-use Rattle.std.specs.Prelude.{slice_get, if◌then◌else◌}
-use Rattle.std.proofs.lemmas.List.{append_assoc, append-nil}
-use Rattle.entry_order.specs.declared.event.Event.{Event}
-use Rattle.entry_order.specs.declared.event.Event.TheVariants.{Sent, Got}
-use Rattle.entry_order.specs.declared.step.Step.{Step}
-use Rattle.entry_order.specs.declared.step.Step.TheVariants.{Act, Hear, Stop}
-use Rattle.entry_order.specs.Node.{Node}
-use Rattle.entry_order.specs.History.{sent}
-use Rattle.entry_order.specs.World.{Machine, World, append, cannot_hear, happens, hear, history, play, send, stop}
-use Rattle.entry_order.specs.World.{with_machine}
-use Rattle.entry_order.proofs.Plays.{changed}
-use Rattle.log_repair.specs.Laws.{HistoriesOnlyGrow, MendingIsAPlay}
-use Rattle.log_repair.specs.Mending.{ActsOn, Asks, Finishes, Repairs, TakesRound, TakesTurn}
-use Rattle.log_repair.specs.Sequences.{TakesStep}
+use Rattle.log_repair.proofs.Imports.{◌≡◌, ◌∙◌, ℕ, ◌==◌, Bool, true, false, List, [], ◌∷◌, ◌++◌, Option, Some, None}
+use Rattle.log_repair.proofs.Imports.{refl, sym, ap, inl, inr, slice_get, if◌then◌else◌, append_assoc, append-nil}
+use Rattle.log_repair.proofs.Imports.{Event, Sent, Got, Step, Act, Hear, Stop, Node, sent, Machine, World, append}
+use Rattle.log_repair.proofs.Imports.{cannot_hear, happens, hear, history, play, send, stop, with_machine, changed}
+use Rattle.log_repair.proofs.Imports.{HistoriesOnlyGrow, MendingIsAPlay, ActsOn, Asks, Finishes, Repairs, TakesRound}
+use Rattle.log_repair.proofs.Imports.{TakesTurn, TakesStep}
 use Rattle.log_repair.proofs.Ways.{acts_on_so, asks_so, finishes_so, repairs_so, round_so, step_so, turn_so}
 
 module _ {T : Type 0} (node : T → Node) (next : ℕ → List (Event T) → Option T) (log : ℕ) where

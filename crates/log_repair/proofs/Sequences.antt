@@ -1,7 +1,5 @@
 -- Steps that are taken one after another.
-use Rattle.std.proofs.Common.{◌≡◌, ◌∙◌, List, [], ◌∷◌, ◌++◌, refl, sym, ap, subst}
-use Rattle.entry_order.specs.declared.step.Step.{Step}
-use Rattle.log_repair.specs.Sequences.{InOrder}
+use Rattle.log_repair.proofs.Imports.{◌≡◌, ◌∙◌, List, [], ◌∷◌, ◌++◌, refl, sym, ap, subst, Step, InOrder}
 
 -- from here the way leads on by some steps
 abbrev pub Continues : {W : Type 0} → (W → List Step → W → Type 0) → W → Type 0

@@ -1,26 +1,12 @@
 -- Mending has at most as many steps as there are machines times sent entries.
-use Rattle.std.proofs.Common.{◌≡◌, ◌∙◌, ℕ, zero, suc, ◌*◌, ◌≤◌, ◌==◌, arith, Bool, true, false, suc-mul}
-use Rattle.std.proofs.Common.{List, [], ◌∷◌, ◌++◌, length, Option, Some, None, refl, sym, ap, subst}
-use Rattle.std.specs.Prelude.{slice_get, if◌then◌else◌}
-use Rattle.std.proofs.lemmas.List.{append_assoc, append-nil, length-map}
-use Rattle.std.proofs.lemmas.List.Elements.{Contains-append_right}
-use Rattle.entry_order.specs.declared.event.Event.{Event}
-use Rattle.entry_order.specs.declared.event.Event.TheVariants.{Got}
-use Rattle.entry_order.specs.declared.step.Step.{Step}
-use Rattle.entry_order.specs.declared.step.Step.TheVariants.{Hear}
-use Rattle.entry_order.specs.Node.{Node}
-use Rattle.entry_order.specs.History.{IsLegal, entry_of, held, sent}
-use Rattle.entry_order.specs.Receipt.{IsOrderly}
-use Rattle.entry_order.specs.World.{Machine, World, append, cannot_hear, happens, hear, history, sent_in}
-use Rattle.entry_order.specs.World.{with_machine}
-use Rattle.entry_order.proofs.Apart.{DigestsDiffer, few_among}
-use Rattle.entry_order.proofs.Histories.{new_from_may, sent-append}
-use Rattle.entry_order.proofs.Lists.{Contains-head, Contains-map, Contains-map_cases}
-use Rattle.entry_order.proofs.Machines.{length_play}
-use Rattle.entry_order.proofs.Orders.{member_split}
-use Rattle.entry_order.proofs.Plays.{IsOrderly-play}
-use Rattle.log_repair.specs.Laws.{MendingIsShort}
-use Rattle.log_repair.specs.Mending.{Repairs}
+use Rattle.log_repair.proofs.Imports.{◌≡◌, ◌∙◌, ℕ, zero, suc, ◌*◌, ◌≤◌, ◌==◌, arith, Bool, true, false, suc-mul, List}
+use Rattle.log_repair.proofs.Imports.{[], ◌∷◌, ◌++◌, length, Option, Some, None, refl, sym, ap, subst, slice_get}
+use Rattle.log_repair.proofs.Imports.{if◌then◌else◌, append_assoc, append-nil, length-map, Contains-append_right}
+use Rattle.log_repair.proofs.Imports.{Event, Got, Step, Hear, Node, IsLegal, entry_of, held, sent, IsOrderly, Machine}
+use Rattle.log_repair.proofs.Imports.{World, append, cannot_hear, happens, hear, history, sent_in, with_machine}
+use Rattle.log_repair.proofs.Imports.{DigestsDiffer, few_among, new_from_may, sent-append, Contains-head}
+use Rattle.log_repair.proofs.Imports.{Contains-map, Contains-map_cases, length_play, member_split, IsOrderly-play}
+use Rattle.log_repair.proofs.Imports.{MendingIsShort, Repairs}
 use Rattle.log_repair.proofs.Bearers.{held_in}
 use Rattle.log_repair.proofs.Events.{repair_counts, total}
 use Rattle.log_repair.proofs.Ways.{repairs_so}

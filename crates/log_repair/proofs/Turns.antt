@@ -1,22 +1,11 @@
 -- The turn of a machine that is read.
-use Rattle.std.proofs.Common.{◌≡◌, ◌∙◌, ℕ, zero, suc, ◌<◌, ◌≤◌, arith, List, [], ◌∷◌, length, get_or, Some, sym, ap}
-use Rattle.std.proofs.Common.{subst}
-use Rattle.std.specs.Prelude.{slice_get, if◌then◌else◌}
-use Rattle.std.specs.List.{range_with_len}
-use Rattle.std.proofs.lemmas.List.{length-map}
-use Rattle.std.proofs.lemmas.List.FromFn.{get_or-range_with_len, length-range_with_len}
-use Rattle.entry_format.specs.Nodes.{node_of_sealed}
-use Rattle.entry_format.specs.SealedEntry.{SealedEntry}
-use Rattle.entry_order.specs.declared.step.Step.{Step}
-use Rattle.entry_order.specs.History.{held}
-use Rattle.entry_order.specs.Survivors.{gaps}
-use Rattle.entry_order.specs.World.{World}
-use Rattle.polling_world.specs.Machines.{MachineState, has_stopped}
-use Rattle.polling_world.specs.Worlds.{WorldState, machine_of, world_of}
-use Rattle.log_repair.specs.Mending.{Asks, TakesTurn, wants}
-use Rattle.log_repair.specs.Sequences.{InOrder}
+use Rattle.log_repair.proofs.Imports.{◌≡◌, ◌∙◌, ℕ, zero, suc, ◌<◌, ◌≤◌, arith, List, [], ◌∷◌, length, get_or, Some}
+use Rattle.log_repair.proofs.Imports.{sym, ap, subst, slice_get, if◌then◌else◌, range_with_len, length-map}
+use Rattle.log_repair.proofs.Imports.{get_or-range_with_len, length-range_with_len, node_of_sealed, SealedEntry, Step}
+use Rattle.log_repair.proofs.Imports.{held, gaps, World, MachineState, has_stopped, WorldState, machine_of, world_of}
+use Rattle.log_repair.proofs.Imports.{Asks, TakesTurn, wants, InOrder}
 
--- the machine that stands at a place
+-- the machine at a place
 machine_at : (ms : List MachineState) (m : ℕ) (a : MachineState) → m < length ms → a ≡ get_or ms m a →
     slice_get (world_of ms) m ≡ Some (machine_of a)
 machine_at [] m a within is = absurd (omega (arith, within))
@@ -50,7 +39,7 @@ number_at w machines m seen within =
     let at = get_or-range_with_len 0 count m m low in
     (omega (arith, low, long), omega (arith, at))
 
--- and there is none past the last
+-- a place past the last machine is past the last of the numbers
 pub numbers_end : (w : WorldState) (machines : List MachineState) (m : ℕ) → machines ≡ w.machines →
     length machines ≤ m → length (numbers w) ≤ m
 numbers_end w machines m seen past =

@@ -1,12 +1,8 @@
 -- What is so of each step that is taken is so of mending and finishing.
-use Rattle.std.proofs.Common.{◌≢◌, ◌∙◌, ℕ, List, [], ◌∷◌, ◌++◌, Option, Some, None, sym, subst, inl, inr}
-use Rattle.entry_order.specs.declared.step.Step.{Step}
-use Rattle.entry_order.specs.declared.step.Step.TheVariants.{Act, Hear}
-use Rattle.entry_order.specs.Node.{Node}
-use Rattle.entry_order.specs.World.{World}
-use Rattle.log_repair.specs.Mending.{Asks, ActsOn, Finishes, HearsOf, Repairs, TakesRound, TakesTurn, bearer}
-use Rattle.log_repair.specs.Mending.{is_mended, goes_on, is_idle, acts}
-use Rattle.log_repair.specs.Sequences.{InOrder, TakesNone, TakesStep}
+use Rattle.log_repair.proofs.Imports.{◌≢◌, ◌∙◌, ℕ, List, [], ◌∷◌, ◌++◌, Option, Some, None, sym, subst, inl, inr}
+use Rattle.log_repair.proofs.Imports.{Step, Act, Hear, Node, World, Asks, ActsOn, Finishes, HearsOf, Repairs}
+use Rattle.log_repair.proofs.Imports.{TakesRound, TakesTurn, bearer, is_mended, goes_on, is_idle, acts, InOrder}
+use Rattle.log_repair.proofs.Imports.{TakesNone, TakesStep}
 
 -- R is so of no step, and of two lists of steps one after the other
 module _ {T : Type 0} (node : T → Node) (after : World T → Step → World T)

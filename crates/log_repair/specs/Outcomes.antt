@@ -47,7 +47,7 @@ module _ {T : Type 0} (node : T → Node) where
       NamesOnlyHeld node (held a.history) ⊎ (length a.history ≡ log)
       ⊎ ((d : List ℕ) × Contains (gaps node (held a.history)) d × NoneAnswers w d)
 
--- so it is of each of these machines that hasn't stopped
+-- each machine that hasn't stopped is mended
 abbrev pub AreMended : List MachineState → Type 0
 AreMended machines =
     (place : ℕ) (m : MachineState) → slice_get machines place ≡ Some m → has_stopped m ≡ false →

@@ -9,7 +9,7 @@ use entry_order::Knot;
 use polling_world::Machine;
 
 /// Maker and number of the entry with the digest in the least machine that hasn't stopped and holds
-/// one. A table of each machine tells where such an entry stands, so that no log is searched.
+/// one. A table of each machine says where such an entry is, so that no log is searched.
 pub fn bearer(machines: &[Machine], digest: &[u8; 32]) -> Option<(u32, u32)>
     ensures { result ≡ option_map (λ (e : SealedEntry). (e.entry.maker, e.entry.number))
         (bearer node_of_sealed digest.now (world_of machines.now)) }

@@ -1,32 +1,12 @@
 -- A station before anything happened is one.
-use Rattle.std.proofs.Common.{◌≡◌, ℕ, ◌<◌, List, [], ◌∷◌, length, map}
-use Rattle.std.proofs.Common.{refl}
-use Rattle.std.proofs.Common.{sym, ap, ◌∙◌, subst, arith, get_or, Option}
-use Rattle.std.specs.Prelude.{All}
-use Rattle.std.specs.List.{Contains}
-use Rattle.std.proofs.lemmas.List.{get_or-map, get_or_default, length-map}
-use Rattle.std.proofs.lemmas.Option.{slice_get_within}
-use Rattle.entry_format.specs.Nodes.{node_of_sealed}
-use Rattle.entry_format.specs.SealedEntry.{SealedEntry}
-use Rattle.entry_order.specs.declared.event.Event.{Event}
-use Rattle.entry_order.specs.declared.event.Event.TheVariants.{Got}
-use Rattle.entry_order.specs.History.{sent}
-use Rattle.entry_order.proofs.Lists.{Contains-none}
-use Rattle.election_script.specs.declared.script.Lose.{Lose}
-use Rattle.election_script.specs.declared.script.Script.{Script}
-use Rattle.election_script.specs.Lawful.{IsLawful}
-use Rattle.broadcast_queues.specs.Ends.{OutView, InView, LinkView}
-use Rattle.floor_losses.specs.declared.loss.Loss.{Loss}
-use Rattle.floor_losses.specs.Losses.{arriving, got_from}
-use Rattle.log_lock.specs.declared.story.Tick.{Tick}
-use Rattle.floor_links.specs.Fresh.{out_of, in_of, AreNewLinks}
-use Rattle.floor_links.specs.Rows.{link_at}
-use Rattle.polling_world.specs.Machines.{MachineState, IsMachine, IsFresh}
-use Rattle.machine_floor.specs.Stations.{StationState, IsStation, IsTakenWell, IsOfLinks, new_out, new_in}
-use Rattle.machine_floor.specs.Stations.{ticks_from}
-use Rattle.finished_floor.specs.Places.{IsStopOf}
-use Rattle.machine_floor.specs.Fresh.{lose_lines_of, IsNewStation}
-use Rattle.machine_floor.specs.inside.Beginning.{begun, IsBeginning}
+use Rattle.machine_floor.proofs.Imports.{◌≡◌, ℕ, ◌<◌, List, [], ◌∷◌, length, map, refl, sym, ap, ◌∙◌, subst, arith}
+use Rattle.machine_floor.proofs.Imports.{get_or, Option, All, Contains, get_or-map, get_or_default, length-map}
+use Rattle.machine_floor.proofs.Imports.{slice_get_within, node_of_sealed, SealedEntry, Event, Got, sent}
+use Rattle.machine_floor.proofs.Imports.{Contains-none, Lose, Script, IsLawful, OutView, InView, LinkView, Loss}
+use Rattle.machine_floor.proofs.Imports.{arriving, got_from, Tick, out_of, in_of, AreNewLinks, link_at, MachineState}
+use Rattle.machine_floor.proofs.Imports.{IsMachine, IsFresh, StationState, IsStation, IsTakenWell, IsOfLinks, new_out}
+use Rattle.machine_floor.proofs.Imports.{new_in, ticks_from, IsStopOf, lose_lines_of, IsNewStation, begun}
+use Rattle.machine_floor.proofs.Imports.{IsBeginning}
 use Rattle.machine_floor.proofs.Hands.{some_of}
 
 module _ (script : Script) (m : MachineState) (outs : List (OutView SealedEntry)) (inns : List (InView SealedEntry))

@@ -1,29 +1,12 @@
 -- The causes of losses: they stay as a station goes on, and new losses have one.
-use Rattle.std.proofs.Common.{◌≡◌, ℕ, ◌<◌, ◌≤◌, false, List, ◌++◌, length, ap}
-use Rattle.std.proofs.Common.{◌∙◌, subst, arith, Some, get_or, length-append}
-use Rattle.std.specs.Prelude.{All, nat_lt}
-use Rattle.std.proofs.lemmas.Bool.{lt-ltb}
-use Rattle.std.proofs.lemmas.List.Elements.{filter-append, All-contains}
-use Rattle.std.proofs.lemmas.Option.{same_Some}
-use Rattle.entry_format.specs.SealedEntry.{SealedEntry}
-use Rattle.entry_order.specs.declared.event.Event.{Event}
-use Rattle.entry_order.proofs.Lists.{filter_all}
-use Rattle.election_script.specs.declared.script.Lose.{Lose}
-use Rattle.broadcast_queues.specs.Ends.{OutView}
-use Rattle.floor_losses.specs.declared.loss.Loss.{Loss}
-use Rattle.floor_losses.specs.declared.loss.LossWhy.{LossWhy}
-use Rattle.floor_losses.specs.declared.loss.LossWhy.TheVariants.{Scripted, LinkFull, ToStopped, LogFull, SameDigest}
-use Rattle.floor_losses.specs.Scripted.{is_scripted}
-use Rattle.floor_links.specs.Sendings.{IsWay}
-use Rattle.polling_world.specs.declared.heard.MachineHeard.{MachineHeard}
+use Rattle.machine_floor.proofs.Imports.{◌≡◌, ℕ, ◌<◌, ◌≤◌, false, List, ◌++◌, length, ap, ◌∙◌, subst, arith, Some}
+use Rattle.machine_floor.proofs.Imports.{get_or, length-append, All, nat_lt, lt-ltb, filter-append, All-contains}
+use Rattle.machine_floor.proofs.Imports.{same_Some, SealedEntry, Event, filter_all, Lose, OutView, Loss, LossWhy}
+use Rattle.machine_floor.proofs.Imports.{Scripted, LinkFull, ToStopped, LogFull, SameDigest, is_scripted, IsWay}
+use Rattle.machine_floor.proofs.Imports.{MachineHeard, IsHeard, MachineState, IsMachine, with_event, IsGoing}
+use Rattle.machine_floor.proofs.Imports.{going_on, held_more, stopped_there, numbered_below, IsOutCause, IsInCause}
+use Rattle.machine_floor.proofs.Imports.{cause_of}
 use Rattle.polling_world.specs.declared.heard.MachineHeard.TheVariants as heard
-use Rattle.polling_world.specs.Hearing.{IsHeard}
-use Rattle.polling_world.specs.Machines.{MachineState, IsMachine, with_event}
-use Rattle.polling_world.specs.Waiting.{IsGoing}
-use Rattle.floor_sweep.proofs.Events.{going_on, held_more}
-use Rattle.floor_sweep.proofs.Handed.{stopped_there}
-use Rattle.machine_floor.specs.Stations.{numbered_below, IsOutCause, IsInCause}
-use Rattle.machine_floor.specs.Turns.{cause_of}
 
 -- an end that puts on a link
 abbrev pub End : Type 0
@@ -70,7 +53,7 @@ named loses e loss from number =
     ap (λ m. is_scripted loses m loss.number loss.to) from
     ∙ ap (λ n. is_scripted loses e.entry.maker n loss.to) number
 
--- a new loss has the cause that its way tells
+-- a new loss has the cause that its way gives
 pub out_new : (loses : List Lose) (link : ℕ) (e : SealedEntry) (outs new : List End) (loss : Loss) (why : LossWhy)
     (some : End) → loss.from ≡ e.entry.maker → loss.number ≡ e.entry.number →
     ((d : End) → IsWay (is_scripted loses e.entry.maker e.entry.number loss.to) link e (get_or outs loss.to d)

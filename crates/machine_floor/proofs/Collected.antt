@@ -1,56 +1,27 @@
 -- What the stations of a script leave together, once the links between them are finished.
-use Rattle.std.proofs.Common.{◌≡◌, ◌≢◌, ℕ, suc, ◌+◌, ◌<◌, ◌≤◌, Bool, true, false, cond, List, [], ◌∷◌, ◌++◌}
-use Rattle.std.proofs.Common.{length, map, refl, sym, ap, ◌∙◌, subst, arith, ◌⊎◌, inl, inr, get_or, Option, Some}
-use Rattle.std.specs.Prelude.{All, slice_get, nat_lt, ◌==◌, ◌&&◌, ◌||◌, not}
-use Rattle.std.specs.List.{Contains, AllZip, filter, flat_map}
-use Rattle.std.proofs.lemmas.Bool.{and_parts, and_from, or_cases, or_left, or_right, not-true, true≢false}
-use Rattle.std.proofs.lemmas.Bool.{not_from_false, cases_Bool}
-use Rattle.std.proofs.lemmas.List.{length-map}
-use Rattle.std.proofs.lemmas.List.Elements.{All-contains, Contains-append_left, Contains-get_or}
-use Rattle.std.proofs.lemmas.Option.{get_or_from_slice_get, slice_get_within, same_Some}
-use Rattle.entry_order.proofs.Lists.{Contains-filter_cases, list_any_some, list_any_of, Contains-flat_map}
-use Rattle.entry_order.proofs.Lists.{Contains-flat_map_cases, Contains-head, Contains-later}
-use Rattle.entry_format.specs.Nodes.{node_of_sealed}
-use Rattle.entry_format.specs.SealedEntry.{SealedEntry}
-use Rattle.entry_order.specs.declared.event.Event.{Event}
-use Rattle.entry_order.specs.declared.event.Event.TheVariants.{Sent, Got}
-use Rattle.entry_order.specs.History.{sent, IsLegal}
-use Rattle.entry_order.specs.World.{history, history_of}
-use Rattle.entry_order.proofs.Orders.{member_split, Contains-sent_cases}
-use Rattle.entry_order.proofs.Places.{place_of, member_at, all_at, element_at}
-use Rattle.election_script.specs.declared.script.Lose.{Lose}
-use Rattle.election_script.specs.declared.script.Script.{Script}
-use Rattle.broadcast_queues.specs.Ends.{OutView, InView, LinkView, IsOutOf, IsInOf}
-use Rattle.floor_losses.specs.declared.loss.Loss.{Loss}
-use Rattle.floor_losses.specs.declared.loss.LossWhy.{LossWhy}
-use Rattle.floor_losses.specs.declared.loss.LossWhy.TheVariants.{Scripted, LinkFull, ToStopped, LogFull, SameDigest}
-use Rattle.floor_losses.specs.Losses.{arriving, got_from, is_lost, is_of, Differ, AreOnce}
-use Rattle.floor_losses.specs.Balance.{IsBalanced}
-use Rattle.floor_losses.proofs.Arriving.{is_of_parts, itself, other_from, other_to}
-use Rattle.floor_losses.proofs.Lists.{filter_twice}
-use Rattle.floor_losses.proofs.Once.{once_append, differ_sym}
-use Rattle.floor_losses.specs.Scripted.{is_scripted}
-use Rattle.floor_links.specs.Rows.{link_at}
-use Rattle.floor_sweep.specs.declared.sweeping.Waiting.{Waiting}
-use Rattle.floor_sweep.specs.Places.{count_sent}
-use Rattle.floor_sweep.specs.Waits.{AreOnWay, waits_of}
-use Rattle.finished_floor.specs.Floors.{AreGathered, pass_of, passes_of}
-use Rattle.finished_floor.specs.Losses.{IsCauseOf, IsOnWay, AreLostAsScripted, is_before_link, is_kept_off, put_before}
-use Rattle.finished_floor.specs.Places.{IsMachineOf, IsStopOf}
-use Rattle.polling_world.specs.Keys.{roster_of}
-use Rattle.polling_world.specs.Machines.{MachineState, IsFresh}
-use Rattle.polling_world.specs.Worlds.{world_of, machine_of}
-use Rattle.polling_world.proofs.Placing.{get-map, get-map_from}
-use Rattle.roster.specs.declared.post.Post.{Post}
-use Rattle.roster.specs.Machines.{max_machines}
-use Rattle.machine_floor.specs.Stations.{StationState, IsStation, IsOfHand, IsOfEar, IsOutCause, IsInCause}
-use Rattle.machine_floor.specs.Stations.{made_of, numbered_below, ticks_from}
-use Rattle.machine_floor.specs.Fresh.{lose_lines_of, IsNewStation, AreNewStations}
-use Rattle.machine_floor.specs.inside.Gathering.{by_of, AreMadeBy, AreEndsOf, AreRests}
+use Rattle.machine_floor.proofs.Imports.{◌≡◌, ◌≢◌, ℕ, suc, ◌+◌, ◌<◌, ◌≤◌, Bool, true, false, cond, List, [], ◌∷◌}
+use Rattle.machine_floor.proofs.Imports.{◌++◌, length, map, refl, sym, ap, ◌∙◌, subst, arith, ◌⊎◌, inl, inr, get_or}
+use Rattle.machine_floor.proofs.Imports.{Option, Some, All, slice_get, nat_lt, ◌==◌, ◌&&◌, ◌||◌, not, Contains}
+use Rattle.machine_floor.proofs.Imports.{AllZip, filter, flat_map, and_parts, and_from, or_cases, or_left, or_right}
+use Rattle.machine_floor.proofs.Imports.{not-true, true≢false, not_from_false, cases_Bool, length-map, All-contains}
+use Rattle.machine_floor.proofs.Imports.{Contains-append_left, Contains-get_or, get_or_from_slice_get}
+use Rattle.machine_floor.proofs.Imports.{slice_get_within, same_Some, Contains-filter_cases, list_any_some}
+use Rattle.machine_floor.proofs.Imports.{list_any_of, Contains-flat_map, Contains-flat_map_cases, Contains-head}
+use Rattle.machine_floor.proofs.Imports.{Contains-later, node_of_sealed, SealedEntry, Event, Sent, Got, sent, IsLegal}
+use Rattle.machine_floor.proofs.Imports.{history, history_of, member_split, Contains-sent_cases, place_of, member_at}
+use Rattle.machine_floor.proofs.Imports.{all_at, element_at, Lose, Script, OutView, InView, LinkView, IsOutOf, IsInOf}
+use Rattle.machine_floor.proofs.Imports.{Loss, LossWhy, Scripted, LinkFull, ToStopped, LogFull, SameDigest, arriving}
+use Rattle.machine_floor.proofs.Imports.{got_from, is_lost, is_of, Differ, AreOnce, IsBalanced, is_of_parts, itself}
+use Rattle.machine_floor.proofs.Imports.{other_from, other_to, filter_twice, once_append, differ_sym, is_scripted}
+use Rattle.machine_floor.proofs.Imports.{link_at, Waiting, count_sent, AreOnWay, waits_of, AreGathered, pass_of}
+use Rattle.machine_floor.proofs.Imports.{passes_of, IsCauseOf, IsOnWay, AreLostAsScripted, is_before_link}
+use Rattle.machine_floor.proofs.Imports.{is_kept_off, put_before, IsMachineOf, IsStopOf, roster_of, MachineState}
+use Rattle.machine_floor.proofs.Imports.{IsFresh, world_of, machine_of, get-map, get-map_from, Post, max_machines}
+use Rattle.machine_floor.proofs.Imports.{StationState, IsStation, IsOfHand, IsOfEar, IsOutCause, IsInCause, made_of}
+use Rattle.machine_floor.proofs.Imports.{numbered_below, ticks_from, lose_lines_of, IsNewStation, AreNewStations}
+use Rattle.machine_floor.proofs.Imports.{by_of, AreMadeBy, AreEndsOf, AreRests, numbers_below, all_by}
 use Rattle.machine_floor.proofs.Gathers.{gather_pair}
 use Rattle.machine_floor.proofs.Linked.{rows_are, row_is, ends_out, ends_in}
-use Rattle.floor_losses.proofs.Numbers.{numbers_below}
-use Rattle.finished_floor.proofs.Caused.{all_by}
 
 -- two tests that hold together are one
 same_test : (x y : Bool) → (x ≡ true → y ≡ true) → (y ≡ true → x ≡ true) → x ≡ y
@@ -117,7 +88,7 @@ makers_sent owner h legal x c =
     let (before, after, is) = member_split h (Sent x) (Contains-sent_cases h x c) in
     (legal before (Sent x) after is).1.maker
 
--- the ticks tell who did the events
+-- the ticks report who did the events
 by_ticks : (place : ℕ) (h : List (Event SealedEntry)) → by_of (ticks_from place h) ≡ passes_of h
 by_ticks place [] = refl
 by_ticks place (x ∷ h) = ap (λ l. Some (pass_of x) ∷ l) (by_ticks (place + 1) h)
@@ -193,7 +164,7 @@ module _ (script : Script) (links : List (List LinkView)) (ss : List StationStat
     inns_long : length s.inns ≡ length ss
     inns_long = there.as_many ∙ outs_long
 
-    -- its machine stands at the same place among the machines
+    -- its machine is at the same place among the machines
     machine_at : slice_get machines a ≡ Some s.machine
     machine_at = get-map (λ (s : StationState). s.machine) ss a s stands
 
@@ -209,7 +180,7 @@ module _ (script : Script) (links : List (List LinkView)) (ss : List StationStat
     count_at : count_sent machines a ≡ length (sent s.machine.events)
     count_at = ap length sent_at
 
-    -- among all ends that put, its own stand at this place
+    -- among all ends that put, its own are at this place
     outs_at : get_or outs a [] ≡ s.outs
     outs_at = get_or_from_slice_get outs a s.outs [] (get-map (λ (s : StationState). s.outs) ss a s stands)
 
@@ -367,7 +338,7 @@ module _ (script : Script) (links : List (List LinkView)) (ss : List StationStat
     record HeardOff (x : Loss) (b : ℕ) (t : StationState) : Type 0 where
       -- the station that sent it
       pub sender : StationState
-      -- which stands at the place that the loss tells
+      -- which is at the place that the loss gives
       pub sends : slice_get ss x.from ≡ Some sender
       -- the loss was on the way to this hearer
       pub to : x.to ≡ b
@@ -378,7 +349,7 @@ module _ (script : Script) (links : List (List LinkView)) (ss : List StationStat
       pub was_sent : Contains (sent sender.machine.events) entry
       -- its sender didn't lose it on this way
       pub kept : is_lost sender.losses x.from entry.entry.number b ≡ false
-      -- the loss tells its number
+      -- the loss gives its number
       pub number : entry.entry.number ≡ x.number
       -- the hearer has this cause not to hear it
       pub cause : IsInCause t.machine entry x.why

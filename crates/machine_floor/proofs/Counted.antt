@@ -1,9 +1,7 @@
 -- How many actions a script has, counted machine by machine.
-use Rattle.std.proofs.Common.{◌≡◌, ℕ, ◌+◌, ◌<◌, ◌≤◌, List, [], ◌∷◌, length, take, drop, sym, ap, ◌∙◌, arith, get_or}
-use Rattle.std.proofs.Common.{length-append}
-use Rattle.std.specs.List.{flat_map}
-use Rattle.std.proofs.lemmas.Grind.{flat_map-append}
-use Rattle.std.proofs.lemmas.List.{append-nil, take_more, take-append-drop}
+use Rattle.machine_floor.proofs.Imports.{◌≡◌, ℕ, ◌+◌, ◌<◌, ◌≤◌, List, [], ◌∷◌, length, take, drop, sym, ap, ◌∙◌}
+use Rattle.machine_floor.proofs.Imports.{arith, get_or, length-append, flat_map, flat_map-append, append-nil}
+use Rattle.machine_floor.proofs.Imports.{take_more, take-append-drop}
 
 module _ {X A : Type 0} (f : X → List A) (xs : List X) (i : ℕ) where
   -- one machine more

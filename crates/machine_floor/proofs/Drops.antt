@@ -1,7 +1,7 @@
 -- What is left of a list once as many were passed.
-use Rattle.std.proofs.Common.{◌≡◌, ℕ, zero, suc, ◌≤◌, List, [], ◌∷◌, length, drop, get_or, arith}
+use Rattle.machine_floor.proofs.Imports.{◌≡◌, ℕ, zero, suc, ◌≤◌, List, [], ◌∷◌, length, drop, get_or, arith}
 
--- what stands first in the rest of a list
+-- what comes first in the rest of a list
 pub drop_step : {X : Type 0} (xs : List X) (n : ℕ) (y : X) (ys : List X) → drop n xs ≡ y ∷ ys →
     ((d : X) → get_or xs n d ≡ y) × (drop (suc n) xs ≡ ys)
 drop_step [] zero y ys e = cc

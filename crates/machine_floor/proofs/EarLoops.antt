@@ -1,17 +1,8 @@
 -- One look at a link after another.
-use mir.Val.{bool_byte}
-use Rattle.std.proofs.Common.{suc, cond, ◌+◌, ◌≤◌, ◌≡◌, ℕ, Bool, true, false, List, [], ◌∷◌, ◌++◌, length, sym, ap, ◌∙◌}
-use Rattle.std.proofs.Common.{subst}
-use Rattle.std.proofs.Common.{refl}
-use Rattle.std.proofs.Common.{arith, Option, Some, None, append_assoc}
-use Rattle.std.specs.Prelude.{All}
-use Rattle.std.proofs.lemmas.List.{append-nil}
-use Rattle.std.proofs.lemmas.List.Elements.{All-push}
-use Rattle.entry_format.specs.SealedEntry.{SealedEntry}
-use Rattle.log_lock.specs.declared.story.Tick.{Tick}
-use Rattle.floor_losses.specs.declared.loss.LossWhy.{LossWhy}
-use Rattle.machine_floor.specs.Stations.{StationState, made_of}
-use Rattle.machine_floor.specs.Turns.{cause_of, IsFate, EarDid, IsLook, HasLooked}
+use Rattle.machine_floor.proofs.Imports.{bool_byte, suc, cond, ◌+◌, ◌≤◌, ◌≡◌, ℕ, Bool, true, false, List, [], ◌∷◌}
+use Rattle.machine_floor.proofs.Imports.{◌++◌, length, sym, ap, ◌∙◌, subst, refl, arith, Option, Some, None}
+use Rattle.machine_floor.proofs.Imports.{append_assoc, All, append-nil, All-push, SealedEntry, Tick, LossWhy}
+use Rattle.machine_floor.proofs.Imports.{StationState, made_of, cause_of, IsFate, EarDid, IsLook, HasLooked}
 
 -- since the turn began, the station is as it was made and has more ticks of pass 1
 pub record HasHeard (first now : StationState) : Type 0 where
@@ -19,9 +10,9 @@ pub record HasHeard (first now : StationState) : Type 0 where
   pub made : made_of now ≡ made_of first
   -- the ticks since then
   pub more : List Tick
-  -- they stand behind those of before
+  -- they come after the earlier ones
   pub ticks : now.ticks ≡ first.ticks ++ more
-  -- and are all the ear's
+  -- the new ticks are all the ear's, of pass 1
   pub passes : All (λ (t : Tick). t.pass ≡ 1) more
 
 -- as the turn begins there is no tick more
@@ -69,7 +60,7 @@ pub one_or_none : (took : Bool) → bool_byte took ≡ cond took 1 0
 one_or_none true = refl
 one_or_none false = refl
 
--- so it counts at most one
+-- a look counts at most one entry
 pub at_most_one : (took : Bool) → bool_byte took ≤ 1
 at_most_one true = omega arith
 at_most_one false = omega arith

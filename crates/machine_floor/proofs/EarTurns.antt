@@ -1,35 +1,18 @@
 -- What a look at a link asks and gives.
-use Rattle.std.proofs.Common.{◌≡◌, ◌≢◌, ℕ, ◌<◌, ◌≤◌, List, [], ◌∷◌, ◌++◌, length, map, refl, sym, ap, ◌∙◌}
-use Rattle.std.proofs.Common.{subst, arith, get_or, set, get_or-set_same, get_or-set_other, Option, Some, None}
-use Rattle.std.proofs.Common.{inl, inr}
-use Rattle.std.specs.Prelude.{All}
-use Rattle.std.specs.List.{Contains}
-use Rattle.std.proofs.Math.ListN.{length-set}
-use Rattle.std.proofs.lemmas.Bool.{cases_eq}
-use Rattle.std.proofs.lemmas.List.{get_or_default}
-use Rattle.std.proofs.lemmas.List.Sums.{sum_by-le, sum_by-set}
-use Rattle.entry_format.specs.Nodes.{node_of_sealed}
-use Rattle.floor_losses.specs.Losses.{arriving}
-use Rattle.entry_format.specs.SealedEntry.{SealedEntry}
-use Rattle.entry_order.specs.declared.event.Event.TheVariants.{Got}
-use Rattle.entry_order.proofs.Histories.{sent_few}
-use Rattle.log_lock.specs.declared.story.Tick.{Tick}
-use Rattle.broadcast_queues.specs.Ends.{LinkView, IsInOf, FoundLinkEmpty}
-use Rattle.floor_losses.specs.declared.loss.Loss.{Loss}
-use Rattle.floor_losses.specs.declared.loss.LossWhy.{LossWhy}
-use Rattle.polling_world.specs.declared.heard.MachineHeard.{MachineHeard}
+use Rattle.machine_floor.proofs.Imports.{◌≡◌, ◌≢◌, ℕ, ◌<◌, ◌≤◌, List, [], ◌∷◌, ◌++◌, length, map, refl, sym, ap, ◌∙◌}
+use Rattle.machine_floor.proofs.Imports.{subst, arith, get_or, set, get_or-set_same, get_or-set_other, Option, Some}
+use Rattle.machine_floor.proofs.Imports.{None, inl, inr, All, Contains, length-set, cases_eq, get_or_default}
+use Rattle.machine_floor.proofs.Imports.{sum_by-le, sum_by-set, node_of_sealed, arriving, SealedEntry, Got, sent_few}
+use Rattle.machine_floor.proofs.Imports.{Tick, LinkView, IsInOf, FoundLinkEmpty, Loss, LossWhy, MachineHeard, IsHeard}
+use Rattle.machine_floor.proofs.Imports.{machine_after, MachineState, IsMachine, with_event, StationState, IsStation}
+use Rattle.machine_floor.proofs.Imports.{IsTakenWell, new_in, cause_of, IsFate, EarTook, EarFoundNone, IsGoing}
+use Rattle.machine_floor.proofs.Imports.{max_actions}
 use Rattle.polling_world.specs.declared.heard.MachineHeard.TheVariants as heard
-use Rattle.polling_world.specs.Hearing.{IsHeard, machine_after}
-use Rattle.polling_world.specs.Machines.{MachineState, IsMachine, with_event}
-use Rattle.machine_floor.specs.Stations.{StationState, IsStation, IsTakenWell, new_in}
-use Rattle.machine_floor.specs.Turns.{cause_of, IsFate, EarTook, EarFoundNone}
 use Rattle.machine_floor.proofs.HandTurns.{ticks_as_many}
 use Rattle.machine_floor.proofs.Ears.{Inn, Took, few_taken, taken_after, sum_after, maker_is}
 use Rattle.machine_floor.proofs.Ears.{IsStation-heard, IsStation-lost}
-use Rattle.polling_world.specs.Waiting.{IsGoing}
 use Rattle.machine_floor.proofs.Causes.{in_new}
 use Rattle.machine_floor.proofs.Made.{inns_same, made_same}
-use Rattle.election_script.specs.Lawful.{max_actions}
 
 module _ (old : StationState) (from : ℕ) (end : Inn) (x : SealedEntry) (is : IsStation old)
     (within : from < length old.inns) (other : from ≢ old.machine.config.number)
@@ -99,7 +82,7 @@ module _ (old : StationState) (from : ℕ) (end : Inn) (x : SealedEntry) (is : I
         ticks = ticks;
       }
 
-      -- the new tick tells the event's place, for there were as many ticks as events
+      -- the new tick gives the event's place, for there were as many ticks as events
       ticks_are : ticks ≡ old.ticks ++ record { pass = 1; what = length old.machine.events } ∷ []
       ticks_are = ticked ∙ ap (λ n. old.ticks ++ record { pass = 1; what = n } ∷ []) (ticks_as_many old is)
 

@@ -1,36 +1,17 @@
 -- A station after its ear has looked at a link.
-use Rattle.std.proofs.Common.{◌≡◌, ◌≢◌, ℕ, zero, suc, ◌+◌, ◌<◌, ◌≤◌, false, List, [], ◌∷◌, ◌++◌}
-use Rattle.std.proofs.Common.{length, refl, sym, ap, ◌∙◌, subst, arith, ◌⊎◌, inl, inr, get_or, set}
-use Rattle.std.proofs.Common.{get_or-set_same, get_or-set_other, length-append}
-use Rattle.std.specs.Prelude.{All}
-use Rattle.std.specs.List.{Contains, sum_by}
-use Rattle.std.proofs.Math.ListN.{length-set}
-use Rattle.std.proofs.lemmas.Bool.{cases_eq}
-use Rattle.std.proofs.lemmas.List.Elements.{All-append, All-push, Contains-push_cases, Contains-push}
-use Rattle.std.proofs.lemmas.List.Elements.{Contains-append_left, All-contains}
-use Rattle.std.proofs.lemmas.List.Sums.{sum_by-set}
-use Rattle.std.proofs.lemmas.List.{get_or_append_left}
-use Rattle.entry_format.specs.Nodes.{node_of_sealed}
-use Rattle.entry_format.specs.SealedEntry.{SealedEntry}
-use Rattle.entry_order.specs.declared.event.Event.{Event}
-use Rattle.entry_order.specs.declared.event.Event.TheVariants.{Got}
-use Rattle.entry_order.specs.History.{sent}
-use Rattle.broadcast_queues.specs.Ends.{InView, TookItem}
-use Rattle.floor_losses.specs.declared.loss.Loss.{Loss}
-use Rattle.floor_losses.specs.declared.loss.LossWhy.{LossWhy}
-use Rattle.floor_losses.specs.declared.loss.LossWhy.TheVariants.{Scripted}
-use Rattle.floor_losses.specs.Losses.{arriving, got_from, is_of, Differ}
-use Rattle.floor_losses.proofs.Once.{differ_sym}
-use Rattle.std.proofs.lemmas.List.Quantifiers.{all_pairs_push}
-use Rattle.floor_losses.proofs.Arriving.{other_from, other_number, itself}
-use Rattle.floor_losses.proofs.Pushes.{sent-got}
-use Rattle.floor_links.proofs.Ends.{other_way, got_from-here, got_from-other, takes_heard, takes_lost}
-use Rattle.polling_world.specs.Machines.{IsMachine, with_event}
-use Rattle.polling_world.specs.Waiting.{IsGoing}
-use Rattle.machine_floor.specs.Stations.{StationState, IsStation, IsInCause, IsOfHand, IsOfEar, IsTakenWell, ticks_from}
+use Rattle.machine_floor.proofs.Imports.{◌≡◌, ◌≢◌, ℕ, zero, suc, ◌+◌, ◌<◌, ◌≤◌, false, List, [], ◌∷◌, ◌++◌, length}
+use Rattle.machine_floor.proofs.Imports.{refl, sym, ap, ◌∙◌, subst, arith, ◌⊎◌, inl, inr, get_or, set}
+use Rattle.machine_floor.proofs.Imports.{get_or-set_same, get_or-set_other, length-append, All, Contains, sum_by}
+use Rattle.machine_floor.proofs.Imports.{length-set, cases_eq, All-append, All-push, Contains-push_cases}
+use Rattle.machine_floor.proofs.Imports.{Contains-push, Contains-append_left, All-contains, sum_by-set}
+use Rattle.machine_floor.proofs.Imports.{get_or_append_left, node_of_sealed, SealedEntry, Event, Got, sent, InView}
+use Rattle.machine_floor.proofs.Imports.{TookItem, Loss, LossWhy, Scripted, arriving, got_from, is_of, Differ}
+use Rattle.machine_floor.proofs.Imports.{differ_sym, all_pairs_push, other_from, other_number, itself, sent-got}
+use Rattle.machine_floor.proofs.Imports.{other_way, got_from-here, got_from-other, takes_heard, takes_lost, IsMachine}
+use Rattle.machine_floor.proofs.Imports.{with_event, IsGoing, StationState, IsStation, IsInCause, IsOfHand, IsOfEar}
+use Rattle.machine_floor.proofs.Imports.{IsTakenWell, ticks_from, max_actions}
 use Rattle.machine_floor.proofs.Causes.{in_stays}
 use Rattle.machine_floor.proofs.Ticks.{ticks_push}
-use Rattle.election_script.specs.Lawful.{max_actions}
 
 -- an end that takes from a link
 abbrev pub Inn : Type 0
@@ -40,7 +21,7 @@ Inn = InView SealedEntry
 abbrev pub Took : Inn → SealedEntry → Inn → Type 0
 Took old x new = TookItem (λ (y : SealedEntry). y.entry.maker) (λ (y : SealedEntry). y.entry.number) old x new
 
--- what was put behind a list is read at the list's length
+-- what was put after a list is read at the list's length
 read_last : (xs : List SealedEntry) (x d : SealedEntry) → get_or (xs ++ x ∷ []) (length xs) d ≡ x
 read_last [] x d = refl
 read_last (y ∷ xs) x d = read_last xs x d

@@ -1,21 +1,10 @@
 -- The stations of the first machines of a script, and what is left for the others.
-use Rattle.std.proofs.Common.{◌≡◌, ℕ, suc, ◌<◌, ◌≤◌, List, [], ◌∷◌, ◌++◌, length, map, drop, refl, sym, ap, ◌∙◌}
-use Rattle.std.proofs.Common.{subst, arith, get_or, Option, Some, inl, inr, length-append, add-one}
-use Rattle.std.specs.Prelude.{All, slice_get}
-use Rattle.std.proofs.lemmas.Option.{slice_get_within, slice_get-get_or}
-use Rattle.election_script.specs.declared.script.Script.{Script}
-use Rattle.election_script.specs.Lawful.{IsLawful}
-use Rattle.lms_sign.specs.Secret.{Secret}
-use Rattle.broadcast_queues.specs.Ends.{LinkView}
-use Rattle.floor_links.specs.Fresh.{AreNewLinks}
-use Rattle.floor_links.proofs.Makings.{Outs, Inns}
-use Rattle.polling_world.specs.Keys.{key_of, IsKeyOf}
-use Rattle.polling_world.specs.Machines.{MachineState, IsFresh}
-use Rattle.polling_world.proofs.WorldMaking.{rest_step, rest_none, push_cases}
-use Rattle.finished_floor.specs.Places.{IsStopOf}
-use Rattle.machine_floor.specs.Stations.{StationState, IsOfLinks, made_of}
-use Rattle.machine_floor.specs.Fresh.{IsNewStation, AreNewStations}
-use Rattle.machine_floor.specs.inside.Beginning.{begun, IsBeginning}
+use Rattle.machine_floor.proofs.Imports.{◌≡◌, ℕ, suc, ◌<◌, ◌≤◌, List, [], ◌∷◌, ◌++◌, length, map, drop, refl, sym, ap}
+use Rattle.machine_floor.proofs.Imports.{◌∙◌, subst, arith, get_or, Option, Some, inl, inr, length-append, add-one}
+use Rattle.machine_floor.proofs.Imports.{All, slice_get, slice_get_within, slice_get-get_or, Script, IsLawful, Secret}
+use Rattle.machine_floor.proofs.Imports.{LinkView, AreNewLinks, Outs, Inns, key_of, IsKeyOf, MachineState, IsFresh}
+use Rattle.machine_floor.proofs.Imports.{rest_step, rest_none, push_cases, IsStopOf, StationState, IsOfLinks, made_of}
+use Rattle.machine_floor.proofs.Imports.{IsNewStation, AreNewStations, begun, IsBeginning}
 use Rattle.machine_floor.proofs.Drops.{drop_step, drop_none}
 use Rattle.machine_floor.proofs.Beginnings.{beginning, new_station, the_outs, the_inns, inside, l}
 
@@ -27,7 +16,7 @@ pub record AreFirst (script : Script) (links : List (List LinkView)) (outs : Lis
   pub rest : map (key_of script) (drop (length stations) script.machines) ≡ keys
   -- the ends that put are left for these
   pub puts : drop (length stations) outs ≡ outs_left
-  -- and so are the ends that take
+  -- the ends that take are left for the other machines
   pub takes : drop (length stations) inns ≡ inns_left
   -- each is the script's new station at its place
   pub each : (at : ℕ) (s : StationState) → slice_get stations at ≡ Some s → IsNewStation script links at s
@@ -43,7 +32,7 @@ module _ (script : Script) (links : List (List LinkView)) (outs : List Outs) (in
       rest_step (key_of script) script.machines (length stations) key more (first.rest ∙ next) in
       (cast, ap (slice_get script.machines) here ∙ there, key_is)
 
-  -- so there is such a machine
+  -- the script has a machine for the next key
   pub next_within : at < length script.machines
   next_within = slice_get_within script.machines at next_key.0 next_key.1
 
@@ -77,7 +66,7 @@ module _ (script : Script) (links : List (List LinkView)) (outs : List Outs) (in
             ∙ are.takes at [] (l script lawful links outs inns are at stop m stops fresh)
             (inside script lawful links outs inns are at stop m stops fresh)
 
-        -- so its station can begin
+        -- the next station can begin
         pub may_begin : IsBeginning script m out inn
         may_begin =
             subst (λ o. IsBeginning script m o inn) (sym out_is)

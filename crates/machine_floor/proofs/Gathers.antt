@@ -1,28 +1,16 @@
 -- The stations once their locks are closed and the links are finished: each entry is heard, lost or waiting.
-use Rattle.std.proofs.Common.{◌≡◌, ◌≢◌, ℕ, ◌+◌, ◌<◌, List, ◌++◌, length, sym}
-use Rattle.std.proofs.Common.{ap, ◌∙◌, subst, arith, inl, inr, get_or, length-append}
-use Rattle.std.specs.Prelude.{◌||◌, not}
-use Rattle.std.specs.List.{Contains, AllPairs}
-use Rattle.std.proofs.lemmas.Bool.{cases_eq}
-use Rattle.std.proofs.lemmas.List.{get_or_append_left, get_or-append-add}
-use Rattle.std.proofs.lemmas.List.Elements.{at_from_Contains}
-use Rattle.std.proofs.lemmas.List.Kept.{AllPairs-filter}
-use Rattle.entry_format.specs.Nodes.{node_of_sealed}
-use Rattle.entry_format.specs.SealedEntry.{SealedEntry}
-use Rattle.entry_order.specs.History.{sent}
-use Rattle.broadcast_queues.specs.Ends.{OutView, InView}
-use Rattle.floor_losses.specs.declared.loss.Loss.{Loss}
-use Rattle.floor_losses.specs.Losses.{arriving, got_from, is_lost}
-use Rattle.floor_losses.proofs.Arriving.{gathered, other_from, other_number}
-use Rattle.floor_links.proofs.Ends.{none_of}
-use Rattle.machine_floor.specs.Stations.{StationState, IsStation}
-use Rattle.floor_losses.proofs.Numbers.{rising_sent}
+use Rattle.machine_floor.proofs.Imports.{◌≡◌, ◌≢◌, ℕ, ◌+◌, ◌<◌, List, ◌++◌, length, sym, ap, ◌∙◌, subst, arith, inl}
+use Rattle.machine_floor.proofs.Imports.{inr, get_or, length-append, ◌||◌, not, Contains, AllPairs, cases_eq}
+use Rattle.machine_floor.proofs.Imports.{get_or_append_left, get_or-append-add, at_from_Contains, AllPairs-filter}
+use Rattle.machine_floor.proofs.Imports.{node_of_sealed, SealedEntry, sent, OutView, InView, Loss, arriving, got_from}
+use Rattle.machine_floor.proofs.Imports.{is_lost, gathered, other_from, other_number, none_of, StationState}
+use Rattle.machine_floor.proofs.Imports.{IsStation, rising_sent}
 
--- each entry has a lower number than those behind it
+-- each entry has a lower number than those after it
 abbrev Rising : List SealedEntry → Type 0
 Rising es = AllPairs (λ (x y : SealedEntry). x.entry.number < y.entry.number) es
 
--- of a rising list, what stands in the first part has a lower number than what stands in the second
+-- of a rising list, what is in the first part has a lower number than what is in the second
 lower : (xs ys : List SealedEntry) → Rising (xs ++ ys) → (x y : SealedEntry) → Contains xs x → Contains ys y →
     x.entry.number < y.entry.number
 lower xs ys rises x y c d =

@@ -1,29 +1,14 @@
 -- What a hand's turn asks and gives.
-use Rattle.std.proofs.Common.{◌≡◌, ◌≢◌, ℕ, ◌+◌, ◌<◌, ◌≤◌, List, [], ◌∷◌, ◌++◌, length, refl}
-use Rattle.std.proofs.Common.{sym, ap, ◌∙◌, subst, arith, get_or}
-use Rattle.std.specs.Prelude.{All}
-use Rattle.std.specs.List.{Contains, sum_by}
-use Rattle.std.proofs.lemmas.List.Elements.{All-replicate, All-filter, All-contains_itself, All-weaker}
-use Rattle.std.proofs.lemmas.List.Sums.{sum_by-le}
-use Rattle.entry_format.specs.SealedEntry.{SealedEntry}
-use Rattle.entry_order.specs.declared.event.Event.TheVariants.{Sent}
-use Rattle.entry_order.specs.History.{sent}
-use Rattle.entry_order.proofs.Histories.{sent_few}
-use Rattle.log_lock.specs.declared.story.Tick.{Tick}
-use Rattle.broadcast_queues.specs.Ends.{OutView, InView}
-use Rattle.floor_losses.specs.declared.loss.Loss.{Loss}
-use Rattle.floor_links.specs.Sendings.{IsSentBelow, AreCopies}
-use Rattle.polling_world.specs.Acting.{IsDone}
-use Rattle.polling_world.specs.Machines.{MachineState, IsMachine, with_event}
-use Rattle.polling_world.proofs.MadeEntries.{may_follow}
-use Rattle.machine_floor.specs.Stations.{StationState, IsStation}
-use Rattle.machine_floor.specs.Turns.{HandDid}
-use Rattle.floor_losses.proofs.Numbers.{numbers_below}
+use Rattle.machine_floor.proofs.Imports.{◌≡◌, ◌≢◌, ℕ, ◌+◌, ◌<◌, ◌≤◌, List, [], ◌∷◌, ◌++◌, length, refl, sym, ap, ◌∙◌}
+use Rattle.machine_floor.proofs.Imports.{subst, arith, get_or, All, Contains, sum_by, All-replicate, All-filter}
+use Rattle.machine_floor.proofs.Imports.{All-contains_itself, All-weaker, sum_by-le, SealedEntry, Sent, sent}
+use Rattle.machine_floor.proofs.Imports.{sent_few, Tick, OutView, InView, Loss, IsSentBelow, AreCopies, IsDone}
+use Rattle.machine_floor.proofs.Imports.{MachineState, IsMachine, with_event, may_follow, StationState, IsStation}
+use Rattle.machine_floor.proofs.Imports.{HandDid, numbers_below, max_actions}
 use Rattle.machine_floor.proofs.Ticks.{length_ticks}
 use Rattle.machine_floor.proofs.Ears.{few_taken}
 use Rattle.machine_floor.proofs.Hands.{IsStation-hand}
 use Rattle.machine_floor.proofs.Made.{outs_same, made_same}
-use Rattle.election_script.specs.Lawful.{max_actions}
 
 module _ (old : StationState) (is : IsStation old) where
   -- in all, few entries are taken
@@ -62,7 +47,7 @@ module _ (old : StationState) (is : IsStation old) where
         let r = done.may.room in let s = is.small in let f = sent_few old.machine.events in let l = is.few_losses in
         let t = all_taken in let o = is.few in omega arith
 
-    -- each copy has the machine as maker, and the number that the machine told, which is below 4,096
+    -- each copy has the machine as maker, and the number that the machine gave, which is below 4,096
     pub copies_are : AreCopies old.machine.config.number number copies
     copies_are =
         let P : SealedEntry → Type 0 = λ x. (x.entry.maker ≡ old.machine.config.number) × (x.entry.number ≡ number) ×
@@ -102,7 +87,7 @@ module _ (old : StationState) (is : IsStation old) where
         ticks = ticks;
       }
 
-      -- the new tick tells the event's place, for there were as many ticks as events
+      -- the new tick gives the event's place, for there were as many ticks as events
       ticks_are : ticks ≡ old.ticks ++ record { pass = 0; what = length old.machine.events } ∷ []
       ticks_are = ticked ∙ ap (λ n. old.ticks ++ record { pass = 0; what = n } ∷ []) ticks_as_many
 

@@ -1,34 +1,15 @@
 -- A station after its hand's turn.
-use Rattle.std.proofs.Common.{◌≡◌, ◌≢◌, ℕ, ◌+◌, ◌<◌, true, false, List, [], ◌∷◌, ◌++◌, length}
-use Rattle.std.proofs.Common.{Some, refl, sym, ap, ◌∙◌, subst, arith, ◌⊎◌, inl, inr, get_or, length-append}
-use Rattle.std.specs.Prelude.{All}
-use Rattle.std.specs.List.{Contains}
-use Rattle.std.proofs.lemmas.Bool.{cases_lt}
-use Rattle.std.proofs.lemmas.List.Elements.{All-append, All-weaker, All-filter, All-contains_itself}
-use Rattle.std.proofs.lemmas.List.Elements.{Contains-push_cases}
-use Rattle.std.proofs.lemmas.List.Elements.{Contains-append_left, Contains-append_right, Contains-get_or}
-use Rattle.entry_format.specs.Nodes.{node_of_sealed}
-use Rattle.entry_format.specs.SealedEntry.{SealedEntry}
-use Rattle.entry_order.specs.declared.event.Event.{Event}
-use Rattle.entry_order.specs.declared.event.Event.TheVariants.{Sent, Got}
-use Rattle.entry_order.specs.History.{sent}
-use Rattle.broadcast_queues.specs.Ends.{OutView}
-use Rattle.floor_losses.specs.declared.loss.Loss.{Loss}
-use Rattle.floor_losses.specs.declared.loss.LossWhy.TheVariants.{Scripted}
-use Rattle.floor_losses.specs.Losses.{arriving, is_lost}
-use Rattle.floor_losses.proofs.Arriving.{other_from, other_number, other_to}
-use Rattle.floor_losses.proofs.Once.{once_append}
-use Rattle.floor_losses.specs.OfEntries.{loss_of}
-use Rattle.floor_losses.specs.Scripted.{is_scripted}
-use Rattle.floor_links.specs.Sendings.{IsWay, IsSentBelow}
-use Rattle.floor_links.proofs.Ways.{put_or_lost, put_grows, way_of_loss, named_is_lost}
-use Rattle.floor_losses.proofs.Pushes.{sent-push}
-use Rattle.floor_links.proofs.Ends.{puts_more, other_way, got_from-sent}
-use Rattle.polling_world.specs.Machines.{IsMachine, with_event}
-use Rattle.machine_floor.specs.Stations.{StationState, IsStation, IsOfHand, IsOfEar, ticks_from}
-use Rattle.polling_world.specs.Waiting.{IsGoing}
+use Rattle.machine_floor.proofs.Imports.{◌≡◌, ◌≢◌, ℕ, ◌+◌, ◌<◌, true, false, List, [], ◌∷◌, ◌++◌, length, Some, refl}
+use Rattle.machine_floor.proofs.Imports.{sym, ap, ◌∙◌, subst, arith, ◌⊎◌, inl, inr, get_or, length-append, All}
+use Rattle.machine_floor.proofs.Imports.{Contains, cases_lt, All-append, All-weaker, All-filter, All-contains_itself}
+use Rattle.machine_floor.proofs.Imports.{Contains-push_cases, Contains-append_left, Contains-append_right}
+use Rattle.machine_floor.proofs.Imports.{Contains-get_or, node_of_sealed, SealedEntry, Event, Sent, Got, sent}
+use Rattle.machine_floor.proofs.Imports.{OutView, Loss, Scripted, arriving, is_lost, other_from, other_number}
+use Rattle.machine_floor.proofs.Imports.{other_to, once_append, loss_of, is_scripted, IsWay, IsSentBelow, put_or_lost}
+use Rattle.machine_floor.proofs.Imports.{put_grows, way_of_loss, named_is_lost, sent-push, puts_more, other_way}
+use Rattle.machine_floor.proofs.Imports.{got_from-sent, IsMachine, with_event, StationState, IsStation, IsOfHand}
+use Rattle.machine_floor.proofs.Imports.{IsOfEar, ticks_from, IsGoing, numbers_below}
 use Rattle.machine_floor.proofs.Causes.{End, out_stays, out_new, in_stays}
-use Rattle.floor_losses.proofs.Numbers.{numbers_below}
 use Rattle.machine_floor.proofs.Ticks.{ticks_push}
 
 -- a member of a list that has one
@@ -76,7 +57,7 @@ module _ (old : StationState) (e : SealedEntry) (outs : List (OutView SealedEntr
         put_grows (is_scripted old.loses e.entry.maker e.entry.number to) old.link to e (get_or old.outs to d)
         (get_or outs to d) lost (sends.done to d lt (λ s. differs (s ∙ maker)))
 
-    -- each loss has the cause that its way tells
+    -- each loss has the cause that its way gives
     way_to : (j : ℕ) (loss : Loss) → j < length lost → (d : End) →
         let one : Loss = get_or lost j loss in
         IsWay (is_scripted old.loses e.entry.maker e.entry.number one.to) old.link e (get_or old.outs one.to d)

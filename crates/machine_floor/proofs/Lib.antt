@@ -1,3 +1,4 @@
+mod Imports
 pub mod Ticks
 pub mod Causes
 pub mod Hands

@@ -1,10 +1,8 @@
 -- The links of a station, as it was made, are those of it as it is.
-use Rattle.std.proofs.Common.{◌≡◌, ℕ, ◌<◌, List, [], length, map, sym, ap, ◌∙◌, subst, arith, get_or}
-use Rattle.std.proofs.lemmas.List.{get_or-map, length-map}
-use Rattle.entry_format.specs.SealedEntry.{SealedEntry}
-use Rattle.broadcast_queues.specs.Ends.{OutView, InView, LinkView, IsOutOf, IsInOf}
-use Rattle.floor_links.specs.Rows.{link_at, HaveCapacity, IsRowOf}
-use Rattle.machine_floor.specs.Stations.{StationState, IsStation, IsOfLinks, made_of, new_out, new_in}
+use Rattle.machine_floor.proofs.Imports.{◌≡◌, ℕ, ◌<◌, List, [], length, map, sym, ap, ◌∙◌, subst, arith, get_or}
+use Rattle.machine_floor.proofs.Imports.{get_or-map, length-map, SealedEntry, OutView, InView, LinkView, IsOutOf}
+use Rattle.machine_floor.proofs.Imports.{IsInOf, link_at, HaveCapacity, IsRowOf, StationState, IsStation, IsOfLinks}
+use Rattle.machine_floor.proofs.Imports.{made_of, new_out, new_in}
 
 module _ (links : List (List LinkView)) (s : StationState) (of : IsOfLinks links (made_of s)) (is : IsStation s) where
   -- as it was made, the station has as many ends that put
@@ -19,7 +17,7 @@ module _ (links : List (List LinkView)) (s : StationState) (of : IsOfLinks links
   pub rows_are : length links ≡ length s.outs
   rows_are = of.rows ∙ outs_len
 
-  -- and each row has as many links
+  -- each row of links has as many links as the station has ends
   pub row_is : (from : ℕ) → from < length s.outs → length (get_or links from []) ≡ length s.outs
   row_is from lt = of.square from (omega (arith, outs_len)) ∙ outs_len
 
@@ -52,7 +50,7 @@ module _ (links : List (List LinkView)) (s : StationState) (of : IsOfLinks links
       (link_at links from to l).from ≡ from
   from_is from to l a b = of.from from to l (omega (arith, outs_len)) (omega (arith, outs_len))
 
-  -- so each end that puts carries this machine's entries
+  -- each end that puts carries this machine's entries
   pub out_from : (to : ℕ) (l : LinkView) (d : OutView SealedEntry) → to < length s.outs →
       (get_or s.outs to d).from ≡ s.machine.config.number
   out_from to l d lt = (ends_out to l d lt).1 ∙ from_is s.machine.config.number to l is.place lt
@@ -86,7 +84,7 @@ module _ (links : List (List LinkView)) (first s : StationState) (of : IsOfLinks
   same_inns = sym (length-map s.inns new_in) ∙ ap (λ (x : StationState). length x.inns) made
       ∙ length-map first.inns new_in
 
-  -- and as many that put
+  -- the station has as many ends that put as it was made with
   pub same_outs : length s.outs ≡ length first.outs
   same_outs = sym (length-map s.outs new_out) ∙ ap (λ (x : StationState). length x.outs) made
       ∙ length-map first.outs new_out
@@ -95,7 +93,7 @@ module _ (links : List (List LinkView)) (first s : StationState) (of : IsOfLinks
   pub as_many_rows : length links ≡ length first.outs
   as_many_rows = of.rows ∙ length-map first.outs new_out
 
-  -- and each row has as many links
+  -- each row has as many links as the station was made with ends
   pub as_long_rows : (from : ℕ) → from < length first.outs → length (get_or links from []) ≡ length first.outs
   as_long_rows from lt = of.square from (omega (arith, length-map first.outs new_out)) ∙ length-map first.outs new_out
 

@@ -1,12 +1,7 @@
--- What tells a station from others stays.
-use Rattle.std.proofs.Common.{◌≡◌, ℕ, ◌<◌, List, [], ◌∷◌, length, map, refl, ap, ◌∙◌, arith, get_or, set}
-use Rattle.std.proofs.Common.{zero, suc}
-use Rattle.entry_format.specs.SealedEntry.{SealedEntry}
-use Rattle.broadcast_queues.specs.Ends.{OutView, InView}
-use Rattle.polling_world.specs.Machines.{MachineState}
-use Rattle.floor_losses.specs.declared.loss.Loss.{Loss}
-use Rattle.log_lock.specs.declared.story.Tick.{Tick}
-use Rattle.machine_floor.specs.Stations.{StationState, new_out, new_in, made_of}
+-- What distinguishes a station from others stays.
+use Rattle.machine_floor.proofs.Imports.{◌≡◌, ℕ, ◌<◌, List, [], ◌∷◌, length, map, refl, ap, ◌∙◌, arith, get_or, set}
+use Rattle.machine_floor.proofs.Imports.{zero, suc, SealedEntry, OutView, InView, MachineState, Loss, Tick}
+use Rattle.machine_floor.proofs.Imports.{StationState, new_out, new_in, made_of}
 
 -- two ends that put, of one queue and one sender, were the same before anything was put
 new_out_same : (a b : OutView SealedEntry) → a.queue ≡ b.queue → a.from ≡ b.from → new_out a ≡ new_out b

@@ -1,22 +1,9 @@
 -- Stations that are taken apart, one after another.
-use Rattle.std.proofs.Common.{◌≡◌, ℕ, List, [], ◌∷◌, ◌++◌, length, map, refl, sym, ap, ◌∙◌, subst, arith, Option}
-use Rattle.std.specs.List.{flat_map}
-use Rattle.std.proofs.lemmas.Grind.{flat_map-append}
-use Rattle.std.proofs.lemmas.List.{append-nil, length-map, map-append}
-use Rattle.std.proofs.lemmas.List.Elements.{All-push}
-use Rattle.entry_format.specs.SealedEntry.{SealedEntry}
-use Rattle.election_script.specs.declared.script.Script.{Script}
-use Rattle.broadcast_queues.specs.Ends.{OutView, InView, LinkView}
-use Rattle.finished_floor.specs.Floors.{AreGathered}
-use Rattle.floor_sweep.specs.declared.sweeping.Waiting.{Waiting}
-use Rattle.floor_losses.specs.declared.loss.Loss.{Loss}
-use Rattle.log_lock.specs.declared.story.Tick.{Tick}
-use Rattle.polling_world.specs.Keys.{roster_of}
-use Rattle.polling_world.specs.Machines.{MachineState}
-use Rattle.roster.specs.declared.post.Post.{Post}
-use Rattle.machine_floor.specs.Fresh.{AreNewStations}
-use Rattle.machine_floor.specs.Stations.{StationState, IsStation, made_of}
-use Rattle.machine_floor.specs.inside.Gathering.{AreEndsOf, AreParts, AreRests, by_of}
+use Rattle.machine_floor.proofs.Imports.{◌≡◌, ℕ, List, [], ◌∷◌, ◌++◌, length, map, refl, sym, ap, ◌∙◌, subst, arith}
+use Rattle.machine_floor.proofs.Imports.{Option, flat_map, flat_map-append, append-nil, length-map, map-append}
+use Rattle.machine_floor.proofs.Imports.{All-push, SealedEntry, Script, OutView, InView, LinkView, AreGathered}
+use Rattle.machine_floor.proofs.Imports.{Waiting, Loss, Tick, roster_of, MachineState, Post, AreNewStations}
+use Rattle.machine_floor.proofs.Imports.{StationState, IsStation, made_of, AreEndsOf, AreParts, AreRests, by_of}
 use Rattle.machine_floor.proofs.Collected.{ends_are, collected}
 
 -- before the first
@@ -68,7 +55,7 @@ module _ (script : Script) (links : List (List LinkView)) (ss : List StationStat
       (subst (λ i. AreEndsOf links (map (λ (s : StationState). s.outs) ss) i) (sym parts.inns_are)
       (ends_are script links ss parts.all new))
 
-  -- and once they are finished this is what threads leave
+  -- once the ends are finished, the parts of the stations are what threads leave
   pub parts_gathered : (waits : List Waiting) → AreRests (length links) outs inns waits → (posts : List Post) →
       posts ≡ roster_of script → AreGathered script posts machines waits losses by
   parts_gathered waits rests posts is =

@@ -1,20 +1,13 @@
 -- What is left on links once they are finished, as it is added to what waits.
-use Rattle.std.proofs.Common.{◌≡◌, ◌≢◌, ℕ, suc, ◌+◌, ◌<◌, ◌≤◌, Bool, true, false, cond, List, [], ◌∷◌, ◌++◌}
-use Rattle.std.proofs.Common.{length, map, drop, refl, sym, ap, ◌∙◌, subst, arith, inl, inr, get_or}
-use Rattle.std.proofs.Common.{length-append, add-one, append_assoc, set, get_or-set_same, get_or-set_other, Vec, Global}
-use Rattle.std.specs.Prelude.{◌==◌, ◌&&◌}
-use Rattle.std.proofs.lemmas.Bool.{cases_eq, eq-eqb, ne_eqb, and_from, and_left, and_right}
-use Rattle.std.proofs.lemmas.List.{append-nil, get_or_append_left, map-set, get_or-map, length-map}
-use Rattle.std.proofs.lemmas.List.Elements.{All-push}
-use Rattle.std.proofs.Math.ListN.{length-set}
-use Rattle.entry_format.specs.SealedEntry.{SealedEntry}
-use Rattle.broadcast_queues.specs.Ends.{OutView, InView, LinkView, IsOutOf, IsInOf}
-use Rattle.floor_links.specs.Rows.{link_at}
-use Rattle.floor_links.proofs.Makings.{Outs, Inns, lists_of, last_of}
-use Rattle.floor_sweep.specs.declared.sweeping.Waiting.{Waiting}
-use Rattle.floor_sweep.specs.Waits.{AreOnWay, waits_of}
-use Rattle.machine_floor.specs.inside.Gathering.{waiting, out_at, in_at, AreMadeBy, AreEndsOf, AreRests, IsAdded}
-use Rattle.machine_floor.specs.inside.Gathering.{IsRest, ArePopped, IsRowOfEnds, IsRowFinished}
+use Rattle.machine_floor.proofs.Imports.{◌≡◌, ◌≢◌, ℕ, suc, ◌+◌, ◌<◌, ◌≤◌, Bool, true, false, cond, List, [], ◌∷◌}
+use Rattle.machine_floor.proofs.Imports.{◌++◌, length, map, drop, refl, sym, ap, ◌∙◌, subst, arith, inl, inr, get_or}
+use Rattle.machine_floor.proofs.Imports.{length-append, add-one, append_assoc, set, get_or-set_same, get_or-set_other}
+use Rattle.machine_floor.proofs.Imports.{Vec, Global, ◌==◌, ◌&&◌, cases_eq, eq-eqb, ne_eqb, and_from, and_left}
+use Rattle.machine_floor.proofs.Imports.{and_right, append-nil, get_or_append_left, map-set, get_or-map, length-map}
+use Rattle.machine_floor.proofs.Imports.{All-push, length-set, SealedEntry, OutView, InView, LinkView, IsOutOf}
+use Rattle.machine_floor.proofs.Imports.{IsInOf, link_at, Outs, Inns, lists_of, last_of, Waiting, AreOnWay, waits_of}
+use Rattle.machine_floor.proofs.Imports.{waiting, out_at, in_at, AreMadeBy, AreEndsOf, AreRests, IsAdded, IsRest}
+use Rattle.machine_floor.proofs.Imports.{ArePopped, IsRowOfEnds, IsRowFinished}
 use Rattle.machine_floor.proofs.Drops.{drop_step, drop_none}
 
 -- it waits on a way between two different machines, each of a number below `count`
@@ -128,7 +121,7 @@ pub record IsRowing (from to : ℕ) (row0 : List LinkView) (outs0 : Outs) (inns0
     (row : List LinkView) (outs : Outs) (inns : List Inns) (waits : List Waiting) : Type 0 where
   -- the links to the machines from `to` on are left
   pub row_left : drop to row0 ≡ row
-  -- and their ends that put
+  -- the ends that put to the machines from `to` on are left
   pub outs_left : drop to outs0 ≡ outs
   -- there are still as many lists of ends that take
   pub count : length inns ≡ length inns0
@@ -177,7 +170,7 @@ module _ (from to : ℕ) (row0 : List LinkView) (outs0 : Outs) (inns0 : List Inn
       let past = drop_none outs0 to (is.outs_left ∙ none_in outs none) in
       let n = ends.outs_row in absurd (omega arith)
 
-  -- and an end that takes
+  -- an end that takes is left for the link
   pub inn_there : 0 < length (get_or inns to [])
   inn_there = let n = ends.left to inside in let s = ap length (is.left to (omega arith)) in omega arith
 
@@ -192,7 +185,7 @@ module _ (from to : ℕ) (row0 : List LinkView) (outs0 : Outs) (inns0 : List Inn
     out_is : (d : OutView SealedEntry) → get_or outs0 to d ≡ out
     out_is = (drop_step outs0 to out outs_more (is.outs_left ∙ out_next)).0
 
-    -- the ends of machine `to` that take were those that are left, and the one that was popped behind them
+    -- the ends of machine `to` that take were those that are left, and the one that was popped after them
     front : get_or inns0 to [] ≡ get_or inns_now to [] ++ inn ∷ []
     front = sym (is.left to (omega arith)) ∙ pops.here
 
@@ -209,7 +202,7 @@ module _ (from to : ℕ) (row0 : List LinkView) (outs0 : Outs) (inns0 : List Inn
     out_fits = subst (λ l. IsOutOf l out) (link_is link)
         (subst (IsOutOf (get_or row0 to link)) (out_is out) (ends.puts to link out inside))
 
-    -- and so is the one that takes
+    -- the end that takes is the link's
     pub inn_fits : IsInOf link inn
     inn_fits = subst (λ l. IsInOf l inn) (link_is link)
         (subst (IsInOf (get_or row0 to link)) (inn_is inn) (ends.takes to link inn inside))
@@ -344,7 +337,7 @@ module _ (links0 : List (List LinkView)) (outs0 : List Outs) (inns0 : List Inns)
     as_many : length outs_more ≡ length more
     as_many = let a = is.as_many in let b = one_less in let c = outs_less in omega arith
 
-    -- the last row stands at the place of a sender
+    -- the last row is at the place of a sender
     place : length more < length links0
     place = let w = is.within in let l = one_less in omega arith
 
@@ -362,7 +355,7 @@ module _ (links0 : List (List LinkView)) (outs0 : List Outs) (inns0 : List Inns)
         ∙ ap (λ (o : List Outs). get_or o (length more) []) outs_last
         ∙ last_of outs_more puts [] (length more) (sym as_many)
 
-    -- so the row can be finished
+    -- the row of links can be finished
     pub row_ready : IsRowOfEnds (length more) row puts inns
     row_ready = record {
       place = let p = place in let c = is.count in omega arith;

@@ -1,9 +1,6 @@
 -- The ticks of a history's events.
-use Rattle.std.proofs.Common.{◌≡◌, ℕ, suc, ◌+◌, List, [], ◌∷◌, ◌++◌, length, refl, sym, ap, ◌∙◌, arith, add-zero}
-use Rattle.entry_format.specs.SealedEntry.{SealedEntry}
-use Rattle.entry_order.specs.declared.event.Event.{Event}
-use Rattle.finished_floor.specs.Floors.{pass_of}
-use Rattle.machine_floor.specs.Stations.{ticks_from}
+use Rattle.machine_floor.proofs.Imports.{◌≡◌, ℕ, suc, ◌+◌, List, [], ◌∷◌, ◌++◌, length, refl, sym, ap, ◌∙◌, arith}
+use Rattle.machine_floor.proofs.Imports.{add-zero, SealedEntry, Event, pass_of, ticks_from}
 
 -- one tick more
 pub ticks_push : (place : ℕ) (h : List (Event SealedEntry)) (x : Event SealedEntry) →

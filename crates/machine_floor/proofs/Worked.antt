@@ -1,12 +1,8 @@
 -- The stations of a script after they were worked.
-use Rattle.std.proofs.Common.{◌≡◌, ℕ, ◌<◌, List, length, map, sym, ap, ◌∙◌, subst, arith, get_or}
-use Rattle.std.proofs.lemmas.List.{length-map}
-use Rattle.std.proofs.lemmas.Option.{get_or_from_slice_get, slice_get-get_or, slice_get_within}
-use Rattle.broadcast_queues.specs.Ends.{LinkView}
-use Rattle.election_script.specs.declared.script.Script.{Script}
-use Rattle.polling_world.proofs.Placing.{get-map_from}
-use Rattle.machine_floor.specs.Fresh.{IsNewStation, AreNewStations}
-use Rattle.machine_floor.specs.Stations.{StationState, made_of}
+use Rattle.machine_floor.proofs.Imports.{◌≡◌, ℕ, ◌<◌, List, length, map, sym, ap, ◌∙◌, subst, arith, get_or}
+use Rattle.machine_floor.proofs.Imports.{length-map, get_or_from_slice_get, slice_get-get_or, slice_get_within}
+use Rattle.machine_floor.proofs.Imports.{LinkView, Script, get-map_from, IsNewStation, AreNewStations, StationState}
+use Rattle.machine_floor.proofs.Imports.{made_of}
 
 -- they are still made as the script's new ones
 pub still_made : (script : Script) (links : List (List LinkView)) (before after : List StationState) →

@@ -1,25 +1,16 @@
 -- What a worker's turn shows to the lock.
-use Rattle.std.proofs.Common.{◌≡◌, ℕ, Bool, true, false, List, [], ◌∷◌, ◌++◌, length, sym, ap, ◌∙◌, subst, refl}
-use Rattle.std.proofs.Common.{arith, Ok, Err, Result}
-use Rattle.std.specs.Prelude.{All, IfOk, OnErr}
-use Rattle.std.specs.declared.alloc.AllocError.{AllocError}
-use Rattle.std.proofs.lemmas.List.{append-nil}
-use Rattle.std.proofs.lemmas.List.Prefix.{front_rest}
-use Rattle.std.proofs.lemmas.List.Elements.{All-push, All-head}
-use mathlib.Core.List.{IsPrefix}
-use Rattle.broadcast_queues.specs.Ends.{LinkView}
-use Rattle.log_lock.specs.declared.story.Tick.{Tick}
-use Rattle.log_lock.specs.Ticks.{ticks_since}
-use Rattle.machine_floor.specs.Stations.{StationState, IsOfLinks, made_of}
-use Rattle.machine_floor.specs.Turns.{HandDid}
+use Rattle.machine_floor.proofs.Imports.{◌≡◌, ℕ, Bool, true, false, List, [], ◌∷◌, ◌++◌, length, sym, ap, ◌∙◌, subst}
+use Rattle.machine_floor.proofs.Imports.{refl, arith, Ok, Err, Result, All, IfOk, OnErr, AllocError, append-nil}
+use Rattle.machine_floor.proofs.Imports.{front_rest, All-push, All-head, IsPrefix, LinkView, Tick, ticks_since}
+use Rattle.machine_floor.proofs.Imports.{StationState, IsOfLinks, made_of, HandDid}
 
 -- the story grew by ticks of this pass
 pub record HasGrown (pass : ℕ) (old new : List Tick) : Type 0 where
   -- the ticks that came since
   pub more : List Tick
-  -- they stand behind those of before
+  -- they come after the earlier ones
   pub ticks : new ≡ old ++ more
-  -- and are all of this pass
+  -- the new ticks are all of this pass
   pub passes : All (λ (t : Tick). t.pass ≡ pass) more
 
 -- what didn't change grew by no tick
@@ -53,11 +44,11 @@ module _ (pass number : ℕ) (held old new now : List Tick) (grown : HasGrown pa
   split : now ≡ held ++ grown.more
   split = is ∙ grown.ticks ∙ ap (λ l. l ++ grown.more) was
 
-  -- so it begins with the one that was held
+  -- the ticks begin with those that were held
   pub grows : IsPrefix held now
   grows = (grown.more, sym split)
 
-  -- and all ticks since are of the worker's pass
+  -- all ticks since are of the worker's pass
   pub own_ticks : All (λ (t : Tick). t.pass ≡ number) (ticks_since held now)
   own_ticks =
       subst (All (λ (t : Tick). t.pass ≡ number)) (sym (front_rest now held grown.more split))

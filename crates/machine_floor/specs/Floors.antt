@@ -4,8 +4,8 @@ use Rattle.entry_format.specs.Nodes.{node_of_sealed}
 use Rattle.entry_format.specs.SealedEntry.{SealedEntry}
 use Rattle.entry_order.specs.History.{sent}
 use Rattle.broadcast_queues.specs.Ends.{OutView, InView}
-use Rattle.floor_losses.specs.declared.loss.Loss.{Loss}
-use Rattle.floor_losses.specs.Losses.{arriving, got_from, is_lost}
+use Rattle.finished_floor.specs.declared.loss.Loss.{Loss}
+use Rattle.finished_floor.specs.Arrivals.{arriving, got_from, is_lost}
 use Rattle.machine_floor.specs.Stations.{StationState, IsStation}
 
 -- once two stations are out of their locks and the link between them is finished, each entry that one sent is heard by

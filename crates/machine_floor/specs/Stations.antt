@@ -13,12 +13,12 @@ use Rattle.election_script.specs.declared.script.Lose.{Lose}
 use Rattle.election_script.specs.Lawful.{max_actions, max_events}
 use Rattle.log_lock.specs.declared.story.Tick.{Tick}
 use Rattle.broadcast_queues.specs.Ends.{OutView, InView, LinkView, IsOutOf, IsInOf}
-use Rattle.floor_losses.specs.declared.loss.Loss.{Loss}
-use Rattle.floor_losses.specs.declared.loss.LossWhy.{LossWhy}
-use Rattle.floor_losses.specs.declared.loss.LossWhy.TheVariants.{Scripted, LinkFull, ToStopped, LogFull, SameDigest}
-use Rattle.floor_losses.specs.Losses.{arriving, got_from, AreOnce}
+use Rattle.finished_floor.specs.declared.loss.Loss.{Loss}
+use Rattle.finished_floor.specs.declared.loss.LossWhy.{LossWhy}
+use Rattle.finished_floor.specs.declared.loss.LossWhy.TheVariants.{Scripted, LinkFull, ToStopped, LogFull, SameDigest}
+use Rattle.finished_floor.specs.Arrivals.{arriving, got_from, AreOnce}
 use Rattle.floor_links.specs.Rows.{link_at}
-use Rattle.floor_losses.specs.Scripted.{is_scripted}
+use Rattle.finished_floor.specs.Scripted.{is_scripted}
 use Rattle.finished_floor.specs.Floors.{pass_of}
 use Rattle.polling_world.specs.Machines.{MachineState, IsMachine}
 
@@ -37,7 +37,7 @@ pub record StationState : Type 0 where
 abbrev pub new_out : OutView SealedEntry → OutView SealedEntry
 new_out end = record end { put = []; seen_taken = 0; fulls = 0 }
 
--- the same of an end that takes
+-- an end that takes before anything was put or taken
 abbrev pub new_in : InView SealedEntry → InView SealedEntry
 new_in end = record end { taken = []; seen_put = 0; bares = 0 }
 
@@ -72,7 +72,7 @@ pub record IsOfLinks (links : List (List LinkView)) (s : StationState) : Type 0 
   pub inns : (from : ℕ) (l : LinkView) (d : InView SealedEntry) → from < length s.inns →
       IsInOf (link_at links from s.machine.config.number l) (slice_index_or s.inns from d)
 
--- those of the entries whose number is below this one
+-- the entries of the list whose number is below this one
 abbrev pub numbered_below : ℕ → List SealedEntry → List SealedEntry
 numbered_below number es = filter (λ e. nat_lt e.entry.number number) es
 
@@ -102,7 +102,7 @@ IsOfHand s loss =
     (loss.from ≡ s.machine.config.number) × (loss.number < length (sent s.machine.events))
     × (loss.to < length s.outs) × (loss.to ≢ s.machine.config.number) × IsOutCause s.loses s.link s.outs loss loss.why
 
--- or of one that it took, and has a cause
+-- the loss is of an entry that the machine took, and has a cause
 abbrev pub IsOfEar : StationState → Loss → Type 0
 IsOfEar s loss =
     (loss.to ≡ s.machine.config.number) × (loss.from < length s.outs) × (loss.from ≢ s.machine.config.number)
@@ -117,7 +117,7 @@ pub record IsTakenWell (from : ℕ) (taken : List SealedEntry) : Type 0 where
 
 -- What is true of every station. Its machine is one; each link out has what was sent and isn't lost on it, in order;
 -- what was got of each machine is what was taken of it and isn't lost, in order; each loss is of an entry that was
--- sent or taken, has its cause, and is told once; and there is one tick for each event, in order.
+-- sent or taken, has its cause, and is reported once; and there is one tick for each event, in order.
 pub record IsStation (s : StationState) : Type 0 where
   pub machine : IsMachine s.machine
   pub going : s.machine.marked ≡ false

@@ -4,9 +4,9 @@ use Rattle.std.specs.Prelude.{slice_index_or, slice_set, Option, Some, None}
 use Rattle.entry_format.specs.SealedEntry.{SealedEntry}
 use Rattle.entry_order.specs.declared.event.Event.TheVariants.{Sent, Got}
 use Rattle.broadcast_queues.specs.Ends.{InView, TookItem, FoundLinkEmpty}
-use Rattle.floor_losses.specs.declared.loss.Loss.{Loss}
-use Rattle.floor_losses.specs.declared.loss.LossWhy.{LossWhy}
-use Rattle.floor_losses.specs.declared.loss.LossWhy.TheVariants.{ToStopped, LogFull, SameDigest}
+use Rattle.finished_floor.specs.declared.loss.Loss.{Loss}
+use Rattle.finished_floor.specs.declared.loss.LossWhy.{LossWhy}
+use Rattle.finished_floor.specs.declared.loss.LossWhy.TheVariants.{ToStopped, LogFull, SameDigest}
 use Rattle.floor_links.specs.Sendings.{IsSentBelow}
 use Rattle.polling_world.specs.declared.heard.MachineHeard.{MachineHeard}
 use Rattle.polling_world.specs.declared.heard.MachineHeard.TheVariants as heard

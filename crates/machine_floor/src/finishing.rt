@@ -7,13 +7,13 @@ ghost use Rattle.machine_floor.specs.inside.Gathering.{AreEndsOf, AreMadeBy, Are
 ghost use Rattle.machine_floor.specs.inside.Gathering.{IsRest, IsRowFinished, IsRowOfEnds, waiting};
 
 use broadcast_queues::{Finished, Link, LinkIn, LinkOut};
+use finished_floor::Waiting;
 use floor_links::{Broadcast, Links};
-use floor_sweep::Waiting;
 use polling_world::Memory;
 use std::alloc::Global;
 use std::sync::Wait;
 
-/// Finishes all links, and gives what nobody took. The ends that put stand by senders, and those
+/// Finishes all links, and gives what nobody took. The ends that put are by senders, and those
 /// that take by receivers. It may wait.
 pub(crate) fn finish_links<R: Wait>(
     rt: &R,
@@ -22,7 +22,8 @@ pub(crate) fn finish_links<R: Wait>(
     mut outs: Vec<Vec<LinkOut<Broadcast>>>,
     mut inns: Vec<Vec<LinkIn<Broadcast>>>,
 ) -> Result<Vec<Waiting>, Memory>
-    requires { AreEndsOf links (map (λ row. row.items) outs.items) (map (λ row. row.items) inns.items) }
+    requires { AreEndsOf links (map (λ row. row.items) outs.items)
+        (map (λ row. row.items) inns.items) }
     ensures { IfOk result (λ waits. AreRests (length links)
         (map (λ row. row.items) outs.items) (map (λ row. row.items) inns.items) waits.items) }
 {
@@ -81,8 +82,8 @@ fn pop_at(inns: &mut Vec<Vec<LinkIn<Broadcast>>>, at: usize) -> LinkIn<Broadcast
     inn
 }
 
-// Finishes the link from machine `from` to machine `to`, and adds what nobody took to what waits. The
-// one from a machine to itself carries nothing.
+// Finishes the link from machine `from` to machine `to`, and adds what nobody took to what waits.
+// The one from a machine to itself carries nothing.
 fn finish_one<R: Wait>(
     rt: &R,
     from: usize,

@@ -17,8 +17,8 @@ struct Waiting {
     workers: u64,
 }
 
-/// What the workers of a run tell each other: how many turns did something. Only how long they take
-/// rests on it, so nothing is said of it.
+/// What the workers of a run report to each other: how many turns did something. Only how long they
+/// take rests on it, so nothing is said of it.
 #[derive(Drop)]
 pub(crate) struct News {
     workers: u64,
@@ -54,12 +54,13 @@ impl News {
         }
     }
 
-    /// How many turns did something so far. Whoever waits after a turn gives what this was before it.
+    /// How many turns did something so far. Whoever waits after a turn gives what this was before
+    /// it.
     pub(crate) fn turns(&self) -> u64 {
         self.turns.load(Ordering::SeqCst)
     }
 
-    /// Tells that a turn did something.
+    /// Notes that a turn did something.
     pub(crate) fn tell(&self) {
         self.turns.fetch_add(1, Ordering::SeqCst);
         if self.asleep.load(Ordering::SeqCst) != 0 {
@@ -67,12 +68,12 @@ impl News {
         }
     }
 
-    /// Tells that a worker has begun.
+    /// Notes that a worker has begun.
     pub(crate) fn begin(&self) {
         self.begun.fetch_add(1, Ordering::SeqCst);
     }
 
-    /// Tells that a worker has ended.
+    /// Notes that a worker has ended.
     pub(crate) fn end(&self) {
         self.ended.fetch_add(1, Ordering::SeqCst);
     }
@@ -97,7 +98,7 @@ impl News {
         self.take(rt, seen);
     }
 
-    // Whether nobody is left to wait for, where so many wait.
+    // Whether nobody is left to wait for, where this many wait.
     fn is_idle(&self, waiting: u64) -> bool {
         let begun = self.begun.load(Ordering::SeqCst);
         let ended = self.ended.load(Ordering::SeqCst);
@@ -105,7 +106,7 @@ impl News {
             && (begun == self.workers || self.early.fetch_add(1, Ordering::SeqCst) >= PATIENCE)
     }
 
-    // Counts one that waits among those that have seen as much, and tells how many these are. One
+    // Counts one that waits among those that have seen as much, and returns how many these are. One
     // that has seen less than others isn't counted.
     fn add<R: Wait>(&self, rt: &R, seen: u64) -> u64 {
         let mut waiting = self.waiting.lock(rt);

@@ -15,9 +15,9 @@ use std::alloc::Global;
 use std::sync::Wait;
 use std::thread::Threads;
 
-/// Plays the script on its machines in threads, a hand and an ear for each, each turn of which passes
-/// the gate. What they leave is then done on this thread, until nothing more can be done. It may
-/// wait.
+/// Plays the script on its machines in threads, a hand and an ear for each, each turn of which
+/// passes the gate. What they leave is then done on this thread, until nothing more can be done. It
+/// may wait.
 pub fn run_floor<R: Threads + Wait + Sync, G: Gate + Sync>(
     rt: &R,
     alloc: Global,

@@ -9,13 +9,13 @@ ghost use Rattle.polling_world.specs.Acting.{IsActed};
 ghost use Rattle.machine_floor.specs.Fresh.{lose_lines_of};
 ghost use Rattle.machine_floor.specs.inside.Beginning.{IsBeginning, begun};
 ghost use Rattle.machine_floor.specs.Stations.{IsOfLinks, IsStation, made_of};
-ghost use Rattle.floor_sweep.specs.Done.{did};
+ghost use Rattle.finished_floor.specs.Done.{did};
 ghost use Rattle.machine_floor.specs.Turns.{cause_of, EarDid, HandDid, HasLooked};
 
 use broadcast_queues::{Link, LinkIn, LinkOut, Parcel};
 use election_script::{Lose, Script};
+use finished_floor::{Loss, LossWhy};
 use floor_links::{Broadcast, Links, send_all};
-use floor_losses::{Loss, LossWhy};
 use log_lock::{Story, Tick};
 use polling_world::{Acted, Machine, MachineHeard, Memory};
 use std::alloc::Global;
@@ -78,7 +78,8 @@ impl Story<Station> for Station {
 }
 
 impl Station {
-    /// The station of a machine of the script, with the ends of its links, before anything happened.
+    /// The station of a machine of the script, with the ends of its links, before anything
+    /// happened.
     pub(crate) fn new(
         alloc: Global,
         script: &Script,
@@ -143,9 +144,10 @@ impl Station {
         self.losses.as_slice()
     }
 
-    /// Does the machine's next action, unless a cause stands against it, and sends its entry to all
-    /// other machines, in ascending order. `Ok(false)` comes exactly where `act` on the machine
-    /// answers otherwise than `Did` or want of memory. It may wait for the links' other ends.
+    /// Does the machine's next action, unless something prevents it, and sends its entry to all
+    /// other machines, in ascending order. `Ok(false)` comes exactly when `act` on the machine
+    /// answers otherwise than `Did` or running out of memory. It may wait for the links' other
+    /// ends.
     pub fn hand_turn<R: Wait>(
         &mut self,
         rt: &R,
@@ -182,7 +184,7 @@ impl Station {
         }
     }
 
-    // Takes one entry from the link from machine `from`, if there is one, and hears it. Tells
+    // Takes one entry from the link from machine `from`, if there is one, and hears it. Returns
     // whether there was one.
     fn ear_one<R: Wait>(&mut self, rt: &R, link: &Link<Broadcast>, from: usize) -> bool
         requires from { from < length self.old.inns }
@@ -213,8 +215,8 @@ impl Station {
         true
     }
 
-    /// Takes one entry from each link, in ascending order of senders, and hears it, if there is one.
-    /// Tells how many it took. It takes no memory, and may wait for the links' other ends.
+    /// Takes one entry from each link, in ascending order of senders, and hears it, if there is
+    /// one. Returns how many it took. It takes no memory, and may wait for the links' other ends.
     pub fn ear_turn<R: Wait>(&mut self, rt: &R, links: &Links) -> u32
         requires { IsOfLinks links.now (made_of self.old) }
         ensures made { made_of self.new ≡ made_of self.old }

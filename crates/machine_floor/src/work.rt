@@ -133,9 +133,9 @@ fn work_station<R: Threads + Wait + Sync, G: Gate + Sync>(
     Ok(station)
 }
 
-/// Lets each station be worked by two threads, its hand and its ear, for at most `turns` turns each,
-/// and ends once all have ended. Each station comes back in its place, grown by turns. Want of
-/// memory at one is told once the others have ended.
+/// Lets each station be worked by two threads, its hand and its ear, for at most `turns` turns
+/// each, and ends once all have ended. Each station comes back in its place, grown by turns.
+/// Running out of memory at one is reported once the others have ended.
 pub fn work_all<R: Threads + Wait + Sync, G: Gate + Sync>(
     rt: &R,
     alloc: Global,

@@ -28,7 +28,7 @@ pub same_public : (name : List ℕ) (office : Office) → hss_public (office_sec
 unfolding hss_public
 same_public name office = refl
 
--- so each signature is one under it
+-- each endorsement is a signature under the office's public key
 pub endorsed : (name message : List ℕ) (office : Office) → office.next < max_signatures →
     HssSigns (office_public name office.seed) message (endorsement name office message)
 endorsed name message office left =
@@ -47,7 +47,7 @@ short_part W4 h (inr e) = omega (arith, e)
 short_part W8 h (inl e) = omega (arith, e)
 short_part W8 h (inr e) = omega (arith, e)
 
--- so a key has 60 bytes, and a signature isn't long
+-- where something is a signature, its key has 60 bytes, and it isn't long
 pub short_signature : (key message signature : List ℕ) → HssSigns key message signature →
     (length key ≡ 60) × (length signature ≤ 17748)
 short_signature key message signature is =

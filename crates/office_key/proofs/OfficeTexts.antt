@@ -42,7 +42,7 @@ one_number number other small few same =
     let digits : decimal number ≡ decimal other = cc in
     decimal_injective number other (omega (arith, small)) (omega (arith, few)) digits
 
--- and a text is
+-- a text is that of one office
 pub one_office : (text : List ℕ) (office other : Office) → IsOffice text office → IsOffice text other → office ≡ other
 one_office text office other is also =
     one_tree_office office other is.within also.within

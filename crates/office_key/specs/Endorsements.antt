@@ -6,10 +6,11 @@ use Rattle.hss_sign.specs.TwoLevels.{TwoLevelSecret, hss_public, hss_signed}
 use Rattle.office_key.specs.declared.office.Office.{Office}
 use Rattle.office_key.specs.Offices.{office_of}
 
--- the seed and the identifier of the top tree, of the office's seed and its name: this project's choice
+-- the seed of the top tree, made of the office's seed and its name: this project's choice
 unfoldable pub top_seed : List ℕ → List ℕ → List ℕ
 top_seed seed name = sha256 (codes "auditorium office seed" ++ seed ++ name)
 
+-- the identifier of the top tree, made of the office's seed and its name: this project's choice
 unfoldable pub top_id : List ℕ → List ℕ → List ℕ
 top_id seed name = take 16 (sha256 (codes "auditorium office id" ++ seed ++ name))
 

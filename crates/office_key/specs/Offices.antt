@@ -22,11 +22,12 @@ office_of seed next = record { seed = seed; next = next }
 abbrev pub next_office : Office → Office
 next_office office = office_of office.seed (office.next + 1)
 
--- its text: a canonical S-expression (R. Rivest)
+-- the tree of an office's text
 abbrev pub office_tree : Office → Sexp
 office_tree office =
     list_of (Atom (codes "office") ∷ Atom (codes "1") ∷ Atom office.seed ∷ number_atom office.next ∷ [])
 
+-- an office's text: a canonical S-expression (R. Rivest)
 abbrev pub office_text : Office → List ℕ
 office_text office = text_of (office_tree office)
 

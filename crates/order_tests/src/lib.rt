@@ -1,5 +1,5 @@
 //! Tests of the public calls of `precedence`, `entry_gaps`, `log_frontier` and `entangled_log`.
-//! They stand in a crate of their own, so that what they test isn't proved once more with them.
+//! They are in a crate of their own, so that what they test isn't proved once more with them.
 #![tactic(auto)]
 
 #[cfg(test)]

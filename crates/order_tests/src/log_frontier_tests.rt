@@ -5,7 +5,7 @@ use log_frontier::{Frontier, Memory};
 use std::alloc::Global;
 use std::test::Fail;
 
-/// An entry that names so many digests.
+/// An entry that names this number of digests.
 fn naming_many(alloc: Global, digest: [u8; 32], count: u8) -> Result<Shown, Memory> {
     let mut names = Vec::new(alloc);
     for n in 0..count {
@@ -14,7 +14,8 @@ fn naming_many(alloc: Global, digest: [u8; 32], count: u8) -> Result<Shown, Memo
     Ok(naming(alloc, digest, names.as_slice())?)
 }
 
-/// Whether a frontier made for so many entries has these answers of a first one that names 200.
+/// Whether a frontier made for this number of entries has these answers of a first one that names
+/// 200.
 fn has_the_answers(alloc: Global, count: usize) -> Result<bool, Memory>
     requires { 1 ≤ count }
 {

@@ -35,7 +35,7 @@ fn letter_of(three: Three) -> u8 {
     }
 }
 
-/// The rows of a graph, where it hasn't too many nodes.
+/// The rows of a graph, where it doesn't have too many nodes.
 fn rows_of(alloc: Global, graph: &ListedGraph) -> Result<Option<Rows>, Memory> {
     if graph.count() > 16384 {
         return Ok(None);
@@ -119,7 +119,7 @@ fn chains_over_several_words_are_in_order(rt: HostRuntime) -> Result<(), Fail> {
     Ok(())
 }
 
-// Whether each of so many words has the bits of 5 and of 9 afterwards.
+// Whether each of this number of words has the bits of 5 and of 9 afterwards.
 fn are_united(alloc: Global, count: usize) -> Result<bool, Memory> {
     let mut into = vec![in alloc; 5; count]?;
     let from = vec![in alloc; 9; count]?;

@@ -1,20 +1,12 @@
 -- Worlds of which one machine has one event more, or has stopped.
-use Rattle.std.proofs.Common.{◌≡◌, ℕ, zero, suc, ◌+◌, ◌*◌, ◌≤◌, ◌⊎◌, inl, inr, List, [], ◌∷◌, ◌++◌, length, max}
-use Rattle.std.proofs.Common.{Some, refl, sym, ap, subst, arith, length-append}
-use Rattle.std.specs.Prelude.{slice_get}
-use Rattle.std.specs.List.{Contains, fold}
-use Rattle.std.proofs.lemmas.List.Elements.{Contains-append_left, Contains-append_cases}
-use Rattle.entry_order.specs.declared.event.Event.{Event}
-use Rattle.entry_order.specs.declared.event.Event.TheVariants.{Sent, Got}
-use Rattle.entry_order.specs.Node.{Node}
-use Rattle.entry_order.specs.History.{entry_of, held, sent, greatest_stamp, MayFollow, IsLegal}
-use Rattle.entry_order.specs.World.{Machine, World, history, sent_in, with_machine, append, stop}
-use Rattle.entry_order.specs.Receipt.{IsOrderly}
-use Rattle.entry_order.proofs.Lists.{Contains-none, Contains-head, Contains-later, Contains-cons_cases}
-use Rattle.entry_order.proofs.Lists.{Contains-map_cases}
-use Rattle.entry_order.proofs.Orders.{sent_in_from, sent_in_cases}
-use Rattle.entry_order.proofs.Histories.{IsLegal-push, sent-append, sent_few}
-use Rattle.election_script.specs.Lawful.{max_events}
+use Rattle.polling_world.proofs.Imports.{◌≡◌, ℕ, zero, suc, ◌+◌, ◌*◌, ◌≤◌, ◌⊎◌, inl, inr, List, [], ◌∷◌, ◌++◌, length}
+use Rattle.polling_world.proofs.Imports.{max, refl, sym, ap, subst, arith, length-append, slice_get, Contains, fold}
+use Rattle.polling_world.proofs.Imports.{Contains-append_left, Contains-append_cases, Event, Sent, Got, Node}
+use Rattle.polling_world.proofs.Imports.{entry_of, held, sent, greatest_stamp, MayFollow, IsLegal, Machine, World}
+use Rattle.polling_world.proofs.Imports.{history, sent_in, with_machine, append, stop, IsOrderly, Contains-none}
+use Rattle.polling_world.proofs.Imports.{Contains-head, Contains-later, Contains-cons_cases, Contains-map_cases}
+use Rattle.polling_world.proofs.Imports.{sent_in_from, sent_in_cases, IsLegal-push, sent-append, sent_few, max_events}
+use Rattle.std.proofs.Common.{Some}
 
 module _ {T : Type 0} where
   -- ---- a machine that has stopped
@@ -78,7 +70,7 @@ module _ {T : Type 0} where
       let (n, sends) = sent_in_cases w e c in
       sent_in_from (with_machine at (append x) w) n e (Contains-grown w at n x (Sent e) a is sends)
 
-  -- and what is sent with it was sent before, or is that event
+  -- what was sent in the world with one event more was sent before, or is that event
   pub sent_in-grown_cases : (w : World T) (at : ℕ) (x : Event T) (a : Machine T) → slice_get w at ≡ Some a → (e : T) →
       Contains (sent_in (with_machine at (append x) w)) e → Contains (sent_in w) e ⊎ (x ≡ Sent e)
   sent_in-grown_cases w at x a is e c =
@@ -137,7 +129,7 @@ module _ {T : Type 0} (node : T → Node) where
         by (Sent f) h = all f (sent_in_from w n f h)
         by (Got f) h = all f (orderly.heard n f h)
 
-    -- so the greatest stamp that a machine holds is as small
+    -- if no stamp that was sent is over a bound, the greatest that a machine holds is not either
     pub held_greatest : (most n : ℕ) → ((e : T) → Contains (sent_in w) e → (node e).stamp ≤ most) →
         greatest_stamp node (held (history w n)) ≤ most
     held_greatest most n all = greatest_at_most most (held (history w n)) (held_stamps most n all)
@@ -151,7 +143,7 @@ module _ {T : Type 0} (node : T → Node) where
             (orderly.heard n e (subst (λ (h : List (Event T)). Contains h (Got e)) (history_stop w at n) c));
       }
 
-      -- so does an event that may follow, if what is got was sent
+      -- a world stays orderly with an event that may follow, if what is got was sent
       pub IsOrderly-append : (x : Event T) (a : Machine T) → slice_get w at ≡ Some a → MayFollow node at a.history x →
           ((e : T) → x ≡ Got e → Contains (sent_in w) e) → IsOrderly node (with_machine at (append x) w)
       IsOrderly-append x a is may was_sent = record { legal = legal; heard = heard }

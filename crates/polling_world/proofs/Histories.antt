@@ -1,22 +1,10 @@
 -- Histories with one event more.
-use Rattle.std.proofs.Common.{◌≡◌, ℕ, ◌≤◌, List, [], ◌∷◌, ◌++◌, length, map, ap, subst, ◌∙◌, inl, inr, arith}
-use Rattle.std.specs.List.{filter}
+use Rattle.polling_world.proofs.Imports.{◌≡◌, ℕ, ◌≤◌, List, [], ◌∷◌, ◌++◌, length, map, ap, subst, ◌∙◌, inl, inr}
+use Rattle.polling_world.proofs.Imports.{arith, filter, length-map, map_push, length-filter, count_by-le-length}
+use Rattle.polling_world.proofs.Imports.{node_of_sealed, SealedEntry, Event, Sent, ascending, IsAscending, frontier}
+use Rattle.polling_world.proofs.Imports.{entry_of, held, is_named, ascending_ascending, length-insert_digest}
+use Rattle.polling_world.proofs.Imports.{last_or_earlier, Config, entries_in, AreMade, MaySend}
 use Rattle.std.specs.Prelude.{not}
-use Rattle.std.proofs.lemmas.List.{length-map, map_push}
-use Rattle.std.proofs.lemmas.List.Sums.{length-filter, count_by-le-length}
-use Rattle.entry_format.specs.Nodes.{node_of_sealed}
-use Rattle.entry_format.specs.SealedEntry.{SealedEntry}
-use Rattle.entry_order.specs.declared.event.Event.{Event}
-use Rattle.entry_order.specs.declared.event.Event.TheVariants.{Sent}
-use Rattle.entry_order.specs.Ascending.{ascending, IsAscending}
-use Rattle.entry_order.specs.Frontier.{frontier}
-use Rattle.entry_order.specs.History.{entry_of, held}
-use Rattle.entry_order.specs.Naming.{is_named}
-use Rattle.entry_order.proofs.Ascending.{ascending_ascending, length-insert_digest}
-use Rattle.entry_order.proofs.Histories.{last_or_earlier}
-use Rattle.polling_world.specs.Configs.{Config}
-use Rattle.polling_world.specs.Rules.{entries_in}
-use Rattle.polling_world.specs.Sending.{AreMade, MaySend}
 
 -- one event more is made where, if it was sent, it could be sent
 pub AreMade-push : (config : Config) (h : List (Event SealedEntry)) (x : Event SealedEntry) → AreMade config h →
@@ -59,7 +47,7 @@ few_in_frontier h =
       length-map h (λ (x : Event SealedEntry). entry_of x),
     )
 
--- and they rise
+-- the digests of a frontier rise
 pub frontier_rises : (es : List SealedEntry) → IsAscending (frontier node_of_sealed es)
 frontier_rises es =
     ascending_ascending

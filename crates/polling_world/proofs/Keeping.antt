@@ -1,36 +1,15 @@
 -- What a machine keeps, when it is made and when an event is appended.
-use Rattle.std.proofs.Common.{◌≡◌, ℕ, ◌+◌, ◌<◌, ◌≤◌, Bool, true, false, List, [], ◌∷◌, ◌++◌, length, refl, sym, ap}
-use Rattle.std.proofs.Common.{subst, ◌∙◌, get_or, arith, length-append}
-use Rattle.std.proofs.lemmas.List.{length-map}
-use Rattle.std.proofs.lemmas.Option.{slice_get_within, get_or_from_slice_get}
-use Rattle.std.proofs.lemmas.Bool.{leb-false}
-use Rattle.std.specs.Prelude.{IsTrue, not, ◌||◌, Option, Some, None, slice_get}
-use Rattle.lms_sign.specs.Secret.{Secret}
-use Rattle.roster.specs.declared.post.Post.{Post}
-use Rattle.roster.specs.declared.post.Role.{Role}
-use Rattle.entry_format.specs.declared.deed.Deed.{Deed}
-use Rattle.entry_format.specs.Nodes.{node_of_sealed}
-use Rattle.entry_format.specs.SealedEntry.{SealedEntry}
-use Rattle.entry_order.specs.declared.event.Event.{Event}
-use Rattle.entry_order.specs.declared.event.Event.TheVariants.{Sent, Got}
-use Rattle.entry_order.specs.History.{MayFollow}
-use Rattle.entangled_log.specs.declared.heard.Heard.{Heard}
+use Rattle.polling_world.proofs.Imports.{◌≡◌, ℕ, ◌+◌, ◌<◌, ◌≤◌, Bool, true, false, List, [], ◌∷◌, ◌++◌, length, refl}
+use Rattle.polling_world.proofs.Imports.{sym, ap, subst, ◌∙◌, get_or, arith, length-append, length-map}
+use Rattle.polling_world.proofs.Imports.{slice_get_within, get_or_from_slice_get, leb-false, IsTrue, slice_get}
+use Rattle.polling_world.proofs.Imports.{Secret, Post, Role, Deed, node_of_sealed, SealedEntry, Event, Sent, Got}
+use Rattle.polling_world.proofs.Imports.{MayFollow, Heard, IsHearAnswer, log_after, History, IsLegal-push}
+use Rattle.polling_world.proofs.Imports.{IsLegal-none, sent_one_more, sent_as_many, Cast0, Script, IsLawful, IsCast}
+use Rattle.polling_world.proofs.Imports.{Rules, config_of, key_of, post_of, roster_of, IsKept, StandFor, spare_of}
+use Rattle.polling_world.proofs.Imports.{MachineState, IsMachine, IsWithinStop, is_reached, log_of, with_event}
+use Rattle.polling_world.proofs.Imports.{election_of, entries_in, MaySend, IsGoing}
+use Rattle.std.specs.Prelude.{not, ◌||◌, Option, Some, None}
 use Rattle.entangled_log.specs.declared.heard.Heard.TheVariants.{Taken, Own, Already, Full}
-use Rattle.entangled_log.specs.Hearing.{IsHearAnswer, log_after}
-use Rattle.entangled_log.specs.Logs.{History}
-use Rattle.entry_order.proofs.Histories.{IsLegal-push, IsLegal-none, sent_one_more, sent_as_many}
-use Rattle.election_script.specs.declared.script.Cast0.{Cast0}
-use Rattle.election_script.specs.declared.script.Script.{Script}
-use Rattle.election_script.specs.Lawful.{IsLawful, IsCast}
-use Rattle.polling_world.specs.declared.rules.Rules.{Rules}
-use Rattle.polling_world.specs.Configs.{config_of}
-use Rattle.polling_world.specs.Keys.{key_of, post_of, roster_of}
-use Rattle.polling_world.specs.Kept.{IsKept, StandFor, spare_of}
-use Rattle.polling_world.specs.Machines.{MachineState, IsMachine, IsWithinStop, is_reached, log_of, with_event}
-use Rattle.polling_world.specs.Making.{election_of}
-use Rattle.polling_world.specs.Rules.{entries_in}
-use Rattle.polling_world.specs.Sending.{MaySend}
-use Rattle.polling_world.specs.Waiting.{IsGoing}
 use Rattle.polling_world.proofs.Histories.{AreMade-none, AreMade-push}
 use Rattle.polling_world.proofs.MadeEntries.{may_follow}
 use Rattle.polling_world.proofs.Rosters.{key_in_roster, roster_has_text}

@@ -1,3 +1,4 @@
+mod Imports
 pub mod NextTold
 pub mod OnePlay
 pub mod OneLeft

@@ -1,27 +1,10 @@
 -- The entries that a machine makes.
-use Rattle.std.proofs.Common.{◌≡◌, ℕ, Bool, false, List, refl, sym, ap, ◌∙◌}
-use Rattle.std.specs.Prelude.{◌↔◌, IsTrue, Some}
-use Rattle.std.proofs.lemmas.Bool.{true≢false}
-use Rattle.sha2.specs.Sha256.{sha256}
-use Rattle.canonical_sexp.specs.Text.{text_of}
-use Rattle.lms_sign.specs.Secret.{Secret, public_of, signed_by}
-use Rattle.entry_format.specs.declared.deed.Deed.{Deed}
-use Rattle.entry_format.specs.declared.entry.Entry.{Entry}
-use Rattle.entry_format.specs.EntryText.{body_tree, signed_tree}
-use Rattle.entry_format.specs.Nodes.{node_of_sealed}
-use Rattle.entry_format.specs.SealedEntry.{SealedEntry}
-use Rattle.entry_format.specs.Unsealing.{key_at, IsValid}
-use Rattle.entry_format.proofs.Unsealings.{same_sealed}
-use Rattle.entry_order.specs.declared.event.Event.{Event}
-use Rattle.entry_order.specs.declared.event.Event.TheVariants.{Sent}
-use Rattle.entry_order.specs.History.{MayFollow, held}
-use Rattle.entry_order.specs.Naming.{IsBorneIn}
-use Rattle.polling_world.specs.Acting.{IsHeldAlready}
-use Rattle.polling_world.specs.Configs.{Config}
-use Rattle.polling_world.specs.Making.{made, entry_with, next_entry}
-use Rattle.polling_world.specs.Machines.{MachineState}
-use Rattle.polling_world.specs.Sending.{MaySend, next_action}
-use Rattle.polling_world.specs.Waiting.{IsReady}
+use Rattle.polling_world.proofs.Imports.{◌≡◌, ℕ, Bool, false, List, refl, sym, ap, ◌∙◌, ◌↔◌, IsTrue, true≢false}
+use Rattle.polling_world.proofs.Imports.{sha256, text_of, Secret, public_of, signed_by, Deed, Entry, body_tree}
+use Rattle.polling_world.proofs.Imports.{signed_tree, node_of_sealed, SealedEntry, key_at, IsValid, same_sealed}
+use Rattle.polling_world.proofs.Imports.{Event, Sent, MayFollow, held, IsBorneIn, IsHeldAlready, Config, made}
+use Rattle.polling_world.proofs.Imports.{entry_with, next_entry, MachineState, MaySend, next_action, IsReady}
+use Rattle.std.specs.Prelude.{Some}
 
 -- what is made has the entry that was asked for
 pub entry-made : (config : Config) (k stamp : ℕ) (names : List (List ℕ)) (deed : Deed) →

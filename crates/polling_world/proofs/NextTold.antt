@@ -1,33 +1,17 @@
--- What a machine may send is decided, so there is a function that tells it.
-use Rattle.std.proofs.Common.{◌≡◌, ◌∙◌, ℕ, ◌^◌, ◌<◌, Bool, true, false, List, length, Option, Some, None, ◌⊎◌}
-use Rattle.std.proofs.Common.{inl, inr, refl, sym, subst, ap, ltb}
-use Rattle.std.specs.Prelude.{Result, Ok, Err, slice_get}
-use Rattle.std.specs.Bool.{Decides}
-use Rattle.std.proofs.lemmas.Bool.Decides.{Decides-ltb}
-use Rattle.entry_format.specs.declared.deed.Deed.{Deed}
-use Rattle.entry_format.specs.declared.entry.Entry.{Entry}
-use Rattle.entry_format.specs.Nodes.{node_of_sealed}
-use Rattle.entry_format.specs.SealedEntry.{SealedEntry}
-use Rattle.entry_order.specs.declared.event.Event.{Event}
-use Rattle.entry_order.specs.Naming.{IsNew, has_digest}
-use Rattle.entry_order.specs.History.{held, sent}
-use Rattle.entry_order.proofs.Naming.{has_digest_from}
-use Rattle.entry_order.proofs.Plays.{IsNew-from_test}
-use Rattle.entangled_log.proofs.Whole.{whole_or_not}
-use Rattle.roster.specs.declared.post.Role.{Role}
-use Rattle.roster.specs.declared.post.Role.TheVariants.{Supervisor, Booth}
-use Rattle.first_cause.proofs.Rows.{one_first}
-use Rattle.supervisor_core.specs.declared.state.SupervisorNot.{SupervisorNot}
+-- What a machine may send is decided, so there is a function that says it.
+use Rattle.std.proofs.Common.{Option, Some, None}
+use Rattle.polling_world.proofs.Imports.{◌≡◌, ◌∙◌, ℕ, ◌^◌, ◌<◌, Bool, true, false, List, length, ◌⊎◌, inl, inr, refl}
+use Rattle.polling_world.proofs.Imports.{sym, subst, ap, ltb, slice_get, Decides, Decides-ltb, Deed, Entry}
+use Rattle.polling_world.proofs.Imports.{node_of_sealed, SealedEntry, Event, IsNew, has_digest, held, sent}
+use Rattle.polling_world.proofs.Imports.{has_digest_from, IsNew-from_test, whole_or_not, Role, Supervisor, Booth}
+use Rattle.polling_world.proofs.Imports.{one_first, SupervisorNot, BoothNot, Config, next_entry, IsNextOf, IsNextAt}
+use Rattle.polling_world.proofs.Imports.{TellsNext, MayDo, RoleRefuses, IsWholeHistory, entries_in, MaySend}
+use Rattle.polling_world.proofs.Imports.{next_action}
+use Rattle.std.specs.Prelude.{Result, Ok, Err}
 use Rattle.supervisor_core.specs.Table as supervisor
 use Rattle.supervisor_core.proofs.Answered as supervisor_answer
-use Rattle.booth_core.specs.declared.state.BoothNot.{BoothNot}
 use Rattle.booth_core.specs.Table as booth
 use Rattle.booth_core.proofs.Answered as booth_answer
-use Rattle.polling_world.specs.Configs.{Config}
-use Rattle.polling_world.specs.Making.{next_entry}
-use Rattle.polling_world.specs.Worlds.{IsNextOf, IsNextAt, TellsNext}
-use Rattle.polling_world.specs.Rules.{MayDo, RoleRefuses, IsWholeHistory, entries_in}
-use Rattle.polling_world.specs.Sending.{MaySend, next_action}
 
 -- it holds, or it doesn't
 abbrev Either : Type 0 → Type 0
@@ -83,7 +67,7 @@ same_deed : (config : Config) (h : List (Event SealedEntry)) (deed : Deed) → n
     → (e : SealedEntry) → (may : MaySend config h e) → may.deed ≡ deed
 same_deed config h deed is e may = let action = may.action in cc
 
--- where each part is decided, it is told what the machine sends
+-- where each part is decided, it is known what the machine sends
 told_by : (config : Config) (h : List (Event SealedEntry)) (deed : Deed) → next_action config h ≡ Some deed
     → Either (MayDo config h deed) → Either (length h < config.log) → Either (length (sent h) < 2 ^ config.key.height)
     → Either (IsNew node_of_sealed (held h) (next_entry config h deed)) → Told config h
@@ -116,7 +100,7 @@ told_at config h (Some deed) is =
     (Decides-ltb (length (sent h)) (2 ^ config.key.height)))
     (new_either h (next_entry config h deed))
 
--- of each history it is told what the machine may send
+-- for each history it is known what the machine may send
 told : (config : Config) (h : List (Event SealedEntry)) → Told config h
 told config h = told_at config h (next_action config h) refl
 
@@ -125,22 +109,22 @@ told_of : Option Config → List (Event SealedEntry) → Option SealedEntry
 told_of None h = None
 told_of (Some config) h = (told config h).0
 
--- what is told of a machine, if it is there, is what it may send
+-- what is said of a machine, if it is there, is what it may send
 told_is : (o : Option Config) (h : List (Event SealedEntry)) → IsNextAt o h (told_of o h)
 unfolding told_of
 told_is None h = refl
 told_is (Some config) h = (told config h).1
 
--- there is a function that tells what each of these machines may send
+-- there is a function that says what each of these machines may send
 pub next_of : List Config → ℕ → List (Event SealedEntry) → Option SealedEntry
 next_of configs m h = told_of (slice_get configs m) h
 
--- that function tells it of each machine
+-- that function says it for each machine
 pub tells_next : (configs : List Config) → TellsNext configs (next_of configs)
 unfolding next_of
 tells_next configs = λ m h. told_is (slice_get configs m) h
 
--- and each such function tells the same
+-- and each such function says the same
 one_next : (config : Config) (h : List (Event SealedEntry)) (o p : Option SealedEntry) → IsNextOf config h o
     → IsNextOf config h p → o ≡ p
 one_next config h None None first second = refl
@@ -156,7 +140,7 @@ one_at : (at : Option Config) (h : List (Event SealedEntry)) (o p : Option Seale
 one_at None h o p first second = first ∙ sym second
 one_at (Some config) h o p first second = one_next config h o p first second
 
--- so two such functions are one, history by history
+-- two functions that say what the machines may send agree on each history
 pub tells_same : (configs : List Config) (next other : ℕ → List (Event SealedEntry) → Option SealedEntry)
     → TellsNext configs next → TellsNext configs other → (m : ℕ) (h : List (Event SealedEntry)) → next m h ≡ other m h
 tells_same configs next other first second m h =

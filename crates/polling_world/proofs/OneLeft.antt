@@ -1,20 +1,13 @@
--- What is left of a machine's actions, and why, is told in one way.
-use Rattle.std.proofs.Common.{◌≡◌, ◌∙◌, ℕ, Bool, true, false, not, List, Option, Some, None, refl, ap, subst, arith}
-use Rattle.std.specs.Prelude.{Result, Ok, Err, IsTrue}
-use Rattle.entry_format.specs.declared.deed.Deed.{Deed}
-use Rattle.entry_format.specs.SealedEntry.{SealedEntry}
-use Rattle.entry_order.specs.declared.event.Event.{Event}
-use Rattle.roster.specs.declared.post.Role.{Role}
-use Rattle.roster.specs.declared.post.Role.TheVariants.{Supervisor, Booth}
-use Rattle.first_cause.proofs.Rows.{one_first}
+-- What is left of a machine's actions, and why, is uniquely determined.
+use Rattle.std.proofs.Common.{not, Option, Some, None}
+use Rattle.std.specs.Prelude.{Result, Ok, Err}
+use Rattle.polling_world.proofs.Imports.{◌≡◌, ◌∙◌, ℕ, Bool, true, false, List, refl, ap, subst, arith, IsTrue, Deed}
+use Rattle.polling_world.proofs.Imports.{SealedEntry, Event, Role, Supervisor, Booth, one_first, Left, LeftWhy}
+use Rattle.polling_world.proofs.Imports.{MachineState, has_stopped, RoleRefuses, IsWholeHistory, entries_in, IsWhy}
+use Rattle.polling_world.proofs.Imports.{IsLeft}
 use Rattle.supervisor_core.specs.Table as supervisor
 use Rattle.booth_core.specs.Table as booth
-use Rattle.polling_world.specs.declared.left.Left.{Left}
-use Rattle.polling_world.specs.declared.left.LeftWhy.{LeftWhy}
 use Rattle.polling_world.specs.declared.left.LeftWhy.TheVariants as why
-use Rattle.polling_world.specs.Machines.{MachineState, has_stopped}
-use Rattle.polling_world.specs.Rules.{RoleRefuses, IsWholeHistory, entries_in}
-use Rattle.polling_world.specs.Waiting.{IsWhy, IsLeft}
 
 -- what holds isn't denied
 clash : (b : Bool) → IsTrue b → IsTrue (not b) → ⊥
@@ -151,7 +144,7 @@ one_why m deed why.Ready why.StampSpent x y = absurd (x.stamp y.stamp)
 one_why m deed why.Ready why.Spent x y = absurd (let spent = y.spent in let unspent = x.unspent in omega arith)
 one_why m deed why.Ready why.Ready x y = refl
 
--- what is left of a machine's actions is told in one way
+-- what is left of a machine's actions is uniquely determined
 pub one_left : (m : MachineState) (a b : Option Left) → IsLeft m a → IsLeft m b → a ≡ b
 one_left m None None p q = refl
 one_left m None (Some k) p q = let there = q.action in cc

@@ -1,21 +1,12 @@
 -- The machines of a script play it in one way.
-use mathlib.Core.Path.{fun_ext}
-use Rattle.std.proofs.Common.{◌≡◌, ◌∙◌, ℕ, Bool, ◌||◌, List, length, get_or, Option}
-use Rattle.std.proofs.Common.{Some, None, sym, ap, arith}
-use Rattle.std.specs.Prelude.{slice_get}
-use Rattle.std.proofs.Math.Bool.{or-false}
-use Rattle.std.proofs.lemmas.List.{same_lists, get_or-map}
-use Rattle.std.proofs.lemmas.Option.{slice_get-get_or}
-use Rattle.entry_format.specs.Nodes.{node_of_sealed}
-use Rattle.entry_format.specs.SealedEntry.{SealedEntry}
-use Rattle.entry_order.specs.declared.event.Event.{Event}
-use Rattle.entry_order.specs.World.{Machine, World, start, play}
-use Rattle.election_script.specs.declared.script.Cast0.{Cast0}
-use Rattle.election_script.specs.declared.script.Script.{Script}
-use Rattle.polling_world.specs.Configs.{Config, IsOf, config_of, script_configs}
-use Rattle.polling_world.specs.Machines.{MachineState, is_reached}
-use Rattle.polling_world.specs.Playing.{AreOf, IsPlayed}
-use Rattle.polling_world.specs.Worlds.{machine_of, world_of}
+use Rattle.polling_world.proofs.Imports.{fun_ext, ◌≡◌, ◌∙◌, ℕ, Bool, List, length, get_or, sym, ap, arith, slice_get}
+use Rattle.polling_world.proofs.Imports.{or-false, same_lists, slice_get-get_or, node_of_sealed, SealedEntry, Event}
+use Rattle.polling_world.proofs.Imports.{Machine, World, start, play, Cast0, Script, Config, IsOf, config_of}
+use Rattle.polling_world.proofs.Imports.{script_configs, MachineState, is_reached, AreOf, IsPlayed, machine_of}
+use Rattle.polling_world.proofs.Imports.{world_of}
+use Rattle.std.proofs.Common.{◌||◌, Option}
+use Rattle.std.proofs.Common.{Some, None}
+use Rattle.std.proofs.lemmas.List.{get_or-map}
 use Rattle.polling_world.proofs.NextTold.{tells_same}
 
 -- a script gives each machine one configuration
@@ -24,7 +15,7 @@ same_config script a b number (own, at, made) (other, there, remade) =
     let cast : own ≡ other = cc (number, at, there) in
     made ∙ ap (λ n. config_of script n own) number ∙ ap (λ (c : Cast0). config_of script b.number c) cast ∙ sym remade
 
--- a machine is told by what it is made of and what is seen of it
+-- a machine is determined by what it is made of and what is seen of it
 same_machine : (m n : MachineState) → m.config ≡ n.config → m.stop ≡ None → n.stop ≡ None →
     machine_of m ≡ machine_of n → m ≡ n
 same_machine m n config stop stop' same =

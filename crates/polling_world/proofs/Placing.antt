@@ -1,17 +1,11 @@
 -- Machines in their places, and the world that they are.
-use Rattle.std.proofs.Common.{◌≡◌, ◌∙◌, ℕ, zero, suc, ◌<◌, ◌⊎◌, inl, inr, List, [], ◌∷◌, ◌++◌, length, map}
-use Rattle.std.proofs.Common.{Some, None, Option, refl, sym, ap, arith, ◌||◌, true, Bool}
-use Rattle.std.specs.Prelude.{slice_get, slice_set, slice_index_or}
-use Rattle.std.specs.List.{Contains}
-use Rattle.std.proofs.lemmas.Option.{slice_get_within, get_or_from_slice_get}
-use Rattle.std.proofs.Math.Bool.{or-false}
-use Rattle.entry_format.specs.SealedEntry.{SealedEntry}
-use Rattle.entry_order.specs.declared.event.Event.{Event}
-use Rattle.entry_order.specs.History.{sent}
-use Rattle.entry_order.specs.World.{Machine, World, history, sent_in, with_machine, append, stop}
-use Rattle.entry_order.proofs.Orders.{sent_in_from, Contains-sent_cases}
-use Rattle.polling_world.specs.Machines.{MachineState, has_stopped, is_reached, with_event}
-use Rattle.polling_world.specs.Worlds.{machine_of, world_of}
+use Rattle.polling_world.proofs.Imports.{◌≡◌, ◌∙◌, ℕ, zero, suc, ◌<◌, ◌⊎◌, inl, inr, List, [], ◌∷◌, ◌++◌, length, map}
+use Rattle.polling_world.proofs.Imports.{refl, sym, ap, arith, true, Bool, slice_get, slice_set, slice_index_or}
+use Rattle.polling_world.proofs.Imports.{Contains, slice_get_within, get_or_from_slice_get, or-false, SealedEntry}
+use Rattle.polling_world.proofs.Imports.{Event, sent, Machine, World, history, sent_in, with_machine, append, stop}
+use Rattle.polling_world.proofs.Imports.{sent_in_from, Contains-sent_cases, MachineState, has_stopped, is_reached}
+use Rattle.polling_world.proofs.Imports.{with_event, machine_of, world_of}
+use Rattle.std.proofs.Common.{Some, None, Option, ◌||◌}
 
 -- an entry with its maker and number was sent
 pub sent_at_sent : {T : Type 0} (w : World T) (m n : ℕ) (e : T) → slice_get (sent (history w m)) n ≡ Some e →
@@ -27,7 +21,7 @@ module _ {X Y : Type 0} (f : X → Y) where
   get-map (y ∷ xs) zero x e = let same : y ≡ x = cc in ap (λ (z : X). Some (f z)) same
   get-map (y ∷ xs) (suc i) x e = get-map xs i x e
 
-  -- and each value at a place is of an item there
+  -- each value of a mapped list at a place is made of the item at that place
   pub get-map_from : (xs : List X) (i : ℕ) (y : Y) → slice_get (map f xs) i ≡ Some y →
       (x : X) × (slice_get xs i ≡ Some x) × (f x ≡ y)
   get-map_from [] i y e = cc
@@ -43,19 +37,19 @@ module _ {X Y : Type 0} (f : X → Y) where
   map-set_same (z ∷ xs) (suc i) x y e same = ap (λ (vs : List Y). f z ∷ vs) (map-set_same xs i x y e same)
 
 module _ {X : Type 0} where
-  -- an item that is put back where it stands changes nothing
+  -- an item that is put back where it is changes nothing
   pub set_same : (xs : List X) (i : ℕ) (x : X) → slice_get xs i ≡ Some x → slice_set xs i x ≡ xs
   set_same [] i x e = cc
   set_same (y ∷ xs) zero x e = let same : y ≡ x = cc in ap (λ (z : X). z ∷ xs) (sym same)
   set_same (y ∷ xs) (suc i) x e = ap (λ (zs : List X). y ∷ zs) (set_same xs i x e)
 
-  -- what was put in a place stands there
+  -- what was put in a place is there
   pub set_get : (xs : List X) (i : ℕ) (x y : X) → slice_get xs i ≡ Some x → slice_get (slice_set xs i y) i ≡ Some y
   set_get [] i x y e = cc
   set_get (z ∷ xs) zero x y e = refl
   set_get (z ∷ xs) (suc i) x y e = set_get xs i x y e
 
-  -- what stands somewhere once a place was written stood there, or is what was written
+  -- what is somewhere once a place was written was there, or is what was written
   pub set_cases : (xs : List X) (i n : ℕ) (x y z : X) → slice_get xs i ≡ Some x →
       slice_get (slice_set xs i y) n ≡ Some z → ((n ≡ i) × (y ≡ z)) ⊎ (slice_get xs n ≡ Some z)
   set_cases [] i n x y z e is = cc
@@ -96,7 +90,7 @@ pub stopped_by_mark : (m : MachineState) → m.stop ≡ None → has_stopped m �
 stopped_by_mark m none =
     ap (λ (stop : Option ℕ). m.marked || is_reached stop (length m.events)) none ∙ or-false m.marked
 
--- and it hasn't stopped for an event more
+-- an event appends to the history of a machine with no stop of its own
 pub machine_of-event : (m : MachineState) (x : Event SealedEntry) → m.stop ≡ None →
     machine_of (with_event x m) ≡ append x (machine_of m)
 machine_of-event m x none =

@@ -1,24 +1,14 @@
 -- A script's machines take its steps one after another.
-use Rattle.std.proofs.Common.{◌≡◌, ◌∙◌, ℕ, ◌+◌, ◌<◌, ◌≤◌, List, [], ◌∷◌, length, map, get_or, drop}
-use Rattle.std.proofs.Common.{Option, Some, None, false, inl, inr, refl, sym, subst, ap, arith}
-use Rattle.std.specs.Prelude.{slice_get, option_map, All}
-use Rattle.std.proofs.lemmas.List.{same_lists, get_or-map, length-map, drop_more, drop_all, get_or-replicate}
-use Rattle.std.proofs.lemmas.List.{length-replicate}
-use Rattle.std.proofs.lemmas.Option.{slice_get-get_or, slice_get-map, slice_get_cases}
-use Rattle.entry_format.specs.Nodes.{node_of_sealed}
-use Rattle.entry_format.specs.SealedEntry.{SealedEntry}
-use Rattle.entry_order.specs.declared.event.Event.{Event}
-use Rattle.entry_order.specs.declared.step.Step.{Step}
-use Rattle.entry_order.specs.declared.step.Step.TheVariants.{Act, Hear, Stop}
-use Rattle.entry_order.specs.World.{Machine, World, start, happens, play}
-use Rattle.election_script.specs.declared.script.Script.{Script}
-use Rattle.election_script.specs.declared.script.Cast0.{Cast0}
-use Rattle.election_script.specs.Lawful.{IsStep, IsLawful}
-use Rattle.polling_world.specs.Configs.{Config, config_of, script_configs}
-use Rattle.polling_world.specs.Machines.{MachineState}
-use Rattle.polling_world.specs.Playing.{AreOf, IsPlayed}
-use Rattle.polling_world.specs.Steps.{IsStepOf}
-use Rattle.polling_world.specs.Worlds.{machine_of, world_of, configs_of, stops_of, HaveLog, AreFresh, TellsNext}
+use Rattle.polling_world.proofs.Imports.{◌≡◌, ◌∙◌, ℕ, ◌+◌, ◌<◌, ◌≤◌, List, [], ◌∷◌, length, map, get_or, drop, false}
+use Rattle.polling_world.proofs.Imports.{inl, inr, refl, sym, subst, ap, arith, slice_get, option_map, All}
+use Rattle.polling_world.proofs.Imports.{same_lists, length-map, drop_more, drop_all, get_or-replicate}
+use Rattle.polling_world.proofs.Imports.{length-replicate, slice_get-get_or, slice_get-map, slice_get_cases}
+use Rattle.polling_world.proofs.Imports.{node_of_sealed, SealedEntry, Event, Step, Act, Hear, Stop, Machine, World}
+use Rattle.polling_world.proofs.Imports.{start, happens, play, Script, Cast0, IsStep, IsLawful, Config, config_of}
+use Rattle.polling_world.proofs.Imports.{script_configs, MachineState, AreOf, IsPlayed, IsStepOf, machine_of}
+use Rattle.polling_world.proofs.Imports.{world_of, configs_of, stops_of, HaveLog, AreFresh, TellsNext}
+use Rattle.std.proofs.Common.{Option, Some, None}
+use Rattle.std.proofs.lemmas.List.{get_or-map}
 use Rattle.polling_world.proofs.NextTold.{next_of, tells_next}
 use Rattle.polling_world.proofs.WorldMaking.{fresh_configs}
 
@@ -126,7 +116,7 @@ starts script first k d fresh within =
       | inr past ↦ absurd (omega arith)
     ]
 
--- so the world is at its start
+-- the script's fresh machines are a world at its start
 pub at_start : (script : Script) (first : List MachineState) → AreFresh script first
     → world_of first ≡ start (length script.machines)
 at_start script first fresh =

@@ -1,24 +1,15 @@
 -- The events of a world, each once, and the steps that make them.
-use Rattle.std.proofs.Common.{◌≡◌, ◌≢◌, ◌∙◌, ℕ, zero, suc, ◌+◌, ◌<◌, max, List, [], ◌∷◌, ◌++◌, map, take, get_or}
-use Rattle.std.proofs.Common.{length, false, refl, sym, ap, subst, inl, inr, arith, append_assoc, length-append}
-use Rattle.std.specs.List.{Contains, IsDistinct, AllByRecursion, enumerate_from}
-use Rattle.std.specs.Str.{bytes_eq}
-use Rattle.std.proofs.lemmas.Bool.{cases_lt, false_from_ne_true}
-use Rattle.std.proofs.lemmas.List.{append-nil, map-append, take_at, take_more, length-take-le}
-use Rattle.std.proofs.lemmas.List.Elements.{Contains-append_left, Contains-append_right, Contains-append_cases}
-use Rattle.std.proofs.lemmas.Map.Keys.{IsDistinct-cons, IsDistinct-from_apart}
-use Rattle.std.proofs.lemmas.Slice.Eq.{bytes_eq-Decides}
-use Rattle.entry_order.specs.declared.event.Event.{Event}
-use Rattle.entry_order.specs.Node.{Node}
-use Rattle.entry_order.specs.History.{entry_of, held, greatest_stamp}
-use Rattle.entry_order.specs.World.{World, history}
-use Rattle.entry_order.specs.Merged.{PlacedEvent, kind, sort_key, placed, IsEventOf, step_of}
-use Rattle.entry_order.proofs.Histories.{greatest_push}
-use Rattle.entry_order.proofs.Lists.{Contains-none, Contains-head, Contains-later}
-use Rattle.entry_order.proofs.Machines.{in_world}
-use Rattle.entry_order.proofs.Merged.{placed_of, has_placed, placed_cases}
-use Rattle.polling_world.specs.declared.merging.RankedStep.{RankedStep}
-use Rattle.polling_world.specs.inside.Ranked.{ranked_step, ranked_steps, AreRanked}
+use Rattle.polling_world.proofs.Imports.{◌≡◌, ◌≢◌, ◌∙◌, ℕ, zero, suc, ◌+◌, ◌<◌, max, List, [], ◌∷◌, ◌++◌, map, take}
+use Rattle.polling_world.proofs.Imports.{get_or, length, false, refl, sym, ap, subst, inl, inr, arith, append_assoc}
+use Rattle.polling_world.proofs.Imports.{length-append, Contains, IsDistinct, AllByRecursion, enumerate_from}
+use Rattle.polling_world.proofs.Imports.{bytes_eq, cases_lt, false_from_ne_true, append-nil, map-append, take_at}
+use Rattle.polling_world.proofs.Imports.{take_more, length-take-le, Contains-append_left, Contains-append_right}
+use Rattle.polling_world.proofs.Imports.{Contains-append_cases, IsDistinct-cons, IsDistinct-from_apart}
+use Rattle.polling_world.proofs.Imports.{bytes_eq-Decides, Event, Node, entry_of, held, greatest_stamp, World}
+use Rattle.polling_world.proofs.Imports.{history, PlacedEvent, kind, sort_key, placed, IsEventOf, step_of}
+use Rattle.polling_world.proofs.Imports.{greatest_push, Contains-none, Contains-head, Contains-later, in_world}
+use Rattle.polling_world.proofs.Imports.{placed_of, has_placed, placed_cases, RankedStep, ranked_step, ranked_steps}
+use Rattle.polling_world.proofs.Imports.{AreRanked}
 
 -- ---- no two of one rank
 
@@ -58,7 +49,7 @@ module _ {T : Type 0} where
 module _ {T : Type 0} (node : T → Node) where
   -- ---- the events of one machine
 
-  -- one event more is placed behind the others
+  -- one event more is placed after the others
   placed_push : (m : ℕ) (before h : List (Event T)) (x : Event T) →
       placed_of node m before (h ++ x ∷ []) ≡ placed_of node m before h ++ placed node m (before ++ h) x ∷ []
   placed_push m before [] x = ap (λ p. placed node m p x ∷ []) (sym (append-nil before))

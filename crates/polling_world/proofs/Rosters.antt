@@ -1,31 +1,13 @@
 -- The roster of a script makes a roster that has a text, and each machine's key is at its place.
-use Rattle.std.proofs.Common.{◌≡◌, ℕ, ◌+◌, ◌<◌, List, [], ◌∷◌, ◌++◌, length, map, get_or}
-use Rattle.std.proofs.Common.{refl, sym, ap, ◌∙◌, arith, length-append}
-use Rattle.std.specs.Prelude.{codes, slice_get, Some, count_by, if◌then◌else◌}
-use Rattle.std.specs.List.{fold}
-use Rattle.std.proofs.lemmas.List.{length-map, get_or-map, length-take-le}
-use Rattle.std.proofs.lemmas.List.Elements.{All-map}
-use Rattle.std.proofs.lemmas.Option.{slice_get_within, get_or_from_slice_get}
-use Rattle.sha2.specs.Sha256.{sha256}
-use Rattle.sha2.proofs.Facts256.{length-sha256}
-use Rattle.lms_ots.specs.Parameters.{parameters}
-use Rattle.lms_ots.specs.Ots.{u32str}
-use Rattle.lms_ots.proofs.Candidates.{length-u32str}
-use Rattle.lms_sign.specs.Height.{lms_typecode}
-use Rattle.lms_sign.specs.Secret.{Secret, public_of}
-use Rattle.lms_sign.specs.Tree.{lms_public, node}
-use Rattle.roster.specs.declared.post.Post.{Post}
-use Rattle.roster.specs.Machines.{AreDistinct, HaveText, IsName, is_supervisor}
-use Rattle.roster.specs.RosterText.{HasKey, roster_tree}
-use Rattle.canonical_sexp.specs.Text.{text_of}
-use Rattle.entry_format.specs.Unsealing.{key_at}
-use Rattle.entry_format.proofs.Keys.{key_is}
-use Rattle.election_script.specs.declared.script.Cast0.{Cast0}
-use Rattle.election_script.specs.declared.script.Script.{Script}
-use Rattle.election_script.specs.Lawful.{IsLawful}
-use Rattle.polling_world.specs.Keys.{machine_id, key_of, post_of, roster_of}
-use Rattle.polling_world.specs.Making.{election_of}
-use Rattle.lms_sign.proofs.Signatures.{length-node}
+use Rattle.polling_world.proofs.Imports.{◌≡◌, ℕ, ◌+◌, ◌<◌, List, [], ◌∷◌, ◌++◌, length, map, get_or, refl, sym, ap}
+use Rattle.polling_world.proofs.Imports.{◌∙◌, arith, length-append, codes, slice_get, count_by, if◌then◌else◌, fold}
+use Rattle.polling_world.proofs.Imports.{length-map, length-take-le, All-map, slice_get_within, get_or_from_slice_get}
+use Rattle.polling_world.proofs.Imports.{sha256, length-sha256, parameters, u32str, length-u32str, lms_typecode}
+use Rattle.polling_world.proofs.Imports.{Secret, public_of, lms_public, node, Post, AreDistinct, HaveText, IsName}
+use Rattle.polling_world.proofs.Imports.{is_supervisor, HasKey, roster_tree, text_of, key_at, key_is, Cast0, Script}
+use Rattle.polling_world.proofs.Imports.{IsLawful, machine_id, key_of, post_of, roster_of, election_of, length-node}
+use Rattle.std.specs.Prelude.{Some}
+use Rattle.std.proofs.lemmas.List.{get_or-map}
 
 -- a public key has 56 octets
 length-public : (s : Secret) → length s.id ≡ 16 → length (public_of s) ≡ 56

@@ -1,30 +1,17 @@
 -- The rules of a role.
-use Rattle.std.proofs.Common.{◌≡◌, ℕ, List, [], ◌∷◌, ◌++◌, refl, subst, inl, inr}
-use Rattle.std.specs.Prelude.{Result, Err, IsTrue, ◌↔◌}
-use Rattle.entry_format.specs.declared.deed.Deed.{Deed}
-use Rattle.entry_format.specs.declared.deed.Deed.TheVariants.{Opened, Authorise, Override, Closed, Activate, Commit}
-use Rattle.entry_format.specs.declared.deed.Deed.TheVariants.{Cast, Cancel, Challenge}
-use Rattle.entry_format.specs.declared.entry.Entry.{Entry}
-use Rattle.entry_format.specs.SealedEntry.{SealedEntry}
-use Rattle.entry_order.specs.declared.event.Event.{Event}
-use Rattle.roster.specs.declared.post.Role.{Role}
-use Rattle.roster.specs.declared.post.Role.TheVariants.{Supervisor, Booth}
-use Rattle.first_cause.specs.Causes.{IsFirstOf}
-use Rattle.entry_format.specs.Deeds.{IsDeedOf}
+use Rattle.polling_world.proofs.Imports.{◌≡◌, ℕ, List, [], ◌∷◌, ◌++◌, refl, subst, inl, inr, IsTrue, ◌↔◌, Deed}
+use Rattle.polling_world.proofs.Imports.{Opened, Authorise, Override, Closed, Activate, Commit, Cast, Cancel}
+use Rattle.polling_world.proofs.Imports.{Challenge, Entry, SealedEntry, Event, Role, Supervisor, Booth, IsFirstOf}
+use Rattle.polling_world.proofs.Imports.{IsDeedOf, BoothNot, Rules, IsDeedFor, StandFor, LeftWhy, MachineState}
+use Rattle.polling_world.proofs.Imports.{needs_whole, RoleRefuses, Refuses, IsGoing, IsWhy}
+use Rattle.std.specs.Prelude.{Result, Err}
 use Rattle.booth_core.specs.Table as booth
-use Rattle.booth_core.specs.declared.state.BoothNot.{BoothNot}
 use Rattle.supervisor_core.specs.Notes as supervisor_notes
 use Rattle.supervisor_core.specs.State as supervisor_state
 use Rattle.booth_core.specs.Notes as booth_notes
 use Rattle.booth_core.specs.State as booth_state
-use Rattle.polling_world.specs.declared.rules.Rules.{Rules}
 use Rattle.polling_world.specs.declared.rules.Rules.TheVariants as rules
-use Rattle.polling_world.specs.Kept.{IsDeedFor, StandFor}
-use Rattle.polling_world.specs.declared.left.LeftWhy.{LeftWhy}
 use Rattle.polling_world.specs.declared.left.LeftWhy.TheVariants as left
-use Rattle.polling_world.specs.Machines.{MachineState}
-use Rattle.polling_world.specs.Rules.{needs_whole, RoleRefuses, Refuses}
-use Rattle.polling_world.specs.Waiting.{IsGoing, IsWhy}
 
 -- a deed of the role is one that its rules are for
 pub deed_for : (state : Rules) (role : Role) (owner : ℕ) (entries : List Entry) (deed : Deed) →

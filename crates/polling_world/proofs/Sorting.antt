@@ -1,32 +1,20 @@
 -- Ranked steps, once they are sorted by rank, are the steps of the merged order.
-use Rattle.std.proofs.Common.{◌≡◌, ◌∙◌, ℕ, suc, ◌+◌, Bool, false, List, [], ◌∷◌, map, length, get_or, set}
-use Rattle.std.proofs.Common.{refl, sym, ap, subst, arith, swap}
-use Rattle.std.specs.List.{Contains, IsDistinct}
-use Rattle.std.specs.List.Sorted.{IsPermutation, IsSortedBy, IsSortedByKey}
-use Rattle.std.specs.Str.{bytes_eq}
-use Rattle.std.specs.Cmp.Lexicographic.{slice_cmp}
-use Rattle.std.specs.Ordering.{nat_cmp, is_lt}
-use Rattle.std.specs.declared.cmp.Ordering.TheVariants.{Less}
+use Rattle.polling_world.proofs.Imports.{◌≡◌, ◌∙◌, ℕ, suc, ◌+◌, Bool, false, List, [], ◌∷◌, map, length, get_or, set}
+use Rattle.polling_world.proofs.Imports.{refl, sym, ap, subst, arith, swap, Contains, IsDistinct, IsPermutation}
+use Rattle.polling_world.proofs.Imports.{IsSortedBy, IsSortedByKey, bytes_eq, slice_cmp, nat_cmp, is_lt, Less}
+use Rattle.polling_world.proofs.Imports.{true≢false, nat_list_cmp_total, nat_list_eq_equiv, map-set, length-map}
+use Rattle.polling_world.proofs.Imports.{sorted_far, ranks_by, IsPermutation-map, IsPermutation-refl}
+use Rattle.polling_world.proofs.Imports.{IsPermutation-swap, IsPermutation-trans, IsPermutation-keeps}
+use Rattle.polling_world.proofs.Imports.{IsPermutation-sym, Contains-permutation, IsDistinct-IsPermutation}
+use Rattle.polling_world.proofs.Imports.{IsDistinct-tail, apart_from_distinct, bytes_eq-Decides, Node, World}
+use Rattle.polling_world.proofs.Imports.{PlacedEvent, sort_key, IsInSortOrder, IsMergedOf, step_of, below, RankedStep}
+use Rattle.polling_world.proofs.Imports.{ranked_step, AreRanked}
 use Rattle.std.proofs.Math.ListN.{get_or-map}
-use Rattle.std.proofs.lemmas.Bool.{true≢false}
-use Rattle.std.proofs.lemmas.Cmp.{nat_list_cmp_total, nat_list_eq_equiv}
-use Rattle.std.proofs.lemmas.List.{map-set, length-map}
-use Rattle.std.proofs.lemmas.List.Sorted.{sorted_far, ranks_by, IsPermutation-map, IsPermutation-refl}
-use Rattle.std.proofs.lemmas.List.Sorted.{IsPermutation-swap, IsPermutation-trans, IsPermutation-keeps}
-use Rattle.std.proofs.lemmas.List.Sorted.{IsPermutation-sym, Contains-permutation}
-use Rattle.std.proofs.lemmas.Map.Keys.{IsDistinct-IsPermutation, IsDistinct-tail, apart_from_distinct}
-use Rattle.std.proofs.lemmas.Slice.Eq.{bytes_eq-Decides}
-use Rattle.entry_order.specs.Node.{Node}
-use Rattle.entry_order.specs.World.{World}
-use Rattle.entry_order.specs.Merged.{PlacedEvent, sort_key, IsInSortOrder, IsMergedOf, step_of}
-use Rattle.entry_order.proofs.Comparisons.{below}
-use Rattle.polling_world.specs.declared.merging.RankedStep.{RankedStep}
-use Rattle.polling_world.specs.inside.Ranked.{ranked_step, AreRanked}
 
--- ---- what moves behind a function
+-- ---- what moves under a function
 
 module _ {X Y : Type 0} (f : X → Y) where
-  -- two elements change places behind a function
+  -- two elements change places under a function
   map-swap : (xs : List X) (i j : ℕ) → map f (swap xs i j) ≡ swap (map f xs) i j
   map-swap [] i j = refl
   map-swap (d ∷ xs) i j =

@@ -1,37 +1,19 @@
 -- What a step does is what the world's step is.
-use Rattle.std.proofs.Common.{◌≡◌, ◌≢◌, ◌∙◌, ℕ, inl, inr, List, [], ◌∷◌, length}
-use Rattle.std.proofs.Common.{Some, None, Option, Ok, Err, Bool, true, false, cond, refl, sym, ap, subst, arith}
-use Rattle.std.specs.Prelude.{◌||◌, not, nat_le}
-use Rattle.std.proofs.lemmas.Bool.{leb-false, not-true, lt-leb}
-use Rattle.first_cause.specs.Causes.{IsFirstOf}
-use Rattle.entry_format.specs.declared.deed.Deed.{Deed}
-use Rattle.entry_format.specs.Nodes.{node_of_sealed}
-use Rattle.entry_format.specs.SealedEntry.{SealedEntry}
-use Rattle.entry_order.specs.declared.event.Event.{Event}
-use Rattle.entry_order.specs.declared.event.Event.TheVariants.{Sent, Got}
-use Rattle.entry_order.specs.History.{held}
-use Rattle.entry_order.specs.Naming.{IsNew, has_digest}
-use Rattle.entry_order.specs.World.{Machine, append, send, hear}
-use Rattle.entry_order.proofs.Naming.{has_digest_of, has_digest_from}
+use Rattle.polling_world.proofs.Imports.{◌≡◌, ◌≢◌, ◌∙◌, ℕ, inl, inr, List, [], ◌∷◌, length, Bool, true, false, cond}
+use Rattle.polling_world.proofs.Imports.{refl, sym, ap, subst, arith, nat_le, leb-false, not-true, lt-leb, IsFirstOf}
+use Rattle.polling_world.proofs.Imports.{Deed, node_of_sealed, SealedEntry, Event, Sent, Got, held, IsNew, has_digest}
+use Rattle.polling_world.proofs.Imports.{Machine, append, send, hear, has_digest_of, has_digest_from, Role}
+use Rattle.polling_world.proofs.Imports.{Supervisor, Booth, Acted, MachineHeard, LeftWhy, IsActed, IsHeard}
+use Rattle.polling_world.proofs.Imports.{machine_after, Config, MachineState, has_stopped, next_entry, RoleRefuses}
+use Rattle.polling_world.proofs.Imports.{Refuses, MayDo, entries_in, IsWholeHistory, MaySend, next_action}
+use Rattle.polling_world.proofs.Imports.{IsStampSpent, machine_of, IsNextOf}
+use Rattle.std.proofs.Common.{Some, None, Option, Ok, Err}
+use Rattle.std.specs.Prelude.{◌||◌, not}
 use Rattle.supervisor_core.specs.Table as supervisor
 use Rattle.booth_core.specs.Table as booth
-use Rattle.roster.specs.declared.post.Role.{Role}
-use Rattle.roster.specs.declared.post.Role.TheVariants.{Supervisor, Booth}
-use Rattle.polling_world.specs.declared.acted.Acted.{Acted}
 use Rattle.polling_world.specs.declared.acted.Acted.TheVariants as acted
-use Rattle.polling_world.specs.declared.heard.MachineHeard.{MachineHeard}
 use Rattle.polling_world.specs.declared.heard.MachineHeard.TheVariants as heard
-use Rattle.polling_world.specs.declared.left.LeftWhy.{LeftWhy}
 use Rattle.polling_world.specs.declared.left.LeftWhy.TheVariants as left
-use Rattle.polling_world.specs.Acting.{IsActed}
-use Rattle.polling_world.specs.Hearing.{IsHeard, machine_after}
-use Rattle.polling_world.specs.Configs.{Config}
-use Rattle.polling_world.specs.Machines.{MachineState, has_stopped}
-use Rattle.polling_world.specs.Making.{next_entry}
-use Rattle.polling_world.specs.Rules.{RoleRefuses, Refuses, MayDo, entries_in, IsWholeHistory}
-use Rattle.polling_world.specs.Sending.{MaySend, next_action}
-use Rattle.polling_world.specs.Waiting.{IsStampSpent}
-use Rattle.polling_world.specs.Worlds.{machine_of, IsNextOf}
 use Rattle.polling_world.proofs.Placing.{machine_of-event}
 
 -- ---- one answer
@@ -66,7 +48,7 @@ send_stopped : (o : Option SealedEntry) (a : Machine SealedEntry) → a.stopped 
 send_stopped None a is = refl
 send_stopped (Some e) a is = ap (λ (b : Bool). cond b a (append (Sent e) a)) is
 
--- a machine that is going sends what it is told
+-- a machine that is going sends what it is given
 send_going : (o : Option SealedEntry) (a : Machine SealedEntry) (e : SealedEntry) → o ≡ Some e → a.stopped ≡ false →
     send o a ≡ append (Sent e) a
 send_going o a e is going =
@@ -82,7 +64,7 @@ module _ (config : Config) (h : List (Event SealedEntry)) where
   one_may e f may also =
       may.made ∙ ap (next_entry config h) (same_deed may.deed also.deed may.action also.action) ∙ sym also.made
 
-  -- what is told to be sent is what may be
+  -- what is given to be sent is what may be
   next_is : (o : Option SealedEntry) (e : SealedEntry) → IsNextOf config h o → MaySend config h e → o ≡ Some e
   next_is None e told may = absurd (told e may)
   next_is (Some f) e told may = ap (λ (g : SealedEntry). Some g) (one_may f e told may)

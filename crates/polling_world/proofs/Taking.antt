@@ -1,20 +1,10 @@
 -- Whether a machine takes an entry.
-use Rattle.std.proofs.Common.{◌≡◌, ◌≢◌, ◌∙◌, ◌<◌, ◌≤◌, ℕ, Bool, true, false, List, Some, length, get_or, ltb}
-use Rattle.std.proofs.Common.{refl, sym, ap, arith}
-use Rattle.std.proofs.lemmas.Bool.Decides.{Decides-ltb}
-use Rattle.std.specs.Prelude.{IsTrue, ◌↔◌, slice_get}
-use Rattle.std.proofs.lemmas.Option.{slice_get-get_or}
-use Rattle.entry_format.specs.Nodes.{node_of_sealed}
-use Rattle.entry_format.specs.SealedEntry.{SealedEntry}
-use Rattle.entry_order.specs.History.{held}
-use Rattle.entry_order.specs.Naming.{IsBorneIn, IsNew}
-use Rattle.polling_world.specs.declared.heard.MachineHeard.{MachineHeard}
-use Rattle.polling_world.specs.declared.heard.MachineHeard.TheVariants.{Taken, Stopped, Own, Already, Full}
-use Rattle.polling_world.specs.Hearing.{IsHeard}
-use Rattle.polling_world.specs.Machines.{MachineState, has_stopped}
-use Rattle.polling_world.specs.declared.stepped.Stepped.TheVariants.{Nothing}
-use Rattle.polling_world.specs.Steps.{IsGiven}
-use Rattle.polling_world.specs.Waiting.{IsGoing}
+use Rattle.std.proofs.Common.{Some}
+use Rattle.polling_world.proofs.Imports.{◌≡◌, ◌≢◌, ◌∙◌, ◌<◌, ◌≤◌, ℕ, Bool, true, false, List, length, get_or, ltb}
+use Rattle.polling_world.proofs.Imports.{refl, sym, ap, arith, Decides-ltb, IsTrue, ◌↔◌, slice_get, slice_get-get_or}
+use Rattle.polling_world.proofs.Imports.{node_of_sealed, SealedEntry, held, IsBorneIn, IsNew, MachineHeard, Stopped}
+use Rattle.polling_world.proofs.Imports.{IsHeard, MachineState, has_stopped, Nothing, IsGiven, IsGoing}
+use Rattle.polling_world.specs.declared.heard.MachineHeard.TheVariants.{Taken, Own, Already, Full}
 use Rattle.polling_world.proofs.Placing.{set_same}
 
 -- the test of two numbers, by equal ones
@@ -38,12 +28,12 @@ module _ (m : MachineState) (e : SealedEntry) where
   pub told_own : IsGoing m → (node_of_sealed e).maker ≡ m.config.number → IsTold m e false
   told_own going own = (Own e, (going, (refl, own)), (λ t. cc, λ taken. cc))
 
-  -- nor one that it holds
+  -- a machine does not take an entry that it already holds
   pub told_already : IsGoing m → (node_of_sealed e).maker ≢ m.config.number →
       IsBorneIn node_of_sealed (held m.events) (node_of_sealed e).digest → IsTold m e false
   told_already going other borne = (Already e, (going, (refl, other, borne)), (λ t. cc, λ taken. cc))
 
-  -- it takes a new entry of another's exactly where its log has room
+  -- it takes a new entry of another's exactly when its log has room
   pub told_room : IsGoing m → (node_of_sealed e).maker ≢ m.config.number → IsNew node_of_sealed (held m.events) e →
       length m.events ≤ m.config.log → (room : Bool) → (IsTrue room ↔ (length m.events < m.config.log)) →
       IsTold m e room

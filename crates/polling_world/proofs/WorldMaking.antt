@@ -1,30 +1,14 @@
 -- The machines of a script before anything happened are a world.
-use Rattle.std.proofs.Common.{◌≡◌, ◌∙◌, ℕ, zero, suc, ◌+◌, ◌≤◌, ◌⊎◌, inl, inr, List, [], ◌∷◌, ◌++◌, length, map}
-use Rattle.std.proofs.Common.{Some, None, refl, sym, ap, subst, arith, drop}
-use Rattle.std.specs.Prelude.{slice_get}
-use Rattle.std.specs.List.{Contains}
-use Rattle.std.proofs.Common.{length-append, add-one}
-use Rattle.std.proofs.lemmas.Option.{slice_get_within}
-use Rattle.std.specs.List.{enumerate_from}
-use Rattle.entry_format.specs.Nodes.{node_of_sealed}
-use Rattle.entry_format.specs.SealedEntry.{SealedEntry}
-use Rattle.entry_order.specs.declared.event.Event.{Event}
-use Rattle.entry_order.specs.declared.event.Event.TheVariants.{Sent, Got}
-use Rattle.entry_order.specs.History.{IsLegal}
-use Rattle.entry_order.specs.World.{history}
-use Rattle.entry_order.proofs.Lists.{Contains-none}
-use Rattle.entry_order.proofs.Orders.{sent_in_cases}
-use Rattle.entry_order.proofs.Histories.{IsLegal-none}
-use Rattle.election_script.specs.declared.script.Cast0.{Cast0}
-use Rattle.election_script.specs.declared.script.Script.{Script}
-use Rattle.election_script.specs.Lawful.{IsLawful}
-use Rattle.lms_sign.specs.Secret.{Secret}
-use Rattle.polling_world.specs.Configs.{Config, config_of, script_configs}
-use Rattle.polling_world.specs.Keys.{key_of, IsKeyOf, roster_of}
-use Rattle.polling_world.specs.Machines.{MachineState, IsFresh}
-use Rattle.polling_world.specs.Worlds.{world_of, configs_of, AreFresh, IsPlaced, IsWorld}
+use Rattle.polling_world.proofs.Imports.{◌≡◌, ◌∙◌, ℕ, zero, suc, ◌+◌, ◌≤◌, ◌⊎◌, inl, inr, List, [], ◌∷◌, ◌++◌, length}
+use Rattle.polling_world.proofs.Imports.{map, refl, sym, ap, subst, arith, drop, slice_get, Contains, length-append}
+use Rattle.polling_world.proofs.Imports.{add-one, slice_get_within, enumerate_from, node_of_sealed, SealedEntry}
+use Rattle.polling_world.proofs.Imports.{Event, Sent, Got, IsLegal, history, Contains-none, sent_in_cases}
+use Rattle.polling_world.proofs.Imports.{IsLegal-none, Cast0, Script, IsLawful, Secret, Config, config_of}
+use Rattle.polling_world.proofs.Imports.{script_configs, key_of, IsKeyOf, roster_of, MachineState, IsFresh, world_of}
+use Rattle.polling_world.proofs.Imports.{configs_of, AreFresh, IsPlaced, IsWorld}
+use Rattle.std.proofs.Common.{Some, None}
 
--- what stands first in the rest of a list that was mapped
+-- what is first in the rest of a list that was mapped
 pub rest_step : {X Y : Type 0} (f : X → Y) (xs : List X) (n : ℕ) (y : Y) (ys : List Y) →
     map f (drop n xs) ≡ y ∷ ys →
     (x : X) × (slice_get xs n ≡ Some x) × (y ≡ f x) × (map f (drop (suc n) xs) ≡ ys)
@@ -39,7 +23,7 @@ rest_none f [] n e = omega arith
 rest_none f (x ∷ xs) zero e = cc
 rest_none f (x ∷ xs) (suc n) e = let rest = rest_none f xs n e in omega (arith, rest)
 
--- what stands in a list with one more at its end
+-- what is in a list with one more at its end
 pub push_cases : {X : Type 0} (xs : List X) (x y : X) (n : ℕ) → slice_get (xs ++ x ∷ []) n ≡ Some y →
     (slice_get xs n ≡ Some y) ⊎ ((n ≡ length xs) × (y ≡ x))
 push_cases [] x y zero e = inr (refl, cc)
@@ -79,7 +63,7 @@ module _ (script : Script) (ms : List MachineState)
   none_there n x c =
       Contains-none x (subst (λ (h : List (Event SealedEntry)). Contains h x) (no_events n) c)
 
-  -- so the machines are a world
+  -- the machines made for a lawful script are a world under the script's roster
   pub fresh_world : IsLawful script → length ms ≤ length script.machines → IsWorld (roster_of script) ms
   fresh_world lawful count = record {
     log = script.log;

@@ -1,49 +1,27 @@
 -- Each step leads from a world to a world, as the world's step does.
-use Rattle.std.proofs.Common.{◌≡◌, ◌≢◌, ◌∙◌, ℕ, zero, suc, ◌≤◌, ◌<◌, ◌⊎◌, inl, inr, List, [], ◌∷◌, ◌++◌}
-use Rattle.std.proofs.Common.{length, Some, Option, Bool, true, false, cond, refl, sym, ap, subst, arith}
-use Rattle.std.proofs.Common.{length-append, Result, Ok, Err}
-use Rattle.std.specs.declared.alloc.AllocError.{AllocError}
-use Rattle.std.specs.Prelude.{slice_get, slice_set, ◌==◌, ◌↔◌, IfOk, OnErr}
-use Rattle.std.specs.List.{Contains}
-use Rattle.std.proofs.lemmas.Bool.{eqb-true, eqb-false}
-use Rattle.std.proofs.lemmas.List.{length-set, length-map}
-use Rattle.std.proofs.lemmas.Option.{slice_get_within, get_or_from_slice_get}
-use Rattle.entry_format.specs.Nodes.{node_of_sealed}
-use Rattle.entry_format.specs.SealedEntry.{SealedEntry}
-use Rattle.entry_order.specs.declared.event.Event.{Event}
-use Rattle.entry_order.specs.declared.event.Event.TheVariants.{Sent, Got}
-use Rattle.entry_order.specs.declared.step.Step.{Step}
-use Rattle.entry_order.specs.declared.step.Step.TheVariants.{Act, Hear, Stop}
-use Rattle.entry_order.specs.History.{held, sent, greatest_stamp, MayFollow}
-use Rattle.entry_order.specs.Naming.{IsNew}
-use Rattle.entry_order.specs.Receipt.{IsOrderly}
-use Rattle.entry_order.specs.World.{Machine, World, history, sent_in, with_machine, append, stop, send, hear, happens}
-use Rattle.entry_order.proofs.Orders.{member_split, Contains-sent_cases}
-use Rattle.entry_order.proofs.Places.{one_at}
-use Rattle.roster.specs.declared.post.Post.{Post}
-use Rattle.roster.specs.Machines.{max_machines}
-use Rattle.polling_world.specs.declared.acted.Acted.{Acted}
+use Rattle.polling_world.proofs.Imports.{◌≡◌, ◌≢◌, ◌∙◌, ℕ, zero, suc, ◌≤◌, ◌<◌, ◌⊎◌, inl, inr, List, [], ◌∷◌, ◌++◌}
+use Rattle.polling_world.proofs.Imports.{length, Bool, true, false, cond, refl, sym, ap, subst, arith, length-append}
+use Rattle.polling_world.proofs.Imports.{AllocError, slice_get, slice_set, ◌==◌, ◌↔◌, IfOk, OnErr, Contains, eqb-true}
+use Rattle.polling_world.proofs.Imports.{eqb-false, length-set, length-map, slice_get_within, get_or_from_slice_get}
+use Rattle.polling_world.proofs.Imports.{node_of_sealed, SealedEntry, Event, Sent, Got, Step, Act, Hear, Stop, held}
+use Rattle.polling_world.proofs.Imports.{sent, greatest_stamp, MayFollow, IsNew, IsOrderly, Machine, World, history}
+use Rattle.polling_world.proofs.Imports.{sent_in, with_machine, append, stop, send, hear, happens, member_split}
+use Rattle.polling_world.proofs.Imports.{Contains-sent_cases, one_at, Post, max_machines, Acted, MachineHeard}
+use Rattle.polling_world.proofs.Imports.{Stepped, Did, Nothing, IsActed, IsHeard, machine_after, MachineState}
+use Rattle.polling_world.proofs.Imports.{has_stopped, with_event, MaySend, stepped_by, stepped_in, ActsAt, IsGiven}
+use Rattle.polling_world.proofs.Imports.{HearsAt, StopsMachine, StepsBy, IsStampSpent, Config, machine_of, world_of}
+use Rattle.polling_world.proofs.Imports.{configs_of, stops_of, HaveLog, IsNextAt, IsPlaced, IsWorld, TellsNext}
+use Rattle.polling_world.proofs.Imports.{WorldState, max_events}
+use Rattle.std.proofs.Common.{Some, Option}
+use Rattle.std.proofs.Common.{Result, Ok, Err}
 use Rattle.polling_world.specs.declared.acted.Acted.TheVariants as acted
-use Rattle.polling_world.specs.declared.heard.MachineHeard.{MachineHeard}
 use Rattle.polling_world.specs.declared.heard.MachineHeard.TheVariants as heard
-use Rattle.polling_world.specs.declared.stepped.Stepped.{Stepped}
-use Rattle.polling_world.specs.declared.stepped.Stepped.TheVariants.{Did, Nothing}
-use Rattle.polling_world.specs.Acting.{IsActed}
-use Rattle.polling_world.specs.Hearing.{IsHeard, machine_after}
-use Rattle.polling_world.specs.Machines.{MachineState, has_stopped, with_event}
-use Rattle.polling_world.specs.Sending.{MaySend}
-use Rattle.polling_world.specs.Steps.{stepped_by, stepped_in, ActsAt, IsGiven, HearsAt, StopsMachine, StepsBy}
-use Rattle.polling_world.specs.Waiting.{IsStampSpent}
-use Rattle.polling_world.specs.Configs.{Config}
-use Rattle.polling_world.specs.Worlds.{machine_of, world_of, configs_of, stops_of, HaveLog, IsNextAt, IsPlaced, IsWorld}
-use Rattle.polling_world.specs.Worlds.{TellsNext, WorldState}
 use Rattle.polling_world.proofs.Growing.{sent_in_stop, sent_in-grown_cases, sent_in-count, sent_in_few, held_stamps}
 use Rattle.polling_world.proofs.Growing.{held_greatest, IsOrderly-stop, IsOrderly-append}
 use Rattle.polling_world.proofs.MadeEntries.{may_follow}
 use Rattle.polling_world.proofs.Placing.{sent_at_sent, get-map, get-map_from, map-set_same, set_same, set_get}
 use Rattle.polling_world.proofs.Placing.{set_cases, world_of-set, history_there, machine_of-event, machine_of-stop}
 use Rattle.polling_world.proofs.Stepping.{act_is, hear_is}
-use Rattle.election_script.specs.Lawful.{max_events}
 
 -- a world with this roster and these machines
 abbrev pub state_of : List Post → List MachineState → WorldState
@@ -54,11 +32,11 @@ pub record KeepsWorld (posts : List Post) (old : List MachineState) (stepped : S
     : Type 0 where
   -- the machines are a world again
   pub world : IsWorld posts new
-  -- nothing happened exactly where no machine has changed
+  -- nothing happened exactly when no machine has changed
   pub nothing : (stepped ≡ Nothing) ↔ (new ≡ old)
   -- they are made of what they were
   pub configs : configs_of new ≡ configs_of old
-  -- and stop where they would
+  -- the machines stop where they did before
   pub stops : stops_of new ≡ stops_of old
 
 -- it is the world's step
@@ -425,13 +403,13 @@ pub record AfterStep (posts : List Post) (old : WorldState) (step : Step) (resul
     (new : List MachineState) : Type 0 where
   -- the machines are a world
   pub world : IsWorld posts new
-  -- where no memory is wanting, they did the world's step
+  -- with enough memory, they did the world's step
   pub ok : IfOk result (λ _. Happens old.machines step new)
-  -- nothing happened exactly where the state is as it was
+  -- nothing happened exactly when the state is as it was
   pub nothing : IfOk result (λ stepped. (stepped ≡ Nothing) ↔ (state_of posts new ≡ old))
   -- the machines are made of what they were
   pub configs : configs_of new ≡ configs_of old.machines
-  -- and stop where they would
+  -- the machines stop where they did before
   pub stops : stops_of new ≡ stops_of old.machines
 
 -- a step that was taken, or failed and left all as it was, is as contracts say
@@ -458,7 +436,7 @@ after_step_of posts ms step (Err e) new world by same = record {
   stops = ap stops_of same;
 }
 
--- the same of the state that the code holds
+-- a step that was taken, or failed and left all as it was, is as contracts say of the state that the code holds
 pub after_step : (posts : List Post) (ms : List MachineState) (old : WorldState) (step : Step)
     (result : Result Stepped AllocError) (new : List MachineState) → state_of posts ms ≡ old → IsWorld posts ms →
     IfOk result (λ stepped. StepsBy step ms stepped new) → OnErr result (new ≡ ms) →

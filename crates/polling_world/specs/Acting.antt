@@ -39,8 +39,8 @@ pub record IsDone (old : MachineState) (receivers number : ℕ) (copies : List S
   pub copied : copies ≡ replicate receivers entry
   pub changed : new ≡ with_event (Sent entry) old
 
--- The first of the causes that applies is told, and then the machine is as it was; where none does the next action is
--- done.
+-- The first of the causes that applies is reported, and then the machine is as it was; where none does the next action
+-- is done.
 abbrev pub IsActed : MachineState → ℕ → Acted → MachineState → Type 0
 IsActed old receivers (Did number copies) new = IsDone old receivers number copies.items new
 IsActed old receivers Stopped new = IsTrue (has_stopped old) × (new ≡ old)

@@ -38,7 +38,7 @@ config_of script number cast = record {
 abbrev pub script_configs : Script → List Config
 script_configs script = map (λ at. config_of script at.0 at.1) (enumerate_from 0 script.machines)
 
--- it is what the script gives the machine at its place
+-- the configuration is the one that the script gives the machine at its place
 abbrev pub IsOf : Script → Config → Type 0
 IsOf script config =
     (cast : Cast0) × (slice_get script.machines config.number ≡ Some cast)

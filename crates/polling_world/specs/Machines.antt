@@ -37,7 +37,7 @@ abbrev pub is_reached : Option ℕ → ℕ → Bool
 is_reached None count = false
 is_reached (Some stop) count = nat_le stop count
 
--- it was stopped, or has as many events as it stops at
+-- whether the machine was stopped, or has as many events as it stops at
 abbrev pub has_stopped : MachineState → Bool
 has_stopped m = m.marked || is_reached m.stop (length m.events)
 

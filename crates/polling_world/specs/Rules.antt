@@ -37,12 +37,13 @@ needs_whole (Cast session ballot) = true
 needs_whole (Cancel session) = false
 needs_whole (Challenge session ballot) = true
 
--- what a supervisor's rules answer, and what a booth's do; they give no other cause
+-- what the rules of a supervisor answer to a deed; they give no other cause
 abbrev pub SupervisorRefuses : ℕ → List Entry → Deed → Result (Unit {0}) LeftWhy → Type 0
 SupervisorRefuses owner entries deed (Ok done) = supervisor.Refuses owner entries deed (Ok done)
 SupervisorRefuses owner entries deed (Err (SupervisorNot why)) = supervisor.Refuses owner entries deed (Err why)
 SupervisorRefuses owner entries deed (Err _) = ⊥
 
+-- what the rules of a booth answer to a deed; they give no other cause
 abbrev pub BoothRefuses : ℕ → List Entry → Type 0 → Deed → Result (Unit {0}) LeftWhy → Type 0
 BoothRefuses owner entries IsWhole deed (Ok done) = booth.Refuses owner entries IsWhole deed (Ok done)
 BoothRefuses owner entries IsWhole deed (Err (BoothNot why)) = booth.Refuses owner entries IsWhole deed (Err why)
@@ -53,10 +54,10 @@ abbrev pub RoleRefuses : Role → ℕ → List (Event SealedEntry) → Deed → 
 RoleRefuses Supervisor owner h deed answer = SupervisorRefuses owner (entries_in h) deed answer
 RoleRefuses Booth owner h deed answer = BoothRefuses owner (entries_in h) (IsWholeHistory h) deed answer
 
--- what they answer to the machine
+-- what the rules of a machine's role answer to its deed
 abbrev pub Refuses : Config → List (Event SealedEntry) → Deed → Result (Unit {0}) LeftWhy → Type 0
 Refuses config h deed answer = RoleRefuses config.role config.number h deed answer
 
--- they give no cause
+-- the rules give no cause against the deed
 abbrev pub MayDo : Config → List (Event SealedEntry) → Deed → Type 0
 MayDo config h deed = Refuses config h deed (Ok tt)

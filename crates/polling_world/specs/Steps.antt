@@ -17,7 +17,7 @@ use Rattle.polling_world.specs.Hearing.{IsHeard, machine_after}
 use Rattle.polling_world.specs.Machines.{MachineState, has_stopped}
 use Rattle.polling_world.specs.Worlds.{world_of}
 
--- the step's machines are among so many
+-- the step's machines are among this many
 abbrev pub IsStepOf : ℕ → Step → Type 0
 IsStepOf count (Act machine) = machine < count
 IsStepOf count (Hear at from number) = (at < count) × (from < count)

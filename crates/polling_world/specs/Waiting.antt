@@ -16,15 +16,15 @@ use Rattle.polling_world.specs.Sending.{next_action}
 abbrev pub IsGoing : MachineState → Type 0
 IsGoing m = IsTrue (not (has_stopped m))
 
--- its log has room
+-- the machine's log has room
 abbrev pub HasRoom : MachineState → Type 0
 HasRoom m = length m.events < m.config.log
 
--- it holds an entry with the greatest stamp that 32 bits hold
+-- the machine holds an entry with the greatest stamp that 32 bits hold
 abbrev pub IsStampSpent : MachineState → Type 0
 IsStampSpent m = HasGreatestStamp node_of_sealed (held m.events)
 
--- nothing stands against the deed
+-- nothing prevents the deed
 pub record IsReady (m : MachineState) (deed : Deed) : Type 0 where
   pub going : IsGoing m
   pub allowed : MayDo m.config m.events deed
@@ -32,25 +32,25 @@ pub record IsReady (m : MachineState) (deed : Deed) : Type 0 where
   pub stamp : ¬ IsStampSpent m
   pub unspent : length (sent m.events) < 2 ^ m.config.key.height
 
--- the rules refuse the deed for this cause, and no earlier cause stands against it
+-- the rules refuse the deed for this cause, and no earlier cause applies
 pub record IsAgainstRules (m : MachineState) (deed : Deed) (why : LeftWhy) : Type 0 where
   pub going : IsGoing m
   pub refused : Refuses m.config m.events deed (Err why)
 
--- the machine's log is full, and no earlier cause stands against the deed
+-- the machine's log is full, and no earlier cause applies
 pub record IsLogFull (m : MachineState) (deed : Deed) : Type 0 where
   pub going : IsGoing m
   pub allowed : MayDo m.config m.events deed
   pub full : length m.events ≡ m.config.log
 
--- the machine's stamps are spent, and no earlier cause stands against the deed
+-- the machine's stamps are spent, and no earlier cause applies
 pub record HasNoStamp (m : MachineState) (deed : Deed) : Type 0 where
   pub going : IsGoing m
   pub allowed : MayDo m.config m.events deed
   pub room : HasRoom m
   pub stamp : IsStampSpent m
 
--- the machine's key is spent, and no earlier cause stands against the deed
+-- the machine's key is spent, and no earlier cause applies
 pub record IsKeySpent (m : MachineState) (deed : Deed) : Type 0 where
   pub going : IsGoing m
   pub allowed : MayDo m.config m.events deed
@@ -80,7 +80,7 @@ abbrev pub IsLeft : MachineState → Option Left → Type 0
 IsLeft m None = next_action m.config m.events ≡ None
 IsLeft m (Some left) = IsNextLeft m left
 
--- it is told in one way
+-- what is left of a machine's actions is uniquely determined
 abbrev pub WhatIsLeftIsToldInOneWay : Type 0
 WhatIsLeftIsToldInOneWay =
     (machine : MachineState) (left other : Option Left) → IsLeft machine left → IsLeft machine other → left ≡ other

@@ -23,7 +23,7 @@ pub record WorldState : Type 0 where
 abbrev pub machine_of : MachineState → Machine SealedEntry
 machine_of m = record { history = m.events; stopped = has_stopped m }
 
--- those of all machines
+-- the world of machines: each one's history, and whether it has stopped
 abbrev pub world_of : List MachineState → World SealedEntry
 world_of machines = map machine_of machines
 
@@ -35,11 +35,11 @@ configs_of machines = map (λ m. m.config) machines
 abbrev pub stops_of : List MachineState → List (Option ℕ)
 stops_of machines = map (λ m. m.stop) machines
 
--- each log may have so many events
+-- each log may have this many events
 abbrev pub HaveLog : ℕ → List MachineState → Type 0
 HaveLog log machines = All (λ m. m.config.log ≡ log) machines
 
--- the machine's number is its place, it has this roster and a log for so many events, and no stop of its own
+-- the machine's number is its place, it has this roster and a log for this many events, and no stop of its own
 pub record IsPlaced (posts : List Post) (log place : ℕ) (m : MachineState) : Type 0 where
   pub number : m.config.number ≡ place
   pub of_world : m.config.roster ≡ posts
@@ -69,12 +69,12 @@ abbrev pub IsNextOf : Config → List (Event SealedEntry) → Option SealedEntry
 IsNextOf config h None = (e : SealedEntry) → ¬ MaySend config h e
 IsNextOf config h (Some e) = MaySend config h e
 
--- the same of a machine that may not be there
+-- this is what a machine, if it is there, sends after the history; a machine that is not there sends nothing
 abbrev pub IsNextAt : Option Config → List (Event SealedEntry) → Option SealedEntry → Type 0
 IsNextAt None h entry = entry ≡ None
 IsNextAt (Some config) h entry = IsNextOf config h entry
 
--- it tells what each of the machines sends after each history
+-- the function says what each of the machines sends after each history
 abbrev pub TellsNext : List Config → (ℕ → List (Event SealedEntry) → Option SealedEntry) → Type 0
 TellsNext configs next =
     (place : ℕ) (h : List (Event SealedEntry)) → IsNextAt (slice_get configs place) h (next place h)

@@ -1,5 +1,5 @@
-//! Laws about what machines may send, which hold of the definitions alone. Each is the contract of a
-//! function that does nothing.
+//! Laws about what machines may send, which hold of the definitions alone. Each is the contract of
+//! a function that does nothing.
 ghost use Rattle.std.specs.Prelude.{◌≡◌, ℕ, List, Option};
 ghost use Rattle.entry_format.specs.SealedEntry.{SealedEntry};
 ghost use Rattle.entry_order.specs.declared.event.Event.{Event};
@@ -8,7 +8,7 @@ ghost use Rattle.polling_world.specs.Playing.{ScriptsArePlayedInOneWay};
 ghost use Rattle.polling_world.specs.Worlds.{TellsNext};
 ghost use Rattle.polling_world.specs.Waiting.{WhatIsLeftIsToldInOneWay};
 
-/// Of any machines one function tells what each may send after any history, and no other does.
+/// Of any machines one function says what each may send after any history, and no other does.
 pub fn one_function_tells_what_is_sent()
     ensures some { (configs : List Config) →
         (next : ℕ → List (Event SealedEntry) → Option SealedEntry) × TellsNext configs next }
@@ -23,7 +23,7 @@ pub fn scripts_are_played_in_one_way()
     ensures { ScriptsArePlayedInOneWay }
 {}
 
-/// What is left of a machine's actions is told in one way.
+/// What is left of a machine's actions is uniquely determined.
 pub fn what_is_left_is_told_in_one_way()
     ensures { WhatIsLeftIsToldInOneWay }
 {}

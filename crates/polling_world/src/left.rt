@@ -29,7 +29,7 @@ pub enum LeftWhy {
     StampSpent,
     /// Each index of the key has signed.
     Spent,
-    /// Nothing stands against it.
+    /// Nothing prevents it.
     Ready,
 }
 

@@ -1,5 +1,6 @@
 //! A machine of a polling place.
-ghost use Rattle.std.specs.Prelude.{◌≡◌, ◌↔◌, ◌<◌, ◌≤◌, length, true, IfOk, IfSome, IsTrue, OnErr, Some};
+ghost use Rattle.std.specs.Prelude.{◌≡◌, ◌↔◌, ◌<◌, ◌≤◌, length, true, IfOk, IfSome, IsTrue};
+ghost use Rattle.std.specs.Prelude.{OnErr, Some};
 ghost use Rattle.entry_format.specs.Nodes.{node_of_sealed};
 ghost use Rattle.entry_order.specs.declared.event.Event.TheVariants.{Sent};
 ghost use Rattle.entry_order.specs.History.{held, sent};
@@ -28,7 +29,7 @@ use roster::{Name, Role, Roster};
 use std::alloc::{AllocError, Global};
 use std::marker::Model;
 
-/// Want of memory.
+/// Out of memory.
 pub type Memory = AllocError;
 
 /// A machine with what it is to do, its key, its log and the rules of its role. It can't be
@@ -109,10 +110,10 @@ impl Machine {
         })
     }
 
-    /// Does the next action, unless a cause stands against it: then the first is told, and the
-    /// machine stays. The entry names all that is held and that no held entry names. Its signature
-    /// and its copies, one for each receiver, are made before anything changes. Want of memory
-    /// changes nothing either, and is told last.
+    /// Does the next action, unless something prevents it: then the first cause is reported, and
+    /// the machine stays. The entry names all that is held and that no held entry names. Its
+    /// signature and its copies, one for each receiver, are made before anything changes. Running
+    /// out of memory changes nothing either, and is reported last.
     pub fn act(&mut self, alloc: Global, receivers: usize) -> Result<Acted, Memory>
         requires { receivers ≤ 15 }
         ensures ok { IfOk result (λ acted. IsActed self.old receivers acted self.new) }

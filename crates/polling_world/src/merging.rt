@@ -50,7 +50,7 @@ fn rank_all(alloc: Global, machines: &[Machine]) -> Result<Vec<RankedStep>, Memo
     Ok(ranked)
 }
 
-// Puts the steps of one machine's events behind the others.
+// Puts the steps of one machine's events after the others.
 fn rank_events(
     ranked: &mut Vec<RankedStep>,
     machine: usize,

@@ -1,6 +1,7 @@
 //! What a step does to the machines.
 ghost use Rattle.std.specs.Prelude.{◌≡◌, ◌<◌, IfOk, OnErr, vec_len};
-ghost use Rattle.polling_world.specs.Steps.{ActsAt, HearsAt, IsGiven, IsStepOf, StepsBy, StopsMachine};
+ghost use Rattle.polling_world.specs.Steps.{ActsAt, HearsAt, IsGiven, IsStepOf, StepsBy};
+ghost use Rattle.polling_world.specs.Steps.{StopsMachine};
 
 use crate::acted::Acted;
 use crate::heard::MachineHeard;
@@ -30,7 +31,7 @@ pub fn step_in(alloc: Global, machines: &mut Vec<Machine>, step: &Step) -> Resul
     }
 }
 
-/// The machine at this place does its next action, unless a cause stands against it.
+/// The machine at this place does its next action, unless something prevents it.
 fn act_at(alloc: Global, machines: &mut Vec<Machine>, at: usize) -> Result<Stepped, Memory>
     requires { at < vec_len machines.old }
     ensures ok { IfOk result (λ stepped.

@@ -101,8 +101,8 @@ impl World {
     }
 
     /// Does the step, or changes nothing. `Act` is done where the machine does its next action,
-    /// `Hear` where the entry was sent by another machine and is taken, and `Stop` where the machine
-    /// hasn't stopped. Only an entry that is taken is copied.
+    /// `Hear` where the entry was sent by another machine and is taken, and `Stop` where the
+    /// machine hasn't stopped. Only an entry that is taken is copied.
     pub fn step(&mut self, alloc: Global, step: &Step) -> Result<Stepped, Memory>
         requires { IsStepOf (length self.old.machines) step.now }
         ensures ok { IfOk result (λ _.
@@ -143,7 +143,7 @@ impl World {
     }
 
     /// The law of every world: what its type keeps; and where no two entries have one digest, names
-    /// lead from one entry to another exactly where it was held before it.
+    /// lead from one entry to another exactly when it was held before it.
     pub fn order_is_receipt(&self)
         ensures world { IsWorld self.now.roster self.now.machines }
         ensures order { let w = world_of self.now.machines in

@@ -25,7 +25,7 @@ one_of_two (suc zero) (suc (suc v)) a b = absurd (omega arith)
 -- the bits of a row whose first words were united with those of a row that may be shorter
 module _ (words row united : List ℕ) (room : length row ≤ length words) (long : length united ≡ length row)
     (is : (k : ℕ) → get_or united k 0 ≡ bit_or (get_or (take (length row) words) k 0) (get_or row k 0)) where
-  -- a bit of the united words is set exactly where it is in one of the two
+  -- a bit of the united words is set exactly when it is in one of the two
   pub has_united : (y : ℕ) → has_bit (united ++ drop (length row) words) y ≡ (has_bit words y || has_bit row y)
   has_united y = elim (cases_lt (y / 64) (length row)) [ inl low ↦ inside low | inr high ↦ above high ]
     where
@@ -44,7 +44,7 @@ module _ (words row united : List ℕ) (room : length row ≤ length words) (lon
           ∙ ap (λ n. n == 1) (bit_at_or a b (y % 64))
           ∙ one_of_two (bit_at a (y % 64)) (bit_at b (y % 64)) (bit_at-lt a (y % 64)) (bit_at-lt b (y % 64))
 
-      -- behind the shorter row the bits are as they were
+      -- after the shorter row the bits are as they were
       above : length row ≤ y / 64 →
           has_bit (united ++ drop (length row) words) y ≡ (has_bit words y || has_bit row y)
       above high =

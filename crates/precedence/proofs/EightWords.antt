@@ -29,7 +29,7 @@ module _ (xs ys : List ℕ) (at : ℕ) (room : at + 8 ≤ length xs) (same : len
       ∙ ap (λ w. bit_or w (get_or (chunk at 8 ys) j 0)) (get_or-chunk at 8 xs j 0 l)
       ∙ ap (bit_or (get_or xs (at + j) 0)) (get_or-chunk at 8 ys j 0 l)
 
-  -- the words behind the eight stay
+  -- the words after the eight stay
   pub stored_above : (k : ℕ) → at + 8 ≤ k → get_or (put_chunk at xs both) k 0 ≡ get_or xs k 0
   stored_above k l = let long = eight in get_or-put_chunk_above at xs both k 0 (omega arith)
 

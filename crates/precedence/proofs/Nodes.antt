@@ -18,7 +18,7 @@ use Rattle.precedence.proofs.Steps.{any_below, all_below, reaches_by_parents, wh
 pub record HasRows (graph : Graph) (rows : List (List ℕ)) (wholes : List Bool) : Type 0 where
   -- each row has as many words as it needs
   pub words : HasItsWords rows
-  -- the parents of each node stand below it
+  -- the parents of each node are below it
   pub descends : (x : ℕ) → x < length rows → All (λ z. z < x) (graph.parents x)
   -- the row of a node has the bits of its ancestors
   pub bits : (x y : ℕ) → x < length rows → row_has rows x y ≡ reaches graph.parents x y x
@@ -105,7 +105,7 @@ module _ (graph : Graph) (rows : List (List ℕ)) (wholes : List Bool) (have : H
         (omega (arith, length-append rows (row ∷ []), length-append wholes (whole ∷ [])));
   }
 
--- the same where what was read, passed and pushed has names of its own
+-- one node more has its row, where what was read, passed and pushed has names of its own
 pub next_node : (graph : Graph) (rows : List (List ℕ)) (wholes : List Bool) → HasRows graph rows wholes →
     (n : ℕ) → length rows ≡ n → length wholes ≡ n →
     (parents : List ℕ) → parents ≡ graph.parents n → All (λ z. z < n) parents →

@@ -15,7 +15,7 @@ any_below p q n same (z ∷ zs) all =
     ap (λ b. b || list_any p zs) (same z (All-head (λ z. z < n) z zs all))
     ∙ ap (λ b. q z || b) (any_below p q n same zs (All-tail (λ z. z < n) z zs all))
 
--- and hold of all numbers below n or fail together
+-- two tests that agree below n hold alike of all numbers in a list of numbers below n
 pub all_below : (p q : ℕ → Bool) (n : ℕ) → ((z : ℕ) → z < n → p z ≡ q z) →
     (zs : List ℕ) → All (λ z. z < n) zs → list_all p zs ≡ list_all q zs
 all_below p q n same [] all = refl

@@ -75,7 +75,7 @@ pub fn row_of(alloc: Global, rows: &[Row], parents: &[u32]) -> Result<Row, Alloc
     }
 }
 
-// How many words hold a bit for each of so many nodes.
+// How many words hold a bit for each of this number of nodes.
 fn words_for(nodes: usize) -> usize
     ensures words { result ≡ words_below nodes }
     ensures room { nodes ≤ 64 * result }
@@ -83,7 +83,7 @@ fn words_for(nodes: usize) -> usize
     nodes.div_ceil(64)
 }
 
-// A row of so many words without a bit.
+// A row of this number of words without a bit.
 fn empty_row(alloc: Global, count: usize) -> Result<Row, AllocError>
     ensures bits { IfOk result (λ row. (y : ℕ) → has_bit row y ≡ false) }
     ensures words { IfOk result (λ row. length row ≡ count) }

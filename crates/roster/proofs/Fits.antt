@@ -1,14 +1,7 @@
 -- A roster's text is within the limits of canonical texts.
-use Rattle.std.proofs.Common.{◌≡◌, ◌≤◌, List, [], ◌∷◌, length, map, All, refl, arith}
-use Rattle.std.proofs.lemmas.List.Elements.{All-head, All-tail}
-use Rattle.canonical_sexp.specs.Forest.{count_of}
-use Rattle.canonical_sexp.specs.Sexp.{forest_of}
-use Rattle.canonical_sexp.specs.Text.{AreWithin, Fits, max_octets}
-use Rattle.roster.specs.declared.post.Post.{Post}
-use Rattle.roster.specs.declared.post.Role.{Role}
-use Rattle.roster.specs.declared.post.Role.TheVariants.{Supervisor, Booth}
-use Rattle.roster.specs.RosterText.{role_word, post_tree, roster_tree, HasKey}
-use Rattle.roster.specs.Machines.{IsName, HaveText, max_machines, max_name}
+use Rattle.roster.proofs.Imports.{◌≡◌, ◌≤◌, List, [], ◌∷◌, length, map, All, refl, arith, All-head, All-tail}
+use Rattle.roster.proofs.Imports.{count_of, forest_of, AreWithin, Fits, max_octets, Post, Role, Supervisor, Booth}
+use Rattle.roster.proofs.Imports.{role_word, post_tree, roster_tree, HasKey, IsName, HaveText, max_machines, max_name}
 
 -- the word of a role is short enough for an atom
 word_is_short : (role : Role) → length (role_word role) ≤ max_octets

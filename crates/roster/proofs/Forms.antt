@@ -1,15 +1,8 @@
 -- Which fault a text has.
-use Rattle.std.proofs.Common.{◌≡◌, ◌∙◌, ℕ, List, map, ap, sym, subst}
-use Rattle.canonical_sexp.specs.declared.sexp.Sexp.{Sexp}
-use Rattle.canonical_sexp.specs.Text.{text_of, Fits}
-use Rattle.canonical_sexp.proofs.InPlace.{same_text}
-use Rattle.roster.specs.declared.post.Post.{Post}
-use Rattle.roster.specs.declared.faults.RosterFault.{RosterFault}
-use Rattle.roster.specs.declared.faults.RosterFault.TheVariants.{NotCanonical, WrongShape, TooManyMachines}
-use Rattle.roster.specs.declared.faults.RosterFault.TheVariants.{BadName, SameName, NotOneSupervisor, Memory}
-use Rattle.roster.specs.RosterText.{post_tree, roster_tree, IsRosterText}
-use Rattle.roster.specs.Reading.{HasForm, IsMachinesFault, IsFault}
-use Rattle.roster.specs.inside.Raw.{IsRosterTree}
+use Rattle.roster.proofs.Imports.{◌≡◌, ◌∙◌, ℕ, List, map, ap, sym, subst, Sexp, text_of, Fits, same_text, Post}
+use Rattle.roster.proofs.Imports.{RosterFault, NotCanonical, WrongShape, TooManyMachines, BadName, SameName}
+use Rattle.roster.proofs.Imports.{NotOneSupervisor, Memory, post_tree, roster_tree, IsRosterText, HasForm}
+use Rattle.roster.proofs.Imports.{IsMachinesFault, IsFault, IsRosterTree}
 use Rattle.roster.proofs.Trees.{same_behind, one_list}
 
 -- a text has one tree

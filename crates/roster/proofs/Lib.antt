@@ -1,3 +1,4 @@
+mod Imports
 pub mod Trees
 pub mod Raws
 pub mod Forms

@@ -1,15 +1,8 @@
 -- Of the answers to a text, at most one is right.
-use Rattle.std.proofs.Common.{◌≡◌, ℕ, List, Ok, Err, Result, ap, refl, subst}
-use Rattle.canonical_sexp.specs.Reading.{IsCanonical, StopsAt}
-use Rattle.canonical_sexp.proofs.Canonical.{stops_nowhere, one_stop}
-use Rattle.roster.specs.declared.post.Post.{Post}
-use Rattle.roster.specs.declared.rosters.Roster.{Roster}
-use Rattle.roster.specs.declared.faults.RosterFault.{RosterFault}
-use Rattle.roster.specs.declared.faults.RosterFault.TheVariants.{NotCanonical, WrongShape, TooManyMachines}
-use Rattle.roster.specs.declared.faults.RosterFault.TheVariants.{BadName, SameName, NotOneSupervisor, Memory}
-use Rattle.roster.specs.RosterText.{IsRosterText, roster_tree}
-use Rattle.roster.specs.Machines.{AreRoster}
-use Rattle.roster.specs.Reading.{HasForm, IsMachinesFault, IsFault, Reads}
+use Rattle.roster.proofs.Imports.{◌≡◌, ℕ, List, Ok, Err, Result, ap, refl, subst, IsCanonical, StopsAt, stops_nowhere}
+use Rattle.roster.proofs.Imports.{one_stop, Post, Roster, RosterFault, NotCanonical, WrongShape, TooManyMachines}
+use Rattle.roster.proofs.Imports.{BadName, SameName, NotOneSupervisor, Memory, IsRosterText, roster_tree, AreRoster}
+use Rattle.roster.proofs.Imports.{HasForm, IsMachinesFault, IsFault, Reads}
 use Rattle.roster.proofs.Forms.{one_roster}
 
 -- a text of machines is one canonical text, so it stops being one nowhere
@@ -78,7 +71,7 @@ only_not_canonical text at SameName stops (machines, form, _) = absurd (never_st
 only_not_canonical text at NotOneSupervisor stops (machines, form, _) = absurd (never_stops text machines at form stops)
 only_not_canonical text at Memory stops (_, _, never) = absurd never
 
--- a canonical text that hasn't the form of a roster's has that fault alone
+-- a canonical text that doesn't have the form of a roster's has that fault alone
 only_wrong_shape : (text : List ℕ) (fault : RosterFault) → IsCanonical text → (HasForm text → ⊥) →
     IsFault text fault → WrongShape ≡ fault
 only_wrong_shape text (NotCanonical at) whole none is = absurd (stops_nowhere text at whole is)

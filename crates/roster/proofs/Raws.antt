@@ -1,14 +1,9 @@
 -- What is said of machines as they are read, said of the machines that they are.
-use Rattle.std.proofs.Common.{◌≡◌, ◌≢◌, ℕ, zero, suc, ◌<◌, List, [], ◌∷◌, ◌+◌, length, take, if◌then◌else◌}
-use Rattle.std.proofs.Common.{get_or, map, All, refl, sym, ap, subst, ◌∙◌, ⊎_elim, ◌⊎◌, arith}
-use Rattle.std.specs.Prelude.{Any, AllPairs, fold, count_by, IsAscii, IsUtf8}
-use Rattle.std.proofs.lemmas.List.{get_or-map, length-map, get_or-take, get_or_default, length-take}
-use Rattle.std.proofs.lemmas.List.Elements.{All-map, All-head, All-tail}
-use Rattle.std.proofs.lemmas.Str.{IsUtf8-from_ascii}
-use Rattle.roster.specs.declared.post.Post.{Post}
-use Rattle.roster.specs.declared.reading.Raw.{Raw}
-use Rattle.roster.specs.Machines.{IsNameByte, IsName, AreNamed, AreDistinct, is_supervisor}
-use Rattle.roster.specs.inside.Raw.{post_of}
+use Rattle.roster.proofs.Imports.{◌≡◌, ◌≢◌, ℕ, zero, suc, ◌<◌, List, [], ◌∷◌, ◌+◌, length, take, if◌then◌else◌}
+use Rattle.roster.proofs.Imports.{get_or, map, All, refl, sym, ap, subst, ◌∙◌, ⊎_elim, ◌⊎◌, arith, Any, AllPairs}
+use Rattle.roster.proofs.Imports.{fold, count_by, IsAscii, IsUtf8, get_or-map, length-map, get_or-take}
+use Rattle.roster.proofs.Imports.{get_or_default, length-take, All-map, All-head, All-tail, IsUtf8-from_ascii, Post}
+use Rattle.roster.proofs.Imports.{Raw, IsNameByte, IsName, AreNamed, AreDistinct, is_supervisor, post_of}
 
 -- the characters of a name are ASCII
 ascii : (bytes : List ℕ) → All IsNameByte bytes → IsAscii bytes
@@ -38,7 +33,7 @@ RawsDistinct raws = AllPairs (λ (raw other : Raw). raw.name.now ≢ other.name.
 pub named_posts : (raws : List Raw) → RawsNamed raws → AreNamed (map post_of raws)
 named_posts raws all = All-map (λ (post : Post). IsName post.name) post_of raws all
 
--- and the other way round
+-- where the machines have names, they were read with names
 pub named_raws : (raws : List Raw) → AreNamed (map post_of raws) → RawsNamed raws
 named_raws raws all k d within =
     let long : k < length (map post_of raws) = omega (arith, length-map raws post_of) in
@@ -56,7 +51,7 @@ distinct_posts raws all i j d before within same =
     all i j raw before long
     (sym (ap (λ (post : Post). post.name) first) ∙ same ∙ ap (λ (post : Post). post.name) second)
 
--- and the other way round
+-- where the machines have different names, they were read with different names
 pub distinct_raws : (raws : List Raw) → AreDistinct (map post_of raws) → RawsDistinct raws
 distinct_raws raws all i j d before within same =
     let long : j < length (map post_of raws) = omega (arith, length-map raws post_of) in

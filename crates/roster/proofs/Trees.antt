@@ -1,14 +1,7 @@
 -- The trees of machines, one by one.
-use Rattle.std.proofs.Common.{◌≡◌, ℕ, List, [], ◌∷◌, map, refl, ap, sym, ◌∙◌}
-use Rattle.canonical_sexp.specs.declared.sexp.Sexp.{Sexp}
-use Rattle.roster.specs.declared.post.Post.{Post}
-use Rattle.roster.specs.declared.post.Role.{Role}
-use Rattle.roster.specs.declared.post.Role.TheVariants.{Supervisor, Booth}
-use Rattle.roster.specs.RosterText.{role_word, post_tree, headed}
-use Rattle.canonical_sexp.specs.declared.sexp.Sexp.TheVariants.{Atom}
-use Rattle.canonical_sexp.specs.Sexp.{members_of, forest_of}
-use Rattle.canonical_sexp.proofs.Rows.{members_of-forest_of}
-use Rattle.std.specs.Prelude.{codes}
+use Rattle.roster.proofs.Imports.{◌≡◌, ℕ, List, [], ◌∷◌, map, refl, ap, sym, ◌∙◌, Sexp, Post, Role, Supervisor, Booth}
+use Rattle.roster.proofs.Imports.{role_word, post_tree, headed, Atom, members_of, forest_of, members_of-forest_of}
+use Rattle.roster.proofs.Imports.{codes}
 
 -- a list has one row of members
 pub same_behind : (trees others : List Sexp) → headed trees ≡ headed others → trees ≡ others
@@ -37,7 +30,7 @@ one_post post other same =
     ∙ ap (λ (r : Role). record { name = other.name; role = r; key = post.key }) role
     ∙ ap (λ (k : List ℕ). record { name = other.name; role = other.role; key = k }) key
 
--- so a row of trees is that of one list of machines
+-- a row of machines' trees is that of one list of machines
 pub one_list : (posts others : List Post) → map post_tree posts ≡ map post_tree others → posts ≡ others
 one_list [] [] same = refl
 one_list [] (other ∷ others) same = cc

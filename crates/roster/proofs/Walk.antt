@@ -1,16 +1,8 @@
 -- A roster's members as they are walked: the machines so far, and the members that are left.
-use Rattle.std.proofs.Common.{◌≡◌, ◌∙◌, Option, Some, None, List, [], ◌∷◌, ◌++◌, length, map, All, refl, ap, sym}
-use Rattle.std.proofs.Common.{append_assoc, append-nil}
-use Rattle.std.specs.Prelude.{IfNone, IsSome}
-use Rattle.std.proofs.lemmas.List.{map-append, length-map}
-use Rattle.std.proofs.lemmas.List.Elements.{All-head, All-tail, All-push}
-use Rattle.canonical_sexp.specs.declared.sexp.Sexp.{Sexp}
-use Rattle.canonical_sexp.specs.Forest.{Forest, count_of}
-use Rattle.canonical_sexp.specs.Sexp.{members_of}
-use Rattle.canonical_sexp.proofs.Rows.{forest_of-members_of, count_of-forest_of}
-use Rattle.roster.specs.declared.post.Post.{Post}
-use Rattle.roster.specs.RosterText.{post_tree, headed, HasKey}
-use Rattle.roster.specs.inside.Raw.{IsRosterTree}
+use Rattle.roster.proofs.Imports.{◌≡◌, ◌∙◌, Option, Some, None, List, [], ◌∷◌, ◌++◌, length, map, All, refl, ap, sym}
+use Rattle.roster.proofs.Imports.{append_assoc, append-nil, IfNone, IsSome, map-append, length-map, All-head}
+use Rattle.roster.proofs.Imports.{All-tail, All-push, Sexp, Forest, count_of, members_of, forest_of-members_of}
+use Rattle.roster.proofs.Imports.{count_of-forest_of, Post, post_tree, headed, HasKey, IsRosterTree}
 use Rattle.roster.proofs.Trees.{same_behind}
 
 -- the tree is that of a roster's machines so far and of the members that are left
@@ -37,7 +29,7 @@ pub walked : (tree : Sexp) (machines : List Post) → IsWalked tree machines [] 
 walked tree machines all =
     record { keys = all.keys; is = all.is ∙ ap headed (append-nil (map post_tree machines)) }
 
--- a member behind some machines is a machine
+-- a member after some machines is a machine
 machine_behind : (machines posts : List Post) (member : Sexp) (left : List Sexp) →
     map post_tree machines ++ member ∷ left ≡ map post_tree posts → All HasKey posts →
     (post : Post) × HasKey post × (member ≡ post_tree post)

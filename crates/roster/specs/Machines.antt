@@ -23,6 +23,7 @@ pub record IsName (name : List ℕ) : Type 0 where
   pub at_most : length name ≤ max_name
   pub bytes : All IsNameByte name
 
+-- whether the role is that of a supervisor
 abbrev pub is_supervisor : Role → Bool
 is_supervisor Supervisor = true
 is_supervisor Booth = false

@@ -9,7 +9,7 @@ use Rattle.roster.specs.declared.faults.RosterFault.TheVariants.{BadName, SameNa
 use Rattle.roster.specs.RosterText.{IsRosterText}
 use Rattle.roster.specs.Machines.{AreFew, AreNamed, AreDistinct, HaveOneSupervisor, AreRoster}
 
--- it is the text of some machines, whatever they are called and however many they are
+-- the bytes are the text of some machines, whatever their names and however many they are
 abbrev pub HasForm : List ℕ → Type 0
 HasForm text = (machines : List Post) × IsRosterText text machines
 

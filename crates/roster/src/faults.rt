@@ -8,7 +8,7 @@ use thiserror::Error;
 /// Why a text isn't a roster's, the first cause that applies.
 #[derive(Clone, Copy, Debug, PartialEq, Eq, Error)]
 pub enum RosterFault {
-    /// The place, counted from 0: that of the first byte that can't stand, the length of the text
+    /// The place, counted from 0: that of the first byte that is invalid, the length of the text
     /// that other bytes follow, or the length of the input where it ends inside a text.
     #[error("byte {0}: not exactly one canonical text")]
     NotCanonical(usize),

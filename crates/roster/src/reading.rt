@@ -1,4 +1,4 @@
-//! Reading the parts of a roster where its text stands.
+//! Reading the parts of a roster in place.
 ghost use Rattle.std.specs.Prelude.{◌≡◌, ◌≢◌, ◌≤◌, ◌↔◌, List, map, length, All, Any, AllPairs};
 ghost use Rattle.std.specs.Prelude.{count_by, IsTrue, IfOk, IfSome, IfNone, MatchOption};
 ghost use Rattle.canonical_sexp.specs.Forms.{Finds};
@@ -66,7 +66,7 @@ fn raw_of<'a>(text: &Text<'a>) -> Option<Raw<'a>>
     })
 }
 
-/// The members of the text behind those with which each roster begins.
+/// The members of the text after those with which each roster begins.
 fn machines_in<'a>(text: &Text<'a>) -> Option<Rest<'a>>
     ensures found { IfSome result (λ members. text.now ≡ headed (members_of members)) }
     ensures none { IfNone result ((trees : List Sexp) → text.now ≢ headed trees) }

@@ -29,7 +29,7 @@ pub struct Roster {
 }
 
 impl Roster {
-    /// Reads a roster's text, where it stands. Memory is taken for the machines of a text that has
+    /// Reads a roster's text in place. Memory is taken for the machines of a text that has
     /// the form of a roster's, and at most 16 of them.
     ///
     /// # Errors

@@ -11,7 +11,7 @@ with_machine_at m change [] d b l e = absurd (omega arith)
 with_machine_at zero change (c ∷ w) d b l e = ap (λ a. a ∷ w) e
 with_machine_at (suc m) change (c ∷ w) d b l e = ap (λ v. c ∷ v) (with_machine_at m change w d b (omega arith) e)
 
--- no machine stands past the end
+-- no machine is past the end
 pub with_machine_past : {T : Type 0} (m : ℕ) (change : Machine T → Machine T) (w : List (Machine T)) →
     length w ≤ m → with_machine m change w ≡ w
 with_machine_past m change [] l = refl

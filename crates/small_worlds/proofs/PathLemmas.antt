@@ -22,7 +22,7 @@ pub leads_step : {T : Type 0} (node : T → Node) (given : List T) (n : ℕ) (f 
 leads_step node given zero f e l = absurd (omega arith)
 leads_step node given (suc n) f e l = let less : suc n - 1 ≡ n = omega arith in rw less refl
 
--- it finds a path over the next entry at a place
+-- a search finds a path over the next entry at a place
 pub leads_over : {T : Type 0} (node : T → Node) (given : List T) (n : ℕ) (f e : T) → 0 < n → (i : ℕ) (g : T) →
     i < length given →
     g ≡ get_or given i g → is_next node given f g ≡ true → leads node given (n - 1) g e ≡ true →
@@ -34,7 +34,7 @@ leads_over {T} node given n f e l i g inside at next rest =
     ∙ or_right (names_entry node e f) (list_any test given)
     (list_any_at test given i g inside (ap test (sym at) ∙ both))
 
--- it finds none where none is left
+-- a search finds no path where no next entry is left
 pub leads_nowhere : {T : Type 0} (node : T → Node) (given : List T) (n : ℕ) (f e : T) → 0 < n →
     names_entry node e f ≡ false → (i : ℕ) → length given ≤ i →
     list_any (λ g. is_next node given f g && leads node given (n - 1) g e) (drop i given)
@@ -70,7 +70,7 @@ module _ {T : Type 0} (node : T → Node) (given : List T) where
         | inr t ↦ on t
       ]
 
-  -- a path of so many entries is found in so many steps
+  -- a path over n entries is found in n steps
   to_leads : (n : ℕ) (f : T) (between : List T) (e : T) → length between ≤ n →
       IsPath node (survivors node given) f between e → leads node given n f e ≡ true
   to_leads zero f [] e l p = names_digest_of node e (node f).digest p
@@ -97,7 +97,7 @@ module _ {T : Type 0} (node : T → Node) (given : List T) where
       let rest = long g gs e there ce path in
       omega arith
 
-  -- the search of as many steps as the end's stamp finds a path exactly where there is one
+  -- the search of as many steps as the end's stamp finds a path exactly when there is one
   leads_is_path : (f e : T) → Contains (survivors node given) f → Contains (survivors node given) e →
       (leads node given (node e).stamp f e ≡ true) ↔ Precedes node (survivors node given) f e
   leads_is_path f e cf ce = (
@@ -105,7 +105,7 @@ module _ {T : Type 0} (node : T → Node) (given : List T) where
     λ (_, _, between, path). to_leads (node e).stamp f between e (omega (arith, long f between e cf ce path)) path,
   )
 
-  -- the search finds a path exactly where there is one
+  -- the search finds a path exactly when there is one
   pub is_before_right : (f e : T) → Contains given f → Contains given e →
       (is_before node given f e ≡ true) ↔ Precedes node (survivors node given) f e
   is_before_right f e cf ce = (
@@ -125,7 +125,7 @@ module _ {T : Type 0} (node : T → Node) (given : List T) where
         ((leads_is_path f e f_survives e_survives).1 (f_survives, e_survives, between, path))),
   )
 
-  -- so it is for entries at places, as the code reads them
+  -- the order of entries at two places, as the code reads them
   pub is_before_at : (i j : ℕ) (f e g h : T) → i < length given → j < length given → f ≡ get_or given i f →
       e ≡ get_or given j e →
       slice_get given i ≡ Some g → slice_get given j ≡ Some h →

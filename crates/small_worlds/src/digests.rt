@@ -13,7 +13,7 @@ use entry_order::{Knot, has_digest, is_named, names_digest};
 use std::alloc::{AllocError, Global};
 use std::cmp::Ordering;
 
-// Where the digest goes among ascending ones, and `None` where it stands there.
+// Where the digest goes among ascending ones, and `None` where it is one of them.
 fn place_for(digests: &[[u8; 32]], digest: &[u8; 32]) -> Option<usize>
     ensures place { put_at result digest.now digests.now ≡ insert_digest digest.now digests.now }
     ensures within { IfSome result (λ at. at ≤ length digests.now) }
@@ -87,7 +87,7 @@ fn named<T: Knot>(alloc: Global, entries: &[T]) -> Result<Vec<[u8; 32]>, AllocEr
     Ok(digests)
 }
 
-// Those digests that no entry bears, in their order.
+// Those digests that no entry has, in their order.
 fn unborne<T: Knot>(
     alloc: Global,
     entries: &[T],

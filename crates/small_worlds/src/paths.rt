@@ -22,7 +22,7 @@ fn is_next<T: Knot>(given: &[T], entry: &T, other: &T) -> bool
     !is_stray(given, other) && names_entry(other, entry)
 }
 
-// Whether a path leads from the first to the second with at most so many survivors between them.
+// Whether a path leads from the first to the second with at most this many survivors between them.
 fn leads<T: Knot>(given: &[T], between: u32, first: &T, second: &T) -> bool
     ensures { result ≡ leads T.node given.now between first.now second.now }
 {

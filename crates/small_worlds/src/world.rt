@@ -11,7 +11,7 @@ use crate::machine::{Process, Sender};
 use entry_order::{Event, Step};
 use std::alloc::{AllocError, Global};
 
-/// So many machines before anything happens.
+/// This number of machines before anything happens.
 pub fn start<T: Sender>(alloc: Global, count: u32) -> Result<Vec<Process<T>>, AllocError>
     ensures { IfOk result (λ machines. machines.items ≡ start count) }
 {
@@ -40,7 +40,7 @@ pub fn run<T: Sender>(
     play(alloc, log, machines, steps)
 }
 
-/// All steps, in order. Where memory runs out, so many of them were done.
+/// All steps, in order. Where memory runs out, this number of them were done.
 pub fn play<T: Sender>(
     alloc: Global,
     log: usize,

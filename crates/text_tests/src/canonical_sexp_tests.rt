@@ -6,7 +6,7 @@ use canonical_sexp::{
 use std::alloc::Global;
 use std::test::Fail;
 
-/// The answer of the reader in place as words. A text is lent as the bytes that were used.
+/// The answer of the reader in place as words. A text is shown as the bytes that were used.
 fn answer_in_place(alloc: Global, bytes: &[u8]) -> Result<String, Fail> {
     match front_of(bytes) {
         Front::Whole { text, used } => {
@@ -79,7 +79,7 @@ fn answers_by_the_front_of_the_bytes(rt: HostRuntime) -> Result<(), Fail> {
     Ok(())
 }
 
-/// So many lists, each in the one before, the innermost with 16,384 members.
+/// This many lists, each in the one before, the innermost with 16,384 members.
 fn full_list(alloc: Global, depth: usize) -> Result<Vec<u8>, Memory> {
     let mut text = Vec::new(alloc);
     for _ in 0..depth {
@@ -139,7 +139,7 @@ fn an_input_is_one_text_or_stops(rt: HostRuntime) -> Result<(), Fail> {
     Ok(())
 }
 
-/// The octets of the atoms among the members, each with a comma behind it.
+/// The octets of the atoms among the members, each followed by a comma.
 fn atoms_in(alloc: Global, members: Rest<'_>) -> Result<Vec<u8>, Memory> {
     let mut octets = Vec::new(alloc);
     for member in members {

@@ -82,7 +82,7 @@ const GREATEST: &[(usize, u64, usize, &str)] = &[
     (3, 10, 0, "----"),
 ];
 
-/// Whether a read gives this, where reads give at most so many bytes.
+/// Whether a read gives this, where reads give at most this many bytes.
 fn is_given(alloc: Global, most: usize, at: u64, count: usize, want: &str) -> Result<bool, Fail>
     requires { 0 < most }
 {
@@ -114,7 +114,7 @@ const WRITES: &[(u64, &str)] = &[
     (5, "abcdefghij"),
 ];
 
-/// Whether so much of ten letters goes out, where the write with this number fails.
+/// Whether this many of ten letters go out, where the write with this number fails.
 fn is_written_so(alloc: Global, failing: u64, want: &str) -> Result<bool, Fail> {
     let mut sink = MemorySink::make(alloc, 3, vec![in alloc; failing]?);
     let written = write_all(&mut sink, "abcdefghij".as_bytes());
@@ -183,7 +183,7 @@ fn is_put_and_read(rt: &HostRuntime, name: &str, bytes: &[u8]) -> Result<bool, F
     Ok(is_put && is_read_back(rt.alloc(), &mut store, name, bytes))
 }
 
-/// Whether a file of so many bytes is put, and read back by the store and by the system.
+/// Whether a file of this many bytes is put, and read back by the store and by the system.
 fn is_moved(rt: &HostRuntime, name: &str, len: usize) -> Result<bool, Fail> {
     let bytes = distinct_bytes(rt.alloc(), len)?;
     Ok(is_put_and_read(rt, name, bytes.as_slice())? && has_bytes(rt, name, bytes.as_slice())?)

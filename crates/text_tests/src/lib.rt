@@ -1,5 +1,5 @@
 //! Tests of the public calls of `canonical_sexp`, `hall_outside`, `hall_text` and `roster`. They
-//! stand in a crate of their own, so that what they test isn't proved once more with them.
+//! are in a crate of their own, so that what they test isn't proved once more with them.
 #![tactic(auto)]
 
 #[cfg(test)]

@@ -12,7 +12,7 @@ fn post_text(alloc: Global, machine: &str) -> Result<String, Fail> {
     Ok(format!(in alloc; "({}:{name}{}:{role}56:{KEY})", name.len(), role.len())?)
 }
 
-/// The text of a roster with more bytes behind it. The machines are given as
+/// The text of a roster with more bytes after it. The machines are given as
 /// `NAME ROLE, NAME ROLE`.
 fn text_of(alloc: Global, machines: &str, more: &str) -> Result<String, Fail> {
     let mut text = String::from_str(alloc, "(6:roster1:1")?;
@@ -34,7 +34,7 @@ fn fault_in(alloc: Global, text: &str) -> Result<String, Fail> {
     }
 }
 
-/// Machines, the bytes behind their roster's text, and the first fault.
+/// Machines, the bytes after their roster's text, and the first fault.
 const MACHINES: &str = "sv supervisor, b1 booth | = none
 sv supervisor | = none
 sv supervisor, abcdefghij012345 booth | = none

@@ -1,4 +1,4 @@
--- The entries of a small world: each bears its maker and its number as its digest.
+-- The entries of a small world: each has its maker and its number as its digest.
 use Rattle.std.specs.Prelude.{ℕ, Bool, ◌&&◌, nat_lt, List, ◌∷◌, replicate, length, Option, refl}
 use Rattle.entry_order.specs.declared.event.Event.{Event}
 use Rattle.entry_order.specs.Node.{Node}
@@ -43,6 +43,6 @@ may_send m h =
 abbrev pub next_numbered : ℕ → List (Event Node) → Option Node
 next_numbered = next_made shown_itself numbered_node may_send
 
--- it is what a legal history asks
+-- what `next_numbered` sends is what a legal history asks
 pub next_is_lawful : IsLegalNext shown_itself next_numbered
 next_is_lawful = made_is_lawful shown_itself numbered_node shows_its_parts may_send

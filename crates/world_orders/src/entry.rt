@@ -11,7 +11,7 @@ use std::marker::Model;
 /// How many events a log has at most.
 pub const LOG: usize = 64;
 
-/// An entry that bears its maker and its number as its digest.
+/// An entry that has its maker and its number as its digest.
 #[derive(Drop)]
 pub struct Entry {
     pub digest: [u8; 32],

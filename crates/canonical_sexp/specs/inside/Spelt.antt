@@ -24,14 +24,16 @@ first_in no_trees = Atom []
 first_in (atom_then octets rest) = Atom octets
 first_in (list_then inner rest) = Branch inner
 
+-- the row of one tree gives back that tree
 pub alone : (tree : Sexp) → first_in (in_front tree no_trees) ≡ tree
 alone (Atom octets) = refl
 alone (Branch row) = refl
 
+-- trees are stored as rows of one tree, so trees can be compared
 abbrev pub sexp_code : Coded Sexp
 sexp_code = code_by Forest forest_code (λ tree. in_front tree no_trees) first_in alone
 
--- each is a fact with one proof
+-- being within the limits is a fact with one proof
 AreWithin-prop : (depth : ℕ) (row : Forest) → IsProp (AreWithin depth row)
 AreWithin-prop depth no_trees = Unit-prop
 AreWithin-prop depth (atom_then octets rest) = hlevel (le_prop, AreWithin-prop depth rest)
@@ -46,6 +48,7 @@ tree_prop : (bytes : List ℕ) (tree : Sexp) → IsProp (Fits tree × (bytes ≡
     × ((other : Sexp) → Fits other → bytes ≡ text_of other → other ≡ tree))
 tree_prop bytes tree = hlevel (IsWithin-prop 8 tree, Coded-set (coded_list coded_ℕ), Coded-set sexp_code)
 
+-- being the text of one tree is a fact with one proof
 pub IsSpelt-prop : (bytes : List ℕ) → IsProp (IsSpelt bytes)
 IsSpelt-prop bytes = λ x y. Σ_prop_path (tree_prop bytes) (y.1.2 x.0 x.1.0 x.1.1)
 
@@ -53,5 +56,6 @@ row_prop : (bytes : List ℕ) (row : Forest) → IsProp (Fits (Branch row) × (b
     × ((other : Forest) → Fits (Branch other) → bytes ≡ texts_of other → other ≡ row))
 row_prop bytes row = hlevel (IsWithin-prop 8 (Branch row), Coded-set (coded_list coded_ℕ), Coded-set forest_code)
 
+-- being the texts of one row is a fact with one proof
 pub AreSpelt-prop : (bytes : List ℕ) → IsProp (AreSpelt bytes)
 AreSpelt-prop bytes = λ x y. Σ_prop_path (row_prop bytes) (y.1.2 x.0 x.1.0 x.1.1)

@@ -1,4 +1,4 @@
--- What stands where a length begins.
+-- A length, whole or cut, at the front of some bytes, and what is no length.
 use Rattle.std.specs.Prelude.{◌≡◌, ℕ, ◌<◌, ◌≤◌, List, [], ◌∷◌, ◌++◌, length, take, slice_index, Some}
 use Rattle.std.specs.Fmt.{decimal}
 use Rattle.canonical_sexp.specs.declared.read.Why.{Why}

@@ -6,7 +6,7 @@ use Rattle.entry_order.specs.Node.{Node}
 use Rattle.entry_order.specs.History.{entry_of, held, sent, greatest_stamp, IsLegal}
 use Rattle.log_frontier.specs.Places.{Places, StandsFor}
 
--- at these places stands what was sent, in order
+-- at these places is what was sent, in order
 abbrev pub AreOwn : {T : Type 0} → List (Event T) → List ℕ → Type 0
 AreOwn events own = map (λ p. slice_get events p) own ≡ map (λ e. Some (Sent e)) (sent events)
 

@@ -6,10 +6,10 @@ use Rattle.roster.specs.Machines.{max_machines}
 use Rattle.entry_format.specs.SealedEntry.{SealedEntry}
 use Rattle.broadcast_queues.specs.Ends.{OutView, InView, LinkView, IsOutOf, IsInOf}
 use Rattle.log_lock.specs.declared.story.Tick.{Tick}
-use Rattle.floor_losses.specs.declared.loss.Loss.{Loss}
+use Rattle.finished_floor.specs.declared.loss.Loss.{Loss}
 use Rattle.floor_links.specs.Rows.{link_at}
-use Rattle.floor_sweep.specs.declared.sweeping.Waiting.{Waiting}
-use Rattle.floor_sweep.specs.Waits.{AreOnWay, waits_of}
+use Rattle.finished_floor.specs.declared.sweeping.Waiting.{Waiting}
+use Rattle.finished_floor.specs.Waits.{AreOnWay, waits_of}
 use Rattle.polling_world.specs.Machines.{MachineState}
 use Rattle.machine_floor.specs.Stations.{StationState, IsStation}
 
@@ -32,10 +32,11 @@ pub record AreParts (stations : List StationState) (machines : List MachineState
 abbrev pub waiting : ℕ → SealedEntry → Waiting
 waiting to e = record { to = to; entry = e }
 
--- the ends of the link from one machine to another: those that put stand by senders, those that take by receivers
+-- the end that puts of the link from one machine to another, in rows by sender; or d where there is none
 abbrev pub out_at : List (List (OutView SealedEntry)) → ℕ → ℕ → OutView SealedEntry → OutView SealedEntry
 out_at outs from to d = slice_index_or (slice_index_or outs from []) to d
 
+-- the end that takes of the link from one machine to another, in rows by receiver; or d where there is none
 abbrev pub in_at : List (List (InView SealedEntry)) → ℕ → ℕ → InView SealedEntry → InView SealedEntry
 in_at inns from to d = slice_index_or (slice_index_or inns to []) from d
 
@@ -72,7 +73,7 @@ pub record IsAdded (from to : ℕ) (put taken : List SealedEntry) (before after 
   pub in_order : put ≡ taken ++ rest
   pub waits : waits_of after from to ≡ waits_of before from to ++ rest
 
--- so it is where the machines are two, and no other way is changed
+-- what nobody took waits where the machines are two, and no other way is changed
 pub record IsRest (from to : ℕ) (put taken : List SealedEntry) (before after : List Waiting) : Type 0 where
   pub rest : from ≢ to → IsAdded from to put taken before after
   pub others : (a b : ℕ) → (a ≡ from → b ≡ to → ⊥) → waits_of after a b ≡ waits_of before a b
@@ -98,7 +99,7 @@ pub record IsRowOfEnds (from : ℕ) (row : List LinkView) (outs : List (OutView 
   pub makers : (b : ℕ) (d : OutView SealedEntry) → b < length inns → from ≢ b →
       AreMadeBy from (slice_index_or outs b d).put
 
--- they are finished, and what nobody took of them waits
+-- one sender's links are finished, and what nobody took of them waits
 pub record IsRowFinished (from : ℕ) (outs : List (OutView SealedEntry)) (old new : List (List (InView SealedEntry)))
     (before after : List Waiting) : Type 0 where
   pub count : length new ≡ length old

@@ -15,7 +15,7 @@ module _ {T : Type 0} (node : T → Node) where
     abbrev pub is_next : T → T → Bool
     is_next f g = not (is_stray node given g) && names_entry g f
 
-    -- whether a path leads from f to e, with at most so many survivors between them
+    -- whether a path leads from f to e, with at most this many survivors between them
     abbrev pub leads : ℕ → T → T → Bool
     leads zero f e = names_entry e f
     leads (suc n) f e = names_entry e f || list_any (λ g. is_next f g && leads n g e) given

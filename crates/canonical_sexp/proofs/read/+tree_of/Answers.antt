@@ -1,8 +1,6 @@
-use Rattle.std.proofs.Common.{◌≡◌, ◌∙◌, ◌<◌, ap, sym, subst, arith}
-use Rattle.canonical_sexp.specs.declared.sexp.Sexp.{Sexp}
+use Rattle.canonical_sexp.proofs.Imports.{◌≡◌, ◌∙◌, ◌<◌, ap, sym, subst, arith, Sexp, Forest, no_trees, joined}
+use Rattle.canonical_sexp.proofs.Imports.{in_front}
 use Rattle.canonical_sexp.specs.declared.sexp.Sexp.TheVariants.{List as Branch}
-use Rattle.canonical_sexp.specs.Forest.{Forest, no_trees, joined}
-use Rattle.canonical_sexp.specs.Sexp.{in_front}
 use Rattle.canonical_sexp.proofs.Rows.{joined-none}
 use Rattle.canonical_sexp.proofs.Growing.{weight, member_lighter, joined-one}
 use Rattle.canonical_sexp.proofs.read.+tree_of.Goals as goal

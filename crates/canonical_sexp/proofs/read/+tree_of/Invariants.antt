@@ -1,6 +1,5 @@
-use Rattle.std.proofs.Common.{◌≡◌}
+use Rattle.canonical_sexp.proofs.Imports.{◌≡◌, count_of, joined}
 use Rattle.canonical_sexp.specs.declared.sexp.Sexp.TheVariants.{List as Branch}
-use Rattle.canonical_sexp.specs.Forest.{count_of, joined}
 use Rattle.canonical_sexp.proofs.Growing.{weight}
 use Rattle.canonical_sexp.proofs.read.+tree_of.Given as goal
 

@@ -1,5 +1,4 @@
-use Rattle.std.proofs.Common.{◌∙◌, ap, sym, arith, length}
-use Rattle.canonical_sexp.specs.Text.{atom_text}
+use Rattle.canonical_sexp.proofs.Imports.{◌∙◌, ap, sym, arith, length, atom_text}
 use Rattle.canonical_sexp.proofs.InPlace.{begins_low, is_atom, behind_length, not_cut, not_bad}
 use Rattle.canonical_sexp.proofs.scanning.octets_in.Goals as goal
 

@@ -1,8 +1,6 @@
-use Rattle.std.proofs.Common.{◌≡◌, ◌∙◌, ◌+◌, ◌<◌, None, drop, arith, ap, sym}
-use Rattle.std.proofs.lemmas.Bool.Decides.{nat_tests}
-use Rattle.canonical_sexp.specs.Causes.{token_fault}
+use Rattle.canonical_sexp.proofs.Imports.{◌≡◌, ◌∙◌, ◌+◌, ◌<◌, None, drop, arith, ap, sym, nat_tests, token_fault}
+use Rattle.canonical_sexp.proofs.Imports.{IsAtomScan}
 use Rattle.canonical_sexp.specs.declared.scanning.Extent.TheVariants as scan
-use Rattle.canonical_sexp.specs.inside.Scanning.{IsAtomScan}
 use Rattle.canonical_sexp.proofs.Steps.{token_exit, cut_exit, length_exit, end_exit, atom_some, open_room}
 use Rattle.canonical_sexp.proofs.Scans.{scan_begun, scan_open, scan_close, scan_atom_step, scan_whole}
 use Rattle.canonical_sexp.proofs.Scans.{has_around, scanned_from}

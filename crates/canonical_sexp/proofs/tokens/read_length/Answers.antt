@@ -1,5 +1,4 @@
-use Rattle.std.proofs.Common.{◌<◌, ◌≤◌, get_or, arith}
-use Rattle.std.proofs.lemmas.Grind.{common_steps}
+use Rattle.canonical_sexp.proofs.Imports.{◌<◌, ◌≤◌, get_or, arith, common_steps}
 use Rattle.canonical_sexp.proofs.Atoms.{digit_range, first_digit, more_digits}
 use Rattle.canonical_sexp.proofs.tokens.read_length.Goals as goal
 

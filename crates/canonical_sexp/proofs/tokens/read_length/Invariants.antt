@@ -1,7 +1,5 @@
-use Rattle.std.proofs.Common.{length, ◌-◌, ◌≡◌, ◌<◌, ◌≤◌, take}
-use Rattle.std.specs.Fmt.{decimal}
+use Rattle.canonical_sexp.proofs.Imports.{length, ◌-◌, ◌≡◌, ◌<◌, ◌≤◌, take, decimal, max_octets}
 use Rattle.canonical_sexp.proofs.tokens.read_length.Given as goal
-use Rattle.canonical_sexp.specs.Text.{max_octets}
 
 -- the digits so far are those of the value
 abbrev pub invariant-loop-at : goal.invariant-loop-at

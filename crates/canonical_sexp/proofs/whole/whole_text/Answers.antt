@@ -1,4 +1,4 @@
-use Rattle.std.proofs.Common.{inl, inr, refl}
+use Rattle.canonical_sexp.proofs.Imports.{inl, inr, refl}
 use Rattle.canonical_sexp.proofs.Canonical.{stops}
 use Rattle.canonical_sexp.proofs.whole.whole_text.Goals as goal
 

@@ -1,8 +1,5 @@
-use Rattle.std.proofs.Common.{◌≡◌, ◌∙◌, ◌<◌, ◌≤◌, get_or, length, refl, sym, ap, rules}
-use Rattle.std.specs.Prelude.{option_map}
-use Rattle.std.proofs.lemmas.Option.{slice_get_within, slice_get_read, slice_get_past}
-use Rattle.entry_order.specs.declared.event.Event.TheVariants.{Sent}
-use Rattle.entry_order.specs.History.{entry_of}
+use Rattle.entangled_log.proofs.Imports.{◌≡◌, ◌∙◌, ◌<◌, ◌≤◌, get_or, length, refl, sym, ap, rules, option_map}
+use Rattle.entangled_log.proofs.Imports.{slice_get_within, slice_get_read, slice_get_past, Sent, entry_of}
 use Rattle.entangled_log.proofs.Own.{own_at, own_none}
 use Rattle.entangled_log.proofs.history.sent_at.Goals as goal
 
@@ -17,7 +14,7 @@ entry_at-requires g c =
     let r = own_at events own c.requires c.args.number c.in-Some.place.now found in
     slice_get_within events c.in-Some.place.now (Sent r.0) r.2
 
--- and the entry there has the number
+-- the entry that is found has the number
 pub returns-in-Some-clause-found : goal.returns-in-Some-clause-found
 returns-in-Some-clause-found g c =
     let events = c.args.events.now in

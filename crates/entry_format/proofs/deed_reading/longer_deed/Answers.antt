@@ -1,4 +1,4 @@
-use Rattle.std.proofs.Common.{rules}
+use Rattle.entry_format.proofs.Imports.{rules}
 use Rattle.entry_format.proofs.Taken.{numbers_authorise}
 use Rattle.entry_format.proofs.deed_reading.longer_deed.Goals as goal
 

@@ -1,9 +1,5 @@
-use Rattle.std.proofs.Common.{◌≡◌, List, ℕ, Option, Some, None, subst, refl}
-use Rattle.canonical_sexp.specs.Forms.{Finds}
-use Rattle.canonical_sexp.specs.Text.{text_of}
-use Rattle.entry_format.specs.declared.entry.Entry.{Entry}
-use Rattle.entry_order.specs.Ascending.{IsAscending}
-use Rattle.entry_format.specs.EntryText.{IsEntry, body_tree, IsSignedText}
+use Rattle.entry_format.proofs.Imports.{◌≡◌, List, ℕ, Option, Some, None, subst, refl, Finds, text_of, Entry}
+use Rattle.entry_format.proofs.Imports.{IsAscending, IsEntry, body_tree, IsSignedText}
 use Rattle.entry_format.proofs.Forms.{tree_of_form, body_of_form, form_of, not_rising}
 use Rattle.entry_format.proofs.form.read_form.Goals as goal
 

@@ -1,6 +1,4 @@
-use Rattle.std.proofs.Common.{List, ℕ, [], ◌∷◌, ◌++◌, refl}
-use Rattle.std.proofs.lemmas.List.Elements.{All-push}
-use Rattle.entry_format.specs.EntryText.{IsDigest}
+use Rattle.entry_format.proofs.Imports.{List, ℕ, [], ◌∷◌, ◌++◌, refl, All-push, IsDigest}
 use Rattle.entry_format.proofs.Taken.{next_is_digest, digest_taken, all_taken}
 use Rattle.entry_format.proofs.reading.are_names.Goals as goal
 

@@ -1,8 +1,5 @@
-use Rattle.std.proofs.Common.{◌≡◌, List, ℕ, map, All}
-use Rattle.canonical_sexp.specs.declared.sexp.Sexp.TheVariants.{Atom, List as Branch}
-use Rattle.canonical_sexp.specs.Forest.{count_of, joined}
-use Rattle.canonical_sexp.specs.Sexp.{forest_of}
-use Rattle.entry_format.specs.EntryText.{IsDigest}
+use Rattle.entry_format.proofs.Imports.{◌≡◌, List, ℕ, map, All, Atom, count_of, joined, forest_of, IsDigest}
+use Rattle.canonical_sexp.specs.declared.sexp.Sexp.TheVariants.{List as Branch}
 use Rattle.entry_format.proofs.reading.are_names.Given as goal
 
 -- the members so far are digests

@@ -1,5 +1,5 @@
-use Rattle.std.proofs.Common.{ℕ, suc, ◌<◌, length, refl, arith}
-use Rattle.entry_order.specs.Ascending.{IsAscending}
+use Rattle.std.proofs.Common.{◌<◌, length}
+use Rattle.entry_format.proofs.Imports.{ℕ, suc, refl, arith, IsAscending}
 use Rattle.entry_format.proofs.Ascending.{ascends, ascends_before, rises_more}
 use Rattle.entry_format.proofs.reading.is_rising.Goals as goal
 

@@ -1,8 +1,5 @@
-use Rattle.std.proofs.Common.{◌≡◌, ◌∙◌, ap, sym, map, rules}
-use Rattle.canonical_sexp.specs.declared.sexp.Sexp.TheVariants.{Atom, List as Branch}
-use Rattle.canonical_sexp.specs.Forest.{joined}
-use Rattle.canonical_sexp.specs.Forms.{list_of}
-use Rattle.canonical_sexp.specs.Sexp.{forest_of}
+use Rattle.entry_format.proofs.Imports.{◌≡◌, ◌∙◌, ap, sym, map, rules, Atom, joined, list_of, forest_of}
+use Rattle.canonical_sexp.specs.declared.sexp.Sexp.TheVariants.{List as Branch}
 use Rattle.entry_format.proofs.Taken.{next_is_digest, digest_taken, all_taken, digest_found, digest_is}
 use Rattle.entry_format.proofs.reading.names_of.Goals as goal
 

@@ -1,8 +1,5 @@
-use Rattle.std.proofs.Common.{◌≡◌, map, All}
-use Rattle.canonical_sexp.specs.declared.sexp.Sexp.TheVariants.{Atom, List as Branch}
-use Rattle.canonical_sexp.specs.Forest.{count_of, joined}
-use Rattle.canonical_sexp.specs.Sexp.{forest_of}
-use Rattle.entry_format.specs.EntryText.{IsDigest}
+use Rattle.entry_format.proofs.Imports.{◌≡◌, map, All, Atom, count_of, joined, forest_of, IsDigest}
+use Rattle.canonical_sexp.specs.declared.sexp.Sexp.TheVariants.{List as Branch}
 use Rattle.entry_format.proofs.reading.names_of.Given as goal
 
 -- the digests of the members so far, and the members that are left

@@ -1,4 +1,4 @@
-use Rattle.std.proofs.Common.{rules}
+use Rattle.entry_format.proofs.Imports.{rules}
 use Rattle.entry_format.proofs.Taken.{number_is_version}
 use Rattle.entry_format.proofs.reading.take_version.Goals as goal
 

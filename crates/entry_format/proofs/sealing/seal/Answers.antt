@@ -1,11 +1,6 @@
-use Rattle.std.proofs.Common.{◌≡◌, ◌∙◌, ◌<◌, ℕ, List, [], length, refl, ap, sym, subst, arith}
-use Rattle.canonical_sexp.specs.declared.sexp.Sexp.{Sexp}
-use Rattle.canonical_sexp.specs.Text.{text_of, Fits}
-use Rattle.lms_sign.specs.Secret.{public_of}
-use Rattle.roster.specs.declared.post.Post.{Post}
-use Rattle.entry_format.specs.EntryText.{body_tree, signed_tree}
-use Rattle.entry_format.specs.Unsealing.{key_at}
-use Rattle.entry_format.specs.inside.Parts.{signed_list}
+use Rattle.std.proofs.Common.{◌<◌, length}
+use Rattle.entry_format.proofs.Imports.{◌≡◌, ◌∙◌, ℕ, List, [], refl, ap, sym, subst, arith, Sexp, text_of, Fits}
+use Rattle.entry_format.proofs.Imports.{public_of, Post, body_tree, signed_tree, key_at, signed_list}
 use Rattle.entry_format.proofs.Keys.{key_is, signs_same, signature_small, signature_some}
 use Rattle.entry_format.proofs.Limits.{body_fits, signed_fits}
 use Rattle.entry_format.proofs.sealing.seal.Goals as goal
@@ -18,7 +13,7 @@ body_signature-requires c =
     subst P (sym is.tree) (body_fits c.args.entry []
     (signed_fits c.args.entry [] is.lawful c.requires.few (omega arith)))
 
--- so is the signed entry
+-- the signed entry's tree is within the limits
 pub signed_text-requires : goal.signed_text-requires
 signed_text-requires c =
     let entry = c.args.entry in

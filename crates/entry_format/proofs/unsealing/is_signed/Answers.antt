@@ -1,4 +1,4 @@
-use Rattle.std.proofs.Common.{true≢false, sym}
+use Rattle.entry_format.proofs.Imports.{true≢false, sym}
 use Rattle.entry_format.proofs.Keys.{no_key}
 use Rattle.entry_format.proofs.unsealing.is_signed.Goals as goal
 

@@ -1,6 +1,4 @@
-use Rattle.std.proofs.Common.{List, inr, subst}
-use Rattle.roster.specs.declared.post.Post.{Post}
-use Rattle.entry_format.specs.Unsealing.{IsEntryFault}
+use Rattle.entry_format.proofs.Imports.{List, inr, subst, Post, IsEntryFault}
 use Rattle.entry_format.proofs.unsealing.unseal_text.Goals as goal
 
 -- the entry isn't valid

@@ -1,7 +1,5 @@
-use Rattle.std.proofs.Common.{◌≡◌, ◌<◌, length, refl, sym, true≢false, rules, arith}
-use Rattle.canonical_sexp.specs.Text.{text_of}
-use Rattle.entry_format.specs.EntryText.{body_tree}
-use Rattle.entry_format.specs.Unsealing.{key_at}
+use Rattle.std.proofs.Common.{◌<◌, length}
+use Rattle.entry_format.proofs.Imports.{◌≡◌, refl, sym, true≢false, rules, arith, text_of, body_tree, key_at}
 use Rattle.entry_format.proofs.Keys.{key_is, signs_same}
 use Rattle.entry_format.proofs.unsealing.valid_key.Goals as goal
 

@@ -1,9 +1,6 @@
-use Rattle.std.proofs.Common.{◌≡◌, ◌∙◌, ℕ, List, map, take, ap, sym, arith}
-use Rattle.std.proofs.lemmas.List.{take_all}
-use Rattle.canonical_sexp.specs.declared.sexp.Sexp.TheVariants.{Atom, List as Branch}
-use Rattle.canonical_sexp.specs.Sexp.{forest_of}
-use Rattle.canonical_sexp.specs.Forms.{list_of}
-use Rattle.canonical_sexp.proofs.Rows.{forest_of-members_of}
+use Rattle.entry_format.proofs.Imports.{◌≡◌, ◌∙◌, ℕ, List, map, take, ap, sym, arith, take_all, Atom, forest_of}
+use Rattle.entry_format.proofs.Imports.{list_of, forest_of-members_of}
+use Rattle.canonical_sexp.specs.declared.sexp.Sexp.TheVariants.{List as Branch}
 use Rattle.entry_format.proofs.writing.tree_of_names.Goals as goal
 
 pub returns-clause-tree : goal.returns-clause-tree

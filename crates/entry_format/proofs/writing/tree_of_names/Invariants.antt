@@ -1,7 +1,4 @@
-use Rattle.std.proofs.Common.{◌≡◌, map, take, All}
-use Rattle.canonical_sexp.specs.declared.sexp.Sexp.TheVariants.{Atom}
-use Rattle.canonical_sexp.specs.Sexp.{members_of}
-use Rattle.entry_format.specs.EntryText.{IsDigest}
+use Rattle.entry_format.proofs.Imports.{◌≡◌, map, take, All, Atom, members_of, IsDigest}
 use Rattle.entry_format.proofs.writing.tree_of_names.Given as goal
 
 -- the trees of the digests so far

@@ -1,8 +1,5 @@
-use Rattle.std.proofs.Common.{◌≡◌, ◌+◌, ◌*◌, ◌<◌, ◌-◌, ◌^◌, ◌∙◌, ℕ, List, sym, ap, subst, refl, arith}
-use Rattle.lms_ots.specs.declared.kind.Parameters.{Parameters}
-use Rattle.lms_ots.specs.Checkpoints.{chain_checkpoints, checkpoint}
-use Rattle.lms_ots.specs.Ots.{chain, secret_element}
-use Rattle.lms_ots.specs.inside.Elements.{AreKeptTo}
+use Rattle.lms_ots.proofs.Imports.{◌≡◌, ◌+◌, ◌*◌, ◌<◌, ◌-◌, ◌^◌, ◌∙◌, ℕ, List, sym, ap, subst, refl, arith}
+use Rattle.lms_ots.proofs.Imports.{Parameters, chain_checkpoints, checkpoint, chain, secret_element, AreKeptTo}
 use Rattle.lms_ots.proofs.ChainLemmas.{chain_none}
 use Rattle.lms_ots.proofs.CheckpointLemmas.{kept_full, kept_more, next_chain, to_checkpoint, to_end}
 use Rattle.lms_ots.proofs.checkpoints.end_of_chain.Goals as goal

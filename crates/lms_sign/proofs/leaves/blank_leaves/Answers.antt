@@ -1,8 +1,4 @@
-use Rattle.std.proofs.Common.{◌≤◌, arith, subst, sym, vec_len}
-use Rattle.std.proofs.lemmas.List.Elements.{All-push}
-use Rattle.lms_ots.specs.Checkpoints.{checkpoint_count}
-use Rattle.lms_sign.specs.declared.leaves.Leaf.{Leaf}
-use Rattle.lms_sign.specs.inside.Leaves.{AreBlank}
+use Rattle.lms_sign.proofs.Imports.{◌≤◌, arith, subst, sym, vec_len, All-push, checkpoint_count, Leaf, AreBlank}
 use Rattle.lms_sign.proofs.leaves.blank_leaves.Goals as goal
 
 pub leaves-preserved : goal.leaves-preserved

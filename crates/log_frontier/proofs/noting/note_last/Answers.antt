@@ -6,7 +6,7 @@ use Rattle.log_frontier.specs.Places.{IsFrontierAt}
 use Rattle.log_frontier.proofs.Notes.{note_named, note_free, inside_held, digest_at_read}
 use Rattle.log_frontier.proofs.noting.note_last.Goals as goal
 
--- what is left stands in what is held
+-- what is left is in what is held
 pub insert_place-requires-clause-inside : goal.insert_place-requires-clause-inside
 insert_place-requires-clause-inside g c =
     subst (All (λ p. p < length c.args.held.now)) (sym c.drop_named.ensures.left)

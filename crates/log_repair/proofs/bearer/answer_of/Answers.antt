@@ -1,13 +1,6 @@
-use Rattle.std.proofs.Common.{◌≡◌, ◌∙◌, ℕ, Some, None, sym, ap, subst}
-use Rattle.std.specs.Prelude.{option_map, if◌then◌else◌}
-use Rattle.std.specs.List.{Contains}
-use Rattle.entry_format.specs.Nodes.{node_of_sealed}
-use Rattle.entry_format.specs.SealedEntry.{SealedEntry}
-use Rattle.entry_order.specs.History.{held}
-use Rattle.entry_order.specs.Naming.{IsBorneIn}
-use Rattle.polling_world.specs.Worlds.{machine_of}
-use Rattle.entangled_log.specs.Logs.{History}
-use Rattle.log_repair.specs.Mending.{found_by_digest}
+use Rattle.log_repair.proofs.Imports.{◌≡◌, ◌∙◌, ℕ, Some, None, sym, ap, subst, option_map, if◌then◌else◌, Contains}
+use Rattle.log_repair.proofs.Imports.{node_of_sealed, SealedEntry, held, IsBorneIn, machine_of, History}
+use Rattle.log_repair.proofs.Imports.{found_by_digest}
 use Rattle.log_repair.proofs.Bearers.{none_with}
 use Rattle.log_repair.proofs.Finding.{found_legal}
 use Rattle.log_repair.proofs.bearer.answer_of.Goals as goal
@@ -16,7 +9,7 @@ use Rattle.log_repair.proofs.bearer.answer_of.Goals as goal
 abbrev place_of : SealedEntry → ℕ × ℕ
 place_of e = (e.entry.maker, e.entry.number)
 
--- the log's entry with the digest is the one that is found, since no digest stands twice
+-- the log's entry with the digest is the one that is found, since no digest occurs twice
 pub returns-in-Some : goal.returns-in-Some
 returns-in-Some c =
     let m = c.args.machine.now in

@@ -1,9 +1,5 @@
-use Rattle.std.proofs.Common.{◌∙◌, ℕ, Some, sym, ap}
-use Rattle.std.specs.Prelude.{option_map}
-use Rattle.entry_format.specs.Nodes.{node_of_sealed}
-use Rattle.entry_format.specs.SealedEntry.{SealedEntry}
-use Rattle.polling_world.specs.Worlds.{machine_of}
-use Rattle.log_repair.specs.Mending.{answer_of}
+use Rattle.log_repair.proofs.Imports.{◌∙◌, ℕ, Some, sym, ap, option_map, node_of_sealed, SealedEntry, machine_of}
+use Rattle.log_repair.proofs.Imports.{answer_of}
 use Rattle.log_repair.proofs.Finding.{bearer_here, bearer_past, told_of, none_told}
 use Rattle.log_repair.proofs.bearer.bearer.Goals as goal
 

@@ -1,11 +1,5 @@
-use Rattle.std.proofs.Common.{◌∙◌, List, sym, subst}
-use Rattle.entry_format.specs.Nodes.{node_of_sealed}
-use Rattle.entry_order.specs.declared.step.Step.TheVariants.{Act}
-use Rattle.entry_order.specs.World.{happens}
-use Rattle.polling_world.specs.Configs.{Config}
-use Rattle.polling_world.specs.Worlds.{WorldState, world_of, TellsNext}
-use Rattle.log_repair.specs.Mending.{ActsOn}
-use Rattle.log_repair.specs.Sequences.{TakesStep}
+use Rattle.log_repair.proofs.Imports.{◌∙◌, List, sym, subst, node_of_sealed, Act, happens, Config, WorldState}
+use Rattle.log_repair.proofs.Imports.{world_of, TellsNext, ActsOn, TakesStep}
 use Rattle.log_repair.proofs.Falling.{none_added}
 use Rattle.log_repair.proofs.Going.{going_done, going_fails, going_more, going_none, if_failed}
 use Rattle.log_repair.proofs.Making.{same_log, sends_with_room}

@@ -1,8 +1,5 @@
-use Rattle.std.proofs.Common.{◌≡◌, ◌∙◌, length, rules, sym, ap, not, eq-eqb}
+use Rattle.log_repair.proofs.Imports.{◌≡◌, ◌∙◌, length, rules, sym, ap, not, eq-eqb, node_of_sealed, Act, TakesStep}
 use Rattle.std.proofs.lemmas.Bool.{true≢false}
-use Rattle.entry_format.specs.Nodes.{node_of_sealed}
-use Rattle.entry_order.specs.declared.step.Step.TheVariants.{Act}
-use Rattle.log_repair.specs.Sequences.{TakesStep}
 use Rattle.log_repair.proofs.Events.{act_takes}
 use Rattle.log_repair.proofs.Falling.{spare_falls}
 use Rattle.log_repair.proofs.Making.{sends_with_room}

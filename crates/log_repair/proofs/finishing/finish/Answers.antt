@@ -1,9 +1,5 @@
-use Rattle.std.proofs.Common.{◌≡◌, ◌∙◌, ◌<◌, ◌≤◌, List, [], length, rules, sym, ap, subst}
-use Rattle.entry_format.specs.Nodes.{node_of_sealed}
-use Rattle.entry_order.specs.declared.step.Step.{Step}
-use Rattle.polling_world.specs.Worlds.{WorldState}
-use Rattle.log_repair.specs.Mending.{ActsOn, Finishes}
-use Rattle.log_repair.specs.Sequences.{InOrder}
+use Rattle.log_repair.proofs.Imports.{◌≡◌, ◌∙◌, ◌<◌, ◌≤◌, List, [], length, rules, sym, ap, subst, node_of_sealed}
+use Rattle.log_repair.proofs.Imports.{Step, WorldState, ActsOn, Finishes, InOrder}
 use Rattle.log_repair.proofs.Going.{adds_as, fails_as, led_from_none, through_done, through_fails, through_more}
 use Rattle.log_repair.proofs.Going.{GoingThrough, if_failed, through_none}
 use Rattle.log_repair.proofs.Making.{sends_with_room}

@@ -1,6 +1,4 @@
-use Rattle.std.proofs.Common.{[]}
-use Rattle.entry_format.specs.Nodes.{node_of_sealed}
-use Rattle.log_repair.specs.Mending.{ActsOn}
+use Rattle.log_repair.proofs.Imports.{[], node_of_sealed, ActsOn}
 use Rattle.log_repair.proofs.Going.{GoingThrough}
 use Rattle.log_repair.proofs.Turns.{numbers}
 use Rattle.log_repair.proofs.finishing.finish.Given as goal

@@ -1,17 +1,7 @@
-use Rattle.std.proofs.Common.{◌≡◌, ◌∙◌, ◌<◌, ℕ, List, Option, Some, length, sym, ap, subst}
-use Rattle.entry_format.specs.Nodes.{node_of_sealed}
-use Rattle.entry_format.specs.SealedEntry.{SealedEntry}
-use Rattle.entry_order.specs.declared.step.Step.{Step}
-use Rattle.entry_order.specs.declared.step.Step.TheVariants.{Hear}
-use Rattle.entry_order.specs.Receipt.{IsOrderly}
-use Rattle.entry_order.specs.World.{World}
-use Rattle.std.specs.Prelude.{option_map}
-use Rattle.std.proofs.lemmas.List.{length-map}
-use Rattle.std.proofs.lemmas.Result.{on_ok_weaker, on_err_weaker}
-use Rattle.polling_world.specs.Machines.{MachineState}
-use Rattle.polling_world.specs.Worlds.{WorldState, machine_of, world_of}
-use Rattle.log_repair.specs.Mending.{Asks, HearsOf, bearer}
-use Rattle.log_repair.specs.Sequences.{TakesStep}
+use Rattle.log_repair.proofs.Imports.{◌≡◌, ◌∙◌, ◌<◌, ℕ, List, Option, Some, length, sym, ap, subst, node_of_sealed}
+use Rattle.log_repair.proofs.Imports.{SealedEntry, Step, Hear, IsOrderly, World, option_map, length-map, on_ok_weaker}
+use Rattle.log_repair.proofs.Imports.{on_err_weaker, MachineState, WorldState, machine_of, world_of, Asks, HearsOf}
+use Rattle.log_repair.proofs.Imports.{bearer, TakesStep}
 use Rattle.log_repair.proofs.Bearers.{bearer_held, held_maker}
 use Rattle.log_repair.proofs.Finding.{told_of}
 use Rattle.log_repair.proofs.Going.{adds_as, fails_as}
@@ -21,7 +11,7 @@ use Rattle.log_repair.proofs.repairing.ask.Goals as goal
 abbrev place_of : SealedEntry → ℕ × ℕ
 place_of e = (e.entry.maker, e.entry.number)
 
--- to hear an entry of which this is told is to hear of the answer
+-- to hear an entry of which this is said is to hear of the answer
 hears_of : (after : World SealedEntry → Step → World SealedEntry) (m from number : ℕ) (w : World SealedEntry)
     (d : List ℕ) → option_map place_of (bearer node_of_sealed d w) ≡ Some (from, number) → (steps : List Step)
     (new : World SealedEntry) → TakesStep after (Hear m from number) w steps new →
@@ -31,7 +21,7 @@ hears_of after m from number w d told steps new takes =
     subst (λ (o : Option SealedEntry). HearsOf node_of_sealed after m o w steps new) (sym has)
     (subst (λ (p : ℕ × ℕ). TakesStep after (Hear m p.0 p.1) w steps new) pair takes)
 
--- what was told of the answer among the machines
+-- what was said of the answer among the machines
 told_here : (ms seen given : List MachineState) (d : List ℕ) (told : Option (ℕ × ℕ)) (from number : ℕ) → given ≡ seen →
     seen ≡ ms → told ≡ option_map place_of (bearer node_of_sealed d (world_of given)) → told ≡ Some (from, number) →
     option_map place_of (bearer node_of_sealed d (world_of ms)) ≡ Some (from, number)

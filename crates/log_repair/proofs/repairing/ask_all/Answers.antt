@@ -1,7 +1,4 @@
-use Rattle.std.proofs.Common.{[], get_or}
-use Rattle.std.proofs.lemmas.List.{get_or_default}
-use Rattle.entry_format.specs.Nodes.{node_of_sealed}
-use Rattle.log_repair.specs.Mending.{Asks}
+use Rattle.log_repair.proofs.Imports.{[], get_or, get_or_default, node_of_sealed, Asks}
 use Rattle.log_repair.proofs.Going.{if_failed, through_done, through_fails, through_more, through_none}
 use Rattle.log_repair.proofs.OneWay.{asks_all_continue}
 use Rattle.log_repair.proofs.Plays.{asks_is_a_play}

@@ -1,5 +1,4 @@
-use Rattle.entry_format.specs.Nodes.{node_of_sealed}
-use Rattle.log_repair.specs.Mending.{Asks}
+use Rattle.log_repair.proofs.Imports.{node_of_sealed, Asks}
 use Rattle.log_repair.proofs.Going.{GoingThrough}
 use Rattle.log_repair.proofs.repairing.ask_all.Given as goal
 

@@ -1,7 +1,5 @@
-use Rattle.std.proofs.Common.{◌≡◌, ◌∙◌, length, rules, sym, ap, not, eq-eqb}
+use Rattle.log_repair.proofs.Imports.{◌≡◌, ◌∙◌, length, rules, sym, ap, not, eq-eqb, node_of_sealed, TakesRound}
 use Rattle.std.proofs.lemmas.Bool.{true≢false}
-use Rattle.entry_format.specs.Nodes.{node_of_sealed}
-use Rattle.log_repair.specs.Mending.{TakesRound}
 use Rattle.log_repair.proofs.Events.{round_takes}
 use Rattle.log_repair.proofs.Falling.{spare_falls}
 use Rattle.log_repair.proofs.repairing.mend_once.Goals as goal

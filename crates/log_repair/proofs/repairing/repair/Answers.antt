@@ -1,10 +1,5 @@
-use Rattle.std.proofs.Common.{◌≡◌, ◌∙◌, List, [], rules, sym, subst}
-use Rattle.entry_format.specs.Nodes.{node_of_sealed}
-use Rattle.entry_order.specs.declared.step.Step.{Step}
-use Rattle.entry_order.specs.World.{happens}
-use Rattle.polling_world.specs.Configs.{Config}
-use Rattle.polling_world.specs.Worlds.{WorldState, configs_of, world_of, TellsNext}
-use Rattle.log_repair.specs.Mending.{Repairs, TakesRound}
+use Rattle.log_repair.proofs.Imports.{◌≡◌, ◌∙◌, List, [], rules, sym, subst, node_of_sealed, Step, happens, Config}
+use Rattle.log_repair.proofs.Imports.{WorldState, configs_of, world_of, TellsNext, Repairs, TakesRound}
 use Rattle.log_repair.proofs.Falling.{none_added}
 use Rattle.log_repair.proofs.Going.{Going, going_done, going_fails, going_more, going_none, if_failed}
 use Rattle.log_repair.proofs.Going.{led_from_none}
@@ -74,7 +69,7 @@ returns-clause-ok c =
     (c.loop-is_moving.invariant.still c.loop-is_moving-test.false) in
     led_from_none (Repairs node_of_sealed) c.args.world.now c.loop-is_moving.world c.loop-is_moving.steps.items done
 
--- so the machines that run are mended
+-- each machine that runs is mended at the end
 pub returns-clause-mended : goal.returns-clause-mended
 returns-clause-mended c =
     let going = c.loop-is_moving.invariant.going in

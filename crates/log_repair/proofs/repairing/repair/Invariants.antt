@@ -1,8 +1,4 @@
-use Rattle.std.proofs.Common.{◌≡◌, ◌+◌, ◌*◌, false, []}
-use Rattle.std.specs.Prelude.{if◌then◌else◌}
-use Rattle.entry_format.specs.Nodes.{node_of_sealed}
-use Rattle.log_repair.specs.Mending.{Repairs}
-use Rattle.log_repair.specs.inside.Totals.{spare}
+use Rattle.log_repair.proofs.Imports.{◌≡◌, ◌+◌, ◌*◌, false, [], if◌then◌else◌, node_of_sealed, Repairs, spare}
 use Rattle.log_repair.proofs.Going.{EndsHere, Going}
 use Rattle.log_repair.proofs.repairing.repair.Given as goal
 

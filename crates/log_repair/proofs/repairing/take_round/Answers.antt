@@ -1,8 +1,5 @@
-use Rattle.std.proofs.Common.{◌≡◌, ◌<◌, ◌≤◌, length, rules, ap}
-use Rattle.entry_format.specs.Nodes.{node_of_sealed}
-use Rattle.polling_world.specs.Worlds.{WorldState}
-use Rattle.log_repair.specs.Mending.{TakesRound, TakesTurn}
-use Rattle.log_repair.specs.Sequences.{InOrder}
+use Rattle.log_repair.proofs.Imports.{◌≡◌, ◌<◌, ◌≤◌, length, rules, ap, node_of_sealed, WorldState, TakesRound}
+use Rattle.log_repair.proofs.Imports.{TakesTurn, InOrder}
 use Rattle.log_repair.proofs.Going.{adds_as, fails_as, if_failed, through_done, through_fails, through_more}
 use Rattle.log_repair.proofs.Going.{through_none}
 use Rattle.log_repair.proofs.OneWay.{turns_continue}

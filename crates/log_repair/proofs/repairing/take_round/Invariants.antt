@@ -1,5 +1,4 @@
-use Rattle.entry_format.specs.Nodes.{node_of_sealed}
-use Rattle.log_repair.specs.Mending.{TakesTurn}
+use Rattle.log_repair.proofs.Imports.{node_of_sealed, TakesTurn}
 use Rattle.log_repair.proofs.Going.{GoingThrough}
 use Rattle.log_repair.proofs.Turns.{numbers}
 use Rattle.log_repair.proofs.repairing.take_round.Given as goal

@@ -1,15 +1,6 @@
-use Rattle.std.proofs.Common.{◌≡◌, ◌∙◌, ℕ, Bool, List, [], get_or, refl, sym, ap}
-use Rattle.std.specs.Prelude.{if◌then◌else◌}
-use Rattle.std.proofs.lemmas.Result.{on_ok_weaker, on_err_weaker}
-use Rattle.entry_format.specs.Nodes.{node_of_sealed}
-use Rattle.entry_format.specs.SealedEntry.{SealedEntry}
-use Rattle.entry_order.specs.History.{held}
-use Rattle.entry_order.specs.Survivors.{gaps}
-use Rattle.entangled_log.specs.Logs.{History}
-use Rattle.polling_world.specs.Machines.{MachineState}
-use Rattle.polling_world.specs.Worlds.{WorldState, world_of}
-use Rattle.log_repair.specs.Mending.{Asks, TakesTurn}
-use Rattle.log_repair.specs.Sequences.{InOrder}
+use Rattle.log_repair.proofs.Imports.{◌≡◌, ◌∙◌, ℕ, Bool, List, [], get_or, refl, sym, ap, if◌then◌else◌, on_ok_weaker}
+use Rattle.log_repair.proofs.Imports.{on_err_weaker, node_of_sealed, SealedEntry, held, gaps, History, MachineState}
+use Rattle.log_repair.proofs.Imports.{WorldState, world_of, Asks, TakesTurn, InOrder}
 use Rattle.log_repair.proofs.Going.{adds_as, adds_none, fails_as, fails_now, if_failed}
 use Rattle.log_repair.proofs.OneWay.{turn_continues}
 use Rattle.log_repair.proofs.Turns.{turn_of}

@@ -1,9 +1,5 @@
-use Rattle.std.proofs.Common.{◌≢◌, ◌∙◌, List, [], ◌∷◌, ◌++◌, refl, ap, sym, subst, inl}
-use Rattle.entry_format.specs.Nodes.{node_of_sealed}
-use Rattle.entry_order.specs.declared.step.Step.{Step}
-use Rattle.polling_world.specs.Worlds.{WorldState}
-use Rattle.log_repair.specs.Sequences.{TakesStep}
-use Rattle.log_repair.specs.inside.Adding.{Fails, IsMadeAsBefore}
+use Rattle.log_repair.proofs.Imports.{◌≢◌, ◌∙◌, List, [], ◌∷◌, ◌++◌, refl, ap, sym, subst, inl, node_of_sealed, Step}
+use Rattle.log_repair.proofs.Imports.{WorldState, TakesStep, Fails, IsMadeAsBefore}
 use Rattle.log_repair.proofs.Going.{fails_now, if_failed}
 use Rattle.log_repair.proofs.Making.{changed_world}
 use Rattle.log_repair.proofs.OneWay.{step_may_be_taken}

@@ -1,5 +1,4 @@
-use Rattle.std.proofs.Common.{◌≡◌, ◌++◌, map, length}
-use Rattle.machine_floor.specs.inside.Gathering.{waiting}
+use Rattle.machine_floor.proofs.Imports.{◌≡◌, ◌++◌, map, length, waiting}
 use Rattle.machine_floor.proofs.finishing.add_rest.Given as goal
 
 -- those that were added, and the others

@@ -1,8 +1,5 @@
-use Rattle.std.proofs.Common.{◌≡◌, List, length, Vec, Global, arith, sym, subst}
-use Rattle.std.proofs.lemmas.List.{length-map}
-use Rattle.broadcast_queues.specs.Ends.{LinkView}
-use Rattle.floor_links.proofs.Makings.{lists_of, lists_push}
-use Rattle.machine_floor.specs.inside.Gathering.{IsRowOfEnds, IsRowFinished}
+use Rattle.machine_floor.proofs.Imports.{◌≡◌, List, length, Vec, Global, arith, sym, subst, length-map, LinkView}
+use Rattle.machine_floor.proofs.Imports.{lists_of, lists_push, IsRowOfEnds, IsRowFinished}
 use Rattle.machine_floor.proofs.Rests.{row_ready, finishing_more}
 use Rattle.machine_floor.proofs.finishing.finish_links.Goals as goal
 

@@ -1,5 +1,4 @@
-use Rattle.std.proofs.Common.{length}
-use Rattle.floor_links.proofs.Makings.{lists_of}
+use Rattle.machine_floor.proofs.Imports.{length, lists_of}
 use Rattle.machine_floor.proofs.Rests.{IsFinishing}
 use Rattle.machine_floor.proofs.finishing.finish_links.Given as goal
 

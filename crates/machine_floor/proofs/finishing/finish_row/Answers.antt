@@ -1,8 +1,5 @@
-use Rattle.std.proofs.Common.{◌≡◌, List, length, Vec, Global, arith}
-use Rattle.std.proofs.lemmas.List.{length-map}
-use Rattle.entry_format.specs.SealedEntry.{SealedEntry}
-use Rattle.broadcast_queues.specs.Ends.{InView}
-use Rattle.floor_links.proofs.Makings.{lists_of}
+use Rattle.machine_floor.proofs.Imports.{◌≡◌, List, length, Vec, Global, arith, length-map, SealedEntry, InView}
+use Rattle.machine_floor.proofs.Imports.{lists_of}
 use Rattle.machine_floor.proofs.Rests.{out_fits, inn_fits, made_there, rowing_more, rowing_all}
 use Rattle.machine_floor.proofs.finishing.finish_row.Goals as goal
 

@@ -1,5 +1,4 @@
-use Rattle.std.specs.Vec.Iter.{into_iter_items}
-use Rattle.floor_links.proofs.Makings.{lists_of}
+use Rattle.machine_floor.proofs.Imports.{into_iter_items, lists_of}
 use Rattle.machine_floor.proofs.Rests.{IsRowing}
 use Rattle.machine_floor.proofs.finishing.finish_row.Given as goal
 

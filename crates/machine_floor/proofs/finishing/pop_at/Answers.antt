@@ -1,4 +1,4 @@
-use Rattle.std.proofs.Common.{arith}
+use Rattle.machine_floor.proofs.Imports.{arith}
 use Rattle.machine_floor.proofs.Rests.{popped_at}
 use Rattle.machine_floor.proofs.finishing.pop_at.Goals as goal
 

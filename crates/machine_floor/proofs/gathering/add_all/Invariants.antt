@@ -1,5 +1,4 @@
-use Rattle.std.proofs.Common.{◌≡◌, ◌++◌}
-use Rattle.std.specs.Vec.Iter.{into_iter_items}
+use Rattle.machine_floor.proofs.Imports.{◌≡◌, ◌++◌, into_iter_items}
 use Rattle.machine_floor.proofs.gathering.add_all.Given as goal
 
 -- those that were added, and the others

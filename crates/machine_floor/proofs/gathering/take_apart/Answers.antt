@@ -1,6 +1,5 @@
-use Rattle.std.proofs.Common.{◌++◌, [], ◌∷◌, append_assoc, ap, sym, ◌∙◌}
-use Rattle.std.specs.Vec.Iter.{into_iter_items}
-use Rattle.floor_links.proofs.Makings.{lists_of, lists_push}
+use Rattle.machine_floor.proofs.Imports.{◌++◌, [], ◌∷◌, append_assoc, ap, sym, ◌∙◌, into_iter_items, lists_of}
+use Rattle.machine_floor.proofs.Imports.{lists_push}
 use Rattle.machine_floor.proofs.Parted.{parts_push}
 use Rattle.machine_floor.proofs.gathering.take_apart.Goals as goal
 

@@ -1,8 +1,4 @@
-use Rattle.std.proofs.Common.{◌≡◌, ◌++◌, List}
-use Rattle.std.specs.Vec.Iter.{into_iter_items}
-use Rattle.floor_links.proofs.Makings.{lists_of}
-use Rattle.machine_floor.specs.Stations.{StationState}
-use Rattle.machine_floor.specs.inside.Gathering.{AreParts}
+use Rattle.machine_floor.proofs.Imports.{◌≡◌, ◌++◌, List, into_iter_items, lists_of, StationState, AreParts}
 use Rattle.machine_floor.proofs.gathering.take_apart.Given as goal
 
 -- the stations that were taken apart, and the others

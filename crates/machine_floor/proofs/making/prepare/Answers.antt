@@ -1,12 +1,5 @@
-use Rattle.std.proofs.Common.{◌≡◌, List, length, Vec, Global, sym, ap, ◌∙◌, subst}
-use Rattle.std.proofs.Common.{arith}
-use Rattle.std.specs.Vec.Iter.{into_iter_items}
-use Rattle.broadcast_queues.specs.Ends.{LinkView, OutView, InView}
-use Rattle.election_script.specs.declared.script.Cast0.{Cast0}
-use Rattle.election_script.specs.declared.script.Script.{Script}
-use Rattle.entry_format.specs.SealedEntry.{SealedEntry}
-use Rattle.floor_links.specs.Fresh.{AreNewLinks}
-use Rattle.floor_links.proofs.Makings.{lists_of}
+use Rattle.machine_floor.proofs.Imports.{◌≡◌, List, length, Vec, Global, sym, ap, ◌∙◌, subst, arith, into_iter_items}
+use Rattle.machine_floor.proofs.Imports.{LinkView, OutView, InView, Cast0, Script, SealedEntry, AreNewLinks, lists_of}
 use Rattle.machine_floor.proofs.Rests.{none_in}
 use Rattle.machine_floor.proofs.FirstStations.{AreFirst, first_none, next_key, next_within, outs_there, inns_there}
 use Rattle.machine_floor.proofs.FirstStations.{may_begin, one_more, all_new, all_workable}

@@ -1,8 +1,4 @@
-use Rattle.std.proofs.Common.{List, length}
-use Rattle.std.specs.Vec.Iter.{into_iter_items}
-use Rattle.broadcast_queues.specs.Ends.{LinkView}
-use Rattle.floor_links.specs.Fresh.{AreNewLinks}
-use Rattle.floor_links.proofs.Makings.{lists_of}
+use Rattle.machine_floor.proofs.Imports.{List, length, into_iter_items, LinkView, AreNewLinks, lists_of}
 use Rattle.machine_floor.proofs.FirstStations.{AreFirst}
 use Rattle.machine_floor.proofs.making.prepare.Given as goal
 

@@ -1,7 +1,4 @@
-use Rattle.std.proofs.Common.{◌≡◌, subst}
-use Rattle.std.proofs.lemmas.Result.{IfOk-weaker}
-use Rattle.finished_floor.specs.Places.{IsStopOf}
-use Rattle.machine_floor.specs.inside.Beginning.{begun, HasBegun}
+use Rattle.machine_floor.proofs.Imports.{◌≡◌, subst, IfOk-weaker, IsStopOf, begun, HasBegun}
 use Rattle.machine_floor.proofs.making.station_of.Goals as goal
 
 pub new-requires : goal.new-requires

@@ -1,5 +1,4 @@
-use Rattle.std.proofs.Common.{◌≢◌, ℕ, ◌<◌, get_or}
-use Rattle.election_script.specs.declared.script.StopAt.{StopAt}
+use Rattle.machine_floor.proofs.Imports.{◌≢◌, ℕ, ◌<◌, get_or, StopAt}
 use Rattle.machine_floor.proofs.making.stop_of.Given as goal
 
 -- none of the lines that were read is the machine's

@@ -1,4 +1,4 @@
-use Rattle.std.proofs.Common.{arith}
+use Rattle.machine_floor.proofs.Imports.{arith}
 use Rattle.machine_floor.proofs.Worked.{still_made}
 use Rattle.machine_floor.proofs.running.run_floor.Goals as goal
 

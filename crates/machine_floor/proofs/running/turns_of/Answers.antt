@@ -1,6 +1,4 @@
-use Rattle.std.proofs.Common.{◌+◌, List, length, ap, ◌∙◌, arith, get_or}
-use Rattle.election_script.specs.declared.script.Cast0.{Cast0}
-use Rattle.entry_format.specs.declared.deed.Deed.{Deed}
+use Rattle.machine_floor.proofs.Imports.{◌+◌, List, length, ap, ◌∙◌, arith, get_or, Cast0, Deed}
 use Rattle.machine_floor.proofs.Counted.{counted_more, counted_few}
 use Rattle.machine_floor.proofs.running.turns_of.Goals as goal
 

@@ -1,5 +1,4 @@
-use Rattle.std.proofs.Common.{◌≡◌, length, take}
-use Rattle.std.specs.List.{flat_map}
+use Rattle.machine_floor.proofs.Imports.{◌≡◌, length, take, flat_map}
 use Rattle.machine_floor.proofs.running.turns_of.Given as goal
 
 -- the actions of the machines so far

@@ -1,5 +1,4 @@
-use Rattle.std.proofs.Common.{◌≡◌, take}
-use Rattle.machine_floor.specs.Fresh.{lose_lines_of}
+use Rattle.machine_floor.proofs.Imports.{◌≡◌, take, lose_lines_of}
 use Rattle.machine_floor.proofs.station.lines_of.Given as goal
 
 -- the lines that were read

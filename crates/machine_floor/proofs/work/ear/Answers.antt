@@ -1,5 +1,4 @@
-use Rattle.std.proofs.Common.{◌∙◌, sym, ap, subst, refl}
-use Rattle.machine_floor.specs.Stations.{StationState, IsOfLinks, made_of}
+use Rattle.machine_floor.proofs.Imports.{◌∙◌, sym, ap, subst, refl, StationState, IsOfLinks, made_of}
 use Rattle.machine_floor.proofs.Works.{own_ticks, of_brand}
 use Rattle.machine_floor.proofs.work.ear.Goals as goal
 

@@ -1,5 +1,4 @@
-use Rattle.std.proofs.Common.{[], ◌∷◌, ◌≡◌, ◌∙◌, sym, ap, subst}
-use Rattle.machine_floor.specs.Stations.{StationState, IsOfLinks, made_of}
+use Rattle.machine_floor.proofs.Imports.{[], ◌∷◌, ◌≡◌, ◌∙◌, sym, ap, subst, StationState, IsOfLinks, made_of}
 use Rattle.machine_floor.proofs.Works.{hand_grown, hand_made, grows, own_ticks, of_brand}
 use Rattle.machine_floor.proofs.work.hand.Goals as goal
 

@@ -1,10 +1,9 @@
-use Rattle.std.proofs.Common.{◌≡◌, ℕ, suc, ◌+◌, ◌<◌, List, get_or, vec_len, vec_items, Ok, refl, ap, ◌∙◌}
-use Rattle.std.proofs.Common.{arith, add-zero, below_more}
-use Rattle.std.specs.Vec.Iter.{into_iter_items, into_iter_len}
-use Rattle.machine_floor.specs.Stations.{StationState, made_of}
+use Rattle.machine_floor.proofs.Imports.{◌≡◌, ℕ, suc, ◌+◌, ◌<◌, List, get_or, vec_len, vec_items, Ok, refl, ap, ◌∙◌}
+use Rattle.machine_floor.proofs.Imports.{arith, add-zero, below_more, into_iter_items, into_iter_len, StationState}
+use Rattle.machine_floor.proofs.Imports.{made_of}
 use Rattle.machine_floor.proofs.work.work_all.Goals as goal
 
--- the station that comes out stood first among the rest
+-- the station that comes out was first among the rest
 pub loop-station-preserved : goal.loop-station-preserved
 loop-station-preserved g c =
     let (count, left, made) = c.loop-station.invariant in

@@ -1,6 +1,5 @@
-use Rattle.std.proofs.Common.{◌≡◌, ℕ, ◌+◌, ◌<◌, get_or, vec_items, vec_len, Ok}
-use Rattle.std.specs.Vec.Iter.{into_iter_items, into_iter_len}
-use Rattle.machine_floor.specs.Stations.{StationState, made_of}
+use Rattle.machine_floor.proofs.Imports.{◌≡◌, ℕ, ◌+◌, ◌<◌, get_or, vec_items, vec_len, Ok, into_iter_items}
+use Rattle.machine_floor.proofs.Imports.{into_iter_len, StationState, made_of}
 use Rattle.machine_floor.proofs.work.work_all.Given as goal
 
 -- those that came out already are as they were made, and the rest, where they come out

@@ -1,5 +1,4 @@
-use Rattle.std.proofs.Common.{◌≡◌, map, take}
-use Rattle.polling_world.specs.Keys.{key_of}
+use Rattle.polling_world.proofs.Imports.{◌≡◌, map, take, key_of}
 use Rattle.polling_world.proofs.keys.keys_in.Given as goal
 
 -- the keys so far

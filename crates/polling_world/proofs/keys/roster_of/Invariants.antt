@@ -1,5 +1,4 @@
-use Rattle.std.proofs.Common.{◌≡◌, map, take}
-use Rattle.polling_world.specs.Keys.{post_of}
+use Rattle.polling_world.proofs.Imports.{◌≡◌, map, take, post_of}
 use Rattle.polling_world.proofs.keys.roster_of.Given as goal
 
 -- the machines so far

@@ -1,10 +1,5 @@
-use Rattle.std.proofs.Common.{rules, ◌≡◌, ◌∙◌, map, sym, ap, subst}
-use Rattle.std.proofs.lemmas.Fn.{always_returns_same}
-use Rattle.std.proofs.lemmas.Result.{IfOk-weaker}
-use Rattle.entry_format.specs.Nodes.{node_of_sealed}
-use Rattle.polling_world.specs.declared.merging.RankedStep.{RankedStep}
-use Rattle.polling_world.specs.Merging.{IsMerged}
-use Rattle.polling_world.specs.Worlds.{world_of}
+use Rattle.polling_world.proofs.Imports.{rules, ◌≡◌, ◌∙◌, map, sym, ap, subst, always_returns_same, IfOk-weaker}
+use Rattle.polling_world.proofs.Imports.{node_of_sealed, RankedStep, IsMerged, world_of}
 use Rattle.polling_world.proofs.Sorting.{rank_of, merged_from}
 use Rattle.polling_world.proofs.merging.merge.Goals as goal
 

@@ -1,11 +1,5 @@
-use Rattle.std.proofs.Common.{rules, ◌≡◌, ◌∙◌, get_or, sym, ap, arith}
-use Rattle.std.proofs.lemmas.List.{length-map}
-use Rattle.entangled_log.specs.Logs.{History}
-use Rattle.entry_format.specs.Nodes.{node_of_sealed}
-use Rattle.entry_format.specs.SealedEntry.{SealedEntry}
-use Rattle.entry_order.specs.World.{history}
-use Rattle.polling_world.specs.Machines.{MachineState}
-use Rattle.polling_world.specs.Worlds.{machine_of, world_of}
+use Rattle.polling_world.proofs.Imports.{rules, ◌≡◌, ◌∙◌, get_or, sym, ap, arith, length-map, History, node_of_sealed}
+use Rattle.polling_world.proofs.Imports.{SealedEntry, history, MachineState, machine_of, world_of}
 use Rattle.polling_world.proofs.Placing.{history_at}
 use Rattle.polling_world.proofs.Ranking.{ranked_all, ranked_more}
 use Rattle.polling_world.proofs.merging.rank_all.Goals as goal

@@ -1,7 +1,4 @@
-use Rattle.std.proofs.Common.{◌≡◌, ◌≤◌, length, map}
-use Rattle.entry_format.specs.Nodes.{node_of_sealed}
-use Rattle.polling_world.specs.Worlds.{world_of}
-use Rattle.polling_world.specs.inside.Ranked.{ranked_step}
+use Rattle.polling_world.proofs.Imports.{◌≡◌, ◌≤◌, length, map, node_of_sealed, world_of, ranked_step}
 use Rattle.polling_world.proofs.Ranking.{events_to}
 use Rattle.polling_world.proofs.merging.rank_all.Given as goal
 

@@ -1,7 +1,5 @@
-use Rattle.std.proofs.Common.{rules, ◌≡◌, ◌+◌, ◌<◌, ◌∙◌, ◌++◌, ◌∷◌, [], length, get_or, max, take, take_all}
-use Rattle.entry_format.specs.Nodes.{node_of_sealed}
-use Rattle.entry_order.specs.History.{entry_of, held, greatest_stamp}
-use Rattle.entry_order.specs.Merged.{kind, step_of}
+use Rattle.polling_world.proofs.Imports.{rules, ◌≡◌, ◌+◌, ◌<◌, ◌∙◌, ◌++◌, ◌∷◌, [], length, get_or, max, take}
+use Rattle.polling_world.proofs.Imports.{take_all, node_of_sealed, entry_of, held, greatest_stamp, kind, step_of}
 use Rattle.polling_world.proofs.Ranking.{clock_more, steps_by_places, steps_more}
 use Rattle.polling_world.proofs.merging.rank_events.Goals as goal
 

@@ -1,11 +1,8 @@
-use Rattle.std.proofs.Common.{◌≡◌, ◌++◌, [], map, take}
-use Rattle.entry_format.specs.Nodes.{node_of_sealed}
-use Rattle.entry_order.specs.History.{held, greatest_stamp}
-use Rattle.entry_order.proofs.Merged.{placed_of}
-use Rattle.polling_world.specs.inside.Ranked.{ranked_step}
+use Rattle.polling_world.proofs.Imports.{◌≡◌, ◌++◌, [], map, take, node_of_sealed, held, greatest_stamp, placed_of}
+use Rattle.polling_world.proofs.Imports.{ranked_step}
 use Rattle.polling_world.proofs.merging.rank_events.Given as goal
 
--- the greatest stamp so far, and the steps so far behind the others
+-- the greatest stamp so far, and the steps so far after the others
 abbrev pub invariant-loop-place : goal.invariant-loop-place
 invariant-loop-place l = record {
   clock : l.clock ≡ greatest_stamp node_of_sealed (held (take l.place l.events));

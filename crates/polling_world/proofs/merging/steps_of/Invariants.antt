@@ -1,4 +1,4 @@
-use Rattle.std.proofs.Common.{◌≡◌, map, take}
+use Rattle.polling_world.proofs.Imports.{◌≡◌, map, take}
 use Rattle.polling_world.proofs.merging.steps_of.Given as goal
 
 -- the steps so far

@@ -1,4 +1,4 @@
-use Rattle.std.proofs.Common.{◌≡◌, replicate}
+use Rattle.polling_world.proofs.Imports.{◌≡◌, replicate}
 use Rattle.polling_world.proofs.parts.copies_of.Given as goal
 
 -- the copies so far

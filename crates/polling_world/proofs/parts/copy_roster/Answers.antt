@@ -1,4 +1,4 @@
-use Rattle.std.proofs.Common.{◌∙◌, refl}
+use Rattle.polling_world.proofs.Imports.{◌∙◌, refl}
 use Rattle.polling_world.proofs.Rosters.{election_is}
 use Rattle.polling_world.proofs.parts.copy_roster.Goals as goal
 

@@ -1,5 +1,4 @@
-use Rattle.std.proofs.Common.{◌∙◌}
-use Rattle.entry_order.specs.declared.step.Step.TheVariants.{Act}
+use Rattle.polling_world.proofs.Imports.{◌∙◌, Act}
 use Rattle.polling_world.proofs.Played.{stays_first, stays_more, leads_first, leads_more, step_of, played_whole}
 use Rattle.polling_world.proofs.playing.play.Goals as goal
 

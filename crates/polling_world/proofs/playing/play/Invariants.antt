@@ -1,5 +1,4 @@
-use Rattle.std.proofs.Common.{◌≡◌, drop}
-use Rattle.polling_world.specs.Keys.{roster_of}
+use Rattle.polling_world.proofs.Imports.{◌≡◌, drop, roster_of}
 use Rattle.polling_world.proofs.Played.{Stays, Leads}
 use Rattle.polling_world.proofs.playing.play.Given as goal
 

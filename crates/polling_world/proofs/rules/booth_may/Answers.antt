@@ -1,7 +1,5 @@
-use Rattle.std.proofs.Common.{◌∙◌, sym, subst}
-use Rattle.std.specs.Prelude.{IsTrue, ◌↔◌}
-use Rattle.std.proofs.lemmas.Bool.{true≢false}
-use Rattle.polling_world.specs.Rules.{IsWholeHistory, entries_in, needs_whole}
+use Rattle.polling_world.proofs.Imports.{◌∙◌, sym, subst, IsTrue, ◌↔◌, true≢false, IsWholeHistory, entries_in}
+use Rattle.polling_world.proofs.Imports.{needs_whole}
 use Rattle.polling_world.proofs.Ruled.{same_whole}
 use Rattle.polling_world.proofs.rules.booth_may.Goals as goal
 use Rattle.polling_world.proofs.rules.booth_may.Goals.{then-needs_whole, else-needs_whole}

@@ -1,10 +1,6 @@
-use Rattle.std.proofs.Common.{◌∙◌, List, Some, ap, arith, inr, subst, sym}
-use Rattle.std.specs.Prelude.{slice_get}
-use Rattle.entry_format.specs.SealedEntry.{SealedEntry}
-use Rattle.entry_order.specs.declared.event.Event.{Event}
-use Rattle.entry_order.specs.History.{sent}
-use Rattle.entangled_log.specs.Logs.{History}
-use Rattle.polling_world.specs.Machines.{MachineState}
+use Rattle.std.proofs.Common.{Some}
+use Rattle.polling_world.proofs.Imports.{◌∙◌, List, ap, arith, inr, subst, sym, slice_get, SealedEntry, Event, sent}
+use Rattle.polling_world.proofs.Imports.{History, MachineState}
 use Rattle.polling_world.proofs.Placing.{history_at}
 use Rattle.polling_world.proofs.Taking.{IsTold, refused_given, stands_at}
 use Rattle.polling_world.proofs.steps.hear_at.Goals as goal

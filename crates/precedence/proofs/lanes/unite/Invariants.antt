@@ -14,7 +14,7 @@ invariant-loop-at l = record {
 abbrev pub decreases-loop-at : goal.decreases-loop-at
 decreases-loop-at l = length l.into - l.at
 
--- the same, a word at a time
+-- the words so far are united, one word at a time
 abbrev pub invariant-loop-rest : goal.invariant-loop-rest
 invariant-loop-rest l = record {
   done : (k : ℕ) → k < l.rest →

@@ -1,4 +1,4 @@
-use Rattle.std.proofs.Common.{refl, true≢false, sym}
+use Rattle.roster.proofs.Imports.{refl, true≢false, sym}
 use Rattle.roster.proofs.Raws.{same_name_found, no_name_found, one_more_distinct}
 use Rattle.roster.proofs.reading.are_distinct.Goals as goal
 

@@ -1,5 +1,4 @@
-use Rattle.std.proofs.Common.{◌≢◌, ℕ, ◌<◌, slice_index_or}
-use Rattle.roster.specs.declared.reading.Raw.{Raw}
+use Rattle.roster.proofs.Imports.{◌≢◌, ℕ, ◌<◌, slice_index_or, Raw}
 use Rattle.roster.proofs.reading.are_distinct.Given as goal
 
 -- no two of the machines so far have one name

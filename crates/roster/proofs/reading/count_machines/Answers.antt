@@ -1,6 +1,4 @@
-use Rattle.std.proofs.Common.{◌∙◌, ◌∷◌, [], ◌++◌, List, subst}
-use Rattle.roster.specs.declared.post.Post.{Post}
-use Rattle.roster.specs.inside.Raw.{post_of, IsRosterTree}
+use Rattle.roster.proofs.Imports.{◌∙◌, ◌∷◌, [], ◌++◌, List, subst, Post, post_of, IsRosterTree}
 use Rattle.roster.proofs.Walk.{IsWalked, walked_on, walked, next_machine, counted}
 use Rattle.roster.proofs.reading.count_machines.Goals as goal
 

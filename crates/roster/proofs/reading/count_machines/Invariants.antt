@@ -1,6 +1,4 @@
-use Rattle.std.proofs.Common.{List}
-use Rattle.canonical_sexp.specs.Sexp.{members_of}
-use Rattle.roster.specs.declared.post.Post.{Post}
+use Rattle.roster.proofs.Imports.{List, members_of, Post}
 use Rattle.roster.proofs.Walk.{IsWalked}
 use Rattle.roster.proofs.reading.count_machines.Given as goal
 

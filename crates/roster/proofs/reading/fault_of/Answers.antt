@@ -1,10 +1,8 @@
-use Rattle.std.proofs.Common.{refl, arith, ◌∙◌, sym, true≢false}
-use Rattle.std.proofs.lemmas.List.{length-map}
-use Rattle.roster.specs.inside.Raw.{post_of}
+use Rattle.roster.proofs.Imports.{refl, arith, ◌∙◌, sym, true≢false, length-map, post_of}
 use Rattle.roster.proofs.Raws.{named_posts, named_raws, distinct_posts, distinct_raws, supervisors}
 use Rattle.roster.proofs.reading.fault_of.Goals as goal
 
--- a name hasn't the form of one
+-- a name doesn't have the form of one
 pub returns-then-not-are_named : goal.returns-then-not-are_named
 returns-then-not-are_named c =
     let raws = c.args.raws.now in (

@@ -1,12 +1,8 @@
-use Rattle.std.proofs.Common.{◌≡◌, ◌∙◌, ap, sym, refl}
-use Rattle.std.specs.Prelude.{codes}
-use Rattle.canonical_sexp.specs.declared.sexp.Sexp.TheVariants.{Atom, List as Branch}
-use Rattle.canonical_sexp.specs.Forest.{Forest}
-use Rattle.canonical_sexp.specs.Sexp.{in_front}
-use Rattle.canonical_sexp.proofs.Rows.{forest_of-members_of}
+use Rattle.roster.proofs.Imports.{◌≡◌, ◌∙◌, ap, sym, refl, codes, Atom, Forest, in_front, forest_of-members_of}
+use Rattle.canonical_sexp.specs.declared.sexp.Sexp.TheVariants.{List as Branch}
 use Rattle.roster.proofs.reading.machines_in.Goals as goal
 
--- the word and the version stand in front of the members that are left
+-- the word and the version are in front of the members that are left
 pub returns-clause-found : goal.returns-clause-found
 returns-clause-found c =
     let left : Forest = c.take_next-2.new.self in

@@ -1,4 +1,4 @@
-use Rattle.std.proofs.Common.{ap, ◌∙◌, List, ℕ}
+use Rattle.roster.proofs.Imports.{ap, ◌∙◌, List, ℕ}
 use Rattle.roster.proofs.Raws.{name_is_text}
 use Rattle.roster.proofs.reading.named.Goals as goal
 

@@ -1,5 +1,4 @@
-use Rattle.std.proofs.Common.{◌≡◌, map, take}
-use Rattle.roster.specs.inside.Raw.{post_of}
+use Rattle.roster.proofs.Imports.{◌≡◌, map, take, post_of}
 use Rattle.roster.proofs.reading.posts_of.Given as goal
 
 -- the machines so far

@@ -1,9 +1,5 @@
-use Rattle.std.proofs.Common.{◌∙◌, ◌∷◌, [], List, map, ap, subst, sym}
-use Rattle.canonical_sexp.specs.declared.sexp.Sexp.{Sexp}
-use Rattle.canonical_sexp.specs.Sexp.{members_of}
-use Rattle.std.proofs.lemmas.List.{map-append}
-use Rattle.roster.specs.declared.post.Post.{Post}
-use Rattle.roster.specs.inside.Raw.{post_of}
+use Rattle.roster.proofs.Imports.{◌∙◌, ◌∷◌, [], List, map, ap, subst, sym, Sexp, members_of, map-append, Post}
+use Rattle.roster.proofs.Imports.{post_of}
 use Rattle.roster.proofs.Walk.{IsWalked, walked_on, next_machine, some_unless}
 use Rattle.roster.proofs.reading.raws_of.Goals as goal
 

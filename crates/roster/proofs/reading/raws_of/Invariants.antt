@@ -1,6 +1,4 @@
-use Rattle.std.proofs.Common.{map}
-use Rattle.canonical_sexp.specs.Sexp.{members_of}
-use Rattle.roster.specs.inside.Raw.{post_of}
+use Rattle.roster.proofs.Imports.{map, members_of, post_of}
 use Rattle.roster.proofs.Walk.{IsWalked}
 use Rattle.roster.proofs.reading.raws_of.Given as goal
 

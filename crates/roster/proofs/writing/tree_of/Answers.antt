@@ -1,10 +1,6 @@
-use Rattle.std.proofs.Common.{◌≡◌, ◌∙◌, List, map, take, ap, sym, arith}
-use Rattle.std.proofs.lemmas.List.{take_all}
+use Rattle.roster.proofs.Imports.{◌≡◌, ◌∙◌, List, map, take, ap, sym, arith, take_all, forest_of}
+use Rattle.roster.proofs.Imports.{forest_of-members_of, Post, post_tree, headed}
 use Rattle.canonical_sexp.specs.declared.sexp.Sexp.TheVariants.{List as Branch}
-use Rattle.canonical_sexp.specs.Sexp.{forest_of}
-use Rattle.canonical_sexp.proofs.Rows.{forest_of-members_of}
-use Rattle.roster.specs.declared.post.Post.{Post}
-use Rattle.roster.specs.RosterText.{post_tree, headed}
 use Rattle.roster.proofs.writing.tree_of.Goals as goal
 
 pub returns : goal.returns

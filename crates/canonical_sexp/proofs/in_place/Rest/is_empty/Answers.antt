@@ -1,6 +1,4 @@
-use Rattle.std.proofs.Common.{◌≡◌, ◌∙◌, ap, sym, length, arith}
-use Rattle.std.proofs.lemmas.Bool.Decides.{nat_tests}
-use Rattle.canonical_sexp.specs.Text.{texts_of}
+use Rattle.canonical_sexp.proofs.Imports.{◌≡◌, ◌∙◌, ap, sym, length, arith, nat_tests, texts_of}
 use Rattle.canonical_sexp.proofs.InPlace.{no_bytes_left}
 use Rattle.canonical_sexp.proofs.in_place.Rest.is_empty.Goals as goal
 

@@ -1,5 +1,4 @@
-use Rattle.std.proofs.Common.{◌≡◌, ◌+◌}
-use Rattle.canonical_sexp.specs.Forest.{count_of}
+use Rattle.canonical_sexp.proofs.Imports.{◌≡◌, ◌+◌, count_of}
 use Rattle.canonical_sexp.proofs.in_place.Rest.len.Given as goal
 
 -- those counted and those that are left

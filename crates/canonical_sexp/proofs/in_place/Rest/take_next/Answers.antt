@@ -1,6 +1,4 @@
-use Rattle.std.proofs.Common.{◌≡◌, ◌∙◌, ap, sym}
-use Rattle.std.proofs.lemmas.List.{take_rest}
-use Rattle.canonical_sexp.specs.Sexp.{in_front}
+use Rattle.canonical_sexp.proofs.Imports.{◌≡◌, ◌∙◌, ap, sym, take_rest, in_front}
 use Rattle.canonical_sexp.proofs.InPlace.{taken, spelt, row_spelt, same_text, same_members, none_if_cut, none_if_bad}
 use Rattle.canonical_sexp.proofs.in_place.Rest.take_next.Goals as goal
 

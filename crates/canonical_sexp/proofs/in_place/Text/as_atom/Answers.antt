@@ -1,6 +1,4 @@
-use Rattle.std.proofs.Common.{◌∙◌, sym, Bor, List, ℕ}
-use Rattle.std.proofs.lemmas.Option.{IfSome_then}
-use Rattle.canonical_sexp.specs.declared.sexp.Sexp.TheVariants.{Atom}
+use Rattle.canonical_sexp.proofs.Imports.{◌∙◌, sym, Bor, List, ℕ, IfSome_then, Atom}
 use Rattle.canonical_sexp.proofs.InPlace.{same_text}
 use Rattle.canonical_sexp.proofs.in_place.Text.as_atom.Goals as goal
 

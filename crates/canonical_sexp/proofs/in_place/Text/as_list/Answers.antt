@@ -1,6 +1,4 @@
-use Rattle.std.proofs.Common.{◌∙◌, ap, sym, subst}
-use Rattle.canonical_sexp.specs.Text.{Fits}
-use Rattle.canonical_sexp.specs.declared.sexp.Sexp.{Sexp}
+use Rattle.canonical_sexp.proofs.Imports.{◌∙◌, ap, sym, subst, Fits, Sexp}
 use Rattle.canonical_sexp.specs.declared.sexp.Sexp.TheVariants.{List as Branch}
 use Rattle.canonical_sexp.proofs.InPlace.{listed, row_spelt, same_members}
 use Rattle.canonical_sexp.proofs.in_place.Text.as_list.Goals as goal

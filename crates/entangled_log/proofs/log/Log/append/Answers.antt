@@ -1,11 +1,6 @@
-use Rattle.std.proofs.Common.{◌≡◌, ◌<◌, max, List, [], ◌∷◌, ◌++◌, length, vec_capacity, sym, ap, subst, ◌∙◌}
-use Rattle.std.proofs.Common.{rules, arith}
-use Rattle.entry_order.specs.declared.event.Event.{Event}
-use Rattle.entry_order.specs.History.{entry_of, MayFollow}
-use Rattle.entry_order.proofs.Histories.{IsLegal-push}
-use Rattle.log_frontier.specs.Places.{HasNoDigestTwice, StandsFor}
-use Rattle.entangled_log.specs.Logs.{History}
-use Rattle.entangled_log.specs.inside.Kept.{own_after}
+use Rattle.entangled_log.proofs.Imports.{◌≡◌, ◌<◌, max, List, [], ◌∷◌, ◌++◌, length, vec_capacity, sym, ap, subst}
+use Rattle.entangled_log.proofs.Imports.{◌∙◌, rules, arith, Event, entry_of, MayFollow, IsLegal-push}
+use Rattle.entangled_log.proofs.Imports.{HasNoDigestTwice, StandsFor, History, own_after}
 use Rattle.entangled_log.proofs.Own.{own_few}
 use Rattle.entangled_log.proofs.Kept.{IsKept-push, IsKept-at, no_digest_twice, stands_before}
 use Rattle.entangled_log.proofs.log.Log.append.Goals as goal
@@ -24,7 +19,7 @@ note-requires-clause-stands g c =
     stands_before (λ x. g.T.Knot.node (entry_of x)) c.self.inside.events.items c.args.event c.len-place.result
     c.deref.result.now c.self.inside.frontier c.self.invariant.stands (search rules) (search rules)
 
--- the longer history is legal, so no digest stands twice in it
+-- the longer history is legal, so it has no digest twice
 pub note-requires-clause-distinct : goal.note-requires-clause-distinct
 note-requires-clause-distinct g c =
     let node = g.T.Knot.node in

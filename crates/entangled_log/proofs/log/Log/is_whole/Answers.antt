@@ -1,13 +1,9 @@
-use Rattle.std.proofs.Common.{List, ◌∙◌, ap, sym, subst}
-use Rattle.std.specs.Prelude.{◌↔◌, not, IsTrue}
-use Rattle.entry_order.specs.declared.event.Event.{Event}
-use Rattle.entry_order.specs.History.{entry_of, held}
-use Rattle.log_frontier.specs.Places.{StandsFor}
-use Rattle.entangled_log.specs.Whole.{NamesOnlyHeld}
+use Rattle.entangled_log.proofs.Imports.{List, ◌∙◌, ap, sym, subst, ◌↔◌, not, IsTrue, Event, entry_of, held}
+use Rattle.entangled_log.proofs.Imports.{StandsFor, NamesOnlyHeld}
 use Rattle.entangled_log.proofs.Whole.{whole_entries}
 use Rattle.entangled_log.proofs.log.Log.is_whole.Goals as goal
 
--- the frontier stands for the events as they are lent
+-- the frontier describes the events that the call reads
 pub wants-requires : goal.wants-requires
 wants-requires g c =
     subst (λ (h : List (Event g.row.T.Denot)). StandsFor (λ x. g.T.Knot.node (entry_of x)) h c.self.inside.frontier)

@@ -1,13 +1,9 @@
-use Rattle.std.proofs.Common.{◌∙◌, List, ap, sym, subst}
-use Rattle.std.proofs.lemmas.Result.{IfOk-weaker}
-use Rattle.entry_order.specs.declared.event.Event.{Event}
-use Rattle.entry_order.specs.History.{entry_of, held}
-use Rattle.entry_order.specs.Survivors.{gaps}
-use Rattle.log_frontier.specs.Places.{StandsFor}
+use Rattle.entangled_log.proofs.Imports.{◌∙◌, List, ap, sym, subst, IfOk-weaker, Event, entry_of, held, gaps}
+use Rattle.entangled_log.proofs.Imports.{StandsFor}
 use Rattle.entangled_log.proofs.Missing.{gaps_held}
 use Rattle.entangled_log.proofs.log.Log.missing.Goals as goal
 
--- the frontier stands for the events as they are lent
+-- the frontier describes the events that the call reads
 pub missing-requires : goal.missing-requires
 missing-requires g c =
     subst (λ (h : List (Event g.row.T.Denot)). StandsFor (λ x. g.T.Knot.node (entry_of x)) h c.self.inside.frontier)

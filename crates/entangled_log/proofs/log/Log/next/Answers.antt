@@ -1,9 +1,5 @@
-use Rattle.std.proofs.Common.{List, ℕ, ◌≡◌, ◌<◌, ◌+◌, ◌∙◌, ap, sym, subst, length, arith, rules}
-use Rattle.entry_order.specs.declared.event.Event.{Event}
-use Rattle.entry_order.specs.History.{entry_of, held, greatest_stamp}
-use Rattle.entry_order.proofs.Histories.{few_sent}
-use Rattle.log_frontier.specs.Places.{IsFrontierAt}
-use Rattle.entangled_log.specs.Logs.{History}
+use Rattle.entangled_log.proofs.Imports.{List, ℕ, ◌≡◌, ◌<◌, ◌+◌, ◌∙◌, ap, sym, subst, length, arith, rules, Event}
+use Rattle.entangled_log.proofs.Imports.{entry_of, held, greatest_stamp, few_sent, IsFrontierAt, History}
 use Rattle.entangled_log.proofs.Own.{own_count}
 use Rattle.entangled_log.proofs.log.Log.next.Goals as goal
 
@@ -21,7 +17,7 @@ overflow_cast-result g c =
     let is : c.len.result ≡ length c.self.inside.own.items = search rules in
     omega (arith, few, count, stamp, fits, is)
 
--- the places are the frontier of the events as they are lent
+-- the places are the frontier of the events that the call reads
 pub frontier_at-requires : goal.frontier_at-requires
 frontier_at-requires g c =
     let node = g.T.Knot.node in

@@ -1,8 +1,4 @@
-use Rattle.std.proofs.Common.{List, ◌<◌, ap, subst, rules}
-use Rattle.std.specs.Prelude.{◌↔◌, IsNone}
-use Rattle.entry_order.specs.declared.event.Event.{Event}
-use Rattle.entry_order.specs.History.{held}
-use Rattle.entangled_log.specs.Nexts.{HasGreatestStamp}
+use Rattle.entangled_log.proofs.Imports.{List, ◌<◌, ap, subst, rules, ◌↔◌, IsNone, Event, held, HasGreatestStamp}
 use Rattle.entangled_log.proofs.Greatest.{none_exactly}
 use Rattle.entangled_log.proofs.log.Log.next_stamp.Goals as goal
 

@@ -1,15 +1,9 @@
-use Rattle.std.proofs.Common.{List, ◌≡◌, ◌∙◌, ap, sym, subst}
-use Rattle.std.specs.Prelude.{option_map, slice_get}
-use Rattle.std.specs.List.{Contains}
-use Rattle.std.proofs.lemmas.Option.{slice_get_within}
-use Rattle.entry_order.specs.declared.event.Event.{Event}
-use Rattle.entry_order.specs.History.{entry_of, held}
-use Rattle.entry_order.specs.Naming.{IsBorneIn}
-use Rattle.log_frontier.specs.Places.{StandsFor}
+use Rattle.entangled_log.proofs.Imports.{List, ◌≡◌, ◌∙◌, ap, sym, subst, option_map, slice_get, Contains}
+use Rattle.entangled_log.proofs.Imports.{slice_get_within, Event, entry_of, held, IsBorneIn, StandsFor}
 use Rattle.entangled_log.proofs.Whole.{borne_at, none_bears}
 use Rattle.entangled_log.proofs.log.Log.with_digest.Goals as goal
 
--- the frontier stands for the events as they are lent
+-- the frontier describes the events that the call reads
 pub place_of-requires : goal.place_of-requires
 place_of-requires g c =
     subst (λ (h : List (Event g.row.T.Denot)). StandsFor (λ x. g.T.Knot.node (entry_of x)) h c.self.inside.frontier)

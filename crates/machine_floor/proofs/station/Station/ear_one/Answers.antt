@@ -1,18 +1,10 @@
-use Rattle.std.proofs.Common.{◌≡◌, ◌<◌, [], ◌∷◌, ◌++◌, length, sym, ap, ◌∙◌, subst, arith}
-use Rattle.std.proofs.Common.{get_or}
-use Rattle.std.specs.Prelude.{slice_set}
-use Rattle.std.proofs.lemmas.List.{get_or_default}
-use Rattle.entry_format.specs.SealedEntry.{SealedEntry}
-use Rattle.broadcast_queues.specs.Ends.{InView, IsInOf, FoundLinkEmpty}
-use Rattle.polling_world.specs.Hearing.{IsHeard, machine_after}
-use Rattle.machine_floor.specs.Stations.{StationState}
-use Rattle.machine_floor.specs.Turns.{EarTook, EarFoundNone}
-use Rattle.machine_floor.specs.Viewing.{state_of}
+use Rattle.machine_floor.proofs.Imports.{◌≡◌, ◌<◌, [], ◌∷◌, ◌++◌, length, sym, ap, ◌∙◌, subst, arith, get_or}
+use Rattle.machine_floor.proofs.Imports.{slice_set, get_or_default, SealedEntry, InView, IsInOf, FoundLinkEmpty}
+use Rattle.machine_floor.proofs.Imports.{IsHeard, machine_after, StationState, EarTook, EarFoundNone, state_of}
+use Rattle.machine_floor.proofs.Imports.{Config, History}
 use Rattle.machine_floor.proofs.EarTurns.{look, room_for_loss, room_for_heard, station_heard, ear_heard}
 use Rattle.machine_floor.proofs.EarTurns.{station_lost, ear_lost, station_bare, ear_bare, same_config, loss_is}
 use Rattle.machine_floor.proofs.EarTurns.{maker_of}
-use Rattle.polling_world.specs.Configs.{Config}
-use Rattle.entangled_log.specs.Logs.{History}
 use Rattle.machine_floor.proofs.station.Station.ear_one.Goals as goal
 
 pub invariant_of-self : goal.invariant_of-self

@@ -1,13 +1,7 @@
-use Rattle.std.proofs.Common.{inl, inr, ◌≡◌, ℕ, ◌+◌, ◌≤◌, length, sym, ap, ◌∙◌, subst, arith}
-use Rattle.std.proofs.Common.{refl}
-use Rattle.entry_format.specs.SealedEntry.{SealedEntry}
-use Rattle.entangled_log.specs.Logs.{History}
-use Rattle.broadcast_queues.specs.Ends.{LinkView}
-use Rattle.floor_links.specs.Rows.{link_at}
-use Rattle.machine_floor.specs.Stations.{StationState, IsOfLinks, made_of}
-use Rattle.machine_floor.specs.Viewing.{state_of}
+use Rattle.machine_floor.proofs.Imports.{inl, inr, ◌≡◌, ℕ, ◌+◌, ◌≤◌, length, sym, ap, ◌∙◌, subst, arith, refl}
+use Rattle.machine_floor.proofs.Imports.{SealedEntry, History, LinkView, link_at, StationState, IsOfLinks, made_of}
+use Rattle.machine_floor.proofs.Imports.{state_of, HasLooked}
 use Rattle.machine_floor.proofs.EarLoops.{HasHeard, heard_none, heard_more, looked_more, one_or_none, at_most_one}
-use Rattle.machine_floor.specs.Turns.{HasLooked}
 use Rattle.machine_floor.proofs.Linked.{in_now, same_number, same_inns, as_many_rows, as_long_rows, senders}
 use Rattle.machine_floor.proofs.station.Station.ear_turn.Goals as goal
 use Rattle.machine_floor.proofs.station.Station.ear_turn.Goals.{then-from-own, else-from-own}

@@ -1,5 +1,4 @@
-use Rattle.std.proofs.Common.{◌≤◌}
-use Rattle.machine_floor.specs.Turns.{HasLooked}
+use Rattle.machine_floor.proofs.Imports.{◌≤◌, HasLooked}
 use Rattle.machine_floor.proofs.EarLoops.{HasHeard}
 use Rattle.machine_floor.proofs.station.Station.ear_turn.Given as goal
 

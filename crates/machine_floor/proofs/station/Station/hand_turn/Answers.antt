@@ -1,14 +1,6 @@
-use Rattle.std.proofs.Common.{◌≡◌, ℕ, List, [], ◌∷◌, ◌++◌, length, sym, ap, ◌∙◌, subst}
-use Rattle.std.proofs.Common.{vec_len, arith}
-use Rattle.entry_format.specs.SealedEntry.{SealedEntry}
-use Rattle.entangled_log.specs.Logs.{History}
-use Rattle.election_script.specs.declared.script.Lose.{Lose}
-use Rattle.floor_links.specs.Rows.{HaveCapacity, IsRowOf}
-use Rattle.floor_links.specs.Sendings.{AreCopies, IsSentBelow}
-use Rattle.polling_world.specs.Machines.{MachineState, log_of}
-use Rattle.machine_floor.specs.Stations.{StationState, IsOfLinks, made_of}
-use Rattle.machine_floor.specs.Turns.{HandDid}
-use Rattle.machine_floor.specs.Viewing.{state_of}
+use Rattle.machine_floor.proofs.Imports.{◌≡◌, ℕ, List, [], ◌∷◌, ◌++◌, length, sym, ap, ◌∙◌, subst, vec_len, arith}
+use Rattle.machine_floor.proofs.Imports.{SealedEntry, History, Lose, HaveCapacity, IsRowOf, AreCopies, IsSentBelow}
+use Rattle.machine_floor.proofs.Imports.{MachineState, log_of, StationState, IsOfLinks, made_of, HandDid, state_of}
 use Rattle.machine_floor.proofs.HandTurns.{room_for_tick, room_for_losses, copies_are, copies_same, greater, maker_is}
 use Rattle.machine_floor.proofs.HandTurns.{number_is, station_turned, hand_did}
 use Rattle.machine_floor.proofs.Linked.{capacity_is, row_of}

@@ -1,6 +1,4 @@
-use Rattle.std.proofs.Common.{sym, ap, ◌∙◌, subst, refl, arith}
-use Rattle.entangled_log.specs.Logs.{History}
-use Rattle.machine_floor.specs.Stations.{IsStation}
+use Rattle.machine_floor.proofs.Imports.{sym, ap, ◌∙◌, subst, refl, arith, History, IsStation}
 use Rattle.machine_floor.proofs.Beginnings.{IsStation-begun, begun_is}
 use Rattle.machine_floor.proofs.station.Station.new.Goals as goal
 

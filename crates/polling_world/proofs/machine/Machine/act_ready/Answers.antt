@@ -1,4 +1,4 @@
-use Rattle.std.proofs.Common.{refl}
+use Rattle.polling_world.proofs.Imports.{refl}
 use Rattle.polling_world.proofs.MadeEntries.{may_send, held_already}
 use Rattle.polling_world.proofs.machine.Machine.act_ready.Goals as goal
 

@@ -1,9 +1,5 @@
-use Rattle.std.proofs.Common.{◌∙◌, sym, ap, subst}
+use Rattle.polling_world.proofs.Imports.{◌∙◌, sym, ap, subst, IsHeard, MachineState, state_of, IsGoing}
 use Rattle.std.specs.Prelude.{not}
-use Rattle.polling_world.specs.Hearing.{IsHeard}
-use Rattle.polling_world.specs.Machines.{MachineState}
-use Rattle.polling_world.specs.Viewing.{state_of}
-use Rattle.polling_world.specs.Waiting.{IsGoing}
 use Rattle.polling_world.proofs.Keeping.{IsKept-heard}
 use Rattle.polling_world.proofs.machine.Machine.hear.Goals as goal
 use Rattle.polling_world.proofs.machine.Machine.hear.Goals.{in-Taken, in-Own, in-Already, in-Full}

@@ -1,12 +1,6 @@
-use Rattle.std.proofs.Common.{◌≡◌, ◌∙◌, List, [], get_or, sym, ap, subst}
-use Rattle.std.proofs.lemmas.Option.{get_or_from_slice_get}
-use Rattle.roster.specs.declared.post.Role.{Role}
-use Rattle.roster.specs.Machines.{HaveText}
-use Rattle.election_script.specs.declared.script.Cast0.{Cast0}
-use Rattle.lms_sign.specs.Secret.{Secret}
-use Rattle.polling_world.specs.Kept.{StandFor}
+use Rattle.polling_world.proofs.Imports.{◌≡◌, ◌∙◌, List, [], get_or, sym, ap, subst, get_or_from_slice_get, Role}
+use Rattle.polling_world.proofs.Imports.{HaveText, Cast0, Secret, StandFor, election_of}
 use Rattle.polling_world.proofs.Keeping.{is_fresh, IsKept-fresh}
-use Rattle.polling_world.specs.Making.{election_of}
 use Rattle.polling_world.proofs.Rosters.{roster_has_text}
 use Rattle.polling_world.proofs.machine.Machine.make.Goals as goal
 

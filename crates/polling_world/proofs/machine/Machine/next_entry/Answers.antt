@@ -1,12 +1,6 @@
-use Rattle.std.proofs.Common.{◌≡◌, ◌∙◌, ◌+◌, length, refl, sym, ap, subst, arith}
-use Rattle.entry_format.specs.Nodes.{node_of_sealed}
-use Rattle.entry_format.proofs.OneEntry.{same_fields}
-use Rattle.entry_order.specs.Ascending.{IsAscending}
-use Rattle.entry_order.specs.Frontier.{frontier}
-use Rattle.entry_order.specs.History.{held, sent, greatest_stamp}
-use Rattle.polling_world.specs.Machines.{MachineState}
-use Rattle.polling_world.specs.Making.{election_of, next_entry}
-use Rattle.polling_world.specs.Viewing.{state_of}
+use Rattle.polling_world.proofs.Imports.{◌≡◌, ◌∙◌, ◌+◌, length, refl, sym, ap, subst, arith, node_of_sealed}
+use Rattle.polling_world.proofs.Imports.{same_fields, IsAscending, frontier, held, sent, greatest_stamp, MachineState}
+use Rattle.polling_world.proofs.Imports.{election_of, next_entry, state_of}
 use Rattle.polling_world.proofs.Histories.{frontier_rises, few_in_frontier}
 use Rattle.polling_world.proofs.MadeEntries.{sealed_is_made}
 use Rattle.polling_world.proofs.machine.Machine.next_entry.Goals as goal

@@ -1,15 +1,6 @@
-use Rattle.std.proofs.Common.{◌≡◌, ◌∙◌, ◌∷◌, ◌++◌, [], List, sym, ap, subst}
-use Rattle.entry_format.specs.SealedEntry.{SealedEntry}
-use Rattle.entry_order.specs.declared.event.Event.{Event}
-use Rattle.entry_order.specs.declared.event.Event.TheVariants.{Sent}
-use Rattle.entangled_log.specs.Logs.{History, log_with_event}
-use Rattle.lms_sign.specs.Secret.{Secret}
-use Rattle.polling_world.specs.Kept.{IsKept, StandFor}
-use Rattle.polling_world.specs.Machines.{MachineState}
-use Rattle.polling_world.specs.Rules.{entries_in}
-use Rattle.polling_world.specs.Sending.{MaySend}
-use Rattle.polling_world.specs.Viewing.{state_of}
-use Rattle.polling_world.specs.Waiting.{IsGoing}
+use Rattle.polling_world.proofs.Imports.{◌≡◌, ◌∙◌, ◌∷◌, ◌++◌, [], List, sym, ap, subst, SealedEntry, Event, Sent}
+use Rattle.polling_world.proofs.Imports.{History, log_with_event, Secret, IsKept, StandFor, MachineState, entries_in}
+use Rattle.polling_world.proofs.Imports.{MaySend, state_of, IsGoing}
 use Rattle.polling_world.proofs.Keeping.{IsKept-sent, state_from}
 use Rattle.polling_world.proofs.MadeEntries.{may_follow}
 use Rattle.polling_world.proofs.machine.Machine.send.Goals as goal

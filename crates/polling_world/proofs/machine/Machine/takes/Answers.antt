@@ -1,13 +1,6 @@
-use Rattle.std.proofs.Common.{◌≢◌, ◌∙◌, length, ltb, sym, ap, subst}
+use Rattle.polling_world.proofs.Imports.{◌≢◌, ◌∙◌, length, ltb, sym, ap, subst, true≢false, Entry, node_of_sealed}
+use Rattle.polling_world.proofs.Imports.{held, IsBorneIn, IsNew, MachineState, state_of, IsGoing}
 use Rattle.std.specs.Prelude.{not}
-use Rattle.std.proofs.lemmas.Bool.{true≢false}
-use Rattle.entry_format.specs.declared.entry.Entry.{Entry}
-use Rattle.entry_format.specs.Nodes.{node_of_sealed}
-use Rattle.entry_order.specs.History.{held}
-use Rattle.entry_order.specs.Naming.{IsBorneIn, IsNew}
-use Rattle.polling_world.specs.Machines.{MachineState}
-use Rattle.polling_world.specs.Viewing.{state_of}
-use Rattle.polling_world.specs.Waiting.{IsGoing}
 use Rattle.polling_world.proofs.Taking.{IsTold, told_stopped, told_own, told_already, told_room, is_less}
 use Rattle.polling_world.proofs.machine.Machine.takes.Goals as goal
 

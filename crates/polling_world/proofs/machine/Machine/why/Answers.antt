@@ -1,8 +1,6 @@
-use Rattle.std.proofs.Common.{◌≢◌, ◌^◌, ◌∙◌, length, sym, ap, subst, arith}
+use Rattle.polling_world.proofs.Imports.{◌≢◌, ◌^◌, ◌∙◌, length, sym, ap, subst, arith, true≢false, eq-eqb}
+use Rattle.polling_world.proofs.Imports.{MachineState, IsGoing, IsReady, IsWhy}
 use Rattle.std.specs.Prelude.{not}
-use Rattle.std.proofs.lemmas.Bool.{true≢false, eq-eqb}
-use Rattle.polling_world.specs.Machines.{MachineState}
-use Rattle.polling_world.specs.Waiting.{IsGoing, IsReady, IsWhy}
 use Rattle.polling_world.proofs.Ruled.{refused_why}
 use Rattle.polling_world.proofs.machine.Machine.why.Goals as goal
 

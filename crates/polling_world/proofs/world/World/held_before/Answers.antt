@@ -1,14 +1,6 @@
-use Rattle.std.proofs.Common.{◌≡◌, ◌∙◌, List, Bool, ap, subst}
-use Rattle.std.specs.Prelude.{◌↔◌, IsTrue}
-use Rattle.std.proofs.lemmas.Result.{IfOk-weaker}
-use Rattle.entry_format.specs.Nodes.{node_of_sealed}
-use Rattle.entry_format.specs.SealedEntry.{SealedEntry}
-use Rattle.entry_order.specs.HeldBefore.{HeldBefore}
-use Rattle.entry_order.specs.Receipt.{IsOrderly}
-use Rattle.entry_order.proofs.Orders.{one_order}
-use Rattle.held_counts.specs.Places.{IsSentAt}
-use Rattle.polling_world.specs.Machines.{MachineState}
-use Rattle.polling_world.specs.Worlds.{WorldState, world_of}
+use Rattle.polling_world.proofs.Imports.{◌≡◌, ◌∙◌, List, Bool, ap, subst, ◌↔◌, IsTrue, IfOk-weaker, node_of_sealed}
+use Rattle.polling_world.proofs.Imports.{SealedEntry, HeldBefore, IsOrderly, one_order, IsSentAt, MachineState}
+use Rattle.polling_world.proofs.Imports.{WorldState, world_of}
 use Rattle.polling_world.proofs.Placing.{sent_at_sent}
 use Rattle.polling_world.proofs.world.World.held_before.Goals as goal
 

@@ -1,6 +1,4 @@
-use Rattle.std.proofs.Common.{List, arith, sym, subst}
-use Rattle.roster.specs.declared.post.Post.{Post}
-use Rattle.polling_world.specs.Worlds.{IsWorld}
+use Rattle.polling_world.proofs.Imports.{List, arith, sym, subst, Post, IsWorld}
 use Rattle.polling_world.proofs.WorldMaking.{next_key, one_more, all_fresh, fresh_world, fresh_configs}
 use Rattle.polling_world.proofs.world.World.make.Goals as goal
 

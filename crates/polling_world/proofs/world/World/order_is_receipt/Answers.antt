@@ -1,11 +1,5 @@
-use Rattle.std.proofs.Common.{List, ap, subst}
-use Rattle.entry_format.specs.Nodes.{node_of_sealed}
-use Rattle.entry_order.specs.Naming.{Distinct}
-use Rattle.entry_order.specs.Receipt.{OrderIsReceiptIn}
-use Rattle.entry_order.specs.World.{sent_in}
-use Rattle.entry_order.proofs.Orders.{one_order}
-use Rattle.polling_world.specs.Machines.{MachineState}
-use Rattle.polling_world.specs.Worlds.{WorldState, world_of}
+use Rattle.polling_world.proofs.Imports.{List, ap, subst, node_of_sealed, Distinct, OrderIsReceiptIn, sent_in}
+use Rattle.polling_world.proofs.Imports.{one_order, MachineState, WorldState, world_of}
 use Rattle.polling_world.proofs.world.World.order_is_receipt.Goals as goal
 
 pub returns-clause-order : goal.returns-clause-order

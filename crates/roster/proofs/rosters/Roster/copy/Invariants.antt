@@ -1,4 +1,4 @@
-use Rattle.std.proofs.Common.{◌≡◌, take}
+use Rattle.roster.proofs.Imports.{◌≡◌, take}
 use Rattle.roster.proofs.rosters.Roster.copy.Given as goal
 
 -- copies of the machines so far

@@ -1,18 +1,16 @@
-use Rattle.std.proofs.Common.{◌∙◌, map, ap, sym, subst, length, arith}
-use Rattle.std.proofs.lemmas.List.{length-map}
-use Rattle.roster.specs.inside.Raw.{post_of}
+use Rattle.roster.proofs.Imports.{◌∙◌, map, ap, sym, subst, length, arith, length-map, post_of}
 use Rattle.roster.proofs.Raws.{RawsNamed, named_raws}
 use Rattle.roster.proofs.Forms.{no_machines, form_of, fault_of_text}
 use Rattle.roster.proofs.Walk.{same_count}
 use Rattle.roster.proofs.rosters.Roster.read.Goals as goal
 
--- it isn't the text of machines
+-- the bytes aren't the text of machines
 pub returns-in_default : goal.returns-in_default
 returns-in_default c = λ wanted.
     let (fits, spelt) = c.in-Ok.ensures.ok in
     ((c.in-Ok.text, fits, spelt), no_machines c.args.bytes.now c.in-Ok.text fits spelt c.in_default.ensures.none)
 
--- they are no more than were counted
+-- the machines are no more than were counted
 pub fault_of-requires : goal.fault_of-requires
 fault_of-requires c =
     let (machines, tree, count) = c.in-Some.ensures.found in
@@ -26,7 +24,7 @@ fault_of-requires c =
       c.if-count-gt-MAX_MACHINES.false,
     )
 
--- they make no roster
+-- the machines make no roster
 pub returns-in-Some-fault_of : goal.returns-in-Some-fault_of
 returns-in-Some-fault_of c = λ wanted.
     let (fits, spelt) = c.in-Ok.ensures.ok in
@@ -35,7 +33,7 @@ returns-in-Some-fault_of c = λ wanted.
     fault_of_text c.args.bytes.now _ c.in-Some-fault_of.fault form
     (rw c.as_slice.ensures.value at c.in-Some-fault_of.ensures)
 
--- they are named
+-- the machines have names
 pub posts_of-requires : goal.posts_of-requires
 posts_of-requires c =
     subst RawsNamed (c.as_slice.ensures.value ∙ sym c.as_slice-2.ensures.value)

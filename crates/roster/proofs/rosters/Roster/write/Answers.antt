@@ -1,7 +1,4 @@
-use Rattle.std.proofs.Common.{◌≡◌, ◌∙◌, ◌++◌, ap, sym, subst}
-use Rattle.canonical_sexp.specs.declared.sexp.Sexp.{Sexp}
-use Rattle.canonical_sexp.specs.Text.{text_of, Fits}
-use Rattle.roster.specs.RosterText.{roster_tree}
+use Rattle.roster.proofs.Imports.{◌≡◌, ◌∙◌, ◌++◌, ap, sym, subst, Sexp, text_of, Fits, roster_tree}
 use Rattle.roster.proofs.Fits.{roster_fits}
 use Rattle.roster.proofs.rosters.Roster.write.Goals as goal
 
