@@ -5,7 +5,7 @@ A row's first cell is `CRATE`: `CALL`, or empty where the row goes on with the c
 clauses and then `PATH`, a file of the crate; or it says "the one clause", with the definition in parentheses if it
 has a name; or "no clause" and why. The file must have the call, and the call's contract must have each of these clauses (or exactly one,
 which uses the definition). Each public function with a fallible result must have a row, or its only refusal must be
-want of memory. Each fault is printed; the exit status is 1 if there is one.
+that an allocation failed. Each fault is printed; the exit status is 1 if there is one.
 """
 import pathlib
 import re

@@ -1,4 +1,5 @@
--- The lines of a proof list exactly the ancestors of their entries, and so they say of them what the graph does.
+-- The lines of a proof list exactly the ancestors of their entries, and so they say of them what
+-- the graph does.
 use Rattle.std.proofs.Common.{Bool, false}
 use Rattle.audit_proof.proofs.Imports.{◌≡◌, ℕ, zero, suc, ◌+◌, ◌<◌, true, List, [], ◌∷◌, ◌++◌, refl, sym, subst, ap}
 use Rattle.audit_proof.proofs.Imports.{◌∙◌, inl, inr, arith, cond, Some, slice_get, not, ◌==◌, Contains, list_all}

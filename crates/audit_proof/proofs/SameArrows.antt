@@ -155,7 +155,8 @@ module _ (graph other : Graph) (same : HaveSameArrows graph other) where
         ),
       ) (Err why) first
 
-  -- a line's end is refused by both for the same cause, where what is missing in the other is missing in the one
+  -- a line's end is refused by both for the same cause, where what is missing in the other is
+  -- missing in the one
   end_other : (begun : Line) (IsEnded : Type 0) (why : ProofWhy) →
       (LacksNoParent other begun → LacksNoParent graph begun) →
       IsFirstOf (end_causes graph begun IsEnded) (Err why) → IsFirstOf (end_causes other begun IsEnded) (Err why)

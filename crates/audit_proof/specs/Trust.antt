@@ -34,7 +34,8 @@ ProofsSayNoMore =
     IsLessKnown (three_by rows graph.ragged lines rule)
     (three_in rows graph.parents graph.ragged rule)
 
--- by a proof with a line for every survivor a rule has the value that it has by the survivors' graph
+-- by a proof with a line for every survivor a rule has the value that it has by the survivors'
+-- graph
 abbrev pub FullProofsSayAll : Type 0
 FullProofsSayAll =
     (rows : List Row) (graph : Graph) (lines : List Line) → length rows ≡ graph.count →

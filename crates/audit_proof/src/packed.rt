@@ -3,8 +3,6 @@ ghost use Rattle.std.specs.Prelude.{
   ◌≡◌,
   ◌+◌,
   ◌<◌,
-  ◌≤◌,
-  ◌^◌,
   ◌==◌,
   not,
   length,
@@ -19,7 +17,6 @@ ghost use Rattle.audit_proof.specs.inside.Falls.{Falls};
 ghost use Rattle.audit_proof.specs.inside.Packing.{unpacked};
 ghost use Rattle.audit_proof.specs.inside.Unread.{line_with};
 
-use crate::line::ProofLine;
 use crate::step::ProofStep;
 use crate::steps::{are_even, is_listed};
 use precedence::Arrows;
@@ -38,7 +35,7 @@ pub(crate) struct PackedLine {
 }
 
 impl Model for PackedLine {
-    ghost use Rattle.std.specs.Prelude.{◌++◌, ◌≤◌, ◌^◌, vec_len};
+    ghost use Rattle.std.specs.Prelude.{◌++◌};
     ghost use Rattle.audit_proof.specs.Lines.{Line};
     ghost use Rattle.audit_proof.specs.inside.Packing.{unpacked};
 
@@ -46,8 +43,6 @@ impl Model for PackedLine {
 
     ghost view = { λ line.
         record { entry = line.entry; steps = unpacked line.table.items ++ line.steps.items } };
-
-    ghost invariant = { λ line. vec_len line.table ≤ 2 ^ 32 };
 }
 
 impl PackedLine {
@@ -77,25 +72,12 @@ impl PackedLine {
             })
         }
     }
-
-    /// The line with its steps.
-    pub(crate) fn unpack(&self, alloc: Global) -> Result<ProofLine, AllocError>
-        ensures { IfOk result (λ line. line ≡ self.now) }
-    {
-        let mut steps = steps_of(alloc, &self.table)?;
-        steps.extend_from_slice(&self.steps)?;
-        Ok(ProofLine {
-            entry: self.entry,
-            steps,
-        })
-    }
 }
 
 /// One more than the greatest of these ancestors, or 0 where there is none.
 fn reach_of(steps: &[ProofStep]) -> usize
     requires { Falls steps.now }
-    ensures within { All (λ step. step.ancestor < result) steps.now }
-    ensures small { result ≤ 2 ^ 32 }
+    ensures { All (λ step. step.ancestor < result) steps.now }
 {
     match steps {
         [] => 0,
@@ -107,8 +89,7 @@ fn reach_of(steps: &[ProofStep]) -> usize
 fn table_of(alloc: Global, steps: &[ProofStep]) -> Result<Vec<u16>, AllocError>
     requires falls { Falls steps.now }
     requires small { All (λ step. step.via < 65535) steps.now }
-    ensures steps { IfOk result (λ table. unpacked table.items ≡ steps.now) }
-    ensures small { IfOk result (λ table. length table.items ≤ 2 ^ 32) }
+    ensures { IfOk result (λ table. unpacked table.items ≡ steps.now) }
 {
     let mut table = vec![in alloc; 0; reach_of(steps)]?;
     for step in steps {
@@ -124,25 +105,6 @@ fn enter(table: &mut Vec<u16>, step: ProofStep)
     ensures { table.new.items ≡ slice_set table.old.items step.ancestor (step.via + 1) }
 {
     table[step.ancestor as usize] = step.via as u16 + 1;
-}
-
-/// The steps of the table.
-fn steps_of(alloc: Global, table: &[u16]) -> Result<Vec<ProofStep>, AllocError>
-    requires { length table.now ≤ 2 ^ 32 }
-    ensures { IfOk result (λ steps. steps.items ≡ unpacked table.now) }
-{
-    let mut steps = Vec::new(alloc);
-    for done in 0..table.len() {
-        let place = table.len() - 1 - done;
-        let code = code_at(table, place);
-        if code != 0 {
-            steps.push(ProofStep {
-                ancestor: place as u32,
-                via: u32::from(code - 1),
-            })?;
-        }
-    }
-    Ok(steps)
 }
 
 /// What is at a place of the table, and 0 past its end.

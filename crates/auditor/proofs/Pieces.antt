@@ -21,7 +21,8 @@ length-pairs : {A B C : Type 0} (v : A → B) (xs : List A) (ys : List C) → le
     length (zip (map v xs) ys) ≡ length xs
 length-pairs v xs ys same = omega (arith, length-zip (map v xs) ys, length-map xs v, same)
 
--- the text so far of pairs, whose first members are what `v` makes of items, grows by that of the next pair
+-- the text so far of pairs, whose first members are what `v` makes of items, grows by that of the
+-- next pair
 pub pair_more : {A B C : Type 0} (v : A → B) (f : B × C → List ℕ) (xs : List A) (ys : List C) (i : ℕ) (x : A) (y : C)
     (start now new : List ℕ) → length xs ≡ length ys → i < length xs → x ≡ get_or xs i x → y ≡ get_or ys i y →
     now ≡ start ++ flat_map f (take i (zip (map v xs) ys)) → new ≡ now ++ f (v x, y) →

@@ -27,13 +27,15 @@ AndThen {A} First Next answer =
     ((found : A) × First (Ok found) × Next found answer)
     ⊎ ((refusal : Refusal) × First (Err refusal) × (answer ≡ Err refusal))
 
--- a step on the first file, and then the next one with what it found and the other files; the first refusal ends it
+-- a step on the first file, and then the next one with what it found and the other files; the first
+-- refusal ends it
 abbrev pub FileThen : {A B : Type 0} → (Option (List ℕ) → Result A Refusal → Type 0)
     → (A → List (Option (List ℕ)) → Result B Refusal → Type 0) → List (Option (List ℕ)) → Result B Refusal → Type 0
 FileThen First Next (file ∷ files) answer = AndThen (First file) (λ found. Next found files) answer
 FileThen First Next [] answer = ⊥
 
--- the rules, which are the standard ones or those of the first file, and then the next step with them
+-- the rules, which are the standard ones or those of the first file, and then the next step with
+-- them
 abbrev pub RulesThen : {B : Type 0} → RuleSource → (List RuleTree → List (Option (List ℕ)) → Result B Refusal → Type 0)
     → List (Option (List ℕ)) → Result B Refusal → Type 0
 RulesThen standard Next = Next standard_rules
@@ -45,7 +47,8 @@ GivesVerdicts source rows graph rules (Ok verdicts) = AreJudged rows graph rules
 GivesVerdicts source rows graph rules (Err refusal) =
     (place : ℕ) × IsFirstTooWide rows rules place × (refusal ≡ refused (source_word source) place (codes "TooWide"))
 
--- what a graph gives with the machines, the rules, and the logs that it is of: the verdicts, and so the report
+-- what a graph gives with the machines, the rules, and the logs that it is of: the verdicts, and so
+-- the report
 abbrev pub WithGraph : List Post → RuleSource → List RuleTree → List (List ℕ) → List LogRead → EntryGraph SealedEntry
     → Result AuditReport Refusal → Type 0
 WithGraph machines source rules names logs graph =
@@ -62,8 +65,8 @@ WithLogs machines source rules names logs =
 abbrev pub audit_files : List ℕ → RuleSource → List (List ℕ) → List (List ℕ)
 audit_files roster source logs = roster ∷ (rule_files source ++ logs)
 
--- what they give: the roster, the rules, the logs, the graph of the entries that these keep, and a verdict for each
--- rule, of which the report is made; or the first refusal
+-- what they give: the roster, the rules, the logs, the graph of the entries that these keep, and a
+-- verdict for each rule, of which the report is made; or the first refusal
 abbrev pub GivesReport : List ℕ → RuleSource → List (List ℕ) → List (Option (List ℕ))
     → Result AuditReport Refusal → Type 0
 GivesReport roster source names =

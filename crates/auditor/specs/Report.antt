@@ -12,7 +12,8 @@ use Rattle.evidence.specs.Graphs.{entries_of, GivesGraph}
 use Rattle.auditor.specs.Rows.{HaveMakers, row_of}
 use Rattle.auditor.specs.Judged.{nodes_of, AreJudged}
 
--- the machines of the roster, the logs with their names, the graph of their entries, and the rules with their verdicts
+-- the machines of the roster, the logs with their names, the graph of their entries, and the rules
+-- with their verdicts
 pub record AuditReport : Type 0 where
   pub machines : List Post
   pub files : List (List ℕ)
@@ -59,8 +60,9 @@ abbrev pub report_of : ReportParts → AuditReport
 report_of parts =
     report_on parts.machines parts.files parts.logs parts.graph (map rule_tree parts.rules) parts.verdicts
 
--- What holds of each report: there is a log for each name, its graph is that of the entries that the logs keep, which
--- are of the roster's machines, and each verdict is that of its rule by the survivors' rows and their graph.
+-- What holds of each report: there is a log for each name, its graph is that of the entries that
+-- the logs keep, which are of the roster's machines, and each verdict is that of its rule by the
+-- survivors' rows and their graph.
 pub record IsReport (report : AuditReport) : Type 0 where
   pub a_log_each : length report.files ≡ length report.logs
   pub makers : HaveMakers report.machines report.graph.survivors

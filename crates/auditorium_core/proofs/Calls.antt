@@ -49,7 +49,8 @@ set_next old mid files i file within is set =
     ap (λ (m : Option Files). with_files m (drop (i + 1) files)) set
     ∙ ap (with_files old) (rest_from files i file within is)
 
--- files are set up to some place where the first of them is set, and the ones after it up to that place
+-- files are set up to some place where the first of them is set, and the ones after it up to that
+-- place
 pub some_next : (old mid new : Option Files) (files : List (List ℕ × List ℕ)) (i : ℕ) (file : List ℕ × List ℕ) →
     i < length files → file ≡ get_or files i file → mid ≡ with_file old file.0 file.1 →
     SetsSome mid (drop (i + 1) files) new → SetsSome old (drop i files) new

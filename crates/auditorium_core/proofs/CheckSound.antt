@@ -125,8 +125,8 @@ module _ (less : ProofsSayNoMore) (machines : List Post) (given : List SealedEnt
     told = told;
   }
 
--- what a report is of: entries with their graph, whose makers are in the roster, and a proof for it by which the rules
--- have their verdicts
+-- what a report is of: entries with their graph, whose makers are in the roster, and a proof for it
+-- by which the rules have their verdicts
 pub record IsFound (report : CheckReport) : Type 0 where
   pub given : List SealedEntry
   pub graph : EntryGraph SealedEntry

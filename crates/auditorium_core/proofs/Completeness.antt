@@ -51,7 +51,8 @@ complete laws IsDone words old how new = by how
           },
         )
 
-    -- by the status: as no count rose, no read and no write failed, so there is an answer, or it ran out of memory
+    -- by the status: as no count rose, no read and no write failed, so there is an answer, or it
+    -- ran out of memory
     by : (how : Status) → HasDone IsDone words (λ _ _. ⊤) old how new → IsComplete IsDone words old how new
     by status.ReadFault (risen, unwritten) command done means fault = absurd (fault.reads risen)
     by status.WriteFault (answer, gives, calls, cut) command done means fault = absurd (no_cut old new fault cut.cause)

@@ -108,7 +108,8 @@ module _ (script : Script) (lawful : IsLawful script) (session : ℕ) (machines 
   abbrev roster : Option (List ℕ)
   roster = Some (text_of (roster_tree (roster_of script)))
 
-  -- the script's roster and what is kept of the first machine's log are left of the place to which the machines come
+  -- the script's roster and what is kept of the first machine's log are left of the place to which
+  -- the machines come
   has_left : (bytes : List ℕ) → IsKeptOf session 0 (history (world_of machines) 0) bytes →
       HasLeft script (world_of machines) roster (Some bytes ∷ [])
   has_left bytes kept =

@@ -29,7 +29,8 @@ answered_words IsDone words command old new result done means given = record {
     right (Ok answer) is = inl (command, done, means, is)
     right (Err why) is = tt
 
-    -- and it says that a file is absent exactly where it does so for the command, which is the only one of the words
+    -- and it says that a file is absent exactly where it does so for the command, which is the only
+    -- one of the words
     absent : (result : Result Answer Fault) →
         IfOk result (λ answer. ComesExactly old.answered.absences new.answered.absences (TellsAbsence command answer)) →
         IfOk result (λ answer. ComesExactly old.answered.absences new.answered.absences (WordsTellAbsence words answer))

@@ -35,8 +35,8 @@ module _ (P : SealedEntry → Type 0) (S : List SealedEntry) where
   none_at_all at past before f (k, within, is) =
       before k (omega arith) f (slice_get-get_or S k f within ∙ ap Some is)
 
-  -- of the entries before this place of which P holds, the one at the other place has the least digest, or there is
-  -- none
+  -- of the entries before this place of which P holds, the one at the other place has the least
+  -- digest, or there is none
   abbrev pub LeastBefore : ℕ → Option ℕ → Type 0
   LeastBefore at None = NoneBefore at
   LeastBefore at (Some place) =
@@ -82,7 +82,8 @@ module _ (P : SealedEntry → Type 0) (S : List SealedEntry) where
         (λ f same has. absurd (not_this (subst P (sym (one_at S at e f is same)) has))),
   )
 
-  -- the entry with the least digest stays that where the one at this place doesn't have a lower digest
+  -- the entry with the least digest stays that where the one at this place doesn't have a lower
+  -- digest
   pub least_stays : (at : ℕ) (least : Option ℕ) (e : SealedEntry) → slice_get S at ≡ Some e → ¬ IsLowerAt S at least →
       LeastBefore at least → LeastBefore (at + 1) least
   least_stays at None e is not_lower before = absurd (not_lower tt)

@@ -89,7 +89,8 @@ module _ (script : Script) (w : World SealedEntry) (roster : Option (List ℕ)) 
     abbrev IsHonest : Answer → Type 0
     IsHonest = IsHonestOrder script w x y names files
 
-    -- the answer is honest where it goes on these survivors: a word means none of them, or the word of order is honest
+    -- the answer is honest where it goes on these survivors: a word means none of them, or the word
+    -- of order is honest
     honest_among : (answer : Answer) → IsOrderAmong posts graph.survivors x y answer → IsHonest answer
     honest_among answer (inl (none, told)) = subst IsHonest (sym told) (no_first logs graph read none)
     honest_among answer (inr (e, means_e, inl (none, told))) =

@@ -8,7 +8,8 @@ use Rattle.entry_order.specs.Survivors.{gaps}
 use Rattle.auditorium_core.specs.declared.order_word.OrderWord.TheVariants as says
 
 module _ (w : World SealedEntry) (e f : SealedEntry) where
-  -- what a word promises of each completion holds of what was sent, and so of what the machines held
+  -- what a word promises of each completion holds of what was sent, and so of what the machines
+  -- held
   pub word_in : OrderIsReceiptIn node_of_sealed w → Contains (sent_in w) e → Contains (sent_in w) f →
       (machines : ℕ) (S : List SealedEntry) → Completion node_of_sealed machines S (sent_in w) → (word : OrderWord) →
       IsSettled machines S e f word → IsWordIn w e f word

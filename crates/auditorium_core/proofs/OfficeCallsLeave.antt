@@ -53,7 +53,8 @@ set_whole old new [] e = e
 set_whole old new (file ∷ files) e = inr (set_whole (with_file old file.0 file.1) new files e)
 
 module _ (IsDone : Command → Type 0) (words : List (List ℕ)) (command : Command) (old new : Outside) where
-  -- an answer of the command, whose files were set up to some place; with a status of its own, all of them
+  -- an answer of the command, whose files were set up to some place; with a status of its own, all
+  -- of them
   pub record IsSetBy (how : Status) : Type 0 where
     pub answer : Answer
     pub right : IsAnswerTo command old.store.files answer
@@ -124,8 +125,8 @@ none_set before after files none sets =
     let P : List (List ℕ × List ℕ) → Type 0 = λ fs. SetsSome (Some before) fs (Some after) in
     let same : Some after ≡ Some before = subst P none sets in cc
 
--- what is left where two files are to be set: neither was touched, the first is a prefix, or the first is whole and the
--- second a prefix
+-- what is left where two files are to be set: neither was touched, the first is a prefix, or the
+-- first is whole and the second a prefix
 abbrev pub IsLeftOfTwo : Files → List ℕ → List ℕ → List ℕ → List ℕ → Files → Type 0
 IsLeftOfTwo before a x b y after =
     (after ≡ before)

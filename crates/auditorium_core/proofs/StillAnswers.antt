@@ -15,7 +15,8 @@ module _ (words : List (List ℕ)) (no_run : (script prefix : List ℕ) → ¬ M
   any_of_still told answer (inl (command, still, means, is)) = inl (command, tt, means, is)
   any_of_still told answer (inr (bad, e)) = inr (λ (command, _, means). bad (command, is_still command means, means), e)
 
-  -- an answer that is right with threads is right without them, where the words aren't those of `run`
+  -- an answer that is right with threads is right without them, where the words aren't those of
+  -- `run`
   pub still_of_any : (told : Option Files) (answer : Answer) → AnswersWords IsAny words told answer →
       AnswersWords IsStill words told answer
   still_of_any told answer (inl (command, any, means, is)) = inl (command, is_still command means, means, is)

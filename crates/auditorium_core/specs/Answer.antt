@@ -15,7 +15,8 @@ IsAnswerTo command told answer =
     (files : List (Option (List ℕ))) × AreFiles told (command_parts command).files files
     × (command_parts command).IsAnswer files answer
 
--- what words give where these are the commands: the answer of the command that they mean, or that of a usage error
+-- what words give where these are the commands: the answer of the command that they mean, or that
+-- of a usage error
 abbrev pub AnswersWords : (Command → Type 0) → List (List ℕ) → Option Files → Answer → Type 0
 AnswersWords IsDone words told answer =
     ((command : Command) × IsDone command × Means words command × IsAnswerTo command told answer)
@@ -29,7 +30,8 @@ TellsAbsence command answer = answer.status ≡ (command_parts command).absence
 abbrev pub WordsTellAbsence : List (List ℕ) → Answer → Type 0
 WordsTellAbsence words answer = (command : Command) × Means words command × TellsAbsence command answer
 
--- The answer is right for the files. It says that a file is absent exactly where the store said so in the call.
+-- The answer is right for the files. It says that a file is absent exactly where the store said so
+-- in the call.
 pub record IsAnswerOf (IsDone : Command → Type 0) (words : List (List ℕ)) (told : Option Files)
     (absences_before absences_now : ℕ) (answer : Answer) : Type 0 where
   pub answers : AnswersWords IsDone words told answer
@@ -46,8 +48,8 @@ IsOfAnswers other = ⊤
 abbrev pub MeansOneWith : List (List ℕ) → Status → Type 0
 MeansOneWith words how = (command : Command) × Means words command × Contains (command_parts command).statuses how
 
--- What the status of an answer says of the words, where these are the commands: Usage, that the command line is
--- invalid, and any other, which command they may be.
+-- What the status of an answer says of the words, where these are the commands: Usage, that the
+-- command line is invalid, and any other, which command they may be.
 pub record HasItsWords (IsDone : Command → Type 0) (words : List (List ℕ)) (answer : Answer) : Type 0 where
   pub some : IsOfAnswers answer.status
   pub usage : (answer.status ≡ status.Usage) ↔ ¬ AreGood IsDone words

@@ -26,7 +26,8 @@ use Rattle.auditorium_core.specs.CommandParts.{CommandParts}
 abbrev pub source_named : List ℕ → RuleSource
 source_named word = if bytes_eq word (codes "standard") then standard else in_file word
 
--- the rule holds of the survivors if these were all that there was, of which nothing is known but what they say
+-- the rule holds of the survivors if these were all that there was, of which nothing is known but
+-- what they say
 abbrev pub HoldsOf : AuditReport → List Plain → RuleTree → Type 0
 HoldsOf report G rule =
     Holds node_of (λ (plain : Plain). row_said report.machines plain.entry) (plains report.graph.survivors) G rule.body
@@ -35,9 +36,10 @@ HoldsOf report G rule =
 abbrev pub Completes : AuditReport → List Plain → Type 0
 Completes report G = Completion node_of (length report.machines) (plains report.graph.survivors) G
 
--- What the verdicts and the gaps of a report mean: a rule that is reported kept holds whatever was lost, and one that is
--- reported broken holds in no case. There is such a case. A rule is unsettled only where there is a gap. The gaps are
--- exactly the digests that a survivor names and none has, each once, ascending.
+-- What the verdicts and the gaps of a report mean: a rule that is reported kept holds whatever was
+-- lost, and one that is reported broken holds in no case. There is such a case. A rule is unsettled
+-- only where there is a gap. The gaps are exactly the digests that a survivor names and none has,
+-- each once, ascending.
 pub record IsSound (report : AuditReport) : Type 0 where
   pub kept : AllZip (λ rule is. is ≡ verdict.Kept → (G : List Plain) → Completes report G → HoldsOf report G rule)
       report.rules report.verdicts

@@ -58,8 +58,9 @@ GivesChecked source rows graph lines rules (Err refusal) =
 abbrev pub check_files : List ℕ → RuleSource → List ℕ → List (List ℕ) → List (List ℕ)
 check_files roster source proof logs = roster ∷ (rule_files source ++ (logs ++ proof ∷ []))
 
--- what they give: the roster, the rules, the logs, the graph of the entries that these keep, the lines of the proof for
--- it, which is the last file, and a verdict for each rule by them; or the first refusal
+-- what they give: the roster, the rules, the logs, the graph of the entries that these keep, the
+-- lines of the proof for it, which is the last file, and a verdict for each rule by them; or the
+-- first refusal
 abbrev pub GivesCheck : List ℕ → RuleSource → List ℕ → List (List ℕ) → List (Option (List ℕ)) →
     Result CheckReport Refusal → Type 0
 GivesCheck roster source proof names =

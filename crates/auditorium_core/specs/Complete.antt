@@ -24,8 +24,8 @@ pub record HasNoFailure (old new : Outside) : Type 0 where
   pub writes : ¬ HasRisen old.store.write_faults new.store.write_faults
   pub output : ¬ HasRisen old.output_faults new.output_faults
 
--- The answer is the command's over these files, and all of it was written. Where the files are accepted, the command
--- was carried out.
+-- The answer is the command's over these files, and all of it was written. Where the files are
+-- accepted, the command was carried out.
 pub record IsAnsweredOver (command : Command) (files : List (Option (List ℕ))) (old : Outside) (how : Status)
     (new : Outside) : Type 0 where
   pub answer : Answer
@@ -34,8 +34,9 @@ pub record IsAnsweredOver (command : Command) (files : List (Option (List ℕ)))
   pub carried_out : (command_parts command).AreAccepted files → IsCarriedOut how
   pub written : IsWritten answer old new
 
--- Where the words are one of these commands' and no count of faults rose in the call, the command was answered over its
--- files, which are those of the store or, where none are exposed, some; or it ran out of memory, with nothing written.
+-- Where the words are one of these commands' and no count of faults rose in the call, the command
+-- was answered over its files, which are those of the store or, where none are exposed, some; or it
+-- ran out of memory, with nothing written.
 abbrev pub IsComplete : (Command → Type 0) → List (List ℕ) → Outside → Status → Outside → Type 0
 IsComplete IsDone words old how new =
     (command : Command) → IsDone command → Means words command → HasNoFailure old new →

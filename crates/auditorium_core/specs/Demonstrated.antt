@@ -41,14 +41,16 @@ demonstration_answer sessions shown = record {
   output = demonstration_text sessions shown;
 }
 
--- the answer of what a demonstration of this number of sessions gives, in which the log is kept up to the end of one
+-- the answer of what a demonstration of this number of sessions gives, in which the log is kept up
+-- to the end of one
 abbrev pub IsAnswerOfShown : ℕ → ℕ → Answer → Type 0
 IsAnswerOfShown sessions session =
     OrRefused (GivesDemonstration (generated sessions) session)
     (λ shown answer. answer ≡ demonstration_answer sessions shown)
 
--- The answer is that of a demonstration in which no rule is broken: each standard rule is kept or unsettled, and one is
--- unsettled only where there is a gap. The status doesn't say that one is broken either.
+-- The answer is that of a demonstration in which no rule is broken: each standard rule is kept or
+-- unsettled, and one is unsettled only where there is a gap. The status doesn't say that one is
+-- broken either.
 pub record TellsNoneBroken (sessions session : ℕ) (answer : Answer) : Type 0 where
   pub shown : Demonstration
   pub right : IsDemonstrationOf (generated sessions) session shown
@@ -58,9 +60,10 @@ pub record TellsNoneBroken (sessions session : ℕ) (answer : Answer) : Type 0 w
   pub unsettled : shown.gaps ≡ 0 → shown.unsettled ≡ 0
   pub not_broken : answer.status ≢ status.Broken
 
--- The answer of a demonstration of this number of sessions, in which the log is kept up to the end of the middle one. In
--- its machines the order of entries is that of receipt, and the verdicts that are counted mean what those of an audit
--- do. Where different entries that the machines sent have different digests, nothing is refused, and no rule is broken.
+-- The answer of a demonstration of this number of sessions, in which the log is kept up to the end
+-- of the middle one. In its machines the order of entries is that of receipt, and the verdicts that
+-- are counted mean what those of an audit do. Where different entries that the machines sent have
+-- different digests, nothing is refused, and no rule is broken.
 pub record IsDemonstrationAnswer (sessions : ℕ) (answer : Answer) : Type 0 where
   pub half : ℕ
   pub is_half : IsHalfOf sessions half

@@ -34,8 +34,8 @@ GivesUnsigned name file =
 abbrev pub endorsed_line : List ℕ → ℕ → List ℕ
 endorsed_line file number = line (codes "endorsed " ++ file ++ codes " " ++ decimal number)
 
--- the signature has the office's next number, which is used up: the office's file, with the number after it, is the
--- first that is written
+-- the signature has the office's next number, which is used up: the office's file, with the number
+-- after it, is the first that is written
 abbrev pub endorse_answer : List ℕ → List ℕ → Unsigned → Answer
 endorse_answer name file read = record {
   status = status.Done;

@@ -10,12 +10,14 @@ use Rattle.roster.specs.declared.post.Post.{Post}
 use Rattle.roster.specs.Machines.{IsName}
 use Rattle.entry_format.specs.SealedEntry.{SealedEntry}
 
--- what a word for an entry says: its digest, or the name of the machine that sent it, and its number there
+-- what a word for an entry says: its digest, or the name of the machine that sent it, and its
+-- number there
 pub data EntryName : Type 0 where
   by_digest : (digest : List ℕ) → EntryName
   by_number : (machine : List ℕ) (number : ℕ) → EntryName
 
--- how it is spelt: 64 lower-case hexadecimal digits, or the machine's name, a dot and the number in decimal
+-- how it is spelt: 64 lower-case hexadecimal digits, or the machine's name, a dot and the number in
+-- decimal
 abbrev pub IsSpelt : EntryName → List ℕ → Type 0
 IsSpelt (by_digest digest) word = IsDigestText word digest
 IsSpelt (by_number machine number) word =
@@ -30,7 +32,8 @@ abbrev pub IsNumbered : List Post → List ℕ → ℕ → SealedEntry → Type 
 IsNumbered machines machine number e =
     ((post : Post) × (slice_get machines e.entry.maker ≡ Some post) × (post.name ≡ machine)) × (e.entry.number ≡ number)
 
--- the entry is the one of S that has the digest, or the one of the machine and number that has the least digest
+-- the entry is the one of S that has the digest, or the one of the machine and number that has the
+-- least digest
 abbrev pub IsNamedBy : List Post → List SealedEntry → EntryName → SealedEntry → Type 0
 IsNamedBy machines S (by_digest digest) e = Contains S e × (e.digest ≡ digest)
 IsNamedBy machines S (by_number machine number) e =

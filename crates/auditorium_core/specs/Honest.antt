@@ -42,8 +42,8 @@ pub record IsExactIn (w : World SealedEntry) (e f : SealedEntry) (word : OrderWo
   pub apart : (word ≡ Apart) ↔ WereApart w e f
   pub known : word ≢ Unknown
 
--- Both entries were sent in w, and the word is right of them there. Where the whole logs of w are among the files, it
--- is exact.
+-- Both entries were sent in w, and the word is right of them there. Where the whole logs of w are
+-- among the files, it is exact.
 pub record IsHonestWord (w : World SealedEntry) (files : List (Option (List ℕ))) (e f : SealedEntry) (word : OrderWord)
     : Type 0 where
   pub first : Contains (sent_in w) e
@@ -57,8 +57,8 @@ abbrev pub AreReadUnder : Script → World SealedEntry → List (List ℕ) → L
 AreReadUnder script w names files logs graph =
     IsHonestlyRead (roster_of script) (election_of (roster_of script)) w names files logs graph
 
--- What is answered over such files of w: a refusal, because a word means no survivor; or a word that is right in w. The
--- roster is accepted, and the logs and their graph accuse nobody.
+-- What is answered over such files of w: a refusal, because a word means no survivor; or a word
+-- that is right in w. The roster is accepted, and the logs and their graph accuse nobody.
 pub data IsHonestOrder (script : Script) (w : World SealedEntry) (x y : List ℕ) (names : List (List ℕ))
     (files : List (Option (List ℕ))) : Answer → Type 0 where
   no_first : (logs : List LogRead) (graph : EntryGraph SealedEntry) → AreReadUnder script w names files logs graph →
@@ -71,8 +71,8 @@ pub data IsHonestOrder (script : Script) (w : World SealedEntry) (x y : List ℕ
       MeansEntry (roster_of script) graph.survivors y f → (word : OrderWord) → IsHonestWord w files e f word →
       IsHonestOrder script w x y names files (line_answer Done (order_word word))
 
--- The answer is such a one where different entries of w have different digests. A word over all logs of w, whole, shows
--- that they have.
+-- The answer is such a one where different entries of w have different digests. A word over all
+-- logs of w, whole, shows that they have.
 pub record IsOrderOfPlace (script : Script) (w : World SealedEntry) (x y : List ℕ) (names : List (List ℕ))
     (files : List (Option (List ℕ))) (answer : Answer) : Type 0 where
   pub honest : Distinct node_of_sealed (sent_in w) → IsHonestOrder script w x y names files answer

@@ -27,10 +27,10 @@ IsOfReport status.Unsettled = ⊤
 IsOfReport status.Broken = ⊤
 IsOfReport other = ⊥
 
--- The answer is that of a report on the script's machines and on these files, in which no line accuses anybody: none is
--- of a refused record, of a malformed end, of a break, of a stray or of a fork. With the standard rules neither the
--- report nor the status says that one is broken, and where the whole logs of w are all among the files, the report says
--- that each is kept.
+-- The answer is that of a report on the script's machines and on these files, in which no line
+-- accuses anybody: none is of a refused record, of a malformed end, of a break, of a stray or of a
+-- fork. With the standard rules neither the report nor the status says that one is broken, and
+-- where the whole logs of w are all among the files, the report says that each is kept.
 pub record TellsHonestReport (script : Script) (w : World SealedEntry) (source : RuleSource) (names : List (List ℕ))
     (files : List (Option (List ℕ))) (answer : Answer) : Type 0 where
   pub report : AuditReport
@@ -40,25 +40,25 @@ pub record TellsHonestReport (script : Script) (w : World SealedEntry) (source :
   pub not_broken : source ≡ standard → answer.status ≢ status.Broken
   pub all_kept : source ≡ standard → AreAllFilesOf w files → SaysAllKept w files report
 
--- What is answered over such files: a report that accuses nobody; or, never by the standard rules, a refusal because of
--- the file of the rules, or because one of its rules is too wide.
+-- What is answered over such files: a report that accuses nobody; or, never by the standard rules,
+-- a refusal because of the file of the rules, or because one of its rules is too wide.
 abbrev pub IsHonestAudit : Script → World SealedEntry → RuleSource → Option (List ℕ) → List (List ℕ) →
     List (Option (List ℕ)) → Answer → Type 0
 IsHonestAudit script w source rules_file names files answer =
     ((refusal : Refusal) × IsHonestRefusal script w source rules_file files refusal × (answer ≡ refusal_answer refusal))
     ⊎ TellsHonestReport script w source names files answer
 
--- The answer is that of such a report which finds nothing: the status is Done, and the output says of each standard
--- rule that it is kept.
+-- The answer is that of such a report which finds nothing: the status is Done, and the output says
+-- of each standard rule that it is kept.
 pub record TellsAllKept (script : Script) (w : World SealedEntry) (names : List (List ℕ))
     (files : List (Option (List ℕ))) (answer : Answer) : Type 0 where
   pub report : AuditReport
   pub honest : IsHonestReport script w names files report
   pub told : answer ≡ record { status = status.Done; files = []; output = kept_text report }
 
--- The answer is an honest one where different entries of w have different digests. By the standard rules, over all logs of
--- w and where each of the files is a whole log, it finds nothing. A report over all logs of w, whole, shows that digests
--- differ.
+-- The answer is an honest one where different entries of w have different digests. By the standard
+-- rules, over all logs of w and where each of the files is a whole log, it finds nothing. A report
+-- over all logs of w, whole, shows that digests differ.
 pub record IsAuditOfPlace (script : Script) (w : World SealedEntry) (source : RuleSource)
     (rules_file : Option (List ℕ)) (names : List (List ℕ)) (files : List (Option (List ℕ))) (answer : Answer)
     : Type 0 where
@@ -67,8 +67,8 @@ pub record IsAuditOfPlace (script : Script) (w : World SealedEntry) (source : Ru
       AreWholeFilesOf w files → TellsAllKept script w names files answer
   pub shown : AreAllFilesOf w files → IsOfReport answer.status → Distinct node_of_sealed (sent_in w)
 
--- the answer is right for each honest place that left the roster's file and the logs' files, where the files are these
--- and that of the rules, if they are in one
+-- the answer is right for each honest place that left the roster's file and the logs' files, where
+-- the files are these and that of the rules, if they are in one
 abbrev pub IsAuditOfPlaces : RuleSource → List (List ℕ) → List (Option (List ℕ)) → Answer → Type 0
 IsAuditOfPlaces source names files answer =
     (roster rules_file : Option (List ℕ)) (logs : List (Option (List ℕ))) →

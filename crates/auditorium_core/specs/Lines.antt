@@ -7,7 +7,8 @@ use Rattle.auditorium_core.specs.declared.order_word.OrderWord.TheVariants.{Same
 use Rattle.auditorium_core.specs.declared.status.Status.{Status}
 use Rattle.auditorium_core.specs.declared.status.Status.TheVariants as status
 
--- an answer: how the program ends, the files with their bytes in the order of writing, and the output
+-- an answer: how the program ends, the files with their bytes in the order of writing, and the
+-- output
 pub record Answer : Type 0 where
   pub status : Status
   pub files : List (List ℕ × List ℕ)

@@ -1,4 +1,5 @@
--- What calls of the program leave of an office's file and of its signatures, on a store that exposes its files.
+-- What calls of the program leave of an office's file and of its signatures, on a store that
+-- exposes its files.
 use Rattle.std.specs.Prelude.{◌≡◌, ◌≢◌, ◌⊎◌, ℕ, ◌<◌, List, [], ◌∷◌, length, take, Option, Some, Ok, IsSomeAnd, ⊤}
 use Rattle.std.specs.List.{AllPairs}
 use Rattle.hall_outside.specs.Files.{Files, file_set}
@@ -21,7 +22,8 @@ abbrev pub ReadsUnsigned : Files → List ℕ → List ℕ → Unsigned → Type
 ReadsUnsigned files name file read =
     GivesUnsigned name file (files (office_file name) ∷ files file ∷ []) (Ok read)
 
--- the office's file is a proper prefix of its next text, which is no office's, and nothing else changed
+-- the office's file is a proper prefix of its next text, which is no office's, and nothing else
+-- changed
 pub record IsCutOff (name : List ℕ) (of : Office) (before after : Files) : Type 0 where
   pub n : ℕ
   pub proper : n < length (office_text (next_office of))
@@ -32,15 +34,16 @@ pub record IsCutOff (name : List ℕ) (of : Office) (before after : Files) : Typ
 abbrev pub with_next : Files → List ℕ → Office → Files
 with_next before name of = file_set before (office_file name) (office_text (next_office of))
 
--- the office's file has the next number, the signature's file is as before or a prefix of the signature, and nothing
--- else changed
+-- the office's file has the next number, the signature's file is as before or a prefix of the
+-- signature, and nothing else changed
 pub record IsUsedUp (name file : List ℕ) (read : Unsigned) (before after : Files) : Type 0 where
   pub next : IsOfficeIn after name (next_office read.office)
   pub left : (after ≡ with_next before name read.office)
       ⊎ ((n : ℕ) × (after ≡ file_set (with_next before name read.office) (signature_file file)
       (take n (endorsement name read.office read.bytes))))
 
--- the three states in which a call of `endorse` may leave the files: as they were, or one of those above
+-- the three states in which a call of `endorse` may leave the files: as they were, or one of those
+-- above
 abbrev pub IsLeftSo : List ℕ → List ℕ → Files → Files → Type 0
 IsLeftSo name file before after =
     (after ≡ before)
@@ -81,7 +84,8 @@ IsCallOrOther IsDone name call =
     (IsCall IsDone call × AreOfOffices call.words)
     ⊎ (call.after (office_file name) ≡ call.before (office_file name))
 
--- calls of these commands, or ones that leave the office's file, one after another, from these files on
+-- calls of these commands, or ones that leave the office's file, one after another, from these
+-- files on
 abbrev pub AreCallsOn : (Command → Type 0) → List ℕ → Files → List Call → Type 0
 AreCallsOn IsDone name files [] = ⊤
 AreCallsOn IsDone name files (call ∷ calls) =

@@ -46,16 +46,19 @@ IsWordOf S e f After = IsBefore S f e
 IsWordOf S e f Apart = AreApart S e f × AreWhole S e f
 IsWordOf S e f Unknown = AreApart S e f × (¬ AreWhole S e f)
 
--- what e says comes before what f says, in entries of which nothing else is known than what they say
+-- what e says comes before what f says, in entries of which nothing else is known than what they
+-- say
 abbrev pub ComesFirst : List Plain → SealedEntry → SealedEntry → Type 0
 ComesFirst G e f = Precedes node_of G (plain_of e) (plain_of f)
 
--- P holds in each completion of S, that is, in all that the entries may have been of which S survives
+-- P holds in each completion of S, that is, in all that the entries may have been of which S
+-- survives
 abbrev pub InEach : ℕ → List SealedEntry → (List Plain → Type 0) → Type 0
 InEach machines S P = (G : List Plain) → Completion node_of machines (plains S) G → P G
 
--- What the word promises of all that the entries may have been of which S survives: `before` and `after` hold in each
--- completion, of `apart` neither holds in any, and `unknown` is printed only where one of the two isn't whole.
+-- What the word promises of all that the entries may have been of which S survives: `before` and
+-- `after` hold in each completion, of `apart` neither holds in any, and `unknown` is printed only
+-- where one of the two isn't whole.
 abbrev pub IsSettled : ℕ → List SealedEntry → SealedEntry → SealedEntry → OrderWord → Type 0
 IsSettled machines S e f Same = e ≡ f
 IsSettled machines S e f Before = InEach machines S (λ G. ComesFirst G e f)
@@ -96,8 +99,9 @@ IsGraphIn read logs files graph =
     (found : List LogRead) × GivesLogs read.roster.machines read.election logs files (Ok found)
     × GivesGraph (entries_of found) (Ok graph)
 
--- Some entries complete S. Of two survivors e is before f exactly where it is so in each completion; and f is whole and
--- e not before it exactly where it is so in none. So a word other than unknown is printed wherever completions agree.
+-- Some entries complete S. Of two survivors e is before f exactly where it is so in each
+-- completion; and f is whole and e not before it exactly where it is so in none. So a word other
+-- than unknown is printed wherever completions agree.
 pub record IsExact (machines : ℕ) (S : List SealedEntry) : Type 0 where
   pub some : (G : List Plain) × Completion node_of machines (plains S) G
   pub before : (e f : SealedEntry) → Contains S e → Contains S f →
@@ -112,8 +116,8 @@ pub record IsOrderUnder (read : RosterRead) (x y : List ℕ) (logs : List (List 
   pub exact : (graph : EntryGraph SealedEntry) → IsGraphIn read logs files graph →
       IsExact (length read.roster.machines) graph.survivors
 
--- the answer for the roster's file and the logs' files, each of which may be absent, and what it says where they are left
--- of an honest place
+-- the answer for the roster's file and the logs' files, each of which may be absent, and what it
+-- says where they are left of an honest place
 pub record IsOrderAnswer (roster x y : List ℕ) (logs : List (List ℕ)) (file : Option (List ℕ))
     (files : List (Option (List ℕ))) (answer : Answer) : Type 0 where
   pub right : OrRefused (GivesRoster roster file) (λ (read : RosterRead). IsOrderUnder read x y logs files) answer

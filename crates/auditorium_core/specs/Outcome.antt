@@ -18,7 +18,8 @@ abbrev pub with_files : Option Files → List (List ℕ × List ℕ) → Option 
 with_files old [] = old
 with_files old (file ∷ files) = with_files (with_file old file.0 file.1) files
 
--- these files were set up to some place, the next one is as before or a prefix, and later ones are untouched
+-- these files were set up to some place, the next one is as before or a prefix, and later ones are
+-- untouched
 abbrev pub SetsSome : Option Files → List (List ℕ × List ℕ) → Option Files → Type 0
 SetsSome old [] new = new ≡ old
 SetsSome old (file ∷ files) new =
@@ -36,7 +37,8 @@ pub data PutsAll {S : Type 0} (create : List ℕ → S → Bool → S → Type 0
       → PutsFile (create file.0) (append file.0) old file.1 true mid → PutsAll create append mid files ok new
       → PutsAll create append old (file ∷ files) ok new
 
--- files put one after another, and one call that says that they are all; without files there is no call
+-- files put one after another, and one call that says that they are all; without files there is no
+-- call
 pub data PlacesAll {S : Type 0} (create : List ℕ → S → Bool → S → Type 0)
     (append : List ℕ → S → List ℕ → Result ℕ Failed → S → Type 0) (finish : S → Bool → S → Type 0)
     : S → List (List ℕ × List ℕ) → Bool → S → Type 0 where
@@ -47,9 +49,9 @@ pub data PlacesAll {S : Type 0} (create : List ℕ → S → Bool → S → Type
       → PutsAll create append old (file ∷ files) true mid → finish mid ok new
       → PlacesAll create append finish old (file ∷ files) ok new
 
--- The calls by which an answer is written: each file by one create and by appends, one finish after the last file, and
--- then the output by writes, each append and write being offered all that is left. The first call that fails is the
--- last.
+-- The calls by which an answer is written: each file by one create and by appends, one finish after
+-- the last file, and then the output by writes, each append and write being offered all that is
+-- left. The first call that fails is the last.
 abbrev pub IsWrittenBy : {S K : Type 0} → (List ℕ → S → Bool → S → Type 0)
     → (List ℕ → S → List ℕ → Result ℕ Failed → S → Type 0) → (S → Bool → S → Type 0)
     → (K → List ℕ → Result ℕ Failed → K → Type 0) → Answer → S → K → Bool → S → K → Type 0
@@ -93,9 +95,10 @@ abbrev pub GivesAnswer : (Command → Type 0) → List (List ℕ) → Outside �
 GivesAnswer IsDone words old new answer =
     IsAnswerOf IsDone words old.store.files old.store.answered.absences new.store.answered.absences answer
 
--- What was done for words where these are the commands. Where it ran out of memory, no read and no write failed. A
--- status other than that and the faults of the outside is that of the answer. An answer is written by these calls, all
--- of which but the last, in the second case, do as they are asked.
+-- What was done for words where these are the commands. Where it ran out of memory, no read and no
+-- write failed. A status other than that and the faults of the outside is that of the answer. An
+-- answer is written by these calls, all of which but the last, in the second case, do as they are
+-- asked.
 abbrev pub HasDone : (Command → Type 0) → List (List ℕ) → (Answer → Bool → Type 0) → Outside → Status → Outside → Type 0
 HasDone IsDone words is_written_by old ReadFault new =
     HasRisen old.store.read_faults new.store.read_faults × IsUnwritten old new

@@ -4,7 +4,8 @@ use Rattle.hall_outside.specs.declared.sinks.Sink.{Ghosts as SinkGhosts}
 use Rattle.hall_outside.specs.declared.stores.Store.{Ghosts as StoreGhosts}
 use Rattle.evidence.specs.Reading.{StoreSeen, store_seen}
 
--- what can be seen of a store and a sink: of the sink the output, where it is exposed, and the count
+-- what can be seen of a store and a sink: of the sink the output, where it is exposed, and the
+-- count
 pub record Outside : Type 0 where
   pub store : StoreSeen
   pub output : Option (List ℕ)

@@ -86,8 +86,9 @@ play_answer prefix roster machines undone = record {
   output = machine_lines machines ++ undone;
 }
 
--- where different entries that these machines sent have different digests, one precedes another exactly where the
--- other's machine held it, or a descendant of it, when it sent (Auditorium, EVT 2007)
+-- where different entries that these machines sent have different digests, one precedes another
+-- exactly where the other's machine held it, or a descendant of it, when it sent (Auditorium, EVT
+-- 2007)
 abbrev pub KeepOrder : List MachineState → Type 0
 KeepOrder machines =
     Distinct node_of_sealed (sent_in (world_of machines)) → OrderIsReceiptIn node_of_sealed (world_of machines)

@@ -32,8 +32,8 @@ GivesText name graph (Err refusal) =
     (text : List ℕ) × IsCanonicalText graph text × (max_proof < length text)
     × (refusal ≡ too_long name)
 
--- what the files give: the roster, the logs, the graph of the entries that these keep, and its text; or the first
--- refusal
+-- what the files give: the roster, the logs, the graph of the entries that these keep, and its
+-- text; or the first refusal
 abbrev pub GivesMade : List ℕ → List ℕ → List (List ℕ) → List (Option (List ℕ)) →
     Result ProofMade Refusal → Type 0
 GivesMade roster proof names =

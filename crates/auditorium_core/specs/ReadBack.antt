@@ -1,4 +1,5 @@
--- What `audit` and `order` answer over the files that `play` or `run` wrote, read back by their names.
+-- What `audit` and `order` answer over the files that `play` or `run` wrote, read back by their
+-- names.
 use Rattle.std.specs.Prelude.{ℕ, List, map, codes, Option, Some}
 use Rattle.hall_outside.specs.Files.{Files}
 use Rattle.entry_format.specs.Nodes.{node_of_sealed}
@@ -22,8 +23,9 @@ use Rattle.auditorium_core.specs.Words.{audit, order}
 abbrev pub log_names : List ℕ → List MachineState → List (List ℕ)
 log_names prefix machines = map (machine_log_name prefix) machines
 
--- Where the files that the machines wrote are read by their names, `audit` by the standard rules says of each that it is
--- kept, and its status is Done. `order` says what the machines held: it has all logs, so each of its words is exact.
+-- Where the files that the machines wrote are read by their names, `audit` by the standard rules
+-- says of each that it is kept, and its status is Done. `order` says what the machines held: it has
+-- all logs, so each of its words is exact.
 pub record AreReadBack (prefix : List ℕ) (script : Script) (machines : List MachineState) (w : World SealedEntry)
     (now : Option Files) : Type 0 where
   pub audit : (answer : Answer) →
@@ -34,14 +36,16 @@ pub record AreReadBack (prefix : List ℕ) (script : Script) (machines : List Ma
       IsHonestOrder script w x y (log_names prefix machines) (written_logs machines) answer
   pub all : AreAllFilesOf w (written_logs machines)
 
--- where different entries have different digests, the files that a play wrote, whatever was there before, are read back
+-- where different entries have different digests, the files that a play wrote, whatever was there
+-- before, are read back
 abbrev pub PlaysAreReadBack : Type 0
 PlaysAreReadBack =
     (prefix : List ℕ) (script : Script) (answer : Answer) (is : IsPlayOf prefix script answer) →
     Distinct node_of_sealed (sent_in (world_of is.machines)) → (before : Files) →
     AreReadBack prefix script is.machines (world_of is.machines) (with_files (Some before) answer.files)
 
--- where different entries have different digests, the files that a run wrote, whatever was there before, are read back
+-- where different entries have different digests, the files that a run wrote, whatever was there
+-- before, are read back
 abbrev pub RunsAreReadBack : Type 0
 RunsAreReadBack =
     (prefix : List ℕ) (script : Script) (answer : Answer) (is : IsRunOf prefix script answer) →

@@ -26,7 +26,8 @@ use Rattle.auditorium_core.specs.Play.{status_of_undone}
 use Rattle.auditorium_core.specs.ScriptFile.{GivesScript, IsScriptFile}
 use Rattle.auditorium_core.specs.CommandParts.{CommandParts, OnOneFile}
 
--- an entry that a machine was answered: the machine's name, the maker's name and the entry's number there
+-- an entry that a machine was answered: the machine's name, the maker's name and the entry's number
+-- there
 abbrev pub mended_line : List Post → Step → List ℕ
 mended_line roster (Hear at from number) =
     line (codes "mended " ++ maker_name roster at ++ codes " " ++ maker_name roster from ++ codes "."
@@ -38,8 +39,8 @@ mended_line roster (Stop at) = []
 abbrev pub mended_lines : List Post → List Step → List ℕ
 mended_lines roster steps = flat_map (mended_line roster) steps
 
--- Once the script's machines have taken its steps, their logs are mended by the first of these lists of steps, and then
--- they finish by the second.
+-- Once the script's machines have taken its steps, their logs are mended by the first of these
+-- lists of steps, and then they finish by the second.
 pub record AreMendedBy (script : Script) (mended finished : List Step) : Type 0 where
   pub next : ℕ → List (Event SealedEntry) → Option SealedEntry
   pub tells : TellsNext (script_configs script) next
@@ -53,7 +54,8 @@ pub record AreMendedBy (script : Script) (mended finished : List Step) : Type 0 
 abbrev pub with_steps : List Step → Script → Script
 with_steps steps script = record script { steps = script.steps ++ steps }
 
--- the answer of machines with this roster that were answered in these steps, and of which these lines say what is left
+-- the answer of machines with this roster that were answered in these steps, and of which these
+-- lines say what is left
 abbrev pub repair_answer : List ℕ → List Post → List MachineState → List Step → List ℕ → Answer
 repair_answer prefix roster machines mended undone = record {
   status = status_of_undone undone;
@@ -61,8 +63,9 @@ repair_answer prefix roster machines mended undone = record {
   output = machine_lines machines ++ mended_lines roster mended ++ undone;
 }
 
--- The answer of the script's machines once they have played, their logs are mended, and they have finished. Mending and
--- finishing are steps as those of the script, so the files are those of a play of all.
+-- The answer of the script's machines once they have played, their logs are mended, and they have
+-- finished. Mending and finishing are steps as those of the script, so the files are those of a
+-- play of all.
 pub record IsRepairOf (prefix : List ℕ) (script : Script) (answer : Answer) : Type 0 where
   pub machines : List MachineState
   pub mended : List Step

@@ -35,8 +35,8 @@ loss_line roster loss =
 abbrev pub loss_lines : List Post → List Loss → List ℕ
 loss_lines roster losses = flat_map (loss_line roster) losses
 
--- the answer of machines with this roster between which these entries were lost, and of which these lines say what is
--- left
+-- the answer of machines with this roster between which these entries were lost, and of which these
+-- lines say what is left
 abbrev pub run_answer : List ℕ → List Post → List MachineState → List Loss → List ℕ → Answer
 run_answer prefix roster machines losses undone = record {
   status = status_of_undone undone;
@@ -44,16 +44,16 @@ run_answer prefix roster machines losses undone = record {
   output = machine_lines machines ++ loss_lines roster losses ++ undone;
 }
 
--- These steps make all events of the machines in their merged order. By them, on one thread, the script's machines come
--- to w, in which each has the history that it has here.
+-- These steps make all events of the machines in their merged order. By them, on one thread, the
+-- script's machines come to w, in which each has the history that it has here.
 pub record ArePlayedAgainBy (script : Script) (machines : List MachineState) (steps : List Step) (w : World SealedEntry)
     : Type 0 where
   pub merged : IsMerged machines steps
   pub comes : ComesTo script steps w
   pub same : (m : ℕ) → history w m ≡ history (world_of machines) m
 
--- The answer of a run of the script's machines: they did what a play on one thread does, each entry arrived or is
--- reported as lost, once and with its cause, and nothing that could be done was left.
+-- The answer of a run of the script's machines: they did what a play on one thread does, each entry
+-- arrived or is reported as lost, once and with its cause, and nothing that could be done was left.
 pub record IsRunOf (prefix : List ℕ) (script : Script) (answer : Answer) : Type 0 where
   pub machines : List MachineState
   pub losses : List Loss

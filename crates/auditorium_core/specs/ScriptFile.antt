@@ -12,7 +12,8 @@ use Rattle.evidence.specs.Refusal.{Refusal, absent, refused, too_long}
 abbrev pub max_script : ℕ
 max_script = 4194304
 
--- what the script's file gives, or that there is none: the script, or the line and the cause of the first fault
+-- what the script's file gives, or that there is none: the script, or the line and the cause of the
+-- first fault
 abbrev pub GivesScript : List ℕ → Option (List ℕ) → Result Script Refusal → Type 0
 GivesScript name None answer = answer ≡ Err (absent name)
 GivesScript name (Some bytes) answer =

@@ -27,8 +27,8 @@ summary_of report = record {
   verdicts = report.verdicts;
 }
 
--- The audit's answer is that of this report, the files' own, and has the status of `watch`. Where an
--- entry is kept, the last line of `watch` is what the report says of all of them.
+-- The audit's answer is that of this report, the files' own, and has the status of `watch`. Where
+-- an entry is kept, the last line of `watch` is what the report says of all of them.
 pub record AgreesWithAudit (roster rules : List ℕ) (logs : List (List ℕ))
     (files : List (Option (List ℕ))) (watched audited : Answer) : Type 0 where
   pub report : AuditReport
@@ -54,13 +54,15 @@ pub record BreaksNoRule (watched : Answer) : Type 0 where
   pub unbroken : All (λ (summary : Summary). count_by is_broken summary.verdicts ≡ 0) summaries
   pub status : watched.status ≢ status.Broken
 
--- `watch` is refused because more than 1,024 different entries are in the logs, or it says of no rule that it is broken
+-- `watch` is refused because more than 1,024 different entries are in the logs, or it says of no
+-- rule that it is broken
 abbrev pub IsHonestWatch : Answer → Type 0
 IsHonestWatch watched =
     (watched ≡ refused_answer (codes "entries") 0 (codes "TooMany")) ⊎ BreaksNoRule watched
 
--- The law: over what is left of an honest place, and where different entries have different digests, `watch` by the
--- standard rules is refused only because of too many entries, and otherwise says of no rule that it is broken.
+-- The law: over what is left of an honest place, and where different entries have different
+-- digests, `watch` by the standard rules is refused only because of too many entries, and otherwise
+-- says of no rule that it is broken.
 abbrev pub HonestWatchesBreakNoRule : Type 0
 HonestWatchesBreakNoRule =
     (roster : Option (List ℕ)) (logs : List (Option (List ℕ))) →

@@ -1,4 +1,5 @@
--- The commands, and which words of the command line are good. The tables are in the order of the words.
+-- The commands, and which words of the command line are good. The tables are in the order of the
+-- words.
 use Rattle.std.specs.Prelude.{◌≡◌, ℕ, List, All, ⊤}
 use Rattle.auditorium_core.specs.WordForms.{IsCommandWord}
 use Rattle.auditorium_core.specs.CommandParts.{CommandParts}
@@ -23,7 +24,8 @@ pub data Command : Type 0 where
   audit : (roster rules : List ℕ) (logs : List (List ℕ)) → Command
   -- `check`: what the rules come to, by a roster, the proof in a file, and logs
   check : (roster rules proof : List ℕ) (logs : List (List ℕ)) → Command
-  -- `demo`: what an audit shows of a day of this many sessions, of which the log of one machine is left, cut
+  -- `demo`: what an audit shows of a day of this many sessions, of which the log of one machine is
+  -- left, cut
   demonstrate : (sessions : ℕ) → Command
   -- `endorse`: a file signed with the key of the office of this name
   endorse : (name file : List ℕ) → Command
@@ -41,7 +43,8 @@ pub data Command : Type 0 where
   play : (script prefix : List ℕ) → Command
   -- `prove`: the proof of the order of the entries, by a roster and logs, into a file
   prove : (roster proof : List ℕ) (logs : List (List ℕ)) → Command
-  -- `repair`: a script played on one thread, with logs that are mended, and what the names of its files begin with
+  -- `repair`: a script played on one thread, with logs that are mended, and what the names of its
+  -- files begin with
   repair : (script prefix : List ℕ) → Command
   -- `run`: a script played in threads, and what the names of its files begin with
   run : (script prefix : List ℕ) → Command

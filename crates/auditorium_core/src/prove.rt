@@ -1,7 +1,7 @@
 // The command `prove`: the proof of the order of the entries that logs keep, by which others check
 // an audit.
 ghost use Rattle.std.specs.Prelude.{◌≡◌, ◌≢◌, codes, map, Err, IfErr, IfOk, IfSome, Ok};
-ghost use Rattle.std.specs.Prelude.{IsErrOf, string_bytes};
+ghost use Rattle.std.specs.Prelude.{string_bytes};
 ghost use Rattle.entry_format.specs.Nodes.{node_of_sealed};
 ghost use Rattle.entry_graph.specs.EntryGraph.{IsEntryGraph};
 ghost use Rattle.evidence.specs.Reading.{IsReadFrom};

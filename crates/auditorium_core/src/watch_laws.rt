@@ -16,9 +16,9 @@ pub fn watches_agree_with_audits()
     files_give_one_report();
 }
 
-/// Over what is left of an honest place's logs `watch` by the standard rules is refused only because
-/// of more than 1,024 different entries, and otherwise says in no line that a rule is broken, nor does
-/// its status. It does nothing.
+/// Over what is left of an honest place's logs `watch` by the standard rules is refused only
+/// because of more than 1,024 different entries, and otherwise says in no line that a rule is
+/// broken, nor does its status. It does nothing.
 pub fn honest_watches_break_no_rule()
     ensures { HonestWatchesBreakNoRule }
 {}

@@ -10,8 +10,8 @@ use Rattle.auditorium_view.specs.declared.answer.Fault.TheVariants.{ReadFault, M
 use Rattle.auditorium_view.specs.ViewWords.{ViewRequest, request_by}
 use Rattle.auditorium_view.specs.View.{ViewAnswer, IsViewFor}
 
--- The answer is right for the files. It says that a file is absent exactly where the store said so in the call, a
--- failed read comes only where a read failed in it, and no file changes.
+-- The answer is right for the files. It says that a file is absent exactly where the store said so
+-- in the call, a failed read comes only where a read failed in it, and no file changes.
 pub record IsViewedBy (request : Option ViewRequest) (old : StoreSeen) (result : Result ViewAnswer Fault) (new : StoreSeen)
     : Type 0 where
   pub answer : IfOk result (IsViewFor request old.files)
@@ -30,8 +30,8 @@ pub record SinkSeen : Type 0 where
   pub output : Option (List ℕ)
   pub faults : ℕ
 
--- All of the answer was written, and the status is its own; or a write failed, and a prefix was written. Where there is
--- no answer nothing was, and the status says why.
+-- All of the answer was written, and the status is its own; or a write failed, and a prefix was
+-- written. Where there is no answer nothing was, and the status says why.
 abbrev pub EndsAs : Result ViewAnswer Fault → SinkSeen → Status → SinkSeen → Type 0
 EndsAs (Ok answer) old how new =
     ((how ≡ answer.status) × (new.output ≡ appended old.output answer.output))

@@ -39,7 +39,8 @@ refusal_view (absent file) = record { status = status.Absent; output = line (cod
 refusal_view (refused file place cause) =
     record { status = status.Refused; output = line (refused_line file place cause) }
 
--- the answer to a request over these files: the picture of the report that they give, or the first refusal
+-- the answer to a request over these files: the picture of the report that they give, or the first
+-- refusal
 abbrev pub IsViewOf : Option Files → ViewAnswer → ViewRequest → Type 0
 IsViewOf told answer request =
     ((report : AuditReport) × GivesReportIn request.roster (rules_named request.rules) request.logs told (Ok report)

@@ -56,8 +56,8 @@ commitment_says session ballot (Commit s x) = (
 )
 commitment_says session ballot _ = (λ said. cc said, λ same. cc same)
 
--- The notes after one entry more: what its deed adds to each, where `own` says whether the booth made it, and `here`
--- whether the booth that it authorises, if it does, is this one.
+-- The notes after one entry more: what its deed adds to each, where `own` says whether the booth
+-- made it, and `here` whether the booth that it authorises, if it does, is this one.
 abbrev pub after : Notes → ℕ → Bool → Bool → Deed → Notes
 after notes spare own here deed = record notes {
   closed = is_closed deed || notes.closed;

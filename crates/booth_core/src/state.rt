@@ -16,7 +16,7 @@ use std::alloc::{AllocError, Global};
 use std::marker::Model;
 use thiserror::Error;
 
-/// Want of memory.
+/// An allocation failed.
 pub type Memory = AllocError;
 
 /// Why a booth may not do a deed now, the first cause that applies.

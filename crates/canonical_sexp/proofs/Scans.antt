@@ -13,7 +13,8 @@ use Rattle.canonical_sexp.proofs.Rows.{count_of-joined, count_of-one}
 use Rattle.canonical_sexp.proofs.Opened.{AreOpenWithin-pop}
 use Rattle.canonical_sexp.proofs.Steps.{AreRead, step_open, step_close, step_atom}
 
--- the bytes so far are those of some open lists, `depth` around the innermost, which has `members` members
+-- the bytes so far are those of some open lists, `depth` around the innermost, which has `members`
+-- members
 pub record AreScanned (bytes : List ℕ) (at : ℕ) (counts : List ℕ) (depth members : ℕ) : Type 0 where
   pub outer : List Forest
   pub current : Forest

@@ -1,4 +1,5 @@
--- Small polling places: each machine is given its deeds in a list, and sends the next one whenever it acts.
+-- Small polling places: each machine is given its deeds in a list, and sends the next one whenever
+-- it acts.
 use Rattle.counterexamples.proofs.Imports.{◌≡◌, ℕ, Bool, true, false, cond, List, [], ◌∷◌, ◌++◌, length, get_or}
 use Rattle.counterexamples.proofs.Imports.{Option, Some, None, refl, sym, ◌∙◌, ap, subst, append_assoc, append-nil}
 use Rattle.counterexamples.proofs.Imports.{not, Contains, Deed, Opened, node_of_sealed, SealedEntry, Event, Sent, Got}

@@ -48,7 +48,8 @@ world =
     (Act 0 ∷ Hear 1 0 0 ∷ Act 1 ∷ Act 1
     ∷ Hear 2 0 0 ∷ Hear 2 1 1 ∷ Act 2 ∷ Hear 2 1 0 ∷ Act 2 ∷ Act 0 ∷ [])
 
--- what A sends first, which names nothing; each entry names what its machine then holds and nothing held names
+-- what A sends first, which names nothing; each entry names what its machine then holds and nothing
+-- held names
 abbrev pub a0 : Entry
 a0 = example_entry 0 0 1 []
 

@@ -1,5 +1,5 @@
--- Why machines heed each cause, and why a rule compares the booth that is named: places that do otherwise, at which a
--- standard rule fails.
+-- Why machines heed each cause, and why a rule compares the booth that is named: places that do
+-- otherwise, at which a standard rule fails.
 use Rattle.std.specs.Prelude.{◌≡◌, ◌⊎◌, ℕ, List, ◌∷◌, ◌++◌, Ok, Err}
 use Rattle.entry_format.specs.declared.deed.Deed.{Deed}
 use Rattle.entry_format.specs.Deeds.{IsDeedOf}
@@ -37,13 +37,15 @@ pub record IsHonestBut (why : LeftWhy) (posts : List Post) (w : World SealedEntr
       history w m ≡ past ++ Sent e ∷ later →
       IsDeedOf (role_at posts m) e.entry.deed × MayInSpiteOf why (role_at posts m) m past e.entry.deed
 
--- at some place of this sort, where different entries have different digests, the rule fails of all that was sent
+-- at some place of this sort, where different entries have different digests, the rule fails of all
+-- that was sent
 abbrev pub FailsAtSome : (List Post → World SealedEntry → Type 0) → Trees → Type 0
 FailsAtSome IsPlace rule =
     (posts : List Post) × (w : World SealedEntry) × IsPlace posts w × Distinct node_of_sealed (sent_in w)
     × (¬ (Holds node_of_sealed (row_of posts) (sent_in w) (sent_in w) rule))
 
--- every Activate x has an Authorise y of its session before it, as in the rule A1, but it is x whose booth is compared
+-- every Activate x has an Authorise y of its session before it, as in the rule A1, but it is x
+-- whose booth is compared
 abbrev pub own_booth : Trees
 own_booth =
     tree_then (form.ForEvery 120 kind.Activate)

@@ -25,7 +25,8 @@ pub record IsNextUnchained (owner : ℕ) (p : List (Event SealedEntry)) (e : Sea
   pub stamp : e.entry.stamp ≡ 1 + greatest_stamp node_of_sealed (held p)
   pub names : e.entry.names ≡ frontier_of_others p
 
--- an honest place in all else: what a machine sent it might do by its role, and what it got was sent
+-- an honest place in all else: what a machine sent it might do by its role, and what it got was
+-- sent
 pub record IsHonestUnchained (posts : List Post) (w : World SealedEntry) : Type 0 where
   pub supervisor : HaveOneSupervisor posts
   pub sendings : (m : ℕ) (past : List (Event SealedEntry)) (e : SealedEntry) (later : List (Event SealedEntry)) →

@@ -35,7 +35,8 @@ holds_decides p P each entries =
 abbrev pub holds_own : ℕ → (Deed → Bool) → List Entry → Bool
 holds_own owner p entries = list_any (λ entry. (entry.maker == owner) && p entry.deed) entries
 
--- where a test of deeds decides a sentence, one decides whether an own entry with such a deed is held
+-- where a test of deeds decides a sentence, one decides whether an own entry with such a deed is
+-- held
 pub own_decides : (owner : ℕ) (p : Deed → Bool) (P : Deed → Type 0) → ((deed : Deed) → Decides (p deed) (P deed))
     → (entries : List Entry) → Decides (holds_own owner p entries) (HoldsOwn owner entries P)
 own_decides owner p P each entries =

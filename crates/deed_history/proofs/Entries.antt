@@ -30,8 +30,8 @@ any_cases P xs x (k, y, within, is, holds) =
       | inr same ↦ inr (subst P (sym same) holds)
     ]
 
--- A note is true exactly when some entry is such. It stays so with one entry more, where the new note is true exactly
--- when the old one is or that entry is such.
+-- A note is true exactly when some entry is such. It stays so with one entry more, where the new
+-- note is true exactly when the old one is or that entry is such.
 noted : {X : Type 0} {A B : Type 0} (P : X → Type 0) (xs : List X) (x : X) → A ↔ Any P xs → B ↔ (A ⊎ P x) →
     B ↔ Any P (xs ++ x ∷ [])
 noted P xs x before after = (

@@ -55,7 +55,8 @@ pub overrides_alike : (deed : Deed) (session : ℕ) → IsDeedIn 1 deed →
 overrides_alike deed session in_version =
     (λ override. says_cancel deed session override.0 in_version override.1, λ is. (word.Cancel, is))
 
--- the causes of a row apply where those of another do, and those that it has beyond them don't apply
+-- the causes of a row apply where those of another do, and those that it has beyond them don't
+-- apply
 abbrev pub IsAlike : {Cause : Type 0} → List (Type 0 × Cause) → List (Type 0 × Cause) → Type 0
 IsAlike [] [] = Unit {0}
 IsAlike [] (other ∷ others) = ⊥

@@ -63,7 +63,8 @@ module _ (session : ℕ) (events : List (Event SealedEntry)) (more : Event Seale
           let found : Some more ≡ Some other =
           sym (last_at events more) ∙ ap (slice_get (events ++ more ∷ [])) (sym same) ∙ at in cc
 
-      -- so none after the place ends the session: neither those that were there nor the one that is added
+      -- so none after the place ends the session: neither those that were there nor the one that is
+      -- added
       later_no : (later : ℕ) (other : Event SealedEntry) → place < later →
           slice_get (events ++ more ∷ []) later ≡ Some other → ends_session session other ≡ false
       later_no later other behind at = elim (either later other at) [
@@ -91,7 +92,8 @@ module _ (session : ℕ) (events : List (Event SealedEntry)) (place : ℕ) (more
       take_more events place more within
       ∙ ap (λ (e : Event SealedEntry). take place events ++ e ∷ []) (get_or_from_slice_get events place more more at)
 
-  -- the last end before a place is the last one up to it, where the place's own event doesn't end the session
+  -- the last end before a place is the last one up to it, where the place's own event doesn't end
+  -- the session
   pub kept_last : IsLastOf session (take place events) last → ends_session session more ≡ false →
       IsLastOf session (take (place + 1) events) last
   kept_last is differs =

@@ -41,7 +41,8 @@ module _ (owner : ℕ) (events : List (Event SealedEntry)) (k : ℕ) where
   pub end_is : (end : ℕ) → end + size (drop k events) ≡ length (log_text owner events) → end ≡ end_of owner events k
   end_is end is = omega (arith, is, parts)
 
--- what the lemmas above say, of the events after a place, as a slice has them, and of the log's text
+-- what the lemmas above say, of the events after a place, as a slice has them, and of the log's
+-- text
 module _ (owner : ℕ) (slice events : List (Event SealedEntry)) (k : ℕ) (text : List ℕ) (same : slice ≡ events)
     (is : text ≡ log_text owner events) where
   -- what the slice has from the place on is all events from there on
@@ -54,7 +55,8 @@ module _ (owner : ℕ) (slice events : List (Event SealedEntry)) (k : ℕ) (text
   pub behind_within : size (take (length slice - k) (drop k slice)) ≤ length text
   behind_within = omega (arith, ap size behind, ap length is, rest_within owner events k)
 
-  -- cut one byte after where these records begin, the text is the log's, cut one byte after its first k records
+  -- cut one byte after where these records begin, the text is the log's, cut one byte after its
+  -- first k records
   pub cut_is : (end : ℕ) → end + size (take (length slice - k) (drop k slice)) ≡ length text →
       take (end + 1) text ≡ take (end_of owner events k + 1) (log_text owner events)
   cut_is end sums =

@@ -31,8 +31,8 @@ pub record IsLastEnd (session : ℕ) (events : List (Event SealedEntry)) (place 
 abbrev pub HasNoEnd : ℕ → List (Event SealedEntry) → Type 0
 HasNoEnd session events = All (λ event. ends_session session event ≡ false) events
 
--- What is kept is the log up to one byte after the record of the last event that ends the session. It is the whole log
--- where nothing follows that record, and where no event ends the session.
+-- What is kept is the log up to one byte after the record of the last event that ends the session.
+-- It is the whole log where nothing follows that record, and where no event ends the session.
 abbrev pub IsKeptOf : ℕ → ℕ → List (Event SealedEntry) → List ℕ → Type 0
 IsKeptOf session owner events bytes =
     ((place : ℕ) × IsLastEnd session events place

@@ -1,4 +1,5 @@
--- What a demonstration shows: a script is played, the log of its first machine is kept, cut, and audited.
+-- What a demonstration shows: a script is played, the log of its first machine is kept, cut, and
+-- audited.
 use Rattle.std.specs.Prelude.{◌≡◌, ℕ, Bool, true, false, List, [], ◌∷◌, length, codes, count_by, Some, Result, Ok, Err}
 use Rattle.canonical_sexp.specs.Text.{text_of}
 use Rattle.roster.specs.declared.post.Post.{Post}
@@ -28,13 +29,14 @@ is_kept other = false
 abbrev pub log_name : List ℕ
 log_name = codes "log"
 
--- What an audit by the standard rules gives of two files: the text of the roster of these machines, and one log.
+-- What an audit by the standard rules gives of two files: the text of the roster of these machines,
+-- and one log.
 abbrev pub GivesAudit : List Post → List ℕ → Result AuditReport Refusal → Type 0
 GivesAudit posts bytes answer =
     GivesReport (codes "roster") standard (log_name ∷ []) (Some (text_of (roster_tree posts)) ∷ Some bytes ∷ []) answer
 
--- the script's machines have played, and the log of the first of them, cut after the end of the session, gives this
--- under the script's roster
+-- the script's machines have played, and the log of the first of them, cut after the end of the
+-- session, gives this under the script's roster
 pub record IsAudited (script : Script) (session : ℕ) (machines : List MachineState)
     (answer : Result AuditReport Refusal) : Type 0 where
   pub bytes : List ℕ
@@ -42,7 +44,8 @@ pub record IsAudited (script : Script) (session : ℕ) (machines : List MachineS
   pub kept : IsKeptOf session 0 (history (world_of machines) 0) bytes
   pub gives : GivesAudit (roster_of script) bytes answer
 
--- what is shown is the number of entries sent, and otherwise what the report on the kept log counts and comes to
+-- what is shown is the number of entries sent, and otherwise what the report on the kept log counts
+-- and comes to
 pub record IsCounted (sent : ℕ) (report : AuditReport) (shown : Demonstration) : Type 0 where
   pub entries : shown.entries ≡ sent
   pub survivors : shown.survivors ≡ length report.graph.survivors

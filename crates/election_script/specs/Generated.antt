@@ -50,7 +50,8 @@ supervisor_actions n = Opened ∷ map authorise_of (sessions n) ++ Closed ∷ []
 unfoldable pub actions_of : ℕ → ℕ → List Deed
 actions_of booth n = flat_map deeds_of (filter (λ i. session_booth i == booth) (sessions n))
 
--- how many entries the booth of a session has made in the sessions before, so its next entry's number
+-- how many entries the booth of a session has made in the sessions before, so its next entry's
+-- number
 abbrev pub first_number : ℕ → ℕ
 first_number i = length (actions_of (session_booth i) (i - 1))
 
@@ -70,8 +71,8 @@ supervisor_steps number = Act supervisor ∷ map (λ booth. Hear booth superviso
 abbrev pub others : ℕ → List ℕ
 others booth = filter (λ other. not (other == booth)) booths
 
--- a session is authorised; its booth acts once for each of its deeds; the supervisor hears these entries, the last
--- first; and then each other booth hears them, the first first
+-- a session is authorised; its booth acts once for each of its deeds; the supervisor hears these
+-- entries, the last first; and then each other booth hears them, the first first
 unfoldable pub session_steps : ℕ → List Step
 session_steps i =
     supervisor_steps i

@@ -8,7 +8,8 @@ use Rattle.entangled_log.proofs.Imports.{lacks_decides, lacks_some, NamesOnlyHel
 use Rattle.std.specs.Prelude.{Some}
 
 module _ {T : Type 0} (node : T → Node) where
-  -- a test that finds a name that no entry has decides, negated, whether only held entries are named
+  -- a test that finds a name that no entry has decides, negated, whether only held entries are
+  -- named
   names_only_held : (es : List T) (b : Bool) → (IsTrue b ↔ NamesUnborne node es) →
       IsTrue (not b) ↔ NamesOnlyHeld node es
   names_only_held es b finds = (

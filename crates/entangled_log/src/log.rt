@@ -21,7 +21,7 @@ use log_frontier::Frontier;
 use std::alloc::{AllocError, Global};
 use std::marker::Model;
 
-/// Want of memory.
+/// An allocation failed.
 pub type Memory = AllocError;
 
 /// The log of the machine `owner`: what it sent and heard, in order, at most `capacity` events.

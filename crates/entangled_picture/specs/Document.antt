@@ -58,7 +58,8 @@ unsettled_line report =
 abbrev pub rule_lines : AuditReport → List ℕ
 rule_lines report = broken_line report ++ unsettled_line report
 
--- how a document begins: the size, what the report comes to, the rules that aren't kept, and the legend
+-- how a document begins: the size, what the report comes to, the rules that aren't kept, and the
+-- legend
 abbrev pub document_head : AuditReport → List Shape → List ℕ
 document_head report shapes =
     size_lines (width_of shapes) (height_of shapes) (outcome_word (outcome_of report)) ++ rule_lines report ++ LEGEND.now

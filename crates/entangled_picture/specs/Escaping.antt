@@ -2,8 +2,8 @@
 use Rattle.std.specs.Prelude.{ℕ, ◌==◌, ◌&&◌, nat_le, if◌then◌else◌, List, [], ◌∷◌, codes}
 use Rattle.std.specs.List.{flat_map}
 
--- a byte in text: what would be read as a tag or a reference is a reference, and what is no printing character of ASCII
--- is a question mark
+-- a byte in text: what would be read as a tag or a reference is a reference, and what is no
+-- printing character of ASCII is a question mark
 abbrev pub escaped_byte : ℕ → List ℕ
 escaped_byte byte =
     if byte == 38 then codes "&amp;"

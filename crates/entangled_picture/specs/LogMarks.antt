@@ -52,7 +52,8 @@ marks_of_log log place edge =
     ++ option_to_list (break_of edge (length log.refused.items) place log.broke)
     ++ option_to_list (ending_of edge (length log.refused.items + 1) place log.end)
 
--- the spot after which a log's marks are: in the last column, below the logs that have the same lane
+-- the spot after which a log's marks are: in the last column, below the logs that have the same
+-- lane
 abbrev pub edge_of : List LogRead → ℕ → ℕ → LogRead → Spot
 edge_of before machines column log = record {
   column = column;

@@ -77,8 +77,8 @@ abbrev pub met_or : Option Spot → ℕ → Option (Spot × ℕ) → Option (Spo
 met_or None passed before = before
 met_or (Some spot) passed before = Some (spot, passed)
 
--- Going back from a place, where this number of entries of the maker that aren't drawn was passed: the spot of the next
--- one that is, and how many were passed then.
+-- Going back from a place, where this number of entries of the maker that aren't drawn was passed:
+-- the spot of the next one that is, and how many were passed then.
 abbrev pub run_before : List Placed → ℕ → ℕ → ℕ → Option (Spot × ℕ)
 run_before placed maker zero passed = None
 run_before placed maker (suc at) passed =
@@ -156,7 +156,8 @@ losses_of graph placed digest to =
     flat_map (λ place. option_to_list (loss_at graph placed digest to place))
     (range_with_len 0 (length graph.survivors))
 
--- the spot of a gap: one below another in a lane of their own, each in the column of the first survivor that names it
+-- the spot of a gap: one below another in a lane of their own, each in the column of the first
+-- survivor that names it
 abbrev pub gap_spot : EntryGraph SealedEntry → List Placed → ℕ → ℕ → List ℕ → Spot
 gap_spot graph placed lane level digest = record {
   column = gap_column placed (first_namer graph.survivors digest);

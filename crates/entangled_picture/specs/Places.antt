@@ -42,8 +42,8 @@ abbrev pub is_lit : List Verdict → ℕ → Bool
 is_lit verdicts place =
     list_any (λ (verdict : Verdict). list_any (λ other. other == place) (places_in (Some verdict))) verdicts
 
--- A survivor matters that is the first or the last of its maker, that names a gap, that is one of a fork, or that a
--- broken rule names.
+-- A survivor matters that is the first or the last of its maker, that names a gap, that is one of a
+-- fork, or that a broken rule names.
 abbrev pub matters : EntryGraph SealedEntry → List Verdict → List Seen → ℕ → Seen → Bool
 matters graph verdicts seen place entry =
     not (has_maker (take place seen) entry.maker) || not (has_maker (drop (place + 1) seen) entry.maker)
@@ -80,7 +80,8 @@ abbrev pub level_under : List Seen → Seen → ℕ
 level_under before entry =
     count_by (λ (other : Seen). other.maker == entry.maker && other.stamp == entry.stamp) before
 
--- the spot of an entry in a column: in its maker's lane, below the entries there that have its stamp, too
+-- the spot of an entry in a column: in its maker's lane, below the entries there that have its
+-- stamp, too
 abbrev pub spot_of : List Seen → Seen → ℕ → Spot
 spot_of before entry column = record { column = column; lane = entry.maker; level = level_under before entry }
 
@@ -91,8 +92,8 @@ placed_as before entry column is_drawn = record {
   at = if is_drawn then Some (spot_of before entry column) else None;
 }
 
--- entries after others, of which the last column and its stamp are these: each is in the last column that begins at
--- it or earlier
+-- entries after others, of which the last column and its stamp are these: each is in the last
+-- column that begins at it or earlier
 abbrev pub placed_after : List Seen → ℕ → ℕ → List (Seen × Bool) → List Placed
 placed_after before column stamp [] = []
 placed_after before column stamp (next ∷ rest) =

@@ -16,8 +16,8 @@ last_column placed = column_in (spot_at placed (length placed - 1))
 abbrev pub shapes_below : AuditReport → List Placed → List Shape
 shapes_below report placed = lights_of placed report.verdicts ++ arrows_of report.graph placed ++ bars_of placed
 
--- what is found beside the entries: the forks, the gaps, in the second lane below the machines', and the strays, in the
--- first
+-- what is found beside the entries: the forks, the gaps, in the second lane below the machines',
+-- and the strays, in the first
 abbrev pub shapes_beside : AuditReport → List Placed → ℕ → List Shape
 shapes_beside report placed machines =
     forks_of placed report.graph.forks ++ gaps_of report.graph placed (machines + 1)

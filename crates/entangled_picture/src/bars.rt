@@ -1,5 +1,5 @@
 //! Bars: the entries of a lane that aren't drawn one by one.
-ghost use Rattle.std.specs.Prelude.{◌≡◌, ◌++◌, ◌≤◌, ◌<◌, IsTrue, OnOk, Some, length, slice_get};
+ghost use Rattle.std.specs.Prelude.{◌≡◌, ◌++◌, ◌≤◌, ◌<◌, OnOk, Some, length, slice_get};
 ghost use Rattle.entangled_picture.specs.Marks.{bar_of, bar_to, bars_of, met, passed_at};
 ghost use Rattle.entangled_picture.specs.Marks.{run_before};
 

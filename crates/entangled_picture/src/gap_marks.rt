@@ -1,5 +1,5 @@
 //! The marks of gaps, and the arrows to them.
-ghost use Rattle.std.specs.Prelude.{◌≡◌, ◌++◌, ◌<◌, OnOk, Some, length, slice_get};
+ghost use Rattle.std.specs.Prelude.{◌≡◌, ◌++◌, ◌<◌, OnOk, Some, length};
 ghost use Rattle.entangled_picture.specs.Marks.{
   first_namer,
   gap_column,

@@ -1,16 +1,14 @@
 //! The lanes of the machines, and what is shown of the logs at their ends.
-ghost use Rattle.std.specs.Prelude.{◌≡◌, ◌++◌, ◌<◌, OnOk, length, slice_get, take};
+ghost use Rattle.std.specs.Prelude.{◌≡◌, ◌++◌, ◌<◌, OnOk};
 ghost use Rattle.entangled_picture.specs.LogMarks.{
   break_of,
   edge_of,
   ending_of,
   lane_of,
   lanes_of,
-  log_at,
   marks_of_log,
   logs_above,
   logs_of,
-  refused_at,
   refused_marks,
 };
 

@@ -1,5 +1,5 @@
 //! From a report to the shapes of its picture.
-ghost use Rattle.std.specs.Prelude.{◌≡◌, ◌++◌, ◌<◌, ◌^◌, IfOk, OnOk, length};
+ghost use Rattle.std.specs.Prelude.{◌≡◌, ◌++◌, ◌<◌, ◌^◌, IfOk, OnOk};
 ghost use Rattle.auditor.specs.Report.{report_of};
 ghost use Rattle.entangled_picture.specs.Places.{placed_of};
 ghost use Rattle.entangled_picture.specs.Shapes.{

@@ -55,7 +55,8 @@ no_fault text Memory h rising = h
 is_canonical : (text : List ℕ) → HasForm text → IsCanonical text
 is_canonical text (entry, signature, form) = (signed_tree entry signature, form.within, form.spelt)
 
--- the fault of a text that isn't canonical, of one without the form, and of one whose names don't rise
+-- the fault of a text that isn't canonical, of one without the form, and of one whose names don't
+-- rise
 only_not_canonical : (text : List ℕ) (fault : EntryFault) → IsFormFault text fault → (IsCanonical text → ⊥) →
     fault ≡ NotCanonical
 only_not_canonical text NotCanonical h not = refl

@@ -66,7 +66,8 @@ deed_from tree =
 number_back : (n : ℕ) → n < 2 ^ 32 → number_from 0 (decimal n) ≡ n
 number_back n small = number_from-decimal n (omega arith)
 
--- an override comes back from its tree, in a version that says the booth's part and in one that doesn't
+-- an override comes back from its tree, in a version that says the booth's part and in one that
+-- doesn't
 override_back : (is_first : Bool) (session : ℕ) (part : How) → session < 2 ^ 32 →
     (part ≡ how.Cast → is_first ≡ false) →
     deed_from (list_of (Atom (codes "override") ∷ number_atom session

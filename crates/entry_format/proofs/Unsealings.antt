@@ -13,7 +13,8 @@ use Rattle.entry_format.proofs.Keys.{signs_same}
 below : {m n : ℕ} → n ≤ m → m < n → ⊥
 below le lt = omega arith
 
--- the first fault of an entry that is of another election, of an unknown maker, of another index, and badly signed
+-- the first fault of an entry that is of another election, of an unknown maker, of another index,
+-- and badly signed
 module _ (machines : List Post) (election : List ℕ) (entry : Entry) (signature : List ℕ) where
   -- an entry of another election has that fault alone
   only_other_election : (fault : EntryFault) → IsEntryFault machines election entry signature fault →

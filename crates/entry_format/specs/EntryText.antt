@@ -1,4 +1,5 @@
--- The text of an entry: a canonical S-expression (R. Rivest) in the manner of Auditorium (EVT 2007).
+-- The text of an entry: a canonical S-expression (R. Rivest) in the manner of Auditorium (EVT
+-- 2007).
 use Rattle.std.specs.Prelude.{◌≡◌, ◌⊎◌, ℕ, ◌^◌, ◌<◌, ◌==◌, if◌then◌else◌, List, [], ◌∷◌, length, map, codes, All}
 use Rattle.canonical_sexp.specs.declared.sexp.Sexp.{Sexp}
 use Rattle.canonical_sexp.specs.declared.sexp.Sexp.TheVariants.{Atom}
@@ -20,7 +21,8 @@ abbrev pub how_word : How → List ℕ
 how_word how.Cancel = codes "cancel"
 how_word how.Cast = codes "cast"
 
--- how an override's text says it: version 1 has no word for it, and means that the session is cancelled
+-- how an override's text says it: version 1 has no word for it, and means that the session is
+-- cancelled
 abbrev pub how_rest : ℕ → How → List Sexp
 how_rest version how = if version == 1 then [] else Atom (how_word how) ∷ []
 

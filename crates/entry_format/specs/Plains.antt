@@ -1,4 +1,5 @@
--- Sealed entries by what is known of an entry whose text isn't at hand: what it says, and its digest.
+-- Sealed entries by what is known of an entry whose text isn't at hand: what it says, and its
+-- digest.
 use Rattle.std.specs.Prelude.{ℕ, Bool, List, map}
 use Rattle.entry_order.specs.Settled.{IsGraphOf}
 use Rattle.entry_format.specs.declared.plain.Plain.{Plain}

@@ -31,7 +31,8 @@ IsFormFault text WrongIndex = ⊥
 IsFormFault text BadSignature = ⊥
 IsFormFault text Memory = ⊥
 
--- The entry that the text is of, with rising names and the digest of the whole text, or its first fault.
+-- The entry that the text is of, with rising names and the digest of the whole text, or its first
+-- fault.
 abbrev pub Reads : List ℕ → Result Plain EntryFault → Type 0
 Reads text (Ok plain) =
     ((signature : List ℕ) × IsSignedText text plain.entry signature) × IsAscending plain.entry.names

@@ -12,8 +12,9 @@ use Rattle.entry_format.specs.SealedEntry.{SealedEntry}
 abbrev pub HasIndex : List ℕ → ℕ → Type 0
 HasIndex signature number = (4 ≤ length signature) × (index_in signature ≡ number)
 
--- the text is that of the entry and the signature, the names rise, the digest is the text's, the signature's index is
--- the entry's number, and the signature is one of the body's text under the key (RFC 8554, 5.4.2)
+-- the text is that of the entry and the signature, the names rise, the digest is the text's, the
+-- signature's index is the entry's number, and the signature is one of the body's text under the
+-- key (RFC 8554, 5.4.2)
 pub record IsSealed (sealed : SealedEntry) : Type 0 where
   pub spelt : IsSignedText sealed.text sealed.entry sealed.signature
   pub rising : IsAscending sealed.entry.names

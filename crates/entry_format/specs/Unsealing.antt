@@ -18,7 +18,8 @@ use Rattle.entry_format.specs.Sealing.{HasIndex, IsSealed}
 abbrev pub key_at : List Post → ℕ → List ℕ
 key_at machines maker = slice_index_or (map (λ (post : Post). post.key) machines) maker []
 
--- the sealed entry has this text and is of this election, and its maker is one of the machines, with its key
+-- the sealed entry has this text and is of this election, and its maker is one of the machines,
+-- with its key
 pub record IsValid (machines : List Post) (election text : List ℕ) (sealed : SealedEntry) : Type 0 where
   pub kept : IsSealed sealed
   pub of_text : sealed.text ≡ text
@@ -26,7 +27,8 @@ pub record IsValid (machines : List Post) (election text : List ℕ) (sealed : S
   pub maker : sealed.entry.maker < length machines
   pub key : sealed.key ≡ key_at machines sealed.entry.maker
 
--- the faults of an entry with a signature that show by the election and the machines, the first that applies
+-- the faults of an entry with a signature that show by the election and the machines, the first
+-- that applies
 abbrev pub IsEntryFault : List Post → List ℕ → Entry → List ℕ → EntryFault → Type 0
 IsEntryFault machines election entry signature NotCanonical = ⊥
 IsEntryFault machines election entry signature WrongShape = ⊥

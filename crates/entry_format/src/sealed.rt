@@ -8,7 +8,7 @@ use sha2::{Digest, Sha256};
 use std::alloc::{AllocError, Global};
 use std::marker::Model;
 
-/// Want of memory.
+/// An allocation failed.
 pub type Memory = AllocError;
 
 /// An entry with its signature, its signed text, the text's digest and its maker's key, which

@@ -11,15 +11,12 @@ use entry_order::{Knot, ascending_is_unique, gaps_are_unique};
 use item_list::Items;
 use std::alloc::{AllocError, Global};
 
-/// Want of memory.
-pub type Memory = AllocError;
-
 /// Digests of 32 bytes each. A contract sees them as a list.
 pub type Digests = Items<[u8; 32]>;
 
 /// The digests that one of the entries names and none of them has, each once, ascending in the
 /// order of their bytes. It takes time for n entries and names as sorting them, n log n.
-pub fn gaps<T: Knot>(alloc: Global, entries: &[T]) -> Result<Digests, Memory>
+pub fn gaps<T: Knot>(alloc: Global, entries: &[T]) -> Result<Digests, AllocError>
     ensures { IfOk result (λ digests. digests ≡ gaps_of T.node entries.now) }
 {
     gaps_are_unique::<T>();
@@ -32,7 +29,7 @@ pub fn gaps<T: Knot>(alloc: Global, entries: &[T]) -> Result<Digests, Memory>
 }
 
 /// The digests in ascending order of their bytes, each once.
-pub fn ascending(alloc: Global, digests: Vec<[u8; 32]>) -> Result<Digests, Memory>
+pub fn ascending(alloc: Global, digests: Vec<[u8; 32]>) -> Result<Digests, AllocError>
     ensures { IfOk result (λ found. found ≡ ascending_of digests.items) }
 {
     ascending_is_unique();
@@ -43,7 +40,7 @@ pub fn ascending(alloc: Global, digests: Vec<[u8; 32]>) -> Result<Digests, Memor
 }
 
 /// The digests that the entries have, in their order.
-fn digests_of<T: Knot>(alloc: Global, entries: &[T]) -> Result<Vec<[u8; 32]>, Memory>
+fn digests_of<T: Knot>(alloc: Global, entries: &[T]) -> Result<Vec<[u8; 32]>, AllocError>
     ensures { IfOk result (λ digests.
         digests.items ≡ map (λ entry. (T.node entry).digest) entries.now) }
 {
@@ -55,7 +52,7 @@ fn digests_of<T: Knot>(alloc: Global, entries: &[T]) -> Result<Vec<[u8; 32]>, Me
 }
 
 /// The digests that the entries name, in their order.
-fn names_of<T: Knot>(alloc: Global, entries: &[T]) -> Result<Vec<[u8; 32]>, Memory>
+fn names_of<T: Knot>(alloc: Global, entries: &[T]) -> Result<Vec<[u8; 32]>, AllocError>
     ensures { IfOk result (λ names.
         names.items ≡ flat_map (λ entry. (T.node entry).names) entries.now) }
 {
@@ -67,7 +64,11 @@ fn names_of<T: Knot>(alloc: Global, entries: &[T]) -> Result<Vec<[u8; 32]>, Memo
 }
 
 /// Those of the named digests that no entry has, each once. Both lists are sorted.
-fn without(alloc: Global, named: &[[u8; 32]], borne: &[[u8; 32]]) -> Result<Vec<[u8; 32]>, Memory>
+fn without(
+    alloc: Global,
+    named: &[[u8; 32]],
+    borne: &[[u8; 32]],
+) -> Result<Vec<[u8; 32]>, AllocError>
     requires named { IsSorted (slice_cmp nat_cmp) named.now }
     requires borne { IsSorted (slice_cmp nat_cmp) borne.now }
     ensures { IfOk result (λ found. IsWithout named.now borne.now found.items) }

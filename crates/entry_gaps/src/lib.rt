@@ -3,4 +3,4 @@
 
 mod gaps_of_entries;
 
-pub use gaps_of_entries::{Digests, Memory, ascending, gaps};
+pub use gaps_of_entries::{Digests, ascending, gaps};

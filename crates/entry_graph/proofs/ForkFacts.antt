@@ -118,7 +118,8 @@ module _ {T : Type 0} (node : T → Node) where
           (passes_pair (pair_of x) (pair_of e) (first ∙ sym last)))
           (passes_pair (pair_of e) (m, n) last))
 
-  -- whether a pair is a fork of the first entries and one more: it was before, or the last makes it one
+  -- whether a pair is a fork of the first entries and one more: it was before, or the last makes it
+  -- one
   pub fork_step : (es : List T) (i : ℕ) (e : T) (m n : ℕ) (f g : Bool) → HasNoDigestTwice node es → i < length es
       → e ≡ get_or es i e → (f ≡ true) ↔ IsFork node (take i es) m n
       → g ≡ ((has_pair (take i es) (pair_of e) && is_at (pair_cmp (pair_of e)) (m, n)) || f)

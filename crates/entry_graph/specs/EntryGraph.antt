@@ -17,7 +17,8 @@ pub record Links : Type 0 where
   pub parents : List ℕ
   pub ragged : Bool
 
--- the survivors by their numbers, the links of each, the gaps, the strays, and the forks by maker and number
+-- the survivors by their numbers, the links of each, the gaps, the strays, and the forks by maker
+-- and number
 pub record EntryGraph (T : Type 0) : Type 0 where
   pub survivors : List T
   pub links : List Links
@@ -76,8 +77,8 @@ module _ {T : Type 0} (node : T → Node) where
     pub one_each : length links ≡ length S
     pub arrows : IsGraphOf node S (parents_of links) (ragged_of links)
 
-  -- what holds of each graph: the survivors go by stamp and then digest, each is there once, the links are those of the
-  -- names, and the gaps and the forks are those of the survivors
+  -- what holds of each graph: the survivors go by stamp and then digest, each is there once, the
+  -- links are those of the names, and the gaps and the forks are those of the survivors
   pub record IsEntryGraph (graph : EntryGraph T) : Type 0 where
     pub few : length graph.survivors ≤ 16384
     pub numbered : AllPairs IsLower graph.survivors

@@ -16,7 +16,8 @@ module _ {T : Type 0} (node : T → Node) where
     HasNoCollision given =
         (e f : T) → Contains given e → Contains given f → (node e).digest ≡ (node f).digest → text e ≡ text f
 
-    -- f is the first that has the digest of an entry before it and another text, and e is such an entry
+    -- f is the first that has the digest of an entry before it and another text, and e is such an
+    -- entry
     abbrev pub IsCollision : List T → T → T → Type 0
     IsCollision given e f =
         (earlier later : List T) × (given ≡ earlier ++ f ∷ later) × HasNoCollision earlier

@@ -65,7 +65,8 @@ module _ {T : Type 0} (node : T → Node) (S : List T) where
     before_in_completion y x (in_y, in_x, gs, path) =
         (completion.keeps y in_y, completion.keeps x in_x, gs, kept_path y gs x path)
 
-    -- an entry of the completion that a survivor names is a survivor, where that survivor names no gap
+    -- an entry of the completion that a survivor names is a survivor, where that survivor names no
+    -- gap
     named_survives : (x f : T) → Contains S x → NamesNoGap node S x → Contains G f → Names node x f → Contains S f
     named_survives x f cx whole cf n =
         elim (gap_or_bearer x (node f).digest cx n) [

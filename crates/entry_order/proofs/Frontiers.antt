@@ -77,7 +77,8 @@ module _ {T : Type 0} (node : T → Node) where
       list_any-append (λ g. names_digest node g d) es (e ∷ [])
       ∙ ap (λ b. is_named node es d || b) (or-false (names_digest node e d))
 
-  -- the frontier when e is held too: what e names goes, and e's digest comes in its place unless it is named
+  -- the frontier when e is held too: what e names goes, and e's digest comes in its place unless it
+  -- is named
   pub frontier_push : (es : List T) (e : T) →
       let left = filter (λ d. not (names_digest node e d)) (frontier node es) in
       frontier node (es ++ e ∷ []) ≡ cond (is_named node (es ++ e ∷ []) (node e).digest) left

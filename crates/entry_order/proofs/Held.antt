@@ -32,7 +32,8 @@ module _ {T : Type 0} (node : T → Node) where
       (λ d. ap not (is_named_held h d)) (map (λ x. (node (entry_of x)).digest) h)
       ∙ ap (filter (λ d. not (is_named node (held h) d))) (digests_held h))
 
-  -- the greatest of a stamp and those of the events is the greatest of it and those of their entries
+  -- the greatest of a stamp and those of the events is the greatest of it and those of their
+  -- entries
   fold_held : (top : ℕ) (h : List (Event T)) →
       fold (λ top x. max top (node (entry_of x)).stamp) top h ≡ fold (λ top e. max top (node e).stamp) top (held h)
   fold_held top [] = refl

@@ -1,4 +1,5 @@
--- The two orders are one, in each world whose histories are legal and whose entries were sent before they were got.
+-- The two orders are one, in each world whose histories are legal and whose entries were sent
+-- before they were got.
 use Rattle.entry_order.proofs.Imports.{◌≡◌, ℕ, zero, suc, ◌+◌, ◌<◌, Bool, true, false, List, [], ◌∷◌, ◌++◌, length}
 use Rattle.entry_order.proofs.Imports.{refl, sym, ap, subst, inl, inr, Option, arith, slice_get, ◌↔◌, Contains}
 use Rattle.entry_order.proofs.Imports.{Contains-append_left, Contains-append_right, slice_get_read, Event, Sent, Got}
@@ -133,7 +134,8 @@ module _ {T : Type 0} (node : T → Node) (w : World T) (orderly : IsOrderly nod
     rises f g cf cg n =
         let (past, s) = was_sent w g cg in held_lower past g s f (named_held past g s f cf n)
 
-    -- from each entry that e's maker held there is a path to e: it is in the frontier, or a later one held names it
+    -- from each entry that e's maker held there is a path to e: it is in the frontier, or a later
+    -- one held names it
     covered_by : (past : List (Event T)) (e : T) → WasSentAfter w past e → (fuel : ℕ) (f : T) →
         Contains (held past) f → greatest_stamp node (held past) < (node f).stamp + suc fuel → (b : Bool) →
         is_named node (held past) (node f).digest ≡ b

@@ -1,4 +1,5 @@
--- What is said of the order of survivors is exact: there are entries that complete them, in as many ways as are left open.
+-- What is said of the order of survivors is exact: there are entries that complete them, in as many
+-- ways as are left open.
 use Rattle.std.specs.Prelude.{◌↔◌, ℕ, ◌<◌, List}
 use Rattle.std.specs.List.{Contains}
 use Rattle.entry_order.specs.Node.{Node}

@@ -45,7 +45,8 @@ module _ {T : Type 0} (node : T → Node) where
     pub order : OrderIsHeld w given
     pub all_known : ((e : T) → Contains (sent_in w) e → Contains given e) → IsAllKnown given
 
-  -- any entries that were sent in an orderly world, where different entries have different digests, agree with it
+  -- any entries that were sent in an orderly world, where different entries have different digests,
+  -- agree with it
   abbrev pub HonestEntriesAgreeInOrderlyWorlds : Type 0
   HonestEntriesAgreeInOrderlyWorlds =
       (w : World T) → IsOrderly node w → Distinct node (sent_in w) →

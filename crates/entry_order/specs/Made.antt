@@ -1,4 +1,5 @@
--- What machines make: in a play each entry was its machine's next, made of a number, a stamp and names.
+-- What machines make: in a play each entry was its machine's next, made of a number, a stamp and
+-- names.
 use Rattle.std.specs.Prelude.{◌≡◌, ℕ, ◌+◌, Bool, not, ◌&&◌, if◌then◌else◌}
 use Rattle.std.specs.Prelude.{List, ◌∷◌, ◌++◌, length, Option, Some, None}
 use Rattle.entry_order.specs.declared.event.Event.{Event}

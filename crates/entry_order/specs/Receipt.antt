@@ -22,12 +22,14 @@ OrderIsReceiptIn {T} node w =
     (f e : T) → Contains (sent_in w) f → Contains (sent_in w) e →
     Precedes node (sent_in w) f e ↔ HeldBefore w f e
 
--- the order is that of receipt in every orderly world, where different entries have different digests
+-- the order is that of receipt in every orderly world, where different entries have different
+-- digests
 abbrev pub OrderIsReceiptInOrderlyWorlds : {T : Type 0} → (T → Node) → Type 0
 OrderIsReceiptInOrderlyWorlds {T} node =
     (w : World T) → IsOrderly node w → Distinct node (sent_in w) → OrderIsReceiptIn node w
 
--- the order is that of receipt after every list of steps of any number of machines, each log of any size
+-- the order is that of receipt after every list of steps of any number of machines, each log of any
+-- size
 abbrev pub OrderIsReceipt : {T : Type 0} → (T → Node) → Type 0
 OrderIsReceipt {T} node =
     (next : ℕ → List (Event T) → Option T) (log machines : ℕ) (steps : List Step) →

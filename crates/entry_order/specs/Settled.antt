@@ -41,8 +41,8 @@ module _ {T : Type 0} (node : T → Node) where
       (S : List T) → IsNonDecreasingBy (λ e. (node e).stamp) S → survivors node S ≡ S →
       (parents : ℕ → List ℕ) × (ragged : ℕ → Bool) × IsGraphOf S parents ragged
 
-  -- in a graph of survivors one place is reached from another exactly when its entry precedes the other's,
-  -- and a place is found whole exactly when its entry is
+  -- in a graph of survivors one place is reached from another exactly when its entry precedes the
+  -- other's, and a place is found whole exactly when its entry is
   abbrev pub GraphsAreExact : Type 0
   GraphsAreExact =
       (S : List T) (parents : ℕ → List ℕ) (ragged : ℕ → Bool) → IsGraphOf S parents ragged →

@@ -175,7 +175,8 @@ not_done m n receivers acted.StampSpent (_, same) none = same
 not_done m n receivers acted.Spent (_, same) none = same
 not_done m n receivers acted.SameDigest (_, same) none = same
 
--- if the machine at a place did not act, the machine there is still, and all machines are as they were
+-- if the machine at a place did not act, the machine there is still, and all machines are as they
+-- were
 pub still_at : (ms : List MachineState) (at : ℕ) (m n : MachineState) (receivers : ℕ) (answer : Acted) →
     slice_get ms at ≡ Some m → IsActed m receivers answer n → did answer ≡ false →
     IsStillAt ms at × (slice_set ms at n ≡ ms)

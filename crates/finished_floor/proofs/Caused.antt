@@ -1,4 +1,5 @@
--- What was lost before a sweep and in it: each loss keeps its cause, in whatever order losses are reported.
+-- What was lost before a sweep and in it: each loss keeps its cause, in whatever order losses are
+-- reported.
 use Rattle.finished_floor.proofs.Imports.{◌≡◌, ◌⊎◌, ◌∙◌, ℕ, ◌<◌, ◌≤◌, inl, inr, Bool, true, List, ◌++◌, length}
 use Rattle.finished_floor.proofs.Imports.{Option, Some, get_or, refl, sym, ap, subst, arith, length-append, nat_lt}
 use Rattle.finished_floor.proofs.Imports.{◌&&◌, not, Contains, filter, IsPermutation, cases_Bool, cases_lt, and_parts}

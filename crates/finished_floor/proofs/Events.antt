@@ -119,7 +119,8 @@ module _ (ms : List MachineState) (at : ℕ) (m : MachineState) (x : Event Seale
   there : (k : ℕ) (n : MachineState) → slice_get ms k ≡ Some n → k ≢ at → slice_get after k ≡ Some n
   there k n is differs = get_others ms at k (with_event x m) differs ∙ is
 
-  -- where one machine had the digest of an entry with this number, so does one that has all that the first did
+  -- where one machine had the digest of an entry with this number, so does one that has all that
+  -- the first did
   same_event : (from number : ℕ) (n u : MachineState) →
       ((d : List ℕ) → IsBorneIn node_of_sealed (held n.events) d → IsBorneIn node_of_sealed (held u.events) d) →
       HoldsSame ms from number n → HoldsSame after from number u

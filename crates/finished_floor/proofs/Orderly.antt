@@ -1,4 +1,5 @@
--- Where each entry is heard, lost or waiting, what was heard was sent; so the merged order can be played again.
+-- Where each entry is heard, lost or waiting, what was heard was sent; so the merged order can be
+-- played again.
 use Rattle.finished_floor.proofs.Imports.{◌≡◌, ℕ, ◌<◌, ◌≤◌, List, [], ◌∷◌, ◌++◌, length, map, refl, inl, inr, Option}
 use Rattle.finished_floor.proofs.Imports.{◌==◌, Contains, eq-eqb, Contains-append_left, Event, Sent, Got, Node, sent}
 use Rattle.finished_floor.proofs.Imports.{IsLegal, World, history, start, play, IsOrderly, IsMadeBy, PlacedEvent}

@@ -150,7 +150,8 @@ module _ (loses : List Lose) (from count : ℕ) (copies0 : List SealedEntry) (ms
                 );
           }
         where
-          -- what a sweep keeps is kept as machine `to` is handed its copy, which then waits for those after it
+          -- what a sweep keeps is kept as machine `to` is handed its copy, which then waits for
+          -- those after it
           swept_copy : (new : List MachineState) (more : List Loss) → IsHanded loses to copy ms losses new more →
               to ≢ from → (old : List MachineState) (before : List Loss) (e : SealedEntry) →
               IsSwept loses old before (waits_from from e to) ms losses → copy ≡ e →

@@ -124,7 +124,8 @@ module _ (ms : List MachineState) (placed : ArePlaced ms) where
           | inr none ↦ (let same = ap length (nothing_at ms k none.1) in omega arith)
         ]
 
-    -- playing the merged events of an orderly world of the script's machines gives their histories again
+    -- playing the merged events of an orderly world of the script's machines gives their histories
+    -- again
     pub played_again : IsOrderly node_of_sealed (world_of ms) → ArePlayedAgain script ms
     played_again orderly xs merged w (next, told, same) k =
         let steps : List Step = map (λ (x : PlacedEvent SealedEntry). step_of node_of_sealed x.machine x.event) xs in

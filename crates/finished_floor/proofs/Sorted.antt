@@ -34,7 +34,8 @@ regroup Less b c = refl
 regroup Equal b c = refl
 regroup Greater b c = refl
 
--- of two losses on different ways or of different entries, the one that isn't above is reported first
+-- of two losses on different ways or of different entries, the one that isn't above is reported
+-- first
 told_from : (a b : Loss) → is_lt (compare (key_of b) (key_of a)) ≡ false → Differ a b → IsToldBefore a b
 told_from a b not_lt differ =
     let last : Ordering = nat_cmp b.number a.number in

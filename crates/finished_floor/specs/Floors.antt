@@ -23,7 +23,8 @@ use Rattle.polling_world.specs.Worlds.{world_of}
 use Rattle.finished_floor.specs.Places.{AreMachinesOf, IsAtEnd}
 use Rattle.finished_floor.specs.Losses.{IsCauseOf, IsOnWay, AreLostAsScripted, AreLosses, LosesNothing}
 
--- which of a machine's workers does such an event: 0 the hand, which sends, and 1 the ear, which hears
+-- which of a machine's workers does such an event: 0 the hand, which sends, and 1 the ear, which
+-- hears
 abbrev pub pass_of : Event SealedEntry → ℕ
 pass_of (Sent e) = 0
 pass_of (Got e) = 1
@@ -38,8 +39,8 @@ IsBy events by =
     (done : List (Event SealedEntry)) × (later : List (Event SealedEntry)) × (events ≡ done ++ later)
     × (by ≡ passes_of done ++ replicate (length later) None)
 
--- What threads leave: the script's machines; what waits for them; what is lost, with causes; and who did each event.
--- Each entry that was sent is got, lost or waiting.
+-- What threads leave: the script's machines; what waits for them; what is lost, with causes; and
+-- who did each event. Each entry that was sent is got, lost or waiting.
 pub record AreGathered (script : Script) (posts : List Post) (states : List MachineState) (waits : List Waiting)
     (lost : List Loss) (rows : List (List (Option ℕ))) : Type 0 where
   pub roster : posts ≡ roster_of script
@@ -53,7 +54,8 @@ pub record AreGathered (script : Script) (posts : List Post) (states : List Mach
   pub scripted : AreLostAsScripted script states lost
   pub by : AllZip (λ m row. row ≡ passes_of m.events) states rows
 
--- playing the events of the machines in their merged order, on one thread, gives their histories again
+-- playing the events of the machines in their merged order, on one thread, gives their histories
+-- again
 abbrev pub ArePlayedAgain : Script → List MachineState → Type 0
 ArePlayedAgain script machines =
     (xs : List (PlacedEvent SealedEntry)) → IsMergedOf node_of_sealed (world_of machines) xs →
@@ -64,8 +66,8 @@ ArePlayedAgain script machines =
 abbrev pub AreBy : List MachineState → List (List (Option ℕ)) → Type 0
 AreBy states rows = AllZip (λ m row. IsBy m.events row) states rows
 
--- What a run comes to: the script's roster and machines, whose histories are orderly; what is lost, with causes; and
--- nothing that could be done was left.
+-- What a run comes to: the script's roster and machines, whose histories are orderly; what is lost,
+-- with causes; and nothing that could be done was left.
 pub record IsFloorOf (script : Script) (posts : List Post) (states : List MachineState) (lost : List Loss)
     : Type 0 where
   pub roster : posts ≡ roster_of script

@@ -14,8 +14,8 @@ times_lost [] from number to = 0
 times_lost (x ∷ xs) from number to = cond (is_of from number to x) 1 0 + times_lost xs from number to
 
 module _ {T : Type 0} (node : T → Node) where
-  -- where nothing waits, each entry that a machine sent was heard by each other machine, or is lost on its way there
-  -- once, and not both
+  -- where nothing waits, each entry that a machine sent was heard by each other machine, or is lost
+  -- on its way there once, and not both
   abbrev pub EachIsHeardOrLost : Type 0
   EachIsHeardOrLost =
       (w : World T) (losses : List Loss) → AreOnce losses → IsBalanced node (length w) (history w) losses (λ a b. []) →

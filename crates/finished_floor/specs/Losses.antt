@@ -47,9 +47,9 @@ pub record HoldsAnother (machines : List MachineState) (from number : ℕ) (m : 
   pub differs : other ≢ entry
   pub same : (node_of_sealed other).digest ≡ (node_of_sealed entry).digest
 
--- Why an entry is lost: a line of the script names it; or none does and at least as many entries with lower numbers
--- were put on the link as it holds; or its receiver has as many events as its stop line says, or as its log can have,
--- or holds an entry with its digest.
+-- Why an entry is lost: a line of the script names it; or none does and at least as many entries
+-- with lower numbers were put on the link as it holds; or its receiver has as many events as its
+-- stop line says, or as its log can have, or holds an entry with its digest.
 abbrev pub IsCauseOf : Script → List MachineState → List Loss → Loss → LossWhy → Type 0
 IsCauseOf script machines losses loss Scripted = is_scripted script.loses loss.from loss.number loss.to ≡ true
 IsCauseOf script machines losses loss LinkFull =
@@ -76,8 +76,8 @@ AreLostAsScripted script machines losses =
     number < count_sent machines from → is_scripted script.loses from number to ≡ true →
     Contains losses (record { from = from; number = number; to = to; why = Scripted })
 
--- Each entry that a machine sent was got by each other machine and isn't lost on its way there, or wasn't got and is
--- lost once.
+-- Each entry that a machine sent was got by each other machine and isn't lost on its way there, or
+-- wasn't got and is lost once.
 abbrev pub IsGotOrLost : List MachineState → List Loss → Type 0
 IsGotOrLost machines losses =
     (from to : ℕ) (e : SealedEntry) → from < length machines → to < length machines → from ≢ to →
@@ -91,8 +91,8 @@ abbrev pub IsToldBefore : Loss → Loss → Type 0
 IsToldBefore a b =
     (a.from < b.from) ⊎ ((a.from ≡ b.from) × ((a.to < b.to) ⊎ ((a.to ≡ b.to) × (a.number < b.number))))
 
--- The losses are reported once each, in order; they are of all entries that weren't got, and of no others; and each has
--- its cause.
+-- The losses are reported once each, in order; they are of all entries that weren't got, and of no
+-- others; and each has its cause.
 pub record AreLosses (script : Script) (machines : List MachineState) (losses : List Loss) : Type 0 where
   pub sorted : AllPairs IsToldBefore losses
   pub each : IsGotOrLost machines losses
@@ -103,8 +103,8 @@ pub record AreLosses (script : Script) (machines : List MachineState) (losses : 
       × HoldsAnother machines loss.from loss.number m) losses
   pub scripted : AreLostAsScripted script machines losses
 
--- Where each link holds as many entries as any machine has actions, each log as many as all have, no line loses or
--- stops, and different entries have different digests, nothing is lost.
+-- Where each link holds as many entries as any machine has actions, each log as many as all have,
+-- no line loses or stops, and different entries have different digests, nothing is lost.
 abbrev pub LosesNothing : Script → List MachineState → List Loss → Type 0
 LosesNothing script machines losses =
     All (λ cast. length cast.actions ≤ script.link) script.machines →

@@ -20,7 +20,8 @@ pub record IsAt (place : ℕ) (m : MachineState) : Type 0 where
 abbrev pub ArePlaced : List MachineState → Type 0
 ArePlaced machines = (place : ℕ) (m : MachineState) → slice_get machines place ≡ Some m → IsAt place m
 
--- the machine is made of the same and stops at the same number, and its history is the old one and what came after it
+-- the machine is made of the same and stops at the same number, and its history is the old one and
+-- what came after it
 pub record HasGrown (old new : MachineState) : Type 0 where
   pub config : new.config ≡ old.config
   pub stop : new.stop ≡ old.stop

@@ -24,9 +24,9 @@ pub record AreMachinesOf (script : Script) (machines : List MachineState) : Type
   pub count : length machines ≡ length script.machines
   pub each : (place : ℕ) (m : MachineState) → slice_get machines place ≡ Some m → IsMachineOf script place m
 
--- Nothing that the machine could do was left: no action is left; it has as many events as it stops at; its rules refuse
--- the next action; its log is full; each index of its key has signed; or it holds the digest of the entry that it would
--- send.
+-- Nothing that the machine could do was left: no action is left; it has as many events as it stops
+-- at; its rules refuse the next action; its log is full; each index of its key has signed; or it
+-- holds the digest of the entry that it would send.
 abbrev pub IsAtEnd : MachineState → Type 0
 IsAtEnd m =
     (next_action m.config m.events ≡ None)

@@ -21,8 +21,9 @@ HoldsSame machines from number m =
     (e : SealedEntry) × Contains (sent (history (world_of machines) from)) e × (e.entry.number ≡ number)
     × IsBorneIn node_of_sealed (held m.events) (node_of_sealed e).digest
 
--- Why an entry is lost in a sweep: a line of the script names it; or its receiver has as many events as it stops at, or
--- as its log can have, or holds another entry with its digest. No link is full.
+-- Why an entry is lost in a sweep: a line of the script names it; or its receiver has as many
+-- events as it stops at, or as its log can have, or holds another entry with its digest. No link is
+-- full.
 abbrev pub IsLossCause : List Lose → List MachineState → Loss → LossWhy → Type 0
 IsLossCause loses machines loss Scripted = is_scripted loses loss.from loss.number loss.to ≡ true
 IsLossCause loses machines loss LinkFull = ⊥

@@ -23,9 +23,9 @@ IsHeldBefore m =
     (deed : Deed) × (next_action m.config m.events ≡ Some deed)
     × IsBorneIn node_of_sealed (held m.events) (node_of_sealed (next_entry m.config m.events deed)).digest
 
--- Nothing more could be done of the machine's actions: none is left; it has as many events as it stops at; its rules
--- refuse the next; its log is full; it holds an entry with the greatest stamp; each index of its key has signed; or it
--- holds the digest of the entry that it would send.
+-- Nothing more could be done of the machine's actions: none is left; it has as many events as it
+-- stops at; its rules refuse the next; its log is full; it holds an entry with the greatest stamp;
+-- each index of its key has signed; or it holds the digest of the entry that it would send.
 abbrev pub IsWholeRun : MachineState → Type 0
 IsWholeRun m =
     (next_action m.config m.events ≡ None)

@@ -15,8 +15,9 @@ in_of link = record { queue = link.queue; from = link.from; taken = []; seen_put
 abbrev pub IsLinkOf : ℕ → ℕ → LinkView → Type 0
 IsLinkOf from capacity link = (link.from ≡ from) × (link.capacity ≡ capacity)
 
--- Links from each of the first senders to each of `count` machines, with all their ends: those that put by senders, and
--- those that take by receivers. The ends of the link from a to b are in row a at b, and in row b at a.
+-- Links from each of the first senders to each of `count` machines, with all their ends: those that
+-- put by senders, and those that take by receivers. The ends of the link from a to b are in row a
+-- at b, and in row b at a.
 pub record AreNewRows (senders count capacity : ℕ) (links : List (List LinkView))
     (outs : List (List (OutView SealedEntry))) (inns : List (List (InView SealedEntry))) : Type 0 where
   pub rows : length links ≡ senders

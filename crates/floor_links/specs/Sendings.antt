@@ -13,8 +13,9 @@ use Rattle.finished_floor.specs.Arrivals.{is_lost}
 use Rattle.finished_floor.specs.OfEntries.{loss_of, lost_by}
 use Rattle.finished_floor.specs.Scripted.{is_scripted}
 
--- What becomes of an entry at the end that leads to a machine, by the cause of its loss: where a line of the script
--- says so it is lost and the end stays; otherwise it is put, or it is lost because the link was found full.
+-- What becomes of an entry at the end that leads to a machine, by the cause of its loss: where a
+-- line of the script says so it is lost and the end stays; otherwise it is put, or it is lost
+-- because the link was found full.
 abbrev pub IsWay : Bool → ℕ → SealedEntry → OutView SealedEntry → OutView SealedEntry → Option LossWhy → Type 0
 IsWay scripted capacity e old new None = (scripted ≡ false) × PutItem old e new
 IsWay scripted capacity e old new (Some Scripted) = (scripted ≡ true) × (new ≡ old)
@@ -44,8 +45,9 @@ pub record IsSentOn (scripted : Bool) (capacity to : ℕ) (e : SealedEntry) (old
   pub way : IsWay scripted capacity e old new cause
   pub told : IsTold lost e to cause
 
--- The entry was sent to each of the first machines but its maker: it was put or is lost, and the losses are of this
--- entry alone, by ascending receivers, so at most one for each. The other ends stay, the maker's own among them.
+-- The entry was sent to each of the first machines but its maker: it was put or is lost, and the
+-- losses are of this entry alone, by ascending receivers, so at most one for each. The other ends
+-- stay, the maker's own among them.
 pub record IsSentBelow (loses : List Lose) (capacity most : ℕ) (e : SealedEntry) (outs new : List (OutView SealedEntry))
     (lost : List Loss) : Type 0 where
   pub count : length new ≡ length outs

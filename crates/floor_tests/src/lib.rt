@@ -1,5 +1,6 @@
-//! Tests of the public calls of `polling_world`, `log_repair`, `finished_floor` and `machine_floor`.
-//! They are in a crate of their own, so that what they test isn't proved once more with them.
+//! Tests of the public calls of `polling_world`, `log_repair`, `finished_floor` and
+//! `machine_floor`. They are in a crate of their own, so that what they test isn't proved once more
+//! with them.
 #![tactic(auto)]
 
 #[cfg(test)]

@@ -13,7 +13,8 @@ raised count n = max count (min (count + n) (2 ^ 64 - 1))
 abbrev pub CountsFailures : ℕ → Bool → ℕ → Type 0
 CountsFailures old ok new = new ≡ (if ok then old else raised old 1)
 
--- a count never falls, and the answer comes exactly when it rose: only then, and whenever it is seen to rise
+-- a count never falls, and the answer comes exactly when it rose: only then, and whenever it is
+-- seen to rise
 pub record HasCause (before now : ℕ) (answer : Type 0) : Type 0 where
   pub never_falls : before ≤ now
   pub only : answer → HasRisen before now

@@ -10,7 +10,8 @@ Files = List ℕ → Option (List ℕ)
 abbrev pub OnFile : Option Files → List ℕ → (Option (List ℕ) → Type 0) → Type 0
 OnFile files name P = IfSome files (λ at. P (at name))
 
--- This holds of the named file, which may be absent: of the exposed one, or of some where none is exposed.
+-- This holds of the named file, which may be absent: of the exposed one, or of some where none is
+-- exposed.
 abbrev pub OnSomeFile : Option Files → List ℕ → (Option (List ℕ) → Type 0) → Type 0
 OnSomeFile files name P = (file : Option (List ℕ)) × OnFile files name (λ told. told ≡ file) × P file
 

@@ -13,8 +13,8 @@ abbrev pub content_of : List (List ℕ × List ℕ) → List ℕ → Option (Lis
 content_of [] name = None
 content_of (file ∷ files) name = if bytes_eq file.0 name then Some file.1 else content_of files name
 
--- the files, the numbers of the calls that are to fail, the most bytes that a read gives where that is bounded, how
--- many calls there were, and how many failed
+-- the files, the numbers of the calls that are to fail, the most bytes that a read gives where that
+-- is bounded, how many calls there were, and how many failed
 pub record StoreState : Type 0 where
   pub files : List (List ℕ × List ℕ)
   pub failing_reads : List ℕ
@@ -36,7 +36,8 @@ abbrev pub room_within : Option ℕ → ℕ → ℕ
 room_within None room = room
 room_within (Some n) room = min n room
 
--- a read fails exactly when its number is listed, and else takes all that there is room for, within the bound
+-- a read fails exactly when its number is listed, and else takes all that there is room for, within
+-- the bound
 pub record IsMemoryRead (name : List ℕ) (at room : ℕ) (old : StoreState) (result : Result Taken Failed)
     (new : StoreState) : Type 0 where
   pub number : new.reads ≡ raised old.reads 1

@@ -7,8 +7,8 @@ use crate::stores::Failed;
 use std::alloc::Global;
 use std::marker::Model;
 
-/// Bytes in memory, and the numbers, counted from 1, of the writes that are to fail. Want of memory
-/// is a failed write too.
+/// Bytes in memory, and the numbers, counted from 1, of the writes that are to fail. A write
+/// for which there isn't enough memory fails, too.
 #[derive(Drop)]
 pub struct MemorySink {
     written: Vec<u8>,

@@ -46,7 +46,8 @@ module _ (text : List ℕ) where
     none = λ i a b. absurd (omega arith);
   }
 
-  -- a line that begins before `at` and not before `start` begins at `start`, since no newline is between
+  -- a line that begins before `at` and not before `start` begins at `start`, since no newline is
+  -- between
   begins_there : (start at : ℕ) (s : Span) → IsOpen start at → IsLine text s → start ≤ s.start → s.start ≤ at
       → s.start ≡ start
   begins_there start at s o line from to =

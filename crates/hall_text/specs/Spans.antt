@@ -33,8 +33,8 @@ pub record IsAlone (text : List ℕ) (span : Span) : Type 0 where
 abbrev pub IsToken : List ℕ → Span → Type 0
 IsToken text span = IsWord text span ⊎ IsAlone text span
 
--- a line, without its newline: it begins at the text's start or after a newline, has none, and ends before one; or it
--- has some bytes and ends with the text
+-- a line, without its newline: it begins at the text's start or after a newline, has none, and ends
+-- before one; or it has some bytes and ends with the text
 pub record IsLine (text : List ℕ) (span : Span) : Type 0 where
   pub order : span.start ≤ span.end
   pub inside : span.end ≤ length text

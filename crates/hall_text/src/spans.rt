@@ -5,7 +5,7 @@ ghost use Rattle.hall_text.specs.Places.{CutsNoWord, BeginsToken};
 
 use std::alloc::{AllocError, Global};
 
-/// Want of memory.
+/// An allocation failed.
 pub type Memory = AllocError;
 
 /// The bytes of a text from `start` up to and without `end`, both counted from 0.

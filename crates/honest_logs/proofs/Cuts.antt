@@ -14,8 +14,8 @@ take_behind (b ∷ front) rest (suc n) le =
     ∙ ap (λ (k : ℕ). b ∷ (front ++ take k rest)) same
 
 module _ {X : Type 0} (text : X → List ℕ) where
-  -- where the first n bytes of the texts end: after this many whole texts, with a rest that is a proper prefix of the
-  -- next one's text, if there is a next one
+  -- where the first n bytes of the texts end: after this many whole texts, with a rest that is a
+  -- proper prefix of the next one's text, if there is a next one
   pub record IsCut (xs : List X) (n : ℕ) : Type 0 where
     pub count : ℕ
     pub rest : List ℕ
@@ -23,7 +23,8 @@ module _ {X : Type 0} (text : X → List ℕ) where
     pub some_of : count ≤ length xs
     -- the bytes that are left are the whole texts and the rest
     pub spelt : take n (flat_map text xs) ≡ flat_map text (take count xs) ++ rest
-    -- after the last text there is no rest, and otherwise the rest is a proper prefix of the next one
+    -- after the last text there is no rest, and otherwise the rest is a proper prefix of the next
+    -- one
     pub inside : ((count ≡ length xs) × (rest ≡ []))
         ⊎ ((x : X) × (slice_get xs count ≡ Some x) × ((more : List ℕ) × (0 < length more) × (text x ≡ rest ++ more)))
 

@@ -186,7 +186,8 @@ all_given w logs all e c =
     in_some_world m there =
         let (before, later, is) = member_split (history w m) (Sent e) there in in_world w m before (Sent e) later is
 
--- entries of one text are one, so where nothing that was sent collides, different entries have different digests
+-- entries of one text are one, so where nothing that was sent collides, different entries have
+-- different digests
 pub shows_distinct : (posts : List Post) (w : World SealedEntry) → IsHonestWorld posts w → (given : List SealedEntry) →
     IsAllGiven w given → HasNoCollision node_of_sealed (λ e. e.text) given → Distinct node_of_sealed (sent_in w)
 shows_distinct posts w honest given all none e f ce cf same =

@@ -1,4 +1,5 @@
--- What the files that are left of the logs of a script's world give, under the roster and the election that were read.
+-- What the files that are left of the logs of a script's world give, under the roster and the
+-- election that were read.
 use Rattle.honest_logs.proofs.Imports.{ℕ, List, Option, subst, Post, node_of_sealed, SealedEntry, EntryGraph, Distinct}
 use Rattle.honest_logs.proofs.Imports.{World, sent_in, LogRead, election_of, GivesGraph, entries_of, GivesLogs, Refusal}
 use Rattle.honest_logs.proofs.Imports.{IsHonestlyRead, IsHonestWorld, AreAllFilesOf, AreFilesOf}
@@ -19,7 +20,8 @@ module _ (machines : List Post) (election : List ℕ) (w : World SealedEntry) (i
   in_its names files answer gives =
       subst (λ (e : List ℕ). GivesLogs machines e names files answer) (of_script_election machines election w is) gives
 
-  -- logs and a graph that are given by what is left of a script's logs are read as what its machines did
+  -- logs and a graph that are given by what is left of a script's logs are read as what its
+  -- machines did
   pub script_read : Distinct node_of_sealed (sent_in w) → (names : List (List ℕ)) (files : List (Option (List ℕ))) →
       AreFilesOf w files → (logs : List LogRead) → GivesLogs machines election names files (Ok logs) →
       (graph : EntryGraph SealedEntry) → GivesGraph (entries_of logs) (Ok graph) →

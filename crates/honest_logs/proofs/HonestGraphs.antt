@@ -1,4 +1,5 @@
--- The graph of what is read of an honest world's logs, and the worlds of a script whose roster was read.
+-- The graph of what is read of an honest world's logs, and the worlds of a script whose roster was
+-- read.
 use Rattle.honest_logs.proofs.Imports.{◌≡◌, ◌∙◌, ℕ, inl, inr, List, Option, Some, None, refl, ap, sym, subst, sha256}
 use Rattle.honest_logs.proofs.Imports.{text_of, Post, RosterFault, Roster, Reads, roster_tree, node_of_sealed}
 use Rattle.honest_logs.proofs.Imports.{SealedEntry, Memory, EntryGraph, Distinct, World, sent_in, LogRead}

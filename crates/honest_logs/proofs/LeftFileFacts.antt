@@ -95,7 +95,8 @@ module _ (posts : List Post) (w : World SealedEntry) (honest : IsHonestWorld pos
       log_of_file names files logs gives (Some (log_text m (history w m))) (all m below) in
       (log, inside, whole_in posts w honest m below log said.1)
 
-  -- what is left of a log of an honest world is within the limit of a log's file, since the whole log is
+  -- what is left of a log of an honest world is within the limit of a log's file, since the whole
+  -- log is
   within_limit : (bytes : List ℕ) → IsLeftIn w bytes → length bytes ≤ max_bytes
   within_limit bytes left =
       let text = log_text left.machine (history w left.machine) in

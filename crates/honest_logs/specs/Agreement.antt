@@ -25,8 +25,8 @@ HaveAll w logs =
 abbrev pub IsAllGiven : World SealedEntry → List SealedEntry → Type 0
 IsAllGiven w given = (e : SealedEntry) → Contains (sent_in w) e → Contains given e
 
--- nothing is unknown in the graph: it has no gap, and of any two survivors the one is reported to be before the other
--- exactly when it was held before it in w, and not to be exactly when it wasn't
+-- nothing is unknown in the graph: it has no gap, and of any two survivors the one is reported to
+-- be before the other exactly when it was held before it in w, and not to be exactly when it wasn't
 pub record IsAllTold (w : World SealedEntry) (graph : EntryGraph SealedEntry) : Type 0 where
   pub no_gap : graph.gaps ≡ []
   pub order : (y x : ℕ) (f e : SealedEntry) →
@@ -34,8 +34,8 @@ pub record IsAllTold (w : World SealedEntry) (graph : EntryGraph SealedEntry) : 
       ((before (parents_of graph.links) (ragged_of graph.links) y x ≡ True) ↔ HeldBefore w f e)
       × ((before (parents_of graph.links) (ragged_of graph.links) y x ≡ False) ↔ (¬ (HeldBefore w f e)))
 
--- The graph of what is given accuses nobody: it has no stray and no fork, its survivors are the entries given, and they
--- agree with w. Where all that was sent is given, all is reported.
+-- The graph of what is given accuses nobody: it has no stray and no fork, its survivors are the
+-- entries given, and they agree with w. Where all that was sent is given, all is reported.
 pub record IsHonestGraph (w : World SealedEntry) (given : List SealedEntry) (graph : EntryGraph SealedEntry)
     : Type 0 where
   pub no_stray : graph.strays ≡ []
@@ -44,8 +44,8 @@ pub record IsHonestGraph (w : World SealedEntry) (given : List SealedEntry) (gra
   pub agrees : AgreesWith node_of_sealed (length w) w graph.survivors
   pub all_told : IsAllGiven w given → IsAllTold w graph
 
--- each of the entries given was sent in w, no two of them collide, and their graph is an honest one, which isn't
--- refused unless memory runs out
+-- each of the entries given was sent in w, no two of them collide, and their graph is an honest
+-- one, which isn't refused unless memory runs out
 pub record IsHonestlyGiven (w : World SealedEntry) (given : List SealedEntry) : Type 0 where
   pub were_sent : (e : SealedEntry) → Contains given e → Contains (sent_in w) e
   pub no_collision : HasNoCollision node_of_sealed (λ e. e.text) given

@@ -10,9 +10,9 @@ use Rattle.evidence.specs.Logs.{GivesLogs}
 use Rattle.honest_logs.specs.Agreement.{HaveAll, IsHonestGraph}
 use Rattle.honest_logs.specs.LeftFiles.{AreAllFilesOf, AreReadOf}
 
--- The files, of these names, give the logs, each the events that are complete in its file, with no refused record and
--- no break. Their entries give the graph, which accuses nobody and agrees with w. Where the whole logs are among the
--- files, they are all read.
+-- The files, of these names, give the logs, each the events that are complete in its file, with no
+-- refused record and no break. Their entries give the graph, which accuses nobody and agrees with
+-- w. Where the whole logs are among the files, they are all read.
 pub record IsHonestlyRead (machines : List Post) (election : List ℕ) (w : World SealedEntry) (names : List (List ℕ))
     (files : List (Option (List ℕ))) (logs : List LogRead) (graph : EntryGraph SealedEntry) : Type 0 where
   pub gives_logs : GivesLogs machines election names files (Ok logs)

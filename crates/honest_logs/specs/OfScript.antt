@@ -12,8 +12,8 @@ use Rattle.entry_order.specs.World.{World}
 use Rattle.polling_world.specs.Keys.{roster_of}
 use Rattle.polling_world.specs.Playing.{ComesTo}
 
--- The machines of some script come to w by some steps. Those of the roster that was read are the script's, and the
--- election is SHA-256 of the roster's text.
+-- The machines of some script come to w by some steps. Those of the roster that was read are the
+-- script's, and the election is SHA-256 of the roster's text.
 pub record IsOfScript (machines : List Post) (election : List ℕ) (w : World SealedEntry) : Type 0 where
   pub script : Script
   pub steps : List Step

@@ -14,7 +14,8 @@ use Rattle.log_files.specs.SealedLog.{event_of, BreaksAt, IsReadSealed}
 use Rattle.log_files.specs.Written.{log_text}
 use Rattle.polling_world.specs.Making.{election_of}
 
--- the bytes are the owner's log up to some place at or after the end of its header: everything after it is gone
+-- the bytes are the owner's log up to some place at or after the end of its header: everything
+-- after it is gone
 pub record IsLeftOf (owner : ℕ) (events : List (Event SealedEntry)) (bytes : List ℕ) : Type 0 where
   pub place : ℕ
   pub behind_header : length (text_of (header_tree owner)) ≤ place
@@ -24,21 +25,22 @@ pub record IsLeftOf (owner : ℕ) (events : List (Event SealedEntry)) (bytes : L
 abbrev pub end_of : ℕ → List (Event SealedEntry) → ℕ → ℕ
 end_of owner events count = length (log_text owner (take count events))
 
--- of bytes of this size this many records are complete: these fit, and there is none more, or it doesn't fit
+-- of bytes of this size this many records are complete: these fit, and there is none more, or it
+-- doesn't fit
 pub record StandWhole (owner : ℕ) (events : List (Event SealedEntry)) (size count : ℕ) : Type 0 where
   pub some_of : count ≤ length events
   pub fit : end_of owner events count ≤ size
   pub no_more : count < length events → size < end_of owner events (count + 1)
 
--- the end of bytes of this size whose whole records end at a place: clean there, or else torn inside the record that
--- begins there
+-- the end of bytes of this size whose whole records end at a place: clean there, or else torn
+-- inside the record that begins there
 abbrev pub IsCutAt : ℕ → ℕ → End → Type 0
 IsCutAt place size Clean = size ≡ place
 IsCutAt place size (Torn at) = (place < size) × (at ≡ place)
 IsCutAt place size (Malformed at why) = ⊥
 
--- The log that was read is the owner's, and its records are the events that are complete in the bytes, in order, each
--- at its place. None is refused, and they break nowhere.
+-- The log that was read is the owner's, and its records are the events that are complete in the
+-- bytes, in order, each at its place. None is refused, and they break nowhere.
 pub record IsPrefixRead (owner : ℕ) (events : List (Event SealedEntry)) (bytes : List ℕ) (log : LogRead) : Type 0 where
   pub count : ℕ
   pub whole : StandWhole owner events (length bytes) count
@@ -55,7 +57,8 @@ pub record IsWholeRead (owner : ℕ) (events : List (Event SealedEntry)) (log : 
   pub kept : map event_of log.kept.items ≡ events
   pub ends : log.end ≡ Clean
 
--- the bytes are a log of the owner under the roster, of which no record is refused and which breaks nowhere
+-- the bytes are a log of the owner under the roster, of which no record is refused and which breaks
+-- nowhere
 pub record IsUnbrokenLog (posts : List Post) (owner : ℕ) (bytes : List ℕ) : Type 0 where
   pub kept : List Kept
   pub end : End

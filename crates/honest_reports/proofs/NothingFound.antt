@@ -173,7 +173,8 @@ module _ (w : World SealedEntry) (report : AuditReport) (read : AreReadIn w repo
       kept
       ∙ kept_lines report.machines report.graph.survivors standard_rules
 
-  -- a report with innocent lines alone, where each rule is kept, has the text of one that found nothing
+  -- a report with innocent lines alone, where each rule is kept, has the text of one that found
+  -- nothing
   text : main_lines report ≡ innocent_lines report → report_text report ≡ kept_text report
   text lines =
       let logs = flat_map line_of (zip report.files report.logs) in

@@ -1,4 +1,5 @@
--- With the standard rules no report on an honest place says that one is broken, and all logs show that each is kept.
+-- With the standard rules no report on an honest place says that one is broken, and all logs show
+-- that each is kept.
 use Rattle.honest_reports.proofs.Imports.{◌≡◌, ◌≢◌, ◌∙◌, ℕ, false, List, [], map, length, Option, sym, ap, subst, Ok}
 use Rattle.honest_reports.proofs.Imports.{Contains, flat_map, zip, Script, node_of_sealed, SealedEntry, Distinct}
 use Rattle.honest_reports.proofs.Imports.{World, sent_in, IsEntryGraph, parents_of, ragged_of, Post, Row, RuleTree}
@@ -141,7 +142,8 @@ module _ (script : Script) (w : World SealedEntry) (roster : Option (List ℕ)) 
         subst EndClean (sym (ap (λ (r : AuditReport). r.logs) found.is))
         (whole_clean machines w world names files each found.logs logs_are)
 
-    -- where the whole logs of all machines are among the files, the report says that each standard rule is kept
+    -- where the whole logs of all machines are among the files, the report says that each standard
+    -- rule is kept
     pub says_all_kept : SaysAllKept w files report
     says_all_kept = record {
       rules = parts_kept;

@@ -22,8 +22,9 @@ unbroken_line (rule, verdict.Kept) = line (codes "kept " ++ rule.name)
 unbroken_line (rule, verdict.Broken places) = []
 unbroken_line (rule, verdict.Unsettled) = line (codes "unsettled " ++ rule.name)
 
--- The rules are the standard ones, with a verdict for each. None is broken, so each has a line of another verdict, and
--- the report doesn't come to that either. One is unsettled only where there is a gap.
+-- The rules are the standard ones, with a verdict for each. None is broken, so each has a line of
+-- another verdict, and the report doesn't come to that either. One is unsettled only where there is
+-- a gap.
 pub record SaysNoneBroken (report : AuditReport) : Type 0 where
   pub rules : report.rules ≡ standard_rules
   pub one_each : length report.verdicts ≡ length standard_rules
@@ -41,8 +42,8 @@ EndClean logs = (log : LogRead) → Contains logs log → log.end ≡ Clean
 abbrev pub kept_line : RuleTree → List ℕ
 kept_line rule = line (codes "kept " ++ rule.name)
 
--- the text of a report that finds nothing: the line of each log, how many entries survive, each standard rule kept, and
--- so the verdict
+-- the text of a report that finds nothing: the line of each log, how many entries survive, each
+-- standard rule kept, and so the verdict
 abbrev pub kept_text : AuditReport → List ℕ
 kept_text report =
     flat_map (λ (named : List ℕ × LogRead). log_head_line named.0 named.1) (zip report.files report.logs)
@@ -54,8 +55,8 @@ pub record FindsNothing (report : AuditReport) : Type 0 where
   pub outcome : outcome_of report ≡ outcome.Kept
   pub text : report_text report ≡ kept_text report
 
--- Each standard rule is kept, and there is no gap. Each log ends after a whole record where each file is whole. Where
--- each log ends so, nothing was found, and else the report comes to findings.
+-- Each standard rule is kept, and there is no gap. Each log ends after a whole record where each
+-- file is whole. Where each log ends so, nothing was found, and else the report comes to findings.
 pub record SaysAllKept (w : World SealedEntry) (files : List (Option (List ℕ))) (report : AuditReport) : Type 0 where
   pub rules : report.rules ≡ standard_rules
   pub verdicts : report.verdicts ≡ map (λ (rule : RuleTree). verdict.Kept) standard_rules

@@ -1,5 +1,5 @@
--- The laws of audits of what is left of an honest place. The roster's file is `roster`, that of the rules, if they are in
--- one, `rules`, and those of the logs are `files`, of the names `names`.
+-- The laws of audits of what is left of an honest place. The roster's file is `roster`, that of the
+-- rules, if they are in one, `rules`, and those of the logs are `files`, of the names `names`.
 use Rattle.std.specs.Prelude.{ℕ, List, ◌∷◌, Option, Ok, Err}
 use Rattle.election_script.specs.declared.script.Script.{Script}
 use Rattle.entry_format.specs.Nodes.{node_of_sealed}
@@ -16,8 +16,8 @@ use Rattle.honest_reports.specs.Places.{HasLeft, IsRosterOf, files_read}
 use Rattle.honest_reports.specs.Refusals.{IsHonestRefusal}
 use Rattle.honest_reports.specs.Reports.{IsHonestReport}
 
--- where different entries have different digests, a report on what is left of an honest place accuses nobody, whichever
--- rules it goes by
+-- where different entries have different digests, a report on what is left of an honest place
+-- accuses nobody, whichever rules it goes by
 abbrev pub ReportsAccuseNobody : Type 0
 ReportsAccuseNobody =
     (script : Script) (w : World SealedEntry) (roster : Option (List ℕ)) (files : List (Option (List ℕ))) →
@@ -26,8 +26,8 @@ ReportsAccuseNobody =
     GivesReport name source names (files_read roster source rules files) (Ok report) →
     IsHonestReport script w names files report
 
--- where different entries have different digests, a report by the standard rules on what is left of an honest place says
--- of none that it is broken
+-- where different entries have different digests, a report by the standard rules on what is left of
+-- an honest place says of none that it is broken
 abbrev pub ReportsSayNoneBroken : Type 0
 ReportsSayNoneBroken =
     (script : Script) (w : World SealedEntry) (roster : Option (List ℕ)) (files : List (Option (List ℕ))) →
@@ -35,8 +35,8 @@ ReportsSayNoneBroken =
     (name : List ℕ) (names : List (List ℕ)) (report : AuditReport) →
     GivesReport name standard names (roster ∷ files) (Ok report) → SaysNoneBroken report
 
--- where the whole logs of an honest place are all among the files, a report by the standard rules says of each that it
--- is kept; that there is a report shows that digests differ
+-- where the whole logs of an honest place are all among the files, a report by the standard rules
+-- says of each that it is kept; that there is a report shows that digests differ
 abbrev pub WholeReportsSayAllKept : Type 0
 WholeReportsSayAllKept =
     (script : Script) (w : World SealedEntry) (roster : Option (List ℕ)) (files : List (Option (List ℕ))) →
@@ -44,8 +44,8 @@ WholeReportsSayAllKept =
     (name : List ℕ) (names : List (List ℕ)) (report : AuditReport) →
     GivesReport name standard names (roster ∷ files) (Ok report) → SaysAllKept w files report
 
--- where different entries have different digests, an audit of what is left of an honest place is refused only for rules
--- in a file
+-- where different entries have different digests, an audit of what is left of an honest place is
+-- refused only for rules in a file
 abbrev pub AuditsAreRefusedOnlySo : Type 0
 AuditsAreRefusedOnlySo =
     (script : Script) (w : World SealedEntry) (roster : Option (List ℕ)) (files : List (Option (List ℕ))) →
@@ -54,8 +54,8 @@ AuditsAreRefusedOnlySo =
     GivesReport name source names (files_read roster source rules files) (Err refusal) →
     IsHonestRefusal script w source rules files refusal
 
--- where the whole logs are all among the files, whatever else is, a report shows that different entries have different
--- digests
+-- where the whole logs are all among the files, whatever else is, a report shows that different
+-- entries have different digests
 abbrev pub WholeReportsShowDistinct : Type 0
 WholeReportsShowDistinct =
     (script : Script) (w : World SealedEntry) (roster : Option (List ℕ)) → IsRosterOf script w roster →

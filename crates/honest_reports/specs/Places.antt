@@ -13,21 +13,23 @@ use Rattle.log_files.specs.Written.{log_text}
 use Rattle.honest_logs.specs.LeftFiles.{AreFilesOf}
 use Rattle.auditor.specs.Sources.{RuleSource, standard, in_file}
 
--- The script is lawful, its machines come to w by some steps, and the file has the text of its roster.
+-- The script is lawful, its machines come to w by some steps, and the file has the text of its
+-- roster.
 pub record IsRosterOf (script : Script) (w : World SealedEntry) (file : Option (List ℕ)) : Type 0 where
   pub steps : List Step
   pub lawful : IsLawful script
   pub comes : ComesTo script steps w
   pub text : file ≡ Some (text_of (roster_tree (roster_of script)))
 
--- What is left of an honest place: the file of the script's roster, and files of which each is what is left of the log of
--- one of the script's machines, once they came to w.
+-- What is left of an honest place: the file of the script's roster, and files of which each is what
+-- is left of the log of one of the script's machines, once they came to w.
 pub record HasLeft (script : Script) (w : World SealedEntry) (roster_file : Option (List ℕ))
     (log_files : List (Option (List ℕ))) : Type 0 where
   pub roster : IsRosterOf script w roster_file
   pub logs : AreFilesOf w log_files
 
--- what an audit reads: the roster's file, that of the rules if they are in one, and those of the logs
+-- what an audit reads: the roster's file, that of the rules if they are in one, and those of the
+-- logs
 abbrev pub files_read : Option (List ℕ) → RuleSource → Option (List ℕ) → List (Option (List ℕ))
     → List (Option (List ℕ))
 files_read roster standard rules logs = roster ∷ logs

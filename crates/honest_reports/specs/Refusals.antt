@@ -15,8 +15,8 @@ use Rattle.auditor.specs.Rows.{row_of}
 use Rattle.auditor.specs.Judged.{IsFirstTooWide}
 use Rattle.auditor.specs.Sources.{RuleSource, standard, in_file, GivesRules}
 
--- The file of this name gives rules, the logs are read, and the entries have an honest graph, but over its survivors a
--- rule is too wide. The first such rule is refused.
+-- The file of this name gives rules, the logs are read, and the entries have an honest graph, but
+-- over its survivors a rule is too wide. The first such rule is refused.
 pub record IsTooWideFor (script : Script) (w : World SealedEntry) (name : List ℕ) (rules_file : Option (List ℕ))
     (files : List (Option (List ℕ))) (refusal : Refusal) : Type 0 where
   pub rules : List RuleTree
@@ -29,8 +29,8 @@ pub record IsTooWideFor (script : Script) (w : World SealedEntry) (name : List �
   pub first : IsFirstTooWide (map (row_of (roster_of script)) graph.survivors) rules place
   pub told : refusal ≡ refused name place (codes "TooWide")
 
--- By the standard rules there is no refusal. Where the rules are in a file, this file is refused, or one of its rules is
--- too wide.
+-- By the standard rules there is no refusal. Where the rules are in a file, this file is refused,
+-- or one of its rules is too wide.
 abbrev pub IsHonestRefusal : Script → World SealedEntry → RuleSource → Option (List ℕ) → List (Option (List ℕ))
     → Refusal → Type 0
 IsHonestRefusal script w standard rules_file files refusal = ⊥

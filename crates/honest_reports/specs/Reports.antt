@@ -37,15 +37,15 @@ log_and_torn_line named = log_head_line named.0 named.1 ++ torn_line named.0 nam
 abbrev pub entries_and_gap_lines : EntryGraph SealedEntry → List ℕ
 entries_and_gap_lines graph = entries_line (length graph.survivors) ++ gap_lines graph.gaps
 
--- all lines of a report but the last, where no machine is accused: those of the logs, with torn ends, of the entries
--- and the gaps, and of the rules
+-- all lines of a report but the last, where no machine is accused: those of the logs, with torn
+-- ends, of the entries and the gaps, and of the rules
 abbrev pub innocent_lines : AuditReport → List ℕ
 innocent_lines report =
     flat_map log_and_torn_line (zip report.files report.logs) ++ entries_and_gap_lines report.graph
     ++ flat_map (rule_line report.machines report.graph.survivors) (zip report.rules report.verdicts)
 
--- The report has no line of a refused record, of a malformed end, of a break, of a stray or of a fork, so its lines are
--- those where no machine is accused.
+-- The report has no line of a refused record, of a malformed end, of a break, of a stray or of a
+-- fork, so its lines are those where no machine is accused.
 pub record AccusesNobody (report : AuditReport) : Type 0 where
   pub no_refused : (file : List ℕ) (log : LogRead) → Contains report.logs log →
       refused_lines file log.refused.items ≡ []
@@ -55,10 +55,10 @@ pub record AccusesNobody (report : AuditReport) : Type 0 where
   pub no_fork : fork_lines report.machines report.graph.forks ≡ []
   pub lines : main_lines report ≡ innocent_lines report
 
--- The report is on the machines of the script and on the logs in these files, of these names. Each log has the records
--- that are whole in its file, with none refused and no break. The graph has no stray and no fork, its survivors are
--- the entries of those records, and they agree with w. Where the whole logs are among the files, they are all read
--- whole. No line accuses anybody.
+-- The report is on the machines of the script and on the logs in these files, of these names. Each
+-- log has the records that are whole in its file, with none refused and no break. The graph has no
+-- stray and no fork, its survivors are the entries of those records, and they agree with w. Where
+-- the whole logs are among the files, they are all read whole. No line accuses anybody.
 pub record IsHonestReport (script : Script) (w : World SealedEntry) (names : List (List ℕ))
     (files : List (Option (List ℕ))) (report : AuditReport) : Type 0 where
   pub machines : report.machines ≡ roster_of script

@@ -57,7 +57,8 @@ not_one p xs none x inside = by (p x) refl
     by true is = let some = list_any_of p xs x inside is in cc
 
 module _ (rows : List Row) (few : (k : Kind) → count_of_rows rows k ≤ most k) where
-  -- where a quantifier isn't too wide over the most rows, it isn't over these, in quantifiers that are no wider
+  -- where a quantifier isn't too wide over the most rows, it isn't over these, in quantifiers that
+  -- are no wider
   form_narrow : (o : Option Kind) (inside outer : ℕ → Bool) →
       ((n m : ℕ) → n ≤ m → outer m ≡ false → inside n ≡ false) → (n m : ℕ) → n ≤ m →
       exceeds_by o outer m ≡ false → widens_by rows o inside n ≡ false

@@ -164,7 +164,8 @@ pub scripts_are_kept : ScriptsAreKept
 scripts_are_kept script steps w lawful come =
     honest_audits_say_kept (roster_of script) w (scripts_lead_to_honest_places script steps w lawful come)
 
--- over no entries that were sent there a standard rule is too wide, since a script has at most 4,096 actions
+-- over no entries that were sent there a standard rule is too wide, since a script has at most
+-- 4,096 actions
 pub scripts_are_never_too_wide : ScriptsAreNeverTooWide
 scripts_are_never_too_wide script steps w lawful come distinct =
     standard_rules_are_narrow (roster_of script) w (scripts_lead_to_honest_places script steps w lawful come) distinct

@@ -1,5 +1,5 @@
--- What rules ask of an honest polling place, one lemma for each shape: an earlier entry, one entry alone, and none
--- before.
+-- What rules ask of an honest polling place, one lemma for each shape: an earlier entry, one entry
+-- alone, and none before.
 use Rattle.honest_rules.proofs.Imports.{◌≡◌, ℕ, Bool, List, inl, inr, sym, subst, Any, Decides, Contains, Deed, Entry}
 use Rattle.honest_rules.proofs.Imports.{node_of_sealed, SealedEntry, Event, Distinct, held, Precedes, World, sent_in}
 use Rattle.honest_rules.proofs.Imports.{Contains-map, Contains-map_cases, HoldsSome, HoldsOwn, Post, entries_in}
@@ -27,7 +27,8 @@ own_in IsSuch h owner f c maker such =
     held_any (λ (n : Entry). (n.maker ≡ owner) × IsSuch n.deed) h f c (maker, such)
 
 module _ {posts : List Post} {w : World SealedEntry} (honest : IsHonest posts w) where
-  -- where two entries of one maker are such, and neither maker held an own one when it sent, they are one
+  -- where two entries of one maker are such, and neither maker held an own one when it sent, they
+  -- are one
   pub one_alone : (IsSuch : Deed → Type 0) (e f : SealedEntry) (s : SentBy w e) (t : SentBy w f) →
       e.entry.maker ≡ f.entry.maker → IsSuch e.entry.deed → IsSuch f.entry.deed →
       (HoldsOwn e.entry.maker (entries_in s.past) IsSuch → ⊥) →

@@ -17,20 +17,23 @@ use Rattle.auditor.specs.Rows.{role_in}
 abbrev pub role_at : List Post → ℕ → Role
 role_at posts m = role_in (slice_get posts m)
 
--- the deed is one of the role, and after this history the rules of the role give the machine no cause against it
+-- the deed is one of the role, and after this history the rules of the role give the machine no
+-- cause against it
 pub record MayAs (role : Role) (machine : ℕ) (past : List (Event SealedEntry)) (e : SealedEntry) : Type 0 where
   pub of_role : IsDeedOf role e.entry.deed
   pub no_cause : RoleRefuses role machine past e.entry.deed (Ok tt)
 
--- The roster has one supervisor, each history is legal, what was got was sent, and whatever a machine sent it might do,
--- by its role in the roster, after what it held then (VoteBox, USENIX Security 2008; Auditorium, EVT 2007).
+-- The roster has one supervisor, each history is legal, what was got was sent, and whatever a
+-- machine sent it might do, by its role in the roster, after what it held then (VoteBox, USENIX
+-- Security 2008; Auditorium, EVT 2007).
 pub record IsHonest (posts : List Post) (w : World SealedEntry) : Type 0 where
   pub supervisor : HaveOneSupervisor posts
   pub orderly : IsOrderly node_of_sealed w
   pub allowed : (m : ℕ) (past : List (Event SealedEntry)) (e : SealedEntry) (later : List (Event SealedEntry)) →
       history w m ≡ past ++ Sent e ∷ later → MayAs (role_at posts m) m past e
 
--- whether a place is honest depends on its histories alone: w is honest if v is and both have the same histories
+-- whether a place is honest depends on its histories alone: w is honest if v is and both have the
+-- same histories
 abbrev pub HonestyIsOfHistories : Type 0
 HonestyIsOfHistories =
     (posts : List Post) (v w : World SealedEntry) → ((m : ℕ) → history w m ≡ history v m) → IsHonest posts v →

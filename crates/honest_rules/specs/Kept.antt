@@ -49,8 +49,8 @@ NoneIsTooWide posts S =
     HasNoDouble S → (rule : RuleTree) → Contains standard_rules rule →
     is_too_wide (map (row_of posts) S) rule.body 1 ≡ false
 
--- of any entries that an honest polling place sent, where different entries have different digests, each standard rule
--- holds
+-- of any entries that an honest polling place sent, where different entries have different digests,
+-- each standard rule holds
 abbrev pub HonestEntriesKeepTheRules : Type 0
 HonestEntriesKeepTheRules =
     (posts : List Post) (w : World SealedEntry) → IsHonest posts w → Distinct node_of_sealed (sent_in w) →
@@ -68,8 +68,8 @@ HonestAuditsSayKept =
     (posts : List Post) (w : World SealedEntry) → IsHonest posts w → Distinct node_of_sealed (sent_in w) →
     (S : List SealedEntry) → WereSentIn w S → AreAllOf w S → EachIsKept posts S
 
--- where an honest polling place sent at most 4,096 entries, as many as a script has actions, and different ones have
--- different digests, no standard rule is too wide over any of them
+-- where an honest polling place sent at most 4,096 entries, as many as a script has actions, and
+-- different ones have different digests, no standard rule is too wide over any of them
 abbrev pub StandardRulesAreNarrow : Type 0
 StandardRulesAreNarrow =
     (posts : List Post) (w : World SealedEntry) → IsHonest posts w → Distinct node_of_sealed (sent_in w) →

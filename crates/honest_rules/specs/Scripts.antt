@@ -18,21 +18,23 @@ use Rattle.honest_rules.specs.Honest.{IsHonest}
 use Rattle.honest_rules.specs.Kept.{WereSentIn, AreAllOf, StandardRulesHold, NoneIsBroken, NoneIsTooWide}
 use Rattle.honest_rules.specs.Kept.{EachIsKept}
 
--- a lawful script, of either version, leads by any steps to a place that is honest under the script's roster
+-- a lawful script, of either version, leads by any steps to a place that is honest under the
+-- script's roster
 abbrev pub ScriptsLeadToHonestPlaces : Type 0
 ScriptsLeadToHonestPlaces =
     (script : Script) (steps : List Step) (w : World SealedEntry) → IsLawful script → ComesTo script steps w →
     IsHonest (roster_of script) w
 
--- the machines are those of the script, each at its place, whatever stopped it; each could send what it sent when it
--- did, and together they are orderly
+-- the machines are those of the script, each at its place, whatever stopped it; each could send
+-- what it sent when it did, and together they are orderly
 pub record AreOrderlyMachinesOf (script : Script) (machines : List MachineState) : Type 0 where
   pub number : (place : ℕ) (m : MachineState) → slice_get machines place ≡ Some m → m.config.number ≡ place
   pub config : (place : ℕ) (m : MachineState) → slice_get machines place ≡ Some m → IsOf script m.config
   pub made : (place : ℕ) (m : MachineState) → slice_get machines place ≡ Some m → AreMade m.config m.events
   pub orderly : IsOrderly node_of_sealed (world_of machines)
 
--- orderly machines of a lawful script are an honest place, whatever stopped them; this needs no list of steps
+-- orderly machines of a lawful script are an honest place, whatever stopped them; this needs no
+-- list of steps
 abbrev pub MachinesAreHonest : Type 0
 MachinesAreHonest =
     (script : Script) (machines : List MachineState) → IsLawful script → AreOrderlyMachinesOf script machines →

@@ -5,8 +5,8 @@ use Rattle.lms_ots.specs.declared.kind.OtsKind.{OtsKind}
 use Rattle.lms_ots.specs.Ots.{u32str}
 use Rattle.lms_sign.specs.Secret.{Secret, public_of, signed_by}
 
--- what a secret key is made of: the heights of its trees, the top tree's identifier and seed, and the
--- number of its next signature
+-- what a secret key is made of: the heights of its trees, the top tree's identifier and seed, and
+-- the number of its next signature
 pub record TwoLevelSecret : Type 0 where
   pub kind : OtsKind
   pub top : ℕ

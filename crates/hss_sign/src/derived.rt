@@ -1,5 +1,5 @@
 //! The keys of low trees, which are derived from that of the top tree.
-ghost use Rattle.std.specs.Prelude.{◌≡◌, ◌++◌, ◌%◌, ◌/◌, ◌^◌, IfOk};
+ghost use Rattle.std.specs.Prelude.{◌≡◌, ◌++◌, ◌%◌, ◌/◌, ◌^◌};
 ghost use Rattle.sha2.specs.Sha256.{sha256};
 ghost use Rattle.lms_ots.specs.Ots.{u32str};
 ghost use Rattle.hss_sign.specs.TwoLevels.{low_id, low_seed};

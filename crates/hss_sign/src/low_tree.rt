@@ -1,7 +1,7 @@
 //! Low trees in use.
 ghost use Rattle.std.specs.Prelude.{◌≡◌, ◌≢◌, ◌+◌, ◌++◌, ◌^◌, ◌<◌};
 ghost use Rattle.std.specs.Prelude.{IfOk, IfSome, IfNone, OnOk, OnErr, Some};
-ghost use Rattle.lms_sign.specs.Secret.{public_of, signed_by};
+ghost use Rattle.lms_sign.specs.Secret.{signed_by};
 ghost use Rattle.hss_sign.specs.inside.Kept.{head_of};
 
 use lms_ots::u32_bytes;

@@ -1,6 +1,6 @@
 //! Two-level secret keys.
 ghost use Rattle.std.specs.Prelude.{◌≡◌, ◌↔◌, ◌+◌, ◌/◌, ◌%◌, ◌^◌, ◌<◌, ◌≤◌, ◌==◌};
-ghost use Rattle.std.specs.Prelude.{IfOk, IfSome, IsErrOf, OnErr, OnOk};
+ghost use Rattle.std.specs.Prelude.{IfOk, IsErrOf, OnErr, OnOk};
 ghost use Rattle.lms_sign.specs.Height.{IsHeight};
 ghost use Rattle.hss_sign.specs.TwoLevels.{hss_public, hss_signed, low_tree_of};
 ghost use Rattle.hss_sign.specs.Signs.{HssSigns, leaves_in};

@@ -38,24 +38,6 @@ decided_whole {Cause} row i over before =
     let P : List (Bool × Cause) → Type 0 = λ rest. IsFirstOf (tests_of rest) answer in
     before answer (subst P (sym (drop_all i row over)) refl)
 
--- each test is true exactly when its cause applies
-abbrev pub AreTestsOf : {Cause : Type 0} → List (Bool × Cause) → List (Type 0 × Cause) → Type 0
-AreTestsOf [] [] = Unit {0}
-AreTestsOf [] (cause ∷ row) = ⊥
-AreTestsOf (test ∷ tests) [] = ⊥
-AreTestsOf (test ∷ tests) (cause ∷ row) = (IsTrue test.0 ↔ cause.0) × (test.1 ≡ cause.1) × AreTestsOf tests row
-
--- the first test that is true gives the first cause that applies
-pub first_by_tests : {Cause : Type 0} (tests : List (Bool × Cause)) (row : List (Type 0 × Cause))
-    (answer : Result (Unit {0}) Cause) → AreTestsOf tests row → IsFirstOf (tests_of tests) answer → IsFirstOf row answer
-first_by_tests [] [] answer same first = first
-first_by_tests [] (cause ∷ row) answer same first = absurd same
-first_by_tests (test ∷ tests) [] answer same first = absurd same
-first_by_tests (test ∷ tests) (cause ∷ row) answer (tells, same, _) (inl (holds, is)) =
-    inl (tells.0 holds, is ∙ ap Err same)
-first_by_tests (test ∷ tests) (cause ∷ row) answer (tells, same, rest) (inr (fails, later)) =
-    inr (λ applies. fails (tells.1 applies), first_by_tests tests row answer rest later)
-
 -- two facts that hold alike with a third
 pub iff_trans : {A B C : Type 0} → A ↔ B → B ↔ C → A ↔ C
 iff_trans first second = (λ a. second.0 (first.0 a), λ c. first.1 (second.1 c))

@@ -56,7 +56,8 @@ impl<T: Drop> Items<T> {
         self.items.as_slice()
     }
 
-    /// Adds an item at the end. Want of memory drops the item, and leaves the list as it was.
+    /// Adds an item at the end. If an allocation fails, the item is dropped and the
+    /// list stays as it was.
     pub fn push(&mut self, item: T) -> Result<(), AllocError>
         ensures ok { OnOk result (self.new ≡ self.old ++ item ∷ []) }
         ensures err { OnErr result (self.new ≡ self.old) }

@@ -257,7 +257,8 @@ module _ {T : Type 0} (node : T → Node) (given : List T) (graph : EntryGraph T
         ap parents_in (slice_get_past links i
         (omega (arith, count, past, length-append graph.links (link_to parents missing ∷ []))))
 
-    -- a parent of one before is one of its parents before; one of the last is a survivor that it names
+    -- a parent of one before is one of its parents before; one of the last is a survivor that it
+    -- names
     parent_cases : (i p : ℕ) → Contains (parents_of links i) p →
         ((i < length S) × Contains (parents_of graph.links i) p) ⊎ ((i ≡ length S) × Contains parents p)
     parent_cases i p has = by (cases_order i (length S))

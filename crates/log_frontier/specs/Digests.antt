@@ -26,7 +26,8 @@ place_by places d = lookup (bytes_eq d) places
 abbrev pub bears : List (List ℕ × ℕ) → List ℕ → Bool
 bears places d = is_some (place_by places d)
 
--- the digests that are looked for; once there was no room for one, `scans` is set and the list says nothing
+-- the digests that are looked for; once there was no room for one, `scans` is set and the list says
+-- nothing
 pub record Wanted : Type 0 where
   pub list : List (List ℕ)
   pub scans : Bool

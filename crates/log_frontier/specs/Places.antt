@@ -7,8 +7,8 @@ use Rattle.entry_order.specs.Naming.{IsNamedIn, IsBorneIn, IsNew, is_named, has_
 use Rattle.entry_order.specs.Frontier.{frontier}
 use Rattle.log_frontier.specs.Digests.{bears, has, place_by, Wanted}
 
--- a frontier: places in a list of entries, counted from 0, how many more entries it notes without memory,
--- the places of the digests that were noted, and the digests that are looked for
+-- a frontier: places in a list of entries, counted from 0, how many more entries it notes without
+-- memory, the places of the digests that were noted, and the digests that are looked for
 pub record Places : Type 0 where
   pub list : List ℕ
   pub spare : ℕ
@@ -48,13 +48,14 @@ module _ {T : Type 0} (node : T → Node) where
   abbrev pub NamesUnborne : List T → Type 0
   NamesUnborne es = (d : List ℕ) × IsNamedIn node es d × (¬ (IsBorneIn node es d))
 
-  -- these are exactly the digests that the entries name and none has, unless that is found by a scan
+  -- these are exactly the digests that the entries name and none has, unless that is found by a
+  -- scan
   abbrev pub AreWanted : List T → Wanted → Type 0
   AreWanted es wanted = wanted.scans ≡ false → (d : List ℕ) →
       has wanted.list d ≡ (is_named node es d && not (has_digest node es d))
 
-  -- the frontier's places are their frontier, the digests that it noted those that the entries have, at their
-  -- places, and the digests that it looks for those that they name and none has
+  -- the frontier's places are their frontier, the digests that it noted those that the entries
+  -- have, at their places, and the digests that it looks for those that they name and none has
   pub record StandsFor (es : List T) (frontier : Places) : Type 0 where
     pub front : IsFrontierAt es frontier.list
     pub noted : AreBorne es frontier.noted

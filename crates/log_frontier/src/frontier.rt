@@ -14,7 +14,7 @@ use entry_order::{Knot, gaps_are_unique};
 use std::alloc::{AllocError, Global};
 use std::marker::Model;
 
-/// Want of memory.
+/// An allocation failed.
 pub type Memory = AllocError;
 
 /// The places, counted from 0, of the entries that no held entry names, in ascending order of

@@ -1,5 +1,6 @@
--- What each pass of a lock knows, the rule that ties the passes to the value, and the five kinds of step that change
--- what a pass knows. The queue of one place holds the value, or it is empty and exactly one pass has the turn.
+-- What each pass of a lock knows, the rule that ties the passes to the value, and the five kinds of
+-- step that change what a pass knows. The queue of one place holds the value, or it is empty and
+-- exactly one pass has the turn.
 use Rattle.std.specs.Prelude.{◌≡◌, ℕ, ◌-◌, ◌<◌, true, false, List, [], ◌∷◌, ◌++◌, length, All, ◌⊎◌}
 use mathlib.Core.Option.{some}
 use mathlib.Core.List.{IsPrefix}
@@ -40,7 +41,8 @@ whole = record {
   other_mine = [];
 }
 
--- what the pass with the turn knows: it sits at the holder's seat, knows the whole story, and the queue is empty
+-- what the pass with the turn knows: it sits at the holder's seat, knows the whole story, and the
+-- queue is empty
 pub record KnowsStory {V B : Type 0} (holder : ℕ) (story : List Tick) (items : List V) (seat : ℕ) (v : PassState B)
     : Type 0 where
   pub holds : seat ≡ holder
@@ -55,8 +57,9 @@ pub record KnowsOther {B : Type 0} (seats : ℕ → ℕ) (brand : List B) (story
   pub seen : IsPrefix v.other_seen story
   pub mine : ticks_of (1 - v.number) story ≡ v.other_mine
 
--- what the rule says of one pass, which sits at `seat`: it knows a prefix of the story and its own ticks; with the turn
--- it knows the whole story, and the queue is empty; where it stands for both numbers it knows the other's too
+-- what the rule says of one pass, which sits at `seat`: it knows a prefix of the story and its own
+-- ticks; with the turn it knows the whole story, and the queue is empty; where it stands for both
+-- numbers it knows the other's too
 pub record FitsState {V B : Type 0} (seats : ℕ → ℕ) (holder : ℕ) (brand : List B) (story : List Tick) (items : List V)
     (seat : ℕ) (v : PassState B) : Type 0 where
   pub number : v.number < 2
@@ -106,8 +109,8 @@ module _ {V B : Type 0} (brand_of : V → List B) (story_of : V → List Tick) w
     pub each : (seat : ℕ) (v : PassState B) → get_elem? views seat ≡ some v → v.alive ≡ true →
         FitsState seats holder brand story items seat v
 
-  -- the step "turn taken": the pass got the value, and is bound to its story. (Where the queue was empty, the step "no
-  -- value", no view changes)
+  -- the step "turn taken": the pass got the value, and is bound to its story. (Where the queue was
+  -- empty, the step "no value", no view changes)
   pub record HasTurn (v : PassState B) (x : V) (w : PassState B) : Type 0 where
     pub after : w ≡ record v { turn = true; bound = story_of x }
     pub brand_is : brand_of x ≡ v.brand

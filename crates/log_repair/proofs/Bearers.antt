@@ -1,4 +1,5 @@
--- Entries that a machine is answered: a machine of the world that runs holds them, and their maker sent them.
+-- Entries that a machine is answered: a machine of the world that runs holds them, and their maker
+-- sent them.
 use Rattle.log_repair.proofs.Imports.{◌≡◌, ◌∙◌, ℕ, zero, suc, ◌<◌, Bool, true, false, cond, List, [], ◌∷◌, length}
 use Rattle.log_repair.proofs.Imports.{inl, inr, Option, Some, None, refl, sym, ap, subst, find, slice_get, Contains}
 use Rattle.log_repair.proofs.Imports.{option_or, bytes_eq, bytes_eq-Decides, Event, Sent, Got, IsBorneIn, Node}

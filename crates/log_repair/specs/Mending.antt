@@ -1,4 +1,5 @@
--- Machines ask for the entries that they miss, and one that runs and holds such an entry answers; then they finish.
+-- Machines ask for the entries that they miss, and one that runs and holds such an entry answers;
+-- then they finish.
 use Rattle.std.specs.Prelude.{◌≢◌, ℕ, List, [], ◌∷◌, ◌++◌, length, find, slice_get}
 use Rattle.std.specs.Prelude.{Option, Some, None, if◌then◌else◌}
 use Rattle.std.specs.List.{range_with_len}
@@ -17,7 +18,8 @@ module _ {T : Type 0} (node : T → Node) where
   abbrev pub found_by_digest : List ℕ → List T → Option T
   found_by_digest d es = find (λ e. bytes_eq (node e).digest d) es
 
-  -- what a machine answers if asked for the digest: the entry with it that it holds, unless it has stopped
+  -- what a machine answers if asked for the digest: the entry with it that it holds, unless it has
+  -- stopped
   abbrev pub answer_of : List ℕ → Machine T → Option T
   answer_of d a = if a.stopped then None else found_by_digest d (held a.history)
 

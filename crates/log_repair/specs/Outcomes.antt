@@ -18,7 +18,8 @@ use Rattle.polling_world.specs.Worlds.{machine_of, world_of, configs_of, TellsNe
 abbrev pub WorldWay : Type 1
 WorldWay = (World SealedEntry → Step → World SealedEntry) → World SealedEntry → List Step → World SealedEntry → Type 0
 
--- by the steps the way leads from these machines to those, for whatever function says what each may send
+-- by the steps the way leads from these machines to those, for whatever function says what each may
+-- send
 abbrev pub LeadsTo : WorldWay → List MachineState → List Step → List MachineState → Type 0
 LeadsTo Way old steps new =
     (next : ℕ → List (Event SealedEntry) → Option SealedEntry) (log : ℕ) →
@@ -40,8 +41,8 @@ module _ {T : Type 0} (node : T → Node) where
   NoneAnswers w d =
       (m : ℕ) (a : Machine T) → slice_get w m ≡ Some a → a.stopped ≡ false → ¬ IsBorneIn node (held a.history) d
 
-  -- of the world's machine: its log is whole, or has as many events as it may, or it misses a digest that no machine
-  -- that runs holds
+  -- of the world's machine: its log is whole, or has as many events as it may, or it misses a
+  -- digest that no machine that runs holds
   abbrev pub IsMended : ℕ → World T → Machine T → Type 0
   IsMended log w a =
       NamesOnlyHeld node (held a.history) ⊎ (length a.history ≡ log)

@@ -109,7 +109,8 @@ module _ (script : Script) (lawful : IsLawful script) (links : List (List LinkVi
   number : m.config.number ≡ at
   number = ap (λ (x : MachineState). x.config.number) fresh.2
 
-  -- nothing happened to the machine, and these ends lead to and from each machine, with nothing put or taken
+  -- nothing happened to the machine, and these ends lead to and from each machine, with nothing put
+  -- or taken
   pub beginning : IsBeginning script m the_outs the_inns
   beginning = let (_, _, is) = fresh in record {
     log = ap (λ (x : MachineState). x.config.log) is;

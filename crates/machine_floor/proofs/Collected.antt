@@ -376,7 +376,8 @@ module _ (script : Script) (links : List (List LinkView)) (ss : List StationStat
           cause = cause;
         }
 
-    -- what a machine got of another, and what waits for it, are what the other sent and isn't lost, in order
+    -- what a machine got of another, and what waits for it, are what the other sent and isn't lost,
+    -- in order
     balanced : IsBalanced node_of_sealed (length machines) (history (world_of machines)) lost (waits_of waits)
     balanced a b la lb apart =
         let (s, at_a) = element_at ss a (omega (arith, count)) in

@@ -44,7 +44,8 @@ module _ (old : StationState) (from : ℕ) (end : Inn) (x : SealedEntry) (is : I
   inns_are : List Inn
   inns_are = set old.inns from end
 
-  -- at most 4,096 entries are sent, and taken from each of 16 machines: so there is room for one loss more
+  -- at most 4,096 entries are sent, and taken from each of 16 machines: so there is room for one
+  -- loss more
   pub room_for_loss : length old.losses < 131072
   room_for_loss =
       let each : All (λ (i : Inn). length i.taken ≤ max_actions) (set old.inns from end) =

@@ -31,7 +31,8 @@ last_read : (xs : List SealedEntry) (x : SealedEntry) (j : ℕ) (d : SealedEntry
     get_or (xs ++ x ∷ []) j d ≡ x
 last_read xs x j d s = ap (λ n. get_or (xs ++ x ∷ []) n d) s ∙ read_last xs x d
 
--- where the j-th has a number of at least j, one more that has a greater number than all keeps to this
+-- where the j-th has a number of at least j, one more that has a greater number than all keeps to
+-- this
 above : (n : ℕ) (xs : List SealedEntry) (x : SealedEntry) → n ≡ length xs →
     ((j : ℕ) (d : SealedEntry) → j < length xs → j ≤ (get_or xs j d).entry.number) →
     All (λ (y : SealedEntry). y.entry.number < x.entry.number) xs → (j : ℕ) → j ≡ n → j ≤ x.entry.number
@@ -148,7 +149,8 @@ module _ (old : StationState) (from : ℕ) (end : Inn) (x : SealedEntry) (is : I
     ticks = old.ticks ++ record { pass = 1; what = length old.machine.events } ∷ [];
   }
 
-  -- where the machine goes on and its log had room, what is true of every station is true after it heard
+  -- where the machine goes on and its log had room, what is true of every station is true after it
+  -- heard
   pub IsStation-heard : IsMachine (with_event (Got x) old.machine) → IsGoing old.machine →
       length old.machine.events < old.machine.config.log → IsStation after_heard
   IsStation-heard kept goes room =

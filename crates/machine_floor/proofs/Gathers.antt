@@ -1,4 +1,5 @@
--- The stations once their locks are closed and the links are finished: each entry is heard, lost or waiting.
+-- The stations once their locks are closed and the links are finished: each entry is heard, lost or
+-- waiting.
 use Rattle.machine_floor.proofs.Imports.{◌≡◌, ◌≢◌, ℕ, ◌+◌, ◌<◌, List, ◌++◌, length, sym, ap, ◌∙◌, subst, arith, inl}
 use Rattle.machine_floor.proofs.Imports.{inr, get_or, length-append, ◌||◌, not, Contains, AllPairs, cases_eq}
 use Rattle.machine_floor.proofs.Imports.{get_or_append_left, get_or-append-add, at_from_Contains, AllPairs-filter}

@@ -47,7 +47,8 @@ module _ (old : StationState) (is : IsStation old) where
         let r = done.may.room in let s = is.small in let f = sent_few old.machine.events in let l = is.few_losses in
         let t = all_taken in let o = is.few in omega arith
 
-    -- each copy has the machine as maker, and the number that the machine gave, which is below 4,096
+    -- each copy has the machine as maker, and the number that the machine gave, which is below
+    -- 4,096
     pub copies_are : AreCopies old.machine.config.number number copies
     copies_are =
         let P : SealedEntry → Type 0 = λ x. (x.entry.maker ≡ old.machine.config.number) × (x.entry.number ≡ number) ×
@@ -111,7 +112,8 @@ module _ (old : StationState) (is : IsStation old) where
           (subst (λ l. P (with_event (Sent the_entry) old.machine) l ticks) (sym added)
           (subst (λ t. P (with_event (Sent the_entry) old.machine) (old.losses ++ lost) t) (sym ticks_are) base))
 
-      -- to get there, the machine sent the entry, and each other machine's link has it or it is lost there
+      -- to get there, the machine sent the entry, and each other machine's link has it or it is
+      -- lost there
       pub hand_did : HandDid old turned
       hand_did = record {
         entry = the_entry;

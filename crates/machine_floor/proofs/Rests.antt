@@ -185,7 +185,8 @@ module _ (from to : ℕ) (row0 : List LinkView) (outs0 : Outs) (inns0 : List Inn
     out_is : (d : OutView SealedEntry) → get_or outs0 to d ≡ out
     out_is = (drop_step outs0 to out outs_more (is.outs_left ∙ out_next)).0
 
-    -- the ends of machine `to` that take were those that are left, and the one that was popped after them
+    -- the ends of machine `to` that take were those that are left, and the one that was popped
+    -- after them
     front : get_or inns0 to [] ≡ get_or inns_now to [] ++ inn ∷ []
     front = sym (is.left to (omega arith)) ∙ pops.here
 

@@ -8,8 +8,8 @@ use Rattle.finished_floor.specs.declared.loss.Loss.{Loss}
 use Rattle.finished_floor.specs.Arrivals.{arriving, got_from, is_lost}
 use Rattle.machine_floor.specs.Stations.{StationState, IsStation}
 
--- once two stations are out of their locks and the link between them is finished, each entry that one sent is heard by
--- the other, lost on the way, or among the rest of the link
+-- once two stations are out of their locks and the link between them is finished, each entry that
+-- one sent is heard by the other, lost on the way, or among the rest of the link
 abbrev pub LinkAccountsForAll : Type 0
 LinkAccountsForAll =
     (sender hearer : StationState) (total : List Loss) (a b : ℕ) (rest : List SealedEntry) →

@@ -12,8 +12,9 @@ use Rattle.machine_floor.specs.Stations.{StationState, IsOfLinks, made_of}
 abbrev pub lose_lines_of : ℕ → List Lose → List Lose
 lose_lines_of own loses = filter (λ lose. lose.from == own) loses
 
--- The script's station at this place: its machine is the script's, with its stop line, before anything happened; it
--- has the machine's lines and the ends of these links; and nothing was put, taken, lost or done.
+-- The script's station at this place: its machine is the script's, with its stop line, before
+-- anything happened; it has the machine's lines and the ends of these links; and nothing was put,
+-- taken, lost or done.
 pub record IsNewStation (script : Script) (links : List (List LinkView)) (at : ℕ) (s : StationState) : Type 0 where
   pub stop : Option ℕ
   pub stops : IsStopOf script.stops at stop

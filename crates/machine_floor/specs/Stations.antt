@@ -22,8 +22,8 @@ use Rattle.finished_floor.specs.Scripted.{is_scripted}
 use Rattle.finished_floor.specs.Floors.{pass_of}
 use Rattle.polling_world.specs.Machines.{MachineState, IsMachine}
 
--- the machine, how many entries a link may hold, the script's lines on losses, the ends of the links to and from each
--- machine, what is lost, and which of the two passes did each event
+-- the machine, how many entries a link may hold, the script's lines on losses, the ends of the
+-- links to and from each machine, what is lost, and which of the two passes did each event
 pub record StationState : Type 0 where
   pub machine : MachineState
   pub link : ℕ
@@ -41,8 +41,8 @@ new_out end = record end { put = []; seen_taken = 0; fulls = 0 }
 abbrev pub new_in : InView SealedEntry → InView SealedEntry
 new_in end = record end { taken = []; seen_put = 0; bares = 0 }
 
--- the station as it was made, which no turn changes: its machine's configuration and stop, the script's lines, and
--- whose links the ends are
+-- the station as it was made, which no turn changes: its machine's configuration and stop, the
+-- script's lines, and whose links the ends are
 abbrev pub made_of : StationState → StationState
 made_of s = record {
   machine = record s.machine { events = [] };
@@ -54,7 +54,8 @@ made_of s = record {
   ticks = [];
 }
 
--- one tick for each event, in order, of the pass that did it, with the event's place, the first of which is given
+-- one tick for each event, in order, of the pass that did it, with the event's place, the first of
+-- which is given
 abbrev pub ticks_from : ℕ → List (Event SealedEntry) → List Tick
 ticks_from place [] = []
 ticks_from place (x ∷ h) = record { pass = pass_of x; what = place } ∷ ticks_from (place + 1) h
@@ -76,8 +77,8 @@ pub record IsOfLinks (links : List (List LinkView)) (s : StationState) : Type 0 
 abbrev pub numbered_below : ℕ → List SealedEntry → List SealedEntry
 numbered_below number es = filter (λ e. nat_lt e.entry.number number) es
 
--- Why an entry of a machine is lost on a link out: a line of the script names it; or none does, and as many entries
--- with lower numbers were put on the link as it holds at most.
+-- Why an entry of a machine is lost on a link out: a line of the script names it; or none does, and
+-- as many entries with lower numbers were put on the link as it holds at most.
 abbrev pub IsOutCause : List Lose → ℕ → List (OutView SealedEntry) → Loss → LossWhy → Type 0
 IsOutCause loses link outs loss Scripted = is_scripted loses loss.from loss.number loss.to ≡ true
 IsOutCause loses link outs loss LinkFull =
@@ -87,8 +88,8 @@ IsOutCause loses link outs loss ToStopped = ⊥
 IsOutCause loses link outs loss LogFull = ⊥
 IsOutCause loses link outs loss SameDigest = ⊥
 
--- why the machine doesn't hear an entry that it took: it has stopped where it is to stop, it has as many events as it
--- can, or it holds another entry with the same digest
+-- why the machine doesn't hear an entry that it took: it has stopped where it is to stop, it has as
+-- many events as it can, or it holds another entry with the same digest
 abbrev pub IsInCause : MachineState → SealedEntry → LossWhy → Type 0
 IsInCause m x Scripted = ⊥
 IsInCause m x LinkFull = ⊥
@@ -115,9 +116,10 @@ pub record IsTakenWell (from : ℕ) (taken : List SealedEntry) : Type 0 where
   pub small : All (λ x. x.entry.number < max_actions) taken
   pub dense : (j : ℕ) (d : SealedEntry) → j < length taken → j ≤ (slice_index_or taken j d).entry.number
 
--- What is true of every station. Its machine is one; each link out has what was sent and isn't lost on it, in order;
--- what was got of each machine is what was taken of it and isn't lost, in order; each loss is of an entry that was
--- sent or taken, has its cause, and is reported once; and there is one tick for each event, in order.
+-- What is true of every station. Its machine is one; each link out has what was sent and isn't lost
+-- on it, in order; what was got of each machine is what was taken of it and isn't lost, in order;
+-- each loss is of an entry that was sent or taken, has its cause, and is reported once; and there
+-- is one tick for each event, in order.
 pub record IsStation (s : StationState) : Type 0 where
   pub machine : IsMachine s.machine
   pub going : s.machine.marked ≡ false

@@ -15,8 +15,8 @@ use Rattle.polling_world.specs.Machines.{with_event}
 use Rattle.polling_world.specs.Sending.{MaySend}
 use Rattle.machine_floor.specs.Stations.{StationState, made_of}
 
--- The machine sent its next entry, with one tick more, of pass 0; and each other machine's link has it, or there is one
--- loss more by its cause. The ends in and the brand stay.
+-- The machine sent its next entry, with one tick more, of pass 0; and each other machine's link has
+-- it, or there is one loss more by its cause. The ends in and the brand stay.
 pub record HandDid (old new : StationState) : Type 0 where
   pub entry : SealedEntry
   pub may : MaySend old.machine.config old.machine.events entry
@@ -50,8 +50,8 @@ IsFate x from (Some why) old new =
       why = why;
     } ∷ [])
 
--- An entry of machine `from` was taken, and it is heard or lost as the machine answers. The ends out and the brand
--- stay.
+-- An entry of machine `from` was taken, and it is heard or lost as the machine answers. The ends
+-- out and the brand stay.
 pub record EarTook (from : ℕ) (old new : StationState) : Type 0 where
   pub entry : SealedEntry
   pub end : InView SealedEntry
@@ -83,7 +83,8 @@ IsLook own from old before new after =
     ((from ≡ own) × (new ≡ old) × (after ≡ before))
     ⊎ ((from ≢ own) × ((took : Bool) × EarDid from took old new × (after ≡ cond took 1 0 + before)))
 
--- looks at the links from the first machines but its own, one after another, and how many entries they took
+-- looks at the links from the first machines but its own, one after another, and how many entries
+-- they took
 abbrev pub HasLooked : ℕ → ℕ → StationState → StationState → ℕ → Type 0
 HasLooked own zero first now taken = (now ≡ first) × (taken ≡ 0)
 HasLooked own (suc from) first now taken =

@@ -1,4 +1,5 @@
--- An office's key and its signatures: HSS of RFC 8554 with a top tree of height 5 and low trees of height 10, W4.
+-- An office's key and its signatures: HSS of RFC 8554 with a top tree of height 5 and low trees of
+-- height 10, W4.
 use Rattle.std.specs.Prelude.{ℕ, List, ◌++◌, take, codes}
 use Rattle.sha2.specs.Sha256.{sha256}
 use Rattle.lms_ots.specs.declared.kind.OtsKind.TheVariants.{W4}

@@ -31,7 +31,8 @@ office_tree office =
 abbrev pub office_text : Office → List ℕ
 office_text office = text_of (office_tree office)
 
--- the bytes are the text of the office, and nothing else; a key that is spent has the number after its last one
+-- the bytes are the text of the office, and nothing else; a key that is spent has the number after
+-- its last one
 pub record IsOffice (bytes : List ℕ) (office : Office) : Type 0 where
   pub seed : HasSeed office
   pub within : office.next ≤ max_signatures

@@ -1,4 +1,5 @@
-//! Times the rows of a random graph whose nodes have four parents each, one of them the node before.
+//! Times the rows of a random graph whose nodes have four parents each, one of them the node
+//! before.
 //!
 //! `order_speed NODES ROUNDS` makes the rows so many times, and prints for each the processor time
 //! in nanoseconds and a checksum of the answers. Without words it prints the checksum for 2,000

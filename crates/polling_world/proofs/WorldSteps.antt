@@ -436,7 +436,8 @@ after_step_of posts ms step (Err e) new world by same = record {
   stops = ap stops_of same;
 }
 
--- a step that was taken, or failed and left all as it was, is as contracts say of the state that the code holds
+-- a step that was taken, or failed and left all as it was, is as contracts say of the state that
+-- the code holds
 pub after_step : (posts : List Post) (ms : List MachineState) (old : WorldState) (step : Step)
     (result : Result Stepped AllocError) (new : List MachineState) → state_of posts ms ≡ old → IsWorld posts ms →
     IfOk result (λ stepped. StepsBy step ms stepped new) → OnErr result (new ≡ ms) →

@@ -20,15 +20,16 @@ use Rattle.polling_world.specs.Waiting.{IsGoing, IsStampSpent, IsReady, IsWhy}
 abbrev pub IsHindered : MachineState → LeftWhy → Type 0
 IsHindered m why = (deed : Deed) × (next_action m.config m.events ≡ Some deed) × IsWhy m deed why
 
--- no earlier cause applies, and the entry of the next action has the digest of an entry that the machine holds
+-- no earlier cause applies, and the entry of the next action has the digest of an entry that the
+-- machine holds
 pub record IsHeldAlready (m : MachineState) : Type 0 where
   pub deed : Deed
   pub action : next_action m.config m.events ≡ Some deed
   pub ready : IsReady m deed
   pub held : IsBorneIn node_of_sealed (held m.events) (node_of_sealed (next_entry m.config m.events deed)).digest
 
--- the next action is done: its entry, which the machine may send, is one event more, and there are as many copies of it
--- as receivers
+-- the next action is done: its entry, which the machine may send, is one event more, and there are
+-- as many copies of it as receivers
 pub record IsDone (old : MachineState) (receivers number : ℕ) (copies : List SealedEntry) (new : MachineState)
     : Type 0 where
   pub entry : SealedEntry
@@ -39,8 +40,8 @@ pub record IsDone (old : MachineState) (receivers number : ℕ) (copies : List S
   pub copied : copies ≡ replicate receivers entry
   pub changed : new ≡ with_event (Sent entry) old
 
--- The first of the causes that applies is reported, and then the machine is as it was; where none does the next action
--- is done.
+-- The first of the causes that applies is reported, and then the machine is as it was; where none
+-- does the next action is done.
 abbrev pub IsActed : MachineState → ℕ → Acted → MachineState → Type 0
 IsActed old receivers (Did number copies) new = IsDone old receivers number copies.items new
 IsActed old receivers Stopped new = IsTrue (has_stopped old) × (new ≡ old)

@@ -9,8 +9,9 @@ use Rattle.election_script.specs.declared.script.Cast0.{Cast0}
 use Rattle.election_script.specs.declared.script.Script.{Script}
 use Rattle.polling_world.specs.Keys.{key_of, roster_of}
 
--- the version in which it makes its entries, its place in the roster, its name and role, what it is to do in order, its
--- key before it signed anything, the roster, and how many events its log may have
+-- the version in which it makes its entries, its place in the roster, its name and role, what it is
+-- to do in order, its key before it signed anything, the roster, and how many events its log may
+-- have
 pub record Config : Type 0 where
   pub version : ℕ
   pub number : ℕ

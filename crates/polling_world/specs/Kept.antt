@@ -32,9 +32,9 @@ abbrev pub IsDeedFor : Rules → Deed → Type 0
 IsDeedFor (rules.Supervisor notes) deed = IsDeedOf Supervisor deed
 IsDeedFor (rules.Booth notes) deed = IsDeedOf Booth deed
 
--- the machine is one, its election is the roster's, its key signs next with the number of its next entry, its rules
--- have noted what it holds and have room for what its log has room for, and its log is small enough for an entry to
--- name all that is in it
+-- the machine is one, its election is the roster's, its key signs next with the number of its next
+-- entry, its rules have noted what it holds and have room for what its log has room for, and its
+-- log is small enough for an entry to name all that is in it
 pub record IsKept (m : MachineState) (election : List ℕ) (next capacity : ℕ) (state : Rules) : Type 0 where
   pub machine : IsMachine m
   pub of_roster : election ≡ election_of m.config.roster

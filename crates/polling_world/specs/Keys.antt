@@ -1,4 +1,5 @@
--- The keys of a script's machines, which are made of the script's seed and the machine's name, and its roster.
+-- The keys of a script's machines, which are made of the script's seed and the machine's name, and
+-- its roster.
 use Rattle.std.specs.Prelude.{◌≡◌, ℕ, List, ◌++◌, map, take, codes, slice_get, Some}
 use Rattle.sha2.specs.Sha256.{sha256}
 use Rattle.lms_sign.specs.Secret.{Secret, public_of}

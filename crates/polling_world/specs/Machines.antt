@@ -16,8 +16,8 @@ use Rattle.election_script.specs.declared.script.Script.{Script}
 use Rattle.polling_world.specs.Configs.{Config, config_of}
 use Rattle.polling_world.specs.Sending.{AreMade}
 
--- what it is made of, the number of events at which it stops, if there is one, whether it was stopped by a call, and
--- what it sent and heard
+-- what it is made of, the number of events at which it stops, if there is one, whether it was
+-- stopped by a call, and what it sent and heard
 pub record MachineState : Type 0 where
   pub config : Config
   pub stop : Option ℕ
@@ -52,9 +52,9 @@ abbrev pub IsWithinStop : Option ℕ → ℕ → Type 0
 IsWithinStop None count = Unit {0}
 IsWithinStop (Some stop) count = count ≤ stop
 
--- what is true of every machine: its version is one, the roster has its key at its number, its actions are deeds of
--- its role that the version has, its history is legal and within its log, each entry that it sent could be sent then,
--- and no event came after its stop
+-- what is true of every machine: its version is one, the roster has its key at its number, its
+-- actions are deeds of its role that the version has, its history is legal and within its log, each
+-- entry that it sent could be sent then, and no event came after its stop
 pub record IsMachine (m : MachineState) : Type 0 where
   pub version : IsVersion m.config.version
   pub roster : HaveText m.config.roster

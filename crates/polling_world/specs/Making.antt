@@ -43,8 +43,8 @@ made config k stamp names deed =
     let entry = entry_with config k stamp names deed in
     sealed_with config entry (signed_by (record config.key { next = k }) (text_of (body_tree entry)))
 
--- what the machine would send after this history: its number is how many entries it sent, its stamp is one more than
--- the greatest that it holds, and it names the frontier
+-- what the machine would send after this history: its number is how many entries it sent, its stamp
+-- is one more than the greatest that it holds, and it names the frontier
 abbrev pub next_entry : Config → List (Event SealedEntry) → Deed → SealedEntry
 next_entry config h deed =
     made config (length (sent h)) (1 + greatest_stamp node_of_sealed (held h)) (frontier node_of_sealed (held h)) deed

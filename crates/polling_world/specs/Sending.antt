@@ -15,8 +15,9 @@ use Rattle.polling_world.specs.Rules.{MayDo}
 abbrev pub next_action : Config → List (Event SealedEntry) → Option Deed
 next_action config h = slice_get config.actions (length (sent h))
 
--- after this history the machine may send e: e is the entry of its next action, against which its rules give no cause,
--- the log has room, the key has an index left, and e's digest is new to the log
+-- after this history the machine may send e: e is the entry of its next action, against which its
+-- rules give no cause, the log has room, the key has an index left, and e's digest is new to the
+-- log
 pub record MaySend (config : Config) (h : List (Event SealedEntry)) (e : SealedEntry) : Type 0 where
   pub deed : Deed
   pub action : next_action config h ≡ Some deed

@@ -75,7 +75,8 @@ pub record IsNextLeft (m : MachineState) (left : Left) : Type 0 where
   pub place : left.place ≡ length (sent m.events)
   pub cause : IsWhy m deed left.why
 
--- what is left: nothing where there is no next action, and else the next action's place and why it isn't done
+-- what is left: nothing where there is no next action, and else the next action's place and why it
+-- isn't done
 abbrev pub IsLeft : MachineState → Option Left → Type 0
 IsLeft m None = next_action m.config m.events ≡ None
 IsLeft m (Some left) = IsNextLeft m left

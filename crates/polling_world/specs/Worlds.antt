@@ -39,7 +39,8 @@ stops_of machines = map (λ m. m.stop) machines
 abbrev pub HaveLog : ℕ → List MachineState → Type 0
 HaveLog log machines = All (λ m. m.config.log ≡ log) machines
 
--- the machine's number is its place, it has this roster and a log for this many events, and no stop of its own
+-- the machine's number is its place, it has this roster and a log for this many events, and no stop
+-- of its own
 pub record IsPlaced (posts : List Post) (log place : ℕ) (m : MachineState) : Type 0 where
   pub number : m.config.number ≡ place
   pub of_world : m.config.roster ≡ posts
@@ -47,9 +48,10 @@ pub record IsPlaced (posts : List Post) (log place : ℕ) (m : MachineState) : T
   pub no_stop : m.stop ≡ None
   pub within : length m.events ≤ log
 
--- What is true of every world: there are at most 16 machines, in their places, with one roster and one size of log;
--- each history is legal and what a machine heard was sent; and a stamp is at most how many entries were sent in the
--- world (Lamport 1978), so that none is ever the greatest that 32 bits hold.
+-- What is true of every world: there are at most 16 machines, in their places, with one roster and
+-- one size of log; each history is legal and what a machine heard was sent; and a stamp is at most
+-- how many entries were sent in the world (Lamport 1978), so that none is ever the greatest that 32
+-- bits hold.
 pub record IsWorld (posts : List Post) (machines : List MachineState) : Type 0 where
   pub log : ℕ
   pub small : log ≤ max_events
@@ -69,7 +71,8 @@ abbrev pub IsNextOf : Config → List (Event SealedEntry) → Option SealedEntry
 IsNextOf config h None = (e : SealedEntry) → ¬ MaySend config h e
 IsNextOf config h (Some e) = MaySend config h e
 
--- this is what a machine, if it is there, sends after the history; a machine that is not there sends nothing
+-- this is what a machine, if it is there, sends after the history; a machine that is not there
+-- sends nothing
 abbrev pub IsNextAt : Option Config → List (Event SealedEntry) → Option SealedEntry → Type 0
 IsNextAt None h entry = entry ≡ None
 IsNextAt (Some config) h entry = IsNextOf config h entry

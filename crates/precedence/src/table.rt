@@ -11,7 +11,7 @@ use entry_order::Three;
 use std::alloc::{AllocError, Global};
 use std::marker::Model;
 
-/// Want of memory.
+/// An allocation failed.
 pub type Memory = AllocError;
 
 /// For each two nodes of a graph, whether one is before the other, as far as it is known. A node

@@ -1,5 +1,5 @@
 //! Small graphs, and texts in which a bar stands for a newline.
-ghost use Rattle.std.specs.Prelude.{IfOk, ◌≤◌, vec_len};
+ghost use Rattle.std.specs.Prelude.{◌≤◌};
 
 use audit_proof::{ProofFault, ProveFault, prove, read_proof};
 use listed_graphs::{Listed, ListedGraph};

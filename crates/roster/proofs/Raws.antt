@@ -21,7 +21,8 @@ some_of : (raws : List Raw) (k : ℕ) → k < length raws → Raw
 some_of [] k within = absurd (omega arith)
 some_of (raw ∷ raws) k within = raw
 
--- `AreNamed` and `AreDistinct` of machines as they are read, and that they say the same of the machines
+-- `AreNamed` and `AreDistinct` of machines as they are read, and that they say the same of the
+-- machines
 abbrev pub RawsNamed : List Raw → Type 0
 RawsNamed raws = All (λ (raw : Raw). IsName raw.name.now) raws
 

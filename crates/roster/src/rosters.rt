@@ -13,7 +13,7 @@ use item_list::Items;
 use sha2::{Digest, Sha256};
 use std::alloc::{AllocError, Global};
 
-/// Want of memory.
+/// An allocation failed.
 pub type Memory = AllocError;
 
 /// The most machines of a roster.

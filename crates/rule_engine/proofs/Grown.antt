@@ -138,8 +138,8 @@ module _ (rows later : List Row) (order : ℕ → ℕ → Three) (wholes : ℕ �
       split body v kind unbound (λ i low. same_formula body apart (bind v i unbound)
       (one_more rows later order wholes last v i unbound low (λ w. tt)))
 
-  -- of an `every` with another in it, whose body no later row is reached by: it is true where it was, and
-  -- where the body is true of each two rows of which one is a later one
+  -- of an `every` with another in it, whose body no later row is reached by: it is true where it
+  -- was, and where the body is true of each two rows of which one is a later one
   pairs_split : (body : Formula) (v u : ℕ) (kind other : Kind) (inner : Box Formula Global) → (v == u) ≡ false →
       body ≡ ForEvery u other inner → Apart (tree_of inner.value) →
       over_from all order wholes false body v kind None unbound (length rows) (length later) ≡ True →
@@ -277,7 +277,8 @@ module _ (all : List Row) (count : ℕ) (fits : count ≤ length all) (order : �
       ∙ ap (λ (n : ℕ). both (over_rows rows order wholes false body v kind None unbound)
       (over_from all order wholes false body v kind None unbound count n)) rest_counted
 
-  -- an `every` with another in it is true as before, where that is true of each two rows of which one is later
+  -- an `every` with another in it is true as before, where that is true of each two rows of which
+  -- one is later
   pub pairs_grown : (body : Formula) (v u : ℕ) (kind other : Kind) (inner : Box Formula Global) → (v == u) ≡ false →
       body ≡ ForEvery u other inner →
       list_any (λ row. reaches_row row (tree_of inner.value)) later ≡ false →

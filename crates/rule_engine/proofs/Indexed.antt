@@ -427,7 +427,8 @@ module _ (rows : List Row) (order : ℕ → ℕ → Three) (wholes : ℕ → Boo
       let all : length rows - 0 ≡ length rows = omega arith in
       ap (over_from rows order wholes q.some body q.v q.kind q.within env 0) all
 
-  -- the least so far isn't below the total, and isn't above what any of the first `n` visited rows adds
+  -- the least so far isn't below the total, and isn't above what any of the first `n` visited rows
+  -- adds
   abbrev pub IsLeastSoFar : List Found → ℕ → Three → Type 0
   IsLeastSoFar found n least =
       (both total least ≡ total) × AllWithin (λ it. both least (adds it.place) ≡ least) found 0 n

@@ -1,5 +1,5 @@
--- Rows more, over which no quantifier of a rule goes that goes over all rows, and which come before no other row,
--- leave the rule's value as it was.
+-- Rows more, over which no quantifier of a rule goes that goes over all rows, and which come before
+-- no other row, leave the rule's value as it was.
 use Rattle.rule_engine.proofs.Imports.{fun_ext, ◌≡◌, ◌∙◌, ap, refl, sym, subst, ℕ, zero, suc, ◌+◌, ◌<◌, ◌≤◌, Bool}
 use Rattle.rule_engine.proofs.Imports.{true, false, cond, Option, Some, None, List, [], ◌∷◌, ◌++◌, map, length}
 use Rattle.rule_engine.proofs.Imports.{get_or, arith, add-zero, length-append, slice_get, ◌==◌, Contains, filter}

@@ -15,7 +15,8 @@ use Rattle.rule_language.proofs.Found.{if_second, bytes_same}
 abbrev pub made : ℕ → Kind → Option ℕ → Binder
 made v k u = record { v = v; kind = k; u = u }
 
--- a new letter, a kind, and then `before` with a bound letter or another token, are what a quantifier binds
+-- a new letter, a kind, and then `before` with a bound letter or another token, are what a
+-- quantifier binds
 pub binder_read : (text : List ℕ) (a b d e : Span) (scope : Scope) (v : ℕ) (k : Kind) (u : Option ℕ)
     → Takes text a b (variable v ∷ [])
     → unbound_in scope (letter_in (variable v)) ≡ Ok v → Takes text b d (kind_word k ∷ []) → IsRange text d e scope u
@@ -95,7 +96,8 @@ abbrev pub behind_binder : ℕ → Kind → Scope → ℕ → Option ℕ → Lis
 behind_binder v k scope depth None rest = before_or_body v k scope depth ∷ rest
 behind_binder v k scope depth (Some u) rest = formula ((v, k) ∷ scope) depth ∷ close ∷ rest
 
--- the letter, the kind and the range of a quantifier meet what is wanted, and its body is wanted next
+-- the letter, the kind and the range of a quantifier meet what is wanted, and its body is wanted
+-- next
 pub binder_passed : (text : List ℕ) (a e : Span) (scope : Scope) (depth : ℕ) (v : ℕ) (k : Kind) (u : Option ℕ)
     → IsBinder text a e scope (made v k u)
     → Passed text a.start e.start (variable v ∷ kind_word k ∷ range_words u) (λ rest. new_variable scope depth ∷ rest)

@@ -143,7 +143,8 @@ in_front_of scope depth between wants ts f others = (
   row-count f.tree others.parts ∙ ap (λ k. k + count_of others.parts) f.one,
 )
 
--- where a further formula may stand, the parenthesis closes, or there is room and a formula is wanted
+-- where a further formula may stand, the parenthesis closes, or there is room and a formula is
+-- wanted
 closed_or_more : (k : ℕ) (scope : Scope) (depth : ℕ) (wants : List Want) (ts : List Token)
     → Ends (more k scope depth ∷ wants) ts
     → ((us : List Token) × (ts ≡ right ∷ us) × Ends wants us)
@@ -211,7 +212,8 @@ abbrev IsBoundRange : Scope → Option ℕ → Type 0
 IsBoundRange scope None = Unit {0}
 IsBoundRange scope (Some u) = is_bound scope u ≡ true
 
--- what stands after the kind of a quantifier: `before` and a variable if they are there, and the body
+-- what stands after the kind of a quantifier: `before` and a variable if they are there, and the
+-- body
 record IsBodyThere (v : ℕ) (k : Kind) (scope : Scope) (depth : ℕ) (wants : List Want) (ts : List Token) : Type 0 where
   u : Option ℕ
   us : List Token
@@ -252,7 +254,8 @@ body_there n there v k scope depth wants ts short e =
         (subst (Ends wanted) (sym is) (ends_more wanted next t us met others)) in
         record { u = None; us = ts; range = tt; is = refl; body = body; one = one }
 
--- a letter that may be bound, a kind, a range and one formula are what stands after `every` or `some`
+-- a letter that may be bound, a kind, a range and one formula are what stands after `every` or
+-- `some`
 ranged : (scope : Scope) (depth : ℕ) (wants : List Want) (every : Bool) (v : ℕ) (k : Kind) (ts us : List Token)
     → nat_lt depth 32 ≡ true → is_closed scope (form.ForEvery v k) ≡ true
     → (b : IsBodyThere v k scope (depth + 1) wants ts) → us ≡ variable v ∷ kind_word k ∷ ts

@@ -94,7 +94,8 @@ taken text old new found (Ok value) word Good ok sound =
     (rw (← is) (ok.1 some), good)
 taken text old new found (Err fault) word Good ok sound = tt
 
--- tokens read from one place to another and from there to a third are read from the first to the third
+-- tokens read from one place to another and from there to a third are read from the first to the
+-- third
 pub spell_more : (text : List ℕ) (a b c : ℕ) (first second : List Token) → Spell text a b first → Spell text b c second
     → Spell text a c (first ++ second)
 spell_more text a b c first second to on before stand =

@@ -34,7 +34,8 @@ abbrev pub Breaks : List ℕ → Type 0
 Breaks [] = Unit {0}
 Breaks (byte ∷ more) = ¬ (IsWordByte byte)
 
--- wherever the piece is in a text between words, it spells these tokens, if no word goes on after it
+-- wherever the piece is in a text between words, it spells these tokens, if no word goes on after
+-- it
 abbrev pub Spells : List ℕ → List Token → Type 0
 Spells xs ts =
     (text front more : List ℕ) (before : List Token) → text ≡ front ++ (xs ++ more) → Breaks more

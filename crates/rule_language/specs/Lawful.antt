@@ -18,7 +18,8 @@ use Rattle.rule_language.specs.Trees.{Trees, no_trees, tree_then, count_of, Rule
 abbrev pub is_bound : Scope → ℕ → Bool
 is_bound scope v = is_letter v && is_some (kind_in scope v)
 
--- whether one more quantifier may bind the variable: it isn't bound yet, and at most 4 quantifiers nest
+-- whether one more quantifier may bind the variable: it isn't bound yet, and at most 4 quantifiers
+-- nest
 abbrev pub can_bind : Scope → ℕ → Bool
 can_bind scope v = is_letter v && (not (is_some (kind_in scope v)) && nat_lt (length scope) 4)
 
@@ -86,7 +87,8 @@ scope_in (form.EveryBefore v kind u) scope = (v, kind) ∷ scope
 scope_in (form.SomeBefore v kind u) scope = (v, kind) ∷ scope
 scope_in form scope = scope
 
--- whether these are formulas where the variables of the scope are bound and this many parentheses are open
+-- whether these are formulas where the variables of the scope are bound and this many parentheses
+-- are open
 abbrev pub are_formulas : Scope → ℕ → Trees → Bool
 are_formulas scope depth no_trees = true
 are_formulas scope depth (tree_then form parts rest) =

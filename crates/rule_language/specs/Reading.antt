@@ -17,8 +17,8 @@ use Rattle.rule_language.specs.Wants.{Want, meets, behind, begin, is_end}
 abbrev pub Leaves : List ℕ → ℕ → List Want → Type 0
 Leaves text at wants = (tokens : List Token) × StandBefore text at tokens × (behind (Ok begin) tokens ≡ Ok wants)
 
--- why the text can't go on at the place: a byte is bad, the token that begins there isn't allowed, or the text ends
--- too early
+-- why the text can't go on at the place: a byte is bad, the token that begins there isn't allowed,
+-- or the text ends too early
 abbrev pub IsRuleCause : List ℕ → ℕ → List Want → RuleWhy → Type 0
 IsRuleCause text at wants why =
     ((at < length text) × ¬ IsGoodByte (slice_index text at) × (why ≡ BadByte))

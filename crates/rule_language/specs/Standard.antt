@@ -189,9 +189,10 @@ v4_body = every_x kind.Forced (two form.And (some_y_before kind.Authorise (same_
 abbrev named : List ℕ → Trees → RuleTree
 named name body = record { name = name; body = body }
 
--- one opening, before every authorising (O); a booth acts on its own authorised session alone (A), and commits, casts,
--- challenges or cancels it in order (C); overrides concern authorised sessions and precede no cast that they forbid
--- (V); one closing, after which nothing is authorised or cast (P); each role its deeds (M); no fork, and a chain (K)
+-- one opening, before every authorising (O); a booth acts on its own authorised session alone (A),
+-- and commits, casts, challenges or cancels it in order (C); overrides concern authorised sessions
+-- and precede no cast that they forbid (V); one closing, after which nothing is authorised or cast
+-- (P); each role its deeds (M); no fork, and a chain (K)
 abbrev pub standard_rules : List RuleTree
 standard_rules =
     named (codes "O1") o1_body ∷ named (codes "O2") o2_body ∷ named (codes "A1") a1_body

@@ -1,6 +1,6 @@
--- The table of faults: what is allowed at each place of a text of rules. The places that are still open are a list of
--- wants, the next one first. Each token meets the first want, and either has a cause against it or puts other wants in
--- its place.
+-- The table of faults: what is allowed at each place of a text of rules. The places that are still
+-- open are a list of wants, the next one first. Each token meets the first want, and either has a
+-- cause against it or puts other wants in its place.
 use Rattle.std.specs.Prelude.{ℕ, ◌+◌, ◌-◌, ◌*◌, ◌^◌, Bool, true, false, ◌&&◌, ◌||◌, ◌==◌, nat_lt, nat_le, if◌then◌else◌}
 use Rattle.std.specs.Prelude.{List, [], ◌∷◌, ◌++◌, length, codes, Option, Some, None, is_some, Result, Ok, Err}
 use Rattle.std.specs.Fmt.{decimal}
@@ -95,7 +95,8 @@ abbrev pub of_field : ℕ → Kind → Option Field → Result Typed RuleWhy
 of_field v kind None = Err WrongField
 of_field v kind (Some field) = if has_field kind field then Ok (Of v field, sort_of_field field) else Err WrongField
 
--- a field of a variable by its word, if the variable is bound and entries of its kind have the field
+-- a field of a variable by its word, if the variable is bound and entries of its kind have the
+-- field
 abbrev pub of_variable : ℕ → Option Kind → Token → Result Typed RuleWhy
 of_variable v None name = Err Unbound
 of_variable v (Some kind) name = of_field v kind (field_named name)
@@ -208,7 +209,8 @@ abbrev pub meets : List Want → Token → Met
 meets [] token = Err Shape
 meets (want ∷ rest) token = meets_want want rest token
 
--- the wants after tokens, each of which meets the first that is left, or the cause against the first that isn't allowed
+-- the wants after tokens, each of which meets the first that is left, or the cause against the
+-- first that isn't allowed
 abbrev pub behind : Met → List Token → Met
 behind met [] = met
 behind (Err cause) (token ∷ tokens) = Err cause

@@ -1,4 +1,5 @@
--- The one text that is written of rules: a rule on a line, one space between tokens, none after `(` or before `)`.
+-- The one text that is written of rules: a rule on a line, one space between tokens, none after `(`
+-- or before `)`.
 use Rattle.std.specs.Prelude.{ℕ, List, [], ◌∷◌, ◌++◌, codes}
 use Rattle.rule_language.specs.declared.form.Form.{Form}
 use Rattle.rule_language.specs.declared.form.Form.TheVariants as form

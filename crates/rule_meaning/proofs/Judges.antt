@@ -214,7 +214,8 @@ module _ (rows : List Row) (order : ℕ → ℕ → Three) (wholes : ℕ → Boo
       ∙ greatest_by_least (value_at v body.value)
       (filter (λ j. has_kind kind (slice_get rows j) && true) (range_with_len 0 (length rows)))
 
-  -- the least over what comes before a variable's row, in which a row that isn't whole counts as unknown
+  -- the least over what comes before a variable's row, in which a row that isn't whole counts as
+  -- unknown
   every_before : (v : ℕ) (kind : Kind) (body : Formula) (u : Option ℕ) →
       least (values_before rows order wholes kind u (value_at v body))
       ≡ over_before rows order wholes false body v kind env u

@@ -146,8 +146,8 @@ true≢unknown e = cc
 false≢unknown : False ≡ Unknown → ⊥
 false≢unknown e = cc
 
--- quantifiers over places some of which are known: each known place is one of more, with a value that is less known;
--- and where b is true they are all of more, which are whole too
+-- quantifiers over places some of which are known: each known place is one of more, with a value
+-- that is less known; and where b is true they are all of more, which are whole too
 module _ (f g : ℕ → Three) (xs ys : List ℕ) (b c : Bool)
     (some : (i : ℕ) → Contains xs i → Contains ys i × IsLessKnown (f i) (g i))
     (all : b ≡ true → (i : ℕ) → Contains ys i → Contains xs i) (whole : b ≡ true → c ≡ true) where
@@ -277,7 +277,8 @@ module _ (rows : List Row) (order : ℕ → ℕ → Three) (wholes : ℕ → Boo
     over_all (i ∷ xs) such =
         (at_less i (such i (Contains-head i xs)), over_all xs (λ j c. such j (Contains-later i xs j c)))
 
-    -- what is known to come before a row is known by more, and where the row is whole nothing else is
+    -- what is known to come before a row is known by more, and where the row is whole nothing else
+    -- is
     module _ (u : ℕ) (is : u < length rows) where
       -- those of the kind that come before it by less, and by more
       abbrev few : List ℕ

@@ -78,7 +78,8 @@ opposite_agrees : (x : Three) (P : Type 0) → Agrees x P → Agrees (opposite x
 opposite_agrees x P a =
     record { yes = λ e. a.no (opposite_true x e); no = λ e n. n (a.yes (opposite_false x e)) }
 
--- the greatest of the first one's opposite and the second is right of this, that the one implies the other
+-- the greatest of the first one's opposite and the second is right of this, that the one implies
+-- the other
 implies_agrees : (x y : Three) (P Q : Type 0) → Agrees x P → Agrees y Q →
     Agrees (either (opposite x) y) (P → Q)
 implies_agrees x y P Q a b = record {
@@ -128,7 +129,8 @@ unknown≢true e = cc
 unknown≢false : Unknown ≡ False → ⊥
 unknown≢false e = cc
 
--- quantifiers: each place stands for an entry that is meant, and where b is true each such entry has a place
+-- quantifiers: each place stands for an entry that is meant, and where b is true each such entry
+-- has a place
 module _ {T : Type 0} (f : ℕ → Three) (xs : List ℕ) (b : Bool) (IsMeant P : T → Type 0)
     (meant : (i : ℕ) → Contains xs i → (e : T) × IsMeant e × Agrees (f i) (P e))
     (all : b ≡ true → (e : T) → IsMeant e → (i : ℕ) × Contains xs i × Agrees (f i) (P e)) where
@@ -190,7 +192,8 @@ module _ {T : Type 0} (node : T → Node) (row : T → Row) (S G : List T) (orde
   row_of : (i : ℕ) (e : T) → slice_get S i ≡ Some e → slice_get rows i ≡ Some (row e)
   row_of i e is = slice_get-map row S i ∙ ap (option_map row) is
 
-  -- one variable more, for which a place and its entry stand, leaves all places standing for the entries
+  -- one variable more, for which a place and its entry stand, leaves all places standing for the
+  -- entries
   one_more : (v i : ℕ) (e : T) (σ : ℕ → Option ℕ) (ρ : ℕ → Option T) → slice_get S i ≡ Some e → StandForAll σ ρ →
       StandForAll (bind v i σ) (bind v e ρ)
   one_more v i e σ ρ is stand u = by (u == v)
@@ -359,7 +362,8 @@ module _ {T : Type 0} (node : T → Node) (row : T → Row) (S G : List T) (orde
             body i e there,
           )
 
-      -- the least over these, and unknown where the place isn't whole, is right of every entry that precedes
+      -- the least over these, and unknown where the place isn't whole, is right of every entry that
+      -- precedes
       every_earlier : Agrees
           (least (map value_at (ancestors rows order wholes kind u)
           ++ rest_of rows order wholes u))
@@ -383,7 +387,8 @@ module _ {T : Type 0} (node : T → Node) (row : T → Row) (S G : List T) (orde
             no = λ t (x, such, earlier, says). a.no t (x, (such, earlier), says);
           }
 
-    -- the least over what comes before a variable's row agrees with `every`, if the variable is bound
+    -- the least over what comes before a variable's row agrees with `every`, if the variable is
+    -- bound
     every_before : (i : Option ℕ) (e : Option T) → StandFor S i e →
         Agrees (least (values_before rows order wholes kind i value_at))
         ((x : T) → IsOfKind node row S G kind x → ComesBefore node row S G x e → SaysAt x)

@@ -6,8 +6,7 @@
 //! verdict. Without words it prints the verdicts on the standard rules over a few rows.
 #![tactic(auto)]
 
-ghost use Rattle.std.specs.Prelude.{◌≡◌, IfOk, length};
-ghost use Rattle.precedence.specs.Known.{known_count};
+ghost use Rattle.std.specs.Prelude.{◌≡◌};
 
 use anyhow::{Result, bail, ensure};
 use listed_graphs::{Listed, ListedGraph};

@@ -1,8 +1,8 @@
 //! Times keys, signatures and verification, and writes and checks them as files.
 //!
 //! Without words it prints what it made for each kind. `time KIND HEIGHT HASHES` prints processor
-//! times, `unseal KIND HEIGHT COUNT` those of verifying and of unsealing one entry, `sign KIND HEIGHT
-//! INDEX SECRET MESSAGE KEY SIGNATURE` writes a key and a signature, and `verify KEY MESSAGE
+//! times, `unseal KIND HEIGHT COUNT` those of verifying and of unsealing one entry, `sign KIND
+//! HEIGHT INDEX SECRET MESSAGE KEY SIGNATURE` writes a key and a signature, and `verify KEY MESSAGE
 //! SIGNATURE` checks one; SECRET is a file of an identifier and a seed.
 #![tactic(auto)]
 

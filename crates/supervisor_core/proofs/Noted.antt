@@ -135,7 +135,8 @@ runs notes owner entries entry own over b s stands same is =
       ]),
     )
 
--- The notes after one entry more: what its deed adds to each, where `own` says whether the supervisor made it, and
+-- The notes after one entry more: what its deed adds to each, where `own` says whether the
+-- supervisor made it, and
 -- `over` whether the session that it authorises, if it does, is over.
 abbrev pub after : Notes → ℕ → Bool → Bool → Deed → Notes
 after notes spare own over deed = record notes {

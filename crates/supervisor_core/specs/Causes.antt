@@ -1,4 +1,5 @@
--- What a history says against a deed of the supervisor, who owns it (VoteBox, USENIX Security 2008).
+-- What a history says against a deed of the supervisor, who owns it (VoteBox, USENIX Security
+-- 2008).
 use Rattle.std.specs.Prelude.{◌≡◌, ℕ, List}
 use Rattle.entry_format.specs.declared.deed.Deed.TheVariants.{Opened, Authorise, Override, Closed}
 use Rattle.entry_format.specs.declared.deed.How.{How}

@@ -1,5 +1,5 @@
--- What the supervisor may do where every entry is of version 1, which has no challenge, and in which an Override
--- always says Cancel.
+-- What the supervisor may do where every entry is of version 1, which has no challenge, and in
+-- which an Override always says Cancel.
 use Rattle.std.specs.Prelude.{◌≡◌, ℕ, List, [], ◌∷◌, Result}
 use Rattle.entry_format.specs.declared.deed.Deed.{Deed}
 use Rattle.entry_format.specs.declared.deed.Deed.TheVariants.{Opened, Authorise, Override, Closed, Activate, Commit}

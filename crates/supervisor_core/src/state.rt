@@ -30,7 +30,7 @@ use std::alloc::{AllocError, Global};
 use std::marker::Model;
 use thiserror::Error;
 
-/// Want of memory.
+/// An allocation failed.
 pub type Memory = AllocError;
 
 /// Why the supervisor may not do a deed now, the first cause that applies.

@@ -1,7 +1,7 @@
 //! Does one thing with a text so many times, for measuring the readers:
-//! `text_speed WHAT COUNT FILE`, where WHAT is `read` (as a tree), `pass` (find it in place), `walk`
-//! (find it, and walk its members and their members) or `copy`. It prints what was found the last
-//! time.
+//! `text_speed WHAT COUNT FILE`, where WHAT is `read` (as a tree), `pass` (find it in place),
+//! `walk` (find it, and walk its members and their members) or `copy`. It prints what was found the
+//! last time.
 #![tactic(auto)]
 
 use canonical_sexp::{Front, Read, Rest, front_of, read_one};

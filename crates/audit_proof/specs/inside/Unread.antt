@@ -30,8 +30,8 @@ IsWordFault graph entry words why =
     × IsBegun graph (line_with entry steps)
     × IsFirstOf (ancestor_causes graph (line_with entry steps) (word_in more)) (Err why)
 
--- the steps that the words are, of a line on which nothing is missing but maybe parents; or no line has
--- these words
+-- the steps that the words are, of a line on which nothing is missing but maybe parents; or no line
+-- has these words
 abbrev pub IsWordsAnswer : Graph → ℕ → List ℕ → Result LineSteps Unread → Type 0
 IsWordsAnswer graph entry words (Ok read) =
     (words ≡ flat_map step_text read.steps.items) × IsBegun graph (line_with entry read.steps.items)

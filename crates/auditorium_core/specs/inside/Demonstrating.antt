@@ -6,7 +6,8 @@ use Rattle.auditorium_core.specs.declared.status.Status.TheVariants as status
 use Rattle.auditorium_core.specs.Demonstrated.{IsDemonstrationAnswer}
 use Rattle.auditorium_core.specs.Lines.{Answer}
 
--- The answer is right for this number of sessions. It says of no file that it is absent, and only memory can run out.
+-- The answer is right for this number of sessions. It says of no file that it is absent, and only
+-- memory can run out.
 pub record IsShown (sessions : ℕ) (result : Result Answer Fault) : Type 0 where
   pub told : IfOk result (IsDemonstrationAnswer sessions)
   pub status : IfOk result (λ answer. answer.status ≢ status.Absent)

@@ -14,8 +14,8 @@ IsToldAs answer is_written_by old how new =
     ((how ≡ answer.status) × is_written_by answer true × IsWritten answer old new)
     ⊎ ((how ≡ status.WriteFault) × is_written_by answer false × IsCutShort answer old new)
 
--- The answer is written, and nothing more is asked of the store. Where there is none, the status says why, and nothing
--- changes.
+-- The answer is written, and nothing more is asked of the store. Where there is none, the status
+-- says why, and nothing changes.
 abbrev pub EndsWith : Result Answer Fault → (Answer → Bool → Type 0) → Outside → Status → Outside → Type 0
 EndsWith (Ok answer) is_written_by old how new =
     IsToldAs answer is_written_by old how new × (new.store.answered ≡ old.store.answered)

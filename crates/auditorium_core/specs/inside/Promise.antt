@@ -9,8 +9,8 @@ use Rattle.auditorium_core.specs.Words.{Command}
 use Rattle.auditorium_core.specs.Lines.{Answer}
 use Rattle.auditorium_core.specs.Answer.{IsAnswerTo, AnswersWords, TellsAbsence, WordsTellAbsence}
 
--- The answer is right for the files. It says that a file is absent exactly where the store said so in the call, a
--- failed read comes only where a read failed in it, and no file changes.
+-- The answer is right for the files. It says that a file is absent exactly where the store said so
+-- in the call, a failed read comes only where a read failed in it, and no file changes.
 pub record IsAnswered (IsRight : Option Files → Answer → Type 0) (is_of_absence : Answer → Type 0) (old : StoreSeen)
     (result : Result Answer Fault) (new : StoreSeen) : Type 0 where
   pub answer : IfOk result (IsRight old.files)

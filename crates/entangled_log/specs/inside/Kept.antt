@@ -15,9 +15,9 @@ abbrev pub own_after : {T : Type 0} → Event T → ℕ → List ℕ → List �
 own_after (Sent e) place own = own ++ place ∷ []
 own_after (Got e) place own = own
 
--- the history is legal and within its capacity, the frontier stands for it, `own` are the places of what was sent
--- and `top` the greatest stamp; and what may still come has its room among the events, in the frontier and among
--- the places
+-- the history is legal and within its capacity, the frontier stands for it, `own` are the places of
+-- what was sent and `top` the greatest stamp; and what may still come has its room among the
+-- events, in the frontier and among the places
 pub record IsKept {T : Type 0} (node : T → Node) (owner capacity : ℕ) (events : List (Event T))
     (frontier : Places) (own : List ℕ) (top room own_room : ℕ) : Type 0 where
   pub legal : IsLegal node owner events

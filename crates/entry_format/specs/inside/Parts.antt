@@ -18,7 +18,8 @@ use Rattle.entry_format.specs.declared.form.Form.{Form}
 use Rattle.entry_format.specs.declared.deed.Deed.{Deed}
 use Rattle.entry_format.specs.EntryText.{IsVersion, IsDigest, IsDeed, IsDeedIn, deed_tree, body_tree, IsSignedText}
 
--- The first tree of the row is taken, as the value of which it is the tree. `None` only where it is that of no value.
+-- The first tree of the row is taken, as the value of which it is the tree. `None` only where it is
+-- that of no value.
 abbrev pub Takes : {A : Type 0} → (A → Type 0) → (A → Sexp) → Option A → Forest → Forest → Type 0
 Takes {A} P tree None old new = (value : A) (rest : Forest) → P value → old ≢ in_front (tree value) rest
 Takes P tree (Some value) old new = P value × (old ≡ in_front (tree value) new)
@@ -62,7 +63,8 @@ signed_list body signature = list_of (Atom (codes "sealed") ∷ body ∷ Atom si
 abbrev pub IsSigned : Sexp → Sexp → List ℕ → Type 0
 IsSigned tree body signature = tree ≡ signed_list body signature
 
--- the form holds the entry of the text with its signature, names that rise, and the tree of the entry's body
+-- the form holds the entry of the text with its signature, names that rise, and the tree of the
+-- entry's body
 pub record IsForm (text : List ℕ) (form : Form) : Type 0 where
   pub spelt : IsSignedText text form.entry form.signature.now
   pub rising : IsAscending form.entry.names

@@ -20,7 +20,8 @@ use Rattle.finished_floor.specs.Scripted.{is_scripted}
 abbrev pub AreNumbered : List MachineState → Type 0
 AreNumbered machines = (place : ℕ) (m : MachineState) → slice_get machines place ≡ Some m → m.config.number ≡ place
 
--- The machine heard the entry, or it is lost by the first cause that applies, and the machine stays.
+-- The machine heard the entry, or it is lost by the first cause that applies, and the machine
+-- stays.
 abbrev pub IsFate : Bool → MachineState → SealedEntry → Option LossWhy → MachineState → Type 0
 IsFate scripted old e None new = (scripted ≡ false) × IsHeard old e heard.Taken × (new ≡ with_event (Got e) old)
 IsFate scripted old e (Some Scripted) new = (scripted ≡ true) × (new ≡ old)

@@ -36,8 +36,9 @@ waits_from maker e below from to = cond ((from == maker) && nat_le below to) (e 
 abbrev pub IsWaiting : Waits → ℕ → ℕ → ℕ → Type 0
 IsWaiting waits from number to = (e : SealedEntry) × Contains (waits from to) e × (e.entry.number ≡ number)
 
--- The machines have grown and are in their places, what they got is of their making, each entry is heard, lost or
--- waiting, what is lost since `before` has its cause, no entry is lost twice on one way, and each entry sent since
+-- The machines have grown and are in their places, what they got is of their making, each entry is
+-- heard, lost or waiting, what is lost since `before` has its cause, no entry is lost twice on one
+-- way, and each entry sent since
 -- `old` that a line of the script names is lost so, or still waits.
 pub record IsSwept (loses : List Lose) (old : List MachineState) (before : List Loss) (waits : Waits)
     (new : List MachineState) (after : List Loss) : Type 0 where

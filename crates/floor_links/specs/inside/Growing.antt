@@ -4,7 +4,8 @@ use Rattle.entry_format.specs.SealedEntry.{SealedEntry}
 use Rattle.broadcast_queues.specs.Ends.{LinkView, OutView, InView}
 use Rattle.floor_links.specs.Fresh.{out_of, in_of, IsLinkOf}
 
--- the links from one machine to each of the first receivers, with their ends: each of these has one end more that takes
+-- the links from one machine to each of the first receivers, with their ends: each of these has one
+-- end more that takes
 pub record IsRowBelow (from capacity most : ℕ) (row : List LinkView) (outs : List (OutView SealedEntry))
     (before after : List (List (InView SealedEntry))) : Type 0 where
   pub count : length row ≡ most

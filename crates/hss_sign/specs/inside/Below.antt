@@ -2,7 +2,8 @@
 use Rattle.std.specs.Prelude.{◌≡◌, ℕ, List, ◌++◌}
 use Rattle.lms_sign.specs.Signs.{Signs}
 
--- the parts are the top key's signature of a low key, this low key, and its signature of the message
+-- the parts are the top key's signature of a low key, this low key, and its signature of the
+-- message
 pub record SignsBelow (top message parts : List ℕ) : Type 0 where
   pub top_signature : List ℕ
   pub low_key : List ℕ

@@ -32,11 +32,13 @@ pub record AreParts (stations : List StationState) (machines : List MachineState
 abbrev pub waiting : ℕ → SealedEntry → Waiting
 waiting to e = record { to = to; entry = e }
 
--- the end that puts of the link from one machine to another, in rows by sender; or d where there is none
+-- the end that puts of the link from one machine to another, in rows by sender; or d where there is
+-- none
 abbrev pub out_at : List (List (OutView SealedEntry)) → ℕ → ℕ → OutView SealedEntry → OutView SealedEntry
 out_at outs from to d = slice_index_or (slice_index_or outs from []) to d
 
--- the end that takes of the link from one machine to another, in rows by receiver; or d where there is none
+-- the end that takes of the link from one machine to another, in rows by receiver; or d where there
+-- is none
 abbrev pub in_at : List (List (InView SealedEntry)) → ℕ → ℕ → InView SealedEntry → InView SealedEntry
 in_at inns from to d = slice_index_or (slice_index_or inns to []) from d
 

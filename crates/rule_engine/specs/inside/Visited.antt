@@ -10,7 +10,8 @@ use Rattle.rule_engine.specs.declared.index.Found.{Found}
 use Rattle.rule_meaning.specs.Judging.{if_meant}
 use Rattle.rule_meaning.specs.Tests.{has_kind}
 
--- rows of the quantifier's kind, so that its width counts them, and at each other row its body counts as true
+-- rows of the quantifier's kind, so that its width counts them, and at each other row its body
+-- counts as true
 pub record IsVisitedFor (rows : List Row) (order : ℕ → ℕ → Three) (wholes : ℕ → Bool) (quantifier : Quantifier)
     (body : Formula) (env : ℕ → Option ℕ) (found : List Found) : Type 0 where
   pub kind : (it : Found) → Contains found it → has_kind quantifier.kind (slice_get rows it.place) ≡ true

@@ -50,7 +50,8 @@ Spell text from to tokens =
 abbrev pub Takes : List ℕ → Span → Span → List Token → Type 0
 Takes text old new tokens = Spell text old.start new.start tokens × IsNext text new
 
--- the cause that is reported: at the end of the text its shape, at a bad byte that byte, otherwise the token's own
+-- the cause that is reported: at the end of the text its shape, at a bad byte that byte, otherwise
+-- the token's own
 abbrev pub told : List ℕ → Span → RuleWhy → RuleWhy
 told text token cause =
     if token.start == length text then Shape else (if nat_le token.end token.start then BadByte else cause)

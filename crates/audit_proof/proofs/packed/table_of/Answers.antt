@@ -1,5 +1,4 @@
-use Rattle.audit_proof.proofs.Imports.{◌≡◌, ◌∙◌, ◌+◌, ℕ, List, ap, sym, subst, rules, arith, length, get_or}
-use Rattle.audit_proof.proofs.Imports.{replicate, length-replicate, length-set, slice_get-get_or}
+use Rattle.audit_proof.proofs.Imports.{◌≡◌, ◌+◌, ℕ, List, sym, subst, rules, get_or, replicate, slice_get-get_or}
 use Rattle.audit_proof.proofs.PackedFacts.{IsTableOf, a_step, table_blank, table_step}
 use Rattle.audit_proof.proofs.packed.table_of.Goals as goal
 
@@ -7,11 +6,8 @@ pub loop-step-init : goal.loop-step-init
 loop-step-init c =
     let size = c.reach_of.result in
     let items : c.in_ok-table.table.items ≡ replicate size 0 = search rules in
-    let long = ap length items ∙ length-replicate size 0 in (
-      subst (λ (codes : List ℕ). IsTableOf c.args.steps.now codes 0) (sym items)
-          (table_blank c.args.steps.now size c.reach_of.ensures.within),
-      omega (arith, long, c.reach_of.ensures.small),
-    )
+    subst (λ (codes : List ℕ). IsTableOf c.args.steps.now codes 0) (sym items)
+    (table_blank c.args.steps.now size c.reach_of.ensures)
 
 pub loop-step-preserved : goal.loop-step-preserved
 loop-step-preserved c =
@@ -19,9 +15,6 @@ loop-step-preserved c =
     let codes = c.loop-step.table.items in
     let i = c.loop-step.step-index in
     let step = get_or steps i (a_step 0 0) in
-    let long = ap length c.enter.ensures ∙ length-set codes step.ancestor (step.via + 1) in (
-      subst (λ (new : List ℕ). IsTableOf steps new (i + 1)) (sym c.enter.ensures)
-          (table_step steps codes i step c.requires.falls (slice_get-get_or steps i (a_step 0 0) c.loop-step-test.true)
-          c.loop-step.invariant.0),
-      omega (arith, long, c.loop-step.invariant.1),
-    )
+    subst (λ (new : List ℕ). IsTableOf steps new (i + 1)) (sym c.enter.ensures)
+    (table_step steps codes i step c.requires.falls (slice_get-get_or steps i (a_step 0 0) c.loop-step-test.true)
+    c.loop-step.invariant)

@@ -1,7 +1,6 @@
-use Rattle.audit_proof.proofs.Imports.{◌≤◌, ◌^◌, length}
 use Rattle.audit_proof.proofs.PackedFacts.{IsTableOf}
 use Rattle.audit_proof.proofs.packed.table_of.Given as goal
 
 -- the steps so far are entered
 abbrev pub invariant-loop-step : goal.invariant-loop-step
-invariant-loop-step l = IsTableOf l.steps l.table.items l.step-index × (length l.table.items ≤ 2 ^ 32)
+invariant-loop-step l = IsTableOf l.steps l.table.items l.step-index

@@ -11,7 +11,8 @@ overflow_cast-count c =
       count_within c.args.machines.now c.loop-cast.cast-index c.cast-item.result c.loop-cast-test.true c.cast-item.is,
     )
 
--- the actions of the machines up to one are no more than those of all, so counting them does not overflow
+-- the actions of the machines up to one are no more than those of all, so counting them does not
+-- overflow
 pub overflow_add-count : goal.overflow_add-count
 overflow_add-count c =
     omega (

@@ -1,7 +1,8 @@
 use Rattle.entry_graph.proofs.Imports.{◌≡◌, ◌++◌, distinct, HasNoCollision, HasNoDigestTwice, ArePlaces}
 use Rattle.entry_graph.proofs.distinct.distinct_of.Given as goal
 
--- no two so far collide, the distinct ones are those so far, and the table has their places; the rest are left
+-- no two so far collide, the distinct ones are those so far, and the table has their places; the
+-- rest are left
 abbrev pub invariant-loop-entry : goal.invariant-loop-entry
 invariant-loop-entry g l = record {
   no_collision : HasNoCollision g.T.Knot.node g.T.SignedText.text l.yielded;

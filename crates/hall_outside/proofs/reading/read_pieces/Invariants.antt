@@ -5,7 +5,8 @@ use Rattle.hall_outside.proofs.Fronts.{IsFront}
 use Rattle.hall_outside.proofs.Pieces.{GoesOn}
 use Rattle.hall_outside.proofs.reading.read_pieces.Given as goal
 
--- the bytes so far were taken and are within the limit, and where files are exposed they are the file's front
+-- the bytes so far were taken and are within the limit, and where files are exposed they are the
+-- file's front
 abbrev pub invariant-loop-piece : goal.invariant-loop-piece
 invariant-loop-piece g l =
     let store = g.S.Store in
