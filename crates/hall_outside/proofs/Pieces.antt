@@ -1,36 +1,50 @@
 -- Reads of a file one where the last one ended.
-use Rattle.std.proofs.Common.{◌≡◌, ℕ, ◌+◌, subst}
+use Rattle.std.proofs.Common.{◌≡◌, ℕ, List, [], ◌++◌, length, subst}
 use Rattle.std.specs.Prelude.{Result, Ok}
+use Rattle.hall_outside.specs.declared.reading.FileFault.{FileFault}
 use Rattle.hall_outside.specs.declared.stores.Failed.{Failed}
 use Rattle.hall_outside.specs.declared.stores.Taken.{Taken}
 use Rattle.hall_outside.specs.declared.stores.Taken.TheVariants.{Bytes}
+use Rattle.hall_outside.specs.Reading.{bytes_given}
 use Rattle.hall_outside.specs.ReadFile.{ReadsOn, ends, goes_on, IsLastRead}
 
--- the reads that are still to come, from `at` on, complete those from the start on
-abbrev pub GoesOn : {S : Type 0} → (ℕ → ℕ → S → Result Taken Failed → S → Type 0) → ℕ → S → ℕ → S → Type 0
-GoesOn {S} read limit start at now =
-    (end : S) → ReadsOn read 65536 limit at now end → ReadsOn read 65536 limit 0 start end
+-- the reads that are still to come, after these bytes, complete those from the start on
+abbrev pub GoesOn : {S : Type 0} → (ℕ → ℕ → S → Result Taken Failed → List ℕ → S → Type 0) → ℕ → S → List ℕ → S →
+    Type 0
+GoesOn {S} read limit start before now = (found : Result (List ℕ) FileFault) (end : S) →
+    ReadsOn read 65536 limit before now found end → ReadsOn read 65536 limit [] start found end
 
-module _ {S : Type 0} (read : ℕ → ℕ → S → Result Taken Failed → S → Type 0) (limit : ℕ) where
-  -- a read of a whole piece
-  piece_read : (at from room : ℕ) (old new : S) (result : Result Taken Failed) → from ≡ at → room ≡ 65536
-      → read from room old result new → read at 65536 old result new
-  piece_read at from room old new result f r s =
-      subst (λ (p : ℕ). read p 65536 old result new) f (subst (λ (m : ℕ). read from m old result new) r s)
+module _ {S : Type 0} (read : ℕ → ℕ → S → Result Taken Failed → List ℕ → S → Type 0) (limit : ℕ)
+    (before buffer : List ℕ) where
+  -- a read of an entire piece
+  piece_read : (from room : ℕ) (old new : S) (result : Result Taken Failed) → from ≡ length before → room ≡ 65536
+      → read from room old result (bytes_given result buffer) new
+      → read (length before) 65536 old result (bytes_given result buffer) new
+  piece_read from room old new result f r s =
+      subst (λ (p : ℕ). read p 65536 old result (bytes_given result buffer) new) f
+      (subst (λ (m : ℕ). read from m old result (bytes_given result buffer) new) r s)
 
   -- the last read, by the answer that it stands for
-  pub last_read : (at from room : ℕ) (old new : S) (result answer : Result Taken Failed) → from ≡ at → room ≡ 65536
-      → read from room old result new → result ≡ answer → IsLastRead limit at answer
-      → ReadsOn read 65536 limit at old new
-  last_read at from room old new result answer f r s e last =
-      ends at old new answer (subst (λ (x : Result Taken Failed). read at 65536 old x new) e
-      (piece_read at from room old new result f r s)) last
+  pub last_read : (from room : ℕ) (old new : S) (result answer : Result Taken Failed)
+      (found : Result (List ℕ) FileFault) → from ≡ length before → room ≡ 65536
+      → read from room old result (bytes_given result buffer) new → result ≡ answer
+      → IsLastRead limit before answer found → ReadsOn read 65536 limit before old found new
+  last_read from room old new result answer found f r s e last =
+      ends before old new answer (bytes_given answer buffer) found
+      (subst (λ (x : Result Taken Failed). read (length before) 65536 old x (bytes_given x buffer) new) e
+      (piece_read from room old new result f r s)) last
 
   -- one read more
-  pub read_on : (at from room n next : ℕ) (taken : Taken) (old mid end : S) → from ≡ at → room ≡ 65536
-      → read from room old (Ok taken) mid → taken ≡ Bytes n → next ≡ at + n
-      → ReadsOn read 65536 limit next mid end → ReadsOn read 65536 limit at old end
-  read_on at from room n next taken old mid end f r s t e more =
-      goes_on at n old mid end
-      (subst (λ (x : Taken). read at 65536 old (Ok x) mid) t (piece_read at from room old mid (Ok taken) f r s))
-      (subst (λ (p : ℕ). ReadsOn read 65536 limit p mid end) e more)
+  pub read_on : (from room : ℕ) (piece : List ℕ) (n : ℕ) (taken : Taken) (old mid end : S)
+      (found : Result (List ℕ) FileFault) → from ≡ length before → room ≡ 65536
+      → read from room old (Ok taken) (bytes_given (Ok taken) buffer) mid → taken ≡ Bytes n → n ≡ length piece
+      → bytes_given (Ok (Bytes n)) buffer ≡ piece
+      → ReadsOn read 65536 limit (before ++ piece) mid found end → ReadsOn read 65536 limit before old found end
+  read_on from room piece n taken old mid end found f r s t long same more =
+      let at_n : read (length before) 65536 old (Ok (Bytes n)) (bytes_given (Ok (Bytes n)) buffer) mid =
+      subst (λ (x : Taken). read (length before) 65536 old (Ok x) (bytes_given (Ok x) buffer) mid) t
+      (piece_read from room old mid (Ok taken) f r s) in
+      let its_bytes : read (length before) 65536 old (Ok (Bytes n)) piece mid =
+      subst (λ (bs : List ℕ). read (length before) 65536 old (Ok (Bytes n)) bs mid) same at_n in
+      goes_on before piece old mid end found
+      (subst (λ (m : ℕ). read (length before) 65536 old (Ok (Bytes m)) piece mid) long its_bytes) more

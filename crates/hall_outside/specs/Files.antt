@@ -10,11 +10,6 @@ Files = List ℕ → Option (List ℕ)
 abbrev pub OnFile : Option Files → List ℕ → (Option (List ℕ) → Type 0) → Type 0
 OnFile files name P = IfSome files (λ at. P (at name))
 
--- This holds of the named file, which may be absent: of the exposed one, or of some where none is
--- exposed.
-abbrev pub OnSomeFile : Option Files → List ℕ → (Option (List ℕ) → Type 0) → Type 0
-OnSomeFile files name P = (file : Option (List ℕ)) × OnFile files name (λ told. told ≡ file) × P file
-
 -- the files with one of them set, and all others as they were
 abbrev pub file_set : Files → List ℕ → List ℕ → Files
 file_set files name bytes other = if bytes_eq other name then Some bytes else files other

@@ -1,5 +1,5 @@
 -- What a read answers, and what `read_file` does.
-use Rattle.std.specs.Prelude.{◌≡◌, ℕ, ◌≤◌, ◌↔◌, List, length, take, drop, Option, None, IsSomeAnd, Result, Ok, Err}
+use Rattle.std.specs.Prelude.{◌≡◌, ℕ, ◌≤◌, ◌↔◌, List, [], length, take, drop, Option, None, IsSomeAnd, Result, Ok, Err}
 use Rattle.hall_outside.specs.declared.stores.Failed.{Failed}
 use Rattle.hall_outside.specs.declared.stores.Taken.{Taken}
 use Rattle.hall_outside.specs.declared.stores.Taken.TheVariants.{Absent, Bytes}
@@ -17,6 +17,12 @@ IsTaken files name at old new Absent = (new ≡ old) × OnFile files name (λ fi
 IsTaken files name at old new (Bytes n) =
     (n ≤ length old) × (drop n new ≡ drop n old)
     × OnFile files name (λ file. IsSomeAnd file (IsPartFrom at (take n new)))
+
+-- the bytes that a read gave: those that it put into the front of the buffer
+abbrev pub bytes_given : Result Taken Failed → List ℕ → List ℕ
+bytes_given (Ok Absent) new = []
+bytes_given (Ok (Bytes n)) new = take n new
+bytes_given (Err failed) new = []
 
 -- all that reads have answered so far: how often `Absent`, and how many bytes in all
 pub record Answered : Type 0 where

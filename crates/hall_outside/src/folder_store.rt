@@ -121,7 +121,7 @@ impl<'a, R: Files<File = File> + AllocGlobal> Store for FolderStore<'a, R> {
 
     ghost answered = { λ s. s.answered };
 
-    ghost reads = { λ _ _ _ old result new.
+    ghost reads = { λ _ _ _ old result _ new.
         CountsFailures old.read_faults (is_ok result) new.read_faults };
 
     ghost creates = { λ _ old ok new. CountsFailures old.write_faults ok new.write_faults };

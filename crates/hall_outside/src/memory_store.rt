@@ -145,7 +145,8 @@ impl Store for MemoryStore {
 
     ghost answered = { λ s. s.answered };
 
-    ghost reads = { λ name at room old result new. IsMemoryRead name at room old result new };
+    ghost reads = { λ name at room old result _ new.
+        IsMemoryRead name at room old result new };
 
     ghost creates = { λ _ old ok new. IsMemoryWrite old ok new };
 

@@ -1,9 +1,8 @@
 // Reading a whole file.
-ghost use Rattle.std.specs.Prelude.{◌≡◌, ◌+◌, ◌≤◌, ◌++◌, ℕ, List, [], length};
+ghost use Rattle.std.specs.Prelude.{◌≡◌, ◌≢◌, ◌+◌, ◌≤◌, ◌++◌, ℕ, List, [], length, Ok, Err};
 ghost use Rattle.std.specs.Prelude.{IfOk, IfErr, OnOk, IsErrOf, vec_len};
 ghost use Rattle.hall_outside.specs.Counts.{HasCause, ComesExactly};
-ghost use Rattle.hall_outside.specs.Files.{OnFile};
-ghost use Rattle.hall_outside.specs.ReadFile.{IsFileWhole, IsFileRefused, ReadsOn};
+ghost use Rattle.hall_outside.specs.ReadFile.{IsRead};
 
 use crate::stores::{Failed, Store, Taken};
 use std::alloc::{AllocError, Global};
@@ -82,10 +81,12 @@ pub fn read_pieces<S: Store, T: TakePieces>(
 ) -> Result<(), FileFault>
     requires nothing { T.takes into.old [] into.old }
     requires room { limit ≤ T.most into.old }
-    ensures ok { OnOk result ((bytes : List ℕ)
-        × IsFileWhole (S.files store.old) name.now limit bytes × T.takes into.old bytes into.new) }
-    ensures err { IfErr result (λ fault.
-        OnFile (S.files store.old) name.now (IsFileRefused limit fault)) }
+    // It reads to the end, or to the first byte past the limit, in pieces of 65,536 bytes.
+    ensures ok { OnOk result ((bytes : List ℕ) × (length bytes ≤ limit)
+        × IsRead S.Store name.now limit store.old (Ok bytes) store.new
+        × T.takes into.old bytes into.new) }
+    ensures err { IfErr result (λ fault. fault ≢ FileFault.Memory →
+        IsRead S.Store name.now limit store.old (Err fault) store.new) }
 
     // Each refusal except out of memory comes only where the store said so in this call.
     ensures absent { ComesExactly (S.answered store.old).absences (S.answered store.new).absences
@@ -95,10 +96,6 @@ pub fn read_pieces<S: Store, T: TakePieces>(
         (S.answered store.new).bytes (IsErrOf result FileFault.TooLong) }
     ensures read_fault { HasCause (S.read_faults store.old) (S.read_faults store.new)
         (IsErrOf result FileFault.ReadFault) }
-
-    // It reads to the end, or to the first byte past the limit, in pieces of 65,536 bytes.
-    ensures pieces { (¬ IsErrOf result FileFault.Memory) →
-        ReadsOn (S.reads name.now) 65536 limit 0 store.old store.new }
 
     ensures unchanged { (S.files store.new ≡ S.files store.old)
         × (S.write_faults store.new ≡ S.write_faults store.old) }
@@ -129,10 +126,11 @@ pub fn read_file<S: Store>(
     name: &str,
     limit: usize,
 ) -> Result<Vec<u8>, FileFault>
-    ensures ok { IfOk result (λ bytes.
-        IsFileWhole (S.files store.old) name.now limit bytes.items) }
-    ensures err { IfErr result (λ fault.
-        OnFile (S.files store.old) name.now (IsFileRefused limit fault)) }
+    // It reads to the end, or to the first byte past the limit, in pieces of 65,536 bytes.
+    ensures ok { IfOk result (λ bytes. (length bytes.items ≤ limit)
+        × IsRead S.Store name.now limit store.old (Ok bytes.items) store.new) }
+    ensures err { IfErr result (λ fault. fault ≢ FileFault.Memory →
+        IsRead S.Store name.now limit store.old (Err fault) store.new) }
 
     // Each refusal except out of memory comes only where the store said so in this call.
     ensures absent { ComesExactly (S.answered store.old).absences (S.answered store.new).absences
@@ -142,10 +140,6 @@ pub fn read_file<S: Store>(
         (S.answered store.new).bytes (IsErrOf result FileFault.TooLong) }
     ensures read_fault { HasCause (S.read_faults store.old) (S.read_faults store.new)
         (IsErrOf result FileFault.ReadFault) }
-
-    // It reads to the end, or to the first byte past the limit, in pieces of 65,536 bytes.
-    ensures pieces { (¬ IsErrOf result FileFault.Memory) →
-        ReadsOn (S.reads name.now) 65536 limit 0 store.old store.new }
 
     ensures unchanged { (S.files store.new ≡ S.files store.old)
         × (S.write_faults store.new ≡ S.write_faults store.old) }

@@ -19,7 +19,7 @@ ghost use Rattle.std.specs.Prelude.{
 };
 ghost use Rattle.hall_outside.specs.Counts.{HasCause};
 ghost use Rattle.hall_outside.specs.Files.{Files, OnFile, with_file, SetsPrefix};
-ghost use Rattle.hall_outside.specs.Reading.{Answered, IsTaken, counted};
+ghost use Rattle.hall_outside.specs.Reading.{Answered, IsTaken, bytes_given, counted};
 ghost use Rattle.hall_outside.specs.Writing.{IsCountOf, with_appended, PutsFile};
 
 use std::alloc::AllocError;
@@ -60,8 +60,9 @@ pub trait Store {
     ghost answered: { Self → Answered };
 
     /// What more than the clauses below say may come of a read, a create, an append and a finish:
-    /// the store before the call, what was asked, the answer and the store after it.
-    ghost reads: { List ℕ → ℕ → ℕ → Self → Result Taken Failed → Self → Type 0 };
+    /// the store before the call, what was asked, the answer, for a read the bytes that it gave, and
+    /// the store after it.
+    ghost reads: { List ℕ → ℕ → ℕ → Self → Result Taken Failed → List ℕ → Self → Type 0 };
 
     ghost creates: { List ℕ → Self → Bool → Self → Type 0 };
 
@@ -78,7 +79,8 @@ pub trait Store {
         ensures answered { answered self.new ≡ counted (answered self.old) result }
         ensures cause { HasCause (read_faults self.old) (read_faults self.new) (IsErr result) }
         ensures write_faults { write_faults self.new ≡ write_faults self.old }
-        ensures step { reads name.now at (length into.old) self.old result self.new };
+        ensures step { reads name.now at (length into.old)
+            self.old result (bytes_given result into.new) self.new };
 
     /// Makes the file empty, whether it is there or not.
     fn create(&mut self, name: &str) -> Result<(), Failed>

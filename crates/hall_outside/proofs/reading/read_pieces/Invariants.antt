@@ -24,7 +24,7 @@ invariant-loop-piece g l =
       given : (store.answered l.store).bytes ≡ raised (store.answered l.fn.store).bytes l.done;
       read_faults : store.read_faults l.store ≡ store.read_faults l.fn.store;
       write_faults : store.write_faults l.store ≡ store.write_faults l.fn.store;
-      pieces : GoesOn (store.reads l.name) l.limit l.fn.store l.done l.store;
+      pieces : GoesOn (store.reads l.name) l.limit l.fn.store bytes l.store;
     }
 
 abbrev pub decreases-loop-piece : goal.decreases-loop-piece
