@@ -47,9 +47,9 @@ pub use Rattle.entry_order.specs.Naming.{IsNew, has_digest, is_named, names_dige
 pub use Rattle.entry_order.specs.Node.{Node}
 pub use Rattle.entry_order.specs.declared.event.Event.{Event}
 pub use Rattle.entry_order.specs.declared.event.Event.TheVariants.{Got, Sent}
-pub use Rattle.hall_outside.proofs.SomeFile.{is_refused_file, on_some, refused_file, some_file}
-pub use Rattle.hall_outside.specs.Files.{Files, OnFile, OnSomeFile}
-pub use Rattle.hall_outside.specs.ReadFile.{IsFileRefused}
+pub use Rattle.hall_outside.proofs.ReadFiles.{found_file, read_weaker}
+pub use Rattle.hall_outside.specs.ReadFile.{IsFileRefused, OnReadFile}
+pub use Rattle.hall_outside.specs.declared.stores.Store.{Ghosts as StoreGhosts}
 pub use Rattle.hall_outside.specs.declared.reading.FileFault.{FileFault}
 pub use Rattle.hall_outside.specs.declared.reading.FileFault.TheVariants.{Absent, ReadFault, TooLong}
 pub use Rattle.hex.specs.Hex.{encode_lower}

@@ -1,10 +1,9 @@
 //! A log whose signatures are verified.
-ghost use Rattle.std.specs.Prelude.{◌≡◌, ◌+◌, ◌≤◌, ℕ, List, length, MatchOption};
+ghost use Rattle.std.specs.Prelude.{◌≡◌, ◌≢◌, ◌+◌, ◌≤◌, ℕ, List, length, MatchOption};
 ghost use Rattle.std.specs.Prelude.{IfOk, IfErr, IsErrOf};
 ghost use Rattle.std.specs.List.{All};
 ghost use Rattle.hall_outside.specs.Counts.{HasCause, ComesExactly};
-ghost use Rattle.hall_outside.specs.Files.{OnSomeFile};
-ghost use Rattle.hall_outside.specs.ReadFile.{ReadsOn};
+ghost use Rattle.hall_outside.specs.ReadFile.{OnReadFile};
 ghost use Rattle.log_files.specs.LogFile.{max_bytes, IsSealedLogOf, IsLogRefused};
 ghost use Rattle.log_files.specs.LogText.{AreLog, HasHeader};
 ghost use Rattle.log_files.specs.SealedLog.{AreValid, SaysSealed};
@@ -137,12 +136,12 @@ pub fn read_log<S: Store>(
     roster: &Roster,
     election: &[u8; 32],
 ) -> Result<LogRead, LogFault>
-    // The log is what the file says, or what some says where no file is exposed, and so is a
-    // refusal.
-    ensures ok { IfOk result (λ log. OnSomeFile (S.files store.old) name.now
-        (IsSealedLogOf roster.now.machines election.now log)) }
-    ensures err { IfErr result (λ fault.
-        OnSomeFile (S.files store.old) name.now (IsLogRefused fault)) }
+    // The log is what each file says that is such as was read, and so is a refusal. The file is read
+    // to its end, or to the first byte past the limit.
+    ensures ok { IfOk result (λ log. OnReadFile S.Store name.now max_bytes
+        (IsSealedLogOf roster.now.machines election.now log) store.old store.new) }
+    ensures err { IfErr result (λ fault. fault ≢ LogFault.Memory →
+        OnReadFile S.Store name.now max_bytes (IsLogRefused fault) store.old store.new) }
 
     // Absent and TooLong come exactly when the store said so in this call, ReadFault only so.
     ensures absent { ComesExactly (S.answered store.old).absences (S.answered store.new).absences
@@ -152,10 +151,6 @@ pub fn read_log<S: Store>(
         (S.answered store.new).bytes (IsErrOf result LogFault.TooLong) }
     ensures read_fault { HasCause (S.read_faults store.old) (S.read_faults store.new)
         (IsErrOf result LogFault.ReadFault) }
-
-    // The file is read to its end, or to the first byte past the limit, in pieces of 65,536 bytes.
-    ensures pieces { (¬ IsErrOf result LogFault.Memory) →
-        ReadsOn (S.reads name.now) 65536 max_bytes 0 store.old store.new }
 
     ensures unchanged { (S.files store.new ≡ S.files store.old)
         × (S.write_faults store.new ≡ S.write_faults store.old) }
@@ -178,12 +173,12 @@ pub fn read_log_after<S: Store>(
     before: &[LogRead],
 ) -> Result<LogRead, LogFault>
     requires { All (λ log. AreValid roster.now.machines election.now log.kept.items) before.now }
-    // The log is what the file says, or what some says where no file is exposed, and so is a
-    // refusal.
-    ensures ok { IfOk result (λ log. OnSomeFile (S.files store.old) name.now
-        (IsSealedLogOf roster.now.machines election.now log)) }
-    ensures err { IfErr result (λ fault.
-        OnSomeFile (S.files store.old) name.now (IsLogRefused fault)) }
+    // The log is what each file says that is such as was read, and so is a refusal. The file is read
+    // to its end, or to the first byte past the limit.
+    ensures ok { IfOk result (λ log. OnReadFile S.Store name.now max_bytes
+        (IsSealedLogOf roster.now.machines election.now log) store.old store.new) }
+    ensures err { IfErr result (λ fault. fault ≢ LogFault.Memory →
+        OnReadFile S.Store name.now max_bytes (IsLogRefused fault) store.old store.new) }
 
     // So it may be among those that were read before.
     ensures valid { IfOk result (λ log.
@@ -197,10 +192,6 @@ pub fn read_log_after<S: Store>(
         (S.answered store.new).bytes (IsErrOf result LogFault.TooLong) }
     ensures read_fault { HasCause (S.read_faults store.old) (S.read_faults store.new)
         (IsErrOf result LogFault.ReadFault) }
-
-    // The file is read to its end, or to the first byte past the limit, in pieces of 65,536 bytes.
-    ensures pieces { (¬ IsErrOf result LogFault.Memory) →
-        ReadsOn (S.reads name.now) 65536 max_bytes 0 store.old store.new }
 
     ensures unchanged { (S.files store.new ≡ S.files store.old)
         × (S.write_faults store.new ≡ S.write_faults store.old) }
@@ -233,12 +224,12 @@ pub fn read_log_after_in<R: Threads + Sync, S: Store>(
     before: &[LogRead],
 ) -> Result<LogRead, LogFault>
     requires { All (λ log. AreValid roster.now.machines election.now log.kept.items) before.now }
-    // The log is what the file says, or what some says where no file is exposed, and so is a
-    // refusal.
-    ensures ok { IfOk result (λ log. OnSomeFile (S.files store.old) name.now
-        (IsSealedLogOf roster.now.machines election.now log)) }
-    ensures err { IfErr result (λ fault.
-        OnSomeFile (S.files store.old) name.now (IsLogRefused fault)) }
+    // The log is what each file says that is such as was read, and so is a refusal. The file is read
+    // to its end, or to the first byte past the limit.
+    ensures ok { IfOk result (λ log. OnReadFile S.Store name.now max_bytes
+        (IsSealedLogOf roster.now.machines election.now log) store.old store.new) }
+    ensures err { IfErr result (λ fault. fault ≢ LogFault.Memory →
+        OnReadFile S.Store name.now max_bytes (IsLogRefused fault) store.old store.new) }
 
     // So it may be among those that were read before.
     ensures valid { IfOk result (λ log.
@@ -252,10 +243,6 @@ pub fn read_log_after_in<R: Threads + Sync, S: Store>(
         (S.answered store.new).bytes (IsErrOf result LogFault.TooLong) }
     ensures read_fault { HasCause (S.read_faults store.old) (S.read_faults store.new)
         (IsErrOf result LogFault.ReadFault) }
-
-    // The file is read to its end, or to the first byte past the limit, in pieces of 65,536 bytes.
-    ensures pieces { (¬ IsErrOf result LogFault.Memory) →
-        ReadsOn (S.reads name.now) 65536 max_bytes 0 store.old store.new }
 
     ensures unchanged { (S.files store.new ≡ S.files store.old)
         × (S.write_faults store.new ≡ S.write_faults store.old) }
