@@ -23,9 +23,9 @@ pub use Rattle.entry_order.specs.Survivors.{SurvivorsAreNoStrays, SurvivorsHaveN
 pub use Rattle.entry_order.specs.declared.three.Three.TheVariants.{False, True, Unknown}
 pub use Rattle.evidence.specs.Graphs.{GivesGraph, IsSealedGraph, collision_cause, entries_of, entries_of_records}
 pub use Rattle.evidence.specs.Graphs.{graph_refusal}
-pub use Rattle.evidence.specs.Logs.{GivesLogs, GivesLogsIn, IsLogRefusal}
-pub use Rattle.evidence.specs.NamedFiles.{AreFiles}
-pub use Rattle.evidence.specs.Reading.{IsReadFrom, StoreSeen, store_seen}
+pub use Rattle.evidence.specs.Logs.{GivesLogs, IsLogRefusal, log_refusal}
+pub use Rattle.evidence.specs.NamedFiles.{AreAsRead, AreRead, FileRead, OnAllRead, OnExposed, OnOneFile, OnRead}
+pub use Rattle.evidence.specs.Reading.{IsReadFrom, IsReadFromFile}
 pub use Rattle.evidence.specs.Refusal.{IsAbsent, IsFaultOf, IsFileFault, Refusal, absent, refusal_of, refused}
 pub use Rattle.evidence.specs.Refusal.{too_long}
 pub use Rattle.evidence.specs.RosterFile.{GivesRoster, max_roster}
@@ -35,11 +35,12 @@ pub use Rattle.evidence.specs.declared.fault.AuditFault.TheVariants.{Absent, Rea
 pub use Rattle.evidence.specs.declared.roster_file.RosterRead.{RosterRead}
 pub use Rattle.evidence.specs.inside.Copies.{IsRepeat, StandFor, text_of_sealed}
 pub use Rattle.evidence.specs.inside.Faults.{IsLogFault}
-pub use Rattle.hall_outside.proofs.SomeFile.{is_refused_file, on_some, refused_file, some_file}
+pub use Rattle.hall_outside.proofs.ReadFiles.{found_file, read_weaker}
 pub use Rattle.hall_outside.specs.Counts.{ComesExactly, HasCause, HasRisen}
-pub use Rattle.hall_outside.specs.Files.{Files, OnFile, OnSomeFile}
-pub use Rattle.hall_outside.specs.ReadFile.{IsFileRefused}
+pub use Rattle.hall_outside.specs.Files.{Files, OnFile}
+pub use Rattle.hall_outside.specs.ReadFile.{IsFileRefused, IsFound, IsRead, OnReadFile}
 pub use Rattle.hall_outside.specs.declared.reading.FileFault.{FileFault}
+pub use Rattle.hall_outside.specs.declared.stores.Store.{Ghosts as StoreGhosts}
 pub use Rattle.log_files.specs.LogFile.{IsLogRefused, IsSealedLogOf, max_bytes}
 pub use Rattle.log_files.specs.LogText.{HasHeader}
 pub use Rattle.log_files.specs.SealedLog.{AreValid, SaysSealed}
@@ -52,7 +53,7 @@ pub use Rattle.std.proofs.Common.{get_or, inl, inr, map, not, refl, rules, strin
 pub use Rattle.std.proofs.Common.{ℕ, ◌++◌, ◌+◌, ◌∙◌, ◌∷◌, ◌≡◌, ◌⊎◌}
 pub use Rattle.std.proofs.lemmas.Bool.{cases_Bool, true≢false}
 pub use Rattle.std.proofs.lemmas.Cmp.{nat_cmp_total, nat_list_cmp_total}
-pub use Rattle.std.proofs.lemmas.List.{drop_all, drop_more}
+pub use Rattle.std.proofs.lemmas.List.{drop_all, drop_more, length-map, length-take-le, take-append-drop}
 pub use Rattle.std.proofs.lemmas.List.Elements.{All-append, All-cons, All-nil, Contains-append_left}
 pub use Rattle.std.proofs.lemmas.List.Elements.{Contains-append_right, Contains-push, Contains-push_cases}
 pub use Rattle.std.proofs.lemmas.Result.{IfOk-weaker}

@@ -1,7 +1,7 @@
 //! The files of logs.
 ghost use Rattle.std.specs.Prelude.{map, string_bytes};
-ghost use Rattle.evidence.specs.Logs.{GivesLogsIn};
-ghost use Rattle.evidence.specs.Reading.{IsReadFrom, store_seen};
+ghost use Rattle.evidence.specs.Logs.{GivesLogs};
+ghost use Rattle.evidence.specs.Reading.{IsReadFrom};
 ghost use Rattle.evidence.specs.inside.Faults.{IsLogFault};
 
 use crate::fault::AuditFault;
@@ -26,13 +26,9 @@ pub fn read_logs<S: Store>(
     roster: &Roster,
     election: &[u8; 32],
 ) -> Result<Vec<LogRead>, AuditFault>
-    ensures { IsReadFrom (λ logs. logs.items)
-        (GivesLogsIn roster.now.machines election.now (map string_bytes names.now))
-        (store_seen (S.files store.old) (S.answered store.old) (S.read_faults store.old)
-        (S.write_faults store.old))
-        result
-        (store_seen (S.files store.new) (S.answered store.new) (S.read_faults store.new)
-        (S.write_faults store.new)) }
+    ensures { IsReadFrom S.Store (λ logs. logs.items) (map string_bytes names.now)
+        (GivesLogs roster.now.machines election.now (map string_bytes names.now))
+        store.old result store.new }
 {
     let mut logs = Vec::new(alloc);
     for name in names {
@@ -64,13 +60,9 @@ pub fn read_logs_in<R: Threads + Sync, S: Store>(
     roster: &Roster,
     election: &[u8; 32],
 ) -> Result<Vec<LogRead>, AuditFault>
-    ensures { IsReadFrom (λ logs. logs.items)
-        (GivesLogsIn roster.now.machines election.now (map string_bytes names.now))
-        (store_seen (S.files store.old) (S.answered store.old) (S.read_faults store.old)
-        (S.write_faults store.old))
-        result
-        (store_seen (S.files store.new) (S.answered store.new) (S.read_faults store.new)
-        (S.write_faults store.new)) }
+    ensures { IsReadFrom S.Store (λ logs. logs.items) (map string_bytes names.now)
+        (GivesLogs roster.now.machines election.now (map string_bytes names.now))
+        store.old result store.new }
 {
     let mut logs = Vec::new(alloc);
     for name in names {
