@@ -1,6 +1,5 @@
 -- What the proofs of this crate take from others.
-pub use Rattle.auditor.specs.Audits.{AndThen, FileThen, GivesReport, GivesReportIn, GivesVerdicts, OnFiles, RulesThen}
-pub use Rattle.auditor.specs.Audits.{WithGraph, WithLogs}
+pub use Rattle.auditor.specs.Audits.{AndThen, FileThen, GivesReport, GivesVerdicts, RulesThen, WithGraph, WithLogs}
 pub use Rattle.auditor.specs.Judged.{AreJudged, IsFirstTooWide, nodes_of}
 pub use Rattle.auditor.specs.Outcomes.{is_broken, is_unsettled}
 pub use Rattle.auditor.specs.Outcomes.{log_has_finding}
@@ -14,7 +13,7 @@ pub use Rattle.auditor.specs.Sources.{GivesRules, RuleSource, in_file, max_rules
 pub use Rattle.auditor.specs.Sources.{standard}
 pub use Rattle.auditor.specs.declared.auditing.Begun.{Begun}
 pub use Rattle.auditor.specs.declared.judging.Unjudged.{Unjudged}
-pub use Rattle.auditor.specs.inside.Begun.{AreLogsOf, HasBegun, HasRules, WithRoster, WithRules}
+pub use Rattle.auditor.specs.inside.Begun.{AreLogsOf, HasBegun, HasRules, IsEndOf, WithRoster, WithRules}
 pub use Rattle.auditor.specs.inside.Places.{AreBelow, IsBelow}
 pub use Rattle.auditor.specs.inside.Unjudged.{IsUnjudged}
 pub use Rattle.canonical_sexp.specs.declared.sexp.Sexp.{Sexp}
@@ -35,21 +34,23 @@ pub use Rattle.entry_order.specs.Survivors.{is_stray}
 pub use Rattle.entry_order.specs.declared.three.Three.{Three}
 pub use Rattle.entry_order.specs.declared.three.Three.TheVariants.{False, True, Unknown}
 pub use Rattle.evidence.proofs.FilesRead.{not_read, was_read}
-pub use Rattle.evidence.proofs.LogLists.{some_files}
+pub use Rattle.evidence.proofs.OnReads.{one_first, some_as_read}
 pub use Rattle.evidence.proofs.Readings.{of_refusal, stands}
-pub use Rattle.evidence.proofs.Steps.{on_refusal, read_ends, read_last, read_then}
+pub use Rattle.evidence.proofs.Steps.{on_refusal, read_ends, read_last, read_refused, read_then}
 pub use Rattle.evidence.specs.Graphs.{GivesGraph, entries_of, entries_of_records}
-pub use Rattle.evidence.specs.Logs.{GivesLogs, GivesLogsIn}
+pub use Rattle.evidence.specs.Logs.{GivesLogs}
+pub use Rattle.evidence.specs.NamedFiles.{AreAsRead, AreRead, FileRead, OnOneFile, OnRead}
 pub use Rattle.evidence.specs.OneAnswer.{EntriesGiveOneGraph, LogFilesGiveOneAnswer, RosterFilesGiveOneAnswer}
 pub use Rattle.evidence.specs.OneAnswer.{SameLogsKeepTheSameEntries}
-pub use Rattle.evidence.specs.Reading.{IsReadFrom, StoreSeen, store_seen}
-pub use Rattle.evidence.specs.Refusal.{IsFaultOf, Refusal, refusal_of, refused, too_long}
-pub use Rattle.evidence.specs.RosterFile.{GivesRoster, GivesRosterIn}
+pub use Rattle.evidence.specs.Reading.{IsReadFrom, IsReadFromFile}
+pub use Rattle.evidence.specs.Refusal.{IsAbsent, IsFaultOf, Refusal, refusal_of, refused, too_long}
+pub use Rattle.evidence.specs.RosterFile.{GivesRoster}
 pub use Rattle.evidence.specs.Same.{Agree, SameGraph, SameLog, SameLogs}
 pub use Rattle.evidence.specs.declared.fault.AuditFault.{AuditFault}
 pub use Rattle.evidence.specs.declared.roster_file.RosterRead.{RosterRead}
-pub use Rattle.hall_outside.specs.Files.{OnSomeFile}
+pub use Rattle.hall_outside.proofs.ReadFiles.{found_file}
 pub use Rattle.hall_outside.specs.ReadFile.{IsFileRefused}
+pub use Rattle.hall_outside.specs.declared.stores.Store.{Ghosts as StoreGhosts}
 pub use Rattle.hex.specs.Hex.{encode_lower}
 pub use Rattle.log_files.specs.Lines.{end_line, line, refused_lines}
 pub use Rattle.log_files.specs.LogFile.{IsSealedLogOf}
@@ -92,7 +93,7 @@ pub use Rattle.std.proofs.lemmas.List.{get_or-map, length-map, map-append, take_
 pub use Rattle.std.proofs.lemmas.List.Elements.{All-contains, All-from_recursion, Contains-get_or}
 pub use Rattle.std.proofs.lemmas.Map.Text.{is_eq-slice_cmp}
 pub use Rattle.std.proofs.lemmas.Option.{get_or_from_slice_get, slice_get_within}
-pub use Rattle.std.proofs.lemmas.Result.{IfErr-weaker}
+pub use Rattle.std.proofs.lemmas.Result.{IfErr-weaker, IfOk-weaker}
 pub use Rattle.std.proofs.lemmas.Slice.Eq.{bytes_eq-Decides}
 pub use Rattle.std.proofs.lemmas.Slice.Zip.{AllZip-long, all_zipped_more, get_or-zip, length-zip}
 pub use Rattle.std.specs.List.{AllPairs, AllZip, Contains, filter, flat_map, list_any, range_with_len, zip}
@@ -100,3 +101,5 @@ pub use Rattle.std.specs.Ordering.{is_eq}
 pub use Rattle.std.specs.Prelude.{All, Err, IfOk, IfSome, Ok, OnOk, Result, codes, find, slice_get}
 pub use Rattle.std.specs.Prelude.{vec_capacity, ◌&&◌, ◌==◌, ◌||◌, ◌⊎◌}
 pub use Rattle.std.specs.Str.{bytes_eq}
+pub use Rattle.evidence.specs.declared.fault.AuditFault.TheVariants.{ReadFault}
+pub use Rattle.std.specs.Prelude.{IfErr, ◌≢◌}

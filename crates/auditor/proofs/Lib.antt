@@ -3,6 +3,7 @@ pub mod Pieces
 pub mod OneByOne
 pub mod Makers
 pub mod Below
+pub mod Chained
 pub mod Audited
 pub mod OneStep
 pub mod OneVerdict

@@ -6,7 +6,7 @@ use Rattle.auditor.proofs.Imports.{All-from_recursion, Contains-get_or, get_or_f
 use Rattle.auditor.proofs.Imports.{SealedEntry, node_of_sealed, is_stray, Contains-map, Contains-at, Contains-later}
 use Rattle.auditor.proofs.Imports.{Contains-cons_cases, Contains-filter_cases, LogRead, kept_of, Gives, EachGives}
 use Rattle.auditor.proofs.Imports.{IsReadSealed, IsSealedLogOf, distinct, EntryGraph, AreForks, Row, GivesLogs}
-use Rattle.auditor.proofs.Imports.{entries_of_records, entries_of, GivesGraph, HaveMakers, row_of}
+use Rattle.auditor.proofs.Imports.{entries_of_records, entries_of, GivesGraph, HaveMakers}
 use Rattle.std.proofs.Common.{not}
 use Rattle.std.specs.List.{AllByRecursion as ByRecursion}
 use Rattle.log_files.specs.declared.sealed_log.Kept.{Kept}

@@ -1,6 +1,5 @@
 -- What files give an auditor: a report, or the first refusal.
 use Rattle.std.specs.Prelude.{◌≡◌, ◌⊎◌, ℕ, List, [], ◌∷◌, ◌++◌, map, codes, Option, Result, Ok, Err}
-use Rattle.hall_outside.specs.Files.{Files}
 use Rattle.roster.specs.declared.post.Post.{Post}
 use Rattle.log_files.specs.declared.sealed_log.LogRead.{LogRead}
 use Rattle.entry_format.specs.SealedEntry.{SealedEntry}
@@ -11,7 +10,6 @@ use Rattle.rule_language.specs.Trees.{RuleTree}
 use Rattle.rule_language.specs.Standard.{standard_rules}
 use Rattle.rule_engine.specs.declared.verdict.Verdict.{Verdict}
 use Rattle.evidence.specs.Refusal.{Refusal, refused}
-use Rattle.evidence.specs.NamedFiles.{AreFiles}
 use Rattle.evidence.specs.RosterFile.{GivesRoster}
 use Rattle.evidence.specs.Logs.{GivesLogs}
 use Rattle.evidence.specs.Graphs.{entries_of, GivesGraph}
@@ -75,12 +73,3 @@ GivesReport roster source names =
     AndThen (GivesGraph (entries_of logs)) (λ graph.
     AndThen (GivesVerdicts source (map (row_of read.roster.machines) graph.survivors) (nodes_of graph) rules)
     (λ verdicts answer. answer ≡ Ok (report_on read.roster.machines names logs graph rules verdicts))))))
-
--- this holds of the named files: of those that are exposed, or of some where none are
-abbrev pub OnFiles : List (List ℕ) → (List (Option (List ℕ)) → Type 0) → Option Files → Type 0
-OnFiles names P told = (files : List (Option (List ℕ))) × AreFiles told names files × P files
-
--- what the named files give an auditor
-abbrev pub GivesReportIn : List ℕ → RuleSource → List (List ℕ) → Option Files → Result AuditReport Refusal → Type 0
-GivesReportIn roster source logs told answer =
-    OnFiles (audit_files roster source logs) (λ files. GivesReport roster source logs files answer) told

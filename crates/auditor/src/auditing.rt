@@ -13,10 +13,9 @@ ghost use Rattle.std.specs.Prelude.{
   map,
   string_bytes,
 };
-ghost use Rattle.hall_outside.specs.Files.{OnSomeFile};
 ghost use Rattle.rule_language.specs.Forms.{rule_tree};
 ghost use Rattle.evidence.specs.Graphs.{GivesGraph, entries_of};
-ghost use Rattle.evidence.specs.Reading.{IsReadFrom, StoreSeen, store_seen};
+ghost use Rattle.evidence.specs.Reading.{IsReadFrom, IsReadFromFile};
 ghost use Rattle.evidence.specs.Refusal.{IsAbsent, refusal_of};
 ghost use Rattle.auditor.specs.Rows.{HaveMakers, row_of};
 ghost use Rattle.auditor.specs.Judged.{AreJudged, nodes_of};
@@ -26,7 +25,7 @@ ghost use Rattle.auditor.specs.Report.{report_of};
 ghost use Rattle.rule_language.specs.Standard.{standard_rules};
 ghost use Rattle.auditor.specs.Sources.{source_of, source_word, max_rules, GivesRules};
 ghost use Rattle.auditor.specs.Sources.{standard as standard_source};
-ghost use Rattle.auditor.specs.Audits.{WithGraph, WithLogs, GivesReportIn};
+ghost use Rattle.auditor.specs.Audits.{WithGraph, WithLogs, GivesReport, audit_files};
 
 use crate::judging::{Unjudged, judge_all};
 use crate::report::Report;
@@ -88,13 +87,8 @@ fn rules_of(alloc: Global, name: &str, bytes: &[u8]) -> Result<Vec<Rule>, AuditF
 
 /// Reads the rules in the named file, of at most 4,194,304 bytes.
 fn read_rules<S: Store>(alloc: Global, store: &mut S, name: &str) -> Result<Vec<Rule>, AuditFault>
-    ensures { IsReadFrom (λ rules. map rule_tree rules.items)
-        (λ told answer. OnSomeFile told name.now (λ file. GivesRules name.now file answer))
-        (store_seen (S.files store.old) (S.answered store.old) (S.read_faults store.old)
-        (S.write_faults store.old))
-        result
-        (store_seen (S.files store.new) (S.answered store.new) (S.read_faults store.new)
-        (S.write_faults store.new)) }
+    ensures { IsReadFromFile S.Store (λ rules. map rule_tree rules.items) name.now
+        (GivesRules name.now) store.old result store.new }
 {
     match read_file(alloc, store, name, MAX_RULES) {
         Ok(bytes) => rules_of(alloc, name, bytes.as_slice()),
@@ -231,12 +225,7 @@ fn with_roster<S: Store>(
     read: RosterRead,
     from: RulesFrom<'_>,
 ) -> Result<Begun, AuditFault>
-    ensures { HasRules read (source_of from.entry)
-        (store_seen (S.files store.old) (S.answered store.old) (S.read_faults store.old)
-        (S.write_faults store.old))
-        result
-        (store_seen (S.files store.new) (S.answered store.new) (S.read_faults store.new)
-        (S.write_faults store.new)) }
+    ensures { HasRules S.Store read (source_of from.entry) store.old result store.new }
 {
     match from {
         RulesFrom::Standard => match standard(alloc) {
@@ -257,12 +246,7 @@ fn begin<S: Store>(
     roster: &str,
     from: RulesFrom<'_>,
 ) -> Result<Begun, AuditFault>
-    ensures { HasBegun roster.now (source_of from.entry)
-        (store_seen (S.files store.old) (S.answered store.old) (S.read_faults store.old)
-        (S.write_faults store.old))
-        result
-        (store_seen (S.files store.new) (S.answered store.new) (S.read_faults store.new)
-        (S.write_faults store.new)) }
+    ensures { HasBegun S.Store roster.now (source_of from.entry) store.old result store.new }
 {
     match read_roster(alloc, store, roster) {
         Ok(read) => with_roster(alloc, store, read, from),
@@ -271,18 +255,19 @@ fn begin<S: Store>(
 }
 
 /// The report on the logs of these names, as they were read.
-fn finish(
+fn finish<S: Store>(
     alloc: Global,
     begun: Begun,
     from: RulesFrom<'_>,
     names: &[String],
     logs: Result<Vec<LogRead>, AuditFault>,
 ) -> Result<Report, AuditFault>
-    requires { (before : StoreSeen) × (after : StoreSeen)
-        × AreLogsOf begun (map string_bytes names.now) before logs after }
-    ensures { (before after : StoreSeen) →
-        AreLogsOf begun (map string_bytes names.now) before logs after →
-        IsEndOf begun (source_of from.entry) (map string_bytes names.now) before result after }
+    requires { (before : S) × (after : S)
+        × AreLogsOf S.Store begun (map string_bytes names.now) before logs after }
+    ensures { (before after : S) →
+        AreLogsOf S.Store begun (map string_bytes names.now) before logs after →
+        IsEndOf S.Store begun (source_of from.entry) (map string_bytes names.now)
+        before result after }
 {
     match logs {
         Ok(read) => with_logs(alloc, begun.read.roster, from, begun.rules, names, read),
@@ -308,19 +293,16 @@ pub fn audit<S: Store>(
     rules: RulesFrom<'_>,
     logs: &[String],
 ) -> Result<Report, AuditFault>
-    ensures { IsReadFrom report_of
-        (GivesReportIn roster.now (source_of rules.entry) (map string_bytes logs.now))
-        (store_seen (S.files store.old) (S.answered store.old) (S.read_faults store.old)
-        (S.write_faults store.old))
-        result
-        (store_seen (S.files store.new) (S.answered store.new) (S.read_faults store.new)
-        (S.write_faults store.new)) }
+    ensures { IsReadFrom S.Store report_of
+        (audit_files roster.now (source_of rules.entry) (map string_bytes logs.now))
+        (GivesReport roster.now (source_of rules.entry) (map string_bytes logs.now))
+        store.old result store.new }
 {
     match begin(alloc, store, roster, rules) {
         Ok(begun) => {
             let election = &begun.read.election;
             let read = read_logs(alloc, store, logs, &begun.read.roster, election);
-            finish(alloc, begun, rules, logs, read)
+            finish::<S>(alloc, begun, rules, logs, read)
         }
         Err(fault) => Err(fault),
     }
@@ -339,19 +321,16 @@ pub fn audit_in<R: Threads + Sync, S: Store>(
     rules: RulesFrom<'_>,
     logs: &[String],
 ) -> Result<Report, AuditFault>
-    ensures { IsReadFrom report_of
-        (GivesReportIn roster.now (source_of rules.entry) (map string_bytes logs.now))
-        (store_seen (S.files store.old) (S.answered store.old) (S.read_faults store.old)
-        (S.write_faults store.old))
-        result
-        (store_seen (S.files store.new) (S.answered store.new) (S.read_faults store.new)
-        (S.write_faults store.new)) }
+    ensures { IsReadFrom S.Store report_of
+        (audit_files roster.now (source_of rules.entry) (map string_bytes logs.now))
+        (GivesReport roster.now (source_of rules.entry) (map string_bytes logs.now))
+        store.old result store.new }
 {
     match begin(alloc, store, roster, rules) {
         Ok(begun) => {
             let election = &begun.read.election;
             let read = read_logs_in(rt, alloc, store, logs, &begun.read.roster, election);
-            finish(alloc, begun, rules, logs, read)
+            finish::<S>(alloc, begun, rules, logs, read)
         }
         Err(fault) => Err(fault),
     }

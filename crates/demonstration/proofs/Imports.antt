@@ -1,5 +1,5 @@
 -- What the proofs of this crate take from others.
-pub use Rattle.auditor.proofs.Audited.{err_by, ok_by}
+pub use Rattle.auditor.proofs.Chained.{err_by}
 pub use Rattle.auditor.proofs.Makers.{logs_have_makers}
 pub use Rattle.auditor.specs.Audits.{WithLogs}
 pub use Rattle.auditor.specs.Outcomes.{is_broken, is_unsettled}
@@ -55,3 +55,4 @@ pub use Rattle.std.proofs.lemmas.List.Elements.{All-append, All-cons, All-nil}
 pub use Rattle.std.proofs.lemmas.Option.{get_or_from_slice_get, slice_get-get_or, slice_get_within}
 pub use Rattle.std.specs.List.{AllZip, flat_map, fold}
 pub use Rattle.std.specs.Prelude.{Err, IfErr, IfOk, IfSome, Ok, Result, codes, count_by, slice_get}
+pub use Rattle.std.proofs.lemmas.Result.{IfOk-weaker}

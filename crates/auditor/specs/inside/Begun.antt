@@ -3,18 +3,19 @@
 use Rattle.std.specs.Prelude.{ℕ, List, ◌++◌, map, Option, Result, Ok, Err}
 use Rattle.std.specs.declared.vec.Vec.{Vec}
 use Rattle.std.specs.declared.alloc.Global.{Global}
+use Rattle.hall_outside.specs.declared.stores.Store.{Ghosts as StoreGhosts}
 use Rattle.log_files.specs.declared.sealed_log.LogRead.{LogRead}
 use Rattle.rule_language.specs.Forms.{rule_tree}
 use Rattle.rule_language.specs.Trees.{RuleTree}
 use Rattle.evidence.specs.declared.fault.AuditFault.{AuditFault}
 use Rattle.evidence.specs.declared.roster_file.RosterRead.{RosterRead}
-use Rattle.evidence.specs.Logs.{GivesLogs, GivesLogsIn}
+use Rattle.evidence.specs.Logs.{GivesLogs}
 use Rattle.evidence.specs.Refusal.{Refusal}
-use Rattle.evidence.specs.Reading.{StoreSeen, IsReadFrom}
+use Rattle.evidence.specs.Reading.{IsReadFrom}
 use Rattle.auditor.specs.declared.auditing.Begun.{Begun}
 use Rattle.auditor.specs.Report.{AuditReport, ReportParts, report_of}
 use Rattle.auditor.specs.Sources.{RuleSource, rule_files}
-use Rattle.auditor.specs.Audits.{AndThen, RulesThen, WithLogs, OnFiles, GivesReportIn}
+use Rattle.auditor.specs.Audits.{AndThen, RulesThen, WithLogs, audit_files, GivesReport}
 
 -- what the files of logs give with the roster and the rules: the end of what all files give
 abbrev pub WithRules : RosterRead → RuleSource → List RuleTree → List (List ℕ) → List (Option (List ℕ))
@@ -28,37 +29,33 @@ abbrev pub WithRoster : RosterRead → RuleSource → List (List ℕ) → List (
     → Result AuditReport Refusal → Type 0
 WithRoster read source names = RulesThen source (λ rules files. WithRules read source rules names files)
 
--- the logs of these names were read by the roster
-abbrev pub AreLogsOf : Begun → List (List ℕ) → StoreSeen → Result (Vec LogRead Global) AuditFault → StoreSeen → Type 0
-AreLogsOf begun names =
-    IsReadFrom (λ logs. logs.items) (GivesLogsIn begun.read.roster.machines begun.read.election names)
+module _ {S : Type 0} (of : StoreGhosts S) where
+  -- the logs of these names were read by the roster
+  abbrev pub AreLogsOf : Begun → List (List ℕ) → S → Result (Vec LogRead Global) AuditFault → S → Type 0
+  AreLogsOf begun names =
+      IsReadFrom of (λ logs. logs.items) names (GivesLogs begun.read.roster.machines begun.read.election names)
 
--- this is what they give by the rules
-abbrev pub IsEndOf : Begun → RuleSource → List (List ℕ) → StoreSeen → Result ReportParts AuditFault → StoreSeen → Type 0
-IsEndOf begun source names =
-    IsReadFrom report_of
-    (λ told answer. OnFiles names
-    (λ files. WithRules begun.read source (map rule_tree begun.rules.items) names files answer) told)
+  -- this is what they give by the rules
+  abbrev pub IsEndOf : Begun → RuleSource → List (List ℕ) → S → Result ReportParts AuditFault → S → Type 0
+  IsEndOf begun source names =
+      IsReadFrom of report_of names (WithRules begun.read source (map rule_tree begun.rules.items) names)
 
--- the rules are read after the roster
-abbrev pub HasRules : RosterRead → RuleSource → StoreSeen → Result Begun AuditFault → StoreSeen → Type 0
-HasRules read source old (Ok begun) mid =
-    (names : List (List ℕ)) (result : Result ReportParts AuditFault) (new : StoreSeen) →
-    IsEndOf begun source names mid result new →
-    IsReadFrom report_of
-    (λ told answer. OnFiles (rule_files source ++ names) (λ files. WithRoster read source names files answer) told)
-    old result new
-HasRules read source old (Err fault) new =
-    (names : List (List ℕ)) →
-    IsReadFrom report_of
-    (λ told answer. OnFiles (rule_files source ++ names) (λ files. WithRoster read source names files answer) told)
-    old (Err fault) new
+  -- the rules are read after the roster
+  abbrev pub HasRules : RosterRead → RuleSource → S → Result Begun AuditFault → S → Type 0
+  HasRules read source old (Ok begun) mid =
+      (names : List (List ℕ)) (result : Result ReportParts AuditFault) (new : S) →
+      IsEndOf begun source names mid result new →
+      IsReadFrom of report_of (rule_files source ++ names) (WithRoster read source names) old result new
+  HasRules read source old (Err fault) new =
+      (names : List (List ℕ)) →
+      IsReadFrom of report_of (rule_files source ++ names) (WithRoster read source names) old (Err fault) new
 
--- the roster and the rules are read
-abbrev pub HasBegun : List ℕ → RuleSource → StoreSeen → Result Begun AuditFault → StoreSeen → Type 0
-HasBegun roster source old (Ok begun) mid =
-    (names : List (List ℕ)) (result : Result ReportParts AuditFault) (new : StoreSeen) →
-    IsEndOf begun source names mid result new →
-    IsReadFrom report_of (GivesReportIn roster source names) old result new
-HasBegun roster source old (Err fault) new =
-    (names : List (List ℕ)) → IsReadFrom report_of (GivesReportIn roster source names) old (Err fault) new
+  -- the roster and the rules are read
+  abbrev pub HasBegun : List ℕ → RuleSource → S → Result Begun AuditFault → S → Type 0
+  HasBegun roster source old (Ok begun) mid =
+      (names : List (List ℕ)) (result : Result ReportParts AuditFault) (new : S) →
+      IsEndOf begun source names mid result new →
+      IsReadFrom of report_of (audit_files roster source names) (GivesReport roster source names) old result new
+  HasBegun roster source old (Err fault) new =
+      (names : List (List ℕ)) →
+      IsReadFrom of report_of (audit_files roster source names) (GivesReport roster source names) old (Err fault) new

@@ -1,33 +1,25 @@
-use Rattle.auditor.proofs.Imports.{map, refl, rule_tree, store_seen, max_rules, GivesRules, was_read, not_read}
-use Rattle.auditor.proofs.Imports.{stands}
+use Rattle.auditor.proofs.Imports.{map, refl, rule_tree, max_rules, GivesRules, was_read, not_read, stands}
 use Rattle.auditor.proofs.Audited.{long_rules}
 use Rattle.auditor.proofs.auditing.read_rules.Goals as goal
 
 pub returns-in-Ok : goal.returns-in-Ok
 returns-in-Ok g c =
-    let store = g.S.Store in
+    let of = g.S.Store in
     let old = c.args.store.now in
     let new = c.read_file.new.store in
-    let before = store_seen (store.files old) (store.answered old) (store.read_faults old) (store.write_faults old) in
-    let after = store_seen (store.files new) (store.answered new) (store.read_faults new) (store.write_faults new) in
     let given = c.in-Ok.ensures in
-    was_read (λ rules. map rule_tree rules.items) (GivesRules c.args.name.now) c.args.name.now before after
-    c.in-Ok.bytes.items c.rules_of.result given.ok.whole
+    was_read of (λ rules. map rule_tree rules.items) (GivesRules c.args.name.now) c.args.name.now max_rules old new
+    c.in-Ok.bytes.items c.rules_of.result given.ok.1
     (rw (← c.as_slice.ensures.value) c.rules_of.ensures.ok)
     (rw (← c.as_slice.ensures.value) c.rules_of.ensures.err) c.rules_of.ensures.only
     (λ more. let never = given.absent.always more in cc)
-    (stands (store.read_faults old) (store.read_faults new) given.read_fault (λ e. cc))
+    (stands (of.read_faults old) (of.read_faults new) given.read_fault (λ e. cc))
     (record { absences = given.absences; files = given.unchanged.0; write_faults = given.unchanged.1 })
 
 pub returns-in-Err : goal.returns-in-Err
 returns-in-Err g c =
-    let store = g.S.Store in
-    let old = c.args.store.now in
-    let new = c.read_file.new.store in
-    let before = store_seen (store.files old) (store.answered old) (store.read_faults old) (store.write_faults old) in
-    let after = store_seen (store.files new) (store.answered new) (store.read_faults new) (store.write_faults new) in
     let given = c.in-Err.ensures in
-    not_read (λ rules. map rule_tree rules.items) (GivesRules c.args.name.now) c.args.name.now before after max_rules
-    c.in-Err.fault c.file_fault.result refl (long_rules c.args.name.now) c.file_fault.ensures given.err given.absent
-    given.read_fault
+    not_read g.S.Store (λ rules. map rule_tree rules.items) (GivesRules c.args.name.now) c.args.name.now max_rules
+    c.args.store.now c.read_file.new.store c.in-Err.fault c.file_fault.result refl (long_rules c.args.name.now)
+    c.file_fault.ensures given.err given.absent given.read_fault
     (record { absences = given.absences; files = given.unchanged.0; write_faults = given.unchanged.1 })

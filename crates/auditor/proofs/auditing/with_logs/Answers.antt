@@ -1,8 +1,8 @@
 use Rattle.auditor.proofs.Imports.{List, ℕ, inl, inr, map, refl, subst, string_bytes, Result, Ok, Err, LogRead}
-use Rattle.auditor.proofs.Imports.{rule_tree, Refusal, refusal_of, entries_of, GivesGraph, AuditReport, ReportParts}
-use Rattle.auditor.proofs.Imports.{report_of, source_of, WithGraph, WithLogs, on_refusal}
+use Rattle.auditor.proofs.Imports.{rule_tree, Refusal, refusal_of, entries_of, GivesGraph, AuditReport}
+use Rattle.auditor.proofs.Imports.{report_of, source_of, WithGraph, WithLogs, on_refusal, IfOk-weaker}
 use Rattle.auditor.proofs.Makers.{survivors_have_makers}
-use Rattle.auditor.proofs.Audited.{ok_by, err_by}
+use Rattle.auditor.proofs.Chained.{err_by}
 use Rattle.auditor.proofs.auditing.with_logs.Goals as goal
 
 pub with_graph-requires-clause-makers : goal.with_graph-requires-clause-makers
@@ -24,10 +24,7 @@ returns-in-Ok-clause-ok c =
     let With : List (List ℕ) → Result AuditReport Refusal → Type 0 = λ names answer.
     WithGraph c.args.roster.machines (source_of c.args.from) (map rule_tree c.args.rules.items) names
     c.args.logs.items c.in-Ok.graph answer in
-    ok_by c.with_graph.result
-    (λ (report : ReportParts). With (map string_bytes c.in_ok-files.files.items) (Ok (report_of report)))
-    (λ (report : ReportParts). WithLogs c.args.roster.machines (source_of c.args.from)
-    (map rule_tree c.args.rules.items) (map string_bytes c.args.names.now) c.args.logs.items (Ok (report_of report)))
+    IfOk-weaker c.with_graph.result _ _
     (λ report is. inl (
       c.in-Ok.graph,
       gives,
@@ -42,9 +39,7 @@ returns-in-Ok-clause-err c =
     let With : List (List ℕ) → Result AuditReport Refusal → Type 0 = λ names answer.
     WithGraph c.args.roster.machines (source_of c.args.from) (map rule_tree c.args.rules.items) names
     c.args.logs.items c.in-Ok.graph answer in
-    err_by c.with_graph.result (λ refusal. With (map string_bytes c.in_ok-files.files.items) (Err refusal))
-    (λ refusal. WithLogs c.args.roster.machines (source_of c.args.from) (map rule_tree c.args.rules.items)
-    (map string_bytes c.args.names.now) c.args.logs.items (Err refusal))
+    err_by c.with_graph.result _ _
     (λ refusal is. inl (c.in-Ok.graph, gives, subst (λ names. With names (Err refusal)) c.in_ok-files.ensures is))
     c.with_graph.ensures.err
 

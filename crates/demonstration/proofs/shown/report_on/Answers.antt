@@ -1,5 +1,5 @@
 use Rattle.demonstration.proofs.Imports.{[], ◌∷◌, Some, Ok, Err, sha256, text_of, roster_tree, standard_rules}
-use Rattle.demonstration.proofs.Imports.{IsLogRefusal, refusal_of, WithLogs, ReportParts, report_of, standard, ok_by}
+use Rattle.demonstration.proofs.Imports.{IsLogRefusal, refusal_of, WithLogs, ReportParts, report_of, standard, IfOk-weaker}
 use Rattle.demonstration.proofs.Imports.{err_by, logs_have_makers, on_refusal, GivesAudit, log_name}
 use Rattle.demonstration.proofs.Reports.{of_log, of_refusal}
 use Rattle.demonstration.proofs.shown.report_on.Goals as goal
@@ -15,7 +15,7 @@ returns-in-Ok-clause-ok c =
     let posts = c.args.roster.machines in
     let bytes = c.args.bytes.now in
     let log = c.in-Ok.log in
-    ok_by c.audit_log.result
+    IfOk-weaker c.audit_log.result
     (λ (report : ReportParts).
     WithLogs posts standard standard_rules (log_name ∷ []) (log ∷ []) (Ok (report_of report)))
     (λ (report : ReportParts). GivesAudit posts bytes (Ok (report_of report)))
