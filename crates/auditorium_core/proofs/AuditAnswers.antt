@@ -1,16 +1,15 @@
 -- The answers of `audit`.
-use Rattle.auditorium_core.proofs.Imports.{◌≡◌, ◌≢◌, ◌∙◌, ℕ, List, [], ◌∷◌, map, inl, inr, refl, sym, ap, subst, Ok}
-use Rattle.auditorium_core.proofs.Imports.{Err, IsTrue, AllZip, Files, Completion, GapsAreUnique, Post, SealedEntry}
-use Rattle.auditorium_core.proofs.Imports.{node_of, node_of_sealed, Plain, plain_of, plains, plain_rules, entries_of}
+use Rattle.auditorium_core.proofs.Imports.{◌≡◌, ◌≢◌, ◌∙◌, ℕ, List, [], ◌∷◌, map, sym, ap, subst, Ok}
+use Rattle.auditorium_core.proofs.Imports.{IsTrue, AllZip, Completion, GapsAreUnique, Post, SealedEntry}
+use Rattle.auditorium_core.proofs.Imports.{node_of, node_of_sealed, Plain, plains, plain_rules, entries_of}
 use Rattle.auditorium_core.proofs.Imports.{EntryGraph, IsEntryGraph, parents_of, ragged_of, RuleTree, Holds}
-use Rattle.auditorium_core.proofs.Imports.{RulesAreSettled, UnknownOnlyByGaps, IsJudged, Refusal, Outcome, row_of}
+use Rattle.auditorium_core.proofs.Imports.{RulesAreSettled, UnknownOnlyByGaps, IsJudged, Outcome, row_of}
 use Rattle.auditorium_core.proofs.Imports.{row_said, nodes_of, AreJudged, is_broken, outcome_of, AuditReport}
-use Rattle.auditorium_core.proofs.Imports.{ReportParts, IsReport, report_of, report_text, GivesReportIn, Status, audit}
-use Rattle.auditorium_core.proofs.Imports.{Answer, refusal_answer, status_by, report_answer, source_named, HoldsOf}
-use Rattle.auditorium_core.proofs.Imports.{Completes, IsAuditOf, IsAnswerTo}
-use Rattle.std.proofs.Common.{length, Option}
+use Rattle.auditorium_core.proofs.Imports.{IsReport, report_text, Status}
+use Rattle.auditorium_core.proofs.Imports.{Answer, status_by, report_answer, HoldsOf}
+use Rattle.auditorium_core.proofs.Imports.{Completes}
+use Rattle.std.proofs.Common.{length}
 use Rattle.auditorium_core.specs.Audit.{IsSound}
-use Rattle.auditorium_core.proofs.HonestAudits.{audit_right}
 use Rattle.auditorium_core.proofs.PlainSurvivors.{some_completion as some_here}
 use Rattle.rule_engine.specs.declared.verdict.Verdict.{Verdict}
 use Rattle.rule_engine.specs.declared.verdict.Verdict.TheVariants as verdict
@@ -102,18 +101,3 @@ not_absent outcome.Kept how is e = let no : status.Done ≡ status.Absent = sym 
 not_absent outcome.Findings how is e = let no : status.Findings ≡ status.Absent = sym is ∙ e in cc
 not_absent outcome.Unsettled how is e = let no : status.Unsettled ≡ status.Absent = sym is ∙ e in cc
 not_absent outcome.Broken how is e = let no : status.Broken ≡ status.Absent = sym is ∙ e in cc
-
--- a refusal is the answer for the files
-pub audit_refused : (roster rules : List ℕ) (logs : List (List ℕ)) (told : Option Files)
-    (refusal : Refusal) → GivesReportIn roster (source_named rules) logs told (Err refusal) →
-    IsAnswerTo (audit roster rules logs) told (refusal_answer refusal)
-audit_refused roster rules logs told refusal (files, are, gives) =
-    (files, are, audit_right roster rules logs files (refusal_answer refusal) (inl (refusal, gives, refl)))
-
--- the answer of a report is that for the files
-pub audit_told : (roster rules : List ℕ) (logs : List (List ℕ)) (told : Option Files)
-    (parts : ReportParts) (answer : Answer) →
-    GivesReportIn roster (source_named rules) logs told (Ok (report_of parts)) → IsAuditOf (report_of parts) answer →
-    IsAnswerTo (audit roster rules logs) told answer
-audit_told roster rules logs told parts answer (files, are, gives) is =
-    (files, are, audit_right roster rules logs files answer (inr (report_of parts, gives, is)))

@@ -4,7 +4,6 @@ use Rattle.auditorium_core.proofs.Imports.{◌≡◌, ◌∙◌, ℕ, List, [], 
 use Rattle.auditorium_core.proofs.Imports.{outcome_of, report_text, SameReport, GivesReport, FilesGiveOneReport}
 use Rattle.auditorium_core.proofs.Imports.{Answer, status_by, report_answer, report_statuses, source_named, IsAuditOf}
 use Rattle.auditorium_core.proofs.Imports.{IsAuditOver, audit_parts, IsCarriedOut}
-use Rattle.std.specs.List.{Contains}
 use Rattle.auditorium_core.proofs.SameOr.{same_or}
 use Rattle.auditorium_core.proofs.CommandProofs.{HasStatuses, IsCompleted, HasOneAnswer, contains_as, carried_out_as}
 use Rattle.auditorium_core.proofs.CommandProofs.{of_read}

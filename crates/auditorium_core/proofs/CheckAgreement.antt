@@ -1,16 +1,16 @@
 -- A check by the proof that `prove` writes agrees with an audit.
 use Rattle.std.proofs.Common.{length, Option, Some}
 use Rattle.auditorium_core.proofs.Imports.{◌≡◌, ◌∙◌, ℕ, ◌≤◌, List, [], ◌∷◌, ◌++◌, map, inl, inr, refl, sym, ap, subst}
-use Rattle.auditorium_core.proofs.Imports.{Result, Ok, Err, length-map, Three, False, Unknown, True, Post}
+use Rattle.auditorium_core.proofs.Imports.{Ok, Err, length-map, Post}
 use Rattle.auditorium_core.proofs.Imports.{SealedEntry, EntryGraph, parents_of, ragged_of, LogRead, Row}
 use Rattle.auditorium_core.proofs.Imports.{standard_rules, RuleTree, three_in, IsJudged, verdict_of, IsCheckAnswer}
 use Rattle.auditorium_core.proofs.Imports.{IsCanonicalText, IsCanonicalProof, three_by, Line, canonical_full}
-use Rattle.auditorium_core.proofs.Imports.{full_proofs_say_all, RosterRead, Refusal, absent, refused, GivesRoster}
-use Rattle.auditorium_core.proofs.Imports.{GivesLogs, entries_of, GivesGraph, SameLogs, SameGraph, same_entries}
-use Rattle.auditorium_core.proofs.Imports.{WithGraph, WithLogs, WithRules, WithRoster, GivesReport, nodes_of}
+use Rattle.auditorium_core.proofs.Imports.{full_proofs_say_all, RosterRead, Refusal, absent, refused}
+use Rattle.auditorium_core.proofs.Imports.{entries_of, GivesGraph, SameLogs, SameGraph, same_entries}
+use Rattle.auditorium_core.proofs.Imports.{WithGraph, WithRules, GivesReport, nodes_of}
 use Rattle.auditorium_core.proofs.Imports.{AreJudged, AuditReport, report_on, row_of, RuleSource, standard, in_file}
 use Rattle.auditorium_core.proofs.Imports.{files_read, Answer, refusal_answer, source_named, ProofMade, ProvesFiles}
-use Rattle.auditorium_core.proofs.Imports.{GivesMade, proof_answer, IsProofOver, max_proof, GivesProof, CheckReport}
+use Rattle.auditorium_core.proofs.Imports.{GivesMade, proof_answer, max_proof, CheckReport}
 use Rattle.auditorium_core.proofs.Imports.{AreChecked, ChecksLogs, ChecksFiles, GivesCheck, IsCheckOver, check_answer}
 use Rattle.auditorium_core.proofs.Imports.{without_entries, ChecksAgreeWithAudits}
 use Rattle.rule_engine.specs.declared.verdict.Verdict.{Verdict as AuditVerdict}

@@ -1,23 +1,23 @@
 -- What `check` reads, and what it makes of it.
-use Rattle.std.proofs.Common.{Bool, true, false, Option, Some}
+use Rattle.std.proofs.Common.{Bool, true, false, Option, Some, length}
 use Rattle.auditorium_core.proofs.Imports.{◌≡◌, ◌≢◌, ◌∙◌, ℕ, cond, List, [], ◌∷◌, ◌++◌, map, None, inl, inr, refl}
 use Rattle.auditorium_core.proofs.Imports.{sym, ap, subst, Result, Ok, Err, IfOk, IfErr, IfSome, bytes_eq}
-use Rattle.auditorium_core.proofs.Imports.{bytes_eq-Decides, Files, OnSomeFile, IsFileRefused, Graph, Post}
-use Rattle.auditorium_core.proofs.Imports.{SealedEntry, EntryGraph, LogRead, standard_rules, RuleTree, Line}
-use Rattle.auditorium_core.proofs.Imports.{AuditFault, RosterRead, Refusal, refused, too_long, refusal_of, IsAbsent}
-use Rattle.auditorium_core.proofs.Imports.{IsFaultOf, GivesRosterIn, GivesLogs, GivesLogsIn, AreFiles, entries_of}
-use Rattle.auditorium_core.proofs.Imports.{GivesGraph, StoreSeen, IsReadFrom, some_files, of_refusal, on_refusal}
-use Rattle.auditorium_core.proofs.Imports.{read_then, read_ends, read_last, nodes_of, row_of, RuleSource, standard}
-use Rattle.auditorium_core.proofs.Imports.{in_file, source_word, rule_files, max_rules, GivesRules, Checked}
-use Rattle.auditorium_core.proofs.Imports.{Unchecked, source_named, ChecksLines, max_proof, GivesProof, GivesProofIn}
-use Rattle.auditorium_core.proofs.Imports.{report_by, IsUnchecked, ChecksProofIn, ChecksLogsIn, ChecksFilesIn}
-use Rattle.auditorium_core.proofs.Imports.{ChecksRulesIn, GivesCheckIn}
+use Rattle.auditorium_core.proofs.Imports.{bytes_eq-Decides, StoreGhosts, IsFileRefused, Graph, Post, SealedEntry}
+use Rattle.auditorium_core.proofs.Imports.{EntryGraph, LogRead, RuleTree, Line, IsProofOf, AuditFault, RosterRead}
+use Rattle.auditorium_core.proofs.Imports.{Refusal, refused, too_long, refusal_of, IsAbsent, IsFaultOf, GivesLogs}
+use Rattle.auditorium_core.proofs.Imports.{entries_of, GivesGraph, OnOneFile, IsReadFrom, IsReadFromFile, of_refusal}
+use Rattle.auditorium_core.proofs.Imports.{on_refusal, read_then, read_ends, some_as_read, AndThen, nodes_of, row_of}
+use Rattle.auditorium_core.proofs.Imports.{RuleSource, standard, in_file, source_word, max_rules, GivesRules, Checked}
+use Rattle.auditorium_core.proofs.Imports.{Unchecked, source_named, CheckReport, ChecksFiles, ChecksLines, ChecksLogs}
+use Rattle.auditorium_core.proofs.Imports.{ChecksProof, max_proof, GivesProof, report_by, IsUnchecked}
+use Rattle.auditorium_core.proofs.Imports.{of_one, on_one, and_then, and_refused}
 use Rattle.std.specs.Prelude.{codes}
 use Rattle.hall_outside.specs.declared.reading.FileFault.TheVariants as file
 use Rattle.evidence.specs.declared.fault.AuditFault.TheVariants.{ReadFault}
 use Rattle.auditorium_core.specs.declared.check.Unchecked.TheVariants.{TooWide}
+use Rattle.auditorium_core.proofs.CheckSound.{proof_of}
 use Rattle.auditorium_core.proofs.ProveAnswers.{graph_not_absent}
-use Rattle.auditorium_core.proofs.ReadSteps.{ok_as, err_as, read_as, refused_unread, files_more}
+use Rattle.auditorium_core.proofs.ReadSteps.{read_as, refused_unread}
 
 -- a proof's file that is too long is refused as too long
 pub long_proof : (name : List ℕ) (graph : Graph) (this : Option (List ℕ)) →
@@ -61,165 +61,123 @@ too_wide_checked machines word rules given graph lines unchecked place fault sam
       refl,
     ))
 
-module _ (machines : List Post) (source : RuleSource) (rules : List RuleTree) (proof : List ℕ) where
-  module _ {P : Type 0} (lines_of : P → List Line) (graph : EntryGraph SealedEntry) (old new : StoreSeen) where
+module _ {S P : Type 0} (of : StoreGhosts S) (proof : List ℕ) (lines_of : P → List Line)
+    (graph : EntryGraph SealedEntry)
+    (old new : S) where
+  -- what the proof's file gives over the graph
+  abbrev Lines : List (Option (List ℕ)) → Result (List Line) Refusal → Type 0
+  Lines files answer = OnOneFile (λ file. GivesProof proof (nodes_of graph) file answer) files
+
+  -- what was read is a proof for the graph
+  pub proof_read : (read : P) → IsReadFromFile of lines_of proof (GivesProof proof (nodes_of graph)) old (Ok read) new
+      → IsProofOf (nodes_of graph) (lines_of read)
+  proof_read read given =
+      let (files, gives) = some_as_read of (proof ∷ []) (λ files. Lines files (Ok (lines_of read))) old new given.ok.0
+      in
+      on_one (λ file. GivesProof proof (nodes_of graph) file (Ok (lines_of read)))
+      (λ fs. IsProofOf (nodes_of graph) (lines_of read)) files
+      (λ file gives. proof_of proof graph file (lines_of read) gives) gives
+
+  module _ (machines : List Post) (source : RuleSource) (rules : List RuleTree) where
+    -- what the rules come to by the proof's file
+    abbrev Checks : List (Option (List ℕ)) → Result CheckReport Refusal → Type 0
+    Checks files answer = OnOneFile (λ file. ChecksProof machines source rules proof file graph answer) files
+
+    -- what the list of one file gives, its file gives
+    in_one : (files : List (Option (List ℕ))) (answer : Result CheckReport Refusal)
+        → AndThen (Lines files) (ChecksLines machines source rules graph) answer → Checks files answer
+    in_one [] answer (inl (lines, gives, is)) = absurd gives
+    in_one [] answer (inr (refusal, gives, is)) = absurd gives
+    in_one (file ∷ []) answer is = is
+    in_one (file ∷ other ∷ files) answer (inl (lines, gives, is)) = absurd gives
+    in_one (file ∷ other ∷ files) answer (inr (refusal, gives, is)) = absurd gives
+
     -- the proof is read, and the rules are checked by it or refused
-    pub proof_checked : (read : P) (result : Result Checked AuditFault) →
-        IsReadFrom lines_of (GivesProofIn proof (nodes_of graph)) old (Ok read) new →
-        IfOk result (λ checked. ChecksLines machines source rules graph (lines_of read) (Ok (report_by checked))) →
-        IfErr result (λ fault. IfSome (refusal_of fault)
-        (λ refusal. ChecksLines machines source rules graph (lines_of read) (Err refusal))) →
-        IfErr result (λ fault. (fault ≢ ReadFault) × (¬ IsAbsent fault)) →
-        IsReadFrom report_by (ChecksProofIn machines source rules proof graph) old result new
+    pub proof_checked : (read : P) (result : Result Checked AuditFault)
+        → IsReadFromFile of lines_of proof (GivesProof proof (nodes_of graph)) old (Ok read) new
+        → IfOk result (λ checked. ChecksLines machines source rules graph (lines_of read) (Ok (report_by checked)))
+        → IfErr result (λ fault. IfSome (refusal_of fault)
+        (λ refusal. ChecksLines machines source rules graph (lines_of read) (Err refusal)))
+        → IfErr result (λ fault. (fault ≢ ReadFault) × (¬ IsAbsent fault))
+        → IsReadFromFile of report_by proof (λ file. ChecksProof machines source rules proof file graph) old result new
     proof_checked read result given ok err only =
-        let (this, at, gives) = given.ok in
-        read_last lines_of (GivesProofIn proof (nodes_of graph)) report_by
-        (ChecksProofIn machines source rules proof graph) old new read result given
-        (ok_as result (λ checked. ChecksLines machines source rules graph (lines_of read) (Ok (report_by checked)))
-        (λ checked. ChecksProofIn machines source rules proof graph old.files (Ok (report_by checked)))
-        (λ checked is. (this, at, inl (lines_of read, gives, is))) ok)
-        (err_as result (λ refusal. ChecksLines machines source rules graph (lines_of read) (Err refusal))
-        (λ refusal. ChecksProofIn machines source rules proof graph old.files (Err refusal))
-        (λ refusal is. (this, at, inl (lines_of read, gives, is))) err)
-        only
+        read_as of report_by (proof ∷ [])
+        (λ files answer. AndThen (Lines files) (ChecksLines machines source rules graph) answer) Checks old new result
+        (and_then of lines_of (proof ∷ []) Lines report_by (ChecksLines machines source rules graph) old new read result
+        given ok err only) in_one
 
     -- a refusal of the proof's file is that of the check
-    pub proof_refused : (fault : AuditFault) →
-        IsReadFrom lines_of (GivesProofIn proof (nodes_of graph)) old (Err fault) new →
-        IsReadFrom report_by (ChecksProofIn machines source rules proof graph) old (Err fault) new
+    pub proof_refused : (fault : AuditFault)
+        → IsReadFromFile of lines_of proof (GivesProof proof (nodes_of graph)) old (Err fault) new
+        → IsReadFromFile of report_by proof (λ file. ChecksProof machines source rules proof file graph) old (Err fault)
+        new
     proof_refused fault given =
-        read_ends lines_of (GivesProofIn proof (nodes_of graph)) report_by
-        (ChecksProofIn machines source rules proof graph) old new fault given
-        (λ refusal (this, at, gives). (this, at, inr (refusal, gives, refl)))
+        read_as of report_by (proof ∷ [])
+        (λ files answer. AndThen (Lines files) (ChecksLines machines source rules graph) answer) Checks old new
+        (Err fault)
+        (and_refused of lines_of (proof ∷ []) Lines report_by (ChecksLines machines source rules graph) old new fault
+        given) in_one
+
+module _ {S : Type 0} (of : StoreGhosts S) (machines : List Post) (source : RuleSource) (rules : List RuleTree)
+    (proof : List ℕ) (logs : List LogRead) where
+  -- what the rules come to by the logs and the proof's file
+  abbrev ChecksOne : List (Option (List ℕ)) → Result CheckReport Refusal → Type 0
+  ChecksOne files answer = OnOneFile (λ file. ChecksLogs machines source rules proof file logs answer) files
 
   -- the logs have a graph
-  pub graph_checked : (logs : List LogRead) (graph : EntryGraph SealedEntry) (old new : StoreSeen)
-      (result : Result Checked AuditFault) → GivesGraph (entries_of logs) (Ok graph) →
-      IsReadFrom report_by (ChecksProofIn machines source rules proof graph) old result new →
-      IsReadFrom report_by (ChecksLogsIn machines source rules proof logs) old result new
-  graph_checked logs graph old new result gives read =
-      read_as report_by (ChecksProofIn machines source rules proof graph)
-      (ChecksLogsIn machines source rules proof logs) old new result read
-      (λ answer (this, at, is). (this, at, inl (graph, gives, is)))
+  pub graph_checked : (graph : EntryGraph SealedEntry) (old new : S) (result : Result Checked AuditFault)
+      → GivesGraph (entries_of logs) (Ok graph)
+      → IsReadFromFile of report_by proof (λ file. ChecksProof machines source rules proof file graph) old result new
+      → IsReadFromFile of report_by proof (λ file. ChecksLogs machines source rules proof file logs) old result new
+  graph_checked graph old new result gives read =
+      read_as of report_by (proof ∷ [])
+      (λ files answer. OnOneFile (λ file. ChecksProof machines source rules proof file graph answer) files) ChecksOne
+      old
+      new result read
+      (λ files answer. on_one (λ file. ChecksProof machines source rules proof file graph answer)
+      (λ fs. ChecksOne fs answer) files (λ file is. inl (graph, gives, is)))
 
-  -- a refusal of the graph is that of the check
-  pub graph_refused : (logs : List LogRead) (seen : StoreSeen) (fault : AuditFault) →
-      IfSome (refusal_of fault) (λ refusal. GivesGraph (entries_of logs) (Err refusal)) → fault ≢ ReadFault →
-      IsReadFrom report_by (ChecksLogsIn machines source rules proof logs) seen (Err fault) seen
-  graph_refused logs seen fault err no_read =
-      let (files, are) = some_files seen.files (proof ∷ []) in
-      refused_unread report_by (ChecksLogsIn machines source rules proof logs) seen fault
+  -- a refusal of the graph is that of the check, whatever the proof's file is, which isn't read
+  pub graph_refused : (now : S) (fault : AuditFault)
+      → IfSome (refusal_of fault) (λ refusal. GivesGraph (entries_of logs) (Err refusal)) → fault ≢ ReadFault
+      → IsReadFromFile of report_by proof (λ file. ChecksLogs machines source rules proof file logs) now (Err fault) now
+  graph_refused now fault err no_read =
+      refused_unread of report_by (proof ∷ []) ChecksOne now fault
       (on_refusal (λ refusal. GivesGraph (entries_of logs) (Err refusal))
-      (λ refusal. ChecksLogsIn machines source rules proof logs seen.files (Err refusal)) (refusal_of fault)
-      (λ refusal gives. there files are refusal gives) err)
+      (λ refusal. (files : List (Option (List ℕ))) → length files ≡ 1 → ChecksOne files (Err refusal))
+      (refusal_of fault)
+      (λ refusal gives files one. of_one (λ fs. ChecksOne fs (Err refusal)) files one
+      (λ file. inr (refusal, gives, refl))) err)
       no_read (graph_not_absent (entries_of logs) fault err)
-    where
-      -- with a proof's file that isn't read
-      there : (files : List (Option (List ℕ))) → AreFiles seen.files (proof ∷ []) files → (refusal : Refusal) →
-          GivesGraph (entries_of logs) (Err refusal) →
-          ChecksLogsIn machines source rules proof logs seen.files (Err refusal)
-      there [] are refusal gives = absurd are
-      there (this ∷ files) are refusal gives = (this, are.0, inr (refusal, gives, refl))
 
-module _ (read : RosterRead) (source : RuleSource) (rules : List RuleTree) (proof : List ℕ)
-    (names : List (List ℕ)) where
-  module _ {L : Type 0} (items : L → List LogRead) where
-    -- the logs are read before the proof
-    pub logs_then : (old mid new : StoreSeen) (logs : L) (result : Result Checked AuditFault) →
-        IsReadFrom items (GivesLogsIn read.roster.machines read.election names) old (Ok logs) mid →
-        IsReadFrom report_by (ChecksLogsIn read.roster.machines source rules proof (items logs)) mid result new →
-        IsReadFrom report_by (ChecksFilesIn read source rules proof names) old result new
-    logs_then old mid new logs result first rest =
-        read_then items (GivesLogsIn read.roster.machines read.election names) report_by
-        (ChecksLogsIn read.roster.machines source rules proof (items logs)) (ChecksFilesIn read source rules proof names)
-        old mid new logs result first rest
-        (λ answer (files, are, gives) (this, at, with). (
-          files ++ this ∷ [],
-          files_more old.files names files proof this are at,
-          (files, this, refl, inl (items logs, gives, with)),
-        ))
+module _ {S : Type 0} (of : StoreGhosts S) (read : RosterRead) (source : RuleSource) (rules : List RuleTree)
+    (proof : List ℕ) (names : List (List ℕ)) {L : Type 0} (items : L → List LogRead) where
+  -- what the files of the logs give
+  abbrev Logs : List (Option (List ℕ)) → Result (List LogRead) Refusal → Type 0
+  Logs = GivesLogs read.roster.machines read.election names
 
-    -- a refusal of the logs is that of the check
-    pub logs_end : (old new : StoreSeen) (fault : AuditFault) →
-        IsReadFrom items (GivesLogsIn read.roster.machines read.election names) old (Err fault) new →
-        IsReadFrom report_by (ChecksFilesIn read source rules proof names) old (Err fault) new
-    logs_end old new fault first =
-        let (last, is) = some_files old.files (proof ∷ []) in
-        read_ends items (GivesLogsIn read.roster.machines read.election names) report_by
-        (ChecksFilesIn read source rules proof names) old new fault first
-        (λ refusal (files, are, gives). there last is refusal files are gives)
-      where
-        -- with a proof's file that isn't read
-        there : (last : List (Option (List ℕ))) → AreFiles old.files (proof ∷ []) last → (refusal : Refusal)
-            (files : List (Option (List ℕ))) → AreFiles old.files names files →
-            GivesLogs read.roster.machines read.election names files (Err refusal) →
-            ChecksFilesIn read source rules proof names old.files (Err refusal)
-        there [] is refusal files are gives = absurd is
-        there (this ∷ rest) is refusal files are gives = (
-          files ++ this ∷ [],
-          files_more old.files names files proof this are is.0,
-          (files, this, refl, inr (refusal, gives, refl)),
-        )
+  -- the logs are read before the proof
+  pub logs_then : (old mid new : S) (logs : L) (result : Result Checked AuditFault)
+      → IsReadFrom of items names Logs old (Ok logs) mid
+      → IsReadFromFile of report_by proof
+      (λ file. ChecksLogs read.roster.machines source rules proof file (items logs)) mid result new
+      → IsReadFrom of report_by (names ++ proof ∷ []) (ChecksFiles read source rules proof names) old result new
+  logs_then old mid new logs result first next =
+      read_then of items names Logs report_by (proof ∷ [])
+      (λ files answer. OnOneFile
+      (λ file. ChecksLogs read.roster.machines source rules proof file (items logs) answer) files)
+      (ChecksFiles read source rules proof names) old mid new logs result first next
+      (λ answer files rest long one gives. on_one
+      (λ file. ChecksLogs read.roster.machines source rules proof file (items logs) answer)
+      (λ last. ChecksFiles read source rules proof names (files ++ last) answer) rest
+      (λ file is. (files, file, refl, inl (items logs, gives, is))))
 
-module _ (read : RosterRead) (source : RuleSource) (proof : List ℕ) (names : List (List ℕ)) where
-  -- the standard rules are there
-  pub standard_then : (rules : List RuleTree) (old new : StoreSeen) (result : Result Checked AuditFault) →
-      source ≡ standard → rules ≡ standard_rules →
-      IsReadFrom report_by (ChecksFilesIn read source rules proof names) old result new →
-      IsReadFrom report_by (ChecksRulesIn read source proof names) old result new
-  standard_then rules old new result is same given =
-      let P : RuleSource → Type 0 = λ s. IsReadFrom report_by (ChecksRulesIn read s proof names) old result new in
-      let Q : RuleSource → Type 0 = λ s. IsReadFrom report_by (ChecksFilesIn read s rules proof names) old result new in
-      let R : List RuleTree → Type 0 = λ trees.
-      IsReadFrom report_by (ChecksFilesIn read standard trees proof names) old result new in
-      subst P (sym is) (subst R same (subst Q is given))
-
-  module _ {R : Type 0} (trees : R → List RuleTree) (name : List ℕ) (is : source ≡ in_file name) where
-    -- what is read of a file of rules
-    abbrev Rules : Option Files → Result (List RuleTree) Refusal → Type 0
-    Rules told answer = OnSomeFile told name (λ this. GivesRules name this answer)
-
-    -- the rules of a file are read before the logs
-    pub rules_then : (old mid new : StoreSeen) (rules : R) (result : Result Checked AuditFault) →
-        IsReadFrom trees Rules old (Ok rules) mid →
-        IsReadFrom report_by (ChecksFilesIn read source (trees rules) proof names) mid result new →
-        IsReadFrom report_by (ChecksRulesIn read source proof names) old result new
-    rules_then old mid new rules result first rest =
-        let P : RuleSource → Type 0 = λ s. IsReadFrom report_by (ChecksRulesIn read s proof names) old result new in
-        let Q : RuleSource → Type 0 = λ s.
-        IsReadFrom report_by (ChecksFilesIn read s (trees rules) proof names) mid result new in
-        subst P (sym is)
-        (read_then trees Rules report_by (ChecksFilesIn read (in_file name) (trees rules) proof names)
-        (ChecksRulesIn read (in_file name) proof names) old mid new rules result first (subst Q is rest)
-        (λ answer (this, at, gives) (files, are, with). (this ∷ files, (at, are), inl (trees rules, gives, with))))
-
-    -- a refusal of the file of the rules is that of the check
-    pub rules_end : (old new : StoreSeen) (fault : AuditFault) → IsReadFrom trees Rules old (Err fault) new →
-        IsReadFrom report_by (ChecksRulesIn read source proof names) old (Err fault) new
-    rules_end old new fault first =
-        let P : RuleSource → Type 0 = λ s.
-        IsReadFrom report_by (ChecksRulesIn read s proof names) old (Err fault) new in
-        let rest = some_files old.files (names ++ proof ∷ []) in
-        subst P (sym is)
-        (read_ends trees Rules report_by (ChecksRulesIn read (in_file name) proof names) old new fault first
-        (λ refusal (this, at, gives). (this ∷ rest.0, (at, rest.1), inr (refusal, gives, refl))))
-
-module _ (roster : List ℕ) (source : RuleSource) (proof : List ℕ) (names : List (List ℕ)) where
-  -- the roster is read first
-  pub roster_then : (old mid new : StoreSeen) (read : RosterRead) (result : Result Checked AuditFault) →
-      IsReadFrom (λ (r : RosterRead). r) (GivesRosterIn roster) old (Ok read) mid →
-      IsReadFrom report_by (ChecksRulesIn read source proof names) mid result new →
-      IsReadFrom report_by (GivesCheckIn roster source proof names) old result new
-  roster_then old mid new read result first rest =
-      read_then (λ (r : RosterRead). r) (GivesRosterIn roster) report_by (ChecksRulesIn read source proof names)
-      (GivesCheckIn roster source proof names) old mid new read result first rest
-      (λ answer (this, at, gives) (files, are, with). (this ∷ files, (at, are), inl (read, gives, with)))
-
-  -- a refusal of the roster is that of the check
-  pub roster_end : (old new : StoreSeen) (fault : AuditFault) →
-      IsReadFrom (λ (r : RosterRead). r) (GivesRosterIn roster) old (Err fault) new →
-      IsReadFrom report_by (GivesCheckIn roster source proof names) old (Err fault) new
-  roster_end old new fault first =
-      let rest = some_files old.files (rule_files source ++ (names ++ proof ∷ [])) in
-      read_ends (λ (r : RosterRead). r) (GivesRosterIn roster) report_by (GivesCheckIn roster source proof names) old new
-      fault first (λ refusal (this, at, gives). (this ∷ rest.0, (at, rest.1), inr (refusal, gives, refl)))
+  -- a refusal of the logs is that of the check, whatever the proof's file is, which isn't read
+  pub logs_end : (old new : S) (fault : AuditFault) → IsReadFrom of items names Logs old (Err fault) new
+      → IsReadFrom of report_by (names ++ proof ∷ []) (ChecksFiles read source rules proof names) old (Err fault) new
+  logs_end old new fault first =
+      read_ends of items names Logs report_by (proof ∷ []) (ChecksFiles read source rules proof names) old new fault
+      first
+      (λ refusal files rest long one gives. of_one
+      (λ last. ChecksFiles read source rules proof names (files ++ last) (Err refusal)) rest one
+      (λ file. (files, file, refl, inr (refusal, gives, refl))))

@@ -1,10 +1,9 @@
 -- The command `check`.
-use Rattle.std.proofs.Common.{Option}
-use Rattle.auditorium_core.proofs.Imports.{◌≡◌, ◌≢◌, ◌∙◌, ℕ, List, [], ◌∷◌, inl, inr, refl, sym, ap, arith, Result}
-use Rattle.auditorium_core.proofs.Imports.{Ok, Err, All-from_recursion, Files, RuleTree, Refusal, Status, Answer}
-use Rattle.auditorium_core.proofs.Imports.{refusal_answer, source_named, CheckReport, GivesCheck, IsCheckOf}
-use Rattle.auditorium_core.proofs.Imports.{verdict_on_all, checked_status, check_answer, check_parts, check}
-use Rattle.auditorium_core.proofs.Imports.{IsAnswerTo, IsCarriedOut, GivesCheckIn}
+use Rattle.auditorium_core.proofs.Imports.{◌≢◌, ◌∙◌, ℕ, List, [], ◌∷◌, inl, inr, refl, sym, ap, arith}
+use Rattle.auditorium_core.proofs.Imports.{Ok, Err, All-from_recursion, RuleTree, Status}
+use Rattle.auditorium_core.proofs.Imports.{source_named, CheckReport, GivesCheck, IsCheckOf}
+use Rattle.auditorium_core.proofs.Imports.{verdict_on_all, checked_status, check_answer, check_parts}
+use Rattle.auditorium_core.proofs.Imports.{IsCarriedOut}
 use Rattle.std.specs.List.{Contains}
 use Rattle.audit_proof.specs.declared.fault.Verdict.{Verdict}
 use Rattle.audit_proof.specs.declared.fault.Verdict.TheVariants.{Kept, Broken, Unsettled}
@@ -65,17 +64,3 @@ pub verdict_not_absent : (verdict : Verdict) → checked_status verdict ≢ stat
 verdict_not_absent Kept e = cc
 verdict_not_absent Broken e = cc
 verdict_not_absent Unsettled e = cc
-
-module _ (roster rules proof : List ℕ) (logs : List (List ℕ)) (told : Option Files) where
-  -- a refusal is answered
-  pub check_refused : (refusal : Refusal) → GivesCheckIn roster (source_named rules) proof logs told (Err refusal) →
-      IsAnswerTo (check roster rules proof logs) told (refusal_answer refusal)
-  check_refused refusal (files, are, gives) = (files, are, inl (refusal, gives, refl))
-
-  -- a report is answered, with what it says of all that there may have been
-  pub check_told : (report : CheckReport) (answer : Answer) →
-      ((files : List (Option (List ℕ))) → GivesCheck roster (source_named rules) proof logs files (Ok report) →
-      IsCheckOf report answer) →
-      GivesCheckIn roster (source_named rules) proof logs told (Ok report) →
-      IsAnswerTo (check roster rules proof logs) told answer
-  check_told report answer right (files, are, gives) = (files, are, inr (report, gives, right files gives))

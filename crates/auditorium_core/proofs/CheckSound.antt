@@ -1,17 +1,17 @@
 -- What a check says holds, whoever made the proof.
 use Rattle.std.proofs.Common.{length, Option, Some}
-use Rattle.auditorium_core.proofs.Imports.{◌≡◌, ◌≢◌, ◌∙◌, ℕ, List, [], ◌∷◌, ◌++◌, map, None, inl, inr, refl, suc, sym}
+use Rattle.auditorium_core.proofs.Imports.{◌≡◌, ◌≢◌, ◌∙◌, ℕ, List, [], ◌∷◌, map, None, inl, inr, refl, suc, sym}
 use Rattle.auditorium_core.proofs.Imports.{ap, subst, Result, Ok, Err, AllZip, length-map, Three, False, Unknown}
-use Rattle.auditorium_core.proofs.Imports.{True, Completion, Post, SealedEntry, node_of, Plain, plains, EntryGraph}
+use Rattle.auditorium_core.proofs.Imports.{True, Post, SealedEntry, Plain, EntryGraph}
 use Rattle.auditorium_core.proofs.Imports.{parents_of, ragged_of, LogRead, Row, standard_rules, RuleTree, IsLessKnown}
 use Rattle.auditorium_core.proofs.Imports.{three_in, verdict_of, IsCheckAnswer, three_by, Line, IsProofOf}
-use Rattle.auditorium_core.proofs.Imports.{ProofsSayNoMore, RosterRead, entries_of, GivesGraph, Refusal, GivesLogs}
+use Rattle.auditorium_core.proofs.Imports.{ProofsSayNoMore, RosterRead, entries_of, GivesGraph, Refusal}
 use Rattle.auditorium_core.proofs.Imports.{HaveMakers, row_of, row_said, nodes_of, RuleSource, standard, in_file}
 use Rattle.auditorium_core.proofs.Imports.{logs_have_makers, survivors_have_makers, plain_rules, Answer, GivesProof}
 use Rattle.auditorium_core.proofs.Imports.{CheckReport, AreChecked, ChecksLines, ChecksProof, ChecksLogs, ChecksFiles}
 use Rattle.auditorium_core.proofs.Imports.{ChecksRules, GivesCheck, MayBeAll, HoldsAmong, IsCheckOf, check_answer}
 use Rattle.audit_proof.specs.declared.fault.Verdict.{Verdict}
-use Rattle.audit_proof.specs.declared.fault.Verdict.TheVariants.{Kept, Broken, Unsettled}
+use Rattle.audit_proof.specs.declared.fault.Verdict.TheVariants.{Kept, Broken}
 use Rattle.auditorium_core.proofs.PlainSurvivors.{some_completion}
 
 -- lists that go together have one length

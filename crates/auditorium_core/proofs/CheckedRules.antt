@@ -1,11 +1,11 @@
 -- Rules checked one after another.
-use Rattle.std.proofs.Common.{length, true}
-use Rattle.std.proofs.Common.{false, Some}
+use Rattle.std.proofs.Common.{length}
+use Rattle.std.proofs.Common.{Some}
 use Rattle.auditorium_core.proofs.Imports.{◌≡◌, ◌∙◌, ℕ, zero, suc, ◌+◌, ◌<◌, List, [], ◌∷◌, ◌++◌, take, get_or, map}
 use Rattle.auditorium_core.proofs.Imports.{ap, sym, subst, arith, slice_get, Ok, Err, all_zipped_more, take_more}
-use Rattle.auditorium_core.proofs.Imports.{map-append, Graph, Rule, Row, RuleTree, rule_tree, is_too_wide, CheckFault}
+use Rattle.auditorium_core.proofs.Imports.{map-append, Graph, Rule, Row, RuleTree, rule_tree, CheckFault}
 use Rattle.auditorium_core.proofs.Imports.{IsCheckAnswer, Line, IsFirstTooWide, AreChecked}
-use Rattle.audit_proof.specs.declared.fault.CheckFault.TheVariants.{TooWide, Memory}
+use Rattle.audit_proof.specs.declared.fault.CheckFault.TheVariants.{TooWide}
 use Rattle.audit_proof.specs.declared.fault.Verdict.{Verdict}
 use Rattle.auditorium_core.proofs.OneProof.{checked_is_narrow}
 

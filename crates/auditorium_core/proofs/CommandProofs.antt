@@ -1,6 +1,6 @@
 -- What is shown of each command.
 use Rattle.std.proofs.Common.{Option}
-use Rattle.auditorium_core.proofs.Imports.{◌≡◌, List, ℕ, inl, inr, ap, sym, subst, Result, Ok, Err, ⊤, Refusal}
+use Rattle.auditorium_core.proofs.Imports.{◌≡◌, List, ℕ, inl, inr, ap, sym, subst, Result, ⊤, Refusal}
 use Rattle.auditorium_core.proofs.Imports.{absent, refused, Status, Answer, OrRefused, refusal_answer, CommandParts}
 use Rattle.auditorium_core.proofs.Imports.{IsCarriedOut}
 use Rattle.std.specs.List.{All, Contains}

@@ -1,9 +1,10 @@
 -- What is shown of each command, by its own file. The tables are in the order of the words.
-use Rattle.auditorium_core.proofs.Imports.{◌≡◌, ◌∙◌, ℕ, ◌+◌, ◌*◌, List, [], ◌∷◌, get_or, ap, sym, arith, Ok, decimal}
-use Rattle.auditorium_core.proofs.Imports.{decimal_injective, decode_of, encode_lower, decode_of-encode_lower}
-use Rattle.auditorium_core.proofs.Imports.{AreSessions, IsOfficeSeed, Command, audit, check, demonstrate, endorse}
-use Rattle.auditorium_core.proofs.Imports.{endorsed, generate, office, order, prove, repair, run, watch}
-use Rattle.auditorium_core.proofs.Imports.{command_parts, IsStill, Means}
+use Rattle.std.proofs.Common.{Option}
+use Rattle.auditorium_core.proofs.Imports.{◌≡◌, ◌∙◌, ℕ, List, [], ◌∷◌, get_or, inl, inr, ap, sym, subst, arith}
+use Rattle.auditorium_core.proofs.Imports.{Ok, decimal, decimal_injective, decode_of, encode_lower}
+use Rattle.auditorium_core.proofs.Imports.{decode_of-encode_lower, AreSessions, IsOfficeSeed, Command, audit, check}
+use Rattle.auditorium_core.proofs.Imports.{demonstrate, endorse, endorsed, generate, office, order, prove, repair, run}
+use Rattle.auditorium_core.proofs.Imports.{watch, command_parts, IsStill, Means, Answer, AnswersWords}
 use Rattle.std.specs.Prelude.{codes}
 use Rattle.auditorium_core.specs.Words.{gaps}
 use Rattle.auditorium_core.specs.Words.{play}
@@ -136,3 +137,13 @@ same_command words a b m n =
     let second : name_byte 1 (command_parts a).words ≡ name_byte 1 (command_parts b).words = ap (name_byte 1) e in
     let eighth : name_byte 7 (command_parts a).words ≡ name_byte 7 (command_parts b).words = ap (name_byte 7) e in
     absurd (omega (arith, first, second, eighth))
+
+-- an answer that is right for words is that of the command that they mean
+pub of_command : (IsDone : Command → Type 0) (words : List (List ℕ))
+    (OnFiles : List (List ℕ) → (List (Option (List ℕ)) → Type 0) → Type 0) (command : Command) (answer : Answer) →
+    IsDone command → Means words command → AnswersWords IsDone words OnFiles answer →
+    OnFiles (command_parts command).files (λ files. (command_parts command).IsAnswer files answer)
+of_command IsDone words OnFiles command answer done means (inl (other, done', means', is)) =
+    let P : Command → Type 0 = λ c. OnFiles (command_parts c).files (λ files. (command_parts c).IsAnswer files answer)
+    in subst P (same_command words other command means' means) is
+of_command IsDone words OnFiles command answer done means (inr (bad, e, on)) = absurd (bad (command, done, means))

@@ -12,7 +12,7 @@ use Rattle.auditorium_core.proofs.Imports.{some_machine, Fault, Answer, IsAnswer
 use Rattle.auditorium_core.proofs.Imports.{IsHalfOf, GivesDemonstration, TellsNoneBroken, demonstration_answer}
 use Rattle.auditorium_core.proofs.Imports.{one_order, entries_of, scripts_are_honest, IsReport, report_on, row_of}
 use Rattle.auditorium_core.proofs.Imports.{logs_have_makers, survivors_have_makers}
-use Rattle.std.proofs.Common.{◌⊎◌, Bool, false, length}
+use Rattle.std.proofs.Common.{Bool, false, length}
 use Rattle.std.proofs.Common.{Contains, Option, Some}
 use Rattle.std.specs.Prelude.{codes}
 use Rattle.rule_engine.specs.declared.verdict.Verdict.{Verdict}

@@ -2,12 +2,11 @@
 use Rattle.std.proofs.Common.{Option, Some}
 use Rattle.auditorium_core.proofs.Imports.{agree_equal, ◌≡◌, ◌≢◌, ◌∙◌, ℕ, ◌<◌, List, [], ◌∷◌, None, inl, inr, refl}
 use Rattle.auditorium_core.proofs.Imports.{sym, ap, subst, arith, Result, Ok, Err, IsSomeAnd, All-from_recursion}
-use Rattle.auditorium_core.proofs.Imports.{Files, IsFileRefused, Office, IsOffice, max_signatures, one_office, Refusal}
-use Rattle.auditorium_core.proofs.Imports.{refused, too_long, OnFiles, Answer, refusal_answer, AtLast, FileThen}
+use Rattle.auditorium_core.proofs.Imports.{IsFileRefused, Office, IsOffice, max_signatures, one_office, Refusal}
+use Rattle.auditorium_core.proofs.Imports.{too_long, Answer, AtLast, FileThen}
 use Rattle.auditorium_core.proofs.Imports.{GivesBytes, max_signed, max_small, GivesOffice, GivesOfficeOf, GivesUnspent}
 use Rattle.auditorium_core.proofs.Imports.{office_file, GivesUnsigned, IsEndorsement, Unsigned, endorse_answer}
-use Rattle.auditorium_core.proofs.Imports.{endorse_parts, endorse, IsAnswerTo}
-use Rattle.std.specs.List.{Contains}
+use Rattle.auditorium_core.proofs.Imports.{endorse_parts}
 use Rattle.hall_outside.specs.declared.reading.FileFault.TheVariants as file
 use Rattle.auditorium_core.specs.declared.status.Status.TheVariants as status
 use Rattle.auditorium_core.proofs.CommandProofs.{IsOfCommands, HasStatuses, IsCompleted, HasOneAnswer, contains_as}
@@ -120,18 +119,6 @@ pub unsigned_left : (name file : List ℕ) (files : List (Option (List ℕ))) (r
 unsigned_left name file [] read is = absurd is
 unsigned_left name file (first ∷ others) read is =
     (office_read (office_file name) first read.office (unsigned_parts name file first others read is)).1
-
--- where its files are refused, `endorse` answers with that refusal
-pub endorse_refused : (name file : List ℕ) (told : Option Files) (refusal : Refusal) →
-    OnFiles (endorse_parts name file).files (λ files. GivesUnsigned name file files (Err refusal)) told →
-    IsAnswerTo (endorse name file) told (refusal_answer refusal)
-endorse_refused name file told refusal (files, are, gives) = (files, are, inl (refusal, gives, refl))
-
--- a signature of what its files give is an answer of `endorse`
-pub endorse_told : (name file : List ℕ) (told : Option Files) (read : Unsigned) (answer : Answer) →
-    OnFiles (endorse_parts name file).files (λ files. GivesUnsigned name file files (Ok read)) told →
-    IsEndorsement name file read answer → IsAnswerTo (endorse name file) told answer
-endorse_told name file told read answer (files, are, gives) is = (files, are, inr (read, gives, is))
 
 -- the status of an answer with a signature isn't that of an absent file
 pub endorse_is_there : (name file : List ℕ) (read : Unsigned) (answer : Answer) → IsEndorsement name file read answer →

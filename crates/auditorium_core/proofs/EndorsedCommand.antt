@@ -2,14 +2,14 @@
 use Rattle.std.proofs.Common.{Option}
 use Rattle.std.specs.Prelude.{codes}
 use Rattle.std.specs.List.{Contains}
-use Rattle.auditorium_core.proofs.Imports.{agree_equal, ◌≡◌, ◌≢◌, ◌∙◌, ℕ, List, inl, inr, refl, sym, ap, subst, arith}
-use Rattle.auditorium_core.proofs.Imports.{Result, Ok, Err, All-from_recursion, HssSigns, Files, Refusal, OnFiles}
-use Rattle.auditorium_core.proofs.Imports.{Answer, line_answer, refusal_answer, AtLast, FileThen, GivesBytes}
+use Rattle.auditorium_core.proofs.Imports.{agree_equal, ◌≡◌, ◌∙◌, ℕ, List, inl, inr, refl, sym, subst, arith}
+use Rattle.auditorium_core.proofs.Imports.{Result, All-from_recursion, Refusal}
+use Rattle.auditorium_core.proofs.Imports.{Answer, line_answer, AtLast, FileThen, GivesBytes}
 use Rattle.auditorium_core.proofs.Imports.{max_signed, max_small, GivesSigned, IsEndorsedVerdict, Signed}
-use Rattle.auditorium_core.proofs.Imports.{endorsed_parts, endorsed, IsAnswerTo, IsCarriedOut}
+use Rattle.auditorium_core.proofs.Imports.{endorsed_parts, IsCarriedOut}
 use Rattle.auditorium_core.specs.declared.status.Status.TheVariants as status
 use Rattle.auditorium_core.proofs.CommandProofs.{IsOfCommands, HasStatuses, IsCompleted, HasOneAnswer, contains_as}
-use Rattle.auditorium_core.proofs.CommandProofs.{carried_out_as, of_read, status_is}
+use Rattle.auditorium_core.proofs.CommandProofs.{carried_out_as, of_read}
 use Rattle.auditorium_core.proofs.FileSteps.{one_bytes, one_last, one_of_files, read_completed}
 use Rattle.auditorium_core.proofs.SameOr.{same_or}
 
@@ -75,15 +75,3 @@ endorsed_has_statuses key file signature = record {
       (λ read. of_verdict key file signature read answer) is;
   some = All-from_recursion IsOfCommands (endorsed_parts key file signature).statuses (tt, (tt, (tt, (tt, tt))));
 }
-
--- where its files are refused, `endorsed` answers with that refusal
-pub endorsed_refused : (key file signature : List ℕ) (told : Option Files) (refusal : Refusal) →
-    OnFiles (endorsed_parts key file signature).files (λ files. GivesSigned key file signature files (Err refusal))
-    told → IsAnswerTo (endorsed key file signature) told (refusal_answer refusal)
-endorsed_refused key file signature told refusal (files, are, gives) = (files, are, inl (refusal, gives, refl))
-
--- a verdict on what its files give is an answer of `endorsed`
-pub endorsed_told : (key file signature : List ℕ) (told : Option Files) (read : Signed) (answer : Answer) →
-    OnFiles (endorsed_parts key file signature).files (λ files. GivesSigned key file signature files (Ok read)) told →
-    IsEndorsedVerdict read answer → IsAnswerTo (endorsed key file signature) told answer
-endorsed_told key file signature told read answer (files, are, gives) is = (files, are, inr (read, gives, is))

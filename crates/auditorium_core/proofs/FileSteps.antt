@@ -1,10 +1,11 @@
 -- Files that are read one after another.
 use Rattle.std.proofs.Common.{Option, Some}
 use Rattle.auditorium_core.proofs.Imports.{◌≡◌, ◌∙◌, ℕ, List, [], ◌∷◌, None, inl, inr, refl, sym, ap, subst, arith}
-use Rattle.auditorium_core.proofs.Imports.{Result, Ok, Err, Files, OnSomeFile, IsFileRefused, AuditFault, Refusal}
-use Rattle.auditorium_core.proofs.Imports.{too_long, StoreSeen, IsReadFrom, some_files, read_ends, read_last}
-use Rattle.auditorium_core.proofs.Imports.{read_then, OnFiles, Answer, OrRefused, AtLast, FileThen, GivesBytes}
-use Rattle.auditorium_core.proofs.Imports.{IsCarriedOut}
+use Rattle.auditorium_core.proofs.Imports.{Result, Ok, Err, StoreGhosts, IsFileRefused, Refusal}
+use Rattle.auditorium_core.proofs.Imports.{too_long, OnOneFile, IsReadFrom, IsReadFromFile}
+use Rattle.auditorium_core.proofs.Imports.{on_one, read_last}
+use Rattle.auditorium_core.proofs.Imports.{FileThen, Answer, OrRefused}
+use Rattle.auditorium_core.proofs.Imports.{AtLast, GivesBytes, IsCarriedOut}
 use Rattle.hall_outside.specs.declared.reading.FileFault.TheVariants as file
 
 -- a file that is too long is refused as too long
@@ -59,46 +60,15 @@ read_completed Gives IsFor answer read one given done (inl (refusal, gives, e)) 
     let no : Err refusal ≡ Ok read = one (Err refusal) (Ok read) gives given in cc
 read_completed Gives IsFor answer read one given done (inr (found, gives, is)) = done found is
 
-module _ {A X B Y : Type 0} (value : A → X) (Gives : Option (List ℕ) → Result X Refusal → Type 0) (name : List ℕ)
-    (other : B → Y) (Rest : X → List (Option (List ℕ)) → Result Y Refusal → Type 0) (names : List (List ℕ))
-    (old : StoreSeen) where
-  -- what the named file gives
-  abbrev pub Of : Option Files → Result X Refusal → Type 0
-  Of told answer = OnSomeFile told name (λ this. Gives this answer)
-
-  -- what it gives, and the others with it
-  abbrev pub All : Option Files → Result Y Refusal → Type 0
-  All told answer = OnFiles (name ∷ names) (λ files. FileThen Gives Rest files answer) told
-
-  -- a file is read, and then the others
-  pub file_joins : (mid new : StoreSeen) (found : A) (result : Result B AuditFault) →
-      IsReadFrom value Of old (Ok found) mid →
-      IsReadFrom other (λ told answer. OnFiles names (λ files. Rest (value found) files answer) told) mid result new →
-      IsReadFrom other All old result new
-  file_joins mid new found result first rest =
-      read_then value Of other (λ told answer. OnFiles names (λ files. Rest (value found) files answer) told) All old
-      mid new found result first rest
-      (λ answer (this, at, gives) (files, are, with). (this ∷ files, (at, are), inl (value found, gives, with)))
-
-  -- a file that is refused ends it
-  pub file_ends : (new : StoreSeen) (fault : AuditFault) → IsReadFrom value Of old (Err fault) new →
-      IsReadFrom other All old (Err fault) new
-  file_ends new fault first =
-      let rest = some_files old.files names in
-      read_ends value Of other All old new fault first
-      (λ refusal (this, at, gives). (this ∷ rest.0, (at, rest.1), inr (refusal, gives, refl)))
-
--- the last file is read, and with what it gives this is found
-pub file_last : {A X B Y : Type 0} (value : A → X) (Gives : Option (List ℕ) → Result X Refusal → Type 0)
-    (name : List ℕ) (other : B → Y) (make : X → Y) (old new : StoreSeen) (found : A) (made : B) →
-    other made ≡ make (value found) →
-    IsReadFrom value (λ told answer. OnSomeFile told name (λ this. Gives this answer)) old (Ok found) new →
-    IsReadFrom other
-    (λ told answer. OnFiles (name ∷ []) (λ files. FileThen Gives (λ x. AtLast (make x)) files answer) told) old
-    (Ok made) new
-file_last value Gives name other make old new found made is first =
-    let (this, at, gives) = first.ok in
-    read_last value (λ told answer. OnSomeFile told name (λ f. Gives f answer)) other
-    (λ told answer. OnFiles (name ∷ []) (λ files. FileThen Gives (λ x. AtLast (make x)) files answer) told) old new found
-    (Ok made) first
-    (this ∷ [], (at, tt), inl (value found, gives, ap (λ y. Ok y) is)) tt tt
+module _ {S A X B Y : Type 0} (of : StoreGhosts S) (value : A → X) (Gives : Option (List ℕ) → Result X Refusal → Type 0)
+    (name : List ℕ) (other : B → Y) where
+  -- the last file is read, and with what it gives this is found
+  pub file_last : (make : X → Y) (old new : S) (found : A) (made : B) → other made ≡ make (value found)
+      → IsReadFromFile of value name Gives old (Ok found) new
+      → IsReadFrom of other (name ∷ []) (FileThen Gives (λ x. AtLast (make x))) old (Ok made) new
+  file_last make old new found made is first =
+      read_last of value (name ∷ []) (λ files answer. OnOneFile (λ file. Gives file answer) files) other
+      (FileThen Gives (λ x. AtLast (make x))) old new found (Ok made) first
+      (λ files long gives. on_one (λ file. Gives file (Ok (value found)))
+      (λ fs. FileThen Gives (λ x. AtLast (make x)) fs (Ok (other made))) files
+      (λ file has. inl (value found, has, ap (λ y. Ok y) is)) gives) tt tt

@@ -1,17 +1,18 @@
 -- The command `gaps`.
 use Rattle.std.proofs.Common.{◌⊎◌, Option, Some, length}
-use Rattle.auditorium_core.proofs.Imports.{◌≡◌, ◌∙◌, ℕ, ◌<◌, ◌≤◌, inl, inr, List, ◌++◌, [], ◌∷◌, None, ap, sym, subst}
+use Rattle.auditorium_core.proofs.Imports.{◌≡◌, ◌≢◌, ◌∙◌, ℕ, ◌<◌, ◌≤◌, inl, inr, List, ◌++◌, [], ◌∷◌, None, ap, sym}
+use Rattle.auditorium_core.proofs.Imports.{subst}
 use Rattle.auditorium_core.proofs.Imports.{arith, refl, All-from_recursion, node_of, Plain, EntryFault, End, PlainLog}
 use Rattle.auditorium_core.proofs.Imports.{LogFault, TooLong, Header, HasHeader, Says, max_bytes, IsLogOf}
-use Rattle.auditorium_core.proofs.Imports.{IsLogRefused, Files, OnSomeFile, on_some, refused_lines, end_line}
+use Rattle.auditorium_core.proofs.Imports.{IsLogRefused, StoreGhosts, OnReadFile, read_weaker, one_read}
+use Rattle.auditorium_core.proofs.Imports.{refused_lines, end_line}
 use Rattle.auditorium_core.proofs.Imports.{gap_lines, Status, Answer, absent_answer, refused_answer, gaps_log_lines}
 use Rattle.auditorium_core.proofs.Imports.{findings_answer, status_of, IsRefusal, IsGapsAnswer, gaps_parts}
-use Rattle.auditorium_core.proofs.Imports.{IsAnswerTo, IsCarriedOut}
+use Rattle.auditorium_core.proofs.Imports.{IsAnswerAsRead, IsCarriedOut}
 use Rattle.std.specs.Prelude.{codes}
 use Rattle.std.specs.List.{Contains}
 use Rattle.entry_order.specs.Survivors.{gaps as gaps_of}
 use Rattle.log_files.specs.declared.plain_log.LogFault.TheVariants.{Absent, ReadFault, Memory}
-use Rattle.auditorium_core.specs.declared.status.Status.TheVariants as status
 use Rattle.auditorium_core.specs.Words.{gaps}
 use Rattle.auditorium_core.proofs.CommandProofs.{IsOfCommands, HasStatuses, IsCompleted, HasOneAnswer, contains_as}
 use Rattle.auditorium_core.proofs.CommandProofs.{carried_out_as}
@@ -171,25 +172,23 @@ gaps_has_statuses log = record {
   some = All-from_recursion IsOfCommands (gaps_parts log).statuses (tt, (tt, (tt, (tt, tt))));
 }
 
--- the answer for the one file that a command reads
-pub gaps_to : (told : Option Files) (log : List ℕ) (answer : Answer) →
-    OnSomeFile told log (λ file. IsGapsAnswer log file answer) → IsAnswerTo (gaps log) told answer
-gaps_to told log answer (file, is, right) = (file ∷ [], (is, tt), right)
+module _ {S : Type 0} (of : StoreGhosts S) (log : List ℕ) (old new : S) where
+  -- the lines on a log that was read are an answer of `gaps`
+  pub gaps_findings : (plain : PlainLog) (answer : Answer) → answer ≡ findings_answer (gaps_log_lines log plain)
+      → OnReadFile of log max_bytes (IsLogOf plain) old new → IsAnswerAsRead of (gaps log) old answer new
+  gaps_findings plain answer e said =
+      (one_read of log max_bytes (λ file. IsGapsAnswer log file answer) old new
+      (read_weaker of log max_bytes (IsLogOf plain) (λ file. IsGapsAnswer log file answer) old new
+      (λ file is. inl (plain, is, e)) said)).0
 
--- the lines on a log that was read are an answer of `gaps`
-pub gaps_findings : (told : Option Files) (log : List ℕ) (plain : PlainLog) (answer : Answer) →
-    answer ≡ findings_answer (gaps_log_lines log plain) → OnSomeFile told log (IsLogOf plain) →
-    IsAnswerTo (gaps log) told answer
-gaps_findings told log plain answer e said =
-    gaps_to told log answer
-    (on_some told log (IsLogOf plain) (λ file. IsGapsAnswer log file answer) (λ file is. inl (plain, is, e)) said)
-
--- the refusal of a log is an answer of `gaps`
-pub gaps_refusal : (told : Option Files) (log : List ℕ) (fault given : LogFault) (answer : Answer) → given ≡ fault →
-    IsRefusal log fault answer → OnSomeFile told log (IsLogRefused given) → IsAnswerTo (gaps log) told answer
-gaps_refusal told log fault given answer same is said =
-    let P : LogFault → Type 0 = λ f. OnSomeFile told log (IsLogRefused f) in
-    gaps_to told log answer
-    (on_some told log (IsLogRefused fault) (λ file. IsGapsAnswer log file answer)
-    (λ file refused. inr (fault, refused, is))
-    (subst P same said))
+  -- the refusal of a log is an answer of `gaps`
+  pub gaps_refusal : (fault given : LogFault) (answer : Answer) → given ≡ fault → fault ≢ Memory
+      → IsRefusal log fault answer
+      → (given ≢ Memory → OnReadFile of log max_bytes (IsLogRefused given) old new)
+      → IsAnswerAsRead of (gaps log) old answer new
+  gaps_refusal fault given answer same known is said =
+      let P : LogFault → Type 0 = λ f. OnReadFile of log max_bytes (IsLogRefused f) old new in
+      (one_read of log max_bytes (λ file. IsGapsAnswer log file answer) old new
+      (read_weaker of log max_bytes (IsLogRefused fault) (λ file. IsGapsAnswer log file answer) old new
+      (λ file refused. inr (fault, refused, is))
+      (subst P same (said (λ e. known (sym same ∙ e)))))).0

@@ -1,8 +1,8 @@
 -- What `order` answers over what is left of an honest place's logs.
-use Rattle.auditorium_core.proofs.Imports.{◌≡◌, ◌≢◌, ◌∙◌, ℕ, List, [], inl, inr, ap, sym, subst, arith, Ok, Err, Post}
+use Rattle.auditorium_core.proofs.Imports.{◌≡◌, ◌≢◌, ◌∙◌, ℕ, List, [], inl, inr, ap, sym, subst, arith, Ok, Post}
 use Rattle.auditorium_core.proofs.Imports.{Script, node_of_sealed, SealedEntry, Completion, HeldBefore, Distinct, World}
 use Rattle.auditorium_core.proofs.Imports.{sent_in, one_order, EntryGraph, LogRead, roster_of, election_of, RosterRead}
-use Rattle.auditorium_core.proofs.Imports.{GivesGraph, entries_of, GivesLogs, Refusal, absent, refused, GivesRoster}
+use Rattle.auditorium_core.proofs.Imports.{entries_of, GivesLogs, Refusal, absent, refused, GivesRoster}
 use Rattle.auditorium_core.proofs.Imports.{IsHonestWorld, AreAllFilesOf, IsOfScript, scripts_are_honest}
 use Rattle.auditorium_core.proofs.Imports.{logs_have_makers, survivors_have_makers, Answer, OrRefused, refusal_answer}
 use Rattle.auditorium_core.proofs.Imports.{IsHonestOrder, IsHonestWord, IsOrderOfPlace, no_first, no_second, both}

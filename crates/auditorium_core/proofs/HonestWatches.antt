@@ -6,9 +6,9 @@ use Rattle.auditorium_core.proofs.Imports.{Script, node_of_sealed, SealedEntry, 
 use Rattle.auditorium_core.proofs.Imports.{distinct, distinct_given, Distinct, is_stray, World, sent_in, Contains-head}
 use Rattle.auditorium_core.proofs.Imports.{Contains-later, Contains-filter_cases, member_at, LogRead, Post}
 use Rattle.auditorium_core.proofs.Imports.{standard_rules, RuleTree, three_in, roster_of, election_of, RosterRead}
-use Rattle.auditorium_core.proofs.Imports.{GivesGraph, entries_of, GivesLogs, Refusal, refused, IsHonestWorld}
+use Rattle.auditorium_core.proofs.Imports.{entries_of, GivesLogs, Refusal, refused, IsHonestWorld}
 use Rattle.auditorium_core.proofs.Imports.{IsOfScript, left_agrees, scripts_are_honest, IsHonest, WereSentIn}
-use Rattle.auditorium_core.proofs.Imports.{honest_audits_never_say_broken, none_broken, AndThen, GivesReport, WithGraph}
+use Rattle.auditorium_core.proofs.Imports.{honest_audits_never_say_broken, none_broken, GivesReport}
 use Rattle.auditorium_core.proofs.Imports.{is_broken, outcome_of, row_of, standard, IsTooWideOver, Summary, After}
 use Rattle.auditorium_core.proofs.Imports.{Answer, refusal_answer, AreSummaries, Evidence, GivesEvidence}
 use Rattle.auditorium_core.proofs.Imports.{GivesSummaries, Watches, watch_answer, BreaksNoRule}
@@ -20,12 +20,11 @@ use Rattle.entry_order.specs.declared.three.Three.TheVariants as three
 use Rattle.evidence.specs.Graphs.{IsSealedGraph}
 use Rattle.honest_logs.proofs.HonestFiles.{script_given, script_not_refused}
 use Rattle.honest_logs.proofs.LeftFileFacts.{files_are_read}
-use Rattle.honest_logs.proofs.RosterTexts.{read_of_script, world_of_script}
+use Rattle.honest_logs.proofs.RosterTexts.{world_of_script}
 use Rattle.honest_rules.proofs.Scripts.{scripts_are_never_too_wide, scripts_lead_to_honest_places}
 use Rattle.honest_reports.specs.Places.{HasLeft}
 use Rattle.honest_reports.proofs.AuditLaws.{audits_are_refused_only_so, reports_say_none_broken}
 use Rattle.honest_reports.proofs.RosterGiven.{read_same, roster_not_refused}
-use Rattle.auditorium_core.specs.WatchAgrees.{IsHonestWatch}
 use Rattle.auditorium_core.proofs.CommandProofs.{status_is}
 use Rattle.auditorium_core.proofs.HonestAudits.{only_broken}
 use Rattle.auditorium_core.proofs.OneWatch.{report_by}

@@ -13,6 +13,8 @@ pub use Rattle.audit_proof.specs.Trust.{ProofsSayNoMore}
 pub use Rattle.audit_proof.specs.declared.fault.CheckFault.{CheckFault}
 pub use Rattle.audit_proof.specs.declared.fault.ProofFault.{ProofFault}
 pub use Rattle.audit_proof.specs.declared.fault.ProofWhy.{ProofWhy}
+pub use Rattle.auditor.proofs.Chained.{and_refused, and_then, err_by, file_ends, file_joins, of_one, on_one}
+pub use Rattle.auditor.proofs.Chained.{rules_end, rules_then, standard_then}
 pub use Rattle.auditor.proofs.Makers.{logs_have_makers, survivors_have_makers}
 pub use Rattle.auditor.proofs.OneByOne.{judged_is_narrow}
 pub use Rattle.auditor.proofs.OneStep.{IsOne, Ones, RulesAreReadInOneWay, agree_equal, ends_agree, graphs_then_agree}
@@ -20,7 +22,7 @@ pub use Rattle.auditor.proofs.OneStep.{logs_then_one, roster_then_one, rules_the
 pub use Rattle.auditor.proofs.OneVerdict.{one_place, verdicts_agree}
 pub use Rattle.auditor.proofs.Pieces.{pair_more, pairs_all}
 pub use Rattle.auditor.proofs.PlainRules.{plain_rules}
-pub use Rattle.auditor.specs.Audits.{AndThen, FileThen, GivesReport, GivesReportIn, OnFiles, WithGraph}
+pub use Rattle.auditor.specs.Audits.{AndThen, FileThen, GivesReport, RulesThen, WithGraph, audit_files}
 pub use Rattle.auditor.specs.Audits.{WithLogs}
 pub use Rattle.auditor.specs.Judged.{AreJudged, IsFirstTooWide, nodes_of}
 pub use Rattle.auditor.specs.OneReport.{FilesGiveOneReport}
@@ -39,11 +41,12 @@ pub use Rattle.auditorium_core.specs.Answer.{WordsTellAbsence}
 pub use Rattle.auditorium_core.specs.Audit.{Completes, HoldsOf, IsAuditAnswer, IsAuditOf, IsAuditOver, audit_parts}
 pub use Rattle.auditorium_core.specs.Audit.{source_named}
 pub use Rattle.auditorium_core.specs.Check.{AreChecked, CheckReport, GivesCheck, GivesChecked, HoldsAmong, IsCheckOf}
+pub use Rattle.auditorium_core.specs.Check.{check_files}
 pub use Rattle.auditorium_core.specs.Check.{IsCheckOver, MayBeAll, check_answer, check_parts, checked_line}
 pub use Rattle.auditorium_core.specs.Check.{checked_status, verdict_on_all}
 pub use Rattle.auditorium_core.specs.CheckAgrees.{ChecksAgreeWithAudits, without_entries}
 pub use Rattle.auditorium_core.specs.CommandParts.{CommandParts}
-pub use Rattle.auditorium_core.specs.Complete.{HasNoFailure, IsCarriedOut, IsComplete}
+pub use Rattle.auditorium_core.specs.Complete.{HasNoFailure, IsAnsweredOver, IsCarriedOut, IsComplete}
 pub use Rattle.auditorium_core.specs.Demonstrated.{GivesDemonstration, IsAnswerOfShown, IsDemonstrationAnswer}
 pub use Rattle.auditorium_core.specs.Demonstrated.{IsHalfOf, ShowsReport, TellsNoneBroken}
 pub use Rattle.auditorium_core.specs.Demonstrated.{demonstration_answer, demonstration_parts}
@@ -71,10 +74,11 @@ pub use Rattle.auditorium_core.specs.OfficeFile.{GivesOffice, GivesOfficeOf, Giv
 pub use Rattle.auditorium_core.specs.Order.{AreWhole, ComesFirst, GiveEntries, InEach, IsBefore, IsExact}
 pub use Rattle.auditorium_core.specs.Order.{IsOrderAmong, IsOrderAnswer, IsOrderOf, IsOrderOver, IsOrderOverLogs}
 pub use Rattle.auditorium_core.specs.Order.{IsOrderUnder, IsSettled, IsWordOf, order_parts}
-pub use Rattle.auditorium_core.specs.Outcome.{GivesAnswer, HasDone, IsCutShort, IsWritten, IsWrittenAfterReads}
+pub use Rattle.auditorium_core.specs.Outcome.{GivesAnswer, HasDone, IsCutShort, IsGivenBy, IsGivenSomehow, IsWritten}
+pub use Rattle.auditorium_core.specs.Outcome.{IsUnwritten}
 pub use Rattle.auditorium_core.specs.Outcome.{IsWrittenBy, PlacesAll, PutsAll, SetsSome, all_put, fails, finishes}
 pub use Rattle.auditorium_core.specs.Outcome.{no_files, not_put, puts, with_files}
-pub use Rattle.auditorium_core.specs.Outside.{Outside, outside, seen}
+pub use Rattle.auditorium_core.specs.Outside.{Outside, StoreSeen, outside, seen}
 pub use Rattle.auditorium_core.specs.Play.{IsPlayAnswer, IsPlayOf, SayUndone, log_file, machine_lines, play_answer}
 pub use Rattle.auditorium_core.specs.Play.{play_files, play_parts, play_statuses, status_of_undone, undone_line}
 pub use Rattle.auditorium_core.specs.ProofFile.{GivesProof, max_proof}
@@ -83,7 +87,7 @@ pub use Rattle.auditorium_core.specs.Repair.{AreMendedBy, IsRepairAnswer, IsRepa
 pub use Rattle.auditorium_core.specs.Repair.{repair_parts, with_steps}
 pub use Rattle.auditorium_core.specs.ReportAnswers.{report_answer, report_statuses, status_by}
 pub use Rattle.auditorium_core.specs.Run.{IsRunOf, loss_lines, run_answer, run_parts}
-pub use Rattle.auditorium_core.specs.ScriptFile.{GivesScript, GivesScriptIn, IsScriptFile, max_script}
+pub use Rattle.auditorium_core.specs.ScriptFile.{GivesScript, IsScriptFile, max_script}
 pub use Rattle.auditorium_core.specs.Watch.{AreFewDistinct, AreSummaries, Evidence, GivesEvidence, GivesSummaries}
 pub use Rattle.auditorium_core.specs.Watch.{GivesWatch, IsTooWideAfter, IsWatchOver, Watches}
 pub use Rattle.auditorium_core.specs.Watch.{numbers_line, watch_answer, watch_line, watch_lines, watch_parts}
@@ -102,20 +106,19 @@ pub use Rattle.auditorium_core.specs.declared.status.Status.{Status}
 pub use Rattle.auditorium_core.specs.declared.status.Status.TheVariants.{Done}
 pub use Rattle.auditorium_core.specs.declared.watch.EvidenceRead.{EvidenceRead}
 pub use Rattle.auditorium_core.specs.declared.watch.Unwatched.{Unwatched}
-pub use Rattle.auditorium_core.specs.inside.Checking.{ChecksFiles, ChecksFilesIn, ChecksLines, ChecksLogs}
-pub use Rattle.auditorium_core.specs.inside.Checking.{ChecksLogsIn, ChecksProof, ChecksProofIn, ChecksRules}
-pub use Rattle.auditorium_core.specs.inside.Checking.{ChecksRulesIn, GivesCheckIn, GivesMadeIn, GivesProofIn}
-pub use Rattle.auditorium_core.specs.inside.Checking.{IsUnchecked, ProvesFiles, ProvesFilesIn, ProvesLogs, report_by}
+pub use Rattle.auditorium_core.specs.inside.Checking.{ChecksFiles, ChecksLines, ChecksLogs}
+pub use Rattle.auditorium_core.specs.inside.Checking.{ChecksProof, ChecksRules}
+pub use Rattle.auditorium_core.specs.inside.Checking.{IsUnchecked, ProvesFiles, ProvesLogs, report_by}
 pub use Rattle.auditorium_core.specs.inside.Ending.{EndsWith, IsToldAs}
 pub use Rattle.auditorium_core.specs.inside.Endorsing.{signed_of, unsigned_of}
 pub use Rattle.auditorium_core.specs.inside.EntryNames.{IsFirstDot, IsLowerAt, IsPlaceOf, IsWordAt, name_of, word_by}
 pub use Rattle.auditorium_core.specs.inside.Losses.{IsBetween}
 pub use Rattle.auditorium_core.specs.inside.Meaning.{asked}
 pub use Rattle.auditorium_core.specs.inside.Presence.{IsThere}
-pub use Rattle.auditorium_core.specs.inside.Promise.{AreAnswered, IsAnswered, IsAnsweredBy}
+pub use Rattle.auditorium_core.specs.inside.Promise.{AreAnswered, IsAnswerAsRead, IsAnswered, IsAnsweredBy}
 pub use Rattle.auditorium_core.specs.inside.Repaired.{ComesByRepair}
-pub use Rattle.auditorium_core.specs.inside.Watching.{AddsTo, AreLinesOf, GivesEvidenceIn, GivesWatchIn, IsUnadded}
-pub use Rattle.auditorium_core.specs.inside.Watching.{IsUnwatched, ReadsLogs, ReadsLogsIn, ReadsRules, ReadsRulesIn, evidence_by}
+pub use Rattle.auditorium_core.specs.inside.Watching.{AddsTo, AreLinesOf, IsUnadded}
+pub use Rattle.auditorium_core.specs.inside.Watching.{IsUnwatched, ReadsLogs, ReadsRules, evidence_by}
 pub use Rattle.auditorium_core.specs.inside.Watching.{evidence_of, first_half, second_half}
 pub use Rattle.canonical_sexp.specs.Text.{text_of}
 pub use Rattle.demonstration.proofs.OneShown.{one_count, same_count}
@@ -170,20 +173,20 @@ pub use Rattle.entry_order.specs.declared.step.Step.{Step}
 pub use Rattle.entry_order.specs.declared.three.Three.{Three}
 pub use Rattle.entry_order.specs.declared.three.Three.TheVariants.{False, True, Unknown}
 pub use Rattle.evidence.proofs.FilesRead.{not_read, was_read}
-pub use Rattle.evidence.proofs.LogLists.{some_files}
-pub use Rattle.evidence.proofs.OneLogs.{same_entries, same_files}
+pub use Rattle.evidence.proofs.OneLogs.{same_entries}
 pub use Rattle.evidence.proofs.Readings.{cause_as, no_cause, of_refusal, stands}
 pub use Rattle.evidence.proofs.Repeats.{none_stand, same_gives, stand_copied, stand_repeated}
-pub use Rattle.evidence.proofs.Steps.{on_refusal, read_ends, read_last, read_then}
+pub use Rattle.evidence.proofs.Steps.{on_refusal, read_ends, read_last, read_refused, read_then}
 pub use Rattle.evidence.proofs.Survivors.{survivors_distinct}
 pub use Rattle.evidence.specs.Graphs.{GivesGraph, entries_of, entries_of_records, graph_refusal}
-pub use Rattle.evidence.specs.Logs.{GivesLogs, GivesLogsIn}
-pub use Rattle.evidence.specs.NamedFiles.{AreFiles}
+pub use Rattle.evidence.specs.Logs.{GivesLogs}
 pub use Rattle.evidence.specs.OneAnswer.{EntriesGiveOneGraph, LogFilesGiveOneAnswer, NoSurvivorPrecedesItself}
 pub use Rattle.evidence.specs.OneAnswer.{RosterFilesGiveOneAnswer, SurvivorsAreDistinct}
-pub use Rattle.evidence.specs.Reading.{IsReadFrom, StoreSeen}
+pub use Rattle.evidence.specs.Reading.{IsReadFrom, IsReadFromFile}
+pub use Rattle.evidence.specs.NamedFiles.{OnAllRead, OnExposed, OnOneFile, OnRead}
+pub use Rattle.evidence.proofs.OnReads.{all_weaker, none_read, on_exposed, on_weaker, one_first, one_read, some_as_read}
 pub use Rattle.evidence.specs.Refusal.{IsAbsent, IsFaultOf, Refusal, absent, refusal_of, refused, too_long}
-pub use Rattle.evidence.specs.RosterFile.{GivesRoster, GivesRosterIn}
+pub use Rattle.evidence.specs.RosterFile.{GivesRoster}
 pub use Rattle.evidence.specs.Same.{Agree, SameGraph, SameLogs}
 pub use Rattle.evidence.specs.declared.fault.AuditFault.{AuditFault}
 pub use Rattle.evidence.specs.declared.fault.AuditFault.TheVariants.{Refused}
@@ -193,10 +196,12 @@ pub use Rattle.finished_floor.specs.Floors.{ArePlayedAgain, IsFloorOf}
 pub use Rattle.finished_floor.specs.declared.loss.Loss.{Loss}
 pub use Rattle.hall_outside.proofs.FileLists.{eq_self}
 pub use Rattle.hall_outside.proofs.Offers.{unrisen}
-pub use Rattle.hall_outside.proofs.SomeFile.{on_some, some_file}
 pub use Rattle.hall_outside.specs.Counts.{ComesExactly, HasCause, HasRisen}
-pub use Rattle.hall_outside.specs.Files.{Files, OnFile, OnSomeFile, SetsPrefix, file_set, with_file}
-pub use Rattle.hall_outside.specs.ReadFile.{IsFileRefused}
+pub use Rattle.hall_outside.specs.Files.{Files, OnFile, SetsPrefix, file_set, with_file}
+pub use Rattle.hall_outside.specs.ReadFile.{IsFileRefused, IsFound, IsRead, OnReadFile}
+pub use Rattle.hall_outside.proofs.ReadFiles.{found_file, read_weaker}
+pub use Rattle.hall_outside.specs.declared.stores.Store.{Ghosts as StoreGhosts}
+pub use Rattle.hall_outside.specs.declared.sinks.Sink.{Ghosts as SinkGhosts}
 pub use Rattle.hall_outside.specs.Reading.{Answered}
 pub use Rattle.hall_outside.specs.Writing.{AppendsPrefix, PutsFile}
 pub use Rattle.hall_outside.specs.declared.stores.Failed.{Failed}
@@ -313,3 +318,4 @@ pub use Rattle.std.specs.declared.cmp.Ordering.{Ordering}
 pub use Rattle.std.specs.declared.cmp.Ordering.TheVariants.{Equal, Greater, Less}
 pub use borrow.Author.Count.{below_more}
 pub use mathlib.Core.Path.{fun_ext}
+pub use Rattle.std.proofs.lemmas.Result.{IfOk-weaker}

@@ -59,6 +59,8 @@ pub mod CitedLaws
 pub mod Commands
 pub mod OfficeCallsLeave
 pub mod OfficeNumbers
+pub mod DoneCases
+pub mod Exposed
 pub mod Statuses
 pub mod OneAnswer
 pub mod Completeness

@@ -1,7 +1,7 @@
 -- The command `make`.
 use Rattle.std.proofs.Common.{Option}
 use Rattle.std.specs.List.{Contains}
-use Rattle.auditorium_core.proofs.Imports.{◌≡◌, ◌∙◌, ℕ, List, [], ◌∷◌, refl, sym, arith, All-from_recursion, Answer}
+use Rattle.auditorium_core.proofs.Imports.{◌∙◌, ℕ, List, [], ◌∷◌, refl, sym, arith, All-from_recursion, Answer}
 use Rattle.auditorium_core.proofs.Imports.{made_answer, make_parts}
 use Rattle.auditorium_core.proofs.CommandProofs.{IsOfCommands, HasStatuses, IsCompleted, HasOneAnswer, contains_as}
 use Rattle.auditorium_core.proofs.CommandProofs.{carried_out_as}

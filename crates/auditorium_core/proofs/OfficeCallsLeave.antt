@@ -1,16 +1,16 @@
 -- What a call of the program leaves on a store that exposes its files.
 use Rattle.std.proofs.Common.{◌⊎◌, length, codes}
 use Rattle.std.proofs.Common.{Option, Some, Bool, true, false}
-use Rattle.auditorium_core.proofs.Imports.{◌≡◌, ◌≢◌, ◌∙◌, ℕ, ◌+◌, ◌-◌, ◌<◌, ◌≤◌, List, [], ◌∷◌, ◌++◌, take, get_or}
-use Rattle.auditorium_core.proofs.Imports.{None, inl, inr, refl, sym, ap, subst, cond, arith, Err, Ok, ⊤, IsSomeAnd}
-use Rattle.auditorium_core.proofs.Imports.{bytes_eq, cases_lt, get_or-append_right, take_all, bytes_eq-Decides, Files}
-use Rattle.auditorium_core.proofs.Imports.{SetsPrefix, file_set, with_file, eq_self, Office, endorsement, IsOffice}
-use Rattle.auditorium_core.proofs.Imports.{office_text, next_office, cut_text, Refusal, absent, refused, Status}
-use Rattle.auditorium_core.proofs.Imports.{Answer, refusal_answer, IsAnswerTo, AnswersWords, HasDone, IsWritten}
-use Rattle.auditorium_core.proofs.Imports.{SetsSome, with_files, Outside, Command, Means}
+use Rattle.auditorium_core.proofs.Imports.{◌≡◌, ◌≢◌, ◌∙◌, ℕ, ◌+◌, ◌-◌, List, [], ◌∷◌, ◌++◌, take, get_or}
+use Rattle.auditorium_core.proofs.Imports.{inl, inr, refl, sym, ap, subst, cond, arith}
+use Rattle.auditorium_core.proofs.Imports.{bytes_eq, get_or-append_right, take_all, bytes_eq-Decides, Files}
+use Rattle.auditorium_core.proofs.Imports.{file_set, with_file, eq_self}
+use Rattle.auditorium_core.proofs.Imports.{Refusal, absent, refused, Status}
+use Rattle.auditorium_core.proofs.Imports.{Answer, refusal_answer, IsAnswerTo, AnswersWords, HasDone, IsGivenSomehow}
+use Rattle.auditorium_core.proofs.Imports.{SetsSome, with_files, Outside, Command, Means, OnExposed}
 use Rattle.std.proofs.lemmas.List.{length-append}
-use Rattle.auditorium_core.specs.declared.status.Status.TheVariants as status
-use Rattle.auditorium_core.proofs.Commands.{same_command}
+use Rattle.auditorium_core.proofs.Commands.{of_command}
+use Rattle.auditorium_core.proofs.DoneCases.{done_cases}
 
 -- a set file has its bytes
 pub set_here : (files : Files) (name bytes : List ℕ) → file_set files name bytes name ≡ Some bytes
@@ -52,66 +52,24 @@ set_whole : (old new : Option Files) (files : List (List ℕ × List ℕ)) → n
 set_whole old new [] e = e
 set_whole old new (file ∷ files) e = inr (set_whole (with_file old file.0 file.1) new files e)
 
-module _ (IsDone : Command → Type 0) (words : List (List ℕ)) (command : Command) (old new : Outside) where
-  -- an answer of the command, whose files were set up to some place; with a status of its own, all
-  -- of them
-  pub record IsSetBy (how : Status) : Type 0 where
-    pub answer : Answer
-    pub right : IsAnswerTo command old.store.files answer
-    pub sets : SetsSome old.store.files answer.files new.store.files
-    pub whole : how ≢ status.WriteFault →
-        (how ≡ answer.status) × (new.store.files ≡ with_files old.store.files answer.files)
-
-  -- nothing was written, or the answer's files were
-  abbrev pub IsSetOrNot : Status → Type 0
-  IsSetOrNot how = ((how ≢ status.Done) × (new.store.files ≡ old.store.files)) ⊎ IsSetBy how
-
-  -- the answer to the words is the command's
-  of_command : Means words command → (answer : Answer) → AnswersWords IsDone words old.store.files answer →
-      IsDone command → IsAnswerTo command old.store.files answer
-  of_command means answer (inl (other, done, means', is)) has =
-      let P : Command → Type 0 = λ c. IsAnswerTo c old.store.files answer in
-      subst P (same_command words other command means' means) is
-  of_command means answer (inr (bad, e)) has = absurd (bad (command, has, means))
-
-  -- what was done with the whole answer
-  answered : Means words command → IsDone command → (how : Status) → how ≢ status.WriteFault → (answer : Answer) →
-      AnswersWords IsDone words old.store.files answer → how ≡ answer.status → IsWritten answer old new →
-      IsSetOrNot how
-  answered means has how not_cut answer gives is written = inr (record {
-    answer = answer;
-    right = of_command means answer gives has;
-    sets = set_whole old.store.files new.store.files answer.files written.files;
-    whole = λ _. (is, written.files);
-  })
-
-  -- whatever was done, nothing was written, or the answer's files were set
-  pub set_or_not : Means words command → IsDone command → (how : Status) → HasDone IsDone words (λ _ _. ⊤) old how new →
-      IsSetOrNot how
-  set_or_not means has status.ReadFault (risen, unwritten) = inl (λ e. cc, unwritten.files)
-  set_or_not means has status.Memory (unwritten, same) = inl (λ e. cc, unwritten.files)
-  set_or_not means has status.WriteFault (answer, gives, calls, cut) = inr (record {
-    answer = answer;
-    right = of_command means answer gives.answers has;
-    sets = cut.files;
-    whole = λ none. absurd (none refl);
-  })
-  set_or_not means has status.Done (answer, gives, is, calls, written) =
-      answered means has status.Done (λ e. cc) answer gives.answers is written
-  set_or_not means has status.Findings (answer, gives, is, calls, written) =
-      answered means has status.Findings (λ e. cc) answer gives.answers is written
-  set_or_not means has status.Unsettled (answer, gives, is, calls, written) =
-      answered means has status.Unsettled (λ e. cc) answer gives.answers is written
-  set_or_not means has status.Broken (answer, gives, is, calls, written) =
-      answered means has status.Broken (λ e. cc) answer gives.answers is written
-  set_or_not means has status.Usage (answer, gives, is, calls, written) =
-      answered means has status.Usage (λ e. cc) answer gives.answers is written
-  set_or_not means has status.Refused (answer, gives, is, calls, written) =
-      answered means has status.Refused (λ e. cc) answer gives.answers is written
-  set_or_not means has status.Absent (answer, gives, is, calls, written) =
-      answered means has status.Absent (λ e. cc) answer gives.answers is written
-  set_or_not means has status.Undone (answer, gives, is, calls, written) =
-      answered means has status.Undone (λ e. cc) answer gives.answers is written
+-- what follows where no file changed, and of the files that an answer of the command sets, follows
+-- of what was done
+pub of_sets : (IsDone : Command → Type 0) (words : List (List ℕ)) (command : Command) (old new : Outside) (L : Type 0) →
+    IsDone command → Means words command → (new.store.files ≡ old.store.files → L) →
+    ((answer : Answer) → IsAnswerTo command old.store.files answer →
+    SetsSome old.store.files answer.files new.store.files → L) →
+    (how : Status) → HasDone IsDone words (IsGivenSomehow old) old how new → L
+of_sets IsDone words command old new L done means kept sets =
+    done_cases IsDone words (IsGivenSomehow old) old new (λ how. L) (λ (risen, unwritten). kept unwritten.files)
+    (λ (answer, gives, cut). sets answer (right answer gives.answers) cut.files)
+    (λ (unwritten, same). kept unwritten.files)
+    (λ how some (answer, gives, told, written). sets answer (right answer gives.answers)
+    (set_whole old.store.files new.store.files answer.files written.files))
+  where
+    -- an answer to the words is the command's
+    right : (answer : Answer) → AnswersWords IsDone words (OnExposed old.store.files) answer →
+        IsAnswerTo command old.store.files answer
+    right answer is = of_command IsDone words (OnExposed old.store.files) command answer done means is
 
 -- a refusal writes no file
 pub refusal_writes_none : (refusal : Refusal) → (refusal_answer refusal).files ≡ []

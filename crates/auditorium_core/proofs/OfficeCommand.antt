@@ -1,13 +1,12 @@
 -- The command `office`.
 use Rattle.std.proofs.Common.{Option, Some, Bool, true, false}
-use Rattle.auditorium_core.proofs.Imports.{◌≡◌, ◌≢◌, ◌∙◌, ℕ, List, [], ◌∷◌, None, refl, sym, ap, subst, arith, Result}
-use Rattle.auditorium_core.proofs.Imports.{Ok, Err, IsSome, All-from_recursion, ComesExactly, Files, OnFile, Failed}
-use Rattle.auditorium_core.proofs.Imports.{some_file, StoreSeen, no_cause, Fault, Answer, refused_answer}
-use Rattle.auditorium_core.proofs.Imports.{IsOfficeAnswer, made_office, office_parts, office_file, office, IsAnswerTo}
-use Rattle.auditorium_core.proofs.Imports.{IsCarriedOut, IsThere, IsAnsweredBy}
+use Rattle.auditorium_core.proofs.Imports.{◌≡◌, ◌∙◌, ℕ, List, [], ◌∷◌, None, refl, sym, subst, arith, Result}
+use Rattle.auditorium_core.proofs.Imports.{Ok, All-from_recursion, ComesExactly, StoreGhosts, OnReadFile}
+use Rattle.auditorium_core.proofs.Imports.{read_weaker, one_read, no_cause, Fault, Answer, refused_answer}
+use Rattle.auditorium_core.proofs.Imports.{IsOfficeAnswer, made_office, office_parts, office_file, office}
+use Rattle.auditorium_core.proofs.Imports.{IsAnswerAsRead, IsThere, IsAnsweredBy}
 use Rattle.std.specs.Prelude.{codes}
 use Rattle.std.specs.List.{Contains}
-use Rattle.auditorium_core.specs.declared.answer.Fault.TheVariants.{ReadFault, Memory}
 use Rattle.auditorium_core.specs.declared.status.Status.TheVariants as status
 use Rattle.auditorium_core.proofs.CommandProofs.{IsOfCommands, HasStatuses, IsCompleted, HasOneAnswer, contains_as}
 use Rattle.auditorium_core.proofs.CommandProofs.{carried_out_as, status_is}
@@ -59,40 +58,32 @@ right_of name seed true None is = absurd (let no : ⊥ = cc in no)
 right_of name seed false None is = refl
 right_of name seed false (Some bytes) is = absurd (let no : ⊥ = cc in no)
 
--- the answer is right for some file where the store exposes none
-told_of : (name seed : List ℕ) (there : Bool) (told : Option Files) → OnFile told (office_file name) (IsThere there) →
-    IsAnswerTo (office name seed) told (answer_by name seed there)
-told_of name seed true told is =
-    let (this, at, there) = some_file told (office_file name) (IsThere true) (Some []) refl is in
-    (this ∷ [], (at, tt), right_of name seed true this there)
-told_of name seed false told is =
-    let (this, at, there) = some_file told (office_file name) (IsThere false) None refl is in
-    (this ∷ [], (at, tt), right_of name seed false this there)
-
 -- a look at a store says that there is no file
-abbrev pub SaysNone : Result Bool Failed → Type 0
+abbrev pub SaysNone : Result Bool Fault → Type 0
 SaysNone result = result ≡ Ok false
 
 -- `office` is done exactly where the store said that there is no file
-pub office_answered : (name seed : List ℕ) (there : Bool) (answer : Answer) (old new : StoreSeen) →
-    OnFile old.files (office_file name) (IsThere there) →
-    ComesExactly old.answered.absences new.answered.absences (SaysNone (Ok there)) →
-    new.read_faults ≡ old.read_faults → new.files ≡ old.files → new.write_faults ≡ old.write_faults →
-    answer ≡ answer_by name seed there → IsAnsweredBy (office name seed) old (Ok answer) new
-office_answered name seed there answer old new is comes same files writes told = record {
+pub office_answered : {S : Type 0} (of : StoreGhosts S) (name seed : List ℕ) (there : Bool) (answer : Answer)
+    (old new : S) → OnReadFile of (office_file name) 0 (IsThere there) old new
+    → ComesExactly (of.answered old).absences (of.answered new).absences (SaysNone (Ok there))
+    → of.read_faults new ≡ of.read_faults old → of.files new ≡ of.files old → of.write_faults new ≡ of.write_faults old
+    → answer ≡ answer_by name seed there → IsAnsweredBy of (office name seed) old (Ok answer) new
+office_answered of name seed there answer old new is comes same files writes told = record {
   answer =
-      let P : Answer → Type 0 = λ a. IsAnswerTo (office name seed) old.files a in
-      subst P (sym told) (told_of name seed there old.files is);
+      subst (λ (a : Answer). IsAnswerAsRead of (office name seed) old a new) (sym told)
+      (one_read of (office_file name) 0 (λ file. IsOfficeAnswer name seed file (answer_by name seed there)) old new
+      (read_weaker of (office_file name) 0 (IsThere there)
+      (λ file. IsOfficeAnswer name seed file (answer_by name seed there)) old new (right_of name seed there) is)).0;
   absent = by there comes told;
-  read_fault = no_cause old.read_faults new.read_faults same (λ e. cc);
+  read_fault = no_cause (of.read_faults old) (of.read_faults new) same (λ e. cc);
   files = files;
   write_faults = writes;
 }
   where
     -- by whether it is there
-    by : (there : Bool) → ComesExactly old.answered.absences new.answered.absences (SaysNone (Ok there)) →
-        answer ≡ answer_by name seed there →
-        ComesExactly old.answered.absences new.answered.absences (answer.status ≡ status.Done)
+    by : (there : Bool) → ComesExactly (of.answered old).absences (of.answered new).absences (SaysNone (Ok there))
+        → answer ≡ answer_by name seed there
+        → ComesExactly (of.answered old).absences (of.answered new).absences (answer.status ≡ status.Done)
     by false comes told = record {
       only = λ done. comes.only refl;
       always = λ more. status_is answer (made_office name seed) told;

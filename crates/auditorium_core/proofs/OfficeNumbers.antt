@@ -1,26 +1,24 @@
 -- The numbers of an office rise.
 use Rattle.std.proofs.Common.{◌⊎◌, length, codes, Bool, true}
 use Rattle.std.proofs.Common.{Option, Some, false}
-use Rattle.auditorium_core.proofs.Imports.{◌≡◌, ◌≢◌, ◌∙◌, ℕ, ◌+◌, ◌<◌, ◌≤◌, List, [], ◌∷◌, ◌++◌, take, None, inl, inr}
-use Rattle.auditorium_core.proofs.Imports.{refl, sym, ap, subst, arith, Ok, Err, ⊤, IsSomeAnd, AllPairs, bytes_eq}
+use Rattle.auditorium_core.proofs.Imports.{◌≡◌, ◌≢◌, ◌∙◌, ℕ, ◌+◌, ◌<◌, ◌≤◌, List, [], ◌∷◌, take, None, inl, inr}
+use Rattle.auditorium_core.proofs.Imports.{refl, sym, ap, subst, arith, Ok, Err, IsSomeAnd, bytes_eq}
 use Rattle.auditorium_core.proofs.Imports.{cases_lt, take_all, All-cons, AllPairs-cons, bytes_eq-Decides, Files}
 use Rattle.auditorium_core.proofs.Imports.{file_set, HssSigns, Office, endorsement, office_public, IsOffice}
 use Rattle.auditorium_core.proofs.Imports.{max_signatures, office_of, office_text, next_office, short_signature}
 use Rattle.auditorium_core.proofs.Imports.{cut_text, one_office, Answer, refusal_answer, refused_answer, IsAnswerTo}
-use Rattle.auditorium_core.proofs.Imports.{GivesUnsigned, IsEndorsement, Unsigned, endorse_answer, signature_file}
+use Rattle.auditorium_core.proofs.Imports.{Unsigned, endorse_answer, signature_file, IsOfficeAnswer}
 use Rattle.auditorium_core.proofs.Imports.{GivesSigned, IsEndorsedAnswer, IsEndorsedVerdict, Signed, max_signed}
 use Rattle.auditorium_core.proofs.Imports.{key_file, made_office, office_file, AreCallsOn, Call, IsCall}
 use Rattle.auditorium_core.proofs.Imports.{IsCallOrOther, IsCutOff, IsLeftSo, IsOfficeIn, ReadsUnsigned}
-use Rattle.auditorium_core.proofs.Imports.{IsSignedByNumber, IsUsedUp, NumbersRise, UsesNumber, with_next, HasDone}
-use Rattle.auditorium_core.proofs.Imports.{SetsSome, Outside, Command, Means, endorse, endorsed, office}
+use Rattle.auditorium_core.proofs.Imports.{IsSignedByNumber, IsUsedUp, NumbersRise, UsesNumber, with_next}
+use Rattle.auditorium_core.proofs.Imports.{SetsSome, Command, Means, endorse, endorsed, office}
 use Rattle.std.specs.List.{All}
 use Rattle.office_key.proofs.GoodSignatures.{endorsed as signs_well}
-use Rattle.auditorium_core.specs.declared.status.Status.TheVariants as status
 use Rattle.auditorium_core.proofs.EndorseCommand.{office_read, unsigned_parts}
 use Rattle.auditorium_core.proofs.EndorsedCommand.{bad, good, one_signed}
-use Rattle.auditorium_core.proofs.OfficeCallsLeave.{IsLeftOfTwo, IsSetBy, IsSetOrNot, left_elsewhere, left_of_two}
-use Rattle.auditorium_core.proofs.OfficeCallsLeave.{none_set, office_is_no_other, refusal_writes_none, set_elsewhere}
-use Rattle.auditorium_core.proofs.OfficeCallsLeave.{set_here, set_or_not}
+use Rattle.auditorium_core.proofs.OfficeCallsLeave.{IsLeftOfTwo, left_elsewhere, left_of_two, none_set, of_sets}
+use Rattle.auditorium_core.proofs.OfficeCallsLeave.{office_is_no_other, refusal_writes_none, set_elsewhere, set_here}
 
 -- an office's file is no signature's, and none of a public key
 no_signature : (name file : List ℕ) → office_file name ≢ signature_file file
@@ -150,61 +148,48 @@ module _ (IsDone : Command → Type 0) (call : Call) (is : IsCall IsDone call) w
       SetsSome is.old.store.files answer.files is.new.store.files → after ≡ before
   none_of answer other e none sets = none_set before after other.files none (sets_of answer other e sets)
 
-  -- the answer of the command over the files that are exposed
-  told_answer : (command : Command) (answer : Answer) → IsAnswerTo command is.old.store.files answer →
-      IsAnswerTo command (Some before) answer
-  told_answer command answer right =
-      subst (λ (f : Option Files). IsAnswerTo command f answer) is.told right
+  -- what follows where no file changed, and of the files that an answer of the command sets,
+  -- follows of the call
+  of_call : (command : Command) (L : Type 0) → IsDone command → Means call.words command → (after ≡ before → L) →
+      ((answer : Answer) → IsAnswerTo command (Some before) answer →
+      SetsSome is.old.store.files answer.files is.new.store.files → L) → L
+  of_call command L done means kept sets =
+      of_sets IsDone call.words command is.old is.new L done means
+      (λ e. kept (as_before is.old.store.files is.new.store.files before after is.told is.left e))
+      (λ answer right. sets answer (subst (λ (f : Option Files). IsAnswerTo command f answer) is.told right))
+      call.how is.done
 
   -- what an answer of `endorse` leaves
   endorse_sets : (name file : List ℕ) (answer : Answer) → IsAnswerTo (endorse name file) (Some before) answer →
       SetsSome is.old.store.files answer.files is.new.store.files → IsLeftSo name file before after
-  endorse_sets name file answer (first ∷ second ∷ [], (e, (f, t)), inl (refusal, gives, told)) sets =
+  endorse_sets name file answer (inl (refusal, gives, told)) sets =
       inl (none_of answer (refusal_answer refusal) told (refusal_writes_none refusal) sets)
-  endorse_sets name file answer (first ∷ second ∷ [], (e, (f, t)), inr (read, gives, of)) sets =
-      let P : List (Option (List ℕ)) → Type 0 = λ fs. GivesUnsigned name file fs (Ok read) in
-      let here : ReadsUnsigned before name file read =
-      subst P (ap (λ (s : Option (List ℕ)). s ∷ second ∷ []) (sym e)
-      ∙ ap (λ (s : Option (List ℕ)). before (office_file name) ∷ s ∷ []) (sym f)) gives in
-      states name file before after read here
+  endorse_sets name file answer (inr (read, gives, of)) sets =
+      states name file before after read gives
       (left_of_two before after (office_file name) (office_text (next_office read.office)) (signature_file file)
       (endorsement name read.office read.bytes) (sets_of answer (endorse_answer name file read) of.told sets))
-  endorse_sets name file answer ([], are, right) sets = absurd are
-  endorse_sets name file answer (first ∷ [], (e, are), right) sets = absurd are
-  endorse_sets name file answer (first ∷ second ∷ third ∷ more, (e, (f, are)), right) sets = absurd are
 
   -- what a call of `endorse` leaves of the files, whatever its status
   pub endorse_leaves : (name file : List ℕ) → IsDone (endorse name file) → Means call.words (endorse name file) →
       IsLeftSo name file before after
   endorse_leaves name file done means =
-      by (set_or_not IsDone call.words (endorse name file) is.old is.new means done call.how is.done)
-    where
-      -- by whether anything was written
-      by : IsSetOrNot IsDone call.words (endorse name file) is.old is.new call.how → IsLeftSo name file before after
-      by (inl (other, e)) = inl (as_before is.old.store.files is.new.store.files before after is.told is.left e)
-      by (inr set) = endorse_sets name file set.answer (told_answer (endorse name file) set.answer set.right) set.sets
+      of_call (endorse name file) (IsLeftSo name file before after) done means (λ e. inl e) (endorse_sets name file)
 
   -- an answer of `endorsed` writes no file
   endorsed_sets : (key file signature : List ℕ) (answer : Answer) →
       IsAnswerTo (endorsed key file signature) (Some before) answer →
       SetsSome is.old.store.files answer.files is.new.store.files → after ≡ before
-  endorsed_sets key file signature answer (files, are, inl (refusal, gives, told)) sets =
+  endorsed_sets key file signature answer (inl (refusal, gives, told)) sets =
       none_of answer (refusal_answer refusal) told (refusal_writes_none refusal) sets
-  endorsed_sets key file signature answer (files, are, inr (read, gives, inl (well, told))) sets =
+  endorsed_sets key file signature answer (inr (read, gives, inl (well, told))) sets =
       none_of answer good told refl sets
-  endorsed_sets key file signature answer (files, are, inr (read, gives, inr (badly, told))) sets =
+  endorsed_sets key file signature answer (inr (read, gives, inr (badly, told))) sets =
       none_of answer bad told refl sets
 
   endorsed_leaves : (key file signature : List ℕ) → IsDone (endorsed key file signature) →
       Means call.words (endorsed key file signature) → after ≡ before
   endorsed_leaves key file signature done means =
-      by (set_or_not IsDone call.words (endorsed key file signature) is.old is.new means done call.how is.done)
-    where
-      by : IsSetOrNot IsDone call.words (endorsed key file signature) is.old is.new call.how → after ≡ before
-      by (inl (other, e)) = as_before is.old.store.files is.new.store.files before after is.told is.left e
-      by (inr set) =
-          endorsed_sets key file signature set.answer
-          (told_answer (endorsed key file signature) set.answer set.right) set.sets
+      of_call (endorsed key file signature) (after ≡ before) done means (λ e. e) (endorsed_sets key file signature)
 
   -- what `office` leaves: all as it was where the file is there, and else two files of its own
   abbrev IsLeftByOffice : List ℕ → List ℕ → Type 0
@@ -214,27 +199,23 @@ module _ (IsDone : Command → Type 0) (call : Call) (is : IsCall IsDone call) w
       × IsLeftOfTwo before (office_file name) (office_text (office_of seed 0)) (key_file name) (office_public name seed)
       after)
 
-  office_sets : (name seed : List ℕ) (answer : Answer) → IsAnswerTo (office name seed) (Some before) answer →
-      SetsSome is.old.store.files answer.files is.new.store.files → IsLeftByOffice name seed
-  office_sets name seed answer (None ∷ [], (e, t), told) sets =
+  office_sets : (name seed : List ℕ) (answer : Answer) (this : Option (List ℕ)) → before (office_file name) ≡ this →
+      IsOfficeAnswer name seed this answer → SetsSome is.old.store.files answer.files is.new.store.files →
+      IsLeftByOffice name seed
+  office_sets name seed answer None e told sets =
       inr (
         e,
         left_of_two before after (office_file name) (office_text (office_of seed 0)) (key_file name)
             (office_public name seed) (sets_of answer (made_office name seed) told sets),
       )
-  office_sets name seed answer (Some bytes ∷ [], (e, t), told) sets =
+  office_sets name seed answer (Some bytes) e told sets =
       inl (none_of answer (refused_answer (office_file name) 0 (codes "Exists")) told refl sets)
-  office_sets name seed answer ([], are, right) sets = absurd are
-  office_sets name seed answer (first ∷ second ∷ more, (e, are), right) sets = absurd are
 
   office_leaves : (name seed : List ℕ) → IsDone (office name seed) → Means call.words (office name seed) →
       IsLeftByOffice name seed
   office_leaves name seed done means =
-      by (set_or_not IsDone call.words (office name seed) is.old is.new means done call.how is.done)
-    where
-      by : IsSetOrNot IsDone call.words (office name seed) is.old is.new call.how → IsLeftByOffice name seed
-      by (inl (other, e)) = inl (as_before is.old.store.files is.new.store.files before after is.told is.left e)
-      by (inr set) = office_sets name seed set.answer (told_answer (office name seed) set.answer set.right) set.sets
+      of_call (office name seed) (IsLeftByOffice name seed) done means (λ e. inl e)
+      (λ answer. office_sets name seed answer (before (office_file name)) refl)
 
 -- the signature's file differs only where the number is used
 pub signed_by_number : (name file : List ℕ) (before after : Files) → IsLeftSo name file before after →
@@ -344,7 +325,8 @@ module _ (name : List ℕ) (n : ℕ) (before after : Files) (has : HasAtLeast na
   office_keeps other seed (inr (none, left)) =
       elim (same_or_not (office_file name) (office_file other)) [
         | inl same ↦
-            absurd (let no : Some has.bytes ≡ None = sym has.there ∙ ap before same ∙ none in let never : ⊥ = cc in never)
+            absurd (let no : Some has.bytes ≡ None = sym has.there ∙ ap before same ∙ none in
+            let never : ⊥ = cc in never)
         | inr differs ↦ kept name n before after
             (left_elsewhere before after (office_file other) (office_text (office_of seed 0)) (key_file other)
             (office_public other seed) (office_file name) differs (no_key name other) left) has

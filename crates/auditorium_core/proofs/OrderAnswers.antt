@@ -1,10 +1,10 @@
 -- The answers of `order`.
-use Rattle.auditorium_core.proofs.Imports.{◌≡◌, ◌∙◌, ℕ, List, ◌∷◌, None, inl, inr, refl, ap, Result, Ok, Err, IfOk}
-use Rattle.auditorium_core.proofs.Imports.{Files, PathsAreSettled, member_at, Post, SealedEntry, node_of_sealed}
-use Rattle.auditorium_core.proofs.Imports.{LogRead, RosterRead, Refusal, GivesRosterIn, GivesLogsIn, entries_of}
-use Rattle.auditorium_core.proofs.Imports.{some_files, OrderWord, Answer, no_entry, order_word, line_answer}
-use Rattle.auditorium_core.proofs.Imports.{refusal_answer, MeansEntry, MeansNone, IsOrderAmong, IsOrderOver, order}
-use Rattle.auditorium_core.proofs.Imports.{IsAnswerTo, IsPlaceOf, IsWordAt}
+use Rattle.auditorium_core.proofs.Imports.{◌≡◌, ◌∙◌, ℕ, List, [], ◌∷◌, None, inl, inr, ap, subst, Result, Ok, Err}
+use Rattle.auditorium_core.proofs.Imports.{IfOk, PathsAreSettled, member_at, Post, SealedEntry, node_of_sealed}
+use Rattle.auditorium_core.proofs.Imports.{LogRead, RosterRead, Refusal, GivesRoster, GivesLogs, entries_of, AndThen}
+use Rattle.auditorium_core.proofs.Imports.{FileThen, OrderWord, Answer, no_entry, order_word, line_answer}
+use Rattle.auditorium_core.proofs.Imports.{refusal_answer, MeansEntry, MeansNone, IsOrderAmong, IsOrderOver}
+use Rattle.auditorium_core.proofs.Imports.{order_parts, IsPlaceOf, IsWordAt}
 use Rattle.std.proofs.Common.{Option, Some, length}
 use Rattle.auditorium_core.specs.declared.status.Status.TheVariants as status
 use Rattle.auditorium_core.proofs.EntryTexts.{named_has}
@@ -55,38 +55,41 @@ module _ {E : Type 0} (machines : List Post) (S : List SealedEntry) (x y : List 
       )
   both_told paths (Err fault) at other word text some more right shown told = tt
 
--- the answers by the files
-module _ (roster x y : List ℕ) (logs : List (List ℕ)) (told : Option Files) where
-  -- the roster is refused
-  pub roster_refused : (refusal : Refusal) → GivesRosterIn roster told (Err refusal) →
-      IsAnswerTo (order roster x y logs) told (refusal_answer refusal)
-  roster_refused refusal (file, is, gives) =
-      let more = some_files told logs in (
-        file ∷ more.0,
-        (is, more.1),
-        order_right roster x y logs file more.0 (refusal_answer refusal) (inl (refusal, gives, refl)),
-      )
+module _ (roster x y : List ℕ) (logs : List (List ℕ)) where
+  -- what the files of the logs give under the roster
+  abbrev pub Logs : RosterRead → List (Option (List ℕ)) → Result (List LogRead) Refusal → Type 0
+  Logs read = GivesLogs read.roster.machines read.election logs
 
-  -- a log is refused
-  pub log_refused : (read : RosterRead) → GivesRosterIn roster told (Ok read) → (refusal : Refusal) →
-      GivesLogsIn read.roster.machines read.election logs told (Err refusal) →
-      IsAnswerTo (order roster x y logs) told (refusal_answer refusal)
-  log_refused read (file, is, gives) refusal (files, are, refuses) = (
-    file ∷ files,
-    (is, are),
-    order_right roster x y logs file files (refusal_answer refusal)
-        (inr (read, gives, inl (refusal, refuses, refl))),
-  )
+  -- what all files give: the roster and the logs under it, or the first refusal
+  abbrev pub Read : List (Option (List ℕ)) → Result (RosterRead × List LogRead) Refusal → Type 0
+  Read = FileThen (GivesRoster roster)
+      (λ read files. AndThen (Logs read files) (λ found answer. answer ≡ Ok (read, found)))
 
-  -- all are read
-  pub all_read : {E : Type 0} → (read : RosterRead) → GivesRosterIn roster told (Ok read) →
-      (found : List LogRead) → GivesLogsIn read.roster.machines read.election logs told (Ok found) →
-      (result : Result Answer E) →
-      IfOk result (IsOrderOver read.roster.machines x y (entries_of found)) →
-      IfOk result (IsAnswerTo (order roster x y logs) told)
-  all_read read (file, is, gives) found (files, are, says) (Ok answer) over = (
-    file ∷ files,
-    (is, are),
-    order_right roster x y logs file files answer (inr (read, gives, inr (found, says, over))),
-  )
-  all_read read roster_is found logs_are (Err fault) over = tt
+  -- a refusal of the files is the answer
+  pub order_refused : (files : List (Option (List ℕ))) (refusal : Refusal) → Read files (Err refusal)
+      → (order_parts roster x y logs).IsAnswer files (refusal_answer refusal)
+  order_refused [] refusal gives = absurd gives
+  order_refused (file ∷ files) refusal (inl (read, gives, inl (found, also, e))) = absurd (let no : ⊥ = cc in no)
+  order_refused (file ∷ files) refusal (inl (read, gives, inr (why, also, e))) =
+      let same : refusal ≡ why = cc in
+      order_right roster x y logs file files (refusal_answer refusal)
+      (inr (read, gives, inl (why, also, ap refusal_answer same)))
+  order_refused (file ∷ files) refusal (inr (why, gives, e)) =
+      let same : refusal ≡ why = cc in
+      order_right roster x y logs file files (refusal_answer refusal) (inl (why, gives, ap refusal_answer same))
+
+  -- what the entries of the logs come to is the answer
+  pub order_answered : (read : RosterRead) (found : List LogRead) (answer : Answer)
+      → IsOrderOver read.roster.machines x y (entries_of found) answer
+      → (files : List (Option (List ℕ))) → Read files (Ok (read, found))
+      → (order_parts roster x y logs).IsAnswer files answer
+  order_answered read found answer over [] gives = absurd gives
+  order_answered read found answer over (file ∷ files) (inl (other, gives, inl (logs_found, also, e))) =
+      let P : RosterRead × List LogRead → Type 0 = λ both. GivesRoster roster file (Ok both.0)
+      × Logs both.0 files (Ok both.1) in
+      let same : (other, logs_found) ≡ (read, found) = cc in
+      let (its_roster, its_logs) = subst P same (gives, also) in
+      order_right roster x y logs file files answer (inr (read, its_roster, inr (found, its_logs, over)))
+  order_answered read found answer over (file ∷ files) (inl (other, gives, inr (why, also, e))) =
+      absurd (let no : ⊥ = cc in no)
+  order_answered read found answer over (file ∷ files) (inr (why, gives, e)) = absurd (let no : ⊥ = cc in no)

@@ -3,7 +3,7 @@ use Rattle.auditorium_core.proofs.Imports.{◌≡◌, ℕ, List, [], ◌∷◌, 
 use Rattle.auditorium_core.proofs.Imports.{All-from_recursion, Post, SealedEntry, LogRead, EntryGraph, RosterRead}
 use Rattle.auditorium_core.proofs.Imports.{GivesRoster, GivesLogs, entries_of, GivesGraph, same_entries, Status, Answer}
 use Rattle.auditorium_core.proofs.Imports.{line_answer, no_entry, order_word, MeansEntry, IsOrderAmong, IsOrderOver}
-use Rattle.auditorium_core.proofs.Imports.{IsOrderOverLogs, IsOrderUnder, IsOrderAnswer, GiveEntries, order_parts}
+use Rattle.auditorium_core.proofs.Imports.{IsOrderOverLogs, IsOrderUnder, GiveEntries, order_parts}
 use Rattle.auditorium_core.proofs.Imports.{IsCarriedOut, OrRefused}
 use Rattle.std.proofs.Common.{Option}
 use Rattle.std.specs.List.{Contains}

@@ -1,14 +1,12 @@
 -- What survives, by what it says.
 use Rattle.std.proofs.Common.{length}
-use Rattle.std.specs.Prelude.{◌↔◌}
-use Rattle.std.specs.List.{Contains}
-use Rattle.auditorium_core.proofs.Imports.{◌≡◌, ◌∙◌, ℕ, ◌<◌, List, [], map, refl, sym, ap, subst, Ok, All-contains}
-use Rattle.auditorium_core.proofs.Imports.{Completion, IsWhole, Contains-none, Contains-map, Contains-map_cases}
+use Rattle.auditorium_core.proofs.Imports.{◌≡◌, ◌∙◌, ◌<◌, List, [], refl, sym, ap, subst, Ok, All-contains}
+use Rattle.auditorium_core.proofs.Imports.{Completion, Contains-none, Contains-map, Contains-map_cases}
 use Rattle.auditorium_core.proofs.Imports.{survivors_are_no_strays, Post, Plain, SealedEntry, node_of, node_of_sealed}
-use Rattle.auditorium_core.proofs.Imports.{EntryGraph, entries_of, GivesGraph, survivors_distinct, HaveMakers}
+use Rattle.auditorium_core.proofs.Imports.{EntryGraph, GivesGraph, survivors_distinct, HaveMakers}
 use Rattle.auditorium_core.proofs.Imports.{AreSurvivors, plain_of, plains, completions_exist, order_is_exact, made}
-use Rattle.auditorium_core.proofs.Imports.{order_seen, order_back, whole_seen, whole_back, IsBefore, InEach}
-use Rattle.auditorium_core.proofs.Imports.{ComesFirst, IsExact}
+use Rattle.auditorium_core.proofs.Imports.{order_seen, order_back, whole_seen, whole_back}
+use Rattle.auditorium_core.proofs.Imports.{IsExact}
 
 module _ (machines : List Post) (given : List SealedEntry) (graph : EntryGraph SealedEntry)
     (makers : HaveMakers machines graph.survivors) (gives : GivesGraph given (Ok graph)) where

@@ -1,11 +1,10 @@
 -- The command `play`.
 use Rattle.std.proofs.Common.{Option}
-use Rattle.auditorium_core.proofs.Imports.{◌≢◌, ℕ, List, [], ◌∷◌, inl, inr, refl, ap, Ok, Err, Files, Script}
-use Rattle.auditorium_core.proofs.Imports.{roster_of, Refusal, Answer, refusal_answer, play_statuses, IsPlayOf}
-use Rattle.auditorium_core.proofs.Imports.{play_answer, play_parts, GivesScriptIn, IsAnswerTo}
+use Rattle.auditorium_core.proofs.Imports.{◌≢◌, ℕ, List, [], ◌∷◌, ap, Script}
+use Rattle.auditorium_core.proofs.Imports.{roster_of, Answer, play_statuses, IsPlayOf}
+use Rattle.auditorium_core.proofs.Imports.{play_answer, play_parts}
 use Rattle.std.specs.List.{Contains}
 use Rattle.auditorium_core.specs.declared.status.Status.TheVariants as status
-use Rattle.auditorium_core.specs.Words.{play}
 use Rattle.auditorium_core.proofs.CommandProofs.{HasStatuses, IsCompleted, HasOneAnswer, contains_as, carried_out_as}
 use Rattle.auditorium_core.proofs.OnePlayAnswer.{PlayOne, same_play}
 use Rattle.auditorium_core.proofs.ScriptCommands.{script_completed, undone_done, undone_status, play_statuses_some}
@@ -42,16 +41,6 @@ of_files script prefix (file ∷ other ∷ more) answer is = absurd is
 
 pub play_has_statuses : (script prefix : List ℕ) → HasStatuses (play_parts script prefix)
 play_has_statuses script prefix = record { own = of_files script prefix; some = play_statuses_some }
-
--- a script that is refused is answered so
-pub play_refused : (name prefix : List ℕ) (told : Option Files) (refusal : Refusal) →
-    GivesScriptIn name told (Err refusal) → IsAnswerTo (play name prefix) told (refusal_answer refusal)
-play_refused name prefix told refusal (file, is, gives) = (file ∷ [], (is, tt), inl (refusal, gives, refl))
-
--- what the machines of a script that was read come to is an answer
-pub play_told : (name prefix : List ℕ) (told : Option Files) (script : Script) (answer : Answer) →
-    GivesScriptIn name told (Ok script) → IsPlayOf prefix script answer → IsAnswerTo (play name prefix) told answer
-play_told name prefix told script answer (file, is, gives) of = (file ∷ [], (is, tt), inr (script, gives, of))
 
 -- the status of an answer of `play` isn't that of an absent file
 pub play_is_there : (prefix : List ℕ) (script : Script) (answer : Answer) → IsPlayOf prefix script answer →

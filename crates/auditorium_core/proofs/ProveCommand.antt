@@ -1,10 +1,8 @@
 -- The command `prove`.
-use Rattle.std.proofs.Common.{Option}
-use Rattle.auditorium_core.proofs.Imports.{◌≡◌, ◌≢◌, ◌∙◌, ℕ, List, [], ◌∷◌, inl, inr, refl, sym, ap, arith, Result}
-use Rattle.auditorium_core.proofs.Imports.{Ok, Err, All-from_recursion, Files, Refusal, Status, Answer}
-use Rattle.auditorium_core.proofs.Imports.{refusal_answer, ProofMade, GivesMade, IsProofOver, proof_answer}
-use Rattle.auditorium_core.proofs.Imports.{prove_parts, prove, IsAnswerTo, IsCarriedOut, GivesMadeIn}
-use Rattle.std.specs.List.{Contains}
+use Rattle.auditorium_core.proofs.Imports.{◌≡◌, ◌≢◌, ◌∙◌, ℕ, List, [], ◌∷◌, inl, inr, refl, sym, ap, arith}
+use Rattle.auditorium_core.proofs.Imports.{Ok, Err, All-from_recursion, Status, Answer}
+use Rattle.auditorium_core.proofs.Imports.{ProofMade, GivesMade, proof_answer}
+use Rattle.auditorium_core.proofs.Imports.{prove_parts}
 use Rattle.auditorium_core.specs.declared.status.Status.TheVariants as status
 use Rattle.auditorium_core.proofs.CommandProofs.{IsOfCommands, HasStatuses, IsCompleted, HasOneAnswer, contains_as}
 use Rattle.auditorium_core.proofs.CommandProofs.{carried_out_as, of_read, status_is}
@@ -41,17 +39,6 @@ prove_has_statuses roster proof logs = record {
       (λ made told. contains_as own_statuses answer (proof_answer proof made) told (0, omega arith, refl)) is;
   some = All-from_recursion IsOfCommands own_statuses (tt, (tt, (tt, tt)));
 }
-
-module _ (roster proof : List ℕ) (logs : List (List ℕ)) (told : Option Files) where
-  -- a refusal is answered
-  pub prove_refused : (refusal : Refusal) → GivesMadeIn roster proof logs told (Err refusal) →
-      IsAnswerTo (prove roster proof logs) told (refusal_answer refusal)
-  prove_refused refusal (files, are, gives) = (files, are, inl (refusal, gives, refl))
-
-  -- a proof is answered
-  pub prove_told : (made : ProofMade) (answer : Answer) → GivesMadeIn roster proof logs told (Ok made) →
-      answer ≡ proof_answer proof made → IsAnswerTo (prove roster proof logs) told answer
-  prove_told made answer (files, are, gives) is = (files, are, inr (made, gives, is))
 
 -- the status of an answer with a proof isn't that of an absent file
 pub prove_is_there : (proof : List ℕ) (made : ProofMade) (answer : Answer) → answer ≡ proof_answer proof made →

@@ -1,8 +1,8 @@
 -- The files that machines wrote are read back by their names.
-use Rattle.auditorium_core.proofs.Imports.{◌≡◌, ◌≢◌, ◌∙◌, ℕ, zero, suc, ◌+◌, ◌<◌, inl, inr, List, [], ◌∷◌, ◌++◌, map}
+use Rattle.auditorium_core.proofs.Imports.{◌≡◌, ◌≢◌, ◌∙◌, ℕ, zero, suc, ◌<◌, inl, inr, List, [], ◌∷◌, ◌++◌, map}
 use Rattle.auditorium_core.proofs.Imports.{get_or, None, refl, ap, sym, subst, arith, slice_get, option_map, bytes_eq}
 use Rattle.auditorium_core.proofs.Imports.{cases_lt, cond-false, get_or_from_slice_get, slice_get-map, slice_get_within}
-use Rattle.auditorium_core.proofs.Imports.{bytes_eq-Decides, Files, file_set, AreFiles, text_of, Post, roster_tree}
+use Rattle.auditorium_core.proofs.Imports.{bytes_eq-Decides, Files, file_set, text_of, Post, roster_tree}
 use Rattle.auditorium_core.proofs.Imports.{node_of_sealed, SealedEntry, Distinct, World, history, sent_in}
 use Rattle.auditorium_core.proofs.Imports.{Contains-none, Contains-head, Contains-later, Contains-map, all_from_places}
 use Rattle.auditorium_core.proofs.Imports.{Cast0, Script, IsLawful, log_text, Config, roster_of, MachineState, AreOf}
@@ -192,15 +192,12 @@ own_names script lawful machines named i j m n at there same =
 logs_back : (at : Files) (prefix : List ℕ) (machines : List MachineState) →
     ((m : MachineState) → Contains machines m →
     at (machine_log_name prefix m) ≡ Some (log_text m.config.number m.events)) →
-    (files : List (Option (List ℕ))) → AreFiles (Some at) (log_names prefix machines) files →
-    files ≡ written_logs machines
-logs_back at prefix [] has [] are = refl
-logs_back at prefix [] has (file ∷ files) are = absurd are
-logs_back at prefix (m ∷ machines) has [] are = absurd are
-logs_back at prefix (m ∷ machines) has (file ∷ files) (is, rest) =
-    ap (λ (x : Option (List ℕ)). x ∷ files) (sym is ∙ has m (Contains-head m machines))
+    map at (log_names prefix machines) ≡ written_logs machines
+logs_back at prefix [] has = refl
+logs_back at prefix (m ∷ machines) has =
+    ap (λ (x : Option (List ℕ)). x ∷ map at (log_names prefix machines)) (has m (Contains-head m machines))
     ∙ ap (λ (xs : List (Option (List ℕ))). Some (log_text m.config.number m.events) ∷ xs)
-    (logs_back at prefix machines (λ n c. has n (Contains-later m machines n c)) files rest)
+    (logs_back at prefix machines (λ n c. has n (Contains-later m machines n c)))
 
 -- whole logs are left of their place
 whole_left : (w : World SealedEntry) (file : Option (List ℕ)) → IsSomeAnd file (IsWholeIn w) →
@@ -231,9 +228,9 @@ module _ (prefix : List ℕ) (script : Script) (machines : List MachineState) (w
   place : HasLeft script w (Some text) (written_logs machines)
   place = record {
     roster = honest.roster;
-    logs = all_from_places (λ (file : Option (List ℕ)). IsSomeAnd file (IsLeftIn w)) (written_logs machines) (λ i file at.
-        whole_left w file (all_at (λ (f : Option (List ℕ)). IsSomeAnd f (IsWholeIn w)) (written_logs machines) i file
-        honest.whole at));
+    logs = all_from_places (λ (file : Option (List ℕ)). IsSomeAnd file (IsLeftIn w)) (written_logs machines)
+        (λ i file at. whole_left w file
+        (all_at (λ (f : Option (List ℕ)). IsSomeAnd f (IsWholeIn w)) (written_logs machines) i file honest.whole at));
   }
 
   -- the roster's file has its text
@@ -251,33 +248,27 @@ module _ (prefix : List ℕ) (script : Script) (machines : List MachineState) (w
       (Contains-later (roster_file prefix (roster_of script)) (map (log_file prefix) machines) (log_file prefix m)
       (Contains-map (log_file prefix) machines m inside))
 
-  -- the files that are read by their names are left of the place
-  read_place : (file : Option (List ℕ)) (files : List (Option (List ℕ))) →
-      now (roster_name prefix) ≡ file → AreFiles (Some now) (log_names prefix machines) files →
-      file ∷ files ≡ Some text ∷ written_logs machines
-  read_place file files is are =
-      ap (λ (f : Option (List ℕ)). f ∷ files) (sym is ∙ has_roster)
-      ∙ ap (λ (fs : List (Option (List ℕ))). Some text ∷ fs) (logs_back now prefix machines has_log files are)
+  -- the logs are those that were written
+  logs_are : map now (log_names prefix machines) ≡ written_logs machines
+  logs_are = logs_back now prefix machines has_log
 
   -- `audit` of them says of each rule that it is kept
   audit_back : (answer : Answer) →
       IsAnswerTo (audit (roster_name prefix) (codes "standard") (log_names prefix machines)) (Some now) answer →
       TellsAllKept script w (log_names prefix machines) (written_logs machines) answer
-  audit_back answer ([], are, is) = absurd are
-  audit_back answer (file ∷ files, (this, others), is) =
-      (is.honest (Some text) None (written_logs machines) (read_place file files this others) script w place).kept apart
-      refl honest.all honest.whole
+  audit_back answer is =
+      (is.honest (Some text) None (written_logs machines)
+      (ap (λ (f : Option (List ℕ)). f ∷ map now (log_names prefix machines)) has_roster
+      ∙ ap (λ (fs : List (Option (List ℕ))). Some text ∷ fs) logs_are) script w place).kept apart refl honest.all
+      honest.whole
 
   -- `order` of them says what the machines held
   order_back : (x y : List ℕ) (answer : Answer) →
       IsAnswerTo (order (roster_name prefix) x y (log_names prefix machines)) (Some now) answer →
       IsHonestOrder script w x y (log_names prefix machines) (written_logs machines) answer
-  order_back x y answer ([], are, is) = absurd are
-  order_back x y answer (file ∷ files, (this, others), is) =
-      let roster_is : file ≡ Some text = sym this ∙ has_roster in
-      let logs_are : files ≡ written_logs machines = logs_back now prefix machines has_log files others in
-      let here : HasLeft script w file files =
-      subst (λ (f : Option (List ℕ)). HasLeft script w f files) (sym roster_is)
+  order_back x y answer is =
+      let here : HasLeft script w (now (roster_name prefix)) (map now (log_names prefix machines)) =
+      subst (λ (f : Option (List ℕ)). HasLeft script w f (map now (log_names prefix machines))) (sym has_roster)
       (subst (HasLeft script w (Some text)) (sym logs_are) place) in
       subst (λ (fs : List (Option (List ℕ))). IsHonestOrder script w x y (log_names prefix machines) fs answer) logs_are
       ((is.honest script w here).honest apart)
@@ -307,7 +298,8 @@ named_of_run script machines are place m at =
 -- the files of a play are read back
 pub plays_are_read_back : PlaysAreReadBack
 plays_are_read_back prefix script answer is apart before =
-    subst (λ (files : List (List ℕ × List ℕ)). AreReadBack prefix script is.machines (world_of is.machines) (with_files (Some before) files))
+    subst (λ (files : List (List ℕ × List ℕ)). AreReadBack prefix script is.machines (world_of is.machines)
+    (with_files (Some before) files))
     (sym (ap (λ (a : Answer). a.files) is.told))
     (read_back prefix script is.machines (world_of is.machines) is.honest
     (own_names script is.honest.roster.lawful is.machines (named_of_play script is.machines is.played.are_of)) apart
@@ -316,7 +308,8 @@ plays_are_read_back prefix script answer is apart before =
 -- the files of a run are read back
 pub runs_are_read_back : RunsAreReadBack
 runs_are_read_back prefix script answer is apart before =
-    subst (λ (files : List (List ℕ × List ℕ)). AreReadBack prefix script is.machines is.w (with_files (Some before) files))
+    subst (λ (files : List (List ℕ × List ℕ)). AreReadBack prefix script is.machines is.w
+    (with_files (Some before) files))
     (sym (ap (λ (a : Answer). a.files) is.told))
     (read_back prefix script is.machines is.w is.honest
     (own_names script is.honest.roster.lawful is.machines (named_of_run script is.machines is.floor.machines)) apart

@@ -1,8 +1,8 @@
 -- The command `repair`.
 use Rattle.std.proofs.Common.{Option}
-use Rattle.auditorium_core.proofs.Imports.{◌≢◌, ℕ, List, [], ◌∷◌, inl, inr, refl, ap, Ok, Err, Files, Script}
-use Rattle.auditorium_core.proofs.Imports.{roster_of, Refusal, Answer, refusal_answer, play_statuses, IsRepairOf}
-use Rattle.auditorium_core.proofs.Imports.{repair_answer, repair_parts, GivesScriptIn, repair, IsAnswerTo}
+use Rattle.auditorium_core.proofs.Imports.{◌≢◌, ℕ, List, [], ◌∷◌, ap, Script}
+use Rattle.auditorium_core.proofs.Imports.{roster_of, Answer, play_statuses, IsRepairOf}
+use Rattle.auditorium_core.proofs.Imports.{repair_answer, repair_parts}
 use Rattle.std.specs.List.{Contains}
 use Rattle.auditorium_core.specs.declared.status.Status.TheVariants as status
 use Rattle.auditorium_core.proofs.CommandProofs.{HasStatuses, IsCompleted, HasOneAnswer, contains_as, carried_out_as}
@@ -42,16 +42,6 @@ of_files script prefix (file ∷ other ∷ more) answer is = absurd is
 
 pub repair_has_statuses : (script prefix : List ℕ) → HasStatuses (repair_parts script prefix)
 repair_has_statuses script prefix = record { own = of_files script prefix; some = play_statuses_some }
-
--- a script that is refused is answered so
-pub repair_refused : (name prefix : List ℕ) (told : Option Files) (refusal : Refusal) →
-    GivesScriptIn name told (Err refusal) → IsAnswerTo (repair name prefix) told (refusal_answer refusal)
-repair_refused name prefix told refusal (file, is, gives) = (file ∷ [], (is, tt), inl (refusal, gives, refl))
-
--- what the machines of a script that was read come to is an answer
-pub repair_told : (name prefix : List ℕ) (told : Option Files) (script : Script) (answer : Answer) →
-    GivesScriptIn name told (Ok script) → IsRepairOf prefix script answer → IsAnswerTo (repair name prefix) told answer
-repair_told name prefix told script answer (file, is, gives) of = (file ∷ [], (is, tt), inr (script, gives, of))
 
 -- the status of an answer of `repair` isn't that of an absent file
 pub repair_is_there : (prefix : List ℕ) (script : Script) (answer : Answer) → IsRepairOf prefix script answer →

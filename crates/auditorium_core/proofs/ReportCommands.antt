@@ -1,5 +1,5 @@
 -- The commands that answer with a report.
-use Rattle.auditorium_core.proofs.Imports.{◌≡◌, [], ◌∷◌, refl, arith, All-from_recursion, Outcome, status_by}
+use Rattle.auditorium_core.proofs.Imports.{refl, arith, All-from_recursion, Outcome, status_by}
 use Rattle.auditorium_core.proofs.Imports.{report_statuses, IsCarriedOut}
 use Rattle.std.specs.List.{All, Contains}
 use Rattle.auditor.specs.declared.outcome.Outcome.TheVariants as outcome

@@ -1,8 +1,8 @@
 -- The command `run`.
 use Rattle.std.proofs.Common.{Option}
-use Rattle.auditorium_core.proofs.Imports.{◌≢◌, ℕ, List, [], ◌∷◌, inl, inr, refl, ap, Ok, Err, Files, Script}
-use Rattle.auditorium_core.proofs.Imports.{roster_of, Refusal, Answer, refusal_answer, play_statuses, IsRunOf}
-use Rattle.auditorium_core.proofs.Imports.{run_answer, run_parts, GivesScriptIn, run, IsAnswerTo}
+use Rattle.auditorium_core.proofs.Imports.{◌≢◌, ℕ, List, [], ◌∷◌, ap, Script}
+use Rattle.auditorium_core.proofs.Imports.{roster_of, Answer, play_statuses, IsRunOf}
+use Rattle.auditorium_core.proofs.Imports.{run_answer, run_parts}
 use Rattle.std.specs.List.{Contains}
 use Rattle.auditorium_core.specs.declared.status.Status.TheVariants as status
 use Rattle.auditorium_core.proofs.CommandProofs.{HasStatuses, IsCompleted, contains_as, carried_out_as}
@@ -35,16 +35,6 @@ of_files script prefix (file ∷ other ∷ more) answer is = absurd is
 
 pub run_has_statuses : (script prefix : List ℕ) → HasStatuses (run_parts script prefix)
 run_has_statuses script prefix = record { own = of_files script prefix; some = play_statuses_some }
-
--- a script that is refused is answered so
-pub run_refused : (name prefix : List ℕ) (told : Option Files) (refusal : Refusal) →
-    GivesScriptIn name told (Err refusal) → IsAnswerTo (run name prefix) told (refusal_answer refusal)
-run_refused name prefix told refusal (file, is, gives) = (file ∷ [], (is, tt), inl (refusal, gives, refl))
-
--- what the machines of a script that was read come to is an answer
-pub run_told : (name prefix : List ℕ) (told : Option Files) (script : Script) (answer : Answer) →
-    GivesScriptIn name told (Ok script) → IsRunOf prefix script answer → IsAnswerTo (run name prefix) told answer
-run_told name prefix told script answer (file, is, gives) of = (file ∷ [], (is, tt), inr (script, gives, of))
 
 -- the status of an answer of `run` isn't that of an absent file
 pub run_is_there : (prefix : List ℕ) (script : Script) (answer : Answer) → IsRunOf prefix script answer →

@@ -1,5 +1,5 @@
 -- What a run of a script in threads comes to is an answer.
-use Rattle.std.proofs.Common.{length, Option, Some}
+use Rattle.std.proofs.Common.{length, Some}
 use Rattle.std.specs.Prelude.{All}
 use Rattle.auditorium_core.proofs.Imports.{◌≡◌, ◌∙◌, ℕ, List, map, refl, sym, ap, subst, arith, slice_get, length-map}
 use Rattle.auditorium_core.proofs.Imports.{node_of_sealed, SealedEntry, Step, PlacedEvent, IsMergedOf, step_of, World}

@@ -1,11 +1,19 @@
 -- The commands that go by a script.
-use Rattle.std.proofs.Common.{Option, Some}
-use Rattle.auditorium_core.proofs.Imports.{◌≡◌, ◌≢◌, ◌∙◌, ℕ, List, [], ◌∷◌, None, inl, inr, refl, sym, arith, Ok, Err}
-use Rattle.auditorium_core.proofs.Imports.{All-from_recursion, Script, Status, Answer, OrRefused, GivesScript}
-use Rattle.auditorium_core.proofs.Imports.{IsScriptFile, play_statuses, status_of_undone, IsCarriedOut}
+use Rattle.std.proofs.Common.{◌↔◌, Option, Some}
+use Rattle.auditorium_core.proofs.Imports.{◌≡◌, ◌≢◌, ◌∙◌, ℕ, List, [], ◌∷◌, None, inl, inr, refl, sym, arith, Result}
+use Rattle.auditorium_core.proofs.Imports.{Ok, Err, IfOk, IfErr, All-from_recursion, Script, Status, Answer, Fault}
+use Rattle.auditorium_core.proofs.Imports.{StoreGhosts, AuditFault, Refusal, OnOneFile, IsReadFromFile, IsAnswered}
+use Rattle.auditorium_core.proofs.Imports.{OrRefused, refusal_answer, GivesScript, IsScriptFile, play_statuses}
+use Rattle.auditorium_core.proofs.Imports.{status_of_undone, IsCarriedOut}
+use Rattle.auditorium_core.proofs.Imports.{on_one}
 use Rattle.std.specs.List.{All, Contains}
+use Rattle.evidence.specs.declared.fault.AuditFault.TheVariants as audit
+use Rattle.auditorium_core.specs.declared.answer.Fault.TheVariants.{ReadFault}
 use Rattle.auditorium_core.specs.declared.status.Status.TheVariants as status
 use Rattle.auditorium_core.proofs.CommandProofs.{IsOfCommands, of_read}
+use Rattle.auditorium_core.proofs.Faults.{IsAbsentAnswer, IsAnswerOfFault, IsRightAsRead, refused_answered}
+use Rattle.auditorium_core.proofs.Faults.{found_answered}
+use Rattle.auditorium_core.proofs.ScriptFiles.{itself}
 use Rattle.auditorium_core.proofs.OnePlayAnswer.{PlayOne, one_script}
 
 -- what is done with a script is carried out over its file
@@ -45,3 +53,33 @@ script_status name file =
 pub not_absent : (lines : List ℕ) (how : Status) → how ≡ status_of_undone lines → how ≢ status.Absent
 not_absent [] how is e = let no : status.Done ≡ status.Absent = sym is ∙ e in cc
 not_absent (byte ∷ lines) how is e = let no : status.Undone ≡ status.Absent = sym is ∙ e in cc
+
+module _ {S : Type 0} (of : StoreGhosts S) (name : List ℕ) (IsFor : Script → Answer → Type 0) (old new : S) where
+  -- what is done with the script in a list of one file
+  abbrev IsDoneWith : List (Option (List ℕ)) → Answer → Type 0
+  IsDoneWith files answer = OnOneFile (λ file. OrRefused (GivesScript name file) IsFor answer) files
+
+  -- what the script's file gives, in a list
+  abbrev GivesOne : List (Option (List ℕ)) → Result Script Refusal → Type 0
+  GivesOne files answer = OnOneFile (λ file. GivesScript name file answer) files
+
+  -- a script that is refused is answered so
+  pub script_refused : (fault : AuditFault) (result : Result Answer Fault)
+      → IsReadFromFile of itself name (GivesScript name) old (Err fault) new → IfOk result (IsAnswerOfFault fault)
+      → IfErr result (λ why. (why ≡ ReadFault) ↔ (fault ≡ audit.ReadFault))
+      → IsAnswered of (IsRightAsRead of itself (name ∷ []) GivesOne IsDoneWith old new) IsAbsentAnswer old result new
+  script_refused fault result given told why =
+      refused_answered of itself (name ∷ []) GivesOne IsDoneWith old new fault result given told why
+      (λ files refusal. on_one (λ file. GivesScript name file (Err refusal))
+      (λ fs. IsDoneWith fs (refusal_answer refusal)) files (λ file gives. inl (refusal, gives, refl)))
+
+  -- what is done with a script that was read is answered
+  pub script_answered : (script : Script) (answer : Answer)
+      → IsReadFromFile of itself name (GivesScript name) old (Ok script) new → IsFor script answer
+      → answer.status ≢ status.Absent
+      → IsAnswered of (IsRightAsRead of itself (name ∷ []) GivesOne IsDoneWith old new) IsAbsentAnswer old (Ok answer)
+      new
+  script_answered script answer given is other =
+      found_answered of itself (name ∷ []) GivesOne IsDoneWith old new script (Ok answer) given
+      (λ files. on_one (λ file. GivesScript name file (Ok script)) (λ fs. IsDoneWith fs answer) files
+      (λ file gives. inr (script, gives, is))) other tt

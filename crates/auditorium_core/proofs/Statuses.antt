@@ -1,9 +1,9 @@
 -- What the status of an answer says of the words.
-use Rattle.std.proofs.Common.{Option, Bool, true}
+use Rattle.std.proofs.Common.{Option, Some, None}
 use Rattle.std.specs.List.{Contains}
-use Rattle.auditorium_core.proofs.Imports.{◌≡◌, List, ℕ, inl, inr, sym, ap, subst, All-contains, Files, Status}
-use Rattle.auditorium_core.proofs.Imports.{Command, command_parts, Means, AreGood, Answer, usage_answer, AnswersWords}
-use Rattle.auditorium_core.proofs.Imports.{IsOfAnswers, HasItsWords, Outside, GivesAnswer, IsWritten, HasDone}
+use Rattle.auditorium_core.proofs.Imports.{◌≡◌, List, ℕ, inl, inr, map, sym, ap, subst, All-contains, Files, OnExposed}
+use Rattle.auditorium_core.proofs.Imports.{Status, Command, command_parts, Means, AreGood, Answer, usage_answer}
+use Rattle.auditorium_core.proofs.Imports.{AnswersWords, IsOfAnswers, HasItsWords}
 use Rattle.auditorium_core.specs.declared.status.Status.TheVariants as status
 use Rattle.auditorium_core.proofs.CommandProofs.{IsOfCommands}
 use Rattle.auditorium_core.proofs.Commands.{have_statuses}
@@ -45,23 +45,10 @@ usage_words IsDone words answer bad e = record {
 
 -- what the status says of the words of any command, and of an invalid command line
 pub status_words : (IsDone : Command → Type 0) (words : List (List ℕ)) (told : Option Files) (answer : Answer) →
-    AnswersWords IsDone words told answer → HasItsWords IsDone words answer
-status_words IsDone words told answer (inl (command, done, means, (files, are, is))) =
+    AnswersWords IsDone words (OnExposed told) answer → HasItsWords IsDone words answer
+status_words IsDone words None answer (inl (command, done, means, (files, many, is))) =
     command_words IsDone words command answer done means ((have_statuses command).own files answer is)
-status_words IsDone words told answer (inr (bad, e)) = usage_words IsDone words answer bad e
-
--- the program is done with an answer, and ends with its status
-pub is_done : (IsDone : Command → Type 0) (words : List (List ℕ)) (is_written_by : Answer → Bool → Type 0)
-    (old new : Outside) (answer : Answer) (how : Status) → how ≡ answer.status →
-    GivesAnswer IsDone words old new answer → is_written_by answer true → IsWritten answer old new →
-    HasDone IsDone words is_written_by old how new
-is_done IsDone words is_written_by old new answer how same gives calls written =
-    by_status how same (status_words IsDone words old.store.files answer gives.answers).some
-  where
-    -- by the status: failed calls and running out of memory have none that is an answer's
-    by_status : (how : Status) → how ≡ answer.status → IsOfAnswers answer.status →
-        HasDone IsDone words is_written_by old how new
-    by_status status.ReadFault e some = absurd (subst IsOfAnswers (sym e) some)
-    by_status status.WriteFault e some = absurd (subst IsOfAnswers (sym e) some)
-    by_status status.Memory e some = absurd (subst IsOfAnswers (sym e) some)
-    by_status how e some = (answer, gives, e, calls, written)
+status_words IsDone words (Some at) answer (inl (command, done, means, is)) =
+    let files : List (Option (List ℕ)) = map at (command_parts command).files in
+    command_words IsDone words command answer done means ((have_statuses command).own files answer is)
+status_words IsDone words told answer (inr (bad, e, on)) = usage_words IsDone words answer bad e

@@ -1,16 +1,15 @@
 -- What `watch` has in common with an audit.
-use Rattle.std.proofs.Common.{length, Option}
-use Rattle.auditorium_core.proofs.Imports.{◌≡◌, ◌≢◌, ◌∙◌, ℕ, ◌+◌, suc, zero, List, [], ◌∷◌, ◌++◌, take, inl, inr}
+use Rattle.std.proofs.Common.{length}
+use Rattle.auditorium_core.proofs.Imports.{◌≡◌, ◌≢◌, ◌∙◌, ℕ, ◌+◌, List, [], ◌∷◌, ◌++◌, inl, inr}
 use Rattle.auditorium_core.proofs.Imports.{refl, sym, ap, subst, arith, Result, Ok, Err, slice_get, take_all, last_at}
-use Rattle.auditorium_core.proofs.Imports.{entries_of, GivesGraph, EntriesGiveOneGraph, Refusal, absent, refused}
-use Rattle.auditorium_core.proofs.Imports.{GivesReport, WithGraph, FilesGiveOneReport, outcome_of, AuditReport}
-use Rattle.auditorium_core.proofs.Imports.{report_on, SameReport, RuleSource, Summary, After, Status, Answer}
+use Rattle.auditorium_core.proofs.Imports.{entries_of, EntriesGiveOneGraph, Refusal, absent, refused}
+use Rattle.auditorium_core.proofs.Imports.{GivesReport, WithGraph, FilesGiveOneReport, AuditReport}
+use Rattle.auditorium_core.proofs.Imports.{report_on, SameReport, RuleSource, Summary, After, Answer}
 use Rattle.auditorium_core.proofs.Imports.{refusal_answer, source_named, IsAuditOver, IsOfReport, report_answer}
-use Rattle.auditorium_core.proofs.Imports.{status_by, AreSummaries, Evidence, GivesEvidence, GivesWatch, IsWatchOver}
+use Rattle.auditorium_core.proofs.Imports.{Evidence}
 use Rattle.auditorium_core.proofs.Imports.{watch_answer, watch_line, watch_lines, AgreesWithAudit}
 use Rattle.auditorium_core.proofs.Imports.{WatchesAgreeWithAudits, summary_of}
 use Rattle.std.specs.Prelude.{Some}
-use Rattle.auditorium_core.specs.declared.status.Status.TheVariants as status
 use Rattle.auditorium_core.proofs.AuditCommand.{same_told}
 use Rattle.auditorium_core.proofs.CommandProofs.{status_is}
 use Rattle.auditorium_core.proofs.OneWatch.{report_by}

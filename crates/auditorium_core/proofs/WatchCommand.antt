@@ -1,12 +1,12 @@
 -- The command `watch`.
 use Rattle.std.proofs.Common.{Option}
-use Rattle.auditorium_core.proofs.Imports.{RulesAreReadInOneWay, ◌≡◌, ◌∙◌, ℕ, List, inl, inr, refl, ap, sym, subst}
-use Rattle.auditorium_core.proofs.Imports.{Result, Ok, Err, Files, SealedEntry, EntryGraph, entries_of, GivesGraph}
+use Rattle.auditorium_core.proofs.Imports.{RulesAreReadInOneWay, ◌≡◌, ◌∙◌, ℕ, List, inl, inr, sym, subst}
+use Rattle.auditorium_core.proofs.Imports.{Result, Ok, Err, SealedEntry, EntryGraph, entries_of, GivesGraph}
 use Rattle.auditorium_core.proofs.Imports.{Refusal, AndThen, WithGraph, FilesGiveOneReport, outcome_of, AuditReport}
 use Rattle.auditorium_core.proofs.Imports.{RuleSource, Summary, Status, Answer, refusal_answer, status_by}
 use Rattle.auditorium_core.proofs.Imports.{report_statuses, source_named, Evidence, AreFewDistinct, AreSummaries}
 use Rattle.auditorium_core.proofs.Imports.{GivesEvidence, GivesSummaries, GivesWatch, Watches, watch_answer}
-use Rattle.auditorium_core.proofs.Imports.{watch_parts, watch, IsAnswerTo, IsCarriedOut, GivesWatchIn}
+use Rattle.auditorium_core.proofs.Imports.{watch_parts, IsCarriedOut}
 use Rattle.std.specs.List.{Contains}
 use Rattle.auditorium_core.proofs.CommandProofs.{HasStatuses, IsCompleted, HasOneAnswer, carried_out_as, contains_as}
 use Rattle.auditorium_core.proofs.CommandProofs.{of_refusal, status_is}
@@ -112,14 +112,3 @@ watch_has_statuses roster rules logs = record { own = own; some = report_statuse
         (of_refusal report_statuses refused_status absent_status refusal)
     own files answer (inr (told, gives, is)) =
         contains_as report_statuses answer told is (told_status roster (source_named rules) logs files told gives)
-
-module _ (roster rules : List ℕ) (logs : List (List ℕ)) (told : Option Files) where
-  -- a refusal is answered
-  pub watch_refused : (refusal : Refusal) → GivesWatchIn roster (source_named rules) logs told (Err refusal) →
-      IsAnswerTo (watch roster rules logs) told (refusal_answer refusal)
-  watch_refused refusal (files, are, gives) = (files, are, inl (refusal, gives, refl))
-
-  -- the lines of `watch` are answered
-  pub watch_told : (answer : Answer) → GivesWatchIn roster (source_named rules) logs told (Ok answer) →
-      IsAnswerTo (watch roster rules logs) told answer
-  watch_told answer (files, are, gives) = (files, are, inr (answer, gives, refl))

@@ -8,15 +8,15 @@ use Rattle.auditorium_core.proofs.Imports.{map-append, take_all, take_more, Cont
 use Rattle.auditorium_core.proofs.Imports.{node_of_sealed, SealedEntry, EntryGraph, distinct, HasNoCollision}
 use Rattle.auditorium_core.proofs.Imports.{distinct_new, distinct_again, distinct_given, distinct_bears, IsNew}
 use Rattle.auditorium_core.proofs.Imports.{has_digest, has_digest_of, has_digest_from, Post, LogRead, Rule, rule_tree}
-use Rattle.auditorium_core.proofs.Imports.{RuleTree, AuditFault, entries_of, GivesGraph, EntriesGiveOneGraph, Refusal}
+use Rattle.auditorium_core.proofs.Imports.{RuleTree, AuditFault, entries_of, GivesGraph, EntriesGiveOneGraph}
 use Rattle.auditorium_core.proofs.Imports.{refused, refusal_of, IsFaultOf, SameGraph, StandFor, text_of_sealed}
-use Rattle.auditorium_core.proofs.Imports.{of_refusal, none_stand, same_gives, stand_copied, stand_repeated, Outcome}
+use Rattle.auditorium_core.proofs.Imports.{of_refusal, same_gives, stand_copied, stand_repeated}
 use Rattle.auditorium_core.proofs.Imports.{graph_has_finding, has_some, is_broken, is_unsettled, log_has_finding}
-use Rattle.auditorium_core.proofs.Imports.{outcome_by, AuditReport, report_on, RuleSource, source_word, is_kept}
+use Rattle.auditorium_core.proofs.Imports.{outcome_by, AuditReport, report_on, is_kept}
 use Rattle.auditorium_core.proofs.Imports.{Fresh, New, Known, LiveFault, Collision, TooMany, Becomes, Collides}
 use Rattle.auditorium_core.proofs.Imports.{IsAddAnswer, IsOfSameAudit, IsTooWideOver, LiveState, IsLive, max_added}
 use Rattle.auditorium_core.proofs.Imports.{Summary, After, Status, Unwatched, Answer, status_by, source_named}
-use Rattle.auditorium_core.proofs.Imports.{AreFewDistinct, AreSummaries, IsTooWideAfter, Watches, watch_answer}
+use Rattle.auditorium_core.proofs.Imports.{AreFewDistinct, IsTooWideAfter, Watches, watch_answer}
 use Rattle.auditorium_core.proofs.Imports.{numbers_line, watch_line, watch_lines, AddsTo, AreLinesOf, IsUnadded}
 use Rattle.auditorium_core.proofs.Imports.{IsUnwatched, evidence_by, first_half, second_half}
 use Rattle.std.proofs.Common.{length-append, length-take}

@@ -1,26 +1,28 @@
 -- What words and files give: a status, the files to be written in order, and the output.
-use Rattle.std.specs.Prelude.{◌≡◌, ◌≢◌, ◌↔◌, ℕ, List, Option, ◌⊎◌, ⊤}
+use Rattle.std.specs.Prelude.{◌≡◌, ◌≢◌, ◌↔◌, ℕ, List, [], Option, ◌⊎◌, ⊤}
 use Rattle.std.specs.List.{Contains}
 use Rattle.hall_outside.specs.Counts.{ComesExactly}
 use Rattle.hall_outside.specs.Files.{Files}
-use Rattle.evidence.specs.NamedFiles.{AreFiles}
+use Rattle.evidence.specs.NamedFiles.{OnExposed}
 use Rattle.auditorium_core.specs.declared.status.Status.{Status}
 use Rattle.auditorium_core.specs.declared.status.Status.TheVariants as status
 use Rattle.auditorium_core.specs.Words.{Command, command_parts, Means, AreGood}
 use Rattle.auditorium_core.specs.Lines.{Answer, usage_answer}
 
--- what a command gives, over these files or, where none are exposed, over some
+-- what a command gives over the exposed files
 abbrev pub IsAnswerTo : Command → Option Files → Answer → Type 0
 IsAnswerTo command told answer =
-    (files : List (Option (List ℕ))) × AreFiles told (command_parts command).files files
-    × (command_parts command).IsAnswer files answer
+    OnExposed told (command_parts command).files (λ files. (command_parts command).IsAnswer files answer)
 
--- what words give where these are the commands: the answer of the command that they mean, or that
--- of a usage error
-abbrev pub AnswersWords : (Command → Type 0) → List (List ℕ) → Option Files → Answer → Type 0
-AnswersWords IsDone words told answer =
-    ((command : Command) × IsDone command × Means words command × IsAnswerTo command told answer)
-    ⊎ ((¬ AreGood IsDone words) × (answer ≡ usage_answer))
+-- What words give where these are the commands: the answer of the command that they mean, which is
+-- right for the files that it names, or that of a usage error, which asks for no file. `OnFiles` is
+-- how something is said of the files of these names.
+abbrev pub AnswersWords : (Command → Type 0) → List (List ℕ)
+    → (List (List ℕ) → (List (Option (List ℕ)) → Type 0) → Type 0) → Answer → Type 0
+AnswersWords IsDone words OnFiles answer =
+    ((command : Command) × IsDone command × Means words command
+    × OnFiles (command_parts command).files (λ files. (command_parts command).IsAnswer files answer))
+    ⊎ ((¬ AreGood IsDone words) × (answer ≡ usage_answer) × OnFiles [] (λ files. ⊤))
 
 -- the answer of a command says that a file is absent
 abbrev pub TellsAbsence : Command → Answer → Type 0
@@ -32,9 +34,10 @@ WordsTellAbsence words answer = (command : Command) × Means words command × Te
 
 -- The answer is right for the files. It says that a file is absent exactly where the store said so
 -- in the call.
-pub record IsAnswerOf (IsDone : Command → Type 0) (words : List (List ℕ)) (told : Option Files)
-    (absences_before absences_now : ℕ) (answer : Answer) : Type 0 where
-  pub answers : AnswersWords IsDone words told answer
+pub record IsAnswerOf (IsDone : Command → Type 0) (words : List (List ℕ))
+    (OnFiles : List (List ℕ) → (List (Option (List ℕ)) → Type 0) → Type 0) (absences_before absences_now : ℕ)
+    (answer : Answer) : Type 0 where
+  pub answers : AnswersWords IsDone words OnFiles answer
   pub absent : ComesExactly absences_before absences_now (WordsTellAbsence words answer)
 
 -- the statuses that an answer can have

@@ -25,11 +25,6 @@ abbrev pub OnNoFile : Type 0 → List (Option (List ℕ)) → Type 0
 OnNoFile P [] = P
 OnNoFile P files = ⊥
 
--- P holds of the one file that the command reads
-abbrev pub OnOneFile : (Option (List ℕ) → Type 0) → List (Option (List ℕ)) → Type 0
-OnOneFile P (file ∷ []) = P file
-OnOneFile P files = ⊥
-
 -- P holds of the first file that the command reads and of the others
 abbrev pub OnFirstFile : (Option (List ℕ) → List (Option (List ℕ)) → Type 0) → List (Option (List ℕ)) → Type 0
 OnFirstFile P (file ∷ files) = P file files

@@ -1,7 +1,7 @@
 -- Completeness: a command whose inputs are all accepted is carried out.
 use Rattle.std.specs.Prelude.{◌≡◌, ◌⊎◌, ℕ, List, Option, ⊤}
 use Rattle.hall_outside.specs.Counts.{HasRisen}
-use Rattle.evidence.specs.NamedFiles.{AreFiles}
+use Rattle.evidence.specs.NamedFiles.{OnExposed}
 use Rattle.auditorium_core.specs.declared.status.Status.{Status}
 use Rattle.auditorium_core.specs.declared.status.Status.TheVariants as status
 use Rattle.auditorium_core.specs.Words.{Command, command_parts, Means}
@@ -35,11 +35,9 @@ pub record IsAnsweredOver (command : Command) (files : List (Option (List ℕ)))
   pub written : IsWritten answer old new
 
 -- Where the words are one of these commands' and no count of faults rose in the call, the command
--- was answered over its files, which are those of the store or, where none are exposed, some; or it
--- ran out of memory, with nothing written.
+-- was answered over the exposed files, or it ran out of memory, with nothing written.
 abbrev pub IsComplete : (Command → Type 0) → List (List ℕ) → Outside → Status → Outside → Type 0
 IsComplete IsDone words old how new =
     (command : Command) → IsDone command → Means words command → HasNoFailure old new →
-    ((files : List (Option (List ℕ))) × AreFiles old.store.files (command_parts command).files files
-    × IsAnsweredOver command files old how new)
+    OnExposed old.store.files (command_parts command).files (λ files. IsAnsweredOver command files old how new)
     ⊎ ((how ≡ status.Memory) × IsUnwritten old new)

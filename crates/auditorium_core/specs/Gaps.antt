@@ -6,11 +6,12 @@ use Rattle.log_files.specs.declared.plain_log.PlainLog.{PlainLog}
 use Rattle.log_files.specs.declared.plain_log.LogFault.{LogFault}
 use Rattle.log_files.specs.declared.plain_log.LogFault.TheVariants.{Absent, TooLong, Header, ReadFault, Memory}
 use Rattle.log_files.specs.LogFile.{IsLogOf, IsLogRefused}
+use Rattle.evidence.specs.NamedFiles.{OnOneFile}
 use Rattle.auditorium_core.specs.declared.status.Status.{Status}
 use Rattle.auditorium_core.specs.declared.status.Status.TheVariants as status
 use Rattle.log_files.specs.Lines.{refused_lines, end_line, gap_lines}
 use Rattle.auditorium_core.specs.Lines.{Answer, absent_answer, refused_answer}
-use Rattle.auditorium_core.specs.CommandParts.{CommandParts, OnOneFile}
+use Rattle.auditorium_core.specs.CommandParts.{CommandParts}
 
 -- all lines of a log: the gaps are the digests that its entries name and none of them has
 abbrev pub gaps_log_lines : List ℕ → PlainLog → List ℕ

@@ -4,10 +4,11 @@ use Rattle.hex.specs.Hex.{encode_lower, IsBytes}
 use Rattle.office_key.specs.Endorsements.{office_public}
 use Rattle.office_key.specs.Offices.{office_of, office_text}
 use Rattle.log_files.specs.Lines.{line}
+use Rattle.evidence.specs.NamedFiles.{OnOneFile}
 use Rattle.auditorium_core.specs.declared.status.Status.TheVariants as status
 use Rattle.auditorium_core.specs.Lines.{Answer, refused_answer}
 use Rattle.auditorium_core.specs.OfficeFile.{office_file}
-use Rattle.auditorium_core.specs.CommandParts.{CommandParts, OnOneFile}
+use Rattle.auditorium_core.specs.CommandParts.{CommandParts}
 
 -- a seed: 32 bytes
 pub record IsOfficeSeed (seed : List ℕ) : Type 0 where

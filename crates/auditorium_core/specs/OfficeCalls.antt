@@ -1,6 +1,6 @@
 -- What calls of the program leave of an office's file and of its signatures, on a store that
 -- exposes its files.
-use Rattle.std.specs.Prelude.{◌≡◌, ◌≢◌, ◌⊎◌, ℕ, ◌<◌, List, [], ◌∷◌, length, take, Option, Some, Ok, IsSomeAnd, ⊤}
+use Rattle.std.specs.Prelude.{◌≡◌, ◌≢◌, ◌⊎◌, ℕ, ◌<◌, List, [], ◌∷◌, length, take, Some, Ok, IsSomeAnd, ⊤}
 use Rattle.std.specs.List.{AllPairs}
 use Rattle.hall_outside.specs.Files.{Files, file_set}
 use Rattle.office_key.specs.declared.office.Office.{Office}
@@ -9,7 +9,7 @@ use Rattle.office_key.specs.Offices.{IsOffice, office_text, next_office}
 use Rattle.auditorium_core.specs.declared.status.Status.{Status}
 use Rattle.auditorium_core.specs.Endorse.{GivesUnsigned, Unsigned, signature_file}
 use Rattle.auditorium_core.specs.OfficeFile.{office_file}
-use Rattle.auditorium_core.specs.Outcome.{HasDone}
+use Rattle.auditorium_core.specs.Outcome.{HasDone, IsGivenSomehow}
 use Rattle.auditorium_core.specs.Outside.{Outside}
 use Rattle.auditorium_core.specs.Words.{Command, Means, endorse, endorsed, office}
 
@@ -69,7 +69,7 @@ pub record IsCall (IsDone : Command → Type 0) (call : Call) : Type 0 where
   pub new : Outside
   pub told : old.store.files ≡ Some call.before
   pub left : new.store.files ≡ Some call.after
-  pub done : HasDone IsDone call.words (λ _ _. ⊤) old call.how new
+  pub done : HasDone IsDone call.words (IsGivenSomehow old) old call.how new
 
 -- the words are those of `office`, `endorse` or `endorsed`
 abbrev pub AreOfOffices : List (List ℕ) → Type 0

@@ -6,6 +6,7 @@ use Rattle.hall_outside.specs.Writing.{appended, AppendsPrefix, OffersAll, PutsF
 use Rattle.hall_outside.specs.declared.sinks.Sink.{Ghosts as SinkGhosts}
 use Rattle.hall_outside.specs.declared.stores.Failed.{Failed}
 use Rattle.hall_outside.specs.declared.stores.Store.{Ghosts as StoreGhosts}
+use Rattle.evidence.specs.NamedFiles.{OnExposed, OnRead}
 use Rattle.auditorium_core.specs.declared.status.Status.{Status}
 use Rattle.auditorium_core.specs.declared.status.Status.TheVariants.{ReadFault, WriteFault, Memory}
 use Rattle.auditorium_core.specs.Lines.{Answer}
@@ -60,13 +61,20 @@ IsWrittenBy create append finish write answer store out ok store_after out_after
     ⊎ (PlacesAll create append finish store answer.files true store_after
     × OffersAll write out answer.output ok out_after)
 
--- an answer is written after reads, which change no file, and in which no write failed
-abbrev pub IsWrittenAfterReads : {S K : Type 0} → StoreGhosts S → SinkGhosts K → S → K → S → K → Answer → Bool → Type 0
-IsWrittenAfterReads {S} of_store of_sink store out store_after out_after answer ok =
-    (read : S) × (of_store.files read ≡ of_store.files store)
+-- The calls by which an answer is given: files of these names are read, the first ones in their
+-- order, and this holds of all files that are such as was found; then the answer is written, from
+-- the state in which the reads left the store. They change no file, and no write fails in them.
+abbrev pub IsGivenBy : {S K : Type 0} → StoreGhosts S → SinkGhosts K → S → K → S → K → Answer → Bool
+    → List (List ℕ) → (List (Option (List ℕ)) → Type 0) → Type 0
+IsGivenBy {S} of_store of_sink store out store_after out_after answer ok names P =
+    (read : S) × OnRead of_store names P store read × (of_store.files read ≡ of_store.files store)
     × (of_store.write_faults read ≡ of_store.write_faults store)
     × IsWrittenBy of_store.creates of_store.appends of_store.finishes of_sink.writes answer read out ok store_after
     out_after
+
+-- an answer is given by whatever calls; this holds of the exposed files of these names
+abbrev pub IsGivenSomehow : Outside → Answer → Bool → List (List ℕ) → (List (Option (List ℕ)) → Type 0) → Type 0
+IsGivenSomehow old answer ok = OnExposed old.store.files
 
 -- nothing was written, and no write failed
 pub record IsUnwritten (old new : Outside) : Type 0 where
@@ -91,21 +99,24 @@ pub record IsCutShort (answer : Answer) (old new : Outside) : Type 0 where
   pub no_output : ¬ HasRisen old.output_faults new.output_faults → new.output ≡ old.output
 
 -- an answer to the words that is right, in this call
-abbrev pub GivesAnswer : (Command → Type 0) → List (List ℕ) → Outside → Outside → Answer → Type 0
-GivesAnswer IsDone words old new answer =
-    IsAnswerOf IsDone words old.store.files old.store.answered.absences new.store.answered.absences answer
+abbrev pub GivesAnswer : (Command → Type 0) → List (List ℕ) →
+    (List (List ℕ) → (List (Option (List ℕ)) → Type 0) → Type 0)
+    → Outside → Outside → Answer → Type 0
+GivesAnswer IsDone words OnFiles old new answer =
+    IsAnswerOf IsDone words OnFiles old.store.answered.absences new.store.answered.absences answer
 
 -- What was done for words where these are the commands. Where it ran out of memory, no read and no
 -- write failed. A status other than that and the faults of the outside is that of the answer. An
--- answer is written by these calls, all of which but the last, in the second case, do as they are
+-- answer is given by these calls, all of which but the last, in the second case, do as they are
 -- asked.
-abbrev pub HasDone : (Command → Type 0) → List (List ℕ) → (Answer → Bool → Type 0) → Outside → Status → Outside → Type 0
-HasDone IsDone words is_written_by old ReadFault new =
+abbrev pub HasDone : (Command → Type 0) → List (List ℕ)
+    → (Answer → Bool → List (List ℕ) → (List (Option (List ℕ)) → Type 0) → Type 0) → Outside → Status → Outside → Type 0
+HasDone IsDone words IsGiven old ReadFault new =
     HasRisen old.store.read_faults new.store.read_faults × IsUnwritten old new
-HasDone IsDone words is_written_by old WriteFault new =
-    (answer : Answer) × GivesAnswer IsDone words old new answer × is_written_by answer false × IsCutShort answer old new
-HasDone IsDone words is_written_by old Memory new =
+HasDone IsDone words IsGiven old WriteFault new =
+    (answer : Answer) × GivesAnswer IsDone words (IsGiven answer false) old new answer × IsCutShort answer old new
+HasDone IsDone words IsGiven old Memory new =
     IsUnwritten old new × (new.store.read_faults ≡ old.store.read_faults)
-HasDone IsDone words is_written_by old status new =
-    (answer : Answer) × GivesAnswer IsDone words old new answer × (status ≡ answer.status) × is_written_by answer true
+HasDone IsDone words IsGiven old status new =
+    (answer : Answer) × GivesAnswer IsDone words (IsGiven answer true) old new answer × (status ≡ answer.status)
     × IsWritten answer old new

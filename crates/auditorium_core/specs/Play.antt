@@ -18,13 +18,14 @@ use Rattle.polling_world.specs.Machines.{MachineState}
 use Rattle.polling_world.specs.Playing.{IsPlayed}
 use Rattle.polling_world.specs.Worlds.{world_of}
 use Rattle.polling_world.specs.Waiting.{IsLeft}
+use Rattle.evidence.specs.NamedFiles.{OnOneFile}
 use Rattle.auditorium_core.specs.declared.status.Status.{Status}
 use Rattle.auditorium_core.specs.declared.status.Status.TheVariants as status
 use Rattle.log_files.specs.Lines.{line}
 use Rattle.auditorium_core.specs.HonestPlace.{LeaveHonestFiles}
 use Rattle.auditorium_core.specs.Lines.{Answer, OrRefused}
 use Rattle.auditorium_core.specs.ScriptFile.{GivesScript, IsScriptFile}
-use Rattle.auditorium_core.specs.CommandParts.{CommandParts, OnOneFile}
+use Rattle.auditorium_core.specs.CommandParts.{CommandParts}
 use Rattle.polling_world.specs.CauseWords.{left_why_word}
 
 -- the names of the files of the roster and of a machine's log

@@ -16,6 +16,7 @@ use Rattle.finished_floor.specs.CauseWords.{loss_why_word}
 use Rattle.finished_floor.specs.declared.loss.Loss.{Loss}
 use Rattle.finished_floor.specs.Floors.{IsFloorOf}
 use Rattle.log_files.specs.Lines.{line}
+use Rattle.evidence.specs.NamedFiles.{OnOneFile}
 use Rattle.auditor.specs.ReportText.{maker_name}
 use Rattle.auditorium_core.specs.HonestPlace.{LeaveHonestFiles}
 use Rattle.auditorium_core.specs.declared.status.Status.TheVariants as status
@@ -23,7 +24,7 @@ use Rattle.auditorium_core.specs.Lines.{Answer, OrRefused}
 use Rattle.auditorium_core.specs.Play.{KeepOrder, SayUndone, machine_lines, play_files, play_statuses}
 use Rattle.auditorium_core.specs.Play.{status_of_undone}
 use Rattle.auditorium_core.specs.ScriptFile.{GivesScript, IsScriptFile}
-use Rattle.auditorium_core.specs.CommandParts.{CommandParts, OnOneFile}
+use Rattle.auditorium_core.specs.CommandParts.{CommandParts}
 
 -- an entry that didn't arrive: its maker's name and its number there, the receiver's name, and why
 abbrev pub loss_line : List Post → Loss → List ℕ

@@ -1,6 +1,5 @@
 -- What a script's file gives.
 use Rattle.std.specs.Prelude.{◌≡◌, ◌⊎◌, ℕ, ◌<◌, ◌≤◌, List, length, Option, Some, None, Result, Ok, Err, IsSomeAnd}
-use Rattle.hall_outside.specs.Files.{Files, OnSomeFile}
 use Rattle.election_script.specs.declared.script.Script.{Script}
 use Rattle.election_script.specs.declared.faults.ScriptWhy.{ScriptWhy}
 use Rattle.election_script.specs.declared.faults.ScriptFault.TheVariants.{At}
@@ -21,10 +20,6 @@ GivesScript name (Some bytes) answer =
     ⊎ ((length bytes ≤ max_script) × ((number : ℕ) × (why : ScriptWhy) × Reads bytes (Err (At number why))
     × (answer ≡ Err (refused name number (script_why_word why)))))
     ⊎ ((length bytes ≤ max_script) × ((script : Script) × Reads bytes (Ok script) × (answer ≡ Ok script)))
-
--- what the named file gives as a script: the one that is exposed, or some where none is
-abbrev pub GivesScriptIn : List ℕ → Option Files → Result Script Refusal → Type 0
-GivesScriptIn name told answer = OnSomeFile told name (λ file. GivesScript name file answer)
 
 -- the file is there, within the limit, and a script's
 abbrev pub IsScriptFile : Option (List ℕ) → Type 0

@@ -1,11 +1,10 @@
 // The command `audit`: the report on a polling place from whatever logs survive.
 ghost use Rattle.std.specs.Prelude.{◌≡◌, ◌≢◌, ℕ, List, codes, map, IfOk, string_bytes};
-ghost use Rattle.evidence.specs.Reading.{IsReadFrom, StoreSeen};
-ghost use Rattle.auditor.specs.Audits.{GivesReportIn};
+ghost use Rattle.evidence.specs.Reading.{IsReadFrom};
+ghost use Rattle.auditor.specs.Audits.{GivesReport, audit_files};
 ghost use Rattle.auditor.specs.Report.{report_of};
 ghost use Rattle.auditor.specs.Sources.{source_of};
 ghost use Rattle.auditorium_core.specs.Audit.{source_named, IsAuditOf};
-ghost use Rattle.auditorium_core.specs.Outside.{seen};
 ghost use Rattle.auditorium_core.specs.ReportAnswers.{status_by};
 ghost use Rattle.auditorium_core.specs.Words.{audit};
 ghost use Rattle.auditorium_core.specs.inside.Meaning.{IsReadAs};
@@ -72,10 +71,11 @@ fn answer_of(alloc: Global, report: &Report) -> Result<Answer, AllocError>
 }
 
 /// The answer of an audit, of whatever files.
-fn answered(alloc: Global, audited: Result<Report, AuditFault>) -> Result<Answer, Fault>
-    ensures { (roster rules : List ℕ) (logs : List (List ℕ)) (before after : StoreSeen) →
-        IsReadFrom report_of (GivesReportIn roster (source_named rules) logs) before audited after →
-        IsAnsweredBy (audit roster rules logs) before result after }
+fn answered<S: Store>(alloc: Global, audited: Result<Report, AuditFault>) -> Result<Answer, Fault>
+    ensures { (roster rules : List ℕ) (logs : List (List ℕ)) (before after : S) →
+        IsReadFrom S.Store report_of (audit_files roster (source_named rules) logs)
+        (GivesReport roster (source_named rules) logs) before audited after →
+        IsAnsweredBy S.Store (audit roster rules logs) before result after }
 {
     match audited {
         Ok(report) => Ok(answer_of(alloc, &report)?),
@@ -91,11 +91,11 @@ pub(crate) fn audit<S: Store>(
     rules: &str,
     logs: &[String],
 ) -> Result<Answer, Fault>
-    ensures { IsAnsweredBy (audit roster.now rules.now (map string_bytes logs.now))
-        (seen S.Store store.old) result (seen S.Store store.new) }
+    ensures { IsAnsweredBy S.Store (audit roster.now rules.now (map string_bytes logs.now))
+        store.old result store.new }
 {
     let audited = auditor::audit(alloc, store, roster, rules_from(rules), logs);
-    answered(alloc, audited)
+    answered::<S>(alloc, audited)
 }
 
 /// The same answer, for which signatures are verified in threads.
@@ -107,9 +107,9 @@ pub(crate) fn audit_in<R: Threads + Sync, S: Store>(
     rules: &str,
     logs: &[String],
 ) -> Result<Answer, Fault>
-    ensures { IsAnsweredBy (audit roster.now rules.now (map string_bytes logs.now))
-        (seen S.Store store.old) result (seen S.Store store.new) }
+    ensures { IsAnsweredBy S.Store (audit roster.now rules.now (map string_bytes logs.now))
+        store.old result store.new }
 {
     let audited = auditor::audit_in(rt, alloc, store, roster, rules_from(rules), logs);
-    answered(alloc, audited)
+    answered::<S>(alloc, audited)
 }

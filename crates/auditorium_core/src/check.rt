@@ -1,5 +1,5 @@
 // The command `check`: what rules come to by a proof, whoever made it.
-ghost use Rattle.std.specs.Prelude.{◌≡◌, ◌≢◌, ◌<◌, ◌++◌, codes, map, length, slice_get};
+ghost use Rattle.std.specs.Prelude.{◌≡◌, ◌≢◌, ◌<◌, ◌++◌, ◌∷◌, [], codes, map, length, slice_get};
 ghost use Rattle.std.specs.Prelude.{Err, IfErr, IfOk, IfSome, Ok, OnOk, Some, string_bytes};
 ghost use Rattle.std.specs.List.{flat_map, list_any, zip};
 ghost use Rattle.entry_format.specs.Nodes.{node_of_sealed};
@@ -7,14 +7,17 @@ ghost use Rattle.entry_graph.specs.EntryGraph.{IsEntryGraph};
 ghost use Rattle.rule_language.specs.Forms.{rule_tree};
 ghost use Rattle.audit_proof.specs.Lines.{IsProofOf};
 ghost use Rattle.evidence.specs.Graphs.{entries_of};
-ghost use Rattle.evidence.specs.Reading.{IsReadFrom};
+ghost use Rattle.evidence.specs.Reading.{IsReadFrom, IsReadFromFile};
 ghost use Rattle.evidence.specs.Refusal.{IsAbsent, refusal_of};
 ghost use Rattle.auditor.specs.Judged.{nodes_of};
 ghost use Rattle.auditor.specs.Rows.{HaveMakers, row_of};
+ghost use Rattle.auditor.specs.Sources.{rule_files};
 ghost use Rattle.auditorium_core.specs.Audit.{source_named};
 ghost use Rattle.auditorium_core.specs.Check.{
   AreChecked,
+  GivesCheck,
   check_answer,
+  check_files,
   checked_line,
   checked_status,
   checked_text,
@@ -23,15 +26,13 @@ ghost use Rattle.auditorium_core.specs.Check.{
   says_unsettled,
   verdict_on_all,
 };
-ghost use Rattle.auditorium_core.specs.Outside.{seen};
 ghost use Rattle.auditorium_core.specs.Words.{check};
 ghost use Rattle.auditorium_core.specs.inside.Checking.{
-  ChecksFilesIn,
+  ChecksFiles,
   ChecksLines,
-  ChecksLogsIn,
-  ChecksProofIn,
-  ChecksRulesIn,
-  GivesCheckIn,
+  ChecksLogs,
+  ChecksProof,
+  ChecksRules,
   IsUnchecked,
   report_by,
 };
@@ -200,9 +201,10 @@ fn check_graph<S: Store>(
 ) -> Result<Checked, AuditFault>
     requires kept { IsEntryGraph node_of_sealed graph }
     requires makers { HaveMakers roster.machines graph.survivors }
-    ensures { IsReadFrom report_by (ChecksProofIn roster.machines (source_named word.now)
-        (map rule_tree rules.items) proof.now graph)
-        (seen S.Store store.old) result (seen S.Store store.new) }
+    ensures { IsReadFromFile S.Store report_by proof.now
+        (λ file. ChecksProof roster.machines (source_named word.now) (map rule_tree rules.items)
+        proof.now file graph)
+        store.old result store.new }
 {
     match read_proof_file(alloc, store, proof, &graph) {
         Ok(lines) => check_by(alloc, roster, word, rules, graph, &lines),
@@ -221,9 +223,10 @@ fn check_logs<S: Store>(
     logs: Vec<LogRead>,
 ) -> Result<Checked, AuditFault>
     requires makers { HaveMakers roster.machines (entries_of logs.items) }
-    ensures { IsReadFrom report_by (ChecksLogsIn roster.machines (source_named word.now)
-        (map rule_tree rules.items) proof.now logs.items)
-        (seen S.Store store.old) result (seen S.Store store.new) }
+    ensures { IsReadFromFile S.Store report_by proof.now
+        (λ file. ChecksLogs roster.machines (source_named word.now) (map rule_tree rules.items)
+        proof.now file logs.items)
+        store.old result store.new }
 {
     match graph_from(alloc, logs) {
         Ok(graph) => check_graph(alloc, store, roster, word, rules, proof, graph),
@@ -241,9 +244,10 @@ fn check_rules<S: Store>(
     proof: &str,
     logs: &[String],
 ) -> Result<Checked, AuditFault>
-    ensures { IsReadFrom report_by (ChecksFilesIn read (source_named word.now)
-        (map rule_tree rules.items) proof.now (map string_bytes logs.now))
-        (seen S.Store store.old) result (seen S.Store store.new) }
+    ensures { IsReadFrom S.Store report_by (map string_bytes logs.now ++ proof.now ∷ [])
+        (ChecksFiles read (source_named word.now) (map rule_tree rules.items) proof.now
+        (map string_bytes logs.now))
+        store.old result store.new }
 {
     match read_logs(alloc, store, logs, &read.roster, &read.election) {
         Ok(logs) => check_logs(alloc, store, read.roster, word, rules, proof, logs),
@@ -260,9 +264,10 @@ fn check_under<S: Store>(
     proof: &str,
     logs: &[String],
 ) -> Result<Checked, AuditFault>
-    ensures { IsReadFrom report_by (ChecksRulesIn read (source_named word.now) proof.now
-        (map string_bytes logs.now))
-        (seen S.Store store.old) result (seen S.Store store.new) }
+    ensures { IsReadFrom S.Store report_by
+        (rule_files (source_named word.now) ++ (map string_bytes logs.now ++ proof.now ∷ []))
+        (ChecksRules read (source_named word.now) proof.now (map string_bytes logs.now))
+        store.old result store.new }
 {
     match rules_from(word) {
         RulesFrom::Standard => match standard(alloc) {
@@ -285,9 +290,10 @@ fn check_all<S: Store>(
     proof: &str,
     logs: &[String],
 ) -> Result<Checked, AuditFault>
-    ensures { IsReadFrom report_by (GivesCheckIn roster.now (source_named word.now) proof.now
-        (map string_bytes logs.now))
-        (seen S.Store store.old) result (seen S.Store store.new) }
+    ensures { IsReadFrom S.Store report_by
+        (check_files roster.now (source_named word.now) proof.now (map string_bytes logs.now))
+        (GivesCheck roster.now (source_named word.now) proof.now (map string_bytes logs.now))
+        store.old result store.new }
 {
     match read_roster(alloc, store, roster) {
         Ok(read) => check_under(alloc, store, read, word, proof, logs),
@@ -412,8 +418,8 @@ pub(crate) fn check<S: Store>(
     proof: &str,
     logs: &[String],
 ) -> Result<Answer, Fault>
-    ensures { IsAnsweredBy (check roster.now rules.now proof.now (map string_bytes logs.now))
-        (seen S.Store store.old) result (seen S.Store store.new) }
+    ensures { IsAnsweredBy S.Store (check roster.now rules.now proof.now (map string_bytes logs.now))
+        store.old result store.new }
 {
     match check_all(alloc, store, roster, rules, proof, logs) {
         Ok(checked) => Ok(answer_of(alloc, &checked)?),

@@ -3,12 +3,10 @@ ghost use Rattle.std.specs.Prelude.{◌≡◌, ◌<◌, [], ◌∷◌, IfOk, cod
 ghost use Rattle.office_key.specs.Endorsements.{endorsement};
 ghost use Rattle.office_key.specs.Offices.{max_signatures};
 ghost use Rattle.evidence.specs.Reading.{IsReadFrom};
-ghost use Rattle.auditor.specs.Audits.{OnFiles};
 ghost use Rattle.auditor.specs.Audits.{FileThen};
 ghost use Rattle.auditorium_core.specs.Endorse.{GivesUnsigned, IsEndorsement, endorsed_line};
 ghost use Rattle.auditorium_core.specs.NamedBytes.{AtLast, GivesBytes, max_signed};
 ghost use Rattle.auditorium_core.specs.OfficeFile.{office_file};
-ghost use Rattle.auditorium_core.specs.Outside.{seen};
 ghost use Rattle.auditorium_core.specs.Words.{endorse};
 ghost use Rattle.auditorium_core.specs.inside.Endorsing.{unsigned_of};
 ghost use Rattle.auditorium_core.specs.inside.Meaning.{IsReadAs};
@@ -48,10 +46,10 @@ fn read_for<S: Store>(
     office: Office,
     file: &str,
 ) -> Result<ToSign, AuditFault>
-    ensures { IsReadFrom unsigned_of
-        (λ told answer. OnFiles (file.now ∷ []) (λ files. FileThen (GivesBytes max_signed file.now)
-        (λ bytes. AtLast (record { office = office; bytes = bytes })) files answer) told)
-        (seen S.Store store.old) result (seen S.Store store.new) }
+    ensures { IsReadFrom S.Store unsigned_of (file.now ∷ [])
+        (FileThen (GivesBytes max_signed file.now)
+        (λ bytes. AtLast (record { office = office; bytes = bytes })))
+        store.old result store.new }
 {
     match read_bytes(alloc, store, file, MAX_SIGNED) {
         Ok(bytes) => Ok(ToSign { office, bytes }),
@@ -68,10 +66,9 @@ fn read_to_sign<S: Store>(
     file: &str,
 ) -> Result<ToSign, AuditFault>
     requires { office.now ≡ office_file name.now }
-    ensures { IsReadFrom unsigned_of
-        (λ told answer. OnFiles (office_file name.now ∷ file.now ∷ [])
-        (λ files. GivesUnsigned name.now file.now files answer) told)
-        (seen S.Store store.old) result (seen S.Store store.new) }
+    ensures { IsReadFrom S.Store unsigned_of (office_file name.now ∷ file.now ∷ [])
+        (GivesUnsigned name.now file.now)
+        store.old result store.new }
 {
     match read_office_file(alloc, store, office) {
         Ok(found) => read_for(alloc, store, found, file),
@@ -119,8 +116,8 @@ pub(crate) fn endorse<S: Store>(
     name: &str,
     file: &str,
 ) -> Result<Answer, Fault>
-    ensures { IsAnsweredBy (endorse name.now file.now)
-        (seen S.Store store.old) result (seen S.Store store.new) }
+    ensures { IsAnsweredBy S.Store (endorse name.now file.now)
+        store.old result store.new }
 {
     let office = office_file(alloc, name)?;
     match read_to_sign(alloc, store, office.as_str(), name, file) {
@@ -141,8 +138,8 @@ pub(crate) fn endorse_in<R: Threads + Sync, S: Store>(
     name: &str,
     file: &str,
 ) -> Result<Answer, Fault>
-    ensures { IsAnsweredBy (endorse name.now file.now)
-        (seen S.Store store.old) result (seen S.Store store.new) }
+    ensures { IsAnsweredBy S.Store (endorse name.now file.now)
+        store.old result store.new }
 {
     let office = office_file(alloc, name)?;
     match read_to_sign(alloc, store, office.as_str(), name, file) {

@@ -1,12 +1,10 @@
 // The command `endorsed`: whether a signature is an office's.
 ghost use Rattle.std.specs.Prelude.{◌≡◌, ◌≢◌, [], ◌∷◌, IfOk, codes, map, string_bytes};
 ghost use Rattle.evidence.specs.Reading.{IsReadFrom};
-ghost use Rattle.auditor.specs.Audits.{OnFiles};
 ghost use Rattle.auditor.specs.Audits.{FileThen};
 ghost use Rattle.auditorium_core.specs.Endorsed.{GivesSigned, IsEndorsedVerdict};
 ghost use Rattle.auditorium_core.specs.NamedBytes.{AtLast, GivesBytes};
 ghost use Rattle.auditorium_core.specs.NamedBytes.{max_signed, max_small};
-ghost use Rattle.auditorium_core.specs.Outside.{seen};
 ghost use Rattle.auditorium_core.specs.Words.{endorsed};
 ghost use Rattle.auditorium_core.specs.inside.Endorsing.{signed_of};
 ghost use Rattle.auditorium_core.specs.inside.Meaning.{IsReadAs};
@@ -51,12 +49,10 @@ fn read_signature<S: Store>(
     bytes: Vec<u8>,
     signature: &str,
 ) -> Result<ToVerify, AuditFault>
-    ensures { IsReadFrom signed_of
-        (λ told answer. OnFiles (signature.now ∷ [])
-        (λ files. FileThen (GivesBytes max_small signature.now)
-        (λ s. AtLast (record { key = key.items; bytes = bytes.items; signature = s }))
-        files answer) told)
-        (seen S.Store store.old) result (seen S.Store store.new) }
+    ensures { IsReadFrom S.Store signed_of (signature.now ∷ [])
+        (FileThen (GivesBytes max_small signature.now)
+        (λ s. AtLast (record { key = key.items; bytes = bytes.items; signature = s })))
+        store.old result store.new }
 {
     match read_bytes(alloc, store, signature, MAX_SMALL) {
         Ok(signature) => Ok(ToVerify {
@@ -76,12 +72,11 @@ fn read_signed<S: Store>(
     file: &str,
     signature: &str,
 ) -> Result<ToVerify, AuditFault>
-    ensures { IsReadFrom signed_of
-        (λ told answer. OnFiles (file.now ∷ signature.now ∷ [])
-        (λ files. FileThen (GivesBytes max_signed file.now)
+    ensures { IsReadFrom S.Store signed_of (file.now ∷ signature.now ∷ [])
+        (FileThen (GivesBytes max_signed file.now)
         (λ m. FileThen (GivesBytes max_small signature.now)
-        (λ s. AtLast (record { key = key.items; bytes = m; signature = s }))) files answer) told)
-        (seen S.Store store.old) result (seen S.Store store.new) }
+        (λ s. AtLast (record { key = key.items; bytes = m; signature = s }))))
+        store.old result store.new }
 {
     match read_bytes(alloc, store, file, MAX_SIGNED) {
         Ok(bytes) => read_signature(alloc, store, key, bytes, signature),
@@ -97,10 +92,9 @@ fn read_to_verify<S: Store>(
     file: &str,
     signature: &str,
 ) -> Result<ToVerify, AuditFault>
-    ensures { IsReadFrom signed_of
-        (λ told answer. OnFiles (key.now ∷ file.now ∷ signature.now ∷ [])
-        (λ files. GivesSigned key.now file.now signature.now files answer) told)
-        (seen S.Store store.old) result (seen S.Store store.new) }
+    ensures { IsReadFrom S.Store signed_of (key.now ∷ file.now ∷ signature.now ∷ [])
+        (GivesSigned key.now file.now signature.now)
+        store.old result store.new }
 {
     match read_bytes(alloc, store, key, MAX_SMALL) {
         Ok(key) => read_signed(alloc, store, key, file, signature),
@@ -130,8 +124,8 @@ pub(crate) fn endorsed<S: Store>(
     file: &str,
     signature: &str,
 ) -> Result<Answer, Fault>
-    ensures { IsAnsweredBy (endorsed key.now file.now signature.now)
-        (seen S.Store store.old) result (seen S.Store store.new) }
+    ensures { IsAnsweredBy S.Store (endorsed key.now file.now signature.now)
+        store.old result store.new }
 {
     match read_to_verify(alloc, store, key, file, signature) {
         Ok(read) => Ok(verdict_of(alloc, &read)?),

@@ -1,7 +1,6 @@
 // The command `gaps`: what one log says, without its signatures.
 ghost use Rattle.std.specs.Prelude.{◌≡◌, IfOk, codes, map, string_bytes};
 ghost use Rattle.auditorium_core.specs.Gaps.{gaps_log_lines};
-ghost use Rattle.auditorium_core.specs.Outside.{seen};
 ghost use Rattle.auditorium_core.specs.Words.{gaps};
 ghost use Rattle.auditorium_core.specs.inside.Meaning.{IsReadAs};
 ghost use Rattle.auditorium_core.specs.inside.Promise.{IsAnsweredBy};
@@ -24,7 +23,8 @@ pub(crate) fn gaps_request(rest: &[String]) -> Option<Request<'_>>
 
 /// The answer of `gaps` for the log in this file.
 pub(crate) fn gaps<S: Store>(alloc: Global, store: &mut S, log: &str) -> Result<Answer, Fault>
-    ensures { IsAnsweredBy (gaps log.now) (seen S.Store store.old) result (seen S.Store store.new) }
+    ensures { IsAnsweredBy S.Store (gaps log.now)
+        store.old result store.new }
 {
     match read_plain_log(alloc, store, log) {
         Ok(plain) => Ok(Answer::findings(alloc, lines_of(alloc, log, &plain)?)),

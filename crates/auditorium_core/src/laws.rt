@@ -1,12 +1,13 @@
 // Laws about answers, which hold of the definitions alone.
-ghost use Rattle.std.specs.Prelude.{◌≡◌, ℕ, List, Option, Some, ⊤};
+ghost use Rattle.std.specs.Prelude.{◌≡◌, ℕ, List, Option, Some};
 ghost use Rattle.hall_outside.specs.Files.{Files};
+ghost use Rattle.evidence.specs.NamedFiles.{OnExposed};
 ghost use Rattle.auditorium_core.specs.declared.status.Status.{Status};
 ghost use Rattle.auditorium_core.specs.Lines.{Answer};
 ghost use Rattle.auditorium_core.specs.Words.{run, IsAny, IsStill, Means};
 ghost use Rattle.auditorium_core.specs.Answer.{AnswersWords, HasItsWords};
-ghost use Rattle.auditorium_core.specs.Outcome.{HasDone};
-ghost use Rattle.auditorium_core.specs.Outside.{Outside};
+ghost use Rattle.auditorium_core.specs.Outcome.{HasDone, IsGivenBy, IsGivenSomehow};
+ghost use Rattle.auditorium_core.specs.Outside.{Outside, outside};
 ghost use Rattle.auditorium_core.specs.CheckAgrees.{ChecksAgreeWithAudits};
 ghost use Rattle.auditorium_core.specs.Complete.{IsComplete};
 ghost use Rattle.auditorium_core.specs.ReadBack.{PlaysAreReadBack, RunsAreReadBack};
@@ -19,6 +20,7 @@ use evidence::{
     entries_give_one_graph, log_files_give_one_answer, roster_files_give_one_answer,
     survivors_are_sound,
 };
+use hall_outside::{Sink, Store};
 use log_files::bytes_say_one_log;
 use polling_world::{scripts_are_played_in_one_way, what_is_left_is_told_in_one_way};
 use rule_language::one_reading_is_right as rules_are_read_in_one_way;
@@ -27,8 +29,8 @@ use rule_language::one_reading_is_right as rules_are_read_in_one_way;
 /// determined by a script, so `run` may have several. It does nothing.
 pub fn one_answer_is_right()
     ensures { (words : List (List ℕ)) (files : Files) (answer other : Answer) →
-        AnswersWords IsStill words (Some files) answer →
-        AnswersWords IsStill words (Some files) other → answer ≡ other }
+        AnswersWords IsStill words (OnExposed (Some files)) answer →
+        AnswersWords IsStill words (OnExposed (Some files)) other → answer ≡ other }
 {
     bytes_say_one_log();
     one_reading_is_right();
@@ -50,18 +52,20 @@ pub fn one_answer_is_right()
 pub fn only_runs_need_threads()
     ensures any { (words : List (List ℕ)) (told : Option Files) (answer : Answer) →
         ((script prefix : List ℕ) → ¬ Means words (run script prefix)) →
-        AnswersWords IsStill words told answer → AnswersWords IsAny words told answer }
+        AnswersWords IsStill words (OnExposed told) answer →
+        AnswersWords IsAny words (OnExposed told) answer }
     ensures still { (words : List (List ℕ)) (told : Option Files) (answer : Answer) →
         ((script prefix : List ℕ) → ¬ Means words (run script prefix)) →
-        AnswersWords IsAny words told answer → AnswersWords IsStill words told answer }
+        AnswersWords IsAny words (OnExposed told) answer →
+        AnswersWords IsStill words (OnExposed told) answer }
 {}
 
 /// Over any files, the status of an answer says of which words it is the answer. It does nothing.
 pub fn statuses_have_their_words()
     ensures any { (words : List (List ℕ)) (told : Option Files) (answer : Answer) →
-        AnswersWords IsAny words told answer → HasItsWords IsAny words answer }
+        AnswersWords IsAny words (OnExposed told) answer → HasItsWords IsAny words answer }
     ensures still { (words : List (List ℕ)) (told : Option Files) (answer : Answer) →
-        AnswersWords IsStill words told answer → HasItsWords IsStill words answer }
+        AnswersWords IsStill words (OnExposed told) answer → HasItsWords IsStill words answer }
 {}
 
 /// `check` by the proof that `prove` writes for the same logs answers with the verdicts of `audit`,
@@ -78,14 +82,31 @@ pub fn checks_agree_with_audits()
     rules_are_read_in_one_way();
 }
 
-/// What the program has done is complete, by whatever calls it was written: where no count of
+/// What the program has done for files as they were read it has done over the exposed files. So the
+/// other laws hold of it. It does nothing.
+pub fn answers_are_over_exposed_files<S: Store, K: Sink>()
+    ensures any { (words : List (List ℕ)) (store store_after : S) (out out_after : K)
+        (how : Status) →
+        HasDone IsAny words (IsGivenBy S.Store K.Sink store out store_after out_after)
+        (outside S.Store K.Sink store out) how (outside S.Store K.Sink store_after out_after) →
+        HasDone IsAny words (IsGivenSomehow (outside S.Store K.Sink store out))
+        (outside S.Store K.Sink store out) how (outside S.Store K.Sink store_after out_after) }
+    ensures still { (words : List (List ℕ)) (store store_after : S) (out out_after : K)
+        (how : Status) →
+        HasDone IsStill words (IsGivenBy S.Store K.Sink store out store_after out_after)
+        (outside S.Store K.Sink store out) how (outside S.Store K.Sink store_after out_after) →
+        HasDone IsStill words (IsGivenSomehow (outside S.Store K.Sink store out))
+        (outside S.Store K.Sink store out) how (outside S.Store K.Sink store_after out_after) }
+{}
+
+/// What the program has done is complete, by whatever calls it was given: where no count of
 /// faults rose, a command over files that are all accepted is carried out, or the program ran out
 /// of memory. It does nothing.
 pub fn answers_are_complete()
     ensures any { (words : List (List ℕ)) (old : Outside) (how : Status) (new : Outside) →
-        HasDone IsAny words (λ _ _. ⊤) old how new → IsComplete IsAny words old how new }
+        HasDone IsAny words (IsGivenSomehow old) old how new → IsComplete IsAny words old how new }
     ensures still { (words : List (List ℕ)) (old : Outside) (how : Status) (new : Outside) →
-        HasDone IsStill words (λ _ _. ⊤) old how new →
+        HasDone IsStill words (IsGivenSomehow old) old how new →
         IsComplete IsStill words old how new }
 {
     bytes_say_one_log();

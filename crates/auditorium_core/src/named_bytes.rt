@@ -1,8 +1,6 @@
 // Files whose bytes are read, whatever they are.
-ghost use Rattle.hall_outside.specs.Files.{OnSomeFile};
-ghost use Rattle.evidence.specs.Reading.{IsReadFrom};
+ghost use Rattle.evidence.specs.Reading.{IsReadFromFile};
 ghost use Rattle.auditorium_core.specs.NamedBytes.{GivesBytes};
-ghost use Rattle.auditorium_core.specs.Outside.{seen};
 
 use evidence::{AuditFault, file_fault};
 use hall_outside::{Store, read_file};
@@ -21,9 +19,8 @@ pub(crate) fn read_bytes<S: Store>(
     name: &str,
     limit: usize,
 ) -> Result<Vec<u8>, AuditFault>
-    ensures { IsReadFrom (λ bytes. bytes.items)
-        (λ told answer. OnSomeFile told name.now (λ file. GivesBytes limit name.now file answer))
-        (seen S.Store store.old) result (seen S.Store store.new) }
+    ensures { IsReadFromFile S.Store (λ bytes. bytes.items) name.now (GivesBytes limit name.now)
+        store.old result store.new }
 {
     match read_file(alloc, store, name, limit) {
         Ok(bytes) => Ok(bytes),

@@ -1,13 +1,12 @@
 // The command `office`: makes the files of an election office.
-ghost use Rattle.std.specs.Prelude.{◌≡◌, ◌≢◌, ℕ, List, Ok, IfNone, IfOk, IfSome, IsErr, codes};
+ghost use Rattle.std.specs.Prelude.{◌≡◌, ◌≢◌, ℕ, List, Ok, IfNone, IfOk, IfSome, IsErrOf, codes};
 ghost use Rattle.std.specs.Prelude.{false, map, string_bytes};
 ghost use Rattle.hex.specs.Hex.{encode_lower};
 ghost use Rattle.hall_outside.specs.Counts.{ComesExactly, HasCause};
-ghost use Rattle.hall_outside.specs.Files.{OnFile};
+ghost use Rattle.hall_outside.specs.ReadFile.{OnReadFile};
 ghost use Rattle.office_key.specs.Endorsements.{office_public};
 ghost use Rattle.auditorium_core.specs.Office.{IsOfficeSeed, made_office};
 ghost use Rattle.auditorium_core.specs.OfficeFile.{office_file};
-ghost use Rattle.auditorium_core.specs.Outside.{seen};
 ghost use Rattle.auditorium_core.specs.Words.{office};
 ghost use Rattle.auditorium_core.specs.inside.Meaning.{IsReadAs};
 ghost use Rattle.auditorium_core.specs.inside.Promise.{IsAnsweredBy};
@@ -16,7 +15,7 @@ ghost use Rattle.auditorium_core.specs.inside.Presence.{IsThere};
 use crate::answer::{Answer, Fault, OutputFile};
 use crate::office_file::office_file;
 use crate::words::Request;
-use hall_outside::{Failed, Store, Taken};
+use hall_outside::{FileFault, Store, read_file};
 use hall_text::digest_hex;
 use office_key::{Office, public_key, public_key_in, write_office};
 use std::alloc::{AllocError, Global};
@@ -41,21 +40,24 @@ fn seed_of(word: &str) -> Option<[u8; 32]>
     digest_hex(word.as_bytes())
 }
 
-/// Whether the file is there, whatever it has. No file changes.
-fn is_there<S: Store>(store: &mut S, name: &str) -> Result<bool, Failed>
-    ensures there { IfOk result (λ there. OnFile (S.files store.old) name.now (IsThere there)) }
+/// Whether the file is there, whatever it has: a file that isn't empty is over the limit. No file
+/// changes.
+fn is_there<S: Store>(alloc: Global, store: &mut S, name: &str) -> Result<bool, Fault>
+    ensures there { IfOk result (λ there.
+        OnReadFile S.Store name.now 0 (IsThere there) store.old store.new) }
     ensures absent { ComesExactly (S.answered store.old).absences (S.answered store.new).absences
         (result ≡ Ok false) }
     ensures read_fault { HasCause (S.read_faults store.old) (S.read_faults store.new)
-        (IsErr result) }
+        (IsErrOf result Fault.ReadFault) }
     ensures files { S.files store.new ≡ S.files store.old }
     ensures write_faults { S.write_faults store.new ≡ S.write_faults store.old }
 {
-    let mut first = [0; 1];
-    match store.read_at(name, 0, &mut first) {
-        Ok(Taken::Absent) => Ok(false),
-        Ok(Taken::Bytes(_)) => Ok(true),
-        Err(Failed) => Err(Failed),
+    match read_file(alloc, store, name, 0) {
+        Ok(_) => Ok(true),
+        Err(FileFault::TooLong) => Ok(true),
+        Err(FileFault::Absent) => Ok(false),
+        Err(FileFault::ReadFault) => Err(Fault::ReadFault),
+        Err(FileFault::Memory) => Err(Fault::Memory),
     }
 }
 
@@ -86,17 +88,17 @@ pub(crate) fn office<S: Store>(
     name: &str,
     seed: [u8; 32],
 ) -> Result<Answer, Fault>
-    ensures { IsAnsweredBy (office name.now seed)
-        (seen S.Store store.old) result (seen S.Store store.new) }
+    ensures { IsAnsweredBy S.Store (office name.now seed)
+        store.old result store.new }
 {
     let file = office_file(alloc, name)?;
-    match is_there(store, file.as_str()) {
+    match is_there(alloc, store, file.as_str()) {
         Ok(true) => Ok(Answer::refused(alloc, file.as_str(), 0, "Exists")?),
         Ok(false) => {
             let key = public_key(alloc, name.as_bytes(), &seed)?;
             Ok(made_of(alloc, file, name, seed, &key)?)
         }
-        Err(Failed) => Err(Fault::ReadFault),
+        Err(fault) => Err(fault),
     }
 }
 
@@ -108,16 +110,16 @@ pub(crate) fn office_in<R: Threads + Sync, S: Store>(
     name: &str,
     seed: [u8; 32],
 ) -> Result<Answer, Fault>
-    ensures { IsAnsweredBy (office name.now seed)
-        (seen S.Store store.old) result (seen S.Store store.new) }
+    ensures { IsAnsweredBy S.Store (office name.now seed)
+        store.old result store.new }
 {
     let file = office_file(alloc, name)?;
-    match is_there(store, file.as_str()) {
+    match is_there(alloc, store, file.as_str()) {
         Ok(true) => Ok(Answer::refused(alloc, file.as_str(), 0, "Exists")?),
         Ok(false) => {
             let key = public_key_in(rt, alloc, name.as_bytes(), &seed)?;
             Ok(made_of(alloc, file, name, seed, &key)?)
         }
-        Err(Failed) => Err(Fault::ReadFault),
+        Err(fault) => Err(fault),
     }
 }

@@ -1,12 +1,10 @@
 // An office's file.
 ghost use Rattle.std.specs.Prelude.{◌≡◌, ◌≢◌, ◌≤◌, Err, IfErr, IfOk, IfSome, Ok, Some};
 ghost use Rattle.std.specs.Prelude.{length, string_bytes};
-ghost use Rattle.hall_outside.specs.Files.{OnSomeFile};
-ghost use Rattle.evidence.specs.Reading.{IsReadFrom};
+ghost use Rattle.evidence.specs.Reading.{IsReadFromFile};
 ghost use Rattle.evidence.specs.Refusal.{IsAbsent, refusal_of};
 ghost use Rattle.auditorium_core.specs.NamedBytes.{max_small};
 ghost use Rattle.auditorium_core.specs.OfficeFile.{GivesOffice, office_file};
-ghost use Rattle.auditorium_core.specs.Outside.{seen};
 
 use crate::named_bytes::MAX_SMALL;
 use evidence::{AuditFault, file_fault};
@@ -27,9 +25,8 @@ pub(crate) fn read_office_file<S: Store>(
     store: &mut S,
     file: &str,
 ) -> Result<Office, AuditFault>
-    ensures { IsReadFrom (λ office. office)
-        (λ told answer. OnSomeFile told file.now (λ this. GivesOffice file.now this answer))
-        (seen S.Store store.old) result (seen S.Store store.new) }
+    ensures { IsReadFromFile S.Store (λ office. office) file.now (GivesOffice file.now)
+        store.old result store.new }
 {
     match read_file(alloc, store, file, MAX_SMALL) {
         Ok(bytes) => office_of(alloc, file, bytes.as_slice()),

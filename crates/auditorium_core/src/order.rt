@@ -22,10 +22,9 @@ ghost use Rattle.roster.specs.declared.post.Post.{Post};
 ghost use Rattle.entry_format.specs.Nodes.{node_of_sealed};
 ghost use Rattle.entry_graph.specs.EntryGraph.{IsEntryGraph};
 ghost use Rattle.evidence.specs.Graphs.{entries_of};
-ghost use Rattle.evidence.specs.Logs.{GivesLogsIn};
-ghost use Rattle.evidence.specs.Reading.{IsReadFrom, StoreSeen};
-ghost use Rattle.evidence.specs.RosterFile.{GivesRosterIn};
-ghost use Rattle.auditorium_core.specs.Outside.{seen};
+ghost use Rattle.evidence.specs.Logs.{GivesLogs};
+ghost use Rattle.evidence.specs.Reading.{IsReadFrom, IsReadFromFile};
+ghost use Rattle.evidence.specs.RosterFile.{GivesRoster};
 ghost use Rattle.auditorium_core.specs.Words.{order};
 ghost use Rattle.auditorium_core.specs.EntryWords.{IsNamedBy, IsNumbered, MeansEntry, by_number};
 ghost use Rattle.auditorium_core.specs.Order.{AreOrderWords, IsOrderAmong, IsOrderOver};
@@ -78,13 +77,13 @@ pub(crate) fn order<S: Store>(
     y: &str,
     logs: &[String],
 ) -> Result<Answer, Fault>
-    ensures { IsAnsweredBy (order roster.now x.now y.now (map string_bytes logs.now))
-        (seen S.Store store.old) result (seen S.Store store.new) }
+    ensures { IsAnsweredBy S.Store (order roster.now x.now y.now (map string_bytes logs.now))
+        store.old result store.new }
 {
     match read_roster(alloc, store, roster) {
         Ok(read) => {
             let found = read_logs(alloc, store, logs, &read.roster, &read.election);
-            order_of(alloc, &read, x, y, found)
+            order_of::<S>(alloc, &read, x, y, found)
         }
         Err(fault) => Answer::of_fault(alloc, &fault),
     }
@@ -100,31 +99,31 @@ pub(crate) fn order_in<R: Threads + Sync, S: Store>(
     y: &str,
     logs: &[String],
 ) -> Result<Answer, Fault>
-    ensures { IsAnsweredBy (order roster.now x.now y.now (map string_bytes logs.now))
-        (seen S.Store store.old) result (seen S.Store store.new) }
+    ensures { IsAnsweredBy S.Store (order roster.now x.now y.now (map string_bytes logs.now))
+        store.old result store.new }
 {
     match read_roster(alloc, store, roster) {
         Ok(read) => {
             let found = read_logs_in(rt, alloc, store, logs, &read.roster, &read.election);
-            order_of(alloc, &read, x, y, found)
+            order_of::<S>(alloc, &read, x, y, found)
         }
         Err(fault) => Answer::of_fault(alloc, &fault),
     }
 }
 
 /// The answer once the roster and the logs were read, of whatever files.
-fn order_of(
+fn order_of<S: Store>(
     alloc: Global,
     read: &RosterRead,
     x: &str,
     y: &str,
     logs: Result<Vec<LogRead>, AuditFault>,
 ) -> Result<Answer, Fault>
-    ensures { (roster : List ℕ) (names : List (List ℕ)) (old mid new : StoreSeen) →
-        IsReadFrom (λ found. found) (GivesRosterIn roster) old (Ok read.now) mid →
-        IsReadFrom (λ found. found.items)
-        (GivesLogsIn read.now.roster.machines read.now.election names) mid logs new →
-        IsAnsweredBy (order roster x.now y.now names) old result new }
+    ensures { (roster : List ℕ) (names : List (List ℕ)) (old mid new : S) →
+        IsReadFromFile S.Store (λ found. found) roster (GivesRoster roster) old (Ok read.now) mid →
+        IsReadFrom S.Store (λ found. found.items) names
+        (GivesLogs read.now.roster.machines read.now.election names) mid logs new →
+        IsAnsweredBy S.Store (order roster x.now y.now names) old result new }
 {
     match logs {
         Ok(logs) => order_over(alloc, &read.roster, x, y, logs),

@@ -3,7 +3,6 @@ ghost use Rattle.std.specs.Prelude.{◌≡◌, ◌++◌, codes, map, IfOk, OnOk,
 ghost use Rattle.roster.specs.Machines.{HaveText};
 ghost use Rattle.election_script.specs.Lawful.{IsLawful};
 ghost use Rattle.polling_world.specs.Keys.{key_of};
-ghost use Rattle.auditorium_core.specs.Outside.{seen};
 ghost use Rattle.auditorium_core.specs.Words.{play};
 ghost use Rattle.auditorium_core.specs.inside.Meaning.{IsReadAs};
 ghost use Rattle.auditorium_core.specs.inside.Promise.{IsAnsweredBy};
@@ -166,8 +165,8 @@ pub(crate) fn play<S: Store>(
     name: &str,
     prefix: &str,
 ) -> Result<Answer, Fault>
-    ensures { IsAnsweredBy (play name.now prefix.now)
-        (seen S.Store store.old) result (seen S.Store store.new) }
+    ensures { IsAnsweredBy S.Store (play name.now prefix.now)
+        store.old result store.new }
 {
     match read_script(alloc, store, name) {
         Ok(script) => {
@@ -186,8 +185,8 @@ pub(crate) fn play_in<R: Threads + Sync, S: Store>(
     name: &str,
     prefix: &str,
 ) -> Result<Answer, Fault>
-    ensures { IsAnsweredBy (play name.now prefix.now)
-        (seen S.Store store.old) result (seen S.Store store.new) }
+    ensures { IsAnsweredBy S.Store (play name.now prefix.now)
+        store.old result store.new }
 {
     match read_script(alloc, store, name) {
         Ok(script) => {

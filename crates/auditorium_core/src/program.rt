@@ -1,7 +1,7 @@
 // From the words of the command line to the bytes that go out.
 ghost use Rattle.std.specs.Prelude.{◌≡◌, ℕ, List, IfNone, IfSome, map, string_bytes};
-ghost use Rattle.auditorium_core.specs.Outcome.{HasDone, IsWrittenAfterReads};
-ghost use Rattle.auditorium_core.specs.Outside.{outside, seen};
+ghost use Rattle.auditorium_core.specs.Outcome.{HasDone, IsGivenBy};
+ghost use Rattle.auditorium_core.specs.Outside.{outside};
 ghost use Rattle.auditorium_core.specs.Words.{IsAny, IsStill, Means, command_parts, run};
 ghost use Rattle.auditorium_core.specs.inside.Meaning.{IsThreaded, asked};
 ghost use Rattle.auditorium_core.specs.inside.Promise.{AreAnswered, IsAnsweredBy};
@@ -42,7 +42,7 @@ pub fn auditorium<R: Threads + Wait + Sync, S: Store, K: Sink, G: Gate + Sync>(
     gate: &G,
 ) -> Status
     ensures { HasDone IsAny (map string_bytes words.now)
-        (IsWrittenAfterReads S.Store K.Sink store.old out.old store.new out.new)
+        (IsGivenBy S.Store K.Sink store.old out.old store.new out.new)
         (outside S.Store K.Sink store.old out.old) result
         (outside S.Store K.Sink store.new out.new) }
 {
@@ -64,7 +64,7 @@ pub fn auditorium_still<S: Store, K: Sink>(
     out: &mut K,
 ) -> Status
     ensures { HasDone IsStill (map string_bytes words.now)
-        (IsWrittenAfterReads S.Store K.Sink store.old out.old store.new out.new)
+        (IsGivenBy S.Store K.Sink store.old out.old store.new out.new)
         (outside S.Store K.Sink store.old out.old) result
         (outside S.Store K.Sink store.new out.new) }
 {
@@ -114,8 +114,8 @@ fn answer_in<R: Threads + Wait + Sync, S: Store, G: Gate + Sync>(
 ) -> Result<Answer, Fault>
     requires threaded { IsThreaded (asked request) }
     requires allowed { (command_parts (asked request)).IsAllowed }
-    ensures { IsAnsweredBy (asked request.entry)
-        (seen S.Store store.old) result (seen S.Store store.new) }
+    ensures { IsAnsweredBy S.Store (asked request.entry)
+        store.old result store.new }
 {
     match request {
         Request::Audit(roster, rules, logs) => audit_in(rt, alloc, store, roster, rules, logs),
@@ -143,8 +143,8 @@ fn run_in<'a>(request: &Request<'a>) -> Option<(&'a str, &'a str)>
 
 /// The answer to the words. Nothing is written.
 fn answer_of<S: Store>(alloc: Global, words: &[String], store: &mut S) -> Result<Answer, Fault>
-    ensures { AreAnswered IsStill (map string_bytes words.now)
-        (seen S.Store store.old) result (seen S.Store store.new) }
+    ensures { AreAnswered S.Store IsStill (map string_bytes words.now)
+        store.old result store.new }
 {
     match request_of(words) {
         Some(request) if run_in(&request).is_none() => answer_to(alloc, request, store),
@@ -156,8 +156,8 @@ fn answer_of<S: Store>(alloc: Global, words: &[String], store: &mut S) -> Result
 fn answer_to<S: Store>(alloc: Global, request: Request<'_>, store: &mut S) -> Result<Answer, Fault>
     requires still { IsStill (asked request) }
     requires allowed { (command_parts (asked request)).IsAllowed }
-    ensures { IsAnsweredBy (asked request.entry)
-        (seen S.Store store.old) result (seen S.Store store.new) }
+    ensures { IsAnsweredBy S.Store (asked request.entry)
+        store.old result store.new }
 {
     match request {
         Request::Audit(roster, rules, logs) => audit(alloc, store, roster, rules, logs),

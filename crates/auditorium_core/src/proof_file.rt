@@ -2,12 +2,10 @@
 ghost use Rattle.std.specs.Prelude.{◌≢◌, ◌≤◌, Err, IfErr, IfOk, IfSome, Ok, Some, length};
 ghost use Rattle.entry_format.specs.Nodes.{node_of_sealed};
 ghost use Rattle.entry_graph.specs.EntryGraph.{IsEntryGraph};
-ghost use Rattle.evidence.specs.Reading.{IsReadFrom};
+ghost use Rattle.evidence.specs.Reading.{IsReadFromFile};
 ghost use Rattle.evidence.specs.Refusal.{IsAbsent, refusal_of};
 ghost use Rattle.auditor.specs.Judged.{nodes_of};
-ghost use Rattle.auditorium_core.specs.Outside.{seen};
 ghost use Rattle.auditorium_core.specs.ProofFile.{GivesProof, max_proof};
-ghost use Rattle.auditorium_core.specs.inside.Checking.{GivesProofIn};
 
 use audit_proof::{Proof, ProofFault, read_proof};
 use entry_graph::Graph;
@@ -26,8 +24,9 @@ pub(crate) fn read_proof_file<S: Store>(
     graph: &Graph,
 ) -> Result<Proof, AuditFault>
     requires { IsEntryGraph node_of_sealed graph.now }
-    ensures { IsReadFrom (λ proof. proof) (GivesProofIn name.now (nodes_of graph.now))
-        (seen S.Store store.old) result (seen S.Store store.new) }
+    ensures { IsReadFromFile S.Store (λ proof. proof) name.now
+        (GivesProof name.now (nodes_of graph.now))
+        store.old result store.new }
 {
     match read_file(alloc, store, name, MAX_PROOF) {
         Ok(bytes) => proof_of(alloc, name, graph, bytes.as_slice()),

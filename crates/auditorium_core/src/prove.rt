@@ -1,16 +1,15 @@
 // The command `prove`: the proof of the order of the entries that logs keep, by which others check
 // an audit.
-ghost use Rattle.std.specs.Prelude.{◌≡◌, ◌≢◌, codes, map, Err, IfErr, IfOk, IfSome, Ok};
+ghost use Rattle.std.specs.Prelude.{◌≡◌, ◌≢◌, ◌∷◌, codes, map, Err, IfErr, IfOk, IfSome, Ok};
 ghost use Rattle.std.specs.Prelude.{string_bytes};
 ghost use Rattle.entry_format.specs.Nodes.{node_of_sealed};
 ghost use Rattle.entry_graph.specs.EntryGraph.{IsEntryGraph};
 ghost use Rattle.evidence.specs.Reading.{IsReadFrom};
 ghost use Rattle.evidence.specs.Refusal.{IsAbsent, refusal_of};
 ghost use Rattle.auditor.specs.Judged.{nodes_of};
-ghost use Rattle.auditorium_core.specs.Outside.{seen};
-ghost use Rattle.auditorium_core.specs.Prove.{GivesText, proof_answer};
+ghost use Rattle.auditorium_core.specs.Prove.{GivesMade, GivesText, proof_answer};
 ghost use Rattle.auditorium_core.specs.Words.{prove};
-ghost use Rattle.auditorium_core.specs.inside.Checking.{GivesMadeIn, ProvesFilesIn, ProvesLogs};
+ghost use Rattle.auditorium_core.specs.inside.Checking.{ProvesFiles, ProvesLogs};
 ghost use Rattle.auditorium_core.specs.inside.Meaning.{IsReadAs};
 ghost use Rattle.auditorium_core.specs.inside.Promise.{IsAnsweredBy};
 
@@ -92,9 +91,9 @@ fn prove_under<S: Store>(
     proof: &str,
     logs: &[String],
 ) -> Result<ProofMade, AuditFault>
-    ensures { IsReadFrom (λ made. made)
-        (ProvesFilesIn read.now proof.now (map string_bytes logs.now))
-        (seen S.Store store.old) result (seen S.Store store.new) }
+    ensures { IsReadFrom S.Store (λ made. made) (map string_bytes logs.now)
+        (ProvesFiles read.now proof.now (map string_bytes logs.now))
+        store.old result store.new }
 {
     match read_logs(alloc, store, logs, &read.roster, &read.election) {
         Ok(logs) => proof_of_logs(alloc, proof, logs),
@@ -110,9 +109,9 @@ fn prove_all<S: Store>(
     proof: &str,
     logs: &[String],
 ) -> Result<ProofMade, AuditFault>
-    ensures { IsReadFrom (λ made. made)
-        (GivesMadeIn roster.now proof.now (map string_bytes logs.now))
-        (seen S.Store store.old) result (seen S.Store store.new) }
+    ensures { IsReadFrom S.Store (λ made. made) (roster.now ∷ map string_bytes logs.now)
+        (GivesMade roster.now proof.now (map string_bytes logs.now))
+        store.old result store.new }
 {
     match read_roster(alloc, store, roster) {
         Ok(read) => prove_under(alloc, store, &read, proof, logs),
@@ -140,8 +139,8 @@ pub(crate) fn prove<S: Store>(
     proof: &str,
     logs: &[String],
 ) -> Result<Answer, Fault>
-    ensures { IsAnsweredBy (prove roster.now proof.now (map string_bytes logs.now))
-        (seen S.Store store.old) result (seen S.Store store.new) }
+    ensures { IsAnsweredBy S.Store (prove roster.now proof.now (map string_bytes logs.now))
+        store.old result store.new }
 {
     match prove_all(alloc, store, roster, proof, logs) {
         Ok(made) => Ok(answer_of(alloc, proof, made)?),

@@ -3,7 +3,6 @@ ghost use Rattle.std.specs.Prelude.{◌≡◌, ◌++◌, All, IfOk, OnOk, codes,
 ghost use Rattle.election_script.specs.Lawful.{IsLawful};
 ghost use Rattle.polling_world.specs.Keys.{key_of};
 ghost use Rattle.polling_world.specs.Steps.{IsStepOf};
-ghost use Rattle.auditorium_core.specs.Outside.{seen};
 ghost use Rattle.auditorium_core.specs.Repair.{IsRepairOf, mended_line, mended_lines};
 ghost use Rattle.auditorium_core.specs.Words.{repair};
 ghost use Rattle.auditorium_core.specs.inside.Meaning.{IsReadAs};
@@ -110,8 +109,8 @@ pub(crate) fn repair<S: Store>(
     name: &str,
     prefix: &str,
 ) -> Result<Answer, Fault>
-    ensures { IsAnsweredBy (repair name.now prefix.now)
-        (seen S.Store store.old) result (seen S.Store store.new) }
+    ensures { IsAnsweredBy S.Store (repair name.now prefix.now)
+        store.old result store.new }
 {
     match read_script(alloc, store, name) {
         Ok(script) => {
@@ -130,8 +129,8 @@ pub(crate) fn repair_in<R: Threads + Sync, S: Store>(
     name: &str,
     prefix: &str,
 ) -> Result<Answer, Fault>
-    ensures { IsAnsweredBy (repair name.now prefix.now)
-        (seen S.Store store.old) result (seen S.Store store.new) }
+    ensures { IsAnsweredBy S.Store (repair name.now prefix.now)
+        store.old result store.new }
 {
     match read_script(alloc, store, name) {
         Ok(script) => {

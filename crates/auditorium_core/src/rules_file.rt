@@ -1,11 +1,9 @@
 // The rules that a word of the command line names.
 ghost use Rattle.std.specs.Prelude.{◌≡◌, ◌≢◌, ◌≤◌, Err, IfErr, IfOk, IfSome, Ok, Some, length, map};
-ghost use Rattle.hall_outside.specs.Files.{OnSomeFile};
 ghost use Rattle.rule_language.specs.Forms.{rule_tree};
-ghost use Rattle.evidence.specs.Reading.{IsReadFrom};
+ghost use Rattle.evidence.specs.Reading.{IsReadFromFile};
 ghost use Rattle.evidence.specs.Refusal.{IsAbsent, refusal_of};
 ghost use Rattle.auditor.specs.Sources.{GivesRules, max_rules};
-ghost use Rattle.auditorium_core.specs.Outside.{seen};
 
 use evidence::{AuditFault, file_fault};
 use hall_outside::{Store, read_file};
@@ -39,9 +37,9 @@ pub(crate) fn read_rules<S: Store>(
     store: &mut S,
     name: &str,
 ) -> Result<Vec<Rule>, AuditFault>
-    ensures { IsReadFrom (λ rules. map rule_tree rules.items)
-        (λ told answer. OnSomeFile told name.now (λ file. GivesRules name.now file answer))
-        (seen S.Store store.old) result (seen S.Store store.new) }
+    ensures { IsReadFromFile S.Store (λ rules. map rule_tree rules.items) name.now
+        (GivesRules name.now)
+        store.old result store.new }
 {
     match read_file(alloc, store, name, MAX_RULES) {
         Ok(bytes) => rules_of(alloc, name, bytes.as_slice()),

@@ -2,7 +2,6 @@
 ghost use Rattle.std.specs.Prelude.{◌≡◌, ◌++◌, All, IfOk, OnOk, codes, length, map, string_bytes};
 ghost use Rattle.election_script.specs.Lawful.{IsLawful};
 ghost use Rattle.finished_floor.specs.Floors.{ArePlayedAgain, IsFloorOf};
-ghost use Rattle.auditorium_core.specs.Outside.{seen};
 ghost use Rattle.auditorium_core.specs.Run.{IsRunOf, loss_line, loss_lines};
 ghost use Rattle.auditorium_core.specs.Words.{run};
 ghost use Rattle.auditorium_core.specs.inside.Losses.{IsBetween};
@@ -104,8 +103,8 @@ pub(crate) fn run<R: Threads + Wait + Sync, S: Store, G: Gate + Sync>(
     name: &str,
     prefix: &str,
 ) -> Result<Answer, Fault>
-    ensures { IsAnsweredBy (run name.now prefix.now)
-        (seen S.Store store.old) result (seen S.Store store.new) }
+    ensures { IsAnsweredBy S.Store (run name.now prefix.now)
+        store.old result store.new }
 {
     match read_script(alloc, store, name) {
         Ok(script) => Ok(has_run(rt, alloc, gate, prefix, &script)?),

@@ -1,10 +1,9 @@
 // A script's file.
 ghost use Rattle.std.specs.Prelude.{◌≢◌, ◌≤◌, Err, IfErr, IfOk, IfSome, Ok, Some, length};
 ghost use Rattle.election_script.specs.Lawful.{IsLawful};
-ghost use Rattle.evidence.specs.Reading.{IsReadFrom};
+ghost use Rattle.evidence.specs.Reading.{IsReadFromFile};
 ghost use Rattle.evidence.specs.Refusal.{IsAbsent, refusal_of};
-ghost use Rattle.auditorium_core.specs.Outside.{seen};
-ghost use Rattle.auditorium_core.specs.ScriptFile.{GivesScript, GivesScriptIn, max_script};
+ghost use Rattle.auditorium_core.specs.ScriptFile.{GivesScript, max_script};
 
 use election_script::{Script, ScriptFault, read};
 use evidence::{AuditFault, file_fault};
@@ -20,8 +19,8 @@ pub(crate) fn read_script<S: Store>(
     store: &mut S,
     name: &str,
 ) -> Result<Script, AuditFault>
-    ensures read { IsReadFrom (λ script. script) (GivesScriptIn name.now)
-        (seen S.Store store.old) result (seen S.Store store.new) }
+    ensures read { IsReadFromFile S.Store (λ script. script) name.now (GivesScript name.now)
+        store.old result store.new }
     ensures lawful { IfOk result IsLawful }
 {
     match read_file(alloc, store, name, MAX_SCRIPT) {

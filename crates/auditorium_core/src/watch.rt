@@ -12,27 +12,26 @@ ghost use Rattle.evidence.specs.Graphs.{GivesGraph, entries_of, entries_of_recor
 ghost use Rattle.evidence.specs.Reading.{IsReadFrom};
 ghost use Rattle.evidence.specs.Refusal.{IsAbsent, refusal_of};
 ghost use Rattle.evidence.specs.inside.Copies.{StandFor, text_of_sealed};
+ghost use Rattle.auditor.specs.Audits.{audit_files};
 ghost use Rattle.auditor.specs.Outcomes.{graph_has_finding, is_broken, is_unsettled};
 ghost use Rattle.auditor.specs.Outcomes.{log_has_finding, outcome_by};
+ghost use Rattle.auditor.specs.Sources.{rule_files};
 ghost use Rattle.live_auditor.specs.Adding.{Collides, IsOfSameAudit};
 ghost use Rattle.live_auditor.specs.Live.{IsLive, IsOfMachine, max_added};
 ghost use Rattle.demonstration.specs.Shown.{is_kept};
 ghost use Rattle.auditorium_core.specs.Audit.{source_named};
-ghost use Rattle.auditorium_core.specs.Outside.{seen};
 ghost use Rattle.auditorium_core.specs.ReportAnswers.{status_by};
-ghost use Rattle.auditorium_core.specs.Watch.{AreFewDistinct, Watches, watch_line};
+ghost use Rattle.auditorium_core.specs.Watch.{AreFewDistinct, GivesEvidence, GivesWatch, Watches, watch_line};
 ghost use Rattle.auditorium_core.specs.Words.{watch};
 ghost use Rattle.auditorium_core.specs.inside.Meaning.{IsReadAs};
 ghost use Rattle.auditorium_core.specs.inside.Promise.{IsAnsweredBy};
 ghost use Rattle.auditorium_core.specs.inside.Watching.{
   AddsTo,
   AreLinesOf,
-  GivesEvidenceIn,
-  GivesWatchIn,
   IsUnadded,
   IsUnwatched,
-  ReadsLogsIn,
-  ReadsRulesIn,
+  ReadsLogs,
+  ReadsRules,
   evidence_by,
   evidence_of,
   first_half,
@@ -86,9 +85,9 @@ fn read_with_rules<S: Store>(
     rules: Vec<Rule>,
     names: &[String],
 ) -> Result<EvidenceRead, AuditFault>
-    ensures { IsReadFrom evidence_of
-        (ReadsLogsIn read (map rule_tree rules.items) (map string_bytes names.now))
-        (seen S.Store store.old) result (seen S.Store store.new) }
+    ensures { IsReadFrom S.Store evidence_of (map string_bytes names.now)
+        (ReadsLogs read (map rule_tree rules.items) (map string_bytes names.now))
+        store.old result store.new }
 {
     match read_logs(alloc, store, names, &read.roster, &read.election) {
         Ok(logs) => Ok(EvidenceRead {
@@ -108,9 +107,10 @@ fn read_with_roster<S: Store>(
     word: &str,
     names: &[String],
 ) -> Result<EvidenceRead, AuditFault>
-    ensures { IsReadFrom evidence_of
-        (ReadsRulesIn read (source_named word.now) (map string_bytes names.now))
-        (seen S.Store store.old) result (seen S.Store store.new) }
+    ensures { IsReadFrom S.Store evidence_of
+        (rule_files (source_named word.now) ++ map string_bytes names.now)
+        (ReadsRules read (source_named word.now) (map string_bytes names.now))
+        store.old result store.new }
 {
     match rules_from(word) {
         RulesFrom::Standard => match standard(alloc) {
@@ -132,9 +132,10 @@ fn read_evidence<S: Store>(
     word: &str,
     names: &[String],
 ) -> Result<EvidenceRead, AuditFault>
-    ensures { IsReadFrom evidence_of
-        (GivesEvidenceIn roster.now (source_named word.now) (map string_bytes names.now))
-        (seen S.Store store.old) result (seen S.Store store.new) }
+    ensures { IsReadFrom S.Store evidence_of
+        (audit_files roster.now (source_named word.now) (map string_bytes names.now))
+        (GivesEvidence roster.now (source_named word.now) (map string_bytes names.now))
+        store.old result store.new }
 {
     match read_roster(alloc, store, roster) {
         Ok(read) => read_with_roster(alloc, store, read, word, names),
@@ -435,9 +436,10 @@ fn watch_all<S: Store>(
     word: &str,
     logs: &[String],
 ) -> Result<Answer, AuditFault>
-    ensures read { IsReadFrom (λ answer. answer)
-        (GivesWatchIn roster.now (source_named word.now) (map string_bytes logs.now))
-        (seen S.Store store.old) result (seen S.Store store.new) }
+    ensures read { IsReadFrom S.Store (λ answer. answer)
+        (audit_files roster.now (source_named word.now) (map string_bytes logs.now))
+        (GivesWatch roster.now (source_named word.now) (map string_bytes logs.now))
+        store.old result store.new }
     ensures status { IfOk result (λ answer. answer.status ≢ Status.Absent) }
 {
     match read_evidence(alloc, store, roster, word, logs) {
@@ -454,8 +456,8 @@ pub(crate) fn watch<S: Store>(
     rules: &str,
     logs: &[String],
 ) -> Result<Answer, Fault>
-    ensures { IsAnsweredBy (watch roster.now rules.now (map string_bytes logs.now))
-        (seen S.Store store.old) result (seen S.Store store.new) }
+    ensures { IsAnsweredBy S.Store (watch roster.now rules.now (map string_bytes logs.now))
+        store.old result store.new }
 {
     match watch_all(alloc, store, roster, rules, logs) {
         Ok(answer) => Ok(answer),

@@ -1,7 +1,5 @@
--- What named files give `prove` and `check`: those that are exposed, or some where none are.
+-- What files give `prove` and `check`, step by step.
 use Rattle.std.specs.Prelude.{◌≡◌, ℕ, List, [], ◌∷◌, ◌++◌, map, Option, Result, Ok}
-use Rattle.precedence.specs.Graph.{Graph}
-use Rattle.hall_outside.specs.Files.{Files, OnSomeFile}
 use Rattle.roster.specs.declared.post.Post.{Post}
 use Rattle.entry_format.specs.SealedEntry.{SealedEntry}
 use Rattle.log_files.specs.declared.sealed_log.LogRead.{LogRead}
@@ -16,14 +14,14 @@ use Rattle.evidence.specs.Logs.{GivesLogs}
 use Rattle.evidence.specs.Graphs.{entries_of, GivesGraph}
 use Rattle.auditor.specs.Rows.{row_of}
 use Rattle.auditor.specs.Judged.{nodes_of, IsFirstTooWide}
-use Rattle.auditor.specs.Audits.{AndThen, RulesThen, OnFiles}
-use Rattle.auditor.specs.Sources.{RuleSource, rule_files}
+use Rattle.auditor.specs.Audits.{AndThen, RulesThen}
+use Rattle.auditor.specs.Sources.{RuleSource}
 use Rattle.auditorium_core.specs.declared.check.Checked.{Checked}
 use Rattle.auditorium_core.specs.declared.check.Unchecked.{Unchecked}
 use Rattle.auditorium_core.specs.declared.check.Unchecked.TheVariants.{TooWide, Memory}
 use Rattle.auditorium_core.specs.ProofFile.{GivesProof}
-use Rattle.auditorium_core.specs.Prove.{ProofMade, GivesText, GivesMade}
-use Rattle.auditorium_core.specs.Check.{CheckReport, GivesChecked, GivesCheck, check_files}
+use Rattle.auditorium_core.specs.Prove.{ProofMade, GivesText}
+use Rattle.auditorium_core.specs.Check.{CheckReport, GivesChecked}
 
 -- what logs give: the graph of the entries that they keep, and its text
 abbrev pub ProvesLogs : List ℕ → List LogRead → Result ProofMade Refusal → Type 0
@@ -76,23 +74,6 @@ abbrev pub ChecksRules : RosterRead → RuleSource → List ℕ → List (List �
 ChecksRules read source proof names =
     RulesThen source (λ rules files. ChecksFiles read source rules proof names files)
 
--- what the file of a proof gives
-abbrev pub GivesProofIn : List ℕ → Graph → Option Files → Result (List Line) Refusal → Type 0
-GivesProofIn name graph told answer =
-    OnSomeFile told name (λ file. GivesProof name graph file answer)
-
--- what the logs give `prove`
-abbrev pub ProvesFilesIn : RosterRead → List ℕ → List (List ℕ) → Option Files →
-    Result ProofMade Refusal → Type 0
-ProvesFilesIn read proof names told answer =
-    OnFiles names (λ files. ProvesFiles read proof names files answer) told
-
--- what the roster and the logs give `prove`
-abbrev pub GivesMadeIn : List ℕ → List ℕ → List (List ℕ) → Option Files →
-    Result ProofMade Refusal → Type 0
-GivesMadeIn roster proof names told answer =
-    OnFiles (roster ∷ names) (λ files. GivesMade roster proof names files answer) told
-
 -- the report of what was checked
 abbrev pub report_by : Checked → CheckReport
 report_by checked = record {
@@ -106,36 +87,3 @@ report_by checked = record {
 abbrev pub IsUnchecked : List Row → List RuleTree → Unchecked → Type 0
 IsUnchecked rows rules (TooWide place) = IsFirstTooWide rows rules place
 IsUnchecked rows rules Memory = Unit {0}
-
--- what the proof's file gives `check`, over a graph
-abbrev pub ChecksProofIn : List Post → RuleSource → List RuleTree → List ℕ → EntryGraph SealedEntry →
-    Option Files → Result CheckReport Refusal → Type 0
-ChecksProofIn machines source rules proof graph told answer =
-    OnSomeFile told proof (λ file. ChecksProof machines source rules proof file graph answer)
-
--- what the proof's file gives `check`, over logs
-abbrev pub ChecksLogsIn : List Post → RuleSource → List RuleTree → List ℕ → List LogRead →
-    Option Files → Result CheckReport Refusal → Type 0
-ChecksLogsIn machines source rules proof logs told answer =
-    OnSomeFile told proof (λ file. ChecksLogs machines source rules proof file logs answer)
-
--- what the logs and the proof give `check`
-abbrev pub ChecksFilesIn : RosterRead → RuleSource → List RuleTree → List ℕ → List (List ℕ) →
-    Option Files → Result CheckReport Refusal → Type 0
-ChecksFilesIn read source rules proof names told answer =
-    OnFiles (names ++ proof ∷ [])
-    (λ files. ChecksFiles read source rules proof names files answer) told
-
--- what the rules, the logs and the proof give `check`
-abbrev pub ChecksRulesIn : RosterRead → RuleSource → List ℕ → List (List ℕ) → Option Files →
-    Result CheckReport Refusal → Type 0
-ChecksRulesIn read source proof names told answer =
-    OnFiles (rule_files source ++ (names ++ proof ∷ []))
-    (λ files. ChecksRules read source proof names files answer) told
-
--- what all its files give `check`
-abbrev pub GivesCheckIn : List ℕ → RuleSource → List ℕ → List (List ℕ) → Option Files →
-    Result CheckReport Refusal → Type 0
-GivesCheckIn roster source proof names told answer =
-    OnFiles (check_files roster source proof names)
-    (λ files. GivesCheck roster source proof names files answer) told

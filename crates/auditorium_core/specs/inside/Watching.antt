@@ -1,8 +1,7 @@
--- What named files give `watch`: those that are exposed, or some where none are.
+-- What files give `watch`, step by step.
 use Rattle.std.specs.Prelude.{◌≡◌, ℕ, List, [], ◌∷◌, ◌++◌, map, Option, Result, Ok, ◌⊎◌, codes}
 use Rattle.std.specs.Fmt.{decimal}
 use Rattle.std.specs.List.{Contains}
-use Rattle.hall_outside.specs.Files.{Files}
 use Rattle.roster.specs.declared.post.Post.{Post}
 use Rattle.entry_format.specs.Nodes.{node_of_sealed}
 use Rattle.entry_format.specs.SealedEntry.{SealedEntry}
@@ -15,16 +14,15 @@ use Rattle.evidence.specs.declared.roster_file.RosterRead.{RosterRead}
 use Rattle.evidence.specs.Refusal.{Refusal}
 use Rattle.evidence.specs.Logs.{GivesLogs}
 use Rattle.log_files.specs.Lines.{line}
-use Rattle.auditor.specs.Audits.{AndThen, RulesThen, OnFiles, audit_files}
-use Rattle.auditor.specs.Sources.{RuleSource, rule_files}
+use Rattle.auditor.specs.Audits.{AndThen, RulesThen}
+use Rattle.auditor.specs.Sources.{RuleSource}
 use Rattle.live_auditor.specs.Adding.{IsTooWideOver}
 use Rattle.live_auditor.specs.Live.{LiveState}
 use Rattle.live_auditor.specs.Summary.{Summary}
 use Rattle.auditorium_core.specs.declared.watch.EvidenceRead.{EvidenceRead}
 use Rattle.auditorium_core.specs.declared.watch.Unwatched.{Unwatched}
 use Rattle.auditorium_core.specs.declared.watch.Unwatched.TheVariants.{TooWide, Memory}
-use Rattle.auditorium_core.specs.Lines.{Answer}
-use Rattle.auditorium_core.specs.Watch.{Evidence, GivesEvidence, GivesWatch}
+use Rattle.auditorium_core.specs.Watch.{Evidence}
 use Rattle.auditorium_core.specs.Watch.{AreSummaries, IsTooWideAfter, watch_lines}
 
 -- the evidence of machines, rules and logs, with the rules as they were read
@@ -51,32 +49,6 @@ ReadsLogs read rules names files =
 abbrev pub ReadsRules : RosterRead → RuleSource → List (List ℕ) → List (Option (List ℕ)) →
     Result Evidence Refusal → Type 0
 ReadsRules read source names = RulesThen source (λ rules files. ReadsLogs read rules names files)
-
--- what the logs give `watch`
-abbrev pub ReadsLogsIn : RosterRead → List RuleTree → List (List ℕ) → Option Files →
-    Result Evidence Refusal → Type 0
-ReadsLogsIn read rules names told answer =
-    OnFiles names (λ files. ReadsLogs read rules names files answer) told
-
--- what the rules and the logs give `watch`
-abbrev pub ReadsRulesIn : RosterRead → RuleSource → List (List ℕ) → Option Files →
-    Result Evidence Refusal → Type 0
-ReadsRulesIn read source names told answer =
-    OnFiles (rule_files source ++ names) (λ files. ReadsRules read source names files answer) told
-
--- what the roster, the rules and the logs give `watch` as evidence
-abbrev pub GivesEvidenceIn : List ℕ → RuleSource → List (List ℕ) → Option Files →
-    Result Evidence Refusal → Type 0
-GivesEvidenceIn roster source names told answer =
-    OnFiles (audit_files roster source names)
-    (λ files. GivesEvidence roster source names files answer) told
-
--- the answer that the named files give `watch`
-abbrev pub GivesWatchIn : List ℕ → RuleSource → List (List ℕ) → Option Files →
-    Result Answer Refusal → Type 0
-GivesWatchIn roster source names told answer =
-    OnFiles (audit_files roster source names)
-    (λ files. GivesWatch roster source names files answer) told
 
 -- what was added after e: it is there already, or it is new and comes last
 abbrev pub AddsTo : List SealedEntry → SealedEntry → List SealedEntry → Type 0

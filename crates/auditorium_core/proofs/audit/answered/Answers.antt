@@ -1,24 +1,31 @@
-use Rattle.auditorium_core.proofs.Imports.{subst, Ok, IsReadFrom, report_of, GivesReportIn, source_named, audit}
-use Rattle.auditorium_core.proofs.Imports.{IsAnswerTo}
+use Rattle.auditorium_core.proofs.Imports.{inl, inr, refl, subst, Ok, IsReadFrom, audit_files, GivesReport, report_of}
+use Rattle.auditorium_core.proofs.Imports.{source_named, audit_parts, refusal_answer}
 use Rattle.auditorium_core.proofs.Faults.{refused_answered, found_answered}
-use Rattle.auditorium_core.proofs.AuditAnswers.{audit_refused, audit_told}
+use Rattle.auditorium_core.proofs.HonestAudits.{audit_right}
 use Rattle.auditorium_core.proofs.audit.answered.Goals as goal
 
 pub returns-in-Err : goal.returns-in-Err
-returns-in-Err c = λ roster rules logs before after given.
-    let Gives = GivesReportIn roster (source_named rules) logs in
-    refused_answered report_of Gives (IsAnswerTo (audit roster rules logs)) before after c.in-Err.fault
-    c.of_fault.result (subst (λ audited. IsReadFrom report_of Gives before audited after) c.in-Err.is given)
+returns-in-Err g c = λ roster rules logs before after given.
+    let source = source_named rules in
+    let names = audit_files roster source logs in
+    let Gives = GivesReport roster source logs in
+    refused_answered g.S.Store report_of names Gives (audit_parts roster rules logs).IsAnswer before after
+    c.in-Err.fault
+    c.of_fault.result
+    (subst (λ audited. IsReadFrom g.S.Store report_of names Gives before audited after) c.in-Err.is given)
     c.of_fault.ensures.ok c.of_fault.ensures.err
-    (audit_refused roster rules logs before.files)
+    (λ files refusal gives. audit_right roster rules logs files (refusal_answer refusal) (inl (refusal, gives, refl)))
 
 pub returns-in_ok-answer_of-in-Ok : goal.returns-in_ok-answer_of-in-Ok
-returns-in_ok-answer_of-in-Ok c = λ roster rules logs before after given.
-    let Gives = GivesReportIn roster (source_named rules) logs in
+returns-in_ok-answer_of-in-Ok g c = λ roster rules logs before after given.
+    let source = source_named rules in
+    let names = audit_files roster source logs in
+    let Gives = GivesReport roster source logs in
     let report = c.in-Ok.report in
     let answer = c.in_ok-answer_of-in-Ok.field-0 in
-    let read = subst (λ audited. IsReadFrom report_of Gives before audited after) c.in-Ok.is given in
-    found_answered report_of Gives (IsAnswerTo (audit roster rules logs)) before after report (Ok answer) read
-    (audit_told roster rules logs before.files report answer read.ok
-    c.in_ok-answer_of-in-Ok.ensures.told)
+    let read = subst (λ audited. IsReadFrom g.S.Store report_of names Gives before audited after) c.in-Ok.is given in
+    found_answered g.S.Store report_of names Gives (audit_parts roster rules logs).IsAnswer before after report
+    (Ok answer) read
+    (λ files gives. audit_right roster rules logs files answer
+    (inr (report_of report, gives, c.in_ok-answer_of-in-Ok.ensures.told)))
     c.in_ok-answer_of-in-Ok.ensures.status tt

@@ -1,4 +1,4 @@
-use Rattle.auditorium_core.proofs.Imports.{map, rule_tree, entries_of, survivors_have_makers, seen, source_named}
+use Rattle.auditorium_core.proofs.Imports.{map, rule_tree, entries_of, survivors_have_makers, source_named}
 use Rattle.auditorium_core.proofs.CheckAnswers.{graph_checked, graph_refused}
 use Rattle.auditorium_core.proofs.check.check_logs.Goals as goal
 
@@ -12,14 +12,12 @@ check_graph-requires-clause-makers g c =
 
 pub returns-in-Ok : goal.returns-in-Ok
 returns-in-Ok g c =
-    let store = g.S.Store in
-    graph_checked c.args.roster.machines (source_named c.args.word.now) (map rule_tree c.args.rules.items)
-    c.args.proof.now c.args.logs.items c.in-Ok.graph (seen store c.args.store.now)
-    (seen store c.check_graph.new.store) c.check_graph.result c.in-Ok.ensures.ok c.check_graph.ensures
+    graph_checked g.S.Store c.args.roster.machines (source_named c.args.word.now) (map rule_tree c.args.rules.items)
+    c.args.proof.now c.args.logs.items c.in-Ok.graph c.args.store.now c.check_graph.new.store c.check_graph.result
+    c.in-Ok.ensures.ok c.check_graph.ensures
 
 pub returns-in-Err : goal.returns-in-Err
 returns-in-Err g c =
-    let store = g.S.Store in
-    graph_refused c.args.roster.machines (source_named c.args.word.now) (map rule_tree c.args.rules.items)
-    c.args.proof.now c.args.logs.items (seen store c.args.store.now) c.in-Err.fault c.in-Err.ensures.err
+    graph_refused g.S.Store c.args.roster.machines (source_named c.args.word.now) (map rule_tree c.args.rules.items)
+    c.args.proof.now c.args.logs.items c.args.store.now c.in-Err.fault c.in-Err.ensures.err
     (λ e. c.in-Err.ensures.no_read (let same = e in cc))

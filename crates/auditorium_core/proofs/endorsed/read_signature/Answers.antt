@@ -1,17 +1,18 @@
-use Rattle.auditorium_core.proofs.Imports.{[], refl, AtLast, GivesBytes, max_small, seen, signed_of}
-use Rattle.auditorium_core.proofs.FileSteps.{file_ends, file_last}
+use Rattle.auditorium_core.proofs.Imports.{[], refl, AtLast, GivesBytes, max_small, signed_of}
+use Rattle.auditorium_core.proofs.Imports.{file_ends}
+use Rattle.auditorium_core.proofs.FileSteps.{file_last}
 use Rattle.auditorium_core.proofs.endorsed.read_signature.Goals as goal
 
 pub returns-in-Ok : goal.returns-in-Ok
 returns-in-Ok g c =
     let store = g.S.Store in
-    file_last (λ bytes. bytes.items) (GivesBytes max_small c.args.signature.now) c.args.signature.now signed_of
-    (λ s. record { key = c.args.key.items; bytes = c.args.bytes.items; signature = s }) (seen store c.args.store.now)
-    (seen store c.read_bytes.new.store) c.in-Ok.signature _ refl c.in-Ok.ensures
+    file_last store (λ bytes. bytes.items) (GivesBytes max_small c.args.signature.now) c.args.signature.now signed_of
+    (λ s. record { key = c.args.key.items; bytes = c.args.bytes.items; signature = s }) c.args.store.now
+    c.read_bytes.new.store c.in-Ok.signature _ refl c.in-Ok.ensures
 
 pub returns-in-Err : goal.returns-in-Err
 returns-in-Err g c =
     let store = g.S.Store in
-    file_ends (λ bytes. bytes.items) (GivesBytes max_small c.args.signature.now) c.args.signature.now signed_of
+    file_ends store (λ bytes. bytes.items) (GivesBytes max_small c.args.signature.now) c.args.signature.now signed_of
     (λ s. AtLast (record { key = c.args.key.items; bytes = c.args.bytes.items; signature = s })) []
-    (seen store c.args.store.now) (seen store c.read_bytes.new.store) c.in-Err.fault c.in-Err.ensures
+    c.args.store.now c.read_bytes.new.store c.in-Err.fault c.in-Err.ensures

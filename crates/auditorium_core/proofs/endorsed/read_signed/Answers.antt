@@ -1,23 +1,23 @@
-use Rattle.auditorium_core.proofs.Imports.{[], ◌∷◌, AtLast, FileThen, GivesBytes, max_signed, max_small, seen}
+use Rattle.auditorium_core.proofs.Imports.{[], ◌∷◌, AtLast, FileThen, GivesBytes, max_signed, max_small}
 use Rattle.auditorium_core.proofs.Imports.{signed_of}
-use Rattle.auditorium_core.proofs.FileSteps.{file_ends, file_joins}
+use Rattle.auditorium_core.proofs.Imports.{file_ends, file_joins}
 use Rattle.auditorium_core.proofs.endorsed.read_signed.Goals as goal
 
 pub returns-in-Ok : goal.returns-in-Ok
 returns-in-Ok g c =
     let store = g.S.Store in
     let signature = c.args.signature.now in
-    file_joins (λ bytes. bytes.items) (GivesBytes max_signed c.args.file.now) c.args.file.now signed_of
+    file_joins store (λ bytes. bytes.items) (GivesBytes max_signed c.args.file.now) c.args.file.now signed_of
     (λ m. FileThen (GivesBytes max_small signature)
     (λ s. AtLast (record { key = c.args.key.items; bytes = m; signature = s }))) (signature ∷ [])
-    (seen store c.args.store.now) (seen store c.read_bytes.new.store) (seen store c.read_signature.new.store)
+    c.args.store.now c.read_bytes.new.store c.read_signature.new.store
     c.in-Ok.bytes c.read_signature.result c.in-Ok.ensures c.read_signature.ensures
 
 pub returns-in-Err : goal.returns-in-Err
 returns-in-Err g c =
     let store = g.S.Store in
     let signature = c.args.signature.now in
-    file_ends (λ bytes. bytes.items) (GivesBytes max_signed c.args.file.now) c.args.file.now signed_of
+    file_ends store (λ bytes. bytes.items) (GivesBytes max_signed c.args.file.now) c.args.file.now signed_of
     (λ m. FileThen (GivesBytes max_small signature)
     (λ s. AtLast (record { key = c.args.key.items; bytes = m; signature = s }))) (signature ∷ [])
-    (seen store c.args.store.now) (seen store c.read_bytes.new.store) c.in-Err.fault c.in-Err.ensures
+    c.args.store.now c.read_bytes.new.store c.in-Err.fault c.in-Err.ensures

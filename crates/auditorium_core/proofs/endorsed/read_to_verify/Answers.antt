@@ -1,6 +1,6 @@
-use Rattle.auditorium_core.proofs.Imports.{[], ◌∷◌, AtLast, FileThen, GivesBytes, max_signed, max_small, seen}
+use Rattle.auditorium_core.proofs.Imports.{[], ◌∷◌, AtLast, FileThen, GivesBytes, max_signed, max_small}
 use Rattle.auditorium_core.proofs.Imports.{signed_of}
-use Rattle.auditorium_core.proofs.FileSteps.{file_ends, file_joins}
+use Rattle.auditorium_core.proofs.Imports.{file_ends, file_joins}
 use Rattle.auditorium_core.proofs.endorsed.read_to_verify.Goals as goal
 
 pub returns-in-Ok : goal.returns-in-Ok
@@ -8,11 +8,11 @@ returns-in-Ok g c =
     let store = g.S.Store in
     let file = c.args.file.now in
     let signature = c.args.signature.now in
-    file_joins (λ bytes. bytes.items) (GivesBytes max_small c.args.key.now) c.args.key.now signed_of
+    file_joins store (λ bytes. bytes.items) (GivesBytes max_small c.args.key.now) c.args.key.now signed_of
     (λ k. FileThen (GivesBytes max_signed file)
     (λ m. FileThen (GivesBytes max_small signature)
     (λ s. AtLast (record { key = k; bytes = m; signature = s })))) (file ∷ signature ∷ [])
-    (seen store c.args.store.now) (seen store c.read_bytes.new.store) (seen store c.read_signed.new.store)
+    c.args.store.now c.read_bytes.new.store c.read_signed.new.store
     c.in-Ok.key c.read_signed.result c.in-Ok.ensures c.read_signed.ensures
 
 pub returns-in-Err : goal.returns-in-Err
@@ -20,8 +20,8 @@ returns-in-Err g c =
     let store = g.S.Store in
     let file = c.args.file.now in
     let signature = c.args.signature.now in
-    file_ends (λ bytes. bytes.items) (GivesBytes max_small c.args.key.now) c.args.key.now signed_of
+    file_ends store (λ bytes. bytes.items) (GivesBytes max_small c.args.key.now) c.args.key.now signed_of
     (λ k. FileThen (GivesBytes max_signed file)
     (λ m. FileThen (GivesBytes max_small signature)
     (λ s. AtLast (record { key = k; bytes = m; signature = s })))) (file ∷ signature ∷ [])
-    (seen store c.args.store.now) (seen store c.read_bytes.new.store) c.in-Err.fault c.in-Err.ensures
+    c.args.store.now c.read_bytes.new.store c.in-Err.fault c.in-Err.ensures

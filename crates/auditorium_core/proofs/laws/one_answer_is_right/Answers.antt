@@ -1,4 +1,3 @@
-use Rattle.auditorium_core.proofs.CitedLaws.{CitedLaws}
 use Rattle.auditorium_core.proofs.OneAnswer.{one_answer}
 use Rattle.auditorium_core.proofs.laws.one_answer_is_right.Goals as goal
 

@@ -1,4 +1,4 @@
-use Rattle.auditorium_core.proofs.Imports.{refl, Office, was_read, not_read, stands, max_small, GivesOffice, seen}
+use Rattle.auditorium_core.proofs.Imports.{refl, Office, was_read, not_read, stands, max_small, GivesOffice}
 use Rattle.auditorium_core.proofs.EndorseCommand.{long_office}
 use Rattle.auditorium_core.proofs.office_file.read_office_file.Goals as goal
 
@@ -6,8 +6,8 @@ pub returns-in-Ok : goal.returns-in-Ok
 returns-in-Ok g c =
     let store = g.S.Store in
     let given = c.in-Ok.ensures in
-    was_read (λ (office : Office). office) (GivesOffice c.args.file.now) c.args.file.now (seen store c.args.store.now)
-    (seen store c.read_file.new.store) c.in-Ok.bytes.items c.office_of.result given.ok.whole
+    was_read store (λ (office : Office). office) (GivesOffice c.args.file.now) c.args.file.now max_small
+    c.args.store.now c.read_file.new.store c.in-Ok.bytes.items c.office_of.result given.ok.1
     (rw (← c.as_slice.ensures.value) c.office_of.ensures.ok)
     (rw (← c.as_slice.ensures.value) c.office_of.ensures.err) c.office_of.ensures.only
     (λ more. let no = given.absent.always more in cc)
@@ -18,7 +18,7 @@ pub returns-in-Err : goal.returns-in-Err
 returns-in-Err g c =
     let store = g.S.Store in
     let given = c.in-Err.ensures in
-    not_read (λ (office : Office). office) (GivesOffice c.args.file.now) c.args.file.now (seen store c.args.store.now)
-    (seen store c.read_file.new.store) max_small c.in-Err.fault c.file_fault.result refl (long_office c.args.file.now)
+    not_read store (λ (office : Office). office) (GivesOffice c.args.file.now) c.args.file.now max_small
+    c.args.store.now c.read_file.new.store c.in-Err.fault c.file_fault.result refl (long_office c.args.file.now)
     c.file_fault.ensures given.err given.absent given.read_fault
     (record { absences = given.absences; files = given.unchanged.0; write_faults = given.unchanged.1 })

@@ -1,24 +1,28 @@
-use Rattle.auditorium_core.proofs.Imports.{map, string_bytes, RosterRead, GivesRosterIn, seen, order, IsAnswerTo}
+use Rattle.auditorium_core.proofs.Imports.{◌≡◌, ◌∷◌, map, string_bytes, Ok, RosterRead, LogRead, List, GivesRoster}
+use Rattle.auditorium_core.proofs.Imports.{AndThen, order_parts}
+use Rattle.auditorium_core.proofs.Imports.{file_ends}
 use Rattle.auditorium_core.proofs.Faults.{refused_answered}
-use Rattle.auditorium_core.proofs.OrderAnswers.{roster_refused}
+use Rattle.auditorium_core.proofs.OrderAnswers.{Logs, Read, order_refused}
 use Rattle.auditorium_core.proofs.order.order_in.Goals as goal
 
 pub returns-in-Err : goal.returns-in-Err
 returns-in-Err g c =
     let store = g.S.Store in
     let old = c.args.store.now in
+    let new = c.read_roster.new.store in
     let roster = c.args.roster.now in
     let x = c.args.x.now in
     let y = c.args.y.now in
     let logs = map string_bytes c.args.logs.now in
-    refused_answered (λ (read : RosterRead). read) (GivesRosterIn roster)
-    (IsAnswerTo (order roster x y logs)) (seen store old)
-    (seen store c.read_roster.new.store) c.in-Err.fault c.of_fault.result c.in-Err.ensures c.of_fault.ensures.ok
-    c.of_fault.ensures.err (roster_refused roster x y logs (store.files old))
+    let whole = file_ends store (λ (r : RosterRead). r) (GivesRoster roster) roster
+    (λ (both : RosterRead × List LogRead). both)
+    (λ r files. AndThen (Logs roster x y logs r files) (λ found answer. answer ≡ Ok (r, found))) logs old new
+    c.in-Err.fault c.in-Err.ensures in
+    refused_answered store (λ (both : RosterRead × List LogRead). both) (roster ∷ logs) (Read roster x y logs)
+    (order_parts roster x y logs).IsAnswer old new c.in-Err.fault c.of_fault.result whole c.of_fault.ensures.ok
+    c.of_fault.ensures.err (order_refused roster x y logs)
 
 pub returns-in-Ok : goal.returns-in-Ok
 returns-in-Ok g c =
-    let store = g.S.Store in
-    c.order_of.ensures c.args.roster.now (map string_bytes c.args.logs.now) (seen store c.args.store.now)
-    (seen store c.read_roster.new.store) (seen store c.read_logs_in-found.new.store) c.in-Ok.ensures
-    c.read_logs_in-found.ensures
+    c.order_of.ensures c.args.roster.now (map string_bytes c.args.logs.now) c.args.store.now c.read_roster.new.store
+    c.read_logs_in-found.new.store c.in-Ok.ensures c.read_logs_in-found.ensures

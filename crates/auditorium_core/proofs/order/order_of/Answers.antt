@@ -1,34 +1,52 @@
-use Rattle.auditorium_core.proofs.Imports.{subst, RosterRead, GivesLogsIn, IsReadFrom, GivesRosterIn, read_then}
-use Rattle.auditorium_core.proofs.Imports.{IsAnswerTo, order}
+use Rattle.auditorium_core.proofs.Imports.{◌≡◌, List, ℕ, ◌∷◌, refl, subst, Ok, Err, IfOk-weaker, IsReadFrom, RosterRead}
+use Rattle.auditorium_core.proofs.Imports.{GivesRoster, AndThen, entries_of, IsOrderOver, order_parts}
+use Rattle.auditorium_core.proofs.Imports.{file_joins, and_then, and_refused}
+use Rattle.std.proofs.Common.{Option}
+use Rattle.std.specs.declared.vec.Vec.{Vec}
+use Rattle.auditorium_core.proofs.Imports.{Global, LogRead}
 use Rattle.auditorium_core.proofs.Faults.{refused_answered, found_answered}
-use Rattle.auditorium_core.proofs.OrderAnswers.{log_refused, all_read}
+use Rattle.auditorium_core.proofs.OrderAnswers.{Logs, Read, order_refused, order_answered}
 use Rattle.auditorium_core.proofs.order.order_of.Goals as goal
 
 pub returns-in-Ok : goal.returns-in-Ok
-returns-in-Ok c = λ roster names old mid new first next.
+returns-in-Ok g c = λ roster names old mid new first next.
+    let store = g.S.Store in
     let x = c.args.x.now in
     let y = c.args.y.now in
     let read = c.args.read.now in
-    let Logs = GivesLogsIn read.roster.machines read.election names in
-    let found = c.in-Ok.logs in
-    let last = subst (λ logs. IsReadFrom (λ found. found.items) Logs mid logs new) c.in-Ok.is next in
-    let both = read_then (λ (r : RosterRead). r) (GivesRosterIn roster) (λ logs. logs.items) Logs Logs old mid new read
-    _ first last (λ answer before after. after) in
-    found_answered (λ logs. logs.items) Logs (IsAnswerTo (order roster x y names)) old new found c.order_over.result
-    both
-    (all_read roster x y names old.files read first.ok found.items both.ok
-    c.order_over.result c.order_over.ensures.told)
+    let logs = c.in-Ok.logs in
+    let given = subst
+    (λ found. IsReadFrom store (λ found. found.items) names (Logs roster x y names read) mid found new)
+    c.in-Ok.is next in
+    let both = and_then store (λ found. found.items) names (Logs roster x y names read) (λ found. (read, found.items))
+    (λ found answer. answer ≡ Ok (read, found)) mid new logs (Ok logs) given refl tt tt in
+    let whole = file_joins store (λ (r : RosterRead). r) (GivesRoster roster) roster (λ found. (read, found.items))
+    (λ r files. AndThen (Logs roster x y names r files) (λ found answer. answer ≡ Ok (r, found))) names old mid new read
+    (Ok logs) first both in
+    found_answered store (λ found. (read, found.items)) (roster ∷ names) (Read roster x y names)
+    (order_parts roster x y names).IsAnswer old new logs c.order_over.result whole
+    (IfOk-weaker c.order_over.result (IsOrderOver read.roster.machines x y (entries_of logs.items))
+    (λ answer. (files : List (Option (List ℕ))) → Read roster x y names files (Ok (read, logs.items)) →
+    (order_parts roster x y names).IsAnswer files answer)
+    (λ answer. order_answered roster x y names read logs.items answer) c.order_over.ensures.told)
     c.order_over.ensures.status c.order_over.ensures.fault
 
 pub returns-in-Err : goal.returns-in-Err
-returns-in-Err c = λ roster names old mid new first next.
+returns-in-Err g c = λ roster names old mid new first next.
+    let store = g.S.Store in
     let x = c.args.x.now in
     let y = c.args.y.now in
     let read = c.args.read.now in
-    let Logs = GivesLogsIn read.roster.machines read.election names in
-    let last = subst (λ logs. IsReadFrom (λ found. found.items) Logs mid logs new) c.in-Err.is next in
-    let both = read_then (λ (r : RosterRead). r) (GivesRosterIn roster) (λ logs. logs.items) Logs Logs old mid new read
-    _ first last (λ answer before after. after) in
-    refused_answered (λ logs. logs.items) Logs (IsAnswerTo (order roster x y names)) old new c.in-Err.fault
-    c.of_fault.result both c.of_fault.ensures.ok c.of_fault.ensures.err
-    (log_refused roster x y names old.files read first.ok)
+    let fault = c.in-Err.fault in
+    let given = subst
+    (λ found. IsReadFrom store (λ found. found.items) names (Logs roster x y names read) mid found new)
+    c.in-Err.is next in
+    let both = and_refused store (λ found. found.items) names (Logs roster x y names read)
+    (λ (found : Vec LogRead Global). (read, found.items))
+    (λ found answer. answer ≡ Ok (read, found)) mid new fault given in
+    let whole = file_joins store (λ (r : RosterRead). r) (GivesRoster roster) roster (λ found. (read, found.items))
+    (λ r files. AndThen (Logs roster x y names r files) (λ found answer. answer ≡ Ok (r, found))) names old mid new read
+    (Err fault) first both in
+    refused_answered store (λ found. (read, found.items)) (roster ∷ names) (Read roster x y names)
+    (order_parts roster x y names).IsAnswer old new fault c.of_fault.result whole c.of_fault.ensures.ok
+    c.of_fault.ensures.err (order_refused roster x y names)

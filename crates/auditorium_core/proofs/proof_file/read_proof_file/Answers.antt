@@ -1,4 +1,4 @@
-use Rattle.auditorium_core.proofs.Imports.{List, refl, Line, was_read, not_read, stands, nodes_of, seen, max_proof}
+use Rattle.auditorium_core.proofs.Imports.{List, refl, Line, was_read, not_read, stands, nodes_of, max_proof}
 use Rattle.auditorium_core.proofs.Imports.{GivesProof}
 use Rattle.auditorium_core.proofs.CheckAnswers.{long_proof}
 use Rattle.auditorium_core.proofs.proof_file.read_proof_file.Goals as goal
@@ -6,11 +6,9 @@ use Rattle.auditorium_core.proofs.proof_file.read_proof_file.Goals as goal
 pub returns-in-Ok : goal.returns-in-Ok
 returns-in-Ok g c =
     let store = g.S.Store in
-    let before = seen store c.args.store.now in
-    let after = seen store c.read_file.new.store in
     let given = c.in-Ok.ensures in
-    was_read (λ (lines : List Line). lines) (GivesProof c.args.name.now (nodes_of c.args.graph.now)) c.args.name.now before
-    after c.in-Ok.bytes.items c.proof_of.result given.ok.whole
+    was_read store (λ (lines : List Line). lines) (GivesProof c.args.name.now (nodes_of c.args.graph.now))
+    c.args.name.now max_proof c.args.store.now c.read_file.new.store c.in-Ok.bytes.items c.proof_of.result given.ok.1
     (rw (← c.as_slice.ensures.value) c.proof_of.ensures.ok)
     (rw (← c.as_slice.ensures.value) c.proof_of.ensures.err) c.proof_of.ensures.only
     (λ more. let no = given.absent.always more in cc)
@@ -20,10 +18,9 @@ returns-in-Ok g c =
 pub returns-in-Err : goal.returns-in-Err
 returns-in-Err g c =
     let store = g.S.Store in
-    let before = seen store c.args.store.now in
-    let after = seen store c.read_file.new.store in
     let given = c.in-Err.ensures in
-    not_read (λ (lines : List Line). lines) (GivesProof c.args.name.now (nodes_of c.args.graph.now)) c.args.name.now before
-    after max_proof c.in-Err.fault c.file_fault.result refl (long_proof c.args.name.now (nodes_of c.args.graph.now))
+    not_read store (λ (lines : List Line). lines) (GivesProof c.args.name.now (nodes_of c.args.graph.now))
+    c.args.name.now max_proof c.args.store.now c.read_file.new.store c.in-Err.fault c.file_fault.result refl
+    (long_proof c.args.name.now (nodes_of c.args.graph.now))
     c.file_fault.ensures given.err given.absent given.read_fault
     (record { absences = given.absences; files = given.unchanged.0; write_faults = given.unchanged.1 })

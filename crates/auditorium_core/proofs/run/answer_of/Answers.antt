@@ -1,4 +1,4 @@
-use Rattle.auditorium_core.proofs.Imports.{◌≡◌, List, map, sym, subst, string_bytes, Post, HaveText, MachineState}
+use Rattle.auditorium_core.proofs.Imports.{◌≡◌, List, sym, subst, string_bytes, Post, HaveText, MachineState}
 use Rattle.auditorium_core.proofs.Imports.{roster_has_text, SayUndone}
 use Rattle.auditorium_core.proofs.PlayAnswers.{told_of_run}
 use Rattle.auditorium_core.proofs.Runs.{between, is_run}

@@ -1,4 +1,4 @@
-use Rattle.auditorium_core.proofs.Imports.{refl, was_read, not_read, stands, seen, max_script, GivesScript}
+use Rattle.auditorium_core.proofs.Imports.{refl, was_read, not_read, stands, max_script, GivesScript}
 use Rattle.auditorium_core.proofs.ScriptFiles.{itself, long_script}
 use Rattle.auditorium_core.proofs.script_file.read_script.Goals as goal
 
@@ -7,11 +7,9 @@ returns-in-Ok-clause-read g c =
     let store = g.S.Store in
     let old = c.args.store.now in
     let new = c.read_file.new.store in
-    let before = seen store old in
-    let after = seen store new in
     let given = c.in-Ok.ensures in
-    was_read itself (GivesScript c.args.name.now) c.args.name.now before after c.in-Ok.bytes.items c.script_of.result
-    given.ok.whole
+    was_read store itself (GivesScript c.args.name.now) c.args.name.now max_script old new c.in-Ok.bytes.items
+    c.script_of.result given.ok.1
     (rw (← c.as_slice.ensures.value) c.script_of.ensures.ok)
     (rw (← c.as_slice.ensures.value) c.script_of.ensures.err) c.script_of.ensures.only
     (λ more. let no = given.absent.always more in cc)
@@ -23,9 +21,7 @@ returns-in-Err-clause-read g c =
     let store = g.S.Store in
     let old = c.args.store.now in
     let new = c.read_file.new.store in
-    let before = seen store old in
-    let after = seen store new in
     let given = c.in-Err.ensures in
-    not_read itself (GivesScript c.args.name.now) c.args.name.now before after max_script c.in-Err.fault
+    not_read store itself (GivesScript c.args.name.now) c.args.name.now max_script old new c.in-Err.fault
     c.file_fault.result refl (long_script c.args.name.now) c.file_fault.ensures given.err given.absent given.read_fault
     (record { absences = given.absences; files = given.unchanged.0; write_faults = given.unchanged.1 })

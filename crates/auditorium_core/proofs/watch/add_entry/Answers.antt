@@ -1,4 +1,4 @@
-use Rattle.auditorium_core.proofs.WatchSteps.{adds_to, never_apart, never_full, wide_with}
+use Rattle.auditorium_core.proofs.WatchSteps.{adds_to, never_full, wide_with}
 use Rattle.auditorium_core.proofs.watch.add_entry.Goals as goal
 
 pub returns-in-Ok-clause-ok : goal.returns-in-Ok-clause-ok

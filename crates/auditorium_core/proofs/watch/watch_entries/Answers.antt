@@ -1,4 +1,4 @@
-use Rattle.auditorium_core.proofs.Imports.{◌≡◌, ◌++◌, List, ℕ, ◌+◌, map, take, sym, subst, string_bytes, SealedEntry}
+use Rattle.auditorium_core.proofs.Imports.{List, ◌+◌, map, take, sym, subst, string_bytes}
 use Rattle.auditorium_core.proofs.Imports.{Post, rule_tree, IsOfMachine, AreLinesOf}
 use Rattle.auditorium_core.proofs.WatchSteps.{after_same, collides_not, has_room, not_added, read_all, read_at}
 use Rattle.auditorium_core.proofs.WatchSteps.{read_within, same_audit, stands_then, told_more}

@@ -1,5 +1,5 @@
-use Rattle.auditorium_core.proofs.Imports.{◌∙◌, map, subst, sym, string_bytes, node_of_sealed, SealedEntry}
-use Rattle.auditorium_core.proofs.Imports.{HasNoCollision, entries_of, text_of_sealed, IsOfMachine, Outcome}
+use Rattle.auditorium_core.proofs.Imports.{◌∙◌, map, subst, sym, string_bytes, node_of_sealed}
+use Rattle.auditorium_core.proofs.Imports.{HasNoCollision, entries_of, text_of_sealed, IsOfMachine}
 use Rattle.auditorium_core.proofs.Imports.{AreFewDistinct}
 use Rattle.std.specs.Prelude.{All}
 use Rattle.auditorium_core.proofs.WatchSteps.{lines_told, told_there, too_wide, unwatched_there}
