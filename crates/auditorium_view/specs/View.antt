@@ -1,13 +1,12 @@
 -- What the program answers.
-use Rattle.std.specs.Prelude.{◌≡◌, ◌⊎◌, ℕ, List, codes, Option, Result, Ok, Err, MatchOption, ◌++◌}
-use Rattle.hall_outside.specs.Files.{Files}
+use Rattle.std.specs.Prelude.{◌≡◌, ◌⊎◌, ℕ, List, codes, Option, Ok, Err, ◌++◌}
 use Rattle.evidence.specs.Refusal.{Refusal, absent, refused}
 use Rattle.log_files.specs.Lines.{line, refused_line}
 use Rattle.auditor.specs.declared.outcome.Outcome.{Outcome}
 use Rattle.auditor.specs.declared.outcome.Outcome.TheVariants as outcome
 use Rattle.auditor.specs.Report.{AuditReport}
 use Rattle.auditor.specs.Outcomes.{outcome_of}
-use Rattle.auditor.specs.Audits.{GivesReportIn}
+use Rattle.auditor.specs.Audits.{GivesReport}
 use Rattle.entangled_picture.specs.Document.{picture_text}
 use Rattle.auditorium_view.specs.declared.status.Status.{Status}
 use Rattle.auditorium_view.specs.declared.status.Status.TheVariants as status
@@ -41,13 +40,9 @@ refusal_view (refused file place cause) =
 
 -- the answer to a request over these files: the picture of the report that they give, or the first
 -- refusal
-abbrev pub IsViewOf : Option Files → ViewAnswer → ViewRequest → Type 0
-IsViewOf told answer request =
-    ((report : AuditReport) × GivesReportIn request.roster (rules_named request.rules) request.logs told (Ok report)
+abbrev pub IsViewOf : ViewRequest → ViewAnswer → List (Option (List ℕ)) → Type 0
+IsViewOf request answer files =
+    ((report : AuditReport) × GivesReport request.roster (rules_named request.rules) request.logs files (Ok report)
     × (answer ≡ picture_answer report))
-    ⊎ ((refusal : Refusal) × GivesReportIn request.roster (rules_named request.rules) request.logs told (Err refusal)
+    ⊎ ((refusal : Refusal) × GivesReport request.roster (rules_named request.rules) request.logs files (Err refusal)
     × (answer ≡ refusal_view refusal))
-
--- the answer to what is asked for, if words ask for anything
-abbrev pub IsViewFor : Option ViewRequest → Option Files → ViewAnswer → Type 0
-IsViewFor request told answer = MatchOption request (answer ≡ usage_view) (IsViewOf told answer)

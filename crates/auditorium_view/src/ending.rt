@@ -1,6 +1,5 @@
 //! How the program ends with an answer.
 ghost use Rattle.std.specs.Prelude.{◌≡◌, map, string_bytes};
-ghost use Rattle.evidence.specs.Reading.{store_seen};
 ghost use Rattle.auditorium_view.specs.Shown.{EndsAs, HasShown};
 
 use crate::answer::{Answer, Fault};
@@ -38,14 +37,10 @@ pub(crate) fn show<S: Store, K: Sink>(
     store: &mut S,
     out: &mut K,
 ) -> Ended
-    ensures { HasShown (map string_bytes words.now)
-        (store_seen (S.files store.old) (S.answered store.old) (S.read_faults store.old)
-        (S.write_faults store.old))
-        (record { output = K.written out.old; faults = K.faults out.old })
+    ensures { HasShown S.Store (map string_bytes words.now)
+        store.old (record { output = K.written out.old; faults = K.faults out.old })
         result.status
-        (store_seen (S.files store.new) (S.answered store.new) (S.read_faults store.new)
-        (S.write_faults store.new))
-        (record { output = K.written out.new; faults = K.faults out.new }) }
+        store.new (record { output = K.written out.new; faults = K.faults out.new }) }
 {
     let answer = view(alloc, words, store);
     let status = end_with(&answer, out);

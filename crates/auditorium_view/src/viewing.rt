@@ -1,7 +1,6 @@
 //! From the words of the command line to the answer.
 ghost use Rattle.std.specs.Prelude.{◌≡◌, IfErr, IfOk, Some, map, string_bytes};
 ghost use Rattle.auditor.specs.Report.{report_of};
-ghost use Rattle.evidence.specs.Reading.{store_seen};
 ghost use Rattle.auditorium_view.specs.Shown.{IsViewed, IsViewedBy};
 ghost use Rattle.auditorium_view.specs.View.{picture_answer};
 ghost use Rattle.auditorium_view.specs.inside.Requests.{asked};
@@ -22,12 +21,7 @@ fn answer_of(alloc: Global, report: &Report) -> Result<Answer, Fault>
 
 /// The answer to what the words ask for.
 fn view_of<S: Store>(alloc: Global, request: Request<'_>, store: &mut S) -> Result<Answer, Fault>
-    ensures { IsViewedBy (Some (asked request.entry))
-        (store_seen (S.files store.old) (S.answered store.old) (S.read_faults store.old)
-        (S.write_faults store.old))
-        result
-        (store_seen (S.files store.new) (S.answered store.new) (S.read_faults store.new)
-        (S.write_faults store.new)) }
+    ensures { IsViewedBy S.Store (Some (asked request.entry)) store.old result store.new }
 {
     let rules = rules_from(request.rules);
     match audit(alloc, store, request.roster, rules, request.logs) {
@@ -42,12 +36,7 @@ pub(crate) fn view<S: Store>(
     words: &[String],
     store: &mut S,
 ) -> Result<Answer, Fault>
-    ensures { IsViewed (map string_bytes words.now)
-        (store_seen (S.files store.old) (S.answered store.old) (S.read_faults store.old)
-        (S.write_faults store.old))
-        result
-        (store_seen (S.files store.new) (S.answered store.new) (S.read_faults store.new)
-        (S.write_faults store.new)) }
+    ensures { IsViewed S.Store (map string_bytes words.now) store.old result store.new }
 {
     match request_of(words) {
         Some(request) => view_of(alloc, request, store),
