@@ -5,6 +5,10 @@
 #[cfg(test)]
 mod auditing_tests;
 #[cfg(test)]
+mod changing_store;
+#[cfg(test)]
+mod changing_tests;
+#[cfg(test)]
 mod damage_tests;
 #[cfg(test)]
 mod demonstrating_tests;
