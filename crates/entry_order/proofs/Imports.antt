@@ -1,4 +1,5 @@
 -- What the proofs of this crate take from others.
+pub use Rattle.entry_order.specs.AcyclicOrder.{IsBehind, MakesAny, OrderIsExactWithoutCycles}
 pub use Rattle.entry_order.specs.Ancestors.{Descends, IsAncestor, IsWalk, before, is_whole, reaches}
 pub use Rattle.entry_order.specs.Ascending.{AscendingIsUnique, IsAscending, IsAscendingOf, ascending, insert_digest}
 pub use Rattle.entry_order.specs.Ascending.{inserted}
@@ -16,7 +17,7 @@ pub use Rattle.entry_order.specs.Merged.{WorldsHaveOneMergedOrder, kind, placed,
 pub use Rattle.entry_order.specs.Naming.{Distinct, IsBorneIn, IsNamedIn, IsNew, Names, has_digest, is_named}
 pub use Rattle.entry_order.specs.Naming.{names_digest}
 pub use Rattle.entry_order.specs.Node.{Node}
-pub use Rattle.entry_order.specs.Precedes.{IsPath, Precedes}
+pub use Rattle.entry_order.specs.Precedes.{IsAcyclic, IsPath, Precedes}
 pub use Rattle.entry_order.specs.Receipt.{IsOrderly, NamesWereHeld, OrderIsReceipt, StampsRise}
 pub use Rattle.entry_order.specs.Settled.{GraphsAreExact, IsGraphOf, IsWhole, NamesNoGap, OrderIsSettled}
 pub use Rattle.entry_order.specs.Settled.{PathsAreSettled, SurvivorsHaveAGraph}

@@ -18,6 +18,7 @@ pub mod Strays
 pub mod Completions
 pub mod Settled
 pub mod Filled
+pub mod AcyclicOrder
 pub mod Images
 pub mod Machines
 pub mod Honest

@@ -27,7 +27,7 @@ module _ {T : Type 0} (node : T → Node) where
   abbrev pub greatest_stamp : List T → ℕ
   greatest_stamp es = fold (λ top e. max top (node e).stamp) 0 es
 
-  -- e is what the owner sends next after the history p
+  -- e is what the owner sends next after the history p (Auditorium, EVT 2007)
   pub record IsNext (owner : ℕ) (p : List (Event T)) (e : T) : Type 0 where
     pub maker : (node e).maker ≡ owner
     pub number : (node e).number ≡ length (sent p)

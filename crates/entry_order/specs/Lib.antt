@@ -12,6 +12,7 @@ pub mod Completion
 pub mod Ancestors
 pub mod Settled
 pub mod Exact
+pub mod AcyclicOrder
 pub mod Honest
 pub mod Merged
 pub mod Made

@@ -13,3 +13,7 @@ module _ {T : Type 0} (node : T → Node) where
   -- there is a path from f to e in E (Auditorium, EVT 2007; Querifier, SADFE 2008)
   abbrev pub Precedes : List T → T → T → Type 0
   Precedes E f e = Contains E f × Contains E e × (between : List T) × IsPath E f between e
+
+  -- no entry precedes itself
+  abbrev pub IsAcyclic : List T → Type 0
+  IsAcyclic E = (e : T) → ¬ Precedes E e e

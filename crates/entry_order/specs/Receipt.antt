@@ -37,7 +37,7 @@ OrderIsReceipt {T} node =
     let w = play node next log (start machines) steps in
     Distinct node (sent_in w) → OrderIsReceiptIn node w
 
--- what an entry names, its maker held when it sent the entry
+-- what an entry names, its maker held when it sent the entry (Auditorium, EVT 2007; Lamport 1978)
 abbrev pub NamesWereHeld : {T : Type 0} → (T → Node) → Type 0
 NamesWereHeld {T} node =
     (w : World T) → IsOrderly node w → Distinct node (sent_in w) →

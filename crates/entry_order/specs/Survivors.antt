@@ -23,7 +23,7 @@ module _ {T : Type 0} (node : T → Node) where
   abbrev pub survivors : List T → List T
   survivors given = filter (λ e. not (is_stray given e)) given
 
-  -- the digests that an entry of E names and no entry of E has, ascending
+  -- the digests that an entry of E names and no entry of E has, ascending (Querifier, SADFE 2008)
   abbrev pub gaps : List T → List (List ℕ)
   gaps E = ascending (filter (λ d. not (has_digest node E d)) (flat_map (λ e. (node e).names) E))
 

@@ -1,5 +1,6 @@
 //! The laws of the order of entries. Each is the contract of a function with an empty body.
 
+ghost use Rattle.entry_order.specs.AcyclicOrder.{MakesAny, OrderIsExactWithoutCycles};
 ghost use Rattle.entry_order.specs.Ascending.{AscendingIsUnique};
 ghost use Rattle.entry_order.specs.Forms.{FormsAgree};
 ghost use Rattle.entry_order.specs.Frontier.{FrontierIsUnique};
@@ -63,6 +64,14 @@ pub fn order_is_settled<T: Knot>()
     ensures settled { OrderIsSettled T.node }
     ensures graph { SurvivorsHaveAGraph T.node }
     ensures exact { GraphsAreExact T.node }
+{}
+
+/// Of two survivors one can precede the other in a completion without cycles exactly if it does so
+/// among the survivors, or some gap is behind the other and not behind it; and it does in each such
+/// completion exactly if it does among them.
+pub fn order_is_exact_without_cycles<T: Knot>()
+    ensures { (make : List (List ℕ) → List ℕ → T) → MakesAny T.node make →
+        OrderIsExactWithoutCycles T.node }
 {}
 
 /// Any entries that were sent in an orderly world have no stray and no fork, and what is said of

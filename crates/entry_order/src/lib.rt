@@ -15,9 +15,9 @@ pub use knot::Knot;
 pub use laws::{
     ascending_is_unique, forms_agree, frontier_is_unique, gaps_are_unique, honest_entries_agree,
     honest_entries_agree_in_orderly_worlds, made_is_lawful, merged_is_played_again,
-    names_were_held, numbered_is_distinct, order_is_receipt, order_is_receipt_in_orderly_worlds,
-    order_is_settled, plays_are_made, stamps_are_few, stamps_rise, survivors_are_no_strays,
-    worlds_have_one_merged_order,
+    names_were_held, numbered_is_distinct, order_is_exact_without_cycles, order_is_receipt,
+    order_is_receipt_in_orderly_worlds, order_is_settled, plays_are_made, stamps_are_few,
+    stamps_rise, survivors_are_no_strays, worlds_have_one_merged_order,
 };
 pub use names::{has_digest, is_named, names_digest};
 pub use step::Step;
