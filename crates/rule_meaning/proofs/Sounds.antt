@@ -28,20 +28,20 @@ pub record Agrees (x : Three) (P : Type 0) : Type 0 where
   pub no : x ≡ False → ¬ P
 
 -- value by value and sentence by sentence what is known is right
-abbrev AllAgree : List Three → List (Type 0) → Type 0
+abbrev pub AllAgree : List Three → List (Type 0) → Type 0
 AllAgree [] [] = Unit {0}
 AllAgree (x ∷ xs) (P ∷ Ps) = Agrees x P × AllAgree xs Ps
 AllAgree xs Ps = ⊥
 
 -- the first value is right of the first sentence
-first_agrees : (xs : List Three) (Ps : List (Type 0)) → AllAgree xs Ps → Agrees (first_value xs) (first_sentence Ps)
+pub first_agrees : (xs : List Three) (Ps : List (Type 0)) → AllAgree xs Ps → Agrees (first_value xs) (first_sentence Ps)
 first_agrees [] [] a = record { yes = λ e. tt; no = λ e. cc }
 first_agrees (x ∷ xs) (P ∷ Ps) a = a.0
 first_agrees [] (P ∷ Ps) a = absurd a
 first_agrees (x ∷ xs) [] a = absurd a
 
 -- and the second of the second
-second_agrees : (xs : List Three) (Ps : List (Type 0)) → AllAgree xs Ps →
+pub second_agrees : (xs : List Three) (Ps : List (Type 0)) → AllAgree xs Ps →
     Agrees (second_value xs) (second_sentence Ps)
 second_agrees [] [] a = record { yes = λ e. tt; no = λ e. cc }
 second_agrees (x ∷ xs) (P ∷ Ps) a = first_agrees xs Ps a.1
@@ -49,7 +49,7 @@ second_agrees [] (P ∷ Ps) a = absurd a
 second_agrees (x ∷ xs) [] a = absurd a
 
 -- the least of values is right of all the sentences, and the greatest of some
-least_agrees : (xs : List Three) (Ps : List (Type 0)) → AllAgree xs Ps → Agrees (least xs) (EachHolds Ps)
+pub least_agrees : (xs : List Three) (Ps : List (Type 0)) → AllAgree xs Ps → Agrees (least xs) (EachHolds Ps)
 least_agrees [] [] a = record { yes = λ e. tt; no = λ e. cc }
 least_agrees (x ∷ xs) (P ∷ Ps) (first, others) =
     let rest = least_agrees xs Ps others in
@@ -61,7 +61,7 @@ least_agrees [] (P ∷ Ps) a = absurd a
 least_agrees (x ∷ xs) [] a = absurd a
 
 -- the greatest is right of this, that some sentence holds
-greatest_agrees : (xs : List Three) (Ps : List (Type 0)) → AllAgree xs Ps → Agrees (greatest xs) (SomeHolds Ps)
+pub greatest_agrees : (xs : List Three) (Ps : List (Type 0)) → AllAgree xs Ps → Agrees (greatest xs) (SomeHolds Ps)
 greatest_agrees [] [] a = record { yes = λ e. cc; no = λ e h. h }
 greatest_agrees (x ∷ xs) (P ∷ Ps) (first, others) =
     let rest = greatest_agrees xs Ps others in
@@ -96,7 +96,7 @@ test_agrees true = record { yes = λ e. refl; no = λ e. cc }
 test_agrees false = record { yes = λ e. cc; no = λ e h. cc }
 
 -- what a place stands for
-abbrev StandFor : {T : Type 0} → List T → Option ℕ → Option T → Type 0
+abbrev pub StandFor : {T : Type 0} → List T → Option ℕ → Option T → Type 0
 StandFor S None None = Unit {0}
 StandFor S (Some i) (Some e) = slice_get S i ≡ Some e
 StandFor S i e = ⊥
@@ -123,10 +123,10 @@ true_is True e = refl
 true_is Unknown e = cc
 true_is False e = cc
 
-unknown≢true : Unknown ≡ True → ⊥
+pub unknown≢true : Unknown ≡ True → ⊥
 unknown≢true e = cc
 
-unknown≢false : Unknown ≡ False → ⊥
+pub unknown≢false : Unknown ≡ False → ⊥
 unknown≢false e = cc
 
 -- quantifiers: each place stands for an entry that is meant, and where b is true each such entry
@@ -181,20 +181,20 @@ module _ {T : Type 0} (f : ℕ → Three) (xs : List ℕ) (b : Bool) (IsMeant P 
 module _ {T : Type 0} (node : T → Node) (row : T → Row) (S G : List T) (order : ℕ → ℕ → Three)
     (wholes : ℕ → Bool) (single : HasNoDouble S) (known : IsTrueOf node S G order wholes) where
   -- the rows of the survivors
-  abbrev rows : List Row
+  abbrev pub rows : List Row
   rows = map row S
 
   -- the places stand for the entries, variable by variable
-  abbrev StandForAll : (ℕ → Option ℕ) → (ℕ → Option T) → Type 0
+  abbrev pub StandForAll : (ℕ → Option ℕ) → (ℕ → Option T) → Type 0
   StandForAll σ ρ = (v : ℕ) → StandFor S (σ v) (ρ v)
 
   -- the row at an entry's place is the entry's
-  row_of : (i : ℕ) (e : T) → slice_get S i ≡ Some e → slice_get rows i ≡ Some (row e)
+  pub row_of : (i : ℕ) (e : T) → slice_get S i ≡ Some e → slice_get rows i ≡ Some (row e)
   row_of i e is = slice_get-map row S i ∙ ap (option_map row) is
 
   -- one variable more, for which a place and its entry stand, leaves all places standing for the
   -- entries
-  one_more : (v i : ℕ) (e : T) (σ : ℕ → Option ℕ) (ρ : ℕ → Option T) → slice_get S i ≡ Some e → StandForAll σ ρ →
+  pub one_more : (v i : ℕ) (e : T) (σ : ℕ → Option ℕ) (ρ : ℕ → Option T) → slice_get S i ≡ Some e → StandForAll σ ρ →
       StandForAll (bind v i σ) (bind v e ρ)
   one_more v i e σ ρ is stand u = by (u == v)
     where
@@ -204,14 +204,14 @@ module _ {T : Type 0} (node : T → Node) (row : T → Row) (S G : List T) (orde
       by false = stand u
 
   -- a place and the entry that it stands for have one row
-  same_row : (i : Option ℕ) (e : Option T) → StandFor S i e → row_at rows i ≡ option_map row e
+  pub same_row : (i : Option ℕ) (e : Option T) → StandFor S i e → row_at rows i ≡ option_map row e
   same_row None None s = refl
   same_row (Some i) (Some e) s = row_of i e s
   same_row None (Some e) s = absurd s
   same_row (Some i) None s = absurd s
 
   -- a test of rows is right of the entries that they stand for
-  passes_agrees : (form : Form) (σ : ℕ → Option ℕ) (ρ : ℕ → Option T) → StandForAll σ ρ →
+  pub passes_agrees : (form : Form) (σ : ℕ → Option ℕ) (ρ : ℕ → Option T) → StandForAll σ ρ →
       Agrees (as_three (passes (λ w. row_at rows (σ w)) form))
       (IsTrue (passes (λ w. option_map row (ρ w)) form))
   passes_agrees form σ ρ stand =
@@ -221,7 +221,7 @@ module _ {T : Type 0} (node : T → Node) (row : T → Row) (S G : List T) (orde
       (test_agrees (passes (λ w. option_map row (ρ w)) form))
 
   -- a place of the kind stands for a survivor of the kind
-  place_meant : (kind : Kind) (i : ℕ) → Contains (places rows order wholes kind) i →
+  pub place_meant : (kind : Kind) (i : ℕ) → Contains (places rows order wholes kind) i →
       (e : T) × (slice_get S i ≡ Some e) × IsOfKind node row S G kind e
   place_meant kind i c =
       by (slice_get S i) refl
@@ -236,7 +236,7 @@ module _ {T : Type 0} (node : T → Node) (row : T → Row) (S G : List T) (orde
       by (Some e) is k = (e, is, ap (has_kind kind) (sym (row_of i e is)) ∙ k)
 
   -- the place of a survivor of the kind is one of the kind
-  place_such : (kind : Kind) (i : ℕ) (e : T) → slice_get S i ≡ Some e → IsOfKind node row S G kind e →
+  pub place_such : (kind : Kind) (i : ℕ) (e : T) → slice_get S i ≡ Some e → IsOfKind node row S G kind e →
       Contains (places rows order wholes kind) i
   place_such kind i e there k =
       Contains-filter (λ j. has_kind kind (slice_get rows j)) (range_with_len 0 (length rows)) i
@@ -244,16 +244,16 @@ module _ {T : Type 0} (node : T → Node) (row : T → Row) (S G : List T) (orde
       (ap (has_kind kind) (row_of i e there) ∙ k)
 
   -- a survivor of the kind has a place of the kind
-  place_of_kind : (kind : Kind) (e : T) → Contains S e → IsOfKind node row S G kind e →
+  pub place_of_kind : (kind : Kind) (e : T) → Contains S e → IsOfKind node row S G kind e →
       (i : ℕ) × (slice_get S i ≡ Some e) × Contains (places rows order wholes kind) i
   place_of_kind kind e c k = let (i, there) = place_of S e c in (i, there, place_such kind i e there k)
 
   -- the two ways in which the parts of a formula are read
-  abbrev PartsAgree : ((ℕ → Option ℕ) → List Three) → ((ℕ → Option T) → List (Type 0)) → Type 0
+  abbrev pub PartsAgree : ((ℕ → Option ℕ) → List Three) → ((ℕ → Option T) → List (Type 0)) → Type 0
   PartsAgree ts Ps = (σ : ℕ → Option ℕ) (ρ : ℕ → Option T) → StandForAll σ ρ → AllAgree (ts σ) (Ps ρ)
 
   -- two places are one if and only if their entries are
-  same_agrees : (i : Option ℕ) (e : Option T) (j : Option ℕ) (f : Option T) → StandFor S i e → StandFor S j f →
+  pub same_agrees : (i : Option ℕ) (e : Option T) (j : Option ℕ) (f : Option T) → StandFor S i e → StandFor S j f →
       Agrees (same_place i j) (AreSame node row S G e f)
   same_agrees (Some i) (Some e) (Some j) (Some f) se sf = record {
     yes = λ t. let at : i ≡ j = eqb-true i j (as_three_true (i == j) t) in
@@ -284,15 +284,15 @@ module _ {T : Type 0} (node : T → Node) (row : T → Row) (S G : List T) (orde
   module _ (v : ℕ) (kind : Kind) (σ : ℕ → Option ℕ) (ρ : ℕ → Option T) (stand : StandForAll σ ρ)
       (ts : (ℕ → Option ℕ) → List Three) (Ps : (ℕ → Option T) → List (Type 0)) (parts : PartsAgree ts Ps) where
     -- the value of the body at a place
-    abbrev value_at : ℕ → Three
+    abbrev pub value_at : ℕ → Three
     value_at i = first_value (ts (bind v i σ))
 
     -- what the body says of an entry
-    abbrev SaysAt : T → Type 0
+    abbrev pub SaysAt : T → Type 0
     SaysAt e = first_sentence (Ps (bind v e ρ))
 
     -- the body's value at a place is right of the entry there
-    body : (i : ℕ) (e : T) → slice_get S i ≡ Some e → Agrees (value_at i) (SaysAt e)
+    pub body : (i : ℕ) (e : T) → slice_get S i ≡ Some e → Agrees (value_at i) (SaysAt e)
     body i e is =
         first_agrees (ts (bind v i σ)) (Ps (bind v e ρ))
         (parts (bind v i σ) (bind v e ρ) (one_more v i e σ ρ is stand))
@@ -407,7 +407,7 @@ module _ {T : Type 0} (node : T → Node) (row : T → Row) (S G : List T) (orde
     some_before (Some u) None at = absurd at
 
   -- one form, where its parts agree
-  form_agrees : (form : Form) (ts : (ℕ → Option ℕ) → List Three) (Ps : (ℕ → Option T) → List (Type 0)) →
+  pub form_agrees : (form : Form) (ts : (ℕ → Option ℕ) → List Three) (Ps : (ℕ → Option T) → List (Type 0)) →
       PartsAgree ts Ps → (σ : ℕ → Option ℕ) (ρ : ℕ → Option T) → StandForAll σ ρ →
       Agrees (value rows order wholes form σ ts) (FormHolds node row S G form ρ Ps)
   form_agrees form.True ts Ps parts σ ρ stand = record { yes = λ t. tt; no = λ t. cc }
@@ -433,7 +433,7 @@ module _ {T : Type 0} (node : T → Node) (row : T → Row) (S G : List T) (orde
   form_agrees (form.Less t s) ts Ps parts σ ρ stand = passes_agrees (form.Less t s) σ ρ stand
 
   -- so all formulas in a row agree
-  all_agree : (trees : Trees) → PartsAgree (values rows order wholes trees) (meanings node row S G trees)
+  pub all_agree : (trees : Trees) → PartsAgree (values rows order wholes trees) (meanings node row S G trees)
   all_agree no_trees σ ρ stand = tt
   all_agree (tree_then form parts rest) σ ρ stand = (
     form_agrees form (values rows order wholes parts) (meanings node row S G parts)

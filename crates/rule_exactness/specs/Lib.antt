@@ -1,0 +1,3 @@
+pub mod TwoSided
+pub mod Exact
+pub mod ExactP3
