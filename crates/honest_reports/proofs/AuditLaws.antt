@@ -1,8 +1,9 @@
 -- The laws of audits of what is left of an honest place.
 use Rattle.honest_reports.proofs.Imports.{None, standard}
 use Rattle.honest_reports.specs.Laws.{AuditsAreRefusedOnlySo, ReportsAccuseNobody, ReportsSayNoneBroken}
-use Rattle.honest_reports.specs.Laws.{WholeReportsSayAllKept, WholeReportsShowDistinct}
+use Rattle.honest_reports.specs.Laws.{ReportsLeaveRulesOpen, WholeReportsSayAllKept, WholeReportsShowDistinct}
 use Rattle.honest_reports.proofs.Accused.{found_distinct, found_in, report_honest}
+use Rattle.honest_reports.proofs.OpenRules.{standard_rules_are_open}
 use Rattle.honest_reports.proofs.Refused.{refused_only_so}
 use Rattle.honest_reports.proofs.StandardRules.{all_kept_of_whole, says_none_broken}
 
@@ -17,6 +18,11 @@ pub reports_say_none_broken : ReportsSayNoneBroken
 reports_say_none_broken script w roster files left apart name names report gives =
     says_none_broken script w roster left.roster apart files left.logs name None names report
     (found_in name roster standard None names files report gives)
+
+-- a report leaves only those standard rules unsettled that are open
+pub reports_leave_rules_open : ReportsLeaveRulesOpen
+reports_leave_rules_open script w roster files left apart name source rules names report gives =
+    standard_rules_are_open script w roster left.roster apart files left.logs name source rules names report gives
 
 -- over all whole logs a report by the standard rules says of each that it is kept
 pub whole_reports_say_all_kept : WholeReportsSayAllKept

@@ -12,6 +12,7 @@ use Rattle.auditor.specs.Audits.{GivesReport}
 use Rattle.auditor.specs.Report.{AuditReport}
 use Rattle.auditor.specs.Sources.{RuleSource, standard}
 use Rattle.honest_reports.specs.Kept.{SaysAllKept, SaysNoneBroken}
+use Rattle.honest_reports.specs.Open.{StandardRulesAreOpen}
 use Rattle.honest_reports.specs.Places.{HasLeft, IsRosterOf, files_read}
 use Rattle.honest_reports.specs.Refusals.{IsHonestRefusal}
 use Rattle.honest_reports.specs.Reports.{IsHonestReport}
@@ -34,6 +35,15 @@ ReportsSayNoneBroken =
     HasLeft script w roster files → Distinct node_of_sealed (sent_in w) →
     (name : List ℕ) (names : List (List ℕ)) (report : AuditReport) →
     GivesReport name standard names (roster ∷ files) (Ok report) → SaysNoneBroken report
+
+-- where different entries have different digests, a report on what is left of an honest place leaves
+-- only those standard rules unsettled that may have been kept and may have been broken
+abbrev pub ReportsLeaveRulesOpen : Type 0
+ReportsLeaveRulesOpen =
+    (script : Script) (w : World SealedEntry) (roster : Option (List ℕ)) (files : List (Option (List ℕ))) →
+    HasLeft script w roster files → Distinct node_of_sealed (sent_in w) →
+    (name : List ℕ) (source : RuleSource) (rules : Option (List ℕ)) (names : List (List ℕ)) (report : AuditReport) →
+    GivesReport name source names (files_read roster source rules files) (Ok report) → StandardRulesAreOpen report
 
 -- where the whole logs of an honest place are all among the files, a report by the standard rules
 -- says of each that it is kept; that there is a report shows that digests differ

@@ -3,6 +3,7 @@
 ghost use Rattle.honest_reports.specs.Laws.{
   AuditsAreRefusedOnlySo,
   ReportsAccuseNobody,
+  ReportsLeaveRulesOpen,
   ReportsSayNoneBroken,
   WholeReportsSayAllKept,
   WholeReportsShowDistinct,
@@ -20,6 +21,13 @@ pub fn honest_places_keep_the_standard_rules()
     ensures never_broken { ReportsSayNoneBroken }
     // That there is a report shows that digests differ.
     ensures kept { WholeReportsSayAllKept }
+{}
+
+/// Where different entries have different digests, each standard rule that such a report leaves
+/// unsettled, P3 too, may have been kept and may have been broken: some entries that complete the
+/// survivors keep it, and some break it. So nobody can settle it from the same logs.
+pub fn unsettled_rules_of_honest_places_are_open()
+    ensures { ReportsLeaveRulesOpen }
 {}
 
 /// Where different entries have different digests, such an audit is refused only for rules in a

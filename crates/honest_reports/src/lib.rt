@@ -6,5 +6,6 @@ mod laws;
 
 pub use laws::{
     honest_audits_are_refused_only_so, honest_places_have_honest_reports,
-    honest_places_keep_the_standard_rules, whole_audits_show_distinct,
+    honest_places_keep_the_standard_rules, unsettled_rules_of_honest_places_are_open,
+    whole_audits_show_distinct,
 };

@@ -6,14 +6,14 @@ use Rattle.honest_rules.proofs.Imports.{authorises_booth_decides, activates, act
 use Rattle.honest_rules.proofs.Imports.{commits_to_decides, entries_in, IsAuthorised, HasCommittedTo, Trees, a1_body}
 use Rattle.honest_rules.proofs.Imports.{c1_body, c2_body, c3_body, c4_body, c5_body, c6_body, c7_body, v2_body}
 use Rattle.honest_rules.proofs.Imports.{v3_body, p4_body, is_kind, row_of, kind_of, session_of, ballot_of, booth_of}
-use Rattle.honest_rules.proofs.Imports.{IsHonest, WereSentIn}
+use Rattle.honest_rules.proofs.Imports.{◌<◌, arith, IsHonest, WereSentIn}
 use Rattle.entry_format.specs.declared.deed.Deed.TheVariants as deed
 use Rattle.entry_format.specs.declared.deed.How.TheVariants as how
 use Rattle.rule_language.specs.declared.kind.Kind.TheVariants as kind
 use Rattle.rule_meaning.specs.Meaning.{Holds as Says}
 use Rattle.honest_rules.proofs.DeedKinds.{of_kind, cast_ends, cancel_ends, challenge_ends}
 use Rattle.honest_rules.proofs.DeedKinds.{no_cast_is_cancel, no_cast_is_challenge, no_challenge_is_cancel}
-use Rattle.honest_rules.proofs.Pasts.{SentBy, sent_by}
+use Rattle.honest_rules.proofs.Pasts.{SentBy, before_lower, precedes_through, sent_by}
 use Rattle.honest_rules.proofs.Causes.{booth_row, whole_for_sure}
 use Rattle.honest_rules.proofs.Shapes.{one_alone, any_asked, own_asked, none_before_whole}
 use Rattle.honest_rules.proofs.SupervisorRules.{one_authorisation}
@@ -57,29 +57,28 @@ module _ {posts : List Post} {w : World SealedEntry} (honest : IsHonest posts w)
 
   -- ---- a session is ended once
 
-  -- e's maker was authorised for the session
-  abbrev WasAuthorised : SealedEntry → ℕ → Type 0
-  WasAuthorised e n =
-      (f : SealedEntry) × Contains (sent_in w) f × (f.entry.deed ≡ deed.Authorise e.entry.maker n)
-
-  -- so it was where it committed to a ballot
-  commitment_authorised : (e : SealedEntry) (n : ℕ) (x : List ℕ) → CommittedBefore e n x → WasAuthorised e n
+  -- where e's maker committed to a ballot before, it was authorised for the session before
+  commitment_authorised : (e : SealedEntry) (n : ℕ) (x : List ℕ) → CommittedBefore e n x → AuthorisedBefore e n
   commitment_authorised e n x (commitment, before, of_maker, commits) =
       let (activation, earlier, of_same, does) = activated commitment before.0 n x commits in
       let s = sent_by honest activation earlier.0 in
       let (named, _) = booth_row honest activation s (deed.Activate n) does tt in
       let (authorising, first, names) = authorised activation s earlier.0 n named in
-      (authorising, first.0, names ∙ ap (λ m. deed.Authorise m n) (of_same ∙ of_maker))
+      let later = precedes_through honest distinct activation commitment e earlier before in (
+        authorising,
+        precedes_through honest distinct authorising activation e first later,
+        names ∙ ap (λ m. deed.Authorise m n) (of_same ∙ of_maker),
+      )
 
-  -- and where it ended the session, which it had not ended before
+  -- so it was where it ended the session, which it had not ended before
   end_authorised : (e : SealedEntry) (s : SentBy w e) → Contains (sent_in w) e → (n : ℕ) → Ends n e.entry.deed →
-      (HoldsOwn e.entry.maker (entries_in s.past) (Ends n) → ⊥) × (WasAuthorised e n)
+      (HoldsOwn e.entry.maker (entries_in s.past) (Ends n) → ⊥) × (AuthorisedBefore e n)
   end_authorised e s ce n (inl (x, de)) =
       let (bound, (unended, _)) = booth_row honest e s (deed.Cast n x) de tt in
       (unended, commitment_authorised e n x (committed e s ce n x bound))
   end_authorised e s ce n (inr (inl de)) =
       let (named, (unended, _)) = booth_row honest e s (deed.Cancel n) de tt in
-      let (authorising, before, names) = authorised e s ce n named in (unended, (authorising, before.0, names))
+      (unended, authorised e s ce n named)
   end_authorised e s ce n (inr (inr (x, de))) =
       let (bound, (unended, _)) = booth_row honest e s (deed.Challenge n x) de tt in
       (unended, commitment_authorised e n x (committed e s ce n x bound))
@@ -90,9 +89,9 @@ module _ {posts : List Post} {w : World SealedEntry} (honest : IsHonest posts w)
   one_end e f ce cf n ends ends' =
       let s = sent_by honest e ce in
       let t = sent_by honest f cf in
-      let (unended, (first, sent, names)) = end_authorised e s ce n ends in
-      let (unended', (second, sent', names')) = end_authorised f t cf n ends' in
-      let same = one_authorisation honest first second sent sent' e.entry.maker f.entry.maker n names names' in
+      let (unended, (first, before, names)) = end_authorised e s ce n ends in
+      let (unended', (second, before', names')) = end_authorised f t cf n ends' in
+      let same = one_authorisation honest first second before.0 before'.0 e.entry.maker f.entry.maker n names names' in
       let maker : e.entry.maker ≡ f.entry.maker =
       sym (ap booth_of names) ∙ ap (λ (u : SealedEntry). booth_of u.entry.deed) same ∙ ap booth_of names' in
       one_alone honest (Ends n) e f s t maker ends ends' unended unended'
@@ -104,6 +103,19 @@ module _ {posts : List Post} {w : World SealedEntry} (honest : IsHonest posts w)
   one_end_by_session e f ce cf ends ends' same =
       let at = eqb-true (session_of e.entry.deed) (session_of f.entry.deed) same in
       one_end e f ce cf (session_of f.entry.deed) (subst (λ n. Ends n e.entry.deed) at ends) ends'
+
+  -- no entry that ends a session precedes its authorising, since one authorising precedes the end,
+  -- and a session has no other
+  pub no_early_end : (x z : SealedEntry) → Precedes node_of_sealed (sent_in w) z x → (b n : ℕ) →
+      x.entry.deed ≡ deed.Authorise b n → Ends n z.entry.deed → ⊥
+  no_early_end x z before b n does ends =
+      let s = sent_by honest z before.0 in
+      let (_, (first, earlier, names)) = end_authorised z s before.0 n ends in
+      let same = one_authorisation honest first x earlier.0 before.1 z.entry.maker b n names does in
+      let at : first.entry.stamp ≡ x.entry.stamp = ap (λ (u : SealedEntry). u.entry.stamp) same in
+      let up : first.entry.stamp < x.entry.stamp =
+      before_lower honest distinct first x (precedes_through honest distinct first z x earlier before) in
+      omega arith
 
 module _ {posts : List Post} {w : World SealedEntry} (honest : IsHonest posts w)
     (distinct : Distinct node_of_sealed (sent_in w)) (S : List SealedEntry) (were_sent : WereSentIn w S) where

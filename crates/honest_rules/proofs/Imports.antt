@@ -23,8 +23,8 @@ pub use Rattle.entry_order.proofs.Honest.{honest_entries_agree_in_orderly_worlds
 pub use Rattle.entry_order.proofs.Lists.{Contains-cons_cases, Contains-head, Contains-map, Contains-map_cases}
 pub use Rattle.entry_order.proofs.Lists.{Contains-none}
 pub use Rattle.entry_order.proofs.MadePlays.{plays_are_made}
-pub use Rattle.entry_order.proofs.Orders.{held_rises, held_was_sent, named_held, next_of, one_order, sent_in_cases}
-pub use Rattle.entry_order.proofs.Orders.{sent_in_from, was_sent}
+pub use Rattle.entry_order.proofs.Orders.{along, held_rises, held_was_sent, named_held, next_of, one_order}
+pub use Rattle.entry_order.proofs.Orders.{sent_in_cases, sent_in_from, was_sent}
 pub use Rattle.entry_order.proofs.Places.{all_at}
 pub use Rattle.entry_order.proofs.Plays.{IsOrderly-play, IsOrderly-start}
 pub use Rattle.entry_order.specs.HeldBefore.{WasSentAfter}

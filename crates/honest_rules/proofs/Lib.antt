@@ -7,6 +7,7 @@ pub mod Shapes
 pub mod EntryRules
 pub mod SupervisorRules
 pub mod BoothRules
+pub mod Ends
 pub mod Standard
 pub mod Audits
 pub mod Narrow

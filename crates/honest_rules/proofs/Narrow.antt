@@ -1,6 +1,6 @@
 -- No standard rule is too wide over entries that an honest polling place sent.
 use Rattle.honest_rules.proofs.Imports.{◌≡◌, ◌∙◌, ℕ, zero, suc, Bool, true, false, List, ◌∷◌, map, length, refl, ap}
-use Rattle.honest_rules.proofs.Imports.{sym, arith, count_by, Contains, node_of_sealed, SealedEntry, Distinct, World}
+use Rattle.honest_rules.proofs.Imports.{arith, Contains, node_of_sealed, SealedEntry, Distinct, World}
 use Rattle.honest_rules.proofs.Imports.{sent_in, Contains-head, Post, Kind, standard_rules, Trees, RuleTree, row_of}
 use Rattle.honest_rules.proofs.Imports.{IsHonest, WereSentIn}
 use Rattle.std.proofs.Common.{◌*◌, ◌≤◌, []}

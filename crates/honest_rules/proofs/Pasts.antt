@@ -5,7 +5,7 @@ use Rattle.honest_rules.proofs.Imports.{Contains, node_of_sealed, SealedEntry, E
 use Rattle.honest_rules.proofs.Imports.{IsNext, Precedes, IsPath, WasSentAfter, World, history}
 use Rattle.honest_rules.proofs.Imports.{sent_in, split_two, Contains-map, was_sent, held_was_sent, next_of}
 use Rattle.honest_rules.proofs.Imports.{held_rises, named_held, one_order, Post, IsWholeHistory, IsHonest, MayAs}
-use Rattle.honest_rules.proofs.Imports.{role_at}
+use Rattle.honest_rules.proofs.Imports.{role_at, along}
 use Rattle.entry_order.specs.HeldBefore.{HeldBefore.itself}
 
 -- e was sent by its maker, after this past
@@ -58,12 +58,26 @@ module _ {posts : List Post} {w : World SealedEntry} (honest : IsHonest posts w)
     held_precedes e s f ce c =
         (one_order node_of_sealed w honest.orderly distinct f e (held_too e s f c) ce).1 (itself s.past (after e s) c)
 
+    -- what precedes an entry that precedes e precedes e
+    pub precedes_through : (f g e : SealedEntry) → Precedes node_of_sealed (sent_in w) f g →
+        Precedes node_of_sealed (sent_in w) g e → Precedes node_of_sealed (sent_in w) f e
+    precedes_through f g e p q =
+        let here = (one_order node_of_sealed w honest.orderly distinct f g p.0 p.1).0 p in
+        let there = (one_order node_of_sealed w honest.orderly distinct g e q.0 q.1).0 q in
+        (one_order node_of_sealed w honest.orderly distinct f e p.0 q.1).1 (along w f g e here there)
+
+    -- stamps rise from what precedes e to e
+    pub before_lower : (f e : SealedEntry) → Precedes node_of_sealed (sent_in w) f e →
+        f.entry.stamp < e.entry.stamp
+    before_lower f e p =
+        held_rises node_of_sealed w honest.orderly f e
+        ((one_order node_of_sealed w honest.orderly distinct f e p.0 p.1).0 p)
+
     -- an entry of the same maker that precedes e was held when e was sent
     pub own_held : (f e : SealedEntry) (t : SentBy w f) (s : SentBy w e) → f.entry.maker ≡ e.entry.maker →
         Precedes node_of_sealed (sent_in w) f e → Contains (held s.past) f
     own_held f e t s same p =
-        let before = (one_order node_of_sealed w honest.orderly distinct f e p.0 p.1).0 p in
-        let up : f.entry.stamp < e.entry.stamp = held_rises node_of_sealed w honest.orderly f e before in
+        let up : f.entry.stamp < e.entry.stamp = before_lower f e p in
         elim (two_of_one f e t s same) [
           | inl u ↦ absurd (let at = ap (λ (x : SealedEntry). x.entry.stamp) u in omega arith)
           | inr (inl c) ↦ c

@@ -11,7 +11,8 @@ use Rattle.honest_rules.proofs.Imports.{role_at, AreOrderlyMachinesOf, MachinesA
 use Rattle.honest_rules.proofs.Imports.{ScriptsKeepTheRules, ScriptsAreNeverBroken, ScriptsAreKept}
 use Rattle.std.proofs.Common.{[], Option, Some, None}
 use Rattle.honest_logs.proofs.Scripts.{scripts_are_honest}
-use Rattle.honest_rules.specs.Scripts.{ScriptsAreNeverTooWide}
+use Rattle.honest_rules.specs.Scripts.{ScriptsAreNeverTooWide, ScriptsHaveNoEarlyEnd}
+use Rattle.honest_rules.proofs.Ends.{honest_entries_have_no_early_end}
 use Rattle.honest_rules.proofs.Standard.{honest_entries_keep_the_rules}
 use Rattle.honest_rules.proofs.Audits.{honest_audits_never_say_broken, honest_audits_say_kept}
 use Rattle.honest_rules.proofs.Narrow.{standard_rules_are_narrow}
@@ -163,6 +164,11 @@ scripts_are_never_broken script steps w lawful come =
 pub scripts_are_kept : ScriptsAreKept
 scripts_are_kept script steps w lawful come =
     honest_audits_say_kept (roster_of script) w (scripts_lead_to_honest_places script steps w lawful come)
+
+-- of no entries that were sent there an end of a session precedes an authorising of it
+pub scripts_have_no_early_end : ScriptsHaveNoEarlyEnd
+scripts_have_no_early_end script steps w lawful come =
+    honest_entries_have_no_early_end (roster_of script) w (scripts_lead_to_honest_places script steps w lawful come)
 
 -- over no entries that were sent there a standard rule is too wide, since a script has at most
 -- 4,096 actions

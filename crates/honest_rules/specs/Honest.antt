@@ -18,7 +18,7 @@ abbrev pub role_at : List Post → ℕ → Role
 role_at posts m = role_in (slice_get posts m)
 
 -- the deed is one of the role, and after this history the rules of the role give the machine no
--- cause against it
+-- cause against it (VoteBox, USENIX Security 2008)
 pub record MayAs (role : Role) (machine : ℕ) (past : List (Event SealedEntry)) (e : SealedEntry) : Type 0 where
   pub of_role : IsDeedOf role e.entry.deed
   pub no_cause : RoleRefuses role machine past e.entry.deed (Ok tt)

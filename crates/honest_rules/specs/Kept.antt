@@ -15,6 +15,7 @@ use Rattle.rule_meaning.specs.Meaning.{Holds}
 use Rattle.rule_meaning.specs.Sound.{HasNoDouble}
 use Rattle.rule_meaning.specs.Values.{three_in}
 use Rattle.rule_meaning.specs.Widths.{is_too_wide}
+use Rattle.rule_exactness.specs.Exact.{NoEarlyEnd}
 use Rattle.auditor.specs.Rows.{row_of}
 use Rattle.honest_rules.specs.Honest.{IsHonest}
 
@@ -67,6 +68,13 @@ abbrev pub HonestAuditsSayKept : Type 0
 HonestAuditsSayKept =
     (posts : List Post) (w : World SealedEntry) → IsHonest posts w → Distinct node_of_sealed (sent_in w) →
     (S : List SealedEntry) → WereSentIn w S → AreAllOf w S → EachIsKept posts S
+
+-- of any entries that an honest polling place sent, where different entries have different digests,
+-- none that ends a session precedes an authorising of it
+abbrev pub HonestEntriesHaveNoEarlyEnd : Type 0
+HonestEntriesHaveNoEarlyEnd =
+    (posts : List Post) (w : World SealedEntry) → IsHonest posts w → Distinct node_of_sealed (sent_in w) →
+    (S : List SealedEntry) → WereSentIn w S → NoEarlyEnd node_of_sealed (row_of posts) S
 
 -- where an honest polling place sent at most 4,096 entries, as many as a script has actions, and
 -- different ones have different digests, no standard rule is too wide over any of them

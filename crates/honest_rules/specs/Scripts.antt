@@ -14,6 +14,8 @@ use Rattle.polling_world.specs.Machines.{MachineState}
 use Rattle.polling_world.specs.Playing.{ComesTo}
 use Rattle.polling_world.specs.Sending.{AreMade}
 use Rattle.polling_world.specs.Worlds.{world_of}
+use Rattle.rule_exactness.specs.Exact.{NoEarlyEnd}
+use Rattle.auditor.specs.Rows.{row_of}
 use Rattle.honest_rules.specs.Honest.{IsHonest}
 use Rattle.honest_rules.specs.Kept.{WereSentIn, AreAllOf, StandardRulesHold, NoneIsBroken, NoneIsTooWide}
 use Rattle.honest_rules.specs.Kept.{EachIsKept}
@@ -60,6 +62,14 @@ ScriptsAreKept =
     (script : Script) (steps : List Step) (w : World SealedEntry) → IsLawful script → ComesTo script steps w →
     Distinct node_of_sealed (sent_in w) →
     (S : List SealedEntry) → WereSentIn w S → AreAllOf w S → EachIsKept (roster_of script) S
+
+-- of any entries that a script's machines sent, by any steps, none that ends a session precedes an
+-- authorising of it
+abbrev pub ScriptsHaveNoEarlyEnd : Type 0
+ScriptsHaveNoEarlyEnd =
+    (script : Script) (steps : List Step) (w : World SealedEntry) → IsLawful script → ComesTo script steps w →
+    Distinct node_of_sealed (sent_in w) →
+    (S : List SealedEntry) → WereSentIn w S → NoEarlyEnd node_of_sealed (row_of (roster_of script)) S
 
 -- over no entries that a script's machines sent, by any steps, a standard rule is too wide
 abbrev pub ScriptsAreNeverTooWide : Type 0

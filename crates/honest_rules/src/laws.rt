@@ -4,6 +4,7 @@ ghost use Rattle.honest_rules.specs.Honest.{HonestyIsOfHistories};
 ghost use Rattle.honest_rules.specs.Kept.{
   HonestAuditsNeverSayBroken,
   HonestAuditsSayKept,
+  HonestEntriesHaveNoEarlyEnd,
   HonestEntriesKeepTheRules,
   StandardRulesAreNarrow,
 };
@@ -12,6 +13,7 @@ ghost use Rattle.honest_rules.specs.Scripts.{
   ScriptsAreKept,
   ScriptsAreNeverBroken,
   ScriptsAreNeverTooWide,
+  ScriptsHaveNoEarlyEnd,
   ScriptsKeepTheRules,
   ScriptsLeadToHonestPlaces,
 };
@@ -36,6 +38,13 @@ pub fn standard_rules_are_narrow()
     ensures { StandardRulesAreNarrow }
 {}
 
+/// Of any entries that an honest polling place sent no cast, cancellation or challenge of a session
+/// precedes an authorising of it: a booth ends what it was authorised for, and the supervisor
+/// authorises each session once. So what survives of them tells all that can be said of P3, too.
+pub fn honest_entries_have_no_early_end()
+    ensures { HonestEntriesHaveNoEarlyEnd }
+{}
+
 /// Whether a place is honest depends on its histories alone, and not on what has stopped.
 pub fn honesty_is_of_histories()
     ensures { HonestyIsOfHistories }
@@ -52,4 +61,5 @@ pub fn scripts_lead_to_honest_places()
     ensures kept { ScriptsAreKept }
     // A script has at most 4,096 actions, so no more entries are sent.
     ensures never_too_wide { ScriptsAreNeverTooWide }
+    ensures no_early_end { ScriptsHaveNoEarlyEnd }
 {}

@@ -6,6 +6,6 @@
 mod laws;
 
 pub use laws::{
-    honest_audits_say_kept, honest_entries_keep_the_rules, honesty_is_of_histories,
-    scripts_lead_to_honest_places, standard_rules_are_narrow,
+    honest_audits_say_kept, honest_entries_have_no_early_end, honest_entries_keep_the_rules,
+    honesty_is_of_histories, scripts_lead_to_honest_places, standard_rules_are_narrow,
 };

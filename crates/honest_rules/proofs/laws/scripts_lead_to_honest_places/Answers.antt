@@ -1,5 +1,6 @@
 use Rattle.honest_rules.proofs.Scripts.{scripts_lead_to_honest_places, machines_are_honest, scripts_keep_the_rules}
 use Rattle.honest_rules.proofs.Scripts.{scripts_are_never_broken, scripts_are_kept, scripts_are_never_too_wide}
+use Rattle.honest_rules.proofs.Scripts.{scripts_have_no_early_end}
 use Rattle.honest_rules.proofs.laws.scripts_lead_to_honest_places.Goals as goal
 
 pub returns-clause-honest : goal.returns-clause-honest
@@ -19,3 +20,6 @@ returns-clause-kept c = scripts_are_kept
 
 pub returns-clause-never_too_wide : goal.returns-clause-never_too_wide
 returns-clause-never_too_wide c = scripts_are_never_too_wide
+
+pub returns-clause-no_early_end : goal.returns-clause-no_early_end
+returns-clause-no_early_end c = scripts_have_no_early_end
