@@ -10,6 +10,7 @@ use Rattle.auditorium_core.proofs.Imports.{Answer, status_by, report_answer, Hol
 use Rattle.auditorium_core.proofs.Imports.{Completes}
 use Rattle.std.proofs.Common.{length}
 use Rattle.auditorium_core.specs.Audit.{IsSound}
+use Rattle.report_exactness.specs.ReportExact.{UnsettledIsExact}
 use Rattle.auditorium_core.proofs.PlainSurvivors.{some_completion as some_here}
 use Rattle.rule_engine.specs.declared.verdict.Verdict.{Verdict}
 use Rattle.rule_engine.specs.declared.verdict.Verdict.TheVariants as verdict
@@ -69,9 +70,9 @@ some_completion report is =
 
 -- the verdicts and the gaps of a report mean what they say
 pub report_is_sound : (report : AuditReport) → RulesAreSettled node_of_sealed (row_of report.machines) →
-    UnknownOnlyByGaps node_of_sealed (row_of report.machines) → GapsAreUnique node_of_sealed → IsReport report →
-    IsSound report
-report_is_sound report settled unknown unique is =
+    UnknownOnlyByGaps node_of_sealed (row_of report.machines) → GapsAreUnique node_of_sealed → UnsettledIsExact report →
+    IsReport report → IsSound report
+report_is_sound report settled unknown unique exact is =
     let kept = is.graphed.2.kept in
     record {
       kept = each report.machines report.graph kept settled unknown
@@ -84,6 +85,7 @@ report_is_sound report settled unknown unique is =
       unsettled = each report.machines report.graph kept settled unknown
           (λ rule v. v ≡ verdict.Unsettled → report.graph.gaps ≢ [])
           (unsettled_here report.machines report.graph kept settled unknown) report.rules report.verdicts is.judged;
+      exact = exact;
       gaps = (unique report.graph.survivors report.graph.gaps).0 kept.gaps;
     }
 

@@ -18,17 +18,13 @@ use Rattle.std.specs.Prelude.{codes}
 use Rattle.rule_engine.specs.declared.verdict.Verdict.{Verdict}
 use Rattle.rule_engine.specs.declared.verdict.Verdict.TheVariants as verdict
 use Rattle.auditorium_core.specs.declared.status.Status.TheVariants as status
-use Rattle.entry_order.proofs.Completions.{gaps_are_unique}
-use Rattle.rule_meaning.proofs.Sounds.{rules_are_settled}
-use Rattle.rule_meaning.proofs.Unknowns.{unknown_only_by_gaps}
 use Rattle.polling_world.proofs.OnePlay.{one_play}
-use Rattle.auditor.proofs.Makers.{a_log_each}
 use Rattle.honest_reports.specs.Places.{HasLeft}
-use Rattle.honest_reports.proofs.Accused.{found_in}
 use Rattle.honest_reports.proofs.AuditLaws.{audits_are_refused_only_so, reports_say_none_broken}
 use Rattle.auditorium_core.specs.Audit.{IsSound}
 use Rattle.auditorium_core.specs.Play.{KeepOrder}
-use Rattle.auditorium_core.proofs.AuditAnswers.{not_absent, report_is_sound}
+use Rattle.auditorium_core.proofs.AuditAnswers.{not_absent}
+use Rattle.auditorium_core.proofs.SoundReports.{given_is_sound}
 use Rattle.auditorium_core.proofs.Faults.{IsAnswerOfFault, refused_or}
 use Rattle.auditorium_core.proofs.HonestAudits.{only_broken}
 
@@ -83,24 +79,6 @@ module _ (report : AuditReport) (says : SaysNoneBroken report) where
       none_counted is_unsettled report.verdicts (λ v inside. not_unsettled v (λ is.
       says.unsettled (subst (λ (u : Verdict). Contains report.verdicts u) is inside)
       (nil_from_length report.graph.gaps none)))
-
--- a report on files is a report, of which what is printed is sound
-given_is_sound : (name : List ℕ) (roster : Option (List ℕ)) (names : List (List ℕ)) (files : List (Option (List ℕ)))
-    (report : AuditReport) → GivesReport name standard names (roster ∷ files) (Ok report) → IsSound report
-given_is_sound name roster names files report gives =
-    let found = found_in name roster standard None names files report gives in
-    let machines = found.read.roster.machines in
-    let given = entries_of found.logs in
-    let is : IsReport (report_on machines names found.logs found.graph found.rules found.verdicts) = record {
-      a_log_each = a_log_each machines found.read.election names files found.logs found.gives_logs;
-      makers = survivors_have_makers machines given found.graph
-          (logs_have_makers machines found.read.election names files found.logs found.gives_logs) found.gives_graph;
-      graphed = found.gives_graph;
-      judged = found.judged;
-    } in
-    report_is_sound report (rules_are_settled node_of_sealed (row_of report.machines))
-    (unknown_only_by_gaps node_of_sealed (row_of report.machines)) (gaps_are_unique node_of_sealed)
-    (subst IsReport (sym found.is) is)
 
 module _ (script : Script) (lawful : IsLawful script) (session : ℕ) (machines : List MachineState)
     (played : IsPlayed script machines) where
@@ -194,8 +172,8 @@ module _ (sessions half : ℕ) (script : Script) (same : script ≡ generated se
     right = right;
     order = λ machines played. keep_order (generated sessions) day_lawful half machines played;
     sound = λ machines report audited.
-        given_is_sound (codes "roster") (Some (text_of (roster_tree (roster_of (generated sessions)))))
-        (log_name ∷ []) (Some audited.bytes ∷ []) report audited.gives;
+        given_is_sound (codes "roster") standard (log_name ∷ [])
+        (Some (text_of (roster_tree (roster_of (generated sessions)))) ∷ Some audited.bytes ∷ []) report audited.gives;
     honest = λ machines played apart. honest_here sessions day_lawful half answer machines played apart right;
   }
 

@@ -10,7 +10,8 @@ use Rattle.std.proofs.Common.{Option}
 use Rattle.auditor.specs.declared.outcome.Outcome.TheVariants as outcome
 use Rattle.honest_reports.specs.Places.{HasLeft}
 use Rattle.honest_reports.proofs.AuditLaws.{audits_are_refused_only_so, reports_accuse_nobody, reports_say_none_broken}
-use Rattle.honest_reports.proofs.AuditLaws.{whole_reports_say_all_kept, whole_reports_show_distinct}
+use Rattle.honest_reports.proofs.AuditLaws.{reports_leave_rules_open, whole_reports_say_all_kept}
+use Rattle.honest_reports.proofs.AuditLaws.{whole_reports_show_distinct}
 use Rattle.auditorium_core.specs.declared.status.Status.TheVariants as status
 
 -- no refusal has the status of a report
@@ -86,6 +87,7 @@ module _ (script : Script) (w : World SealedEntry) (roster : Option (List ℕ)) 
                 (none_is_broken apart plain).outcome
                 (only_broken (outcome_of report) (sym (ap (λ (a : Answer). a.status) told) ∙ broken));
             all_kept = all_are_kept;
+            unsettled = reports_leave_rules_open script w roster files place apart name source rules names report gives;
           });
       kept = λ apart plain all whole.
           let says = all_are_kept plain all in

@@ -17,6 +17,7 @@ pub mod SameNodes
 pub mod OneProof
 pub mod CheckedRules
 pub mod AuditAnswers
+pub mod SoundReports
 pub mod ReadSteps
 pub mod ProveAnswers
 pub mod CheckAnswers

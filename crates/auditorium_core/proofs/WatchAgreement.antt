@@ -13,6 +13,7 @@ use Rattle.std.specs.Prelude.{Some}
 use Rattle.auditorium_core.proofs.AuditCommand.{same_told}
 use Rattle.auditorium_core.proofs.CommandProofs.{status_is}
 use Rattle.auditorium_core.proofs.OneWatch.{report_by}
+use Rattle.auditorium_core.proofs.SoundReports.{given_is_sound}
 use Rattle.auditorium_core.proofs.Summaries.{lines_more, one_line}
 use Rattle.auditorium_core.proofs.WatchCommand.{IsToldOf, same_found, told_of}
 
@@ -142,6 +143,7 @@ watches_agree graphs reports roster rules logs files watched audited (inr (told,
         record {
           report = of.report;
           given = given;
+          sound = given_is_sound roster (source_named rules) logs files of.report given;
           audit = answer;
           status = status_is watched told e ∙ status_is told (watch_answer of.summaries of.report) of.is
               ∙ sym (status_is audited (report_answer of.report) answer);

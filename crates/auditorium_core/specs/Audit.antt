@@ -14,6 +14,7 @@ use Rattle.auditor.specs.Rows.{row_said}
 use Rattle.auditor.specs.Report.{AuditReport}
 use Rattle.auditor.specs.Outcomes.{is_broken}
 use Rattle.auditor.specs.Audits.{GivesReport, audit_files}
+use Rattle.report_exactness.specs.ReportExact.{UnsettledIsExact}
 use Rattle.auditor.specs.Sources.{RuleSource, standard, in_file}
 use Rattle.auditorium_core.specs.declared.status.Status.TheVariants as status
 use Rattle.auditorium_core.specs.Lines.{Answer, OrRefused}
@@ -38,7 +39,9 @@ Completes report G = Completion node_of (length report.machines) (plains report.
 
 -- What the verdicts and the gaps of a report mean: a rule that is reported kept holds whatever was
 -- lost, and one that is reported broken holds in no case. There is such a case. A rule is unsettled
--- only where there is a gap. The gaps are exactly the digests that a survivor names and none has,
+-- only where there is a gap. A standard rule that is unsettled holds in some case and doesn't hold in
+-- another, so nobody can settle it by the same survivors (of P3 under a condition); and so it is of
+-- rules of one's own of a class. The gaps are exactly the digests that a survivor names and none has,
 -- each once, ascending.
 pub record IsSound (report : AuditReport) : Type 0 where
   pub kept : AllZip (λ rule is. is ≡ verdict.Kept → (G : List Plain) → Completes report G → HoldsOf report G rule)
@@ -48,6 +51,7 @@ pub record IsSound (report : AuditReport) : Type 0 where
       report.rules report.verdicts
   pub some : (G : List Plain) × Completes report G
   pub unsettled : AllZip (λ rule is. is ≡ verdict.Unsettled → report.graph.gaps ≢ []) report.rules report.verdicts
+  pub exact : UnsettledIsExact report
   pub gaps : IsGaps node_of_sealed report.graph.survivors report.graph.gaps
 
 -- the answer is that of the report, whose verdicts and gaps mean what they say

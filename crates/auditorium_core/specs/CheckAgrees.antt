@@ -8,7 +8,7 @@ use Rattle.auditor.specs.Audits.{GivesReport}
 use Rattle.auditor.specs.Report.{AuditReport}
 use Rattle.honest_reports.specs.Places.{files_read}
 use Rattle.auditorium_core.specs.Lines.{Answer}
-use Rattle.auditorium_core.specs.Audit.{source_named}
+use Rattle.auditorium_core.specs.Audit.{source_named, IsSound}
 use Rattle.auditorium_core.specs.Prove.{IsProofOver}
 use Rattle.auditorium_core.specs.Check.{IsCheckOver, check_answer}
 
@@ -17,6 +17,12 @@ abbrev pub without_entries : AuditVerdict → Verdict
 without_entries audited.Kept = Kept
 without_entries (audited.Broken places) = Broken
 without_entries audited.Unsettled = Unsettled
+
+-- The answer has the verdicts of the report, rule for rule, and these mean what they say: so what is
+-- unsettled by a whole proof is really open.
+pub record HasVerdictsOf (report : AuditReport) (checked : Answer) : Type 0 where
+  pub told : checked ≡ check_answer report.rules (map without_entries report.verdicts)
+  pub sound : IsSound report
 
 -- The proof's file holds what `prove` writes for the same roster and logs, and the files give an
 -- audit a report. Then `check` answers with the verdicts of that report, rule for rule.
@@ -30,4 +36,4 @@ ChecksAgreeWithAudits =
     (files_read roster_file (source_named rules) rules_file log_files) (Ok report) →
     IsCheckOver roster rules proof logs
     (files_read roster_file (source_named rules) rules_file (log_files ++ Some text ∷ [])) checked →
-    checked ≡ check_answer report.rules (map without_entries report.verdicts)
+    HasVerdictsOf report checked

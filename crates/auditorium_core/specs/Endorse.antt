@@ -49,7 +49,7 @@ pub record IsEndorsement (name file : List ℕ) (read : Unsigned) (answer : Answ
   pub good : HssSigns (office_public name read.office.seed) read.bytes (endorsement name read.office read.bytes)
   pub told : answer ≡ endorse_answer name file read
 
--- the answer for these files, or the first refusal
+-- the answer for these files, or the first refusal (RFC 8554, 6.2)
 abbrev pub IsEndorseAnswer : List ℕ → List ℕ → List (Option (List ℕ)) → Answer → Type 0
 IsEndorseAnswer name file files answer = OrRefused (GivesUnsigned name file files) (IsEndorsement name file) answer
 

@@ -28,7 +28,7 @@ IsEndorsedVerdict read answer =
     (HssSigns read.key read.bytes read.signature × (answer ≡ line_answer status.Done (codes "good")))
     ⊎ ((¬ HssSigns read.key read.bytes read.signature) × (answer ≡ line_answer status.Findings (codes "bad")))
 
--- the answer for these files, or the first refusal
+-- the answer for these files, or the first refusal (RFC 8554, 6.3)
 abbrev pub IsEndorsedAnswer : List ℕ → List ℕ → List ℕ → List (Option (List ℕ)) → Answer → Type 0
 IsEndorsedAnswer key file signature files answer =
     OrRefused (GivesSigned key file signature files) IsEndorsedVerdict answer

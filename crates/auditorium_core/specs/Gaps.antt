@@ -14,6 +14,7 @@ use Rattle.auditorium_core.specs.Lines.{Answer, absent_answer, refused_answer}
 use Rattle.auditorium_core.specs.CommandParts.{CommandParts}
 
 -- all lines of a log: the gaps are the digests that its entries name and none of them has
+-- (Auditorium, EVT 2007)
 abbrev pub gaps_log_lines : List ℕ → PlainLog → List ℕ
 gaps_log_lines name log =
     refused_lines name log.refused.items ++ end_line name log.end ++ gap_lines (gaps node_of log.kept.items)
@@ -35,7 +36,7 @@ IsRefusal name Header answer = answer ≡ refused_answer name 0 (codes "Header")
 IsRefusal name ReadFault answer = ⊥
 IsRefusal name Memory answer = ⊥
 
--- the answer for the log's file, or where there is none
+-- the answer for the log's file, or where there is none (Auditorium, EVT 2007)
 abbrev pub IsGapsAnswer : List ℕ → Option (List ℕ) → Answer → Type 0
 IsGapsAnswer name file answer =
     ((log : PlainLog) × IsLogOf log file × (answer ≡ findings_answer (gaps_log_lines name log)))

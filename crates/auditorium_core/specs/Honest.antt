@@ -43,7 +43,7 @@ pub record IsExactIn (w : World SealedEntry) (e f : SealedEntry) (word : OrderWo
   pub known : word ≢ Unknown
 
 -- Both entries were sent in w, and the word is right of them there. Where the whole logs of w are
--- among the files, it is exact.
+-- among the files, it is exact (Lamport 1978).
 pub record IsHonestWord (w : World SealedEntry) (files : List (Option (List ℕ))) (e f : SealedEntry) (word : OrderWord)
     : Type 0 where
   pub first : Contains (sent_in w) e
@@ -79,6 +79,7 @@ pub record IsOrderOfPlace (script : Script) (w : World SealedEntry) (x y : List 
   pub shown : AreAllFilesOf w files → answer.status ≡ Done → Distinct node_of_sealed (sent_in w)
 
 -- the answer is right for each honest place that left the roster's file and the logs' files
+-- (Auditorium, EVT 2007)
 abbrev pub IsOrderOfPlaces : List ℕ → List ℕ → List (List ℕ) → Option (List ℕ) → List (Option (List ℕ)) → Answer →
     Type 0
 IsOrderOfPlaces x y names roster files answer =

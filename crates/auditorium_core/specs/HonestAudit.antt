@@ -10,6 +10,7 @@ use Rattle.honest_logs.specs.LeftFiles.{AreAllFilesOf}
 use Rattle.auditor.specs.Report.{AuditReport}
 use Rattle.auditor.specs.Sources.{RuleSource, standard}
 use Rattle.honest_reports.specs.Kept.{SaysAllKept, SaysNoneBroken, kept_text}
+use Rattle.honest_reports.specs.Open.{StandardRulesAreOpen}
 use Rattle.honest_reports.specs.Places.{AreWholeFilesOf, files_read}
 use Rattle.honest_reports.specs.Refusals.{IsHonestRefusal}
 use Rattle.honest_reports.specs.Reports.{IsHonestReport}
@@ -30,7 +31,8 @@ IsOfReport other = ⊥
 -- The answer is that of a report on the script's machines and on these files, in which no line
 -- accuses anybody: none is of a refused record, of a malformed end, of a break, of a stray or of a
 -- fork. With the standard rules neither the report nor the status says that one is broken, and
--- where the whole logs of w are all among the files, the report says that each is kept.
+-- where the whole logs of w are all among the files, the report says that each is kept. Of each
+-- standard rule, P3 too, that is unsettled nobody can say more by the same survivors.
 pub record TellsHonestReport (script : Script) (w : World SealedEntry) (source : RuleSource) (names : List (List ℕ))
     (files : List (Option (List ℕ))) (answer : Answer) : Type 0 where
   pub report : AuditReport
@@ -39,6 +41,7 @@ pub record TellsHonestReport (script : Script) (w : World SealedEntry) (source :
   pub none_broken : source ≡ standard → SaysNoneBroken report
   pub not_broken : source ≡ standard → answer.status ≢ status.Broken
   pub all_kept : source ≡ standard → AreAllFilesOf w files → SaysAllKept w files report
+  pub unsettled : StandardRulesAreOpen report
 
 -- What is answered over such files: a report that accuses nobody; or, never by the standard rules,
 -- a refusal because of the file of the rules, or because one of its rules is too wide.

@@ -67,7 +67,7 @@ IsSettled machines S e f Apart =
     (e ≢ f) × InEach machines S (λ G. (¬ ComesFirst G e f) × (¬ ComesFirst G f e))
 IsSettled machines S e f Unknown = ¬ AreWhole S e f
 
--- the answer of two survivors
+-- the answer of two survivors (Auditorium, EVT 2007; Querifier, SADFE 2008)
 pub record IsOrderOf (machines : List Post) (S : List SealedEntry) (e f : SealedEntry) (answer : Answer) : Type 0 where
   pub word : OrderWord
   pub right : IsWordOf S e f word

@@ -32,6 +32,7 @@ use Rattle.polling_world.specs.CauseWords.{left_why_word}
 abbrev pub roster_name : List ℕ → List ℕ
 roster_name prefix = prefix ++ codes ".roster"
 
+-- the name of a machine's log
 abbrev pub machine_log_name : List ℕ → MachineState → List ℕ
 machine_log_name prefix m = prefix ++ codes "." ++ m.config.name ++ codes ".log"
 

@@ -46,7 +46,7 @@ run_answer prefix roster machines losses undone = record {
 }
 
 -- These steps make all events of the machines in their merged order. By them, on one thread, the
--- script's machines come to w, in which each has the history that it has here.
+-- script's machines come to w, in which each has the history that it has here (Lamport 1978).
 pub record ArePlayedAgainBy (script : Script) (machines : List MachineState) (steps : List Step) (w : World SealedEntry)
     : Type 0 where
   pub merged : IsMerged machines steps

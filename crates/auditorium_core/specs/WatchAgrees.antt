@@ -12,7 +12,7 @@ use Rattle.live_auditor.specs.Summary.{Summary}
 use Rattle.auditorium_core.specs.declared.status.Status.TheVariants as status
 use Rattle.auditorium_core.specs.HonestPlace.{OnEachPlace}
 use Rattle.auditorium_core.specs.Lines.{Answer, refused_answer}
-use Rattle.auditorium_core.specs.Audit.{source_named, IsAuditOver}
+use Rattle.auditorium_core.specs.Audit.{source_named, IsAuditOver, IsSound}
 use Rattle.auditorium_core.specs.HonestAudit.{IsOfReport}
 use Rattle.auditorium_core.specs.ReportAnswers.{report_answer}
 use Rattle.auditorium_core.specs.Watch.{IsWatchOver, watch_line, watch_lines}
@@ -27,12 +27,14 @@ summary_of report = record {
   verdicts = report.verdicts;
 }
 
--- The audit's answer is that of this report, the files' own, and has the status of `watch`. Where
--- an entry is kept, the last line of `watch` is what the report says of all of them.
+-- The audit's answer is that of this report, the files' own, whose verdicts mean what they say, and
+-- has the status of `watch`. Where an entry is kept, the last line of `watch` is what the report says
+-- of all of them: so what it counts as unsettled is really open.
 pub record AgreesWithAudit (roster rules : List ℕ) (logs : List (List ℕ))
     (files : List (Option (List ℕ))) (watched audited : Answer) : Type 0 where
   pub report : AuditReport
   pub given : GivesReport roster (source_named rules) logs files (Ok report)
+  pub sound : IsSound report
   pub audit : audited ≡ report_answer report
   pub status : watched.status ≡ audited.status
   pub last : entries_of report.logs ≢ [] → (earlier : List ℕ)

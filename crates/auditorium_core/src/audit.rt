@@ -1,9 +1,9 @@
 // The command `audit`: the report on a polling place from whatever logs survive.
-ghost use Rattle.std.specs.Prelude.{◌≡◌, ◌≢◌, ℕ, List, codes, map, IfOk, string_bytes};
+ghost use Rattle.std.specs.Prelude.{◌≡◌, ◌≢◌, ℕ, List, Option, Ok, codes, map, IfOk, string_bytes};
 ghost use Rattle.evidence.specs.Reading.{IsReadFrom};
 ghost use Rattle.auditor.specs.Audits.{GivesReport, audit_files};
 ghost use Rattle.auditor.specs.Report.{report_of};
-ghost use Rattle.auditor.specs.Sources.{source_of};
+ghost use Rattle.auditor.specs.Sources.{RuleSource, source_of};
 ghost use Rattle.auditorium_core.specs.Audit.{source_named, IsAuditOf};
 ghost use Rattle.auditorium_core.specs.ReportAnswers.{status_by};
 ghost use Rattle.auditorium_core.specs.Words.{audit};
@@ -58,9 +58,12 @@ pub(crate) fn status_by(outcome: Outcome) -> Status
     }
 }
 
-/// The answer of a report.
+/// The answer of a report that files give.
 fn answer_of(alloc: Global, report: &Report) -> Result<Answer, AllocError>
-    ensures told { IfOk result (IsAuditOf (report_of report.now)) }
+    ensures told { (roster : List ℕ) (source : RuleSource) (logs : List (List ℕ))
+        (files : List (Option (List ℕ))) →
+        GivesReport roster source logs files (Ok (report_of report.now)) →
+        IfOk result (IsAuditOf (report_of report.now)) }
     ensures status { IfOk result (λ answer. answer.status ≢ Status.Absent) }
 {
     let text = write_report(alloc, report)?;

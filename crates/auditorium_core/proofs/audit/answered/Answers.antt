@@ -27,5 +27,5 @@ returns-in_ok-answer_of-in-Ok g c = λ roster rules logs before after given.
     found_answered g.S.Store report_of names Gives (audit_parts roster rules logs).IsAnswer before after report
     (Ok answer) read
     (λ files gives. audit_right roster rules logs files answer
-    (inr (report_of report, gives, c.in_ok-answer_of-in-Ok.ensures.told)))
+    (inr (report_of report, gives, c.in_ok-answer_of-in-Ok.ensures.told roster source logs files gives)))
     c.in_ok-answer_of-in-Ok.ensures.status tt
