@@ -3,6 +3,8 @@
 #![tactic(auto)]
 
 #[cfg(test)]
+mod open_tests;
+#[cfg(test)]
 mod picture_tests;
 #[cfg(test)]
 mod places;

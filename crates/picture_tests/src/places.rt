@@ -11,10 +11,18 @@ use std::test::Fail;
 /// The letter of each entry, its maker, its number, its stamp, what it names, and its deed. In a
 /// first election b1 commits a ballot before b2 is activated (`d`, `e`, `f`); in a second it casts
 /// it, and the supervisor closes (`g` to `j`). `k` is another first entry, and `l` is a second one
-/// with the stamp of the first. Of one maker the numbers rise, as its key signs.
+/// with the stamp of the first. The others are of no honest place: some name what no entry bears
+/// (`?`). Of one maker the numbers rise, as its key signs.
 const ENTRIES: &str = "\
 a|0|0|1||(6:opened)
 k|0|0|1||(6:closed)
+m|1|0|1||(4:cast1:132:ballots have thirty-two octets..)
+n|0|0|2|m|(9:authorise1:11:1)
+p|0|0|2|?|(9:authorise1:11:1)
+q|0|0|2|?|(9:authorise1:91:1)
+r|1|0|2|?|(8:activate1:1)
+o|0|1|3|?|(6:closed)
+s|0|1|2|?|(6:closed)
 b|0|1|2|a|(9:authorise1:11:1)
 l|0|1|1|a|(9:authorise1:11:1)
 c|0|2|3|b|(9:authorise1:21:2)
@@ -91,12 +99,17 @@ fn made_of(made: &[Made], letter: u8) -> Result<&Made, Fail> {
     }
 }
 
-/// The atoms of the digests of the entries with these letters.
+/// The atoms of the digests of the entries with these letters. `?` is the greatest digest, which no
+/// entry bears.
 fn names_of(alloc: Global, made: &[Made], letters: &str) -> Result<Vec<u8>, Fail> {
     let mut atoms = Vec::new(alloc);
     for letter in letters.as_bytes() {
         atoms.extend_from_slice(b"32:")?;
-        atoms.extend_from_slice(&made_of(made, *letter)?.digest)?;
+        if *letter == b'?' {
+            atoms.extend_from_slice(&[255; 32])?;
+        } else {
+            atoms.extend_from_slice(&made_of(made, *letter)?.digest)?;
+        }
     }
     Ok(atoms)
 }
@@ -224,17 +237,32 @@ fn log_of(alloc: Global, place: &Place, name: &str) -> Result<Vec<u8>, Fail> {
     Ok(log)
 }
 
-/// The report by the standard rules on the logs of these names.
-pub(crate) fn report_on(alloc: Global, place: &Place, logs: &str) -> Result<Report, Fail> {
+/// The report on the logs of these names, by the standard rules or by these.
+pub(crate) fn report_by(
+    alloc: Global,
+    place: &Place,
+    logs: &str,
+    rules: Option<&str>,
+) -> Result<Report, Fail> {
     let mut store = MemoryStore::make(alloc, Vec::new(alloc), Vec::new(alloc));
     let mut names = Vec::new(alloc);
+    let mut source = RulesFrom::Standard;
     store.place(alloc, "roster", &place.roster)?;
+    if let Some(text) = rules {
+        store.place(alloc, "rules", text.as_bytes())?;
+        source = RulesFrom::File("rules");
+    }
     for name in logs.split(' ') {
         store.place(alloc, name, &log_of(alloc, place, name)?)?;
         names.push(String::from_str(alloc, name)?)?;
     }
-    match audit(alloc, &mut store, "roster", RulesFrom::Standard, &names) {
+    match audit(alloc, &mut store, "roster", source, &names) {
         Ok(report) => Ok(report),
         Err(_) => Err(Fail::from("the logs are audited")),
     }
+}
+
+/// The report by the standard rules on the logs of these names.
+pub(crate) fn report_on(alloc: Global, place: &Place, logs: &str) -> Result<Report, Fail> {
+    report_by(alloc, place, logs, None)
 }
