@@ -6,7 +6,7 @@ use Rattle.hall_outside.specs.declared.reading.FileFault.{FileFault}
 use Rattle.hall_outside.specs.declared.reading.FileFault.TheVariants.{Absent, TooLong, ReadFault, Memory}
 use Rattle.hall_outside.specs.declared.stores.Store.{Ghosts as StoreGhosts}
 use Rattle.hall_outside.specs.Files.{Files, OnFile}
-use Rattle.hall_outside.specs.ReadFile.{IsFound, IsRead, OnReadFile}
+use Rattle.hall_outside.specs.ReadFile.{IsFound, OnReadFile}
 
 -- some file is as it was found
 pub found_file : (limit : ℕ) (found : Result (List ℕ) FileFault) → (file : Option (List ℕ)) × IsFound limit found file

@@ -29,7 +29,8 @@ IsLastRead limit before (Ok (taken.Bytes n)) found =
 IsLastRead limit before (Err failed) found = found ≡ Err ReadFault
 
 -- Reads of `size` bytes each, one where the last one ended, up to the last. What is found is the
--- bytes that they gave, joined in their order, or the refusal to which the last answer leads.
+-- bytes that they gave, joined in their order, or the refusal to which the last answer leads (POSIX
+-- `read`).
 pub data ReadsOn {S : Type 0} (read : ℕ → ℕ → S → Result Taken Failed → List ℕ → S → Type 0) (size limit : ℕ)
     : List ℕ → S → Result (List ℕ) FileFault → S → Type 0 where
   ends : (before : List ℕ) (old new : S) (answer : Result Taken Failed) (given : List ℕ)

@@ -11,7 +11,8 @@ abbrev pub IsPartFrom : ℕ → List ℕ → List ℕ → Type 0
 IsPartFrom at part file =
     (part ≡ take (length part) (drop at file)) × ((length part ≡ 0) ↔ (length file ≤ at))
 
--- what the answer of a read says of the buffer and, where files are exposed, of the file
+-- what the answer of a read says of the buffer and, where files are exposed, of the file (POSIX
+-- `pread`)
 abbrev pub IsTaken : Option Files → List ℕ → ℕ → List ℕ → List ℕ → Taken → Type 0
 IsTaken files name at old new Absent = (new ≡ old) × OnFile files name (λ file. file ≡ None)
 IsTaken files name at old new (Bytes n) =

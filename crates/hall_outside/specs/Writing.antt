@@ -4,7 +4,7 @@ use Rattle.std.specs.Prelude.{Option, option_map, unwrap_or}
 use Rattle.hall_outside.specs.declared.stores.Failed.{Failed}
 use Rattle.hall_outside.specs.Files.{Files, file_set}
 
--- how many bytes of a piece were taken: at least one, at most all
+-- how many bytes of a piece were taken: at least one, at most all (POSIX `write`)
 pub record IsCountOf (piece : List ℕ) (n : ℕ) : Type 0 where
   pub some : 0 < n
   pub at_most : n ≤ length piece

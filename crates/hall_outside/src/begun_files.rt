@@ -2,9 +2,13 @@
 ghost use Rattle.std.specs.Prelude.{◌<◌, length, IfOk};
 ghost use Rattle.hall_outside.specs.Writing.{IsCountOf};
 
+use crate::calls::{look_for, remove, rename};
 use crate::failure::Failure;
-use crate::new_files::{folder_of, kept_bits, new_file, set_bits, write_other_name};
+use crate::new_files::{folder_of, new_file, write_name_aside, write_other_name};
 use crate::read_files::{ROOM, ReadFiles};
+use crate::replacing::{
+    FRONT, Old, is_secret, keep_owner, kept_bits, replaced, require_same_kind, set_bits,
+};
 use std::alloc::{AllocError, Global};
 use std::fs::{self, File};
 use std::io::{self, ErrorKind, Write};
@@ -14,13 +18,15 @@ use std::rt::Files;
 const FILES: usize = 17;
 
 /// Room for a file that is being written: its name, the other name that it has until it is put in
-/// place, the permission bits that it will have if not the default ones, and its handle. It is free
-/// where there is no handle.
+/// place, the file that it replaces, its first bytes, and its handle. It is free where there is no
+/// handle.
 #[derive(Drop)]
 struct Begun {
     name: String,
     other_name: String,
-    bits: Option<u32>,
+    old: Option<Old>,
+    front: [u8; FRONT],
+    front_len: usize,
     file: Option<File>,
 }
 
@@ -28,9 +34,15 @@ struct Begun {
 ///
 /// Each is locked by the system as long as its handle is open, which ends with the program at the
 /// latest. So a file of another name that nobody has locked was left by a program that was ended.
+///
+/// Where a file of a set says which others belong to it, it is the mark of the set: it is put in
+/// place last, and the one that it replaces is set aside first. So the set is old, or new, or has
+/// no mark, and never is mixed.
 #[derive(Drop)]
 pub(crate) struct BegunFiles {
     places: Vec<Begun>,
+    /// The name that a replaced mark has meanwhile.
+    aside: String,
 }
 
 impl BegunFiles {
@@ -40,7 +52,10 @@ impl BegunFiles {
         for _ in 0..FILES {
             places.push(Begun::make(alloc)?)?;
         }
-        Ok(BegunFiles { places })
+        Ok(BegunFiles {
+            places,
+            aside: String::with_capacity(alloc, ROOM)?,
+        })
     }
 
     /// Begins the file, empty, under its other name. It fails where the file was read, and another
@@ -75,9 +90,7 @@ impl BegunFiles {
     {
         for begun in self.places.iter_mut() {
             if begun.is_named(name) {
-                if let Some(file) = &mut begun.file {
-                    return write_some(file, piece);
-                }
+                return begun.append(piece);
             }
         }
         Err(io::Error::from(ErrorKind::NotFound))
@@ -94,47 +107,147 @@ impl BegunFiles {
         }
     }
 
-    /// Flushes the files to the disk, and renames them in order. Those that aren't renamed are
-    /// removed.
+    /// Flushes the files to the disk, and renames them in order, the mark of a set last. Those that
+    /// aren't renamed are removed.
     pub fn place<R: Files<File = File> + AllocGlobal>(
         &mut self,
         rt: &R,
     ) -> Result<(), Option<Failure>> {
-        let mut renamed = 0;
-        let placed = self.flush_and_rename(rt, &mut renamed);
-        self.discard_from(rt, renamed);
+        let mut progress = Progress {
+            set_aside: None,
+            renamed: 0,
+        };
+        let placed = self.place_in_order(rt, &mut progress);
+        self.end_aside(rt, &progress);
+        self.discard_from(rt, progress.renamed);
         for begun in self.places.iter_mut() {
             begun.file = None;
         }
         placed
     }
 
-    /// Counts the files that were renamed.
-    fn flush_and_rename<R: Files<File = File> + AllocGlobal>(
-        &self,
+    fn place_in_order<R: Files<File = File> + AllocGlobal>(
+        &mut self,
         rt: &R,
-        renamed: &mut usize,
+        progress: &mut Progress,
     ) -> Result<(), Option<Failure>> {
+        let count = self.count();
+        let mark = match self.move_mark_to_the_end(count) {
+            Ok(mark) => mark,
+            Err(refused) => {
+                return Err(Failure::new(rt.alloc(), "writing", "files", io::Error::from(refused)));
+            }
+        };
         for begun in self.places.iter() {
-            if let Err(reason) = begun.flush() {
+            if let Err(reason) = begun.flush(rt) {
                 return Err(begun.failure(rt.alloc(), reason));
             }
         }
-        let mut folder = None;
+        self.rename_all(rt, count, mark, progress)
+    }
+
+    fn count(&self) -> usize {
+        let mut count = 0usize;
         for begun in self.places.iter() {
-            if begun.file.is_none() {
-                break;
+            if begun.file.is_some() {
+                count = count.saturating_add(1);
             }
-            if let Err(reason) = begun.rename(rt, &mut folder) {
+        }
+        count
+    }
+
+    /// The place of the mark of a set, where the first of several files is one. It is the last one
+    /// then.
+    fn move_mark_to_the_end(&mut self, count: usize) -> Result<Option<usize>, AllocError> {
+        let Some(first) = self.places.first() else {
+            return Ok(None);
+        };
+        if count < 2 || !first.is_mark() {
+            return Ok(None);
+        }
+        self.aside.clear();
+        write_name_aside(&mut self.aside, first.name.as_str())?;
+        for at in 1..count {
+            if at < self.places.len() {
+                self.places.swap(at - 1, at);
+            }
+        }
+        Ok(Some(count - 1))
+    }
+
+    /// Counts the files that were renamed.
+    fn rename_all<R: Files<File = File> + AllocGlobal>(
+        &self,
+        rt: &R,
+        count: usize,
+        mark: Option<usize>,
+        progress: &mut Progress,
+    ) -> Result<(), Option<Failure>> {
+        let mut folder = None;
+        if let Some(at) = mark {
+            if let Some(begun) = self.places.get(at) {
+                if let Err(reason) = self.set_aside(rt, begun, &mut folder) {
+                    return Err(begun.failure(rt.alloc(), reason));
+                }
+                progress.set_aside = mark;
+            }
+        }
+        let mut is_after = mark.is_some();
+        for (at, begun) in self.places.iter().take(count).enumerate() {
+            let is_mark = mark == Some(at);
+            if let Err(reason) = begun.rename(rt, &mut folder, is_after || is_mark) {
                 return Err(begun.failure(rt.alloc(), reason));
             }
-            *renamed = renamed.saturating_add(1);
+            progress.renamed = progress.renamed.saturating_add(1);
+            is_after = is_secret(begun.name.as_str());
         }
         match flush_folder(&folder) {
             Ok(()) => Ok(()),
             Err(reason) => Err(Failure::new(rt.alloc(), "writing", name_of(&folder), reason)),
         }
     }
+
+    /// Sets the mark aside that is to be replaced, or removes one that an ended program set aside.
+    fn set_aside<'a, R: Files<File = File>>(
+        &self,
+        rt: &R,
+        mark: &'a Begun,
+        folder: &mut Option<Folder<'a>>,
+    ) -> io::Result<()> {
+        mark.enter_folder(rt, folder)?;
+        if mark.old.is_some() {
+            return rename(rt, mark.name.as_str(), self.aside.as_str());
+        }
+        match look_for(rt, self.aside.as_str())? {
+            Some(_) => remove(rt, self.aside.as_str()),
+            None => Ok(()),
+        }
+    }
+
+    /// The mark that was set aside gets its name back where no file of the set was renamed, and is
+    /// removed where one was.
+    fn end_aside<R: Files<File = File>>(&self, rt: &R, progress: &Progress) {
+        let Some(at) = progress.set_aside else {
+            return;
+        };
+        if let Some(mark) = self.places.get(at) {
+            if mark.old.is_some() {
+                let aside = self.aside.as_str();
+                let _ = match progress.renamed {
+                    0 => rename(rt, aside, mark.name.as_str()),
+                    _ => remove(rt, aside),
+                };
+            }
+        }
+    }
+}
+
+/// How far files are put in place: the place of the mark, once the old one is set aside, and how
+/// many files were renamed.
+#[derive(Clone, Copy)]
+struct Progress {
+    set_aside: Option<usize>,
+    renamed: usize,
 }
 
 impl Begun {
@@ -142,13 +255,23 @@ impl Begun {
         Ok(Begun {
             name: String::with_capacity(alloc, ROOM)?,
             other_name: String::with_capacity(alloc, ROOM)?,
-            bits: None,
+            old: None,
+            front: [0; FRONT],
+            front_len: 0,
             file: None,
         })
     }
 
     fn is_named(&self, name: &str) -> bool {
         self.file.is_some() && self.name.as_str() == name
+    }
+
+    /// Whether the file says which others belong to it: a roster of a set of logs, and an office
+    /// that is made with its key. An office that is replaced isn't one: its new number is in place
+    /// before what was signed with the old one.
+    fn is_mark(&self) -> bool {
+        let name = self.name.as_str();
+        name.ends_with(".roster") || is_secret(name) && self.old.is_none()
     }
 
     /// The names are kept before the file is made. Once it is locked, no other program of this kind
@@ -163,8 +286,9 @@ impl Begun {
         self.name.push_str(name)?;
         self.other_name.clear();
         write_other_name(&mut self.other_name, name)?;
-        self.bits = kept_bits(rt, name)?;
-        self.file = Some(new_file(rt, self.other_name.as_str(), self.bits)?);
+        self.old = replaced(rt, read, name)?;
+        self.front_len = 0;
+        self.file = Some(new_file(rt, self.other_name.as_str(), self.bits())?);
         let unchanged = read.require_unchanged(rt, name);
         if unchanged.is_err() {
             self.discard(rt);
@@ -172,34 +296,79 @@ impl Begun {
         unchanged
     }
 
-    fn empty(&self) -> io::Result<()> {
+    /// The permission bits that the file will have if not the default ones.
+    fn bits(&self) -> Option<u32> {
+        kept_bits(self.name.as_str(), &self.old)
+    }
+
+    fn empty(&mut self) -> io::Result<()> {
+        self.front_len = 0;
         match &self.file {
             Some(file) => file.set_len(0),
             None => Ok(()),
         }
     }
 
+    fn append(&mut self, piece: &[u8]) -> io::Result<usize>
+        requires { 0 < length piece.now }
+        ensures { IfOk result (IsCountOf piece.now) }
+    {
+        let Some(file) = &mut self.file else {
+            return Err(io::Error::from(ErrorKind::NotFound));
+        };
+        let count = write_some(file, piece)?;
+        for byte in piece[..count].iter() {
+            if self.front_len >= FRONT {
+                break;
+            }
+            self.front[self.front_len] = *byte;
+            self.front_len += 1;
+        }
+        Ok(count)
+    }
+
     /// Removes the file while it is still locked.
     fn discard<R: Files>(&mut self, rt: &R) {
         if self.file.is_some() {
-            let _ = fs::remove_file(rt, self.other_name.as_str());
+            let _ = remove(rt, self.other_name.as_str());
         }
         self.file = None;
     }
 
-    /// Sets the permissions of the file, and flushes it to the disk.
-    fn flush(&self) -> io::Result<()> {
+    /// Gives the file its owner and permissions, and flushes it to the disk. It fails where the
+    /// file that it replaces is of another kind.
+    fn flush<R: Files<File = File>>(&self, rt: &R) -> io::Result<()> {
         let Some(file) = &self.file else {
             return Ok(());
         };
-        if let Some(bits) = self.bits {
+        if let Some(old) = &self.old {
+            let front = &self.front[..self.front_len.min(FRONT)];
+            require_same_kind(rt, self.name.as_str(), front)?;
+            keep_owner(file, old)?;
+        }
+        if let Some(bits) = self.bits() {
             set_bits(file, bits)?;
         }
         file.sync_all()
     }
 
-    /// Renames the file, once the folder of the file before is flushed, where it is another one.
+    /// Renames the file. The folder of the file before is flushed first where it is another one, or
+    /// where the file is to come after that one on the disk too.
     fn rename<'a, R: Files<File = File>>(
+        &'a self,
+        rt: &R,
+        folder: &mut Option<Folder<'a>>,
+        is_after: bool,
+    ) -> io::Result<()> {
+        if is_after {
+            flush_folder(folder)?;
+        }
+        self.enter_folder(rt, folder)?;
+        rename(rt, self.other_name.as_str(), self.name.as_str())
+    }
+
+    /// Opens the folder of the file, once the one before is flushed, where it is another one.
+    fn enter_folder<'a, R: Files<File = File>>(
         &'a self,
         rt: &R,
         folder: &mut Option<Folder<'a>>,
@@ -212,7 +381,7 @@ impl Begun {
                 file: open_folder(rt, path)?,
             });
         }
-        fs::rename(rt, self.other_name.as_str(), self.name.as_str())
+        Ok(())
     }
 
     fn failure(&self, alloc: Global, reason: io::Error) -> Option<Failure> {

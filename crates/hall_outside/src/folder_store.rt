@@ -22,13 +22,21 @@ use std::rt::Files;
 /// or a flush fails, all are given up and removed; where a rename does, those before it stand. Only
 /// a file that was created since the last `finish` is appended to.
 ///
+/// Of several files, a first one that is a roster, or an office that wasn't there before, is
+/// renamed last, and the roster that it replaces loses its name before all. So a set of files is
+/// old, or new, or has no roster. Nor is a file read after another one that was changed since it
+/// was read.
+///
 /// The other name of a file is always the same, and the system's lock is on it. So a second program
 /// that writes the file fails, and what a program left there that was ended is removed by the next.
 /// Nor is a file created that was read since the last `finish`, if another program has written it
 /// meanwhile.
 ///
-/// A replaced file keeps its permission bits, and a link is replaced and not followed. A file whose
-/// name ends with `.office` holds a secret: only its owner can read it.
+/// Only a regular file is replaced that its owner may write, that wasn't read since the last
+/// `finish`, and that isn't of another kind that commands write. It keeps its permission bits and,
+/// where the system allows that, its owner. A file whose name ends with `.office` holds a secret:
+/// only its owner can read it, it is neither read nor replaced where it is a link or has another
+/// name too, and it is replaced though it was read.
 #[derive(Drop)]
 pub struct FolderStore<'a, R> {
     rt: &'a R,

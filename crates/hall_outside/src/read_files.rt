@@ -1,5 +1,6 @@
 // Files that were read, so that none is replaced that another program has written since.
 
+use crate::calls::again;
 use std::alloc::{AllocError, Global};
 use std::fs::{self, Metadata};
 use std::io::{self, ErrorKind};
@@ -14,12 +15,13 @@ const FILES: usize = 19;
 pub(crate) const ROOM: usize = 1_152;
 
 /// What distinguishes a file from those that had its name before and from itself before it was
-/// written to: its device and its number there, and when its bytes and its entry were last changed,
-/// in seconds and nanoseconds.
+/// written to: its device and its number there, whether it is a regular file, and when its bytes
+/// and its entry were last changed, in seconds and nanoseconds.
 #[derive(Clone, Copy, PartialEq, Eq)]
 pub(crate) struct Identity {
     device: u64,
     number: u64,
+    is_regular: bool,
     written: (i64, i64),
     changed: (i64, i64),
 }
@@ -29,6 +31,7 @@ impl Identity {
         Identity {
             device: file.dev(),
             number: file.ino(),
+            is_regular: file.is_file(),
             written: (file.mtime(), file.mtime_nsec()),
             changed: (file.ctime(), file.ctime_nsec()),
         }
@@ -97,24 +100,55 @@ impl ReadFiles {
         Ok(())
     }
 
+    /// Whether the file was read, under whatever name.
+    pub fn has(&self, found: &Metadata) -> bool {
+        for file in self.places.iter().take(self.count) {
+            if let Some(read) = &file.found {
+                if read.device == found.dev() && read.number == found.ino() {
+                    return true;
+                }
+            }
+        }
+        false
+    }
+
     /// Fails with `ResourceBusy` where the name was read, and what it names now isn't what it named
     /// then.
     pub fn require_unchanged<R: Files>(&self, rt: &R, name: &str) -> io::Result<()> {
         for file in self.places.iter().take(self.count) {
             if file.name.as_str() == name && file.found != identity_at(rt, name)? {
-                return Err(io::Error::new(
-                    ErrorKind::ResourceBusy,
-                    "another program has written it since it was read",
-                ));
+                return Err(busy("another program has written it since it was read"));
+            }
+        }
+        Ok(())
+    }
+
+    /// Fails with `ResourceBusy` where a regular file that was read isn't what its name stands for
+    /// now. So files that are replaced together are read together: all old, or all new.
+    pub fn require_all_unchanged<R: Files>(&self, rt: &R) -> io::Result<()> {
+        for file in self.places.iter().take(self.count) {
+            if is_regular(&file.found) && file.found != identity_at(rt, file.name.as_str())? {
+                return Err(busy("a file that was read before it has changed since: try again"));
             }
         }
         Ok(())
     }
 }
 
+fn is_regular(found: &Option<Identity>) -> bool {
+    match found {
+        Some(found) => found.is_regular,
+        None => false,
+    }
+}
+
+fn busy(why: &str) -> io::Error {
+    io::Error::new(ErrorKind::ResourceBusy, why)
+}
+
 /// The file of this name, if there is one.
 fn identity_at<R: Files>(rt: &R, name: &str) -> io::Result<Option<Identity>> {
-    match fs::metadata(rt, name) {
+    match again(|| fs::metadata(rt, name)) {
         Ok(found) => Ok(Some(Identity::of(&found))),
         Err(error) if error.kind() == ErrorKind::NotFound => Ok(None),
         Err(error) => Err(error),

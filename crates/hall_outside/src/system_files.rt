@@ -3,10 +3,12 @@ ghost use Rattle.std.specs.Prelude.{◌≤◌, [], length, IfOk, None};
 ghost use Rattle.hall_outside.specs.declared.stores.Taken.TheVariants.{Bytes};
 ghost use Rattle.hall_outside.specs.Reading.{IsTaken};
 
+use crate::calls::again;
 use crate::read_files::{Identity, ROOM, ReadFiles};
+use crate::replacing::open_to_read;
 use crate::stores::Taken;
 use std::alloc::{AllocError, Global};
-use std::fs::{self, File};
+use std::fs::File;
 use std::io::{self, ErrorKind, Read, Seek, SeekFrom};
 use std::rt::Files;
 
@@ -98,14 +100,15 @@ fn read_on<F: Read + Drop>(
     Ok(Taken::Bytes(count))
 }
 
-/// The file, open at this byte, or `None` where the system says that there is none.
+/// The file, open at this byte, or `None` where the system says that there is none. It fails where
+/// a file that was read before has changed.
 fn opened_at<R: Files<File = File>>(
     rt: &R,
     read: &mut ReadFiles,
     name: &str,
     at: u64,
 ) -> io::Result<Option<Reading<File>>> {
-    let mut file = match fs::open(rt, name) {
+    let mut file = match open_to_read(rt, name) {
         Ok(file) => file,
         Err(error) if error.kind() == ErrorKind::NotFound => {
             read.note(name, None)?;
@@ -113,7 +116,9 @@ fn opened_at<R: Files<File = File>>(
         }
         Err(error) => return Err(error),
     };
-    read.note(name, Some(Identity::of(&file.metadata()?)))?;
+    let found = again(|| file.metadata())?;
+    read.note(name, Some(Identity::of(&found)))?;
+    read.require_all_unchanged(rt)?;
     if at > 0 {
         file.seek(SeekFrom::Start(at))?;
     }
@@ -136,7 +141,7 @@ fn read_some<F: Read>(file: &mut F, into: &mut [u8]) -> io::Result<usize>
 }
 
 /// As `read`, again wherever a signal came first.
-fn read_through_signals<F: Read>(file: &mut F, into: &mut [u8]) -> io::Result<usize>
+pub(crate) fn read_through_signals<F: Read>(file: &mut F, into: &mut [u8]) -> io::Result<usize>
     ensures { IfOk result (λ n. n ≤ length into.new) }
 {
     for _ in 0..u64::MAX {

@@ -263,13 +263,139 @@ fn had_text(rt: &HostRuntime, name: &str, text: &str) -> Result<bool, Fail> {
     Ok(had)
 }
 
+/// The line that the store keeps of a file that it doesn't replace.
+fn refusal_of(rt: &HostRuntime, name: &str, text: &str) -> Result<String, Fail> {
+    let mut store = FolderStore::make(rt)?;
+    let _ = put_file(&mut store, name, text.as_bytes()).is_ok() && store.finish().is_ok();
+    line_of(rt.alloc(), store.failure())
+}
+
 #[test]
-fn a_link_is_replaced_and_not_followed(rt: HostRuntime) -> Result<(), Fail> {
+fn a_link_is_not_replaced_and_not_followed(rt: HostRuntime) -> Result<(), Fail> {
     assert!(rt; is_put(&rt, "outside-target", "target")?);
     symlink(&rt, "outside-target", "outside-link")?;
-    assert!(rt; is_put(&rt, "outside-link", "link")?);
+    let line = refusal_of(&rt, "outside-link", "link")?;
+    let want = "writing outside-link failed: it is a symbolic link: name the file that it leads to";
+    assert!(rt; line.as_str() == want);
+    assert!(rt; fs::symlink_metadata(&rt, "outside-link")?.is_symlink());
     assert!(rt; had_text(&rt, "outside-target", "target")?);
-    assert!(rt; had_text(&rt, "outside-link", "link")?);
+    fs::remove_file(&rt, "outside-link")?;
+    Ok(())
+}
+
+#[test]
+fn a_write_protected_file_is_not_replaced(rt: HostRuntime) -> Result<(), Fail> {
+    fs::write(&rt, "outside-protected", "old")?;
+    fs::set_permissions(&rt, "outside-protected", Permissions::from_mode(0o444))?;
+    let line = refusal_of(&rt, "outside-protected", "new")?;
+    let want = "writing outside-protected failed: \
+        it is write-protected: chmod u+w it, or name another file";
+    assert!(rt; line.as_str() == want);
+    assert!(rt; had_text(&rt, "outside-protected", "old")?);
+    Ok(())
+}
+
+#[test]
+fn what_was_read_is_not_replaced(rt: HostRuntime) -> Result<(), Fail> {
+    fs::write(&rt, "outside-input", "input")?;
+    let mut store = FolderStore::make(&rt)?;
+    assert!(rt; is_read_back(rt.alloc(), &mut store, "outside-input", "input".as_bytes()));
+    // Another name of the same place.
+    assert!(rt; store.create("./outside-input").is_err());
+    let line = line_of(rt.alloc(), store.failure())?;
+    let want = "writing ./outside-input failed: \
+        this command has read it: name another file to be written";
+    assert!(rt; line.as_str() == want);
+    assert!(rt; had_text(&rt, "outside-input", "input")?);
+    Ok(())
+}
+
+#[test]
+fn a_file_of_another_kind_is_not_replaced(rt: HostRuntime) -> Result<(), Fail> {
+    fs::write(&rt, "outside-log", "(3:log1:11:0)")?;
+    let line = refusal_of(&rt, "outside-log", "proof 1\n")?;
+    let want = "writing outside-log failed: \
+        it is a file of another kind: remove it, or name another file";
+    assert!(rt; line.as_str() == want);
+    assert!(rt; is_put(&rt, "outside-log", "(3:log1:12:0)")?);
+    assert!(rt; had_text(&rt, "outside-log", "(3:log1:12:0)")?);
+    Ok(())
+}
+
+/// Whether the office's file is read, and whether it is replaced.
+fn office_use(rt: &HostRuntime, name: &str) -> Result<(bool, bool), Fail> {
+    let mut store = FolderStore::make(rt)?;
+    let is_read = is_read_back(rt.alloc(), &mut store, name, "office".as_bytes());
+    Ok((is_read, is_put(rt, name, "office")?))
+}
+
+#[test]
+fn an_office_has_one_name(rt: HostRuntime) -> Result<(), Fail> {
+    assert!(rt; is_put(&rt, "outside-one.office", "office")?);
+    assert_eq!(rt; office_use(&rt, "outside-one.office")?, (true, true));
+    symlink(&rt, "outside-one.office", "outside-link.office")?;
+    assert_eq!(rt; office_use(&rt, "outside-link.office")?, (false, false));
+    let line = failure_of(&rt, "outside-link.office")?;
+    let want = "reading outside-link.office failed: \
+        it is a symbolic link: name the file that it leads to";
+    assert!(rt; line.as_str() == want);
+    assert_eq!(rt; office_use(&rt, "outside-one.office")?, (true, true));
+    fs::remove_file(&rt, "outside-link.office")?;
+    fs::hard_link(&rt, "outside-one.office", "outside-two.office")?;
+    assert_eq!(rt; office_use(&rt, "outside-one.office")?, (false, false));
+    assert_eq!(rt; office_use(&rt, "outside-two.office")?, (false, false));
+    let line = failure_of(&rt, "outside-one.office")?;
+    let want = "reading outside-one.office failed: \
+        it has another name too (a hard link): remove one of the two";
+    assert!(rt; line.as_str() == want);
+    fs::remove_file(&rt, "outside-two.office")?;
+    assert_eq!(rt; office_use(&rt, "outside-one.office")?, (true, true));
+    fs::remove_file(&rt, "outside-one.office")?;
+    Ok(())
+}
+
+#[test]
+fn files_that_change_between_reads_are_refused(rt: HostRuntime) -> Result<(), Fail> {
+    assert!(rt; is_put(&rt, "outside-set.roster", "old")?);
+    assert!(rt; is_put(&rt, "outside-set.log", "old")?);
+    let mut reader = FolderStore::make(&rt)?;
+    assert!(rt;
+        is_read_back(
+            rt.alloc(),
+            &mut reader,
+            "outside-set.roster",
+            "old".as_bytes()
+        )
+    );
+    assert!(rt; is_put(&rt, "outside-set.roster", "new")?);
+    assert!(rt; reader.read_at("outside-set.log", 0, &mut [0; 8]).is_err());
+    let line = line_of(rt.alloc(), reader.failure())?;
+    let want = "reading outside-set.log failed: \
+        a file that was read before it has changed since: try again";
+    assert!(rt; line.as_str() == want);
+    fs::remove_file(&rt, "outside-set.roster")?;
+    fs::remove_file(&rt, "outside-set.log")?;
+    Ok(())
+}
+
+#[test]
+fn a_set_is_replaced_whole_or_keeps_its_roster(rt: HostRuntime) -> Result<(), Fail> {
+    fs::write(&rt, "outside-old.roster", "old roster")?;
+    fs::write(&rt, "outside-old.log", "old log")?;
+    let mut store = FolderStore::make(&rt)?;
+    assert!(rt; put_file(&mut store, "outside-old.roster", "new roster".as_bytes()).is_ok());
+    assert!(rt; put_file(&mut store, "outside-old.log", "new log".as_bytes()).is_ok());
+    // A folder has the log's name now: its rename fails, once the old roster is set aside.
+    fs::remove_file(&rt, "outside-old.log")?;
+    fs::create_dir(&rt, "outside-old.log")?;
+    assert!(rt; store.finish().is_err());
+    assert!(rt; has_bytes(&rt, "outside-old.roster", "old roster".as_bytes())?);
+    fs::remove_dir(&rt, "outside-old.log")?;
+    assert!(rt; put_file(&mut store, "outside-old.roster", "new roster".as_bytes()).is_ok());
+    assert!(rt; put_file(&mut store, "outside-old.log", "new log".as_bytes()).is_ok());
+    assert!(rt; store.finish().is_ok());
+    assert!(rt; had_text(&rt, "outside-old.roster", "new roster")?);
+    assert!(rt; had_text(&rt, "outside-old.log", "new log")?);
     Ok(())
 }
 
