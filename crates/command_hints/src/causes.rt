@@ -128,7 +128,7 @@ pub fn sentence(cause: Cause) -> &'static str {
         Cause::TooMany =>
             "the logs have more than 16,384 distinct entries, or than 1,024 for watch",
         Cause::Collision => "two entries with different texts have one digest",
-        Cause::NoEntry => "no entry that survives in the logs is the one that this word means",
+        Cause::NoEntry => "no surviving entry is meant by this word",
         Cause::Exists => "an office's file is never overwritten; take another name",
         Cause::Office => {
             "an office's file is (6:office1:132: with its 32 bytes, and a number up to 32,768; one \
@@ -235,9 +235,7 @@ fn proof_sentence(why: ProofWhy) -> &'static str {
         ProofWhy::NotParent => {
             "the entry after a colon doesn't name the one before the colon in the logs"
         }
-        ProofWhy::NotClosed => {
-            "an entry of the line names one that stands before no colon of the line"
-        }
+        ProofWhy::NotClosed => { "an ancestor is missing from this line" }
     }
 }
 

@@ -15,7 +15,7 @@ pub(crate) const COMMANDS: &[&str] = &[
     "audit ROSTER RULES LOG..: the report on the logs that survive",
     "watch ROSTER RULES LOG..: what an audit says after each entry",
     "prove ROSTER PROOF LOG..: writes a proof by which others check an audit",
-    "check ROSTER RULES PROOF LOG..: what rules come to, by a proof",
+    "check ROSTER RULES PROOF LOG..: judges rules by a proof",
     "make N: prints the script of a day of N sessions",
     "demo N: plays such a day, loses logs, counts an audit",
     "office NAME SEED: makes an office's key: NAME.office and NAME.key",
@@ -27,17 +27,33 @@ pub(crate) const COMMANDS: &[&str] = &[
 const WORDS: &[&str] = &[
     "LOG: a log's file, as play and run write it; LOG.. means 1 to 16 logs",
     "SCRIPT: a script's file",
-    "PREFIX: what the names of the written files begin with",
+    "PREFIX: the prefix of the names of the written files",
     "ROSTER: a roster's file, as play and run write it",
     "RULES: a file of rules, or the word standard",
     "PROOF: the file of a proof, which prove writes and check reads",
-    "X, Y: an entry: NAME.NUMBER, as b1.0, or its digest in 64 hexadecimal digits",
-    "N: from 1 to 800 sessions, in digits without a leading zero",
-    "NAME: an office's name; NAME.office is its secret file, and NAME.key its public key",
+    "X, Y: NAME.NUMBER, as b1.0, or an entry's digest in 64 lower-case hexadecimal digits",
+    "N: a number of sessions from 1 to 800, in digits without a leading zero",
+    "NAME: an office's name, which is part of its key; NAME.office is secret, NAME.key public",
     "SEED: 32 secret random bytes, in 64 lower-case hexadecimal digits",
     "FILE: any file of at most 67,108,864 bytes",
     "KEY: a file of an office's public key, as office writes it",
     "SIG: a file of a signature, as endorse writes it",
+];
+
+/// What to know about the keys of offices.
+const KEYS: &[&str] = &[
+    "an office's key is made of NAME and SEED, so give endorse the same NAME, folders included",
+    "SEED stays in the shell's history, and the list of processes shows it while office runs",
+    "so call office in a shell that keeps no history, on a machine used for nothing else",
+];
+
+/// What a user may have meant by a word that is no command.
+const MEANT: &[&str] = &[
+    "help: --help",
+    "version: --version",
+    "log: gaps",
+    "verify: endorsed",
+    "sign: endorse",
 ];
 
 /// What each exit status means, from 0 on.
@@ -86,19 +102,49 @@ pub(crate) fn words_after(command: &str) -> Option<&'static str> {
     None
 }
 
-/// What the words of this name are.
-pub(crate) fn meaning_of(name: &str) -> &'static str {
-    for &row in WORDS {
-        let (names, meaning) = row.split_once(": ").unwrap_or((row, ""));
+/// What the first row that has this name says of it.
+fn row_of(rows: &[&'static str], name: &str) -> Option<&'static str> {
+    for &row in rows {
+        let (names, text) = row.split_once(": ").unwrap_or((row, ""));
         if names.split(", ").any(|other| other == name) {
-            return meaning;
+            return Some(text);
         }
     }
-    ""
+    None
+}
+
+/// What the words of this name are.
+pub(crate) fn meaning_of(name: &str) -> &'static str {
+    row_of(WORDS, name).unwrap_or("")
+}
+
+/// The command, or the word for help, that a user may have meant by this word.
+pub(crate) fn meant_by(word: &str) -> Option<&'static str> {
+    row_of(MEANT, word)
+}
+
+/// Writes the names of the commands.
+pub(crate) fn write_names<W: fmt::Write>(f: &mut Formatter<W>) -> fmt::Result {
+    for (place, &row) in COMMANDS.iter().enumerate() {
+        f.write_str(if place == 0 { "" } else { ", " })?;
+        f.write_str(command_line(row).command)?;
+    }
+    Ok(())
+}
+
+/// Writes the usage line of this command, or that of all where it is none.
+pub(crate) fn write_usage<W: fmt::Write>(f: &mut Formatter<W>, command: &str) -> fmt::Result {
+    if let Some(wanted) = words_after(command) {
+        return write!(f, "usage: auditorium {command} {wanted}\n");
+    }
+    match command {
+        "--help" | "--version" => write!(f, "usage: auditorium {command}\n"),
+        _ => f.write_str("usage: auditorium COMMAND WORD..\n"),
+    }
 }
 
 /// Writes each command line with what it does, and what its words are.
-pub(crate) fn write_commands<W: fmt::Write>(f: &mut Formatter<W>) -> fmt::Result {
+fn write_commands<W: fmt::Write>(f: &mut Formatter<W>) -> fmt::Result {
     f.write_str("usage: auditorium COMMAND WORD..\ncommands:\n")?;
     for &row in COMMANDS {
         let CommandLine {
@@ -112,6 +158,10 @@ pub(crate) fn write_commands<W: fmt::Write>(f: &mut Formatter<W>) -> fmt::Result
     for &row in WORDS {
         let (word, meaning) = row.split_once(": ").unwrap_or((row, ""));
         write!(f, "  {word:<8} {meaning}\n")?;
+    }
+    f.write_str("keys of offices:\n")?;
+    for &row in KEYS {
+        write!(f, "  {row}\n")?;
     }
     Ok(())
 }

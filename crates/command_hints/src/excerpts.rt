@@ -7,38 +7,42 @@ const MOST: usize = 60;
 
 /// A line of a text, of which some bytes are marked.
 #[derive(Clone, Copy)]
-pub struct Excerpt<'a> {
+pub(crate) struct Excerpt<'a> {
     /// The number of the line, counted from 1.
     number: usize,
     /// The line's bytes before the mark, and those from it on.
     front: &'a [u8],
     back: &'a [u8],
-    /// Whether all of `back` is marked, or only its first byte.
-    is_whole: bool,
+    /// How many bytes of `back` are marked; one place at least is.
+    marked: usize,
+}
+
+/// The line with this number, counted from 1, if it has a byte.
+pub(crate) fn line_of(text: &[u8], number: usize) -> Option<&[u8]> {
+    let line = text
+        .split(|byte| *byte == b'\n')
+        .nth(number.checked_sub(1)?)?;
+    if line.is_empty() { None } else { Some(line) }
 }
 
 impl<'a> Excerpt<'a> {
-    /// The line with this number, counted from 1: all of it is marked, or its first byte outside
-    /// space to `~`.
-    pub(crate) fn of_line(text: &'a [u8], number: usize) -> Option<Excerpt<'a>> {
-        let line = text
-            .split(|byte| *byte == b'\n')
-            .nth(number.checked_sub(1)?)?;
-        if line.is_empty() {
-            return None;
-        }
-        let odd = line.iter().position(|byte| !is_plain(*byte));
-        let at = odd.unwrap_or(0);
+    /// The line with this number, of which `marked` bytes from the place on are marked.
+    pub(crate) fn of_line(
+        line: &'a [u8],
+        number: usize,
+        at: usize,
+        marked: usize,
+    ) -> Option<Excerpt<'a>> {
         Some(Excerpt {
             number,
             front: line.get(..at)?,
             back: line.get(at..)?,
-            is_whole: odd.is_none(),
+            marked,
         })
     }
 
     /// The line in which the byte at this place is, or after whose end the text ends too early.
-    pub(crate) fn of_byte(text: &'a [u8], at: usize) -> Option<Excerpt<'a>> {
+    pub(crate) fn of_byte(text: &'a [u8], at: usize, marked: usize) -> Option<Excerpt<'a>> {
         let front = text.get(..at)?;
         let back = text.get(at..)?;
         let ends = front.iter().filter(|byte| **byte == b'\n').count();
@@ -46,13 +50,13 @@ impl<'a> Excerpt<'a> {
             number: ends.saturating_add(1),
             front: front.rsplit(|byte| *byte == b'\n').next()?,
             back: back.split(|byte| *byte == b'\n').next()?,
-            is_whole: false,
+            marked,
         })
     }
 }
 
 /// Whether the byte is one from space to `~`.
-fn is_plain(byte: u8) -> bool {
+pub(crate) fn is_plain(byte: u8) -> bool {
     byte >= b' ' && byte <= b'~'
 }
 
@@ -73,7 +77,7 @@ fn first_of(bytes: &[u8]) -> (&[u8], bool) {
 }
 
 /// Writes the bytes, with a question mark for each that isn't plain.
-fn write_bytes<W: fmt::Write>(f: &mut Formatter<W>, bytes: &[u8]) -> fmt::Result {
+pub(crate) fn write_bytes<W: fmt::Write>(f: &mut Formatter<W>, bytes: &[u8]) -> fmt::Result {
     for byte in bytes {
         let shown = if is_plain(*byte) {
             char::from(*byte)
@@ -106,7 +110,7 @@ impl<'a> Display for Excerpt<'a> {
         write!(f, "{:>6} | ", "")?;
         write_row(f, ' ', before.len())?;
         write_row(f, ' ', front.len())?;
-        write_row(f, '^', if self.is_whole { back.len() } else { 1 })?;
+        write_row(f, '^', self.marked.min(back.len()).max(1))?;
         f.write_str("\n")
     }
 }

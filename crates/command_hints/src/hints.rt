@@ -29,10 +29,7 @@ pub fn hint_on<'a>(
     let line = line.strip_suffix('\n').unwrap_or(line);
     let (word, rest) = line.split_once(' ').unwrap_or((line, ""));
     match word {
-        "usage" => Some(Hint::Usage(match words {
-            Some(words) => slip_in(alloc, words),
-            None => Slip::NotText,
-        })),
+        "usage" => Some(Hint::Usage(slip_in(alloc, words))),
         "refused" => match refusal_in(program, words.unwrap_or(&[]), rest) {
             Some(refusal) => Some(Hint::Refused(refusal)),
             None => None,

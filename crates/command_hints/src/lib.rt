@@ -5,12 +5,15 @@
 mod causes;
 mod commands;
 mod excerpts;
+mod findings;
 mod hints;
+mod nearest;
 mod refusals;
+mod rule_words;
+mod script_words;
 mod slips;
 
 pub use causes::{Cause, sentence};
-pub use excerpts::Excerpt;
 pub use hints::{Hint, hint_on};
-pub use refusals::{Absence, Refusal};
+pub use refusals::{Absence, Explained, Refusal};
 pub use slips::Slip;

@@ -2,9 +2,13 @@
 
 use crate::causes::{Cause, proof_cause, roster_cause, rule_cause, script_cause, sentence};
 use crate::commands::{meaning_of, words_after};
-use crate::excerpts::Excerpt;
+use crate::excerpts::{Excerpt, line_of};
+use crate::findings::{Finding, Saying};
+use crate::rule_words::find_at;
+use crate::script_words::find_in_line;
 use roster::RosterFault;
-use std::fmt::{self, Display, Formatter};
+use std::alloc::Global;
+use std::fmt::{self, Display, Formatter, Write};
 
 /// An input that was refused.
 #[derive(Clone, Copy)]
@@ -18,6 +22,18 @@ pub struct Refusal<'a> {
     cause: Cause,
     /// What follows the cause: the digest of a collision.
     rest: &'a str,
+    /// What the help calls the file, if the words name it.
+    role: Option<&'static str>,
+    /// Whether the words name several logs.
+    has_logs: bool,
+}
+
+/// An input that was refused, and what its text shows.
+#[derive(Clone, Copy)]
+pub struct Explained<'a> {
+    refusal: Refusal<'a>,
+    saying: Saying<'a>,
+    excerpt: Option<Excerpt<'a>>,
 }
 
 /// A file that isn't there.
@@ -121,7 +137,36 @@ pub(crate) fn refusal_in<'a>(
         place: place.parse::<u64>().ok()?,
         cause: cause_of(words, name, cause)?,
         rest,
+        role: role_of_file(words, name),
+        has_logs: has_logs(words),
     })
+}
+
+/// Whether the words name more than one log.
+fn has_logs(words: &[String]) -> bool {
+    match words {
+        [command, others @ ..] => match words_after(command.as_str()) {
+            Some(wanted) => wanted.ends_with("..") && others.len() > wanted.split(' ').count(),
+            None => false,
+        },
+        [] => false,
+    }
+}
+
+/// The limit of a file that the help calls so.
+fn limit_of(role: &str) -> Option<&'static str> {
+    match role {
+        "SCRIPT" => Some("a script has at most 4,194,304 bytes"),
+        "ROSTER" => Some("a roster has at most 4,194,304 bytes"),
+        "RULES" => Some("a file of rules has at most 4,194,304 bytes"),
+        "LOG" => Some("a log has at most 67,108,864 bytes"),
+        "PROOF" => Some("a proof has at most 67,108,864 bytes"),
+        "FILE" => Some("a file that is signed has at most 67,108,864 bytes"),
+        "NAME" => Some("an office's file has at most 65,536 bytes"),
+        "KEY" => Some("a public key has at most 65,536 bytes"),
+        "SIG" => Some("a signature has at most 65,536 bytes"),
+        _ => None,
+    }
 }
 
 /// The absence of the file of this name, which the program wanted.
@@ -138,23 +183,52 @@ pub(crate) fn absence_of<'a>(
 }
 
 impl<'a> Refusal<'a> {
-    /// The file to which the place leads, if a line of it can be shown: a script, or a text of
-    /// rules.
+    /// The file whose text shows more: a script, a text of rules, or a file that is no log.
     pub fn text_file(&self) -> Option<&'a str> {
         match self.cause {
-            Cause::Script(_) | Cause::Rules(_) => Some(self.name),
+            Cause::Script(_) | Cause::Rules(_) | Cause::Header => Some(self.name),
             _ => None,
         }
     }
 
-    /// The line to which the place leads, of the text that the file has.
-    pub fn excerpt<'b>(&self, text: &'b [u8]) -> Option<Excerpt<'b>> {
+    /// The refusal with what its text shows, if that could be read.
+    pub fn explained(self, alloc: Global, text: Option<&'a [u8]>) -> Explained<'a> {
+        let (saying, excerpt) = match text {
+            Some(text) => self.shown(alloc, text).unwrap_or((Saying::Nothing, None)),
+            None => (Saying::Nothing, None),
+        };
+        Explained {
+            refusal: self,
+            saying,
+            excerpt,
+        }
+    }
+
+    /// What the text shows, with the line in which it is shown.
+    fn shown(self, alloc: Global, text: &'a [u8]) -> Option<(Saying<'a>, Option<Excerpt<'a>>)> {
         let place = usize::try_from(self.place).ok()?;
         match self.cause {
-            Cause::Script(_) => Excerpt::of_line(text, place),
-            Cause::Rules(_) => Excerpt::of_byte(text, place),
+            Cause::Script(why) => {
+                let line = line_of(text, place)?;
+                let Finding { saying, at, count } = find_in_line(alloc, why, text, line)?;
+                Some((saying, Excerpt::of_line(line, place, at, count)))
+            }
+            Cause::Rules(why) => {
+                let Finding { saying, at, count } = find_at(alloc, why, text, place)?;
+                Some((saying, Excerpt::of_byte(text, at, count)))
+            }
+            Cause::Header if text.is_empty() && self.has_logs => Some((Saying::EmptyLog, None)),
             _ => None,
         }
+    }
+
+    /// The sentence on the cause.
+    fn sentence(&self) -> &'static str {
+        let limit = match self.cause {
+            Cause::TooLong => self.role.and_then(|role| limit_of(role)),
+            _ => None,
+        };
+        limit.unwrap_or(sentence(self.cause))
     }
 
     /// Writes what the place counts, if it counts anything.
@@ -169,22 +243,41 @@ impl<'a> Refusal<'a> {
             _ => Ok(()),
         }
     }
-}
 
-impl<'a> Display for Refusal<'a> {
-    fn fmt<W: fmt::Write>(&self, f: &mut Formatter<W>) -> fmt::Result {
+    /// Writes the line on the refusal, with what is said of its text.
+    fn write<W: fmt::Write>(&self, f: &mut Formatter<W>, saying: Saying<'_>) -> fmt::Result {
         let program = self.program;
         let name = self.name;
         let cause = self.cause.word();
-        let text = sentence(self.cause);
         write!(f, "{program}: {name}")?;
         self.write_place(f)?;
-        write!(f, ", {cause}: {text}")?;
+        write!(f, ", {cause}: ")?;
+        if let Cause::NoEntry = self.cause {
+            write!(f, "no surviving entry is {name}")?;
+        } else {
+            saying.write(f, self.sentence())?;
+        }
         if !self.rest.is_empty() {
             let rest = self.rest;
             write!(f, ", {rest}")?;
         }
-        write!(f, "\n")
+        f.write_str("\n")
+    }
+}
+
+impl<'a> Display for Refusal<'a> {
+    fn fmt<W: fmt::Write>(&self, f: &mut Formatter<W>) -> fmt::Result {
+        self.write(f, Saying::Nothing)
+    }
+}
+
+impl<'a> Display for Explained<'a> {
+    fn fmt<W: fmt::Write>(&self, f: &mut Formatter<W>) -> fmt::Result {
+        self.refusal.write(f, self.saying)?;
+        match self.excerpt {
+            Some(excerpt) => write!(f, "{excerpt}"),
+            None => Ok(()),
+        }
     }
 }
 

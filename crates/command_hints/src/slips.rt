@@ -1,13 +1,13 @@
 //! What is wrong with a command line.
 
 use crate::commands::{
-    COMMANDS, command_line, meaning_of, words_after, write_commands, write_help,
+    COMMANDS, command_line, meaning_of, meant_by, words_after, write_help, write_names, write_usage,
 };
+use crate::nearest::Nearest;
 use hall_text::{decimal, digest_hex};
 use roster::is_name;
 use std::alloc::{AllocError, Global};
 use std::fmt::{self, Display, Formatter};
-use strsim::levenshtein;
 
 /// The most bytes of a word.
 const MAX_BYTES: usize = 1024;
@@ -15,10 +15,19 @@ const MAX_BYTES: usize = 1024;
 /// The most logs of a command.
 const MAX_LOGS: usize = 16;
 
-/// What is wrong with a command line: the first that applies, where the form of each word comes
-/// before what the words say.
+/// What is wrong with a command line. It is displayed with the usage line of the command that was
+/// meant.
 #[derive(Clone, Copy)]
-pub enum Slip<'a> {
+pub struct Slip<'a> {
+    wrong: Wrong<'a>,
+    /// The command that was meant, if that is known.
+    meant: &'a str,
+}
+
+/// What is wrong: the first that applies, where the form of each word comes before what the words
+/// say.
+#[derive(Clone, Copy)]
+enum Wrong<'a> {
     /// A word isn't text, so that the command line counts as one without words.
     NotText,
     /// Help is asked for, or the version.
@@ -33,24 +42,41 @@ pub enum Slip<'a> {
     Option(&'a str),
     /// The word has a byte outside `!` to `~`.
     NotPlain(&'a str),
-    /// The word is no command; the other is the one whose name is nearest.
-    NoCommand(&'a str, &'static str),
+    /// The word is no command; the other is what may have been meant.
+    NoCommand(&'a str, Option<&'static str>),
     /// This many words follow the command, which wants these.
     Count(&'a str, &'static str, usize),
+    /// This many logs are given to the command, which are too many.
+    TooManyLogs(&'a str, usize),
     /// The word isn't what the help says of the other.
     Meaning(&'a str, &'static str),
     /// Nothing is known to be wrong.
     Unknown,
 }
 
-/// What is wrong with the words, if anything is.
-pub(crate) fn slip_in(alloc: Global, words: &[String]) -> Slip<'_> {
+/// What is wrong with the words, if anything is; they are `None` where one isn't text.
+pub(crate) fn slip_in(alloc: Global, words: Option<&[String]>) -> Slip<'_> {
+    let Some(words) = words else {
+        return Slip {
+            wrong: Wrong::NotText,
+            meant: "",
+        };
+    };
+    let wrong = wrong_in(alloc, words);
+    let meant = match wrong {
+        Wrong::NoCommand(_, Some(name)) => name,
+        _ => words.first().map(|word| word.as_str()).unwrap_or(""),
+    };
+    Slip { wrong, meant }
+}
+
+fn wrong_in(alloc: Global, words: &[String]) -> Wrong<'_> {
     if asks_for_help(words) {
-        return Slip::Help;
+        return Wrong::Help;
     }
-    match slip_of_form(words) {
-        Some(slip) => slip,
-        None => slip_of_command(alloc, words),
+    match wrong_form(words) {
+        Some(wrong) => wrong,
+        None => wrong_command(alloc, words),
     }
 }
 
@@ -59,74 +85,80 @@ fn asks_for_help(words: &[String]) -> bool {
 }
 
 /// The first word that doesn't have the form of a word.
-fn slip_of_form(words: &[String]) -> Option<Slip<'_>> {
+fn wrong_form(words: &[String]) -> Option<Wrong<'_>> {
     for (before, word) in words.iter().enumerate() {
         let word = word.as_str();
         let place = before.saturating_add(1);
         if word.is_empty() {
-            return Some(Slip::Empty(place));
+            return Some(Wrong::Empty(place));
         }
         if word.len() > MAX_BYTES {
-            return Some(Slip::TooLong(place, word.len()));
+            return Some(Wrong::TooLong(place, word.len()));
         }
         if word.starts_with('-') {
-            return Some(Slip::Option(word));
+            return Some(Wrong::Option(word));
         }
         if !word.bytes().all(|byte| byte >= b'!' && byte <= b'~') {
-            return Some(Slip::NotPlain(word));
+            return Some(Wrong::NotPlain(word));
         }
     }
     None
 }
 
 /// What is wrong with words that have their form.
-fn slip_of_command(alloc: Global, words: &[String]) -> Slip<'_> {
+fn wrong_command(alloc: Global, words: &[String]) -> Wrong<'_> {
     match words {
-        [] => Slip::NoWords,
+        [] => Wrong::NoWords,
         [command, others @ ..] => match words_after(command.as_str()) {
-            Some(wanted) => slip_of_words(command.as_str(), wanted, others),
-            None => match nearest(alloc, command.as_str()) {
-                Ok(name) => Slip::NoCommand(command.as_str(), name),
-                Err(_) => Slip::Unknown,
+            Some(wanted) => wrong_words(command.as_str(), wanted, others),
+            None => match meant_by(command.as_str()) {
+                Some(name) => Wrong::NoCommand(command.as_str(), Some(name)),
+                None => Wrong::NoCommand(command.as_str(), near(alloc, command.as_str())),
             },
         },
     }
 }
 
-/// The command whose name is the fewest edits away.
-fn nearest(alloc: Global, word: &str) -> Result<&'static str, AllocError> {
-    let mut best = ("", usize::MAX);
-    for &row in COMMANDS {
-        let name = command_line(row).command;
-        let edits = levenshtein(alloc, word, name)?;
-        if edits < best.1 {
-            best = (name, edits);
-        }
+/// The place of the command whose name is nearest to the word, if one is near.
+fn nearest_row(alloc: Global, word: &str) -> Result<Option<usize>, AllocError> {
+    let mut nearest = Nearest::to(word);
+    for (place, &row) in COMMANDS.iter().enumerate() {
+        nearest = nearest.or(alloc, word, command_line(row).command, place)?;
     }
-    Ok(best.0)
+    Ok(nearest.place())
+}
+
+/// The command whose name is nearest to the word, if one is near.
+fn near(alloc: Global, word: &str) -> Option<&'static str> {
+    let place = nearest_row(alloc, word).ok()??;
+    let &row = COMMANDS.get(place)?;
+    Some(command_line(row).command)
 }
 
 /// What is wrong with the words after the command.
-fn slip_of_words<'a>(command: &'a str, wanted: &'static str, words: &'a [String]) -> Slip<'a> {
-    if !is_count(wanted, words.len()) {
-        return Slip::Count(command, wanted, words.len());
+fn wrong_words<'a>(command: &'a str, wanted: &'static str, words: &'a [String]) -> Wrong<'a> {
+    if let Some(wrong) = wrong_count(command, wanted, words.len()) {
+        return wrong;
     }
     for (word, name) in words.iter().zip(wanted.split(' ')) {
         if !has_meaning(name, word.as_str()) {
-            return Slip::Meaning(word.as_str(), name);
+            return Wrong::Meaning(word.as_str(), name);
         }
     }
-    Slip::Unknown
+    Wrong::Unknown
 }
 
-/// Whether this is the number of words that are wanted.
-fn is_count(wanted: &str, count: usize) -> bool {
+/// What is wrong with this number of words after the command, if anything is.
+fn wrong_count<'a>(command: &'a str, wanted: &'static str, count: usize) -> Option<Wrong<'a>> {
     let least = wanted.split(' ').count();
-    if wanted.ends_with("..") {
-        count >= least && count - least < MAX_LOGS
-    } else {
-        count == least
+    if count < least || (count > least && !wanted.ends_with("..")) {
+        return Some(Wrong::Count(command, wanted, count));
     }
+    let logs = (count - least).saturating_add(1);
+    if logs > MAX_LOGS {
+        return Some(Wrong::TooManyLogs(command, logs));
+    }
+    None
 }
 
 /// Whether the word is allowed where the help has this name. Any word may be a file's name.
@@ -147,47 +179,70 @@ fn has_number(word: &str) -> bool {
     }
 }
 
-impl<'a> Slip<'a> {
-    /// Writes the sentence on the word that is to blame, if there is one.
-    fn write_blame<W: fmt::Write>(&self, f: &mut Formatter<W>) -> fmt::Result {
+impl<'a> Wrong<'a> {
+    /// Writes the sentence on what is wrong.
+    fn write<W: fmt::Write>(&self, f: &mut Formatter<W>) -> fmt::Result {
         match *self {
-            Slip::NotText => write!(f, "a word isn't text in UTF-8"),
-            Slip::NoWords => write!(f, "a command is wanted"),
-            Slip::Empty(place) => write!(f, "word {place} is empty"),
-            Slip::TooLong(place, bytes) => write!(
+            Wrong::NotText => write!(f, "a word isn't text in UTF-8"),
+            Wrong::NoWords => {
+                f.write_str("a command is wanted: ")?;
+                write_names(f)
+            }
+            Wrong::Empty(place) => write!(f, "word {place} is empty"),
+            Wrong::TooLong(place, bytes) => write!(
                 f,
                 "word {place} has {bytes} bytes; a word has at most {MAX_BYTES}"
             ),
-            Slip::Option(word) => write!(f, "{word:?} begins with -, and there are no options"),
-            Slip::NotPlain(word) => {
+            Wrong::Option(word) => write!(f, "{word:?} begins with -, and there are no options"),
+            Wrong::NotPlain(word) => {
                 write!(
                     f,
                     "{word:?} has a space or a byte outside ! to ~, as no word may"
                 )
             }
-            Slip::NoCommand(word, name) => {
-                write!(f, "{word:?} is no command; the nearest is {name}")
+            Wrong::NoCommand(word, Some(name)) => {
+                write!(f, "{word:?} is no command; did you mean {name}?")
             }
-            Slip::Count(command, wanted, count) => {
+            Wrong::NoCommand(word, None) => {
+                write!(f, "{word:?} is no command; there are ")?;
+                write_names(f)
+            }
+            Wrong::Count(command, wanted, count) => {
                 write!(f, "{command} wants {wanted}; words given: {count}")
             }
-            Slip::Meaning(word, name) => {
-                let meaning = meaning_of(name);
-                write!(f, "{word:?} isn't {name}: {meaning}")
+            Wrong::TooManyLogs(command, logs) => {
+                write!(
+                    f,
+                    "{command} takes at most {MAX_LOGS} logs; logs given: {logs}"
+                )
             }
-            Slip::Help | Slip::Unknown => write!(f, "the command line isn't valid"),
+            Wrong::Meaning(word, name) => write_meaning(f, word, name),
+            Wrong::Help | Wrong::Unknown => write!(f, "the command line isn't valid"),
         }
+    }
+}
+
+/// Writes what the word must be. A seed is secret, so its length alone is told.
+fn write_meaning<W: fmt::Write>(f: &mut Formatter<W>, word: &str, name: &str) -> fmt::Result {
+    let meaning = meaning_of(name);
+    write!(f, "{name} must be {meaning}; ")?;
+    if name == "SEED" {
+        let count = word.len();
+        write!(f, "got {count} characters")
+    } else {
+        write!(f, "got {word:?}")
     }
 }
 
 impl<'a> Display for Slip<'a> {
     fn fmt<W: fmt::Write>(&self, f: &mut Formatter<W>) -> fmt::Result {
-        if let Slip::Help = *self {
+        if let Wrong::Help = self.wrong {
             return write_help(f);
         }
-        write!(f, "auditorium: ")?;
-        self.write_blame(f)?;
-        write!(f, "\n")?;
-        write_commands(f)
+        f.write_str("auditorium: ")?;
+        self.wrong.write(f)?;
+        f.write_str("\n")?;
+        write_usage(f, self.meant)?;
+        f.write_str("auditorium --help has all\n")
     }
 }

@@ -3,6 +3,50 @@ use command_hints::{Hint, hint_on};
 use std::alloc::Global;
 use std::test::Fail;
 
+/// The words, each after a comma but the first; and what the hint on an invalid command line says
+/// in its first line, and in its second, which is the usage line of the command that was meant.
+const SLIPS: &str = "\
+frobnicate|\"frobnicate\" is no command; there are gaps, play, run, repair, order, audit, watch, \
+prove, check, make, demo, office, endorse, endorsed|COMMAND WORD..
+aduit,r,standard,l|\"aduit\" is no command; did you mean audit?|audit ROSTER RULES LOG..
+wacth,r,standard,l|\"wacth\" is no command; did you mean watch?|watch ROSTER RULES LOG..
+Make,1|\"Make\" is no command; did you mean make?|make N
+endorsee,o,f|\"endorsee\" is no command; did you mean endorse?|endorse NAME FILE
+help|\"help\" is no command; did you mean --help?|--help
+version|\"version\" is no command; did you mean --version?|--version
+log,l|\"log\" is no command; did you mean gaps?|gaps LOG
+verify,k,f,s|\"verify\" is no command; did you mean endorsed?|endorsed KEY FILE SIG
+sign,o,f|\"sign\" is no command; did you mean endorse?|endorse NAME FILE
+make,801|N must be a number of sessions from 1 to 800, in digits without a leading zero; \
+got \"801\"|make N
+demo,01|N must be a number of sessions from 1 to 800, in digits without a leading zero; \
+got \"01\"|demo N
+make|make wants N; words given: 0|make N
+play,s|play wants SCRIPT PREFIX; words given: 1|play SCRIPT PREFIX
+audit,r,standard|audit wants ROSTER RULES LOG..; words given: 2|audit ROSTER RULES LOG..
+watch,r,standard|watch wants ROSTER RULES LOG..; words given: 2|watch ROSTER RULES LOG..
+prove,r,q|prove wants ROSTER PROOF LOG..; words given: 2|prove ROSTER PROOF LOG..
+check,r,c,q|check wants ROSTER RULES PROOF LOG..; words given: 3|check ROSTER RULES PROOF LOG..
+order,r,b1.0,b1.1|order wants ROSTER X Y LOG..; words given: 3|order ROSTER X Y LOG..
+gaps,1,2|gaps wants LOG; words given: 2|gaps LOG
+audit,r,c,1,2,3,4,5,6,7,8,9,10,11,12,13,14,15,16,17|audit takes at most 16 logs; logs given: \
+17|audit ROSTER RULES LOG..
+order,r,b1.0,b1.1,1,2,3,4,5,6,7,8,9,10,11,12,13,14,15,16,17,18|order takes at most 16 logs; \
+logs given: 18|order ROSTER X Y LOG..
+order,r,b1,b1.0,l|X must be NAME.NUMBER, as b1.0, or an entry's digest in 64 lower-case \
+hexadecimal digits; got \"b1\"|order ROSTER X Y LOG..
+order,r,b1.0,b1.x,l|Y must be NAME.NUMBER, as b1.0, or an entry's digest in 64 lower-case \
+hexadecimal digits; got \"b1.x\"|order ROSTER X Y LOG..
+office,o|office wants NAME SEED; words given: 1|office NAME SEED
+office,o,00|SEED must be 32 secret random bytes, in 64 lower-case hexadecimal digits; got 2 \
+characters|office NAME SEED
+endorse,o|endorse wants NAME FILE; words given: 1|endorse NAME FILE
+endorsed,k,f|endorsed wants KEY FILE SIG; words given: 2|endorsed KEY FILE SIG
+gaps,--all|\"--all\" begins with -, and there are no options|gaps LOG
+gaps,my log|\"my log\" has a space or a byte outside ! to ~, as no word may|gaps LOG
+gaps,|word 2 is empty|gaps LOG
+-,|\"-\" begins with -, and there are no options|COMMAND WORD..";
+
 /// The words, each after a comma but the first; the first line of the output; and how the hint
 /// begins, or nothing where there is none.
 const ROWS: &str = "\
@@ -10,29 +54,6 @@ const ROWS: &str = "\
 audit,-h|usage|auditorium (unreleased)
 --version|usage|auditorium (unreleased)
 play,s,-V|usage|auditorium (unreleased)
-frobnicate|usage|auditorium: \"frobnicate\" is no command; the nearest is office
-aduit,r,standard,l|usage|auditorium: \"aduit\" is no command; the nearest is audit
-wacth,r,standard,l|usage|auditorium: \"wacth\" is no command; the nearest is watch
-Make,1|usage|auditorium: \"Make\" is no command; the nearest is make
-make,801|usage|auditorium: \"801\" isn't N: from 1 to 800 sessions, in digits
-demo,01|usage|auditorium: \"01\" isn't N: from 1 to 800 sessions, in digits
-make|usage|auditorium: make wants N; words given: 0
-play,s|usage|auditorium: play wants SCRIPT PREFIX; words given: 1
-audit,r,standard|usage|auditorium: audit wants ROSTER RULES LOG..; words given: 2
-watch,r,standard|usage|auditorium: watch wants ROSTER RULES LOG..; words given: 2
-prove,r,q|usage|auditorium: prove wants ROSTER PROOF LOG..; words given: 2
-check,r,c,q|usage|auditorium: check wants ROSTER RULES PROOF LOG..; words given: 3
-order,r,b1.0,b1.1|usage|auditorium: order wants ROSTER X Y LOG..; words given: 3
-order,r,b1,b1.0,l|usage|auditorium: \"b1\" isn't X: an entry: NAME.NUMBER, as b1.0
-order,r,b1.0,b1.x,l|usage|auditorium: \"b1.x\" isn't Y: an entry: NAME.NUMBER, as b1.0
-office,o|usage|auditorium: office wants NAME SEED; words given: 1
-office,o,00|usage|auditorium: \"00\" isn't SEED: 32 secret random bytes, in 64 lower-case
-endorse,o|usage|auditorium: endorse wants NAME FILE; words given: 1
-endorsed,k,f|usage|auditorium: endorsed wants KEY FILE SIG; words given: 2
-endorsee,o,f|usage|auditorium: \"endorsee\" is no command; the nearest is endorse
-gaps,--all|usage|auditorium: \"--all\" begins with -, and there are no options
-gaps,my log|usage|auditorium: \"my log\" has a space or a byte outside ! to ~
-gaps,|usage|auditorium: word 2 is empty
 play,w.script,p|refused w.script 3 UnknownWord|auditorium: w.script, line 3, UnknownWord: a word
 run,s,p|refused s 9 SameName|auditorium: s, line 9, SameName: a machine is named twice
 audit,r,c,l|refused c 28 Unbound|auditorium: c, byte 28, counted from 0, Unbound: no every or some
@@ -49,20 +70,27 @@ check,r,c,q,l|refused q 4 NotRising|auditorium: q, line 4, NotRising: the entry 
 check,r,c,q,l|refused q 5 NotFalling|auditorium: q, line 5, NotFalling: the entry before a colon
 check,r,c,q,l|refused q 6 NotReached|auditorium: q, line 6, NotReached: the entry after a colon is
 check,r,c,q,l|refused q 7 NotParent|auditorium: q, line 7, NotParent: the entry after a colon
-check,r,c,q,l|refused q 8 NotClosed|auditorium: q, line 8, NotClosed: an entry of the line names
+check,r,c,q,l|refused q 8 NotClosed|auditorium: q, line 8, NotClosed: an ancestor is missing from
 check,r,c,q,l|refused c 28 Unbound|auditorium: c, byte 28, counted from 0, Unbound: no every or
 check,r,c,q,l|refused c 3 TooWide|auditorium: c, rule 3, counted from 0, TooWide: the
 check,r,c,q,l|refused l 3 Form|
 audit,r,c,l|refused c 3 Form|
-prove,r,q,l|refused q 0 TooLong|auditorium: q, TooLong: a script, a roster or a file of rules has
-play,s,p|refused s 0 TooLong|auditorium: s, TooLong: a script, a roster or a file of rules has
-order,r,b1.0,b2.0,l|refused b1.0 0 NoEntry|auditorium: b1.0, NoEntry: no entry that survives in
+prove,r,q,l|refused q 0 TooLong|auditorium: q, TooLong: a proof has at most 67,108,864 bytes
+prove,r,q,l|refused l 0 TooLong|auditorium: l, TooLong: a log has at most 67,108,864 bytes
+prove,r,q,l|refused r 0 TooLong|auditorium: r, TooLong: a roster has at most 4,194,304 bytes
+audit,r,c,l|refused c 0 TooLong|auditorium: c, TooLong: a file of rules has at most 4,194,304 bytes
+endorse,o,f|refused o.office 0 TooLong|auditorium: o.office, TooLong: an office's file has at most
+endorsed,k,f,s|refused k 0 TooLong|auditorium: k, TooLong: a public key has at most 65,536 bytes
+endorsed,k,f,s|refused s 0 TooLong|auditorium: s, TooLong: a signature has at most 65,536 bytes
+gaps,l|refused m 0 TooLong|auditorium: m, TooLong: a script, a roster or a file of rules has at
+play,s,p|refused s 0 TooLong|auditorium: s, TooLong: a script has at most 4,194,304 bytes
+order,r,b1.0,b2.0,l|refused b1.0 0 NoEntry|auditorium: b1.0, NoEntry: no surviving entry is b1.0
 audit,r,c,l|refused entries 0 TooMany|auditorium: entries, TooMany: the logs have more than 16,384
 audit,r,c,l|refused entries 0 Collision d1a0|auditorium: entries, Collision: two entries with
 office,o,0|refused o.office 0 Exists|auditorium: o.office, Exists: an office's file is never
 endorse,o,f|refused o.office 0 Office|auditorium: o.office, Office: an office's file is (6:office1:
 endorse,o,f|refused o.office 0 Spent|auditorium: o.office, Spent: the office's key has made its
-endorse,o,f|refused f 0 TooLong|auditorium: f, TooLong: a script, a roster or a file of rules has
+endorse,o,f|refused f 0 TooLong|auditorium: f, TooLong: a file that is signed has at most
 gaps,l|refused l 0 NoCause|
 gaps,l|refused l 3 UnknownWord|
 gaps,l|refused l x Header|
@@ -77,26 +105,121 @@ check,r,c,q,l|absent q|auditorium: there is no file q, which is named as PROOF: 
 check,r,c,q,l|absent l|auditorium: there is no file l, which is named as LOG: a log's file, as
 demo,1|absent x|auditorium: there is no file x";
 
-/// The words; what is refused, its place and the cause; the text, with `/` for a newline; and its
-/// excerpt, likewise.
-const EXCERPTS: &str = "\
-play,s,p|s 3 UnknownWord|# keys/seed 01/key w3 h5/log 64/\
-|     3 | key w3 h5/       | ^^^^^^^^^/
-play,s,p|s 2 NotPlain|seed 01/key\tw4 h5/|     2 | key?w4 h5/       |    ^/
-play,s,p|s 3 OutOfOrder|seed 01/key w4 h5/|
-play,s,p|s 9 OutOfOrder|seed 01/key w4 h5/|
-audit,x,r,l|r 17 UnknownKind|(rule A (every x casts true))/\
-|     1 | (rule A (every x casts true))/       |                  ^/
-audit,x,r,l|r 40 Shape|(rule A true)/|
-audit,x,r,l|r 32 Shape|(rule A true)/(rule B (every x (\
+/// The words; what is refused, its place and the cause; the text, with `/` for a newline; how what
+/// is said of it begins, behind the cause; and the lines that show the place, likewise.
+const TEXTS: &str = "\
+play,s,p|s 3 UnknownWord|# keys/seed 01/key w3 h5/log 64/|\"w3\" isn't one of w1, w2, w4, w8\
+|     3 | key w3 h5/       |     ^^/
+play,s,p|s 1 UnknownWord|key w4 h6/|\"h6\" isn't one of h5, h10|     1 | key w4 h6/       \
+|        ^^/
+play,s,p|s 1 UnknownWord|kee w4 h5/|\"kee\" isn't one of version, seed, key, log, link, machine, do\
+|     1 | kee w4 h5/       | ^^^/
+play,s,p|s 1 UnknownWord|machine b1 boot/|\"boot\" isn't one of supervisor, booth\
+|     1 | machine b1 boot/       |            ^^^^/
+play,s,p|s 1 UnknownWord|do b1 vote 1/|\"vote\" isn't one of open, authorise, override, close, \
+activate, commit, cast, cancel/|     1 | do b1 vote 1/       |       ^^^^/
+play,s,p|s 2 UnknownWord|version 2/do b1 vote 1/|\"vote\" isn't one of open, authorise, override, \
+close, activate, commit, cast, cancel, challenge/|     2 | do b1 vote 1/       |       ^^^^/
+play,s,p|s 1 UnknownWord|do b1 challenge 1/|\"challenge\" isn't one of open, authorise\
+|     1 | do b1 challenge 1/       |       ^^^^^^^^^/
+play,s,p|s 2 UnknownWord|version 2/do sv override 1 stop/|\"stop\" isn't one of cancel, cast/\
+|     2 | do sv override 1 stop/       |                  ^^^^/
+play,s,p|s 1 UnknownWord|step wait sv/|\"wait\" isn't one of act, hear, stop/\
+|     1 | step wait sv/       |      ^^^^/
+play,s,p|s 3 UnknownName|machine sv supervisor/machine b1 booth/do sv authorise b9 1/|\
+no machine line has the name \"b9\"; the nearest is b1/\
+|     3 | do sv authorise b9 1/       |                 ^^/
+play,s,p|s 2 UnknownName|machine sv supervisor/stop booth 3/|\
+no machine line has the name \"booth\"/|     2 | stop booth 3/       |      ^^^^^/
+play,s,p|s 2 UnknownName|machine sv supervisor/step hear sv b1 0/|\
+no machine line has the name \"b1\"/|     2 | step hear sv b1 0/       |              ^^/
+play,s,p|s 2 SameName|machine sv supervisor/machine sv booth/|\"sv\": a machine is named twice\
+|     2 | machine sv booth/       |         ^^/
+play,s,p|s 3 SameName|machine sv supervisor/machine b1 booth/lose sv 0 sv/|\"sv\": a machine is\
+|     3 | lose sv 0 sv/       |           ^^/
+play,s,p|s 3 WrongRole|machine sv supervisor/machine b1 booth/do b1 open/|\"open\": the deed is\
+|     3 | do b1 open/       |       ^^^^/
+play,s,p|s 3 WrongRole|machine sv supervisor/machine b1 booth/do sv authorise sv 1/|\"sv\": the d\
+|     3 | do sv authorise sv 1/       |                 ^^/
+play,s,p|s 1 BadName|machine B1 booth/|\"B1\": a machine's name has 1 to 16 characters from a to z\
+|     1 | machine B1 booth/       |         ^^/
+play,s,p|s 1 BadNumber|log 064/|\"064\": a number is decimal digits without a leading zero\
+|     1 | log 064/       |     ^^^/
+play,s,p|s 1 BadHex|seed 0g/|\"0g\": a seed is an even number of|     1 | seed 0g/       |      ^^/
+play,s,p|s 2 BadHex|machine b1 booth/do b1 commit 1 0f/|\"0f\": a seed is an even number of the\
+|     2 | do b1 commit 1 0f/       |                ^^/
+play,s,p|s 1 OutOfRange|log 0/|\"0\" isn't a number from 1 to 4096/|     1 | log 0/       |     ^/
+play,s,p|s 1 OutOfRange|stop b1 5000/|\"5000\" isn't a number from 0 to 4096/\
+|     1 | stop b1 5000/       |         ^^^^/
+play,s,p|s 1 OutOfRange|do sv override 0/|\"0\" isn't a number from 1 to 4294967295/\
+|     1 | do sv override 0/       |                ^/
+play,s,p|s 1 OutOfRange|machine b17 booth/|a script has at most 16 lines that begin with machine/\
+|     1 | machine b17 booth/       | ^^^^^^^/
+play,s,p|s 1 WrongCount|key w4/|words of the line: 2; key KIND HEIGHT has 3, with one space\
+|     1 | key w4/       |       ^/
+play,s,p|s 1 WrongCount|key w4 h5 x y/|words of the line: 5; key KIND HEIGHT has 3, with one\
+|     1 | key w4 h5 x y/       |           ^^^/
+play,s,p|s 1 WrongCount|key w4  h5/|words of the line: 4; key KIND HEIGHT has 3, with one\
+|     1 | key w4  h5/       |        ^/
+play,s,p|s 1 WrongCount|do b1/|words of the line: 2; do NAME DEED has at least 3, with one\
+|     1 | do b1/       |      ^/
+play,s,p|s 1 WrongCount|do b1 commit 1/|words of the line: 4; do NAME commit SESSION BALLOT has 5\
+|     1 | do b1 commit 1/       |               ^/
+play,s,p|s 1 WrongCount|do sv override 1 cast/|words of the line: 5; do NAME override SESSION has 4\
+|     1 | do sv override 1 cast/       |                  ^^^^/
+play,s,p|s 2 WrongCount|version 2/do sv override 1/|words of the line: 4; do NAME override SESSION \
+HOW has 5|     2 | do sv override 1/       |                 ^/
+play,s,p|s 1 OutOfOrder|log 64/|\"log\": lines come in the order version, seed\
+|     1 | log 64/       | ^^^/
+play,s,p|s 2 NotPlain|seed 01/key\tw4 h5/|a line has only bytes from space to ~\
+|     2 | key?w4 h5/       |    ^/
+play,s,p|s 3 OutOfOrder|seed 01/key w4 h5/|lines come in the order|
+play,s,p|s 9 OutOfOrder|seed 01/key w4 h5/|lines come in the order|
+audit,x,r,l|r 17 UnknownKind|(rule A (every x casts true))/|\"casts\" is no kind; the nearest is \
+cast; a kind is entry|     1 | (rule A (every x casts true))/       |                  ^^^^^/
+audit,x,r,l|r 17 UnknownKind|(rule A (every x entries true))/|\"entries\" is no kind; the nearest \
+is entry; a|     1 | (rule A (every x entries true))/       |                  ^^^^^^^/
+audit,x,r,l|r 33 Unbound|(rule A (every x cast (= x.maker y.maker)))/|no every or some around this \
+place binds \"y\"; bound here: \"x\"/\
+|     1 | (rule A (every x cast (= x.maker y.maker)))/       \
+|                                  ^^^^^^^/
+audit,x,r,l|r 52 Unbound|(rule A (every x cast (some y commit before x (same z x))))/|no every or \
+some around this place binds \"z\"; bound here: \"y\", \"x\"/\
+|     1 | (rule A (every x cast (some y commit before x (same z x))))/       \
+|                                                     ^/
+audit,x,r,l|r 31 Unbound|(rule A (every x commit before y true))/|no every or some around this \
+place binds \"y\"/|     1 | (rule A (every x commit before y true))/       \
+|                                ^/
+audit,x,r,l|r 60 Unbound|(rule A (and (some z cast (same z z)) (every x cast (same x z))))/\
+|no every \
+or some around|     1 | (rule A (and (some z cast (same z z)) (every x cast (same x z))))/       \
+|                                                             ^/
+audit,x,r,l|r 25 WrongField|(rule A (every x cast (= x.sesion 1)))/\
+|entries of the kind cast have no \
+field \"sesion\"; the nearest is session; they have maker, number, session, ballot/\
+|     1 | (rule A (every x cast (= x.sesion 1)))/       |                          ^^^^^^^^/
+audit,x,r,l|r 27 WrongField|(rule A (every x opened (= x.ballot 1)))/|entries of the kind opened \
+have no field \"ballot\"; they have maker, number/\
+|     1 | (rule A (every x opened (= x.ballot 1)))/       |                            ^^^^^^^^/
+audit,x,r,l|r 35 WrongField|(rule A (every x cast (= x.session 1)))/|\"1\": entries of the \
+variable's kind|     1 | (rule A (every x cast (= x.session 1)))/       \
+|                                    ^/
+audit,x,r,l|r 13 SameName|(rule A true)(rule A true)/|\"(\": a rule has this name already\
+|     1 | (rule A true)(rule A true)/       |              ^/
+audit,x,r,l|r 40 Shape|(rule A true)/|a rule begins with|
+audit,x,r,l|r 32 Shape|(rule A true)/(rule B (every x (|a rule begins with\
 |     2 | (rule B (every x (/       |                   ^/
-audit,x,r,l|r 14 Shape|(rule A true)/|     2 | /       | ^/
+audit,x,r,l|r 14 Shape|(rule A true)/|a rule begins with|     2 | /       | ^/
 audit,x,r,l|r 62 Token|01234567890123456789012345678901234567890123456789012345678901\
-#abcdefghijabcdefghijabcdefghijabcdefghijabcdefghijabcdefghijabcdefghij\
+#abcdefghijabcdefghijabcdefghijabcdefghijabcdefghijabcdefghijabcdefghij|a text of rules has\
 |     1 | ..234567890123456789012345678901234567890123456789012345678901\
 #abcdefghijabcdefghijabcdefghijabcdefghijabcdefghijabcdefghi\
 ../       |                                                               ^/
-gaps,l|l 0 Header|no log|";
+audit,r,c,l,m|m 0 Header||the file is empty; the audit can be made without it, so leave it out/|
+order,r,b1.0,b1.1,l,m|m 0 Header||the file is empty; the audit can be made without it|
+audit,r,c,l|l 0 Header||a log begins with its header, as (3:log1:11:0)|
+gaps,l|l 0 Header||a log begins with its header, as (3:log1:11:0)|
+audit,r,c,l,m|m 0 Header|no log|a log begins with its header, as (3:log1:11:0)|";
 
 /// The words of a row.
 fn words_of(alloc: Global, text: &str) -> Result<Vec<String>, Fail> {
@@ -170,29 +293,55 @@ fn lines_of(alloc: Global, text: &str) -> Result<String, Fail> {
     Ok(lines)
 }
 
-/// The excerpt of the text that shows the place of the refusal, or nothing.
-fn excerpt_of(alloc: Global, words: &[String], refusal: &str, text: &str) -> Result<String, Fail> {
+/// What the program says of the refusal, whose file has this text.
+fn explanation<'x>(
+    alloc: Global,
+    words: &'x [String],
+    refusal: &str,
+    text: &'x str,
+) -> Result<String, Fail> {
     let line = format!(in alloc; "refused {refusal}\n")?;
     if let Some(Hint::Refused(refusal)) = hint_on(alloc, "auditorium", Some(words), line.as_str()) {
-        if let Some(excerpt) = refusal.excerpt(text.as_bytes()) {
-            return Ok(format!(in alloc; "{excerpt}")?);
-        }
+        let explained = refusal.explained(alloc, Some(text.as_bytes()));
+        return Ok(format!(in alloc; "{explained}")?);
     }
     Ok(String::new(alloc))
 }
 
 #[test]
-fn excerpts_have_a_mark_below_the_place(rt: HostRuntime) -> Result<(), Fail> {
+fn refusals_quote_the_text_and_mark_it(rt: HostRuntime) -> Result<(), Fail> {
     let alloc = rt.alloc();
-    for row in EXCERPTS.lines() {
+    for row in TEXTS.lines() {
         let (words, rest) = row.split_once('|').unwrap_or(("", ""));
         let (refusal, rest) = rest.split_once('|').unwrap_or(("", ""));
-        let (text, want) = rest.split_once('|').unwrap_or(("", ""));
+        let (text, rest) = rest.split_once('|').unwrap_or(("", ""));
+        let (saying, shown) = rest.split_once('|').unwrap_or(("", ""));
+        let cause = refusal.split(' ').nth(2).unwrap_or("");
         let text = lines_of(alloc, text)?;
-        let want = lines_of(alloc, want)?;
+        let saying = lines_of(alloc, saying)?;
+        let shown = lines_of(alloc, shown)?;
         let words = words_of(alloc, words)?;
-        let excerpt = excerpt_of(alloc, words.as_slice(), refusal, text.as_str())?;
-        assert_eq!(rt; excerpt.as_str(), want.as_str(), "{row}");
+        let found = explanation(alloc, words.as_slice(), refusal, text.as_str())?;
+        let found = found.as_str();
+        let wanted = format!(in alloc; ", {cause}: {saying}")?;
+        assert!(rt; found.contains(wanted.as_str()), "{row}: {found}");
+        let excerpt = found.split_once('\n').unwrap_or(("", "")).1;
+        assert_eq!(rt; excerpt, shown.as_str(), "{row}");
+    }
+    Ok(())
+}
+
+#[test]
+fn slips_are_told_in_three_lines(rt: HostRuntime) -> Result<(), Fail> {
+    let alloc = rt.alloc();
+    for row in SLIPS.lines() {
+        let (words, rest) = row.split_once('|').unwrap_or(("", ""));
+        let (wrong, usage) = rest.split_once('|').unwrap_or(("", ""));
+        let hint = hint_text(alloc, "auditorium", words, "usage")?;
+        let want = format!(in alloc;
+            "auditorium: {wrong}\nusage: auditorium {usage}\nauditorium --help has all\n"
+        )?;
+        assert_eq!(rt; hint.as_str(), want.as_str(), "{row}");
     }
     Ok(())
 }
@@ -207,7 +356,13 @@ fn words_that_no_row_can_have_are_blamed(rt: HostRuntime) -> Result<(), Fail> {
             "auditorium: a word isn't text in UTF-8\nusage: "
         )?
     );
-    assert!(rt; is_blamed(alloc, Some(&[]), "auditorium: a command is wanted\nusage: ")?);
+    assert!(rt;
+        is_blamed(
+            alloc,
+            Some(&[]),
+            "auditorium: a command is wanted: gaps, play, run"
+        )?
+    );
     let mut word = String::new(alloc);
     for _ in 0..1025 {
         word.push('a')?;
