@@ -1,79 +1,80 @@
-//! A sink that keeps the first line.
-ghost use Rattle.std.specs.Prelude.{◌≡◌};
+//! A sink that keeps the first bytes that are written.
+ghost use Rattle.std.specs.Prelude.{◌≡◌, [], ◌++◌, take};
+ghost use Rattle.auditorium_cli.specs.Kept.{IsFirstLine};
 
-use hall_outside::{Failed, Failure, OutputSink, Sink};
+use arrayvec::ArrayVec;
+use hall_outside::{Failed, Sink};
 use std::marker::Model;
 
-/// The most bytes that are kept. No line on a refusal is longer: it has a word of the command line,
-/// a place, a cause and maybe a digest.
-const MOST: usize = 1280;
-
-/// The standard output, of which the first line is kept beside. It exposes what `OutputSink` does.
+/// A sink over another one. It exposes what the other does, and keeps the first bytes that the
+/// other took. No line on a refusal is longer than that: it has a word of the command line, a
+/// place, a cause and maybe a digest.
 #[derive(Drop)]
-pub(crate) struct KeptSink<'a, R> {
-    out: OutputSink<'a, R>,
-    line: [u8; MOST],
-    length: usize,
-    is_whole: bool,
+pub(crate) struct KeptSink<K> {
+    out: K,
+    front: ArrayVec<u8, 1280>,
 }
 
-impl<'a, R> Model for KeptSink<'a, R> {
-    ghost use Rattle.std.specs.Prelude.{ℕ, ◌≤◌};
+impl<K> Model for KeptSink<K> {
+    ghost use Rattle.auditorium_cli.specs.Kept.{Kept};
 
-    ghost Value = { ℕ };
+    ghost Value = { Kept K };
 
-    ghost view = { λ s. s.out };
-
-    ghost invariant = { λ s. s.length ≤ 1280 };
+    ghost view = { λ s. record { out = s.out; front = s.front.items } };
 }
 
-impl<'a, R> KeptSink<'a, R> {
-    /// The sink, of which nothing is written yet.
-    pub fn make(rt: &'a R) -> KeptSink<'a, R>
-        ensures { result ≡ 0 }
+impl<K> KeptSink<K> {
+    /// A sink over this one, which keeps what is written from now on.
+    pub fn over(out: K) -> KeptSink<K>
+        ensures { result ≡ record { out = out; front = [] } }
     {
         KeptSink {
-            out: OutputSink::make(rt),
-            line: [0; MOST],
-            length: 0,
-            is_whole: false,
+            out,
+            front: ArrayVec::new(),
         }
     }
 
-    /// The last write that failed, for a line to the user.
-    pub fn failure(&self) -> Option<&Failure> {
-        self.out.failure()
-    }
-
-    /// The first line that was written, or the beginning of a long one, with its newline.
-    pub fn first_line(&self) -> &[u8] {
-        &self.line[..self.length]
-    }
-
-    /// Keeps of these bytes what belongs to the first line.
-    fn keep(&mut self, bytes: &[u8])
-        ensures { self.new ≡ self.old }
+    /// The other sink.
+    pub fn sink(&self) -> &K
+        ensures { result.now ≡ self.now.out }
     {
-        for byte in bytes {
-            if self.is_whole || self.length == MOST {
-                break;
-            }
-            self.line[self.length] = *byte;
-            self.length += 1;
-            self.is_whole = *byte == b'\n';
+        &self.out
+    }
+
+    /// The first line that was written, without its newline, or the beginning of a long one.
+    pub fn first_line(&self) -> &[u8]
+        ensures { IsFirstLine self.now.front result.now }
+    {
+        let front = self.front.as_slice();
+        let mut end = 0;
+        while end < front.len() && front[end] != b'\n' {
+            end += 1;
         }
+        &front[..end]
+    }
+
+    /// Keeps these bytes after the others, as far as there is room. It takes no memory.
+    fn keep(&mut self, bytes: &[u8])
+        ensures { self.new ≡ record {
+          out = self.old.out;
+          front = take 1280 (self.old.front ++ bytes.now);
+        } }
+    {
+        let count = self.front.remaining_capacity().min(bytes.len());
+        let _ = self.front.try_extend_from_slice(&bytes[..count]);
     }
 }
 
-impl<'a, R: Print + AllocGlobal> Sink for KeptSink<'a, R> {
-    ghost use Rattle.std.specs.Prelude.{None, is_ok};
-    ghost use Rattle.hall_outside.specs.Counts.{CountsFailures};
+impl<K: Sink> Sink for KeptSink<K> {
+    ghost use Rattle.std.specs.Prelude.{◌≡◌};
+    ghost use Rattle.auditorium_cli.specs.Kept.{kept_after};
 
-    ghost written = { λ _. None };
+    ghost written = { λ s. K.written s.out };
 
-    ghost faults = { λ faults. faults };
+    ghost faults = { λ s. K.faults s.out };
 
-    ghost writes = { λ old _ result new. CountsFailures old (is_ok result) new };
+    ghost writes = { λ old piece result new. K.writes old.out piece result new.out
+        × (new.front ≡ kept_after old.front piece result) };
 
     fn write(&mut self, piece: &[u8]) -> Result<usize, Failed> {
         let count = self.out.write(piece)?;

@@ -3,24 +3,29 @@
 //! valid, or an input was refused or isn't there, a hint does.
 #![tactic(auto)]
 
+mod ending;
+mod endorsement;
 mod hinting;
 mod kept_sink;
 
+use crate::ending::{after_name, carry_out};
+use crate::endorsement::check_endorsement;
 use crate::hinting::hint;
 use crate::kept_sink::KeptSink;
-use auditorium_core::{Status, auditorium};
-use hall_outside::{Failure, FolderStore, OpenGate};
+use auditorium_core::Status;
+use hall_outside::{Failure, FolderStore, OpenGate, OutputSink};
 use std::env;
 use std::io::{self, Eprint, ErrorKind};
 use std::process::ExitCode;
 use std::rt::Env;
 
-/// The words after the program's name, or `None` where one of them isn't text.
-fn words_after_name<R: Env + AllocGlobal>(rt: &R) -> io::Result<Option<Vec<String>>> {
+/// The words of the command line, of which the first is the program's name, or `None` where one of
+/// them isn't text.
+fn words_of_line<R: Env + AllocGlobal>(rt: &R) -> io::Result<Option<Vec<String>>> {
     let mut words = Vec::new(rt.alloc());
     match env::args(rt) {
         Ok(given) => {
-            for word in given.skip(1) {
+            for word in given {
                 words.push(word)?;
             }
             Ok(Some(words))
@@ -51,24 +56,26 @@ fn ended_without_memory<R: Eprint>(rt: &R) -> ExitCode {
 }
 
 fn main(rt: HostRuntime) -> ExitCode {
-    let Ok(given) = words_after_name(&rt) else {
+    let Ok(given) = words_of_line(&rt) else {
         return ended_without_memory(&rt);
     };
     let Ok(mut store) = FolderStore::make(&rt) else {
         return ended_without_memory(&rt);
     };
     // A word that isn't text counts as no words at all, which is a usage error.
-    let words = given.as_ref().map(|words| words.as_slice());
-    let mut out = KeptSink::make(&rt);
-    let status = auditorium(
+    let line = given.as_ref().map(|line| line.as_slice());
+    let mut out = KeptSink::over(OutputSink::make(&rt));
+    let ended = carry_out(
         &rt,
         rt.alloc(),
-        words.unwrap_or(&[]),
+        line.unwrap_or(&[]),
         &mut store,
         &mut out,
         &OpenGate,
     );
-    report(&rt, status, store.failure(), out.failure());
-    hint(&rt, status, words, out.first_line());
-    ExitCode::from(status.exit_status())
+    report(&rt, ended.status, store.failure(), out.sink().failure());
+    let words = line.map(|line| after_name(line));
+    hint(&rt, ended.status, words, out.first_line());
+    check_endorsement(&rt, ended.status, words.unwrap_or(&[]));
+    ExitCode::from(ended.number)
 }

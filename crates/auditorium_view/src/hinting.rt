@@ -66,25 +66,21 @@ prints a picture of what audit reports on; RULES is a file or standard, LOG.. 1 
     }
 }
 
-/// Writes the hint, and the line of the file that it is on.
+/// Writes the hint, with what the text of a refused file shows.
 fn write_hint<R: Files<File = File> + Eprint + AllocGlobal>(
     rt: &R,
     hint: &Hint<'_>,
 ) -> io::Result<()> {
-    eprint!(rt; "{hint}")?;
-    let Hint::Refused(refusal) = hint else {
-        return Ok(());
+    let Hint::Refused(refusal) = *hint else {
+        return eprint!(rt; "{hint}");
     };
-    let Some(name) = refusal.text_file() else {
-        return Ok(());
+    let text = match refusal.text_file() {
+        Some(name) => text_again(rt, name),
+        None => None,
     };
-    let Some(text) = text_again(rt, name) else {
-        return Ok(());
-    };
-    match refusal.excerpt(text.as_slice()) {
-        Some(excerpt) => eprint!(rt; "{excerpt}"),
-        None => Ok(()),
-    }
+    let text = text.as_ref().map(|text| text.as_slice());
+    let explained = refusal.explained(rt.alloc(), text);
+    eprint!(rt; "{explained}")
 }
 
 /// The text of the file, if it can be read once more: a pipe or a terminal can't.

@@ -1,0 +1,66 @@
+//! Whether an endorsement fits the office's public key.
+
+use auditorium_core::{Status, auditorium_still};
+use hall_outside::{FolderStore, MemorySink};
+use std::alloc::{AllocError, Global};
+use std::fs::{self, File};
+use std::io::Eprint;
+use std::rt::Files;
+
+/// The words that ask whether the signature of the file is the office's, by the key beside it.
+fn endorsed_words(alloc: Global, name: &str, file: &str) -> Result<Vec<String>, AllocError> {
+    let mut words = Vec::new(alloc);
+    words.push(String::from_str(alloc, "endorsed")?)?;
+    words.push(format!(in alloc; "{name}.key")?)?;
+    words.push(String::from_str(alloc, file)?)?;
+    words.push(format!(in alloc; "{file}.sig")?)?;
+    Ok(words)
+}
+
+/// Whether a file of this name can be read once more: a pipe or a terminal can't.
+fn is_regular<R: Files<File = File>>(rt: &R, name: &str) -> bool {
+    match fs::metadata(rt, name) {
+        Ok(metadata) => metadata.is_file(),
+        Err(_) => false,
+    }
+}
+
+/// Says on standard error that a new endorsement isn't good under the public key of that name, if
+/// there is one: then the office's name is another than `office` was given. What can't be read or
+/// written is left out.
+pub(crate) fn check_endorsement<R: Files<File = File> + Eprint + AllocGlobal>(
+    rt: &R,
+    status: Status,
+    words: &[String],
+) {
+    let (Status::Done, [command, name, file]) = (status, words) else {
+        return;
+    };
+    if command.as_str() != "endorse" {
+        return;
+    }
+    let Ok(words) = endorsed_words(rt.alloc(), name.as_str(), file.as_str()) else {
+        return;
+    };
+    if words
+        .iter()
+        .skip(1)
+        .all(|name| is_regular(rt, name.as_str()))
+        && is_bad(rt, &words)
+    {
+        let _ = eprintln!(rt;
+            "auditorium: {file}.sig isn't good under {name}.key: give endorse the NAME that office \
+             was given, folders included"
+        );
+    }
+}
+
+/// Whether the program says that the signature isn't the office's.
+fn is_bad<R: Files<File = File> + AllocGlobal>(rt: &R, words: &Vec<String>) -> bool {
+    let Ok(mut store) = FolderStore::make(rt) else {
+        return false;
+    };
+    let mut out = MemorySink::make(rt.alloc(), 64, Vec::new(rt.alloc()));
+    let status = auditorium_still(rt.alloc(), words.as_slice(), &mut store, &mut out);
+    matches!(status, Status::Findings)
+}
