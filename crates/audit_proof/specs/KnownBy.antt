@@ -9,7 +9,7 @@ use Rattle.rule_language.specs.Trees.{Trees}
 use Rattle.rule_meaning.specs.Values.{three}
 use Rattle.audit_proof.specs.Lines.{Line, listed_in}
 
--- the line of x, if there is one
+-- the line of x, if there is one (Kleene 1952, section 64)
 abbrev pub own_line : List Line → ℕ → Option Line
 own_line lines x = find (λ line. line.entry == x) lines
 

@@ -6,11 +6,11 @@ use Rattle.entry_format.specs.declared.entry.Entry.{Entry}
 use Rattle.deed_history.specs.Deeds.{Overrides, Commits, Ends}
 use Rattle.deed_history.specs.Held.{HoldsSome, HoldsOwn}
 
--- an Authorise of the session that names this booth is held
+-- an Authorise of the session that names this booth is held (VoteBox, USENIX Security 2008)
 abbrev pub IsAuthorised : ℕ → List Entry → ℕ → Type 0
 IsAuthorised owner entries session = HoldsSome entries (λ deed. deed ≡ Authorise owner session)
 
--- an Override of the session is held, whichever word it says
+-- an Override of the session is held, whichever word it says (VoteBox, USENIX Security 2008)
 abbrev pub IsOverridden : List Entry → ℕ → Type 0
 IsOverridden entries session = HoldsSome entries (Overrides session)
 
@@ -22,11 +22,11 @@ IsOverriddenTo how entries session = HoldsSome entries (λ deed. deed ≡ Overri
 abbrev pub IsClosed : List Entry → Type 0
 IsClosed entries = HoldsSome entries (λ deed. deed ≡ Closed)
 
--- an own Activate of the session is held
+-- an own Activate of the session is held (VoteBox, USENIX Security 2008)
 abbrev pub HasActivated : ℕ → List Entry → ℕ → Type 0
 HasActivated owner entries session = HoldsOwn owner entries (λ deed. deed ≡ Activate session)
 
--- an own Commit of the session is held
+-- an own Commit of the session is held (VoteBox, USENIX Security 2008)
 abbrev pub HasCommitted : ℕ → List Entry → ℕ → Type 0
 HasCommitted owner entries session = HoldsOwn owner entries (Commits session)
 
@@ -34,6 +34,6 @@ HasCommitted owner entries session = HoldsOwn owner entries (Commits session)
 abbrev pub HasCommittedTo : ℕ → List Entry → ℕ → List ℕ → Type 0
 HasCommittedTo owner entries session ballot = HoldsOwn owner entries (λ deed. deed ≡ Commit session ballot)
 
--- an own Cast, Cancel or Challenge of the session is held
+-- an own Cast, Cancel or Challenge of the session is held (VoteBox, USENIX Security 2008)
 abbrev pub HasEndedOwn : ℕ → List Entry → ℕ → Type 0
 HasEndedOwn owner entries session = HoldsOwn owner entries (Ends session)

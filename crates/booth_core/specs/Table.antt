@@ -12,7 +12,7 @@ use Rattle.booth_core.specs.Causes.{IsAuthorised, IsOverridden, IsOverriddenTo, 
 use Rattle.booth_core.specs.Causes.{HasCommitted, HasCommittedTo, HasEndedOwn}
 
 -- The causes against each deed, in the order in which they are tried; `IsWhole` says that the log
--- is whole. A supervisor's deed isn't asked.
+-- is whole. A supervisor's deed isn't asked (VoteBox, USENIX Security 2008).
 abbrev pub causes_of : ℕ → List Entry → Type 0 → Deed → List (Type 0 × BoothNot)
 causes_of owner entries IsWhole (Activate session) =
     (¬ IsAuthorised owner entries session, cause.NotAuthorised)

@@ -14,7 +14,7 @@ use Rattle.booth_core.specs.declared.state.BoothNot.TheVariants as cause
 use Rattle.booth_core.specs.Causes.{IsAuthorised, IsOverriddenTo, IsClosed, HasActivated}
 use Rattle.booth_core.specs.Causes.{HasCommitted, HasCommittedTo}
 
--- an own Cast or Cancel of the session is held
+-- an own Cast or Cancel of the session is held (VoteBox, USENIX Security 2008)
 abbrev pub HasEndedInVersion1 : ℕ → List Entry → ℕ → Type 0
 HasEndedInVersion1 owner entries session = HoldsOwn owner entries (EndsInVersion1 session)
 
@@ -55,6 +55,7 @@ causes_in_version_1 owner entries IsWhole (Authorise booth session) = []
 causes_in_version_1 owner entries IsWhole (Override session how) = []
 causes_in_version_1 owner entries IsWhole Closed = []
 
--- the answer is the first cause that applies, or `Ok` where none does
+-- the answer is the first cause that applies, or `Ok` where none does (VoteBox, USENIX Security
+-- 2008)
 abbrev pub RefusesInVersion1 : ℕ → List Entry → Type 0 → Deed → Result (Unit {0}) BoothNot → Type 0
 RefusesInVersion1 owner entries IsWhole deed answer = IsFirstOf (causes_in_version_1 owner entries IsWhole deed) answer

@@ -4,7 +4,7 @@ use Rattle.entry_format.specs.declared.deed.Deed.{Deed}
 use Rattle.entry_format.specs.declared.deed.Deed.TheVariants.{Authorise, Override, Commit, Cast, Cancel, Challenge}
 use Rattle.entry_format.specs.declared.deed.How.{How}
 
--- an Authorise of the session, for whichever booth
+-- an Authorise of the session, for whichever booth (VoteBox, USENIX Security 2008)
 abbrev pub Authorises : ℕ → Deed → Type 0
 Authorises session deed = (booth : ℕ) × (deed ≡ Authorise booth session)
 
@@ -16,7 +16,8 @@ Overrides session deed = (how : How) × (deed ≡ Override session how)
 abbrev pub Commits : ℕ → Deed → Type 0
 Commits session deed = (ballot : List ℕ) × (deed ≡ Commit session ballot)
 
--- a Cast or a Challenge of the session, of whichever ballot, or a Cancel of it
+-- a Cast or a Challenge of the session, of whichever ballot, or a Cancel of it (VoteBox, USENIX
+-- Security 2008)
 abbrev pub Ends : ℕ → Deed → Type 0
 Ends session deed =
     ((ballot : List ℕ) × (deed ≡ Cast session ballot))

@@ -4,7 +4,7 @@ use Rattle.entry_format.specs.declared.deed.Deed.{Deed}
 use Rattle.entry_format.specs.declared.entry.Entry.{Entry}
 use Rattle.deed_history.specs.Deeds.{Ends}
 
--- an entry with such a deed is held
+-- an entry with such a deed is held (Auditorium, EVT 2007)
 abbrev pub HoldsSome : List Entry → (Deed → Type 0) → Type 0
 HoldsSome entries IsSuch = Any (λ entry. IsSuch entry.deed) entries
 
@@ -12,6 +12,7 @@ HoldsSome entries IsSuch = Any (λ entry. IsSuch entry.deed) entries
 abbrev pub HoldsOwn : ℕ → List Entry → (Deed → Type 0) → Type 0
 HoldsOwn owner entries IsSuch = Any (λ entry. (entry.maker ≡ owner) × IsSuch entry.deed) entries
 
--- a session has ended where a Cast, a Cancel or a Challenge of it is held
+-- a session has ended where a Cast, a Cancel or a Challenge of it is held (VoteBox, USENIX Security
+-- 2008)
 abbrev pub HasEnded : List Entry → ℕ → Type 0
 HasEnded entries session = HoldsSome entries (Ends session)

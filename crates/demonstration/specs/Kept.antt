@@ -9,6 +9,7 @@ use Rattle.log_files.specs.Written.{log_text}
 use Rattle.honest_logs.specs.WhatIsLeft.{end_of}
 
 -- a booth ends a session with a ballot that is cast, with one that is challenged, or with none
+-- (VoteBox, USENIX Security 2008)
 abbrev pub is_end_of : ℕ → Deed → Bool
 is_end_of session (Cast ended ballot) = ended == session
 is_end_of session (Challenge ended ballot) = ended == session

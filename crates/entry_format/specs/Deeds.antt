@@ -5,7 +5,7 @@ use Rattle.entry_format.specs.declared.deed.Deed.TheVariants.{Cast, Cancel, Chal
 use Rattle.roster.specs.declared.post.Role.{Role}
 use Rattle.roster.specs.declared.post.Role.TheVariants.{Supervisor, Booth}
 
--- the deed is one of the role
+-- the deed is one of the role (VoteBox, USENIX Security 2008)
 abbrev pub IsDeedOf : Role → Deed → Type 0
 IsDeedOf Supervisor Opened = Unit {0}
 IsDeedOf Supervisor (Authorise booth session) = Unit {0}

@@ -50,7 +50,7 @@ deed_rest version (Cast session ballot) = number_atom session ∷ Atom ballot �
 deed_rest version (Cancel session) = number_atom session ∷ []
 deed_rest version (Challenge session ballot) = number_atom session ∷ Atom ballot ∷ []
 
--- a deed in the version
+-- a deed in the version (VoteBox, USENIX Security 2008)
 abbrev pub deed_tree : ℕ → Deed → Sexp
 deed_tree version deed = list_of (Atom (deed_word deed) ∷ deed_rest version deed)
 
@@ -83,7 +83,7 @@ IsDeedIn version (Cast session ballot) = Unit {0}
 IsDeedIn version (Cancel session) = Unit {0}
 IsDeedIn version (Challenge session ballot) = version ≡ 2
 
--- the body of an entry, which is signed
+-- the body of an entry, which is signed (Auditorium, EVT 2007)
 abbrev pub body_tree : Entry → Sexp
 body_tree entry =
     list_of (Atom (codes "entry") ∷ number_atom entry.version ∷ Atom entry.election ∷ number_atom entry.maker

@@ -32,7 +32,7 @@ IsFormFault text BadSignature = ⊥
 IsFormFault text Memory = ⊥
 
 -- The entry that the text is of, with rising names and the digest of the whole text, or its first
--- fault.
+-- fault (FIPS 180-4).
 abbrev pub Reads : List ℕ → Result Plain EntryFault → Type 0
 Reads text (Ok plain) =
     ((signature : List ℕ) × IsSignedText text plain.entry signature) × IsAscending plain.entry.names

@@ -8,13 +8,13 @@ use Rattle.entry_format.specs.declared.entry.Entry.{Entry}
 use Rattle.entry_format.specs.EntryText.{body_tree, IsSignedText}
 use Rattle.entry_format.specs.SealedEntry.{SealedEntry}
 
--- the signature's first four bytes are the number
+-- the signature's first four bytes are the number (RFC 8554, 5.4)
 abbrev pub HasIndex : List ℕ → ℕ → Type 0
 HasIndex signature number = (4 ≤ length signature) × (index_in signature ≡ number)
 
 -- the text is that of the entry and the signature, the names rise, the digest is the text's, the
 -- signature's index is the entry's number, and the signature is one of the body's text under the
--- key (RFC 8554, 5.4.2)
+-- key (RFC 8554, 5.4.2) (FIPS 180-4)
 pub record IsSealed (sealed : SealedEntry) : Type 0 where
   pub spelt : IsSignedText sealed.text sealed.entry sealed.signature
   pub rising : IsAscending sealed.entry.names

@@ -49,7 +49,7 @@ abbrev pub pair_cmp : ℕ × ℕ → ℕ × ℕ → Ordering
 pair_cmp p q = ordering_then (nat_cmp p.0 q.0) (nat_cmp p.1 q.1)
 
 module _ {T : Type 0} (node : T → Node) where
-  -- e has the lower stamp, or the same stamp and the lower digest
+  -- e has the lower stamp, or the same stamp and the lower digest (Lamport 1978)
   abbrev pub IsLower : T → T → Type 0
   IsLower e f =
       ((node e).stamp < (node f).stamp)
@@ -72,7 +72,7 @@ module _ {T : Type 0} (node : T → Node) where
     pub rises : IsStrictlySortedBy pair_cmp forks
     pub members : (m n : ℕ) → Contains forks (m, n) ↔ IsFork S m n
 
-  -- one place for each entry of S, by which its graph is that of the names
+  -- one place for each entry of S, by which its graph is that of the names (Auditorium, EVT 2007)
   pub record AreLinks (S : List T) (links : List Links) : Type 0 where
     pub one_each : length links ≡ length S
     pub arrows : IsGraphOf node S (parents_of links) (ragged_of links)

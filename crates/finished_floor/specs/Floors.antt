@@ -55,7 +55,7 @@ pub record AreGathered (script : Script) (posts : List Post) (states : List Mach
   pub by : AllZip (λ m row. row ≡ passes_of m.events) states rows
 
 -- playing the events of the machines in their merged order, on one thread, gives their histories
--- again
+-- again (Lamport 1978)
 abbrev pub ArePlayedAgain : Script → List MachineState → Type 0
 ArePlayedAgain script machines =
     (xs : List (PlacedEvent SealedEntry)) → IsMergedOf node_of_sealed (world_of machines) xs →

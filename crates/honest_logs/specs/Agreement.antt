@@ -35,7 +35,8 @@ pub record IsAllTold (w : World SealedEntry) (graph : EntryGraph SealedEntry) : 
       × ((before (parents_of graph.links) (ragged_of graph.links) y x ≡ False) ↔ (¬ (HeldBefore w f e)))
 
 -- The graph of what is given accuses nobody: it has no stray and no fork, its survivors are the
--- entries given, and they agree with w. Where all that was sent is given, all is reported.
+-- entries given, and they agree with w. Where all that was sent is given, all is reported
+-- (Auditorium, EVT 2007).
 pub record IsHonestGraph (w : World SealedEntry) (given : List SealedEntry) (graph : EntryGraph SealedEntry)
     : Type 0 where
   pub no_stray : graph.strays ≡ []
@@ -45,7 +46,7 @@ pub record IsHonestGraph (w : World SealedEntry) (given : List SealedEntry) (gra
   pub all_told : IsAllGiven w given → IsAllTold w graph
 
 -- each of the entries given was sent in w, no two of them collide, and their graph is an honest
--- one, which isn't refused unless memory runs out
+-- one, which isn't refused unless memory runs out (Auditorium, EVT 2007)
 pub record IsHonestlyGiven (w : World SealedEntry) (given : List SealedEntry) : Type 0 where
   pub were_sent : (e : SealedEntry) → Contains given e → Contains (sent_in w) e
   pub no_collision : HasNoCollision node_of_sealed (λ e. e.text) given

@@ -13,7 +13,8 @@ use Rattle.polling_world.specs.Making.{election_of}
 
 -- Its machines are those of the roster, at most 16, and sent at most 4,096 entries, as many as a
 -- script has actions. Each history is legal, and what was got was sent. The text of each entry that
--- was sent is valid under the roster, in the roster's election, and is that entry's.
+-- was sent is valid under the roster, in the roster's election, and is that entry's (Auditorium,
+-- EVT 2007).
 pub record IsHonestWorld (posts : List Post) (w : World SealedEntry) : Type 0 where
   pub one_each : length w ≡ length posts
   pub few_machines : length posts ≤ max_machines

@@ -23,7 +23,7 @@ low_id id seed i = take 16 (sha256 (codes "auditorium hss id" ++ id ++ u32str i 
 unfoldable pub low_seed : List ℕ → List ℕ → ℕ → List ℕ
 low_seed id seed i = sha256 (codes "auditorium hss seed" ++ id ++ u32str i ++ seed)
 
--- the top tree at leaf i
+-- the top tree at leaf i (RFC 8554, 6)
 abbrev pub top_tree : TwoLevelSecret → ℕ → Secret
 top_tree s i = record { kind = s.kind; height = s.top; id = s.id; seed = s.seed; next = i }
 
@@ -41,12 +41,12 @@ low_tree s i q = record {
 abbrev pub low_tree_of : TwoLevelSecret → ℕ → Secret
 low_tree_of s n = low_tree s (n / 2 ^ s.low) (n % 2 ^ s.low)
 
--- the public key: L and the public key of the top tree (6.1)
+-- the public key: L and the public key of the top tree (RFC 8554, 6.1)
 unfoldable pub hss_public : TwoLevelSecret → List ℕ
 hss_public s = u32str 2 ++ public_of (top_tree s 0)
 
 -- signature n of a message: the number of signed public keys, the top tree's signature of the low
--- tree's public key, that key, and the low tree's signature of the message (6.2)
+-- tree's public key, that key, and the low tree's signature of the message (RFC 8554, 6.2)
 unfoldable pub hss_signed : TwoLevelSecret → ℕ → List ℕ → List ℕ
 hss_signed s n message =
     let i = n / 2 ^ s.low in

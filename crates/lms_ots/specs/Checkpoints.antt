@@ -23,7 +23,7 @@ chain_checkpoints W8 = 15
 abbrev pub checkpoint_count : OtsKind → ℕ
 checkpoint_count kind = (parameters kind).p * chain_checkpoints kind
 
--- checkpoint n of chain i, counted from 0: the secret element after n + 1 strides
+-- checkpoint n of chain i, counted from 0: the secret element after n + 1 strides (RFC 8554, 4.3)
 unfoldable pub checkpoint : OtsKind → List ℕ → ℕ → List ℕ → ℕ → ℕ → List ℕ
 checkpoint kind id q seed i n = chain id q i 0 ((n + 1) * stride kind) (secret_element id q seed i)
 

@@ -9,7 +9,7 @@ pub record Digests : Type 0 where
   pub list : List (List ℕ)
   pub spare : ℕ
 
--- whether the digest is among these
+-- whether the digest is among these (Auditorium, EVT 2007)
 abbrev pub has : List (List ℕ) → List ℕ → Bool
 has digests d = list_any (λ c. bytes_eq d c) digests
 

@@ -26,6 +26,7 @@ module _ {T : Type 0} (node : T → Node) where
   digest_at es p = digest_or_none (slice_get es p)
 
   -- the digests at these places are the frontier of the entries, in its ascending order
+  -- (Auditorium, EVT 2007)
   pub record IsFrontierAt (es : List T) (places : List ℕ) : Type 0 where
     pub inside : All (λ p. p < length es) places
     pub digests : map (λ p. digest_at es p) places ≡ frontier node es

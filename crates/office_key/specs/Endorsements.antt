@@ -15,7 +15,7 @@ top_seed seed name = sha256 (codes "auditorium office seed" ++ seed ++ name)
 unfoldable pub top_id : List ℕ → List ℕ → List ℕ
 top_id seed name = take 16 (sha256 (codes "auditorium office id" ++ seed ++ name))
 
--- the key of the office of this name
+-- the key of the office of this name (RFC 8554, 6)
 abbrev pub office_secret : List ℕ → Office → TwoLevelSecret
 office_secret name office = record {
   kind = W4;

@@ -16,7 +16,7 @@ use Rattle.entry_order.specs.Frontier.{frontier}
 use Rattle.entry_order.specs.History.{held, sent, greatest_stamp}
 use Rattle.polling_world.specs.Configs.{Config}
 
--- the election of a roster: SHA-256 of its text
+-- the election of a roster: SHA-256 of its text (Auditorium, EVT 2007)
 unfoldable pub election_of : List Post → List ℕ
 election_of machines = sha256 (text_of (roster_tree machines))
 
@@ -38,13 +38,15 @@ sealed_with config entry signature =
     sealed_from entry signature (text_of (signed_tree entry signature)) (public_of config.key)
 
 -- the machine's k-th entry, with this stamp, these names and this deed, signed at the key's index k
+-- (RFC 8554; Auditorium, EVT 2007)
 unfoldable pub made : Config → ℕ → ℕ → List (List ℕ) → Deed → SealedEntry
 made config k stamp names deed =
     let entry = entry_with config k stamp names deed in
     sealed_with config entry (signed_by (record config.key { next = k }) (text_of (body_tree entry)))
 
 -- what the machine would send after this history: its number is how many entries it sent, its stamp
--- is one more than the greatest that it holds, and it names the frontier
+-- is one more than the greatest that it holds, and it names the frontier (Auditorium, EVT 2007;
+-- Lamport 1978)
 abbrev pub next_entry : Config → List (Event SealedEntry) → Deed → SealedEntry
 next_entry config h deed =
     made config (length (sent h)) (1 + greatest_stamp node_of_sealed (held h)) (frontier node_of_sealed (held h)) deed

@@ -54,7 +54,7 @@ abbrev pub RoleRefuses : Role → ℕ → List (Event SealedEntry) → Deed → 
 RoleRefuses Supervisor owner h deed answer = SupervisorRefuses owner (entries_in h) deed answer
 RoleRefuses Booth owner h deed answer = BoothRefuses owner (entries_in h) (IsWholeHistory h) deed answer
 
--- what the rules of a machine's role answer to its deed
+-- what the rules of a machine's role answer to its deed (VoteBox, USENIX Security 2008)
 abbrev pub Refuses : Config → List (Event SealedEntry) → Deed → Result (Unit {0}) LeftWhy → Type 0
 Refuses config h deed answer = RoleRefuses config.role config.number h deed answer
 

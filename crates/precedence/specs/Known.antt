@@ -24,7 +24,8 @@ abbrev pub known_before : Known → ℕ → ℕ → Three
 known_before known y x =
     if row_has known.rows x y then True else if known_whole known x then False else Unknown
 
--- what they say is what the graph says: nobody who reads on need know how it is kept
+-- what they say is what the graph says: nobody who reads on need know how it is kept (Kleene 1952,
+-- section 64)
 pub record IsKnownOf (graph : Graph) (known : Known) : Type 0 where
   pub nodes : known_count known ≡ graph.count
   pub orders : (y x : ℕ) → x < graph.count →

@@ -51,7 +51,7 @@ pub record AreRoster (machines : List Post) : Type 0 where
   pub distinct : AreDistinct machines
   pub supervisor : HaveOneSupervisor machines
 
--- the machines make a roster that has a text: each key has 56 octets
+-- the machines make a roster that has a text: each key has 56 octets (RFC 8554, 5.3)
 pub record HaveText (machines : List Post) : Type 0 where
   pub roster : AreRoster machines
   pub keys : All HasKey machines

@@ -13,7 +13,8 @@ abbrev pub role_word : Role → List ℕ
 role_word Supervisor = codes "supervisor"
 role_word Booth = codes "booth"
 
--- a machine: its name, its role and its key
+-- a machine: its name, its role and its key (VoteBox, USENIX Security 2008; Rivest,
+-- "S-expressions")
 abbrev pub post_tree : Post → Sexp
 post_tree post = list_of (Atom post.name ∷ Atom (role_word post.role) ∷ Atom post.key ∷ [])
 

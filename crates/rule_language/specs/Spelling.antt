@@ -13,7 +13,7 @@ use Rattle.rule_language.specs.Kinds.{kind_word, field_word}
 use Rattle.rule_language.specs.Trees.{Trees, no_trees, tree_then, RuleTree}
 use Rattle.rule_language.specs.Lawful.{are_rules}
 
--- a token: the bytes of a word, or of a parenthesis
+-- a token: the bytes of a word, or of a parenthesis (Querifier, SADFE 2008)
 abbrev pub Token : Type 0
 Token = List ℕ
 

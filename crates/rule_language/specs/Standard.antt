@@ -17,26 +17,33 @@ Inner = Trees → Trees
 abbrev x : ℕ
 x = 120
 
+-- the second variable
 abbrev y : ℕ
 y = 121
 
+-- the third variable
 abbrev z : ℕ
 z = 122
 
 -- a form with no formula, one, or more in it
 
+-- a form with no formula in it
 abbrev atom : Form → Inner
 atom form rest = tree_then form no_trees rest
 
+-- a form with one formula in it
 abbrev one : Form → Inner → Inner
 one form f rest = tree_then form (f no_trees) rest
 
+-- a form with two
 abbrev two : Form → Inner → Inner → Inner
 two form f g rest = tree_then form (f (g no_trees)) rest
 
+-- a form with three
 abbrev three : Form → Inner → Inner → Inner → Inner
 three form f g h rest = tree_then form (f (g (h no_trees))) rest
 
+-- a form with five
 abbrev five : Form → Inner → Inner → Inner → Inner → Inner → Inner
 five form f g h k l rest = tree_then form (f (g (h (k (l no_trees))))) rest
 
@@ -44,21 +51,27 @@ five form f g h k l rest = tree_then form (f (g (h (k (l no_trees))))) rest
 abbrev same_session : ℕ → ℕ → Inner
 same_session v u = atom (form.Equal (Of v field.Session) (Of u field.Session))
 
+-- that they have one maker
 abbrev same_maker : ℕ → ℕ → Inner
 same_maker v u = atom (form.Equal (Of v field.Maker) (Of u field.Maker))
 
+-- that they have one ballot
 abbrev same_ballot : ℕ → ℕ → Inner
 same_ballot v u = atom (form.Equal (Of v field.Ballot) (Of u field.Ballot))
 
+-- that they have one number
 abbrev same_number : ℕ → ℕ → Inner
 same_number v u = atom (form.Equal (Of v field.Number) (Of u field.Number))
 
+-- that the first is for the booth that made the second
 abbrev booth_is_maker : ℕ → ℕ → Inner
 booth_is_maker v u = atom (form.Equal (Of v field.Booth) (Of u field.Maker))
 
+-- that x and y are one entry
 abbrev is_same : Inner
 is_same = atom (form.Same x y)
 
+-- that x is of the kind
 abbrev of_kind : Kind → Inner
 of_kind kind = atom (form.OfKind x kind)
 
@@ -66,21 +79,27 @@ of_kind kind = atom (form.OfKind x kind)
 abbrev every_x : Kind → Inner → Trees
 every_x kind f = one (form.ForEvery x kind) f no_trees
 
+-- for every y of the kind
 abbrev every_y : Kind → Inner → Inner
 every_y kind f = one (form.ForEvery y kind) f
 
+-- for every z of the kind
 abbrev every_z : Kind → Inner → Inner
 every_z kind f = one (form.ForEvery z kind) f
 
+-- for some y of the kind before x
 abbrev some_y_before : Kind → Inner → Inner
 some_y_before kind f = one (form.SomeBefore y kind x) f
 
+-- for some z of the kind before x
 abbrev some_z_before : Kind → Inner → Inner
 some_z_before kind f = one (form.SomeBefore z kind x) f
 
+-- for some z of the kind before y
 abbrev some_z_before_y : Kind → Inner → Inner
 some_z_before_y kind f = one (form.SomeBefore z kind y) f
 
+-- the opposite of a formula
 abbrev never : Inner → Inner
 never f = one form.Not f
 
@@ -186,13 +205,14 @@ abbrev pub v4_body : Trees
 v4_body = every_x kind.Forced (two form.And (some_y_before kind.Authorise (same_session y x))
     (some_z_before kind.Commit (same_session z x)))
 
+-- a rule of this name
 abbrev named : List ℕ → Trees → RuleTree
 named name body = record { name = name; body = body }
 
 -- one opening, before every authorising (O); a booth acts on its own authorised session alone (A),
 -- and commits, casts, challenges or cancels it in order (C); overrides concern authorised sessions
 -- and precede no cast that they forbid (V); one closing, after which nothing is authorised or cast
--- (P); each role its deeds (M); no fork, and a chain (K)
+-- (P); each role its deeds (M); no fork, and a chain (K) (VoteBox, USENIX Security 2008)
 abbrev pub standard_rules : List RuleTree
 standard_rules =
     named (codes "O1") o1_body ∷ named (codes "O2") o2_body ∷ named (codes "A1") a1_body

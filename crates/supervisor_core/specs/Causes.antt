@@ -8,7 +8,7 @@ use Rattle.entry_format.specs.declared.entry.Entry.{Entry}
 use Rattle.deed_history.specs.Deeds.{Authorises, Commits}
 use Rattle.deed_history.specs.Held.{HoldsSome, HoldsOwn, HasEnded}
 
--- an own Opened is held
+-- an own Opened is held (VoteBox, USENIX Security 2008)
 abbrev pub HasOpened : ℕ → List Entry → Type 0
 HasOpened owner entries = HoldsOwn owner entries (λ deed. deed ≡ Opened)
 
@@ -16,11 +16,11 @@ HasOpened owner entries = HoldsOwn owner entries (λ deed. deed ≡ Opened)
 abbrev pub HasClosed : ℕ → List Entry → Type 0
 HasClosed owner entries = HoldsOwn owner entries (λ deed. deed ≡ Closed)
 
--- an own Authorise of the session is held
+-- an own Authorise of the session is held (VoteBox, USENIX Security 2008)
 abbrev pub HasAuthorised : ℕ → List Entry → ℕ → Type 0
 HasAuthorised owner entries session = HoldsOwn owner entries (Authorises session)
 
--- an own Override of the session that says the word is held
+-- an own Override of the session that says the word is held (VoteBox, USENIX Security 2008)
 abbrev pub HasOverridden : ℕ → List Entry → ℕ → How → Type 0
 HasOverridden owner entries session how = HoldsOwn owner entries (λ deed. deed ≡ Override session how)
 
@@ -29,16 +29,17 @@ abbrev pub other : How → How
 other word.Cancel = word.Cast
 other word.Cast = word.Cancel
 
--- a Commit of the session is held, by whichever booth
+-- a Commit of the session is held, by whichever booth (VoteBox, USENIX Security 2008)
 abbrev pub IsCommitted : List Entry → ℕ → Type 0
 IsCommitted entries session = HoldsSome entries (Commits session)
 
--- an own Authorise of the booth and the session is held, and the session hasn't ended
+-- an own Authorise of the booth and the session is held, and the session hasn't ended (VoteBox,
+-- USENIX Security 2008)
 abbrev pub IsRunning : ℕ → List Entry → ℕ → ℕ → Type 0
 IsRunning owner entries booth session =
     HoldsOwn owner entries (λ deed. deed ≡ Authorise booth session) × (HasEnded entries session → ⊥)
 
--- an own Authorise of the booth is held whose session hasn't ended
+-- an own Authorise of the booth is held whose session hasn't ended (VoteBox, USENIX Security 2008)
 abbrev pub IsBusy : ℕ → List Entry → ℕ → Type 0
 IsBusy owner entries booth = (session : ℕ) × IsRunning owner entries booth session
 

@@ -12,7 +12,8 @@ use Rattle.supervisor_core.specs.declared.state.SupervisorNot.TheVariants as cau
 use Rattle.supervisor_core.specs.Causes.{HasOpened, HasClosed, HasAuthorised, HasOverridden, other}
 use Rattle.supervisor_core.specs.Causes.{IsCommitted, IsBusy, HasSessionsLeft}
 
--- The causes against each deed, in the order in which they are tried. A booth's deed isn't asked.
+-- The causes against each deed, in the order in which they are tried. A booth's deed isn't asked
+-- (VoteBox, USENIX Security 2008).
 abbrev pub causes_of : ℕ → List Entry → Deed → List (Type 0 × SupervisorNot)
 causes_of owner entries Opened = (HasOpened owner entries, cause.AlreadyOpened) ∷ []
 causes_of owner entries (Authorise booth session) =

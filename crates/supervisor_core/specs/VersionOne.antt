@@ -12,11 +12,12 @@ use Rattle.supervisor_core.specs.declared.state.SupervisorNot.{SupervisorNot}
 use Rattle.supervisor_core.specs.declared.state.SupervisorNot.TheVariants as cause
 use Rattle.supervisor_core.specs.Causes.{HasOpened, HasClosed, HasAuthorised}
 
--- a Cast or a Cancel of the session is held
+-- a Cast or a Cancel of the session is held (VoteBox, USENIX Security 2008)
 abbrev pub HasEndedInVersion1 : List Entry → ℕ → Type 0
 HasEndedInVersion1 entries session = HoldsSome entries (EndsInVersion1 session)
 
--- an own Authorise of the booth and the session is held, and the session hasn't ended
+-- an own Authorise of the booth and the session is held, and the session hasn't ended (VoteBox,
+-- USENIX Security 2008)
 abbrev pub IsRunningInVersion1 : ℕ → List Entry → ℕ → ℕ → Type 0
 IsRunningInVersion1 owner entries booth session =
     HoldsOwn owner entries (λ deed. deed ≡ Authorise booth session) × (HasEndedInVersion1 entries session → ⊥)
@@ -53,6 +54,7 @@ causes_in_version_1 owner entries (Cast session ballot) = []
 causes_in_version_1 owner entries (Cancel session) = []
 causes_in_version_1 owner entries (Challenge session ballot) = []
 
--- the answer is the first cause that applies, or `Ok` where none does
+-- the answer is the first cause that applies, or `Ok` where none does (VoteBox, USENIX Security
+-- 2008)
 abbrev pub RefusesInVersion1 : ℕ → List Entry → Deed → Result (Unit {0}) SupervisorNot → Type 0
 RefusesInVersion1 owner entries deed answer = IsFirstOf (causes_in_version_1 owner entries deed) answer
