@@ -4,7 +4,7 @@
 # usage: make_county.sh N FOLDER [SEED]
 #
 # FOLDER is made, with N places. Twelve in turn are damaged in twelve ways; sizes, logs, cuts and bytes are picked by the
-# number SEED. FOLDER/expected.tsv has the columns of summary.tsv but the last, for the standard rules. They follow from
+# number SEED. FOLDER/expected.tsv has the columns of summary.tsv up to `ends`, for the standard rules. They follow from
 # what is done here and from what the rules ask, not from any report.
 set -euo pipefail
 
@@ -13,6 +13,10 @@ if [ $# -lt 2 ]; then
     exit 4
 fi
 count=$1 folder=$2 seed=${3:-1}
+if ! command -v auditorium >/dev/null; then
+    echo "there is no program auditorium on the path" >&2
+    exit 127
+fi
 work=$(mktemp -d)
 trap 'rm -r "$work"' EXIT
 
@@ -71,7 +75,7 @@ lose() {
     echo "lose b1 $1 sv" >>"$work/script"
 }
 
-# Prints the place's line: status, entries, gaps, kept, broken, unsettled.
+# Prints the place's line: status, entries, gaps, kept, broken, unsettled, unlogged, logs, refused, ends.
 expect() {
     local IFS=$'\t'
     printf '%s\t%s\n' "$name" "$*"
@@ -92,24 +96,24 @@ make_place() {
     case $((place % 12)) in
     1)  # Nothing is lost.
         carry_out play "$work/script"
-        expect 0 "$entries" 0 22 0 0 ;;
+        expect 0 "$entries" 0 22 0 0 0 4 0 0 ;;
     2)  # One log is left. Everybody has heard everything, so it has all entries.
         carry_out run "$work/script"
         keep_one
-        expect 0 "$entries" 0 22 0 0 ;;
+        expect 0 "$entries" 0 22 0 0 3 1 0 0 ;;
     3)  # A booth's log is left, torn in a record. It has entries in the order of sending, so none that is named is lost.
         carry_out play "$work/script"
         log=${logs[$(pick booth 3)]} left=$((1 + $(pick left $((entries - 1)))))
         keep_one
         end=$(records | sed -n "$((left + 1))p")
         truncate -s $((end + 1 + $(pick byte 2200))) "$log"
-        expect 1 "$left" 0 22 0 0 ;;
+        expect 1 "$left" 0 22 0 0 3 1 0 1 ;;
     4)  # The same, cut after a record: nothing shows it.
         carry_out play "$work/script"
         log=${logs[$(pick booth 3)]} left=$((1 + $(pick left $((entries - 1)))))
         keep_one
         truncate -s "$(records | sed -n "$((left + 1))p")" "$log"
-        expect 0 "$left" 0 22 0 0 ;;
+        expect 0 "$left" 0 22 0 0 3 1 0 0 ;;
     5)  # The supervisor's log is left, cut after a cast, which comes before the commitment there. C2 and K2 ask for the
         # commitment, V2 and P4 for all that came before the cast.
         carry_out play "$work/script"
@@ -117,31 +121,31 @@ make_place() {
         keep_one
         end=$(records | awk -v cast="$(deed 4:cast)" '!end && $1 > cast { end = $1 } END { print end }')
         truncate -s "$end" "$log"
-        expect 2 "$(records | wc -l)" 1 18 0 4 ;;
+        expect 2 "$(records | wc -l)" 1 18 0 4 3 1 0 0 ;;
     6)  # The supervisor's log is left, and an activation was lost on its way there. C1 and K2 ask for it, V2, P2 and P4
         # for all that came before a later cast or authorisation.
         lose $((3 * $(pick lost 2)))
         carry_out run "$work/script"
         log=place.sv.log
         keep_one
-        expect 2 $((entries - 1)) 1 17 0 5 ;;
+        expect 2 $((entries - 1)) 1 17 0 5 1 1 0 0 ;;
     7)  # The same with the commitment of the third session: C2 asks for it.
         lose $((3 * $(pick lost 2)))
         lose 7
         carry_out run "$work/script"
         log=place.sv.log
         keep_one
-        expect 2 $((entries - 2)) 2 16 0 6 ;;
+        expect 2 $((entries - 2)) 2 16 0 6 1 1 0 0 ;;
     8)  # A log is altered, the others aren't.
         carry_out play "$work/script"
         alter_entry
-        expect 1 "$entries" 0 22 0 0 ;;
+        expect 1 "$entries" 0 22 0 0 0 4 1 0 ;;
     9)  # The altered log alone is left. Here each entry names the one before it alone, so what came before the altered
         # one is tied to nothing after it: besides the rules as in 6, or C2 for C1, O2 and P3 ask for that.
         carry_out play "$work/script"
         keep_one
         alter_entry
-        expect 2 $((entries - 1)) 1 15 0 7 ;;
+        expect 2 $((entries - 1)) 1 15 0 7 3 1 1 0 ;;
     10) # A log is replaced by one of another day with the same keys, at whose end another ballot was cast: two entries
         # have one number (K1), a session is cast twice (C3), and the election is closed twice (P1).
         sed "s/^\(do b. c[a-z]* $sessions \)00/\1ff/" "$work/script" >"$work/other"
@@ -149,22 +153,23 @@ make_place() {
         mv "$log" "$work/kept"
         carry_out play "$work/script"
         mv "$work/kept" "$log"
-        expect 3 $((entries + 3)) 0 19 3 0 ;;
+        expect 3 $((entries + 3)) 0 19 3 0 0 4 0 0 ;;
     11) # The roster, or a log's header, is altered.
         carry_out play "$work/script"
         logs+=(place.roster)
         log=${logs[$(pick file 5)]}
         alter 0
-        expect 5 - - - - - ;;
+        expect 5 - - - - - - - - - ;;
     0)  # No log is left.
         carry_out play "$work/script"
         rm place.*.log
-        expect 6 - - - - - ;;
+        expect 6 - - - - - - - - - ;;
     esac
 }
 
 mkdir "$folder"
-printf 'place\tstatus\tentries\tgaps\tkept\tbroken\tunsettled\n' >"$folder/expected.tsv"
+printf 'place\tstatus\tentries\tgaps\tkept\tbroken\tunsettled\tunlogged\tlogs\trefused\tends\n' \
+    >"$folder/expected.tsv"
 for ((place = 1; place <= count; place++)); do
     name=$(printf '%0*d' ${#count} "$place")
     mkdir "$folder/$name"
