@@ -26,7 +26,7 @@ USED_FROM_BELOW = "entry_order"
 # ways go straight up there are empty places.
 PLACES = """
 command_hints  auditorium_cli  auditorium_core  demonstration   auditorium_view
-entangled_picture auditor      .                honest_reports  honest_rules
+entangled_picture auditor      report_exactness honest_reports  honest_rules
 evidence       live_auditor    .                counterexamples honest_logs
 -----
 .              .               finished_floor   log_lock        broadcast_queues
@@ -35,7 +35,7 @@ ruled_queues   .               .                machine_floor   floor_links
 log_repair     .               election_script  polling_world   .
 deed_history   .               .                booth_core      supervisor_core
 -----
-audit_proof    rule_engine     .                rule_meaning    rule_language
+audit_proof    rule_engine     rule_exactness   rule_meaning    rule_language
 entry_graph    precedence      .                entry_order     held_counts
 -----
 entry_gaps     log_files       .                entangled_log   log_frontier

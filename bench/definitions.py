@@ -1,8 +1,8 @@
 #!/usr/bin/env python3
-"""The definitions that public clauses reach, whether docs/DEFINITIONS.md has exactly these, and whether
-docs/BELIEVE.md has what each command needs of them.
+"""The definitions that public clauses reach, and of each command those that have to be read.
 
 usage: python3 bench/definitions.py [--list | --write]
+       python3 bench/definitions.py read [PART] [--html]
 
 A public clause is a `requires` or `ensures` of a function that its crate exports, or of a trait's function,
 and so are the members that a trait or a type gives to contracts (`ghost NAME`, `Value`). What a type keeps of
@@ -11,40 +11,40 @@ that they name in turn, in the `specs/` of all crates. A constructor counts as i
 a value; elsewhere a word that is a field's is taken for a variable. What is behind a type is reached too: how contracts tell its values apart (`coded`), and which error `?` makes of
 another (`from_gives`). Of all that is reached, only this may lie in `specs/inside/`.
 
-In docs/DEFINITIONS.md the first column of a table names definitions of the crate whose name heads the
-section, first all that the contract of `auditorium` reaches, then the others, and in a part of their
-own those of `specs/inside/`. Printed is what the document lacks, lists without need, gives to another file,
-has too late or in another part, and what a clause reaches although it lies in `specs/inside/`; the exit
-status is 1 if there is any such line. With --list each reached definition is printed with its comment,
-those that `auditorium` reaches marked by `*`.
+The meaning of each reached definition is its comment, with its public source: printed is each that has none,
+and what a clause reaches although it lies in `specs/inside/`.
 
-docs/BELIEVE.md has a part for the law on order, one for what all commands share, and one for each command:
-what the record reaches that the table of commands gives it. In a part the definitions stand from the top down: crate
-by crate, each after those of the part that name it. A part of the page is what stands between `<!-- NAME -->`
-and `<!-- end -->`. The status is 1, too, where one differs from the sources, or a command has none. With
---write the parts are written anew, and the heading of one that is missing. Lines are counted without blanks,
-imports and comments.
+Some definitions fix no byte of an answer: what is said of answers, as that a kept rule holds whatever was lost.
+They have to be read. All others fix bytes: by the law `one_answer_is_right` an answer that a second
+program gives, too, tests them. `read` prints the text of those to be read for a part, in reading order,
+each with its file and line; without PART, all of them. A part is a command's word, `law`, `all` or `laws`. With --html
+it is one page, in which names are links.
+
+docs/BELIEVE.md has the counts between `<!-- figures -->` and `<!-- end -->`; the exit status is 1 where they differ from
+the sources, or a line is printed. --write writes them anew. --list prints each reached definition with its
+comment, those that `auditorium` reaches marked by `*`. Lines are counted without blanks, imports and comments.
 """
+import html
 import pathlib
 import re
 import sys
-from collections import Counter, defaultdict
+from collections import defaultdict
 
 ROOT = pathlib.Path(__file__).resolve().parent.parent
-DOCUMENT = ROOT / "docs" / "DEFINITIONS.md"
 PAGE = ROOT / "docs" / "BELIEVE.md"
 TOP = ("auditorium_core", "auditorium")
-FIRST = "## What the headline needs"
-BEHIND = "## What is behind types"
 INSIDE = "specs/inside/"
 # What says of each command what it is, by one record for each.
 TABLE = "command_parts"
 # What the law on order says, and of which worlds it is proved.
-LAW = ("OrderIsReceiptIn", "Distinct")
-WORLDS = ("OrderIsReceiptInOrderlyWorlds", "OrderIsReceipt")
-# The parts of the page that are no command's, and what is said of honest places, which is counted apart.
-SHARED = {"law": "the law on order", "worlds": "of which worlds it is proved", "every": "what all commands share"}
-HONEST = {"order": ("IsOrderOfPlaces",), "audit": ("IsAuditOfPlaces",)}
+LAW = ("OrderIsReceiptIn", "Distinct", "OrderIsReceiptInOrderlyWorlds", "OrderIsReceipt")
+# What is said of answers, beside what they are. Only `run` has several right answers, so all of it is read.
+MEANING = ("IsSound", "IsSettled", "IsExact", "IsOrderOfPlaces", "IsAuditOfPlaces", "KeepOrder", "LeaveHonestFiles",
+           "HoldsAmong", "MayBeAll", "TellsNoneBroken")
+MANY_ANSWERS = "run"
+# What the laws of the top crate say of answers.
+LAWS = ("IsComplete", "NumbersRise", "WatchesAgreeWithAudits", "HonestWatchesBreakNoRule", "ChecksAgreeWithAudits",
+        "PlaysAreReadBack", "RunsAreReadBack")
 WORD = re.compile(r"[A-Za-z_][\w'?]*(?:\.[A-Za-z_][\w'?]*)?")
 GIVEN = re.compile(r"([A-Za-z_][\w'?]*) = ")
 IMPORT = re.compile(r"^\s*(?:pub |ghost )?use Rattle\.(\w+)\.specs\.([\w.]+?)(?:\.\{(.*?)\}| as (\w+));?$", re.S | re.M)
@@ -250,51 +250,15 @@ def starts(known):
     return found
 
 
-def listed():
-    """The definitions that the document's tables name, by crate, each with the files that its row names; and
-    those of each part, by crate and name."""
-    found, parts, crate, table, part = defaultdict(dict), defaultdict(set), None, False, None
-    for line in DOCUMENT.read_text().splitlines():
-        part = line if line.startswith("## ") else part
-        if line.startswith("#"):
-            heading = re.findall(r"`(\w+)`", line)
-            crate = heading[0] if heading else None
-        if not line.startswith("|"):
-            table = False
-        elif line.startswith("| Definition"):
-            table = True
-        elif table and crate:
-            names, files = (re.findall(r"`([^`]+)`", cell) for cell in line.split("|")[1:3])
-            for name in names:
-                found[crate].setdefault(name, set()).update(files)
-                parts[part].add((crate, name))
-    return found, parts
-
-
-def disagreements(known, reached, by_clauses, top):
-    """What the document lacks, lists without need, places wrongly or has in another part; and what clauses reach
-    inside."""
-    shown, parts = listed()
-    wanted = defaultdict(lambda: defaultdict(set))
+def faults(known, reached, by_clauses):
+    """What clauses reach inside, and what has no sentence."""
     for crate, module, name in reached:
-        file = known[crate, module].path.relative_to(ROOT / "crates" / crate).as_posix()
-        wanted[crate][name].add(file)
-        inside = file.startswith(INSIDE)
-        if inside and (crate, module, name) in by_clauses:
+        there = known[crate, module]
+        file = there.path.relative_to(ROOT / "crates" / crate).as_posix()
+        if file.startswith(INSIDE) and (crate, module, name) in by_clauses:
             yield f"a public clause reaches {crate} {name}, in {file}"
-        if name in shown[crate] and inside != ((crate, name) in parts[BEHIND]):
-            yield f"has in another part {crate} {name}"
-    for crate in crates():
-        for name in sorted(wanted[crate].keys() | shown[crate].keys()):
-            if name not in shown[crate]:
-                yield f"lacks {crate} {name}"
-            elif name not in wanted[crate]:
-                yield f"lists without need {crate} {name}"
-            elif not wanted[crate][name] <= shown[crate][name]:
-                yield f"places wrongly {crate} {name}: {', '.join(sorted(wanted[crate][name]))}"
-    late = {(crate, name) for crate, _, name in top} - parts[FIRST]
-    yield from (f"has too late {crate} {name}" for crate, name in sorted(late) if name in shown[crate])
-    yield from (f"names no crate: {crate}" for crate in sorted(set(shown) - set(crates())))
+        if not there.comments[name]:
+            yield f"has no sentence: {crate} {name}, in {file}"
 
 
 def equations(known, name):
@@ -334,19 +298,24 @@ def key_of(known, crate, name):
     sys.exit(f"there is no {name} in {crate}: say in this script where its part begins")
 
 
-def parts_of_page(known, named):
-    """The parts of the page by name, each with the definitions that it has."""
+def parts_to_read(known, named):
+    """The parts by name, each with the definitions to be read for it, and all that is reached in all."""
     by_word = commands(known)
-    answers = {root for roots in by_word.values() for root in roots}
     law = reached_from(known, [key_of(known, "entry_order", name) for name in LAW])
-    worlds = reached_from(known, [key_of(known, "entry_order", name) for name in WORLDS], law)
-    parts = {"law": law, "worlds": worlds, "every": reached_from(known, named[TOP], answers)}
-    for word, roots in by_word.items():
-        honest = [key_of(known, TOP[0], name) for name in HONEST.get(word, ())]
-        parts[word] = reached_from(known, roots, honest)
-        if honest:
-            parts[f"{word} honest"] = reached_from(known, honest)
-    return {name: from_top(known, keys) for name, keys in parts.items()}
+    meaning = [key_of(known, TOP[0], name) for name in MEANING]
+    answers = [root for word, roots in by_word.items() if word != MANY_ANSWERS for root in roots]
+    fixed = set(reached_from(known, answers, meaning)) - set(law)
+    roots = {root for given in by_word.values() for root in given}
+    parts = {"law": law, "all": reached_from(known, named[TOP], roots)}
+    parts |= {word: reached_from(known, given) for word, given in by_word.items()}
+    parts["laws"] = reached_from(known, [key_of(known, TOP[0], name) for name in LAWS])
+    every = set().union(*parts.values())
+    common = set(law) | set(parts["all"])
+    read = {}
+    for name, keys in parts.items():
+        own = [key for key in keys if key not in fixed and (name in ("law", "all") or key not in common)]
+        read[name] = from_top(known, own)
+    return read, every
 
 
 def from_top(known, keys):
@@ -373,108 +342,90 @@ def lines_of(known, keys):
     return sum(len(known[key[:2]].bodies[key[2]]) for key in keys)
 
 
-def counted(known, keys):
-    """How many definitions and lines."""
-    one, line = len(keys), lines_of(known, keys)
-    return f"{one:,} definition{'' if one == 1 else 's'}, {line:,} line{'' if line == 1 else 's'}"
-
-
-def label(known, key, doubles):
-    """How the page names a definition: with its place, too, where another has the name, but for its case."""
-    crate, module, name = key
-    place = known[crate, module].places[name]
-    return f"[`{name}`][{crate} {module} {place}]" if doubles[name.lower()] > 1 else f"[`{name}`]"
-
-
-def own_of(parts, name):
-    """What a part has and no part of another command."""
-    others = (keys for other, keys in parts.items() if other.split()[0] != name.split()[0])
-    return set(parts[name]).difference(*others)
-
-
-def list_of_part(known, parts, name, doubles):
-    """The list of a part: a line for each crate, its own definitions in bold."""
-    keys = parts[name]
-    own = own_of(parts, name) if name not in SHARED else set()
-    text = counted(known, keys)
-    if own:
-        text += f". In bold what is its own: {counted(known, own)}"
-    lines = [f"{text}.", ""]
-    for crate in dict.fromkeys(key[0] for key in keys):
-        of_crate = [key for key in keys if key[0] == crate]
-        shown = (f"**{label(known, key, doubles)}**" if key in own else label(known, key, doubles) for key in of_crate)
-        lines.append(f"- `{crate}` ({counted(known, of_crate)}): {', '.join(shown)}")
+def table_of_parts(known, read, every):
+    """What is to be read for each part, and what all parts have that fixes bytes."""
+    lines = ["| Part | To read | Lines |", "|---|---|---|"]
+    for name, keys in read.items():
+        lines.append(f"| `{name}` | {len(keys):,} | {lines_of(known, keys):,} |")
+    union = set().union(*map(set, read.values()))
+    rest = every - union
+    lines.append(f"| to read, all together | {len(union):,} | {lines_of(known, union):,} |")
+    lines.append(f"| fixed byte by byte, so cross-checked | {len(rest):,} | {lines_of(known, rest):,} |")
     return lines
 
 
-def table_of_parts(known, parts, order):
-    """What each part has, what of it is its own, and what of it no part above has."""
-    lines = ["| To read | Definitions | Lines | Its own | New after the rows above |", "|---|---|---|---|---|"]
-    above = set()
-    for name in order:
-        new = [key for key in parts[name] if key not in above]
-        own = own_of(parts, name) if name not in SHARED else ()
-        cells = [title(name), f"{len(parts[name]):,}", f"{lines_of(known, parts[name]):,}",
-                 f"{len(own)}, in {lines_of(known, own):,} lines" if own else "",
-                 f"{len(new)}, in {lines_of(known, new):,} lines"]
-        lines.append(f"| {' | '.join(cells)} |")
-        above |= set(new)
-    return lines + [f"| all together | {len(above):,} | {lines_of(known, above):,} | | |"]
-
-
-def title(name):
-    """A part's name in the table."""
-    word, _, honest = name.partition(" ")
-    return SHARED.get(name) or f"`{word}`" + (", of an honest place" if honest else "")
-
-
-def links_of(known, parts, doubles):
-    """Where each definition stands, as the links by which the lists name them."""
-    found = {}
-    for key in sorted(set().union(*parts.values())):
-        module = known[key[:2]]
-        path = module.path.relative_to(ROOT).as_posix()
-        text = label(known, key, doubles)
-        found[text[text.rindex("["):]] = f"../{path}#L{module.places[key[2]]}"
-    return [f"{text}: {link}" for text, link in found.items()]
-
-
-BLOCK = re.compile(r"^<!-- (?!end -->)([a-z_ ]+) -->\n(.*?)^<!-- end -->$", re.S | re.M)
-
-
-def blocks(known, parts, order):
-    """The text of each part of the page."""
-    doubles = Counter(key[2].lower() for key in set().union(*parts.values()))
-    found = {name: list_of_part(known, parts, name, doubles) for name in parts}
-    found["figures"] = table_of_parts(known, parts, order)
-    found["links"] = links_of(known, parts, doubles)
-    return {name: "\n".join(lines) + "\n" for name, lines in found.items()}
+BLOCK = re.compile(r"^<!-- figures -->\n(.*?)^<!-- end -->$", re.S | re.M)
 
 
 def page_faults(known, named, is_written):
-    """What of the page differs from the sources; where it is to be written, nothing does afterwards."""
-    parts = parts_of_page(known, named)
+    """Whether the figures of the page differ from the sources; where they are to be written, they don't
+    afterwards."""
     text = PAGE.read_text()
-    shown = [name for name, _ in BLOCK.findall(text)]
-    missing = [name for name in parts if name not in shown]
+    wanted = "\n".join(table_of_parts(known, *parts_to_read(known, named))) + "\n"
     if is_written:
-        sections = "".join(f"## {title(name)}\n\n<!-- {name} -->\n<!-- end -->\n\n" for name in missing)
-        text = text.replace("<!-- links -->", sections + "<!-- links -->")
-        shown = [name for name, _ in BLOCK.findall(text)]
-    wanted = blocks(known, parts, [name for name in shown if name in parts])
-    if is_written:
-        text = BLOCK.sub(lambda found: f"<!-- {found[1]} -->\n{wanted.get(found[1], '')}<!-- end -->", text)
-        PAGE.write_text(text)
-        return
-    yield from (f"BELIEVE.md lacks {name}" for name in missing)
-    for name, found in BLOCK.findall(text):
-        if found != wanted.get(name):
-            yield f"BELIEVE.md has another list than the sources: {name}"
+        PAGE.write_text(BLOCK.sub(lambda found: f"<!-- figures -->\n{wanted}<!-- end -->", text))
+    elif [wanted] != BLOCK.findall(text):
+        yield "BELIEVE.md has other figures than the sources"
+
+
+def text_of(known, key):
+    """A definition's comment and its lines, as they stand in its file."""
+    module = known[key[:2]]
+    lines = module.path.read_text().splitlines()
+    at = module.places[key[2]] - 1
+    end = at
+    while end < len(lines) and (lines[end].strip().startswith("--") or lines[end].strip()):
+        end += 1
+    return "\n".join(lines[at:end])
+
+
+def printed(known, keys):
+    """The reading edition as one text."""
+    for key in keys:
+        module = known[key[:2]]
+        yield f"== {key[2]} ({module.path.relative_to(ROOT).as_posix()}, line {module.places[key[2]]})\n"
+        yield text_of(known, key) + "\n"
+
+
+def anchor(key):
+    return ".".join(key)
+
+
+def as_page(known, keys):
+    """The reading edition as one page, in which each name of one of its definitions is a link."""
+    shown = set(keys)
+    yield "<!doctype html>\n<meta charset=utf-8>\n<title>Definitions</title>\n"
+    yield "<style>body{font:15px/1.5 sans-serif;max-width:60em;margin:auto}pre{white-space:pre-wrap}</style>\n"
+    for key in keys:
+        module = known[key[:2]]
+        links = {}
+        for found in named_by(known, key):
+            if found in shown and found != key:
+                links[found[2]] = anchor(found)
+        text = html.escape(text_of(known, key), quote=False)
+        text = WORD.sub(lambda word: f'<a href="#{links[word.group()]}">{word.group()}</a>'
+                        if word.group() in links else word.group(), text)
+        place = f"{module.path.relative_to(ROOT).as_posix()}, line {module.places[key[2]]}"
+        yield f'<h3 id="{anchor(key)}">{html.escape(key[2])}</h3>\n<p>{place}</p>\n<pre>{text}</pre>\n'
+
+
+def print_reading(known, named, words):
+    """Prints the reading edition of a part, or of all."""
+    read, _ = parts_to_read(known, named)
+    names = [word for word in words if not word.startswith("--")] or list(read)
+    if unknown := [name for name in names if name not in read]:
+        sys.exit(f"no part {unknown[0]}: one of {', '.join(read)}")
+    keys = list(dict.fromkeys(key for name in names for key in read[name]))
+    give = as_page if "--html" in words else printed
+    print("\n".join(give(known, keys)))
 
 
 def main():
     known = modules()
     named = starts(known)
+    if sys.argv[1:2] == ["read"]:
+        print_reading(known, named, sys.argv[2:])
+        return 0
     reached = reached_from(known, sorted(set().union(*named.values())))
     clauses = [names for (_, place), names in named.items() if place not in ("coded", "from_gives")]
     by_clauses = set(reached_from(known, sorted(set().union(*clauses))))
@@ -484,9 +435,9 @@ def main():
             mark = "*" if (crate, module, name) in top else " "
             print(f"{mark} {crate} {module} {name}: {known[crate, module].comments[name]}")
         return 0
-    lines = list(disagreements(known, reached, by_clauses, top))
+    lines = list(faults(known, reached, by_clauses))
     lines += page_faults(known, named, "--write" in sys.argv[1:])
-    print("\n".join(lines) or f"{len(reached)} definitions are reached, and all are listed")
+    print("\n".join(lines) or f"{len(reached)} definitions are reached, and each has its sentence")
     return 1 if lines else 0
 
 

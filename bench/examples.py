@@ -5,7 +5,7 @@ usage: python3 bench/examples.py [--view VIEW] PROGRAM [WORD ..]
 
 PROGRAM, with these words before the command's, takes the place of `auditorium`, and its output may go into a file by
 `>`; VIEW takes the place of `auditorium_view`, and without it no picture is drawn; any other command is the shell's. A
-file that lies in examples/ is compared with what is written into it, byte for byte. The
+file of examples/ is compared, byte for byte, with what is written into the file of its name in examples/out/. The
 statuses are those of the headings, where these begin with one; where a heading has several commands, each ends with
 that status. Lines that begin with `auditorium: ` or with a space are compared with the first lines of standard error,
 the others with standard output. Where GNU parallel is installed, a county of twelve places is made and audited, too.
@@ -63,9 +63,9 @@ def ran(programs, command, here):
 
 
 def changed_file(command, here):
-    """The file of examples/ into which a command has written something else; nothing if there is none."""
+    """What a command has written that differs from the kept file of this name; nothing if there is none."""
     _, _, file = command.partition(" > ")
-    kept = ROOT / "examples" / file
+    kept = ROOT / "examples" / pathlib.PurePath(file).name
     if file and kept.is_file() and kept.read_bytes() != (here / file).read_bytes():
         return f"{command}: {file} isn't what is kept\n"
     return ""
@@ -109,7 +109,9 @@ def county_fault(program, here):
         return f"make_county.sh: status {made.returncode}\n{made.stderr}"
     audited = run("audit_all.sh", county, "standard")
     wanted = (county / "expected.tsv").read_text()
-    found = re.sub(r"\t[^\t\n]*$", "", (county / "summary.tsv").read_text(), flags=re.MULTILINE)
+    columns = len(wanted.splitlines()[0].split("\t"))
+    rows = (county / "summary.tsv").read_text().splitlines()
+    found = "".join("\t".join(row.split("\t")[:columns]) + "\n" for row in rows)
     gravest = max(int(line.split("\t")[1]) for line in wanted.splitlines()[1:])
     if found == wanted and audited.returncode == gravest:
         return ""

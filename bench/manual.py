@@ -1,11 +1,11 @@
 #!/usr/bin/env python3
-"""Makes docs/auditorium.1 from the tables of the program's help, and checks it.
+"""Makes docs/auditorium.1 and docs/auditorium_view.1 from the tables of the program's help, and checks them.
 
 Run from anywhere: python3 bench/manual.py
 
-The tables are the constants of crates/command_hints/src/commands.rt. The page is written anew; where `mandoc` is
+The tables are the constants of crates/command_hints/src/commands.rt. The pages are written anew; where `mandoc` is
 installed, what it finds fault with is printed. Printed is, too, each command line of the tables that README.md or
-docs/FORMATS.md lacks. The exit status is 1 if the page was another before, or if anything is printed.
+docs/FORMATS.md lacks. The exit status is 1 if a page was another before, or if anything is printed.
 """
 import pathlib
 import re
@@ -16,7 +16,11 @@ import sys
 ROOT = pathlib.Path(__file__).resolve().parent.parent
 TABLES = ROOT / "crates" / "command_hints" / "src" / "commands.rt"
 PAGE = ROOT / "docs" / "auditorium.1"
-DATE = "November 29, 2026"
+VIEW_PAGE = ROOT / "docs" / "auditorium_view.1"
+# The words of auditorium_view, and its statuses, which are among those of auditorium.
+VIEW_WORDS = ["ROSTER", "RULES", "LOG.."]
+VIEW_STATUSES = {0, 1, 2, 3, 4, 5, 6, 8, 9, 10}
+DATE = "November 30, 2026"
 
 HEAD = """\
 .\\" Made by bench/manual.py from the program's help.
@@ -51,7 +55,9 @@ there are no options, and the name of a file has no space.
 .Fl -help
 and
 .Fl -version
-print the help on standard error, as every other invalid command line does.
+are no valid words either: with them the standard output is
+.Dq usage ,
+the status is 4, and the help is on standard error.
 The words are:
 """
 
@@ -62,16 +68,21 @@ With the statuses 4, 5 and 6 the standard output is one line,
 .Dq refused FILE PLACE CAUSE
 or
 .Dq absent FILE ,
-and a hint on standard error says what was expected; of a script and of a file
-of rules it shows the line.
-With 8, 9 and 10 a line on standard error says what failed, unless nobody reads
-the standard output any longer.
+and a hint on standard error says what was expected.
+For an invalid command line the usage line of the command follows; for a script
+and for a file of rules, the line with a mark below the word.
+With 8, 9 and 10 a line on standard error says what failed, except on a broken
+pipe.
+After
+.Cm endorse ,
+a line on standard error says so if FILE.sig isn't good under NAME.key.
 """
 
 EXAMPLES = """\
 .Sh EXAMPLES
-Play a script, and audit two of the three logs:
+Make the script of a day, play it, and audit two of its four logs:
 .Bd -literal -offset indent
+auditorium make 10 > day.script
 auditorium play day.script day
 auditorium audit day.roster standard day.sv.log day.b2.log
 .Ed
@@ -82,6 +93,53 @@ SEE_ALSO = """\
 The documents of the repository: README.md, docs/REPORT.md on how to read a
 report, docs/FORMATS.md on the files, and examples/README.md for a run that ends
 with each status.
+"""
+
+VIEW_HEAD = """\
+.\\" Made by bench/manual.py from the program's help.
+.Dd {date}
+.Dt AUDITORIUM_VIEW 1
+.Os
+.Sh NAME
+.Nm auditorium_view
+.Nd draws what an audit reports on
+.Sh SYNOPSIS
+.Nm
+.Ar ROSTER RULES LOG..
+.Sh DESCRIPTION
+.Nm
+takes the words of
+.Cm audit
+of
+.Xr auditorium 1 ,
+and prints a picture of the report in place of the report: an SVG document for a
+browser.
+Each machine has a lane, with a mark for each entry and an arrow for each entry
+that it names.
+Gaps, forks, strays, refused records, breaks and damaged ends are marked, and
+the entries by which a rule is broken are lit.
+A mark's title says which entry it is.
+Above 400 entries those that don't matter are drawn as bars, each with their
+number.
+.Pp
+The document is complete in itself: it loads nothing and runs nothing.
+.Pp
+The words are:
+"""
+
+VIEW_END = """\
+.Sh EXAMPLES
+.Bd -literal -offset indent
+auditorium_view day.roster standard day.sv.log day.b2.log > day.svg
+.Ed
+.Sh DIAGNOSTICS
+They are those of
+.Cm audit :
+with the statuses 4, 5 and 6 the standard output is one line in place of a
+picture, and a hint on standard error says what was expected.
+.Sh SEE ALSO
+.Xr auditorium 1
+and docs/REPORT.md of the repository, on how to read a report.
 """
 
 
@@ -111,6 +169,11 @@ def macros(line):
     return f"Cm {command} Ar {words}"
 
 
+def keys():
+    """What to know about the keys of offices, a sentence a line."""
+    return ".Sh SECURITY CONSIDERATIONS\n" + "".join(sentence(row) + "\n" for row, _ in table("KEYS"))
+
+
 def page():
     commands, words, statuses = table("COMMANDS"), table("WORDS"), table("STATUSES")
     text = HEAD.format(date=DATE)
@@ -118,24 +181,39 @@ def page():
     text += DESCRIPTION + listed((macros(line), does) for line, does in commands)
     text += WORDS + listed((f"Ar {name}", meaning) for name, meaning in words)
     text += ".Sh EXIT STATUS\n" + listed((str(n), meaning) for n, (meaning, _) in enumerate(statuses))
-    return text + EXAMPLES + DIAGNOSTICS + SEE_ALSO
+    return text + EXAMPLES + DIAGNOSTICS + SEE_ALSO + keys()
 
 
-def faults(text):
-    if not PAGE.is_file() or PAGE.read_text() != text:
-        yield "docs/auditorium.1 is made anew"
-        PAGE.write_text(text)
+def view_page():
+    words, statuses = dict(table("WORDS")), table("STATUSES")
+    text = VIEW_HEAD.format(date=DATE)
+    text += listed((f"Ar {name}", words[name.removesuffix("..")]) for name in VIEW_WORDS)
+    text += ".Sh EXIT STATUS\n"
+    text += listed((str(n), meaning) for n, (meaning, _) in enumerate(statuses) if n in VIEW_STATUSES)
+    return text + VIEW_END
+
+
+def page_faults(path, text):
+    if not path.is_file() or path.read_text() != text:
+        yield f"docs/{path.name} is made anew"
+        path.write_text(text)
     if shutil.which("mandoc"):
-        lint = subprocess.run(["mandoc", "-Tlint", PAGE], capture_output=True, text=True)
-        yield from lint.stdout.splitlines()
+        lint = subprocess.run(["mandoc", "-Tlint", path], capture_output=True, text=True)
+        # The other page needn't be installed.
+        yield from (line for line in lint.stdout.splitlines() if "referenced manual not found" not in line)
+
+
+def faults():
+    yield from page_faults(PAGE, page())
+    yield from page_faults(VIEW_PAGE, view_page())
     for document in ("README.md", "docs/FORMATS.md"):
         known = (ROOT / document).read_text()
         yield from (f"{document} lacks `{line}`" for line, _ in table("COMMANDS") if f"`{line}`" not in known)
 
 
 def main():
-    found = list(faults(page()))
-    print("\n".join(found) or "the manual page is that of the help")
+    found = list(faults())
+    print("\n".join(found) or "the manual pages are those of the help")
     return 1 if found else 0
 
 

@@ -3,7 +3,8 @@
 
 Run from anywhere: python3 bench/promises.py
 
-In docs/PROMISES.md each crate of crates.txt must have one row. In its third column `NAME`, clause `CLAUSE`,
+In docs/PROMISES.md each crate of crates.txt must have one row, but those that only test, measure or compare,
+whose names end in `_tests`, `_speed` or `_orders`. In a row's third column `NAME`, clause `CLAUSE`,
 in `PATH` means that PATH is a file of the crate and that NAME and CLAUSE are words of it, NAME of a function
 or of a definition. In crates/NAME/README.md the names in the column "Kept by" must be words of the crate's
 sources, or of those of a crate that the cell names too.
@@ -19,6 +20,7 @@ import sys
 ROOT = pathlib.Path(__file__).resolve().parent.parent
 PROMISES = ROOT / "docs" / "PROMISES.md"
 NAME = re.compile(r"`([^`]+)`")
+WITHOUT_ROW = ("_tests", "_speed", "_orders")
 LAW = re.compile(r"^pub fn (\w+)(?:<[^(]*>)?\(\)\s*\n(?=\s*(?:requires|ensures))", re.M)
 CALL = re.compile(r"(?<![.\w])(?<!fn )(?:(\w+)::)?(\w+)(?:::<[^>]*>)?\(\)")
 USE = re.compile(r"^use (\w+)::(?:\{(.*?)\}|(\w+));", re.S | re.M)
@@ -127,7 +129,8 @@ def main():
     text = PROMISES.read_text()
     listed = [(NAME.findall(cells[0])[0], cells) for cells in rows(text, "Its promise")]
     names = [crate for crate, _ in listed]
-    faults += [f"no row of {crate}" for crate in crates() if names.count(crate) != 1]
+    wanted = [crate for crate in crates() if not crate.endswith(WITHOUT_ROW)]
+    faults += [f"no row of {crate}" for crate in wanted if names.count(crate) != 1]
     faults += [f"a row of {crate}, which isn't in crates.txt" for crate in names if crate not in crates()]
     for crate, cells in listed:
         faults += row_faults(crate, cells[2])
