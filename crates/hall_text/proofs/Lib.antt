@@ -1,5 +1,7 @@
 pub mod DigestText
+pub mod Numbers
 pub mod SpanLists
-pub mod LineLemmas
 pub mod TokenLemmas
 pub mod OneSpans
+pub mod NextTokens
+pub mod TextLines

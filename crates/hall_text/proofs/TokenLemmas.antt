@@ -118,14 +118,3 @@ module _ (text : List ℕ) where
   pub between_none : (at : ℕ) → ¬ (BeginsToken text at) → CutsNoWord text (at + 1)
   between_none at none positive within byte word = let before : at + 1 - 1 ≡ at = omega arith in
       none (inl (subst (λ k. IsWordByte (get_or text k 0)) before word))
-
-  -- at the end all tokens begin before the place
-  pub all_tokens : (spans : List Span) (at : ℕ) → AreAll (IsTokenBefore at) spans → length text ≤ at
-      → AreAll (IsToken text) spans
-  all_tokens spans at all end =
-      same_spans (IsTokenBefore at) (IsToken text) spans
-      (λ s. (
-        (λ (is : IsTokenBefore at s). is.0),
-        (λ (token : IsToken text s). (token, (let some = some_bytes s token in omega (arith, some.0, some.1)))),
-      ))
-      all

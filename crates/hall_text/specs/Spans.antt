@@ -1,4 +1,4 @@
--- Where the tokens and the lines of a text are.
+-- What the tokens of a text are, and lists of all of them.
 use Rattle.std.specs.Prelude.{◌≡◌, ◌≢◌, ◌↔◌, ◌⊎◌, ℕ, ◌+◌, ◌-◌, ◌<◌, ◌≤◌, List, length, take, drop, slice_index}
 use Rattle.std.specs.Prelude.{Contains, AllPairs}
 use Rattle.hall_text.specs.declared.spans.Span.{Span}
@@ -32,16 +32,6 @@ pub record IsAlone (text : List ℕ) (span : Span) : Type 0 where
 -- a token: a word or a parenthesis
 abbrev pub IsToken : List ℕ → Span → Type 0
 IsToken text span = IsWord text span ⊎ IsAlone text span
-
--- a line, without its newline: it begins at the text's start or after a newline, has none, and ends
--- before one; or it has some bytes and ends with the text
-pub record IsLine (text : List ℕ) (span : Span) : Type 0 where
-  pub order : span.start ≤ span.end
-  pub inside : span.end ≤ length text
-  pub begins : 0 < span.start → slice_index text (span.start - 1) ≡ 10
-  pub none : (i : ℕ) → span.start ≤ i → i < span.end → slice_index text i ≢ 10
-  pub ends : ((span.end < length text) × (slice_index text span.end ≡ 10))
-      ⊎ ((span.end ≡ length text) × (span.start < span.end))
 
 -- the list has exactly the spans of which the fact holds, in their order
 pub record AreAll (P : Span → Type 0) (spans : List Span) : Type 0 where

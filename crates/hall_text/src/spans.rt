@@ -1,7 +1,15 @@
 //! Where the tokens and the lines of a text are.
-ghost use Rattle.std.specs.Prelude.{◌≡◌, ◌↔◌, ℕ, ◌<◌, ◌≤◌, length, slice_index, IfOk, IsTrue};
-ghost use Rattle.hall_text.specs.Spans.{IsWordByte, IsToken, IsLine, AreAll};
+ghost use Rattle.std.specs.Prelude.{◌≡◌, ℕ, ◌<◌, ◌≤◌, length, drop, slice_index, IfOk};
+ghost use Rattle.hall_text.specs.Spans.{IsWordByte, IsToken};
 ghost use Rattle.hall_text.specs.Places.{CutsNoWord, BeginsToken};
+ghost use Rattle.hall_text.specs.Lines.{line_spans};
+ghost use Rattle.hall_text.specs.Tokens.{
+  is_parenthesis,
+  is_word_byte,
+  word_end,
+  token_end,
+  token_spans,
+};
 
 use std::alloc::{AllocError, Global};
 
@@ -15,16 +23,24 @@ pub struct Span {
     pub end: usize,
 }
 
+/// Whether the byte is a parenthesis.
+fn is_parenthesis(byte: u8) -> bool
+    ensures { result ≡ is_parenthesis byte }
+{
+    byte == b'(' || byte == b')'
+}
+
 /// Whether the byte belongs to a word.
 fn is_word_byte(byte: u8) -> bool
-    ensures { IsTrue result ↔ IsWordByte byte }
+    ensures { result ≡ is_word_byte byte }
 {
-    (b'!'..=b'~').contains(&byte) && byte != b'(' && byte != b')'
+    byte >= b'!' && byte <= b'~' && byte != b'(' && byte != b')'
 }
 
 /// Where the word bytes from `at` on end.
 fn word_end(text: &[u8], at: usize) -> usize
     requires { at ≤ length text.now }
+    ensures value { result ≡ word_end at (drop at text.now) }
     ensures within { (at ≤ result) × (result ≤ length text.now) }
     ensures bytes { (i : ℕ) → at ≤ i → i < result → IsWordByte (slice_index text.now i) }
     ensures stops { result < length text.now → ¬ (IsWordByte (slice_index text.now result)) }
@@ -38,14 +54,14 @@ fn word_end(text: &[u8], at: usize) -> usize
 
 /// Where the token that begins at `at` ends, or `at` where none begins there. No word continues
 /// across `at`.
-/// `at`.
 pub fn token_end(text: &[u8], at: usize) -> usize
     requires within { at < length text.now }
     requires between { CutsNoWord text.now at }
+    ensures value { result ≡ token_end at (drop at text.now) }
     ensures token { at < result → IsToken text.now (record { start = at; end = result }) }
     ensures none { result ≤ at → (result ≡ at) × ¬ (BeginsToken text.now at) }
 {
-    if text[at] == b'(' || text[at] == b')' {
+    if is_parenthesis(text[at]) {
         at + 1
     } else {
         word_end(text, at)
@@ -55,7 +71,7 @@ pub fn token_end(text: &[u8], at: usize) -> usize
 /// The tokens of the text: its longest runs of bytes from `!` to `~` without a parenthesis, and
 /// each parenthesis alone.
 pub fn tokens(alloc: Global, text: &[u8]) -> Result<Vec<Span>, Memory>
-    ensures { IfOk result (λ spans. AreAll (IsToken text.now) spans.items) }
+    ensures { IfOk result (λ spans. spans.items ≡ token_spans text.now) }
 {
     let mut spans = Vec::new(alloc);
     let mut at = 0;
@@ -74,7 +90,7 @@ pub fn tokens(alloc: Global, text: &[u8]) -> Result<Vec<Span>, Memory>
 /// The lines of the text, each without the newline that ends it. Bytes after the last newline are a
 /// line too.
 pub fn lines(alloc: Global, text: &[u8]) -> Result<Vec<Span>, Memory>
-    ensures { IfOk result (λ spans. AreAll (IsLine text.now) spans.items) }
+    ensures { IfOk result (λ spans. spans.items ≡ line_spans text.now) }
 {
     let mut spans = Vec::new(alloc);
     let mut start = 0;

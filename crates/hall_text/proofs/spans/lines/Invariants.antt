@@ -1,10 +1,7 @@
-use Rattle.hall_text.specs.Spans.{AreAll}
-use Rattle.hall_text.proofs.LineLemmas.{IsLineBefore, IsOpen}
+use Rattle.std.proofs.Common.{◌≡◌, ◌++◌, drop}
+use Rattle.hall_text.specs.Lines.{lines_from}
 use Rattle.hall_text.proofs.spans.lines.Given as goal
 
--- the lines so far are those that begin before `start`, and the one that begins there goes on
+-- the lines so far, followed by those that are left, are all lines
 abbrev pub invariant-loop-at : goal.invariant-loop-at
-invariant-loop-at l = record {
-  found : AreAll (IsLineBefore l.text l.start) l.spans.items;
-  going_on : IsOpen l.text l.start l.at;
-}
+invariant-loop-at l = l.spans.items ++ lines_from l.start l.at (drop l.at l.text) ≡ lines_from 0 0 l.text

@@ -1,27 +1,25 @@
-use Rattle.std.proofs.Common.{ℕ, List}
-use Rattle.hall_text.proofs.TokenLemmas.{token_more, none_there, between_behind, between_none}
+use Rattle.std.proofs.Common.{◌∙◌, ◌++◌, ap, sym, List, append_assoc}
+use Rattle.hall_text.specs.declared.spans.Span.{Span}
+use Rattle.hall_text.proofs.NextTokens.{token_then, no_token_there}
+use Rattle.hall_text.proofs.TokenLemmas.{between_behind, between_none}
 use Rattle.hall_text.proofs.spans.tokens.Goals as goal
 
 -- a token begins at the place
 pub loop-at-preserved-then-at-end : goal.loop-at-preserved-then-at-end
-loop-at-preserved-then-at-end c =
-    let text : List ℕ = c.args.text.now in
-    let at : ℕ = c.loop-at.at in
-    let end : ℕ = c.token_end-end.result in
-    let token = c.token_end-end.ensures.token c.if-at-end.true in
-    record {
-      found = rw c.in_ok-push.ensures.items
-          (token_more text c.loop-at.spans.items at end c.loop-at.invariant.found c.if-at-end.true token);
-      between = between_behind text at end c.if-at-end.true token;
-    }
+loop-at-preserved-then-at-end c = record {
+  all = rw (c.in_ok-push.ensures.items, append_assoc)
+      (ap (λ (more : List Span). c.loop-at.spans.items ++ more)
+      (sym (token_then c.args.text.now c.loop-at.at c.token_end-end.result c.loop-at-test.true
+      c.token_end-end.ensures.value c.if-at-end.true)) ∙ c.loop-at.invariant.all);
+  between = between_behind c.args.text.now c.loop-at.at c.token_end-end.result c.if-at-end.true
+      (c.token_end-end.ensures.token c.if-at-end.true);
+}
 
 -- none begins there
 pub loop-at-preserved : goal.loop-at-preserved
-loop-at-preserved c =
-    let text : List ℕ = c.args.text.now in
-    let at : ℕ = c.loop-at.at in
-    let none = (c.token_end-end.ensures.none c.if-at-end.false).1 in
-    record {
-      found = none_there text c.loop-at.spans.items at c.loop-at.invariant.found none;
-      between = between_none text at none;
-    }
+loop-at-preserved c = record {
+  all = ap (λ (more : List Span). c.loop-at.spans.items ++ more)
+      (sym (no_token_there c.args.text.now c.loop-at.at c.token_end-end.result c.loop-at-test.true
+      c.token_end-end.ensures.value c.if-at-end.false)) ∙ c.loop-at.invariant.all;
+  between = between_none c.args.text.now c.loop-at.at (c.token_end-end.ensures.none c.if-at-end.false).1;
+}

@@ -1,13 +1,12 @@
-use Rattle.std.proofs.Common.{length, ◌-◌}
-use Rattle.hall_text.specs.Spans.{AreAll}
+use Rattle.std.proofs.Common.{◌≡◌, ◌++◌, ◌-◌, length, drop}
+use Rattle.hall_text.specs.Tokens.{tokens_from}
 use Rattle.hall_text.specs.Places.{CutsNoWord}
-use Rattle.hall_text.proofs.TokenLemmas.{IsTokenBefore}
 use Rattle.hall_text.proofs.spans.tokens.Given as goal
 
--- the tokens so far are those that begin before `at`, and no word goes on there
+-- the tokens so far, followed by those that are left, are all tokens, and no word goes on at the place
 abbrev pub invariant-loop-at : goal.invariant-loop-at
 invariant-loop-at l = record {
-  found : AreAll (IsTokenBefore l.text l.at) l.spans.items;
+  all : l.spans.items ++ tokens_from l.at l.at (drop l.at l.text) ≡ tokens_from 0 0 l.text;
   between : CutsNoWord l.text l.at;
 }
 

@@ -1,10 +1,12 @@
-use Rattle.std.proofs.Common.{length, ◌-◌, ℕ, ◌<◌, ◌≤◌, slice_index}
+use Rattle.std.proofs.Common.{◌≡◌, ℕ, ◌<◌, ◌≤◌, ◌-◌, length, drop, slice_index}
 use Rattle.hall_text.specs.Spans.{IsWordByte}
+use Rattle.hall_text.specs.Tokens.{word_end}
 use Rattle.hall_text.proofs.spans.word_end.Given as goal
 
--- all bytes so far belong to the word
+-- the word ends where its bytes that are left end, and all bytes so far belong to it
 abbrev pub invariant-loop-end : goal.invariant-loop-end
 invariant-loop-end l = record {
+  value : word_end l.fn.at (drop l.fn.at l.text) ≡ word_end l.end (drop l.end l.text);
   within : l.fn.at ≤ l.end;
   inside : l.end ≤ length l.text;
   bytes : (i : ℕ) → l.fn.at ≤ i → i < l.end → IsWordByte (slice_index l.text i);

@@ -6,8 +6,8 @@ use Rattle.hall_text.proofs.DigestText.{digest_decodes, ok_holds, equal_bytes}
 use Rattle.hall_text.proofs.words.digest_hex.Goals as goal
 
 -- what doesn't decode is no digest
-pub returns-in_err-digest : goal.returns-in_err-digest
-returns-in_err-digest c =
+pub returns-in_err-digest-clause-exact : goal.returns-in_err-digest-clause-exact
+returns-in_err-digest-clause-exact c =
     rw c.from_residual.ensures (λ value text.
     let decodes : c.from_hex.result ≡ Ok value = c.from_hex.ensures ∙ digest_decodes c.args.word.now value text in
     let found : c.ok.result ≡ Some value = rw decodes at c.ok.ensures.value in
@@ -15,8 +15,8 @@ returns-in_err-digest c =
     cc)
 
 -- what isn't written back as it was read is no digest
-pub returns-else-eq : goal.returns-else-eq
-returns-else-eq c = λ value text.
+pub returns-else-eq-clause-exact : goal.returns-else-eq-clause-exact
+returns-else-eq-clause-exact c = λ value text.
     let decodes : c.from_hex.result ≡ Ok value = c.from_hex.ensures ∙ digest_decodes c.args.word.now value text in
     let found : c.ok.result ≡ Some value = rw decodes at c.ok.ensures.value in
     let digest : c.ok.result ≡ Some c.in_ok-digest.digest = c.in_ok-digest.was in
