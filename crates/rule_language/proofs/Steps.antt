@@ -1,85 +1,92 @@
--- Single tokens that were read and meet what is wanted.
-use Rattle.std.proofs.Common.{[]}
-use Rattle.rule_language.proofs.Imports.{◌≡◌, ℕ, Bool, true, List, ◌∷◌, Some, Ok, refl, ap, Span, Role, role_word}
-use Rattle.rule_language.proofs.Imports.{Kind, Sort, Term, kind_word, is_same_sort, Scope, is_bound, sort_of, right}
-use Rattle.rule_language.proofs.Imports.{variable, term_word, Want, close, a_variable, a_role, a_kind, first_term}
-use Rattle.rule_language.proofs.Imports.{second_term, new_variable, kind_of, before_or_body, may_begin, only}
-use Rattle.rule_language.proofs.Imports.{kind_for, unbound_in, letter_in, then_want, Takes, Asks}
-use Rattle.rule_language.proofs.Refusals.{Passed, one_passed}
-use Rattle.rule_language.proofs.Passing.{variable_passes, role_passes, kind_passes, kind_of_passes, first_passes}
-use Rattle.rule_language.proofs.Passing.{second_passes}
+-- The steps of reading a formula and several.
+use Rattle.std.proofs.Common.{◌≡◌, sym, ap, refl, ℕ, zero, suc, ◌-◌, ◌<◌, Bool, true, false, Ok, Err, arith, inl, inr}
+use Rattle.std.proofs.Common.{◌⊎◌}
+use Rattle.std.specs.Prelude.{Result}
+use Rattle.std.specs.Str.{bytes_eq}
+use Rattle.rule_language.specs.declared.faults.RuleFault.{RuleFault}
+use Rattle.rule_language.specs.declared.form.Form.TheVariants as form
+use Rattle.rule_language.specs.Scopes.{Scope}
+use Rattle.rule_language.specs.Trees.{Trees, no_trees, joined_trees}
+use Rattle.rule_language.specs.Tokens.{Row, right}
+use Rattle.rule_language.specs.Words.{opening, only}
+use Rattle.rule_language.specs.Steps.{Read, follow, next, give, take}
+unfoldable use Rattle.rule_language.specs.Steps.{closed}
+unfoldable use Rattle.rule_language.specs.Reader.{parts, row as in_row, formula}
+use Rattle.rule_language.specs.Reader.{inside, atom}
+use Rattle.rule_language.proofs.Views.{joined, no_more}
 
-module _ (text : List ℕ) (old new : Span) (further : List Want → List Want) where
-  -- a bound variable was passed
-  pub variable_step : (scope : Scope) (v : ℕ) → Takes text old new (variable v ∷ []) → is_bound scope v ≡ true
-      → Passed text old.start new.start (variable v ∷ []) (λ rest. a_variable scope ∷ further rest) further
-  variable_step scope v takes bound =
-      one_passed text old new (variable v) (λ rest. a_variable scope ∷ further rest) further takes
-      (λ rest. variable_passes scope v (further rest) bound)
+-- no formula begins
+pub formula_fails : (levels : ℕ) (scope : Scope) (row : Row) (fault : RuleFault) →
+    Err fault ≡ take (opening levels) row → Err fault ≡ formula levels scope row
+unfolding formula
+formula_fails zero scope row fault is = rw (← is) refl
+formula_fails (suc levels) scope row fault is = rw (← is) refl
 
-  -- a kind was passed
-  pub kind_step : (k : Kind) → Takes text old new (kind_word k ∷ [])
-      → Passed text old.start new.start (kind_word k ∷ []) (λ rest. a_kind ∷ further rest) further
-  kind_step k takes =
-      one_passed text old new (kind_word k) (λ rest. a_kind ∷ further rest) further takes
-      (λ rest. kind_passes k (further rest))
+-- the formula is `true`, or no parenthesis may open
+pub formula_ended : (levels : ℕ) (scope : Scope) (row next : Row) (opened : Bool) →
+    Ok (opened, next) ≡ take (opening levels) row → (levels ≡ 0) ⊎ (opened ≡ false) →
+    formula levels scope row ≡ Ok (atom form.True, next)
+unfolding formula
+formula_ended zero scope row next opened is ended = rw (← is) refl
+formula_ended (suc levels) scope row next opened is (inl none) = absurd (omega (arith, none))
+formula_ended (suc levels) scope row next opened is (inr shut) = rw (← is, shut) refl
 
-  -- the kind of a quantifier was passed, and `before` or its body is wanted
-  pub kind_of_step : (v : ℕ) (scope : Scope) (depth : ℕ) (k : Kind) → Takes text old new (kind_word k ∷ [])
-      → Passed text old.start new.start (kind_word k ∷ []) (λ rest. kind_of v scope depth ∷ further rest)
-      (λ rest. before_or_body v k scope depth ∷ further rest)
-  kind_of_step v scope depth k takes =
-      one_passed text old new (kind_word k) (λ rest. kind_of v scope depth ∷ further rest)
-      (λ rest. before_or_body v k scope depth ∷ further rest) takes
-      (λ rest. kind_of_passes scope depth v k (further rest))
+-- a parenthesis begins one
+pub formula_opened : (levels : ℕ) (scope : Scope) (row next : Row) (opened : Bool) → 0 < levels →
+    Ok (opened, next) ≡ take (opening levels) row → opened ≡ true →
+    formula levels scope row ≡ inside (formula (levels - 1)) scope next
+unfolding formula
+formula_opened zero scope row next opened some is shows = absurd (omega (arith, some))
+formula_opened (suc levels) scope row next opened some is shows =
+    let less : suc levels - 1 ≡ levels = omega arith in
+    rw (less, ← is, shows) refl
 
-  -- a role was passed
-  pub role_step : (r : Role) → Takes text old new (role_word r ∷ [])
-      → Passed text old.start new.start (role_word r ∷ []) (λ rest. a_role ∷ further rest) further
-  role_step r takes =
-      one_passed text old new (role_word r) (λ rest. a_role ∷ further rest) further takes
-      (λ rest. role_passes r (further rest))
+-- no formula may follow, or the parenthesis is next
+abbrev pub IsEnded : ℕ → Row → Type 0
+IsEnded n row = (n ≡ 0) ⊎ (bytes_eq (next row) right ≡ true)
 
-  -- a first term was passed, and one of its sort is wanted
-  pub first_step : (ordered : Bool) (scope : Scope) (t : Term) (s : Sort) → Takes text old new (term_word t ∷ [])
-      → sort_of scope t ≡ Some s → may_begin ordered s ≡ true
-      → Passed text old.start new.start (term_word t ∷ []) (λ rest. first_term ordered scope ∷ further rest)
-      (λ rest. second_term s scope ∷ further rest)
-  first_step ordered scope t s takes sorted may =
-      one_passed text old new (term_word t) (λ rest. first_term ordered scope ∷ further rest)
-      (λ rest. second_term s scope ∷ further rest) takes
-      (λ rest. first_passes scope ordered t s (further rest) sorted may)
+-- only the parenthesis ends several formulas
+parts_ended : (n : ℕ) (formula : Read Trees) (row : Row) → IsEnded n row → parts n formula row ≡ closed (give
+    no_trees) row
+unfolding parts
+parts_ended zero formula row ended = refl
+parts_ended (suc n) formula row (inl none) = absurd (omega (arith, none))
+parts_ended (suc n) formula row (inr is) = rw is refl
 
-  -- a second term of the wanted sort was passed
-  pub second_step : (wanted : Sort) (scope : Scope) (t : Term) (s : Sort) → Takes text old new (term_word t ∷ [])
-      → sort_of scope t ≡ Some s → is_same_sort wanted s ≡ true
-      → Passed text old.start new.start (term_word t ∷ []) (λ rest. second_term wanted scope ∷ further rest) further
-  second_step wanted scope t s takes sorted same =
-      one_passed text old new (term_word t) (λ rest. second_term wanted scope ∷ further rest) further takes
-      (λ rest. second_passes scope wanted t s (further rest) sorted same)
+-- it is missing
+pub parts_stop : (n : ℕ) (formula : Read Trees) (row : Row) (front : Trees) (fault : RuleFault) →
+    IsEnded n row → Err fault ≡ take (only right) row →
+    follow (parts n formula row) (λ more behind. Ok (joined_trees front more, behind)) ≡ Err fault
+unfolding closed
+parts_stop n formula row front fault ended is = rw (parts_ended n formula row ended, ← is) refl
 
-  -- a new variable was passed, and its kind is wanted
-  pub new_step : (scope : Scope) (depth v : ℕ) → Takes text old new (variable v ∷ [])
-      → unbound_in scope (letter_in (variable v)) ≡ Ok v
-      → Passed text old.start new.start (variable v ∷ []) (λ rest. new_variable scope depth ∷ further rest)
-      (λ rest. kind_of v scope depth ∷ further rest)
-  new_step scope depth v takes fresh =
-      one_passed text old new (variable v) (λ rest. new_variable scope depth ∷ further rest)
-      (λ rest. kind_of v scope depth ∷ further rest) takes
-      (λ rest. ap (λ r. then_want r (λ w. kind_of w scope depth ∷ further rest)) fresh)
+-- it is there
+pub parts_done : (n : ℕ) (formula : Read Trees) (row rest : Row) (front : Trees) →
+    IsEnded n row → Ok (tt, rest) ≡ take (only right) row →
+    follow (parts n formula row) (λ more behind. Ok (joined_trees front more, behind)) ≡ Ok (front, rest)
+unfolding closed
+parts_done n formula row rest front ended is = rw (parts_ended n formula row ended, ← is, no_more front) refl
 
--- where the closing parenthesis is wanted, only the next token is tested
-pub close_asks : Asks (only right) (λ rest. close ∷ rest)
-close_asks = record { after = λ rest it. rest; met = λ rest token. refl; going = λ rest. refl }
+-- one formula more is behind those so far
+pub parts_more : (n : ℕ) (formula : Read Trees) (row rest : Row) (one front : Trees) →
+    bytes_eq (next row) right ≡ false → formula row ≡ Ok (one, rest) →
+    follow (parts (suc n) formula row) (λ more behind. Ok (joined_trees front more, behind))
+    ≡ follow (parts n formula rest) (λ more behind. Ok (joined_trees (joined_trees front one) more, behind))
+unfolding parts in_row
+parts_more n formula row rest one front other is = rw other (rw is (by (parts n formula rest)))
+  where
+    by : (read : Result (Trees × Row) RuleFault) →
+        follow (follow read (λ more behind. Ok (joined_trees one more, behind))) (λ more behind. Ok (
+          joined_trees
+              front more,
+          behind,
+        ))
+        ≡ follow read (λ more behind. Ok (joined_trees (joined_trees front one) more, behind))
+    by (Ok read) = ap (λ trees. Ok (trees, read.1)) (sym (joined front one read.0))
+    by (Err fault) = refl
 
--- where a kind is wanted, only the next token is tested
-pub kind_asks : Asks kind_for (λ rest. a_kind ∷ rest)
-kind_asks = record { after = λ rest k. rest; met = λ rest token. refl; going = λ rest. refl }
-
--- where the kind of a quantifier is wanted, only the next token is tested
-pub kind_of_asks : (v : ℕ) (scope : Scope) (depth : ℕ) → Asks kind_for (λ rest. kind_of v scope depth ∷ rest)
-kind_of_asks v scope depth = record {
-  after = λ rest k. before_or_body v k scope depth ∷ rest;
-  met = λ rest token. refl;
-  going = λ rest. refl;
-}
+-- the formula that is next can't be read
+pub parts_fail : (n : ℕ) (formula : Read Trees) (row : Row) (fault : RuleFault) →
+    bytes_eq (next row) right ≡ false → formula row ≡ Err fault → parts (suc n) formula row ≡ Err fault
+unfolding parts in_row
+parts_fail n formula row fault other is = rw other (rw is refl)

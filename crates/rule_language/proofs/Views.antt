@@ -1,10 +1,18 @@
 -- The trees of formulas, level by level.
-use Rattle.rule_language.proofs.Imports.{◌≡◌, ◌∙◌, ap, refl, ℕ, rules, Vec, Global, Box, Role, Kind, Term, Formula}
-use Rattle.rule_language.proofs.Imports.{True, And, Or, Not, Implies, ForSome, EveryBefore, SomeBefore, Same, Before}
-use Rattle.rule_language.proofs.Imports.{Next, Is, OfKind, Equal, Less, the_lemmas, fold_out-Formula, out-Formula}
-use Rattle.rule_language.proofs.Imports.{map-Formula, Formula-F, Form, Trees, no_trees, tree_then, tree_of, trees_of}
-use Rattle.rule_language.proofs.Imports.{in_front, all_in_front, tree_step}
+use Rattle.std.proofs.Common.{◌≡◌, ◌∙◌, ap, refl, ℕ, rules, Vec, Global, Box}
+use Rattle.roster.specs.declared.post.Role.{Role}
+use Rattle.rule_language.specs.declared.kind.Kind.{Kind}
+use Rattle.rule_language.specs.declared.term.Term.{Term}
+use Rattle.rule_language.specs.declared.formula.Formula.{Formula, True, And, Or, Not, Implies, ForSome, EveryBefore}
+use Rattle.rule_language.specs.declared.formula.Formula.{SomeBefore, Same, Before, Next, Is, OfKind, Equal, Less}
+use Rattle.rule_language.specs.declared.formula.Formula.{the_lemmas, fold_out-Formula, out-Formula, map-Formula}
+use Rattle.rule_language.specs.declared.formula.Formula.TheOpen.{Formula-F}
+use Rattle.rule_language.specs.declared.form.Form.{Form}
+use Rattle.rule_language.specs.Trees.{Trees, no_trees, tree_then}
+use Rattle.rule_language.specs.Forms.{tree_of, trees_of, in_front, all_in_front, tree_step}
 use Rattle.rule_language.specs.declared.formula.Formula.{ForEvery}
+use Rattle.rule_language.specs.Trees.{joined_trees}
+use Rattle.std.proofs.Common.{sym, List, [], ◌∷◌, ◌++◌}
 use Rattle.rule_language.specs.declared.form.Form.TheVariants as form
 
 -- `true` is a form without formulas in it
@@ -107,3 +115,52 @@ shape f =
       parts,
       λ rest. ap (λ (put : Trees → Trees). put rest) (fold_out-Formula (Trees → Trees) tree_step f) ∙ is rest,
     )
+
+-- a formula in front of others is its tree and then those
+pub front : (f : Formula) (rest : Trees) → in_front f rest ≡ joined_trees (tree_of f) rest
+front f rest =
+    let (outer, parts, is) = shape f in
+    is rest ∙ ap (λ row. joined_trees row rest) (sym (is no_trees))
+
+-- rows one after another may be joined in any order
+pub joined : (a b c : Trees) → joined_trees (joined_trees a b) c ≡ joined_trees a (joined_trees b c)
+joined no_trees b c = refl
+joined (tree_then form parts rest) b c = ap (tree_then form parts) (joined rest b c)
+
+-- one formula more is behind the others
+pub trees_push : (fs : List Formula) (f : Formula) → trees_of (fs ++ f ∷ []) ≡ joined_trees (trees_of fs) (tree_of f)
+trees_push [] f = refl
+trees_push (g ∷ fs) f =
+    front g (trees_of (fs ++ f ∷ [])) ∙ ap (joined_trees (tree_of g)) (trees_push fs f)
+    ∙ sym (joined (tree_of g) (trees_of fs) (tree_of f))
+    ∙ ap (λ row. joined_trees row (tree_of f)) (sym (front g (trees_of fs)))
+
+-- and no row behind it changes nothing
+pub no_more : (a : Trees) → joined_trees a no_trees ≡ a
+no_more no_trees = refl
+no_more (tree_then form parts rest) = ap (tree_then form parts) (no_more rest)
+
+-- the formulas of an `implies` in a row
+pub view-Both : (a b : Box Formula Global) → tree_of (Implies a b) ≡ tree_then form.Implies
+    (joined_trees (tree_of a.value) (tree_of b.value)) no_trees
+view-Both a b = view-Implies a b ∙ ap (λ row. tree_then form.Implies row no_trees) (front a.value (tree_of b.value))
+
+-- the trees of formulas of each form
+pub ruleset views = (
+  view-True,
+  view-And,
+  view-Or,
+  view-Not,
+  view-Both,
+  view-ForEvery,
+  view-ForSome,
+  view-EveryBefore,
+  view-SomeBefore,
+  view-Same,
+  view-Before,
+  view-Next,
+  view-Is,
+  view-OfKind,
+  view-Equal,
+  view-Less,
+)

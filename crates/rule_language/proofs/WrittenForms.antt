@@ -1,8 +1,13 @@
 -- What is written of a formula.
+use Rattle.std.proofs.Common.{◌≡◌, ◌≢◌, ◌∙◌, ℕ, List, ◌∷◌, ◌++◌, refl, ap, sym, append_assoc, append-nil}
+use Rattle.rule_language.specs.declared.formula.Formula.{Formula}
+use Rattle.rule_language.specs.declared.form.Form.{Form}
+use Rattle.rule_language.specs.Trees.{Trees, no_trees, tree_then}
+use Rattle.rule_language.specs.Forms.{in_front, tree_of}
+use Rattle.rule_language.specs.Spelling.{form_words}
+use Rattle.rule_language.specs.Written.{with_spaces, form_text, row_text}
+use Rattle.rule_language.specs.inside.Parts.{parts_of}
 use Rattle.std.proofs.Common.{[]}
-use Rattle.rule_language.proofs.Imports.{◌≡◌, ◌≢◌, ◌∙◌, ℕ, List, ◌∷◌, ◌++◌, refl, ap, sym, append_assoc, append-nil}
-use Rattle.rule_language.proofs.Imports.{Formula, Form, Trees, no_trees, tree_then, in_front, tree_of, form_words}
-use Rattle.rule_language.proofs.Imports.{with_spaces, form_text, row_text, parts_of}
 use Rattle.rule_language.specs.declared.form.Form.TheVariants as form
 use Rattle.rule_language.proofs.Views.{shape}
 
@@ -10,21 +15,7 @@ use Rattle.rule_language.proofs.Views.{shape}
 pub enclosed_text : (f : Form) (inside : List ℕ) → f ≢ form.True
     → form_text f inside ≡ 40 ∷ (with_spaces (form_words f) ++ (inside ++ 41 ∷ []))
 enclosed_text form.True inside other = absurd (other refl)
-enclosed_text (form.ForEvery v k) inside other = refl
-enclosed_text (form.ForSome v k) inside other = refl
-enclosed_text (form.EveryBefore v k u) inside other = refl
-enclosed_text (form.SomeBefore v k u) inside other = refl
-enclosed_text form.And inside other = refl
-enclosed_text form.Or inside other = refl
-enclosed_text form.Not inside other = refl
-enclosed_text form.Implies inside other = refl
-enclosed_text (form.Same v u) inside other = refl
-enclosed_text (form.Before v u) inside other = refl
-enclosed_text (form.Next v u) inside other = refl
-enclosed_text (form.Is v r) inside other = refl
-enclosed_text (form.OfKind v k) inside other = refl
-enclosed_text (form.Equal t u) inside other = refl
-enclosed_text (form.Less t u) inside other = refl
+enclosed_text f inside other = refl
 
 -- a formula in parentheses, piece by piece
 pub written_form : (tree : Trees) (f : Form) (parts : Trees) (old : List ℕ)

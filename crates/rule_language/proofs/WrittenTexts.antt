@@ -1,29 +1,48 @@
 -- What is written of rules is a text of them.
-use Rattle.std.proofs.Common.{[]}
-use Rattle.rule_language.proofs.Imports.{◌≡◌, ◌≢◌, ◌⊎◌, inl, inr, ◌∙◌, ℕ, ◌+◌, ◌^◌, ◌<◌, ◌≤◌, Bool, true, false, ◌&&◌}
-use Rattle.rule_language.proofs.Imports.{List, ◌∷◌, ◌++◌, length, Option, Some, None, refl, ap, sym, subst, arith}
-use Rattle.rule_language.proofs.Imports.{append-nil, nat_le, nat_lt, not, ◌||◌, codes, is_some, decimal}
-use Rattle.rule_language.proofs.Imports.{decimal_nonempty, leb-true, ltb-true, lt-ltb, ne_eqb, le-leb, and_parts}
-use Rattle.rule_language.proofs.Imports.{AreDigits, decimal_digits, Role, role_word, IsWordByte, Kind, Field, Sort}
-use Rattle.rule_language.proofs.Imports.{Term, Of, Number, Form, kind_word, field_word, Scope, kind_in, is_letter}
-use Rattle.rule_language.proofs.Imports.{Trees, no_trees, tree_then, RuleTree, is_bound, can_bind, sort_of}
-use Rattle.rule_language.proofs.Imports.{are_of_one_sort, has_order, is_closed, is_shallow, scope_in, are_formulas}
-use Rattle.rule_language.proofs.Imports.{is_alphanumeric, are_alphanumeric, is_name, is_rule, follow, are_rules, Token}
-use Rattle.rule_language.proofs.Imports.{left, right, variable, term_word, form_words, spelt, tokens_then, rule_tokens}
-use Rattle.rule_language.proofs.Imports.{rules_tokens, IsTextOf, spaced, with_spaces, form_text, row_text, rule_text}
-use Rattle.rule_language.proofs.Imports.{rules_text, zero, suc, IsAscii, IsUtf8, IsUtf8-from_ascii}
+use Rattle.std.proofs.Common.{◌≡◌, ◌⊎◌, inl, inr, ◌∙◌, ap, sym, subst, refl, arith, ℕ, zero, suc, ◌+◌, ◌^◌, ◌<◌, ◌≤◌}
+use Rattle.std.proofs.Common.{Bool, true, false, List, [], ◌∷◌, ◌++◌, length, Option, Some, None, append_assoc}
+use Rattle.std.specs.Prelude.{◌&&◌, ◌||◌, ◌==◌, not, nat_le, nat_lt, codes, is_some}
+use Rattle.std.specs.Fmt.{decimal}
+use Rattle.std.specs.Str.{IsAscii, IsUtf8}
+use Rattle.std.proofs.lemmas.Bool.{and_parts, leb-true, ltb-true, eqb-true}
+use Rattle.std.proofs.lemmas.Fmt.{decimal_nonempty}
+use Rattle.std.proofs.lemmas.Str.{IsUtf8-from_ascii}
+use Rattle.canonical_sexp.proofs.Decimal.{AreDigits, decimal_digits}
+use Rattle.hall_text.specs.Spans.{IsWordByte}
+use Rattle.roster.specs.RosterText.{role_word}
+use Rattle.roster.specs.declared.post.Role.{Role}
 use Rattle.roster.specs.declared.post.Role.TheVariants as role
+use Rattle.rule_language.specs.declared.kind.Kind.{Kind}
 use Rattle.rule_language.specs.declared.kind.Kind.TheVariants as kind
+use Rattle.rule_language.specs.declared.kind.Field.{Field}
 use Rattle.rule_language.specs.declared.kind.Field.TheVariants as field
+use Rattle.rule_language.specs.declared.kind.Sort.{Sort}
+use Rattle.rule_language.specs.declared.term.Term.{Term}
+use Rattle.rule_language.specs.declared.term.Term.TheVariants.{Of, Number}
+use Rattle.rule_language.specs.declared.form.Form.{Form}
 use Rattle.rule_language.specs.declared.form.Form.TheVariants as form
-use Rattle.rule_language.proofs.Passing.{spelt_cases, tokens_append}
-use Rattle.rule_language.proofs.Passes.{may_stand}
-use Rattle.rule_language.proofs.RulesPass.{rule_good}
-use Rattle.rule_language.proofs.Stands.{none_yet}
-use Rattle.rule_language.proofs.WrittenForms.{enclosed_text}
-use Rattle.rule_language.proofs.Spells.{Spells, opens, opens_more, spells_more, spells_none, opens_separator}
-use Rattle.rule_language.proofs.Spells.{opens_parenthesis, spells_word, breaks_first, breaks_none, BreaksBehind}
-use Rattle.rule_language.proofs.Spells.{is_word_byte, are_word_bytes, word_byte}
+use Rattle.rule_language.specs.Kinds.{kind_word, field_word}
+use Rattle.rule_language.specs.Scopes.{Scope, kind_in, is_letter}
+use Rattle.rule_language.specs.Trees.{Trees, no_trees, tree_then, count_of, RuleTree}
+use Rattle.rule_language.specs.Lawful.{is_bound, can_bind, sort_of, are_of_one_sort, has_order, is_closed, are_formulas}
+use Rattle.rule_language.specs.Lawful.{scope_in, inner, is_alphanumeric, are_alphanumeric, is_name, is_rule}
+use Rattle.rule_language.specs.Lawful.{follow, are_rules}
+use Rattle.rule_language.specs.Spelling.{variable, term_word, form_words, spelt, form_end, tokens_then, rule_then}
+use Rattle.rule_language.specs.Spelling.{rules_tokens, IsTextOf}
+use Rattle.rule_language.specs.Tokens.{Token, Row, token_then, bad_byte, text_end, left, right, words, has_good_bytes}
+use Rattle.rule_language.specs.Tokens.{row_from}
+use Rattle.hall_text.specs.Tokens.{is_word_byte}
+use Rattle.rule_language.specs.Tokens.{goes_on, byte_then, longer}
+unfoldable use Rattle.rule_language.specs.Tokens.{text_row}
+use Rattle.rule_language.specs.Written.{spaced, with_spaces, form_text, row_text, rule_text, rules_text}
+use Rattle.rule_language.proofs.Rows.{word_tested, word_byte}
+use Rattle.rule_language.proofs.Rowed.{may_stand}
+use Rattle.rule_language.proofs.RulesRead.{rule_fits}
+
+-- whether all bytes belong to words
+abbrev are_word_bytes : List ℕ → Bool
+are_word_bytes [] = true
+are_word_bytes (byte ∷ bytes) = is_word_byte byte && are_word_bytes bytes
 
 -- a word that is spelt
 abbrev IsSpelt : Token → Type 0
@@ -37,36 +56,22 @@ AreSpelt (word ∷ words) = IsSpelt word × AreSpelt words
 -- the words of kinds are spelt
 kind_spelt : (k : Kind) → IsSpelt (kind_word k)
 kind_spelt kind.Any = (omega arith, refl)
-kind_spelt kind.Opened = (omega arith, refl)
-kind_spelt kind.Authorise = (omega arith, refl)
-kind_spelt kind.Override = (omega arith, refl)
-kind_spelt kind.Forced = (omega arith, refl)
-kind_spelt kind.Closed = (omega arith, refl)
-kind_spelt kind.Activate = (omega arith, refl)
-kind_spelt kind.Commit = (omega arith, refl)
-kind_spelt kind.Cast = (omega arith, refl)
-kind_spelt kind.Cancel = (omega arith, refl)
-kind_spelt kind.Challenge = (omega arith, refl)
+kind_spelt k = (omega arith, refl)
 
 -- the words of roles are spelt
 role_spelt : (r : Role) → IsSpelt (role_word r)
 role_spelt role.Supervisor = (omega arith, refl)
-role_spelt role.Booth = (omega arith, refl)
+role_spelt r = (omega arith, refl)
 
 -- the bytes of a field's word belong to words
 field_bytes : (f : Field) → are_word_bytes (field_word f) ≡ true
 field_bytes field.Maker = refl
-field_bytes field.Booth = refl
-field_bytes field.Number = refl
-field_bytes field.Session = refl
-field_bytes field.Ballot = refl
+field_bytes f = refl
 
 -- a byte within a range that has no parenthesis
 in_range : (low high byte : ℕ) → 41 < low → high ≤ 126 → low ≤ byte → byte ≤ high → is_word_byte byte ≡ true
 in_range low high byte a b c d =
-    rw (lt-ltb 32 byte (omega arith))
-    (rw (le-leb byte 126 (omega arith))
-    (rw (ne_eqb byte 40 (λ e. omega arith)) (rw (ne_eqb byte 41 (λ e. omega arith)) refl)))
+    (word_tested byte (omega arith, omega arith, (λ e. omega arith), (λ e. omega arith))).2
 
 -- letters belong to words
 letter_byte : (v : ℕ) → is_letter v ≡ true → is_word_byte v ≡ true
@@ -133,6 +138,13 @@ before_spelt scope v k u good =
     let (can, bound) = and_parts (can_bind scope v) (is_bound scope u) good in
     (can_spelt scope v can, (kind_spelt k, ((omega arith, refl), (bound_spelt scope u bound, tt))))
 
+-- the words of two bound variables are spelt
+pair_spelt : (scope : Scope) (v u : ℕ) → (is_bound scope v && is_bound scope u) ≡ true
+    → AreSpelt (variable v ∷ variable u ∷ [])
+pair_spelt scope v u good =
+    let (first, second) = and_parts (is_bound scope v) (is_bound scope u) good in
+    (bound_spelt scope v first, (bound_spelt scope u second, tt))
+
 -- the words of a form that is allowed are spelt
 form_spelt : (scope : Scope) (f : Form) → is_closed scope f ≡ true → AreSpelt (form_words f)
 form_spelt scope form.True good = ((omega arith, refl), tt)
@@ -144,12 +156,9 @@ form_spelt scope form.And good = ((omega arith, refl), tt)
 form_spelt scope form.Or good = ((omega arith, refl), tt)
 form_spelt scope form.Not good = ((omega arith, refl), tt)
 form_spelt scope form.Implies good = ((omega arith, refl), tt)
-form_spelt scope (form.Same v u) good = let (first, second) = and_parts (is_bound scope v) (is_bound scope u) good in
-    ((omega arith, refl), (bound_spelt scope v first, (bound_spelt scope u second, tt)))
-form_spelt scope (form.Before v u) good = let (first, second) = and_parts (is_bound scope v) (is_bound scope u) good in
-    ((omega arith, refl), (bound_spelt scope v first, (bound_spelt scope u second, tt)))
-form_spelt scope (form.Next v u) good = let (first, second) = and_parts (is_bound scope v) (is_bound scope u) good in
-    ((omega arith, refl), (bound_spelt scope v first, (bound_spelt scope u second, tt)))
+form_spelt scope (form.Same v u) good = ((omega arith, refl), pair_spelt scope v u good)
+form_spelt scope (form.Before v u) good = ((omega arith, refl), pair_spelt scope v u good)
+form_spelt scope (form.Next v u) good = ((omega arith, refl), pair_spelt scope v u good)
 form_spelt scope (form.Is v r) good = ((omega arith, refl), (bound_spelt scope v good, (role_spelt r, tt)))
 form_spelt scope (form.OfKind v k) good = ((omega arith, refl), (bound_spelt scope v good, (kind_spelt k, tt)))
 form_spelt scope (form.Equal t u) good = ((omega arith, refl), terms_spelt scope t u good)
@@ -157,98 +166,146 @@ form_spelt scope (form.Less t u) good =
     let b = and_parts (has_order (sort_of scope t)) (are_of_one_sort (sort_of scope t) (sort_of scope u)) good in
     ((omega arith, refl), terms_spelt scope t u b.1)
 
--- no word begins with a space or a parenthesis
-space_breaks : ¬ (IsWordByte 32)
-space_breaks word = let low : 33 ≤ 32 = word.0 in omega arith
+-- the bytes spell these tokens, wherever they stand
+pub record Spells (bytes : List ℕ) (tokens : List Token) : Type 0 where
+  pub words : (at : ℕ) → words (row_from at bytes) ≡ tokens
+  pub whole : (at : ℕ) → has_good_bytes (row_from at bytes) ≡ true
 
--- no word goes on with a left parenthesis
-left_breaks : ¬ (IsWordByte 40)
-left_breaks word = word.2 refl
+-- nothing
+spells_none : Spells [] []
+spells_none = record { words = λ at. refl; whole = λ at. refl }
 
--- no word goes on with a right parenthesis
-right_breaks : ¬ (IsWordByte 41)
-right_breaks word = word.3 refl
+-- a space
+spells_space : (bytes : List ℕ) (ts : List Token) → Spells bytes ts → Spells (32 ∷ bytes) ts
+spells_space bytes ts all = record { words = λ at. all.words (at + 1); whole = λ at. all.whole (at + 1) }
 
--- no word goes on where words with a space before each begin
-spaced_breaks : (ws : List Token) → BreaksBehind (spaced ws)
-spaced_breaks [] = breaks_none
-spaced_breaks (w ∷ ws) = breaks_first 32 (w ++ spaced ws) space_breaks
+-- a newline
+spells_newline : (bytes : List ℕ) (ts : List Token) → Spells bytes ts → Spells (10 ∷ bytes) ts
+spells_newline bytes ts all = record { words = λ at. all.words (at + 1); whole = λ at. all.whole (at + 1) }
 
--- words with a space before each spell themselves
-spaced_spells : (ws : List Token) → AreSpelt ws → Spells (spaced ws) ws
-spaced_spells [] good = spells_none
-spaced_spells (w ∷ ws) ((some, bytes), others) =
-    opens_more (32 ∷ []) (w ++ spaced ws) [] (w ∷ ws) (opens_separator 32 (inl refl))
-    (spells_more w (spaced ws) (w ∷ []) ws (spells_word w some bytes) (spaced_spells ws others) (spaced_breaks ws))
+-- a left parenthesis
+spells_left : (bytes : List ℕ) (ts : List Token) → Spells bytes ts → Spells (40 ∷ bytes) (left ∷ ts)
+spells_left bytes ts all =
+    record { words = λ at. ap (λ ts. left ∷ ts) (all.words (at + 1)); whole = λ at. all.whole (at + 1) }
 
--- words with a space between each two spell themselves
-joined_spells : (ws : List Token) → AreSpelt ws → Spells (with_spaces ws) ws
-joined_spells [] good = spells_none
-joined_spells (w ∷ ws) ((some, bytes), others) =
-    spells_more w (spaced ws) (w ∷ []) ws (spells_word w some bytes) (spaced_spells ws others) (spaced_breaks ws)
+-- a right one
+spells_right : (bytes : List ℕ) (ts : List Token) → Spells bytes ts → Spells (41 ∷ bytes) (right ∷ ts)
+spells_right bytes ts all =
+    record { words = λ at. ap (λ ts. right ∷ ts) (all.words (at + 1)); whole = λ at. all.whole (at + 1) }
 
--- no word goes on where a row of formulas begins
-row_breaks : (trees : Trees) → BreaksBehind (row_text trees)
-row_breaks no_trees = breaks_none
-row_breaks (tree_then f parts trees) = breaks_first 32 (form_text f (row_text parts) ++ row_text trees) space_breaks
+-- a byte in front of a word
+longer_words : (at b : ℕ) (row : Row) (w : Token) (ts : List Token) → words row ≡ w ∷ ts →
+    (words (longer at b row) ≡ (b ∷ w) ∷ ts) × (has_good_bytes (longer at b row) ≡ has_good_bytes row)
+longer_words at b (bad_byte next) w ts is = cc is
+longer_words at b (text_end next) w ts is = cc is
+longer_words at b (token_then next v row) w ts is =
+    let same : v ≡ w = cc in
+    let more : words row ≡ ts = cc in
+    (rw (same, more) refl, refl)
 
--- rows are spelt
-inside_breaks : (parts : Trees) → BreaksBehind (row_text parts ++ 41 ∷ [])
-inside_breaks no_trees = breaks_first 41 [] right_breaks
-inside_breaks (tree_then f inner trees) =
-    breaks_first 32 ((form_text f (row_text inner) ++ row_text trees) ++ 41 ∷ []) space_breaks
+-- a byte of a word in front of more of it
+front_longer : (at b : ℕ) (joined : Bool) (row : Row) → IsWordByte b → joined ≡ true →
+    byte_then at b joined row ≡ longer at b row
+front_longer at b joined row word on =
+    let (separates, alone, tested) = word_tested b word in
+    rw separates (rw alone (rw tested (rw on refl)))
 
--- the text of a form that is allowed spells its tokens
-form_spells : (scope : Scope) (f : Form) (parts : Trees) → is_closed scope f ≡ true
-    → Spells (row_text parts) (tokens_then parts [])
-    → Spells (form_text f (row_text parts)) (spelt f (tokens_then parts []) [])
-form_spells scope f parts good inside = by (spelt_cases f)
-  where
-    -- the same of a form in parentheses
-    enclosed : f ≢ form.True → Spells (40 ∷ (with_spaces (form_words f) ++ (row_text parts ++ 41 ∷ [])))
-        (left ∷ (form_words f ++ (tokens_then parts [] ++ right ∷ [])))
-    enclosed other =
-        opens_more (40 ∷ []) (with_spaces (form_words f) ++ (row_text parts ++ 41 ∷ [])) (left ∷ [])
-        (form_words f ++ (tokens_then parts [] ++ right ∷ []))
-        (opens_parenthesis 40 (inl refl))
-        (spells_more (with_spaces (form_words f)) (row_text parts ++ 41 ∷ []) (form_words f)
-        (tokens_then parts [] ++ right ∷ [])
-        (joined_spells (form_words f) (form_spelt scope f good))
-        (spells_more (row_text parts) (41 ∷ []) (tokens_then parts []) (right ∷ []) inside
-        (opens (41 ∷ []) (right ∷ []) (opens_parenthesis 41 (inr refl))) (breaks_first 41 [] right_breaks))
-        (inside_breaks parts))
+-- a word, behind which no word goes on
+spells_word : (w : Token) (bytes : List ℕ) (ts : List Token) → IsSpelt w → goes_on bytes ≡ false → Spells bytes ts →
+    Spells (w ++ bytes) (w ∷ ts)
+spells_word [] bytes ts (some, good) ends all = absurd (omega arith)
+spells_word (b ∷ []) bytes ts (some, good) ends all =
+    let (word, _) = and_parts (is_word_byte b) true good in
+    let (separates, alone, _) = word_tested b (word_byte b word) in record {
+      words = λ at. rw separates (rw alone (rw word (rw ends (ap (λ ts. (b ∷ []) ∷ ts) (all.words (at + 1))))));
+      whole = λ at. rw separates (rw alone (rw word (rw ends (all.whole (at + 1)))));
+    }
+spells_word (b ∷ c ∷ w) bytes ts (some, good) ends all =
+    let (word, others) = and_parts (is_word_byte b) (are_word_bytes (c ∷ w)) good in
+    let (on, _) = and_parts (is_word_byte c) (are_word_bytes w) others in
+    let rest = spells_word (c ∷ w) bytes ts (omega arith, others) ends all in record {
+      words = λ at. ap words (front_longer at b (is_word_byte c) (row_from (at + 1) (c ∷ (w ++ bytes)))
+          (word_byte b word) on) ∙ (longer_words at b (row_from (at + 1) (c ∷ (w ++ bytes))) (c ∷ w) ts
+          (rest.words (at + 1))).0;
+      whole = λ at. ap has_good_bytes (front_longer at b (is_word_byte c) (row_from (at + 1) (c ∷ (w ++ bytes)))
+          (word_byte b word) on) ∙ (longer_words at b (row_from (at + 1) (c ∷ (w ++ bytes))) (c ∷ w) ts
+          (rest.words (at + 1))).1 ∙ rest.whole (at + 1);
+    }
 
-    -- the same of `true`
-    truth : f ≡ form.True → Spells (form_text f (row_text parts)) (spelt f (tokens_then parts []) [])
-    truth is = rw is (spells_word (codes "true") (omega arith) refl)
+-- the bytes may be grouped otherwise
+regrouped : (a b c : List ℕ) (ts : List Token) → Spells (a ++ (b ++ c)) ts → Spells ((a ++ b) ++ c) ts
+regrouped a b c ts all = subst (λ bytes. Spells bytes ts) (sym (append_assoc a b c)) all
 
-    -- by cases: which of the two the form is
-    by : ((f ≡ form.True) ⊎ (((inner after : List Token)
-        → spelt f inner after ≡ left ∷ (form_words f ++ (inner ++ right ∷ after)))
-        × ((depth : ℕ) → is_shallow depth f ≡ nat_lt depth 32)))
-        → Spells (form_text f (row_text parts)) (spelt f (tokens_then parts []) [])
-    by (inl is) = truth is
-    by (inr other) =
-        let differs : f ≢ form.True = λ is. let shut : true ≡ false = sym (ap (is_shallow 32) is) ∙ other.1 32 in
-        absurd (cc) in
-        subst (λ (ts : List Token). Spells (form_text f (row_text parts)) ts) (sym (other.0 (tokens_then parts []) []))
-        (subst (λ (xs : List ℕ). Spells xs (left ∷ (form_words f ++ (tokens_then parts [] ++ right ∷ []))))
-        (sym (enclosed_text f (row_text parts) differs)) (enclosed differs))
+-- words with a space before each
+spaced_spell : (ws : List Token) (bytes : List ℕ) (ts : List Token) → AreSpelt ws → goes_on bytes ≡ false →
+    Spells bytes ts → (goes_on (spaced ws ++ bytes) ≡ false) × Spells (spaced ws ++ bytes) (ws ++ ts)
+spaced_spell [] bytes ts good ends all = (ends, all)
+spaced_spell (w ∷ ws) bytes ts (spelt, others) ends all =
+    let (stops, rest) = spaced_spell ws bytes ts others ends all in (
+      refl,
+      spells_space ((w ++ spaced ws) ++ bytes) (w ∷ (ws ++ ts)) (regrouped w (spaced ws) bytes (w ∷ (ws ++ ts))
+          (spells_word w (spaced ws ++ bytes) (ws ++ ts) spelt stops rest)),
+    )
 
--- the text of lawful formulas spells their tokens
-pub row_spells : (trees : Trees) (scope : Scope) (depth : ℕ) → are_formulas scope depth trees ≡ true
-    → Spells (row_text trees) (tokens_then trees [])
-row_spells no_trees scope depth good = spells_none
-row_spells (tree_then f parts trees) scope depth good =
-    let ((_, closed, _, inner), others) = may_stand scope depth f parts trees good in
-    let first = form_spells scope f parts closed (row_spells parts (scope_in f scope) (depth + 1) inner) in
-    let rest = row_spells trees scope depth others in
-    let both = spells_more (form_text f (row_text parts)) (row_text trees) (spelt f (tokens_then parts []) [])
-    (tokens_then trees []) first rest (row_breaks trees) in
-    let whole = opens_more (32 ∷ []) (form_text f (row_text parts) ++ row_text trees) []
-    (spelt f (tokens_then parts []) [] ++ tokens_then trees []) (opens_separator 32 (inl refl)) both in
-    subst (λ (ts : List Token). Spells (32 ∷ (form_text f (row_text parts) ++ row_text trees)) ts)
-    (sym (tokens_append (tree_then f parts no_trees) [] (tokens_then trees []))) whole
+-- words with a space between each two
+words_spell : (ws : List Token) (bytes : List ℕ) (ts : List Token) → AreSpelt ws → goes_on bytes ≡ false →
+    Spells bytes ts → Spells (with_spaces ws ++ bytes) (ws ++ ts)
+words_spell [] bytes ts good ends all = all
+words_spell (w ∷ ws) bytes ts (spelt, others) ends all =
+    let (stops, rest) = spaced_spell ws bytes ts others ends all in
+    regrouped w (spaced ws) bytes (w ∷ (ws ++ ts)) (spells_word w (spaced ws ++ bytes) (ws ++ ts) spelt stops rest)
+
+-- no word goes on where a row begins
+row_stops : (trees : Trees) (bytes : List ℕ) → goes_on bytes ≡ false → goes_on (row_text trees ++ bytes) ≡ false
+row_stops no_trees bytes ends = ends
+row_stops (tree_then f parts rest) bytes ends = refl
+
+-- a form is `true`, or it is in parentheses
+enclosed : (f : Form) → (f ≡ form.True) ⊎ ((inside : List ℕ) (behind : List Token) →
+    (form_text f inside ≡ 40 ∷ (with_spaces (form_words f) ++ (inside ++ 41 ∷ [])))
+    × (spelt f behind ≡ left ∷ (form_words f ++ behind)) × (form_end f behind ≡ right ∷ behind))
+enclosed form.True = inl refl
+enclosed f = inr (λ inside behind. (refl, refl, refl))
+
+-- a form and the formulas in it
+form_spells : (scope : Scope) (f : Form) (inside bytes : List ℕ) (parts : Trees) (ts : List Token) →
+    is_closed scope f ≡ true → goes_on bytes ≡ false → goes_on (inside ++ 41 ∷ bytes) ≡ false → Spells bytes ts →
+    (Spells (41 ∷ bytes) (right ∷ ts) → Spells (inside ++ 41 ∷ bytes) (tokens_then parts (right ∷ ts))) →
+    (f ≡ form.True → parts ≡ no_trees) →
+    Spells (form_text f inside ++ bytes) (spelt f (tokens_then parts (form_end f ts)))
+form_spells scope f inside bytes parts ts good ends stops all within none = elim (enclosed f) [
+  | inl is ↦ rw (is, none is) (spells_word (codes "true") bytes ts (omega arith, refl) ends all)
+  | inr other ↦
+      let (text, _, _) = other inside [] in
+      let (_, spells, _) = other inside (tokens_then parts (form_end f ts)) in
+      let (_, _, closes) = other inside ts in
+      rw (text, spells, closes) (spells_left _ _ (regrouped (with_spaces (form_words f)) (inside ++ 41 ∷ []) bytes _
+      (subst (λ bs. Spells (with_spaces (form_words f) ++ bs) (form_words f ++ tokens_then parts (right ∷ ts)))
+      (sym (append_assoc inside (41 ∷ []) bytes)) (words_spell (form_words f) (inside ++ 41 ∷ bytes)
+      (tokens_then parts (right ∷ ts)) (form_spelt scope f good) stops (within (spells_right bytes ts all))))))
+]
+
+-- there are none in `true`
+no_parts : (parts : Trees) → (count_of parts == 0) ≡ true → parts ≡ no_trees
+no_parts no_trees none = refl
+no_parts (tree_then f i more) none =
+    let no : count_of more + 1 ≡ 0 = eqb-true (count_of more + 1) 0 none in absurd (omega arith)
+
+-- lawful formulas in a row
+row_spells : (trees : Trees) (levels : ℕ) (scope : Scope) (bytes : List ℕ) (ts : List Token) →
+    are_formulas levels scope trees ≡ true → goes_on bytes ≡ false → Spells bytes ts →
+    Spells (row_text trees ++ bytes) (tokens_then trees ts)
+row_spells no_trees levels scope bytes ts good ends all = all
+row_spells (tree_then f parts rest) levels scope bytes ts good ends all =
+    let (shallow, closes, arity, within, after) = may_stand levels scope f parts rest good in
+    let others = row_spells rest levels scope bytes ts after ends all in
+    spells_space _ _ (regrouped (form_text f (row_text parts)) (row_text rest) bytes _ (form_spells scope f (row_text
+    parts)
+    (row_text rest ++ bytes) parts (tokens_then rest ts) closes (row_stops rest bytes ends)
+    (row_stops parts (41 ∷ (row_text rest ++ bytes)) refl) others
+    (λ ended_too. row_spells parts (inner levels) (scope_in f scope) (41 ∷ (row_text rest ++ bytes)) (right ∷
+    tokens_then
+    rest ts) within refl ended_too) (λ is. no_parts parts (rw is at arity))))
 
 -- one of two tests
 either_true : (a b : Bool) (P : Type 0) → (a ≡ true → P) → (b ≡ true → P) → (a || b) ≡ true → P
@@ -297,65 +354,33 @@ ascii (byte ∷ bytes) all (suc i) = ascii bytes (and_parts (is_word_byte byte) 
 pub name_is_text : (name : List ℕ) → is_name name ≡ true → IsUtf8 name
 name_is_text name is = IsUtf8-from_ascii name (ascii name (name_spelt name is).1)
 
--- a rule's line
-end_opens : Spells (41 ∷ 10 ∷ []) (right ∷ [])
-end_opens = opens_more (41 ∷ []) (10 ∷ []) (right ∷ []) [] (opens_parenthesis 41 (inr refl))
-    (opens (10 ∷ []) [] (opens_separator 10 (inr (inr (inl refl)))))
+-- the line of a rule
+rule_spells : (names : List Token) (r : RuleTree) (bytes : List ℕ) (ts : List Token) → is_rule names r ≡ true →
+    Spells bytes ts → Spells (rule_text r ++ bytes) (rule_then r ts)
+rule_spells names r bytes ts good all =
+    let ((named, _), (lawful, _)) = rule_fits names r good in
+    let ending = spells_right (10 ∷ bytes) ts (spells_newline bytes ts all) in
+    let body = row_spells r.body 31 [] (41 ∷ 10 ∷ bytes) (right ∷ ts) lawful refl ending in
+    let name = spells_word r.name (row_text r.body ++ 41 ∷ 10 ∷ bytes) (tokens_then r.body (right ∷ ts))
+    (name_spelt r.name named) (row_stops r.body (41 ∷ 10 ∷ bytes) refl) body in
+    let rest : List ℕ = r.name ++ (row_text r.body ++ 41 ∷ 10 ∷ bytes) in
+    let word = spells_word (codes "rule") (32 ∷ rest) _ (omega arith, refl) refl (spells_space rest _ name) in
+    subst (λ bs. Spells (codes "(rule " ++ bs) (rule_then r ts)) (sym (append_assoc r.name (row_text r.body ++ 41 ∷ 10
+    ∷ []) bytes ∙ ap (λ bs. r.name ++ bs) (append_assoc (row_text r.body) (41 ∷ 10 ∷ []) bytes)))
+    (spells_left _ _ word)
 
--- no word goes on after a rule's name
-tail_breaks : (body : Trees) → BreaksBehind (row_text body ++ 41 ∷ 10 ∷ [])
-tail_breaks no_trees = breaks_first 41 (10 ∷ []) right_breaks
-tail_breaks (tree_then f inner trees) =
-    breaks_first 32 ((form_text f (row_text inner) ++ row_text trees) ++ 41 ∷ 10 ∷ []) space_breaks
-
--- the line of a rule spells its tokens
-rule_spells : (names : List Token) (rule : RuleTree) → is_rule names rule ≡ true
-    → Spells (rule_text rule) (rule_tokens rule)
-rule_spells names rule good =
-    let g = rule_good names rule good in
-    let name = name_spelt rule.name g.name in
-    let body = row_spells rule.body [] 1 g.body in
-    let tail = spells_more (row_text rule.body) (41 ∷ 10 ∷ []) (tokens_then rule.body []) (right ∷ []) body end_opens
-    (breaks_first 41 (10 ∷ []) right_breaks) in
-    let behind_name = spells_more rule.name (row_text rule.body ++ 41 ∷ 10 ∷ []) (rule.name ∷ [])
-    (tokens_then rule.body [] ++ right ∷ [])
-    (spells_word rule.name name.0 name.1) tail (tail_breaks rule.body) in
-    let spaced_name = opens_more (32 ∷ []) (rule.name ++ (row_text rule.body ++ 41 ∷ 10 ∷ [])) []
-    (rule.name ∷ (tokens_then rule.body [] ++ right ∷ []))
-    (opens_separator 32 (inl refl)) behind_name in
-    let word = spells_more (codes "rule") (32 ∷ (rule.name ++ (row_text rule.body ++ 41 ∷ 10 ∷ []))) (codes "rule" ∷ [])
-    (rule.name ∷ (tokens_then rule.body [] ++ right ∷ []))
-    (spells_word (codes "rule") (omega arith) refl) spaced_name
-    (breaks_first 32 (rule.name ++ (row_text rule.body ++ 41 ∷ 10 ∷ [])) space_breaks) in
-    let whole = opens_more (40 ∷ []) (codes "rule" ++ 32 ∷ (rule.name ++ (row_text rule.body ++ 41 ∷ 10 ∷ [])))
-    (left ∷ []) (codes "rule" ∷ rule.name ∷ (tokens_then rule.body [] ++ right ∷ []))
-    (opens_parenthesis 40 (inl refl)) word in
-    subst (λ (ts : List Token). Spells (rule_text rule) (left ∷ codes "rule" ∷ rule.name ∷ ts))
-    (sym (tokens_append rule.body [] (right ∷ []))) whole
-
--- no word goes on where the next rule begins
-rules_breaks : (rs : List RuleTree) → BreaksBehind (rules_text rs)
-rules_breaks [] = breaks_none
-rules_breaks (r ∷ rs) = breaks_first 40
-    (codes "rule " ++ (r.name ++ (row_text r.body ++ 41 ∷ 10 ∷ [])) ++ rules_text rs) left_breaks
-
--- the lines of lawful rules spell their tokens
-rules_spell : (names : List Token) (rs : List RuleTree) → follow names rs ≡ true
-    → Spells (rules_text rs) (rules_tokens rs)
+-- the lines of rules
+rules_spell : (names : List Token) (rs : List RuleTree) → follow names rs ≡ true →
+    Spells (rules_text rs) (rules_tokens rs)
 rules_spell names [] good = spells_none
 rules_spell names (r ∷ rs) good =
-    let b = and_parts (is_rule names r) (follow (names ++ r.name ∷ []) rs) good in
-    spells_more (rule_text r) (rules_text rs) (rule_tokens r) (rules_tokens rs) (rule_spells names r b.0)
-    (rules_spell (names ++ r.name ∷ []) rs b.1) (rules_breaks rs)
+    let (first, others) = and_parts (is_rule names r) (follow (names ++ r.name ∷ []) rs) good in
+    rule_spells names r (rules_text rs) (rules_tokens rs) first (rules_spell (names ++ r.name ∷ []) rs others)
 
--- what is written of rules is a text of them
+-- what is written of lawful rules is a text of them
 pub written_is_text : (rs : List RuleTree) → are_rules rs ≡ true → IsTextOf (rules_text rs) rs
+unfolding text_row
 written_is_text rs good =
-    let b = and_parts (nat_lt 0 (length rs)) (follow [] rs) good in
-    let text = rules_text rs in
-    let whole = rules_spell [] rs b.1 text [] [] [] (sym (append-nil text)) tt (λ positive. absurd (omega arith))
-    (none_yet text) in
-    record {
-      lawful = good;
-      tokens = whole.0;
-    }
+    let (_, lawful) = and_parts (nat_lt 0 (length rs) && nat_le (length rs) 256) (follow [] rs) good in
+    let all = rules_spell [] rs lawful in
+    record { lawful = good; tokens = all.words 0; whole = all.whole 0 }

@@ -1,5 +1,5 @@
 -- Which trees are rules: arities, bound variables, sorts and limits.
-use Rattle.std.specs.Prelude.{ℕ, ◌+◌, ◌^◌, Bool, true, false, ◌&&◌, ◌||◌, ◌==◌, not, nat_lt, nat_le}
+use Rattle.std.specs.Prelude.{ℕ, zero, suc, ◌^◌, Bool, true, false, ◌&&◌, ◌||◌, ◌==◌, not, nat_lt, nat_le}
 use Rattle.std.specs.Prelude.{if◌then◌else◌, List, [], ◌∷◌, ◌++◌, length, Option, Some, None, is_some}
 use Rattle.std.specs.Str.{bytes_eq}
 use Rattle.rule_language.specs.declared.kind.Kind.{Kind}
@@ -74,10 +74,16 @@ has_arity (form.EveryBefore v kind u) n = n == 1
 has_arity (form.SomeBefore v kind u) n = n == 1
 has_arity form n = n == 0
 
--- whether a form is allowed where this many parentheses are open: at most 32 nest
+-- whether a form is allowed where so many more parentheses may open
 abbrev pub is_shallow : ℕ → Form → Bool
-is_shallow depth form.True = true
-is_shallow depth form = nat_lt depth 32
+is_shallow levels form.True = true
+is_shallow zero form = false
+is_shallow (suc levels) form = true
+
+-- how many more may open in it
+abbrev pub inner : ℕ → ℕ
+inner zero = zero
+inner (suc levels) = levels
 
 -- what is bound in the form, of which a quantifier binds its variable
 abbrev pub scope_in : Form → Scope → Scope
@@ -87,13 +93,13 @@ scope_in (form.EveryBefore v kind u) scope = (v, kind) ∷ scope
 scope_in (form.SomeBefore v kind u) scope = (v, kind) ∷ scope
 scope_in form scope = scope
 
--- whether these are formulas where the variables of the scope are bound and this many parentheses
--- are open
-abbrev pub are_formulas : Scope → ℕ → Trees → Bool
-are_formulas scope depth no_trees = true
-are_formulas scope depth (tree_then form parts rest) =
-    (is_shallow depth form && (is_closed scope form && has_arity form (count_of parts)))
-    && (are_formulas (scope_in form scope) (depth + 1) parts && are_formulas scope depth rest)
+-- whether these are formulas where the variables of the scope are bound and so many more
+-- parentheses may open
+abbrev pub are_formulas : ℕ → Scope → Trees → Bool
+are_formulas levels scope no_trees = true
+are_formulas levels scope (tree_then form parts rest) =
+    (is_shallow levels form && (is_closed scope form && has_arity form (count_of parts)))
+    && (are_formulas (inner levels) (scope_in form scope) parts && are_formulas levels scope rest)
 
 -- letters and digits
 abbrev pub is_alphanumeric : ℕ → Bool
@@ -114,17 +120,17 @@ abbrev pub is_among : List ℕ → List (List ℕ) → Bool
 is_among name [] = false
 is_among name (other ∷ names) = bytes_eq name other || is_among name names
 
--- whether this is a rule after rules of these names: at most 256 rules, no two of one name
+-- whether this is a rule after rules of these names, no two of one name: at most 32 parentheses
+-- nest, of which its own is one
 abbrev pub is_rule : List (List ℕ) → RuleTree → Bool
 is_rule names rule =
-    (nat_lt (length names) 256 && (is_name rule.name && not (is_among rule.name names)))
-    && ((count_of rule.body == 1) && are_formulas [] 1 rule.body)
+    (is_name rule.name && not (is_among rule.name names)) && ((count_of rule.body == 1) && are_formulas 31 [] rule.body)
 
 -- whether these are rules after rules of these names
 abbrev pub follow : List (List ℕ) → List RuleTree → Bool
 follow names [] = true
 follow names (rule ∷ rules) = is_rule names rule && follow (names ++ rule.name ∷ []) rules
 
--- whether these are rules, of which there is one at least
+-- whether these are rules, of which there are 1 to 256
 abbrev pub are_rules : List RuleTree → Bool
-are_rules rules = nat_lt 0 (length rules) && follow [] rules
+are_rules rules = (nat_lt 0 (length rules) && nat_le (length rules) 256) && follow [] rules

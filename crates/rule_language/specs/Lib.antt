@@ -3,8 +3,11 @@ pub mod Scopes
 pub mod Trees
 pub mod Forms
 pub mod Lawful
+pub mod Tokens
+pub mod Words
+pub mod Steps
+pub mod Reader
 pub mod Spelling
-pub mod Wants
 pub mod Reading
 pub mod Written
 pub mod Standard

@@ -1,10 +1,7 @@
 -- The tokens of rules, by recursion on their trees, and texts of them.
-use Rattle.std.specs.Prelude.{◌≡◌, ◌⊎◌, ℕ, ◌<◌, ◌≤◌, IsTrue, List, [], ◌∷◌, ◌++◌, length, map, codes}
-use Rattle.std.specs.Prelude.{slice_index}
+use Rattle.std.specs.Prelude.{◌≡◌, ℕ, IsTrue, List, [], ◌∷◌, ◌++◌, codes}
 use Rattle.std.specs.Fmt.{decimal}
 use Rattle.roster.specs.RosterText.{role_word}
-use Rattle.hall_text.specs.declared.spans.Span.{Span}
-use Rattle.hall_text.specs.Spans.{IsWordByte, IsParenthesis, IsToken, AreAll, piece}
 use Rattle.rule_language.specs.declared.term.Term.{Term}
 use Rattle.rule_language.specs.declared.term.Term.TheVariants.{Of, Number}
 use Rattle.rule_language.specs.declared.form.Form.{Form}
@@ -12,18 +9,7 @@ use Rattle.rule_language.specs.declared.form.Form.TheVariants as form
 use Rattle.rule_language.specs.Kinds.{kind_word, field_word}
 use Rattle.rule_language.specs.Trees.{Trees, no_trees, tree_then, RuleTree}
 use Rattle.rule_language.specs.Lawful.{are_rules}
-
--- a token: the bytes of a word, or of a parenthesis (Querifier, SADFE 2008)
-abbrev pub Token : Type 0
-Token = List ℕ
-
--- the left parenthesis
-abbrev pub left : Token
-left = codes "("
-
--- the right parenthesis
-abbrev pub right : Token
-right = codes ")"
+use Rattle.rule_language.specs.Tokens.{Token, left, right, text_row, words, has_good_bytes}
 
 -- a variable, by its letter
 abbrev pub variable : ℕ → Token
@@ -54,42 +40,33 @@ form_words (form.OfKind v kind) = codes "kind" ∷ variable v ∷ kind_word kind
 form_words (form.Equal t u) = codes "=" ∷ term_word t ∷ term_word u ∷ []
 form_words (form.Less t u) = codes "<" ∷ term_word t ∷ term_word u ∷ []
 
--- a form with the tokens of the formulas in it, and what follows; all but `true` are in parentheses
-abbrev pub spelt : Form → List Token → List Token → List Token
-spelt form.True inside behind = codes "true" ∷ behind
-spelt form inside behind = left ∷ (form_words form ++ (inside ++ right ∷ behind))
+-- the beginning of a form, and what follows; all but `true` are in parentheses
+abbrev pub spelt : Form → List Token → List Token
+spelt form.True behind = codes "true" ∷ behind
+spelt form behind = left ∷ (form_words form ++ behind)
+
+-- what ends a form, and what follows
+abbrev pub form_end : Form → List Token → List Token
+form_end form.True behind = behind
+form_end form behind = right ∷ behind
 
 -- the tokens of formulas in a row, and what follows
 abbrev pub tokens_then : Trees → List Token → List Token
 tokens_then no_trees behind = behind
-tokens_then (tree_then form parts rest) behind = spelt form (tokens_then parts []) (tokens_then rest behind)
+tokens_then (tree_then form parts rest) behind = spelt form (tokens_then parts (form_end form (tokens_then rest
+    behind)))
 
--- the tokens of a rule
-abbrev pub rule_tokens : RuleTree → List Token
-rule_tokens rule = left ∷ codes "rule" ∷ rule.name ∷ tokens_then rule.body (right ∷ [])
+-- the tokens of a rule, and what follows
+abbrev pub rule_then : RuleTree → List Token → List Token
+rule_then rule behind = left ∷ codes "rule" ∷ rule.name ∷ tokens_then rule.body (right ∷ behind)
 
 -- the tokens of rules
 abbrev pub rules_tokens : List RuleTree → List Token
 rules_tokens [] = []
-rules_tokens (rule ∷ rules) = rule_tokens rule ++ rules_tokens rules
+rules_tokens (rule ∷ rules) = rule_then rule (rules_tokens rules)
 
--- space, tab, newline and carriage return separate tokens
-abbrev pub IsSeparator : ℕ → Type 0
-IsSeparator byte = (byte ≡ 32) ⊎ ((byte ≡ 9) ⊎ ((byte ≡ 10) ⊎ (byte ≡ 13)))
-
--- a byte of a token, or one that separates tokens
-abbrev pub IsGoodByte : ℕ → Type 0
-IsGoodByte byte = IsWordByte byte ⊎ (IsParenthesis byte ⊎ IsSeparator byte)
-
--- these are the tokens that begin before the place, and no byte before it is bad
-pub record StandBefore (text : List ℕ) (at : ℕ) (tokens : List Token) : Type 0 where
-  pub inside : at ≤ length text
-  pub good : (i : ℕ) → i < at → IsGoodByte (slice_index text i)
-  pub spans : List Span
-  pub all : AreAll (λ span. IsToken text span × (span.start < at)) spans
-  pub spelt : tokens ≡ map (piece text) spans
-
--- the text is one of these rules
+-- the text is one of these rules: they are lawful, its words are theirs, and no byte of it is bad
 pub record IsTextOf (text : List ℕ) (rules : List RuleTree) : Type 0 where
   pub lawful : IsTrue (are_rules rules)
-  pub tokens : StandBefore text (length text) (rules_tokens rules)
+  pub tokens : words (text_row text) ≡ rules_tokens rules
+  pub whole : IsTrue (has_good_bytes (text_row text))

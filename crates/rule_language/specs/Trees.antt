@@ -12,6 +12,11 @@ abbrev pub count_of : Trees → ℕ
 count_of no_trees = 0
 count_of (tree_then form parts rest) = count_of rest + 1
 
+-- one row and then another
+abbrev pub joined_trees : Trees → Trees → Trees
+joined_trees no_trees others = others
+joined_trees (tree_then form parts rest) others = tree_then form parts (joined_trees rest others)
+
 -- a rule: a name, and a row with its one formula
 pub record RuleTree : Type 0 where
   pub name : List ℕ

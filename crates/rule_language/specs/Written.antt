@@ -4,7 +4,8 @@ use Rattle.std.specs.Prelude.{ℕ, List, [], ◌∷◌, ◌++◌, codes}
 use Rattle.rule_language.specs.declared.form.Form.{Form}
 use Rattle.rule_language.specs.declared.form.Form.TheVariants as form
 use Rattle.rule_language.specs.Trees.{Trees, no_trees, tree_then, RuleTree}
-use Rattle.rule_language.specs.Spelling.{Token, form_words}
+use Rattle.rule_language.specs.Tokens.{Token}
+use Rattle.rule_language.specs.Spelling.{form_words}
 
 -- words with a space before each
 abbrev pub spaced : List Token → List ℕ

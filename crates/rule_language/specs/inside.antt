@@ -1,3 +1,2 @@
-pub mod Reader
-pub mod Quantifiers
+pub mod Unread
 pub mod Parts

@@ -1,33 +1,29 @@
 //! Reading the formulas that have no others in them, after their first words.
-ghost use Rattle.std.specs.Prelude.{◌<◌, ℕ, [], ◌∷◌, IfOk};
-ghost use Rattle.rule_language.specs.declared.form.Head.TheVariants as head;
-ghost use Rattle.rule_language.specs.Kinds.{head_word};
-ghost use Rattle.rule_language.specs.Spelling.{left};
-ghost use Rattle.rule_language.specs.Wants.{a_variable, first_term, close, behind_head};
-ghost use Rattle.rule_language.specs.inside.Reader.{
-  IsNext,
-  FailsAt,
-  IfFault,
-  IsRead,
-  IsPair,
-  AreTerms,
-  bindings,
-};
+ghost use Rattle.std.specs.Prelude.{◌≡◌};
+ghost use Rattle.rule_language.specs.Steps.{as_read};
+ghost use Rattle.rule_language.specs.Reader.{pair, variable_and_role, variable_and_kind, terms};
+ghost use Rattle.rule_language.specs.inside.Unread.{IsNext, unread, bindings};
 
 use crate::faults::RuleFault;
-use crate::formula::Formula;
-use crate::reading::{read_first, read_kind, read_only, read_role, read_second, read_variable};
+use crate::kind::{Kind, Sort};
+use crate::reading::{read_first, read_kind, read_role, read_second, read_variable};
 use crate::scope::Scope;
 use crate::term::Term;
+use crate::tokens::read_only;
 use hall_text::Span;
+use roster::Role;
 
 /// Takes two variables and the parenthesis.
-fn read_pair(text: &[u8], token: &mut Span, scope: &Scope<'_>) -> Result<(u8, u8), RuleFault>
+#[tactic(auto, unfolding(crate::specs::Steps::in_turn, crate::specs::Steps::closed))]
+pub(crate) fn read_pair(
+    text: &[u8],
+    token: &mut Span,
+    scope: &Scope<'_>,
+) -> Result<(u8, u8), RuleFault>
     requires { IsNext text.now token.old }
-    ensures ok { IfOk result (IsPair text.now token.old token.new (bindings scope.now)) }
-    ensures err { IfFault result (FailsAt text.now token.old.start
-        (λ rest. a_variable (bindings scope.now) ∷ a_variable (bindings scope.now)
-        ∷ close ∷ rest)) }
+    ensures value { as_read result (unread text.now token.new)
+        ≡ pair (bindings scope.now) (unread text.now token.old) }
+    ensures next { IsNext text.now token.new }
 {
     let v = read_variable(text, token, scope)?;
     let u = read_variable(text, token, scope)?;
@@ -35,143 +31,57 @@ fn read_pair(text: &[u8], token: &mut Span, scope: &Scope<'_>) -> Result<(u8, u8
     Ok((v, u))
 }
 
-/// Takes the rest of `(same v u)`.
-pub(crate) fn read_same(
+/// Takes a variable, a role and the parenthesis.
+#[tactic(auto, unfolding(crate::specs::Steps::in_turn, crate::specs::Steps::closed))]
+pub(crate) fn read_of_role(
     text: &[u8],
     token: &mut Span,
     scope: &Scope<'_>,
-) -> Result<Formula, RuleFault>
+) -> Result<(u8, Role), RuleFault>
     requires { IsNext text.now token.old }
-    ensures ok { (depth : ℕ) → depth < 32 → IfOk result
-        (IsRead text.now token.old token.new (bindings scope.now) depth
-        (left ∷ head_word head.Same ∷ [])) }
-    ensures err { (depth : ℕ) → IfFault result (FailsAt text.now token.old.start
-        (λ rest. behind_head (bindings scope.now) depth rest head.Same)) }
-{
-    let (v, u) = read_pair(text, token, scope)?;
-    Ok(Formula::Same(v, u))
-}
-
-/// Takes the rest of `(before v u)`.
-pub(crate) fn read_before(
-    text: &[u8],
-    token: &mut Span,
-    scope: &Scope<'_>,
-) -> Result<Formula, RuleFault>
-    requires { IsNext text.now token.old }
-    ensures ok { (depth : ℕ) → depth < 32 → IfOk result
-        (IsRead text.now token.old token.new (bindings scope.now) depth
-        (left ∷ head_word head.Before ∷ [])) }
-    ensures err { (depth : ℕ) → IfFault result (FailsAt text.now token.old.start
-        (λ rest. behind_head (bindings scope.now) depth rest head.Before)) }
-{
-    let (v, u) = read_pair(text, token, scope)?;
-    Ok(Formula::Before(v, u))
-}
-
-/// Takes the rest of `(next v u)`.
-pub(crate) fn read_next(
-    text: &[u8],
-    token: &mut Span,
-    scope: &Scope<'_>,
-) -> Result<Formula, RuleFault>
-    requires { IsNext text.now token.old }
-    ensures ok { (depth : ℕ) → depth < 32 → IfOk result
-        (IsRead text.now token.old token.new (bindings scope.now) depth
-        (left ∷ head_word head.Next ∷ [])) }
-    ensures err { (depth : ℕ) → IfFault result (FailsAt text.now token.old.start
-        (λ rest. behind_head (bindings scope.now) depth rest head.Next)) }
-{
-    let (v, u) = read_pair(text, token, scope)?;
-    Ok(Formula::Next(v, u))
-}
-
-/// Takes the rest of `(is v ROLE)`.
-pub(crate) fn read_is(
-    text: &[u8],
-    token: &mut Span,
-    scope: &Scope<'_>,
-) -> Result<Formula, RuleFault>
-    requires { IsNext text.now token.old }
-    ensures ok { (depth : ℕ) → depth < 32 → IfOk result
-        (IsRead text.now token.old token.new (bindings scope.now) depth
-        (left ∷ head_word head.Is ∷ [])) }
-    ensures err { (depth : ℕ) → IfFault result (FailsAt text.now token.old.start
-        (λ rest. behind_head (bindings scope.now) depth rest head.Is)) }
+    ensures value { as_read result (unread text.now token.new)
+        ≡ variable_and_role (bindings scope.now) (unread text.now token.old) }
+    ensures next { IsNext text.now token.new }
 {
     let v = read_variable(text, token, scope)?;
     let role = read_role(text, token)?;
     read_only(text, token, b")")?;
-    Ok(Formula::Is(v, role))
+    Ok((v, role))
 }
 
-/// Takes the rest of `(kind v KIND)`.
+/// Takes a variable, a kind and the parenthesis.
+#[tactic(auto, unfolding(crate::specs::Steps::in_turn, crate::specs::Steps::closed))]
 pub(crate) fn read_of_kind(
     text: &[u8],
     token: &mut Span,
     scope: &Scope<'_>,
-) -> Result<Formula, RuleFault>
+) -> Result<(u8, Kind), RuleFault>
     requires { IsNext text.now token.old }
-    ensures ok { (depth : ℕ) → depth < 32 → IfOk result
-        (IsRead text.now token.old token.new (bindings scope.now) depth
-        (left ∷ head_word head.OfKind ∷ [])) }
-    ensures err { (depth : ℕ) → IfFault result (FailsAt text.now token.old.start
-        (λ rest. behind_head (bindings scope.now) depth rest head.OfKind)) }
+    ensures value { as_read result (unread text.now token.new)
+        ≡ variable_and_kind (bindings scope.now) (unread text.now token.old) }
+    ensures next { IsNext text.now token.new }
 {
     let v = read_variable(text, token, scope)?;
     let kind = read_kind(text, token)?;
     read_only(text, token, b")")?;
-    Ok(Formula::OfKind(v, kind))
+    Ok((v, kind))
 }
 
-/// Takes two terms of one sort and the parenthesis.
-fn read_terms(
+/// Takes two terms of one sort, each with its sort, and the parenthesis.
+#[tactic(auto, unfolding(crate::specs::Steps::in_turn, crate::specs::Steps::closed))]
+pub(crate) fn read_terms(
     text: &[u8],
     token: &mut Span,
     scope: &Scope<'_>,
     ordered: bool,
-) -> Result<(Term, Term), RuleFault>
+) -> Result<((Term, Sort), (Term, Sort)), RuleFault>
     requires { IsNext text.now token.old }
-    ensures ok { IfOk result (AreTerms text.now token.old token.new (bindings scope.now) ordered) }
-    ensures err { IfFault result (FailsAt text.now token.old.start
-        (λ rest. first_term ordered (bindings scope.now) ∷ close ∷ rest)) }
+    ensures value { as_read result (unread text.now token.new)
+        ≡ terms ordered (bindings scope.now) (unread text.now token.old) }
+    ensures next { IsNext text.now token.new }
 {
-    let (first, sort) = read_first(text, token, scope, ordered)?;
-    let (second, _) = read_second(text, token, scope, sort)?;
+    let first = read_first(text, token, scope, ordered)?;
+    let second = read_second(text, token, scope, first.1)?;
     read_only(text, token, b")")?;
     Ok((first, second))
-}
-
-/// Takes the rest of `(= T U)`.
-pub(crate) fn read_equal(
-    text: &[u8],
-    token: &mut Span,
-    scope: &Scope<'_>,
-) -> Result<Formula, RuleFault>
-    requires { IsNext text.now token.old }
-    ensures ok { (depth : ℕ) → depth < 32 → IfOk result
-        (IsRead text.now token.old token.new (bindings scope.now) depth
-        (left ∷ head_word head.Equal ∷ [])) }
-    ensures err { (depth : ℕ) → IfFault result (FailsAt text.now token.old.start
-        (λ rest. behind_head (bindings scope.now) depth rest head.Equal)) }
-{
-    let (first, second) = read_terms(text, token, scope, false)?;
-    Ok(Formula::Equal(first, second))
-}
-
-/// Takes the rest of `(< T U)`.
-pub(crate) fn read_less(
-    text: &[u8],
-    token: &mut Span,
-    scope: &Scope<'_>,
-) -> Result<Formula, RuleFault>
-    requires { IsNext text.now token.old }
-    ensures ok { (depth : ℕ) → depth < 32 → IfOk result
-        (IsRead text.now token.old token.new (bindings scope.now) depth
-        (left ∷ head_word head.Less ∷ [])) }
-    ensures err { (depth : ℕ) → IfFault result (FailsAt text.now token.old.start
-        (λ rest. behind_head (bindings scope.now) depth rest head.Less)) }
-{
-    let (first, second) = read_terms(text, token, scope, true)?;
-    Ok(Formula::Less(first, second))
 }

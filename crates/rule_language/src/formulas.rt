@@ -1,268 +1,229 @@
 //! Reading formulas. They nest at most 32 parentheses deep, and so does the recursion.
-ghost use Rattle.std.specs.Prelude.{◌≡◌, ◌<◌, ◌+◌, [], ◌∷◌, if◌then◌else◌, IfOk, Ok, Some};
+ghost use Rattle.std.specs.Prelude.{◌≡◌, ◌≢◌, Err};
 ghost use Rattle.rule_language.specs.declared.form.Head.TheVariants as heads;
-ghost use Rattle.rule_language.specs.Kinds.{head_word};
-ghost use Rattle.rule_language.specs.Spelling.{left};
-ghost use Rattle.rule_language.specs.Wants.{formula, head, more, close, nested, behind_head};
-ghost use Rattle.rule_language.specs.inside.Reader.{
-  IsNext,
-  FailsAt,
-  IfFault,
-  IsRead,
-  IsBody,
-  IsSeveral,
-  bindings,
-};
-ghost use Rattle.rule_language.specs.inside.Quantifiers.{quantifier_head};
+ghost use Rattle.rule_language.specs.Forms.{tree_of, trees_of};
+ghost use Rattle.rule_language.specs.Steps.{viewed, closed, made_into};
+ghost use Rattle.rule_language.specs.Reader.{formula, inside, after_head, quantified};
+ghost use Rattle.rule_language.specs.Reader.{several, quantified_tree};
+ghost use Rattle.rule_language.specs.inside.Unread.{IsNext, unread, bindings};
 
-use crate::atoms::{
-    read_before, read_equal, read_is, read_less, read_next, read_of_kind, read_same,
-};
-use crate::binder::read_binder;
-use crate::faults::{RuleFault, RuleWhy};
+use crate::atoms::{read_of_kind, read_of_role, read_pair, read_terms};
+use crate::faults::RuleFault;
 use crate::form::Head;
 use crate::formula::Formula;
-use crate::reading::{read_head, read_only};
+use crate::quantifier::{quantifier, read_range};
+use crate::reading::{read_head, read_kind, read_new_variable, read_start};
 use crate::scope::Scope;
-use crate::tokens::{advance, is_word, refused};
+use crate::tokens::{is_word, read_only};
 use hall_text::Span;
 use std::alloc::Global;
-
-/// How many parentheses nest.
-const MAX_DEPTH: usize = 32;
 
 /// How many formulas an `and` or an `or` has at most.
 const MAX_PARTS: usize = 64;
 
-/// Takes a formula, around which `depth` parentheses are open.
+/// Takes a formula, in which `levels` more parentheses may open.
 #[cycle(formulas)]
 pub(crate) fn read_formula(
     alloc: Global,
     text: &[u8],
     token: &mut Span,
     scope: &Scope<'_>,
-    depth: usize,
+    levels: usize,
 ) -> Result<Formula, RuleFault>
     requires { IsNext text.now token.old }
-    ensures ok { IfOk result (IsRead text.now token.old token.new (bindings scope.now) depth []) }
-    ensures err { IfFault result
-        (FailsAt text.now token.old.start (λ rest. formula (bindings scope.now) depth ∷ rest)) }
+    ensures value { result ≢ Err RuleFault.Memory →
+        viewed tree_of result (unread text.now token.new)
+        ≡ formula levels (bindings scope.now) (unread text.now token.old) }
+    ensures next { IsNext text.now token.new }
 {
-    if is_word(text, *token, b"true") {
-        advance(text, token);
+    let opened = read_start(text, token, levels)?;
+    if levels == 0 || !opened {
         return Ok(Formula::True);
     }
-    if !is_word(text, *token, b"(") {
-        return Err(refused(text, *token, RuleWhy::Shape));
-    }
-    if depth >= MAX_DEPTH {
-        return Err(refused(text, *token, RuleWhy::TooDeep));
-    }
-    advance(text, token);
-    read_inside(alloc, text, token, scope, depth)
+    read_inside(alloc, text, token, scope, levels - 1)
 }
 
-/// Takes the rest of a formula after its left parenthesis, which isn't counted in `depth`.
+/// Takes the rest of a formula after its left parenthesis, in which `levels` more may open.
 #[cycle(formulas)]
+#[tactic(auto, unfolding(crate::specs::Reader::inside))]
 fn read_inside(
     alloc: Global,
     text: &[u8],
     token: &mut Span,
     scope: &Scope<'_>,
-    depth: usize,
+    levels: usize,
 ) -> Result<Formula, RuleFault>
-    requires next { IsNext text.now token.old }
-    requires shallow { depth < 32 }
-    ensures ok { IfOk result
-        (IsRead text.now token.old token.new (bindings scope.now) depth (left ∷ [])) }
-    ensures err { IfFault result
-        (FailsAt text.now token.old.start (λ rest. head (bindings scope.now) (depth + 1) ∷ rest)) }
+    requires { IsNext text.now token.old }
+    ensures value { result ≢ Err RuleFault.Memory →
+        viewed tree_of result (unread text.now token.new)
+        ≡ inside (formula levels) (bindings scope.now) (unread text.now token.old) }
+    ensures next { IsNext text.now token.new }
 {
     let begun = read_head(text, token, scope)?;
-    read_behind(alloc, text, token, scope, depth, begun)
+    read_headed(alloc, text, token, scope, levels, begun)
 }
 
 /// Takes the rest of a formula after its left parenthesis and first word.
 #[cycle(formulas)]
-fn read_behind(
+#[tactic(auto, unfolding(crate::specs::Reader::after_head, crate::specs::Steps::made_into,), using(crate::proofs::Views::views),)]
+fn read_headed(
     alloc: Global,
     text: &[u8],
     token: &mut Span,
     scope: &Scope<'_>,
-    depth: usize,
+    levels: usize,
     begun: Head,
 ) -> Result<Formula, RuleFault>
-    requires next { IsNext text.now token.old }
-    requires shallow { depth < 32 }
-    requires few { nested (bindings scope.now) (Some begun) ≡ Ok begun }
-    ensures ok { IfOk result
-        (IsRead text.now token.old token.new (bindings scope.now) depth
-        (left ∷ head_word begun ∷ [])) }
-    ensures err { IfFault result (FailsAt text.now token.old.start
-        (λ rest. behind_head (bindings scope.now) (depth + 1) rest begun)) }
+    requires { IsNext text.now token.old }
+    ensures value { result ≢ Err RuleFault.Memory →
+        viewed tree_of result (unread text.now token.new)
+        ≡ after_head (formula levels) (bindings scope.now) begun (unread text.now token.old) }
+    ensures next { IsNext text.now token.new }
 {
     match begun {
-        Head::ForEvery => read_quantified(alloc, text, token, scope, depth, true),
-        Head::ForSome => read_quantified(alloc, text, token, scope, depth, false),
-        Head::And => read_several(alloc, text, token, scope, depth, true),
-        Head::Or => read_several(alloc, text, token, scope, depth, false),
-        Head::Not => read_not(alloc, text, token, scope, depth),
-        Head::Implies => read_implies(alloc, text, token, scope, depth),
-        Head::Same => read_same(text, token, scope),
-        Head::Before => read_before(text, token, scope),
-        Head::Next => read_next(text, token, scope),
-        Head::Is => read_is(text, token, scope),
-        Head::OfKind => read_of_kind(text, token, scope),
-        Head::Equal => read_equal(text, token, scope),
-        Head::Less => read_less(text, token, scope),
+        Head::ForEvery => read_quantified(alloc, text, token, scope, levels, true),
+        Head::ForSome => read_quantified(alloc, text, token, scope, levels, false),
+        Head::And => {
+            let parts = read_parts(alloc, text, token, scope, levels)?;
+            Ok(Formula::And(parts))
+        }
+        Head::Or => {
+            let parts = read_parts(alloc, text, token, scope, levels)?;
+            Ok(Formula::Or(parts))
+        }
+        Head::Not => {
+            let body = read_body(alloc, text, token, scope, levels)?;
+            Ok(Formula::Not(body))
+        }
+        Head::Implies => read_implies(alloc, text, token, scope, levels),
+        Head::Same => {
+            let (v, u) = read_pair(text, token, scope)?;
+            Ok(Formula::Same(v, u))
+        }
+        Head::Before => {
+            let (v, u) = read_pair(text, token, scope)?;
+            Ok(Formula::Before(v, u))
+        }
+        Head::Next => {
+            let (v, u) = read_pair(text, token, scope)?;
+            Ok(Formula::Next(v, u))
+        }
+        Head::Is => {
+            let (v, role) = read_of_role(text, token, scope)?;
+            Ok(Formula::Is(v, role))
+        }
+        Head::OfKind => {
+            let (v, kind) = read_of_kind(text, token, scope)?;
+            Ok(Formula::OfKind(v, kind))
+        }
+        Head::Equal => {
+            let (first, second) = read_terms(text, token, scope, false)?;
+            Ok(Formula::Equal(first.0, second.0))
+        }
+        Head::Less => {
+            let (first, second) = read_terms(text, token, scope, true)?;
+            Ok(Formula::Less(first.0, second.0))
+        }
     }
 }
 
 /// Takes a formula and the parenthesis after it.
 #[cycle(formulas)]
+#[tactic(auto, unfolding(crate::specs::Steps::closed))]
 fn read_body(
     alloc: Global,
     text: &[u8],
     token: &mut Span,
     scope: &Scope<'_>,
-    depth: usize,
+    levels: usize,
 ) -> Result<Box<Formula>, RuleFault>
     requires { IsNext text.now token.old }
-    ensures ok { IfOk result
-        (λ body. IsBody text.now token.old token.new (bindings scope.now) depth body.value) }
-    ensures err { IfFault result
-        (FailsAt text.now token.old.start
-        (λ rest. formula (bindings scope.now) depth ∷ close ∷ rest)) }
+    ensures value { result ≢ Err RuleFault.Memory →
+        viewed (λ body. tree_of body.value) result (unread text.now token.new)
+        ≡ closed (formula levels (bindings scope.now)) (unread text.now token.old) }
+    ensures next { IsNext text.now token.new }
 {
-    let body = read_formula(alloc, text, token, scope, depth)?;
+    let body = read_formula(alloc, text, token, scope, levels)?;
     read_only(text, token, b")")?;
     Ok(Box::new(alloc, body)?)
 }
 
-/// Takes the rest of `(not F)`.
+/// Takes the two formulas of an `implies` and the parenthesis.
 #[cycle(formulas)]
-fn read_not(
-    alloc: Global,
-    text: &[u8],
-    token: &mut Span,
-    scope: &Scope<'_>,
-    depth: usize,
-) -> Result<Formula, RuleFault>
-    requires next { IsNext text.now token.old }
-    requires shallow { depth < 32 }
-    ensures ok { IfOk result
-        (IsRead text.now token.old token.new (bindings scope.now) depth
-        (left ∷ head_word heads.Not ∷ [])) }
-    ensures err { IfFault result (FailsAt text.now token.old.start
-        (λ rest. behind_head (bindings scope.now) (depth + 1) rest heads.Not)) }
-{
-    let body = read_body(alloc, text, token, scope, depth + 1)?;
-    Ok(Formula::Not(body))
-}
-
-/// Takes the rest of `(implies F G)`.
-#[cycle(formulas)]
+#[tactic(auto, unfolding(crate::specs::Reader::after_head, crate::specs::Reader::row, crate::specs::Steps::made_into,), using(crate::proofs::Views::views),)]
 fn read_implies(
     alloc: Global,
     text: &[u8],
     token: &mut Span,
     scope: &Scope<'_>,
-    depth: usize,
+    levels: usize,
 ) -> Result<Formula, RuleFault>
-    requires next { IsNext text.now token.old }
-    requires shallow { depth < 32 }
-    ensures ok { IfOk result
-        (IsRead text.now token.old token.new (bindings scope.now) depth
-        (left ∷ head_word heads.Implies ∷ [])) }
-    ensures err { IfFault result (FailsAt text.now token.old.start
-        (λ rest. behind_head (bindings scope.now) (depth + 1) rest heads.Implies)) }
+    requires { IsNext text.now token.old }
+    ensures value { result ≢ Err RuleFault.Memory →
+        viewed tree_of result (unread text.now token.new)
+        ≡ after_head (formula levels) (bindings scope.now) heads.Implies
+        (unread text.now token.old) }
+    ensures next { IsNext text.now token.new }
 {
-    let first = read_formula(alloc, text, token, scope, depth + 1)?;
-    let second = read_body(alloc, text, token, scope, depth + 1)?;
+    let first = read_formula(alloc, text, token, scope, levels)?;
+    let second = read_body(alloc, text, token, scope, levels)?;
     let first = Box::new(alloc, first)?;
     Ok(Formula::Implies(first, second))
 }
 
 /// Takes the rest of a quantifier.
 #[cycle(formulas)]
+#[tactic(auto, unfolding(crate::specs::Reader::quantified, crate::specs::Steps::made_into, crate::specs::Steps::in_turn,),)]
 fn read_quantified(
     alloc: Global,
     text: &[u8],
     token: &mut Span,
     scope: &Scope<'_>,
-    depth: usize,
+    levels: usize,
     every: bool,
 ) -> Result<Formula, RuleFault>
-    requires next { IsNext text.now token.old }
-    requires shallow { depth < 32 }
-    requires few { nested (bindings scope.now) (Some (quantifier_head every))
-        ≡ Ok (quantifier_head every) }
-    ensures ok { IfOk result (IsRead text.now token.old token.new (bindings scope.now) depth
-        (left ∷ head_word (quantifier_head every) ∷ [])) }
-    ensures err { IfFault result (FailsAt text.now token.old.start
-        (λ rest. behind_head (bindings scope.now) (depth + 1) rest (quantifier_head every))) }
+    requires { IsNext text.now token.old }
+    ensures value { result ≢ Err RuleFault.Memory →
+        viewed tree_of result (unread text.now token.new)
+        ≡ made_into (quantified_tree every) (quantified (formula levels) (bindings scope.now))
+        (unread text.now token.old) }
+    ensures next { IsNext text.now token.new }
 {
-    let binder = read_binder(text, token, scope)?;
+    let v = read_new_variable(text, token, scope)?;
+    let kind = read_kind(text, token)?;
+    let u = read_range(text, token, scope)?;
     let inner = Scope::With {
-        v: binder.v,
-        kind: binder.kind,
+        v,
+        kind,
         outer: &*scope,
     };
-    let body = read_body(alloc, text, token, &inner, depth + 1)?;
-    Ok(binder.over(every, body))
-}
-
-/// Takes the rest of an `and` or an `or`.
-#[cycle(formulas)]
-fn read_several(
-    alloc: Global,
-    text: &[u8],
-    token: &mut Span,
-    scope: &Scope<'_>,
-    depth: usize,
-    all: bool,
-) -> Result<Formula, RuleFault>
-    requires next { IsNext text.now token.old }
-    requires shallow { depth < 32 }
-    ensures ok { IfOk result (IsRead text.now token.old token.new (bindings scope.now) depth
-        (left ∷ head_word (if all then heads.And else heads.Or) ∷ [])) }
-    ensures err { IfFault result (FailsAt text.now token.old.start
-        (λ rest. behind_head (bindings scope.now) (depth + 1) rest
-        (if all then heads.And else heads.Or))) }
-{
-    let parts = read_parts(alloc, text, token, scope, depth + 1)?;
-    if all {
-        Ok(Formula::And(parts))
-    } else {
-        Ok(Formula::Or(parts))
-    }
+    let body = read_body(alloc, text, token, &inner, levels)?;
+    Ok(quantifier(every, v, kind, u, body))
 }
 
 /// Takes 1 to 64 formulas and the parenthesis after them.
 #[cycle(formulas)]
+#[tactic(auto, unfolding(crate::specs::Reader::row))]
 fn read_parts(
     alloc: Global,
     text: &[u8],
     token: &mut Span,
     scope: &Scope<'_>,
-    depth: usize,
+    levels: usize,
 ) -> Result<Vec<Formula>, RuleFault>
-    requires next { IsNext text.now token.old }
-    ensures ok { IfOk result
-        (λ parts. IsSeveral text.now token.old token.new (bindings scope.now) depth parts.items) }
-    ensures err { IfFault result (FailsAt text.now token.old.start
-        (λ rest. formula (bindings scope.now) depth ∷ more 63 (bindings scope.now) depth ∷ rest)) }
+    requires { IsNext text.now token.old }
+    ensures value { result ≢ Err RuleFault.Memory →
+        viewed (λ parts. trees_of parts.items) result (unread text.now token.new)
+        ≡ several (formula levels (bindings scope.now)) (unread text.now token.old) }
+    ensures next { IsNext text.now token.new }
 {
     let mut parts = Vec::new(alloc);
-    let part = read_formula(alloc, text, token, scope, depth)?;
+    let part = read_formula(alloc, text, token, scope, levels)?;
     parts.push(part)?;
-    'parts: while !is_word(text, *token, b")") {
-        if parts.len() >= MAX_PARTS {
-            return Err(refused(text, *token, RuleWhy::Shape));
-        }
-        let part = read_formula(alloc, text, token, scope, depth)?;
+    'parts: while parts.len() < MAX_PARTS && !is_word(text, *token, b")") {
+        let part = read_formula(alloc, text, token, scope, levels)?;
         parts.push(part)?;
     }
-    advance(text, token);
+    read_only(text, token, b")")?;
     Ok(parts)
 }

@@ -4,13 +4,13 @@
 #![tactic(auto)]
 
 mod atoms;
-mod binder;
 mod faults;
 mod form;
 mod formula;
 mod formulas;
 mod kind;
 mod laws;
+mod quantifier;
 mod reading;
 mod row;
 mod rules;
@@ -25,10 +25,7 @@ pub use faults::{RuleFault, RuleWhy};
 pub use form::Form;
 pub use formula::{Formula, Rule};
 pub use kind::{Field, Kind};
-pub use laws::{
-    one_reading_is_right, texts_have_one_list_of_rules, texts_of_rules_have_no_fault,
-    texts_without_a_fault_are_of_rules, written_rules_are_read_back,
-};
+pub use laws::{one_reading_is_right, texts_of_rules_are_read, written_rules_are_read_back};
 pub use row::Row;
 pub use rules::read;
 pub use standard_text::{STANDARD, standard, the_standard_text_is_written};

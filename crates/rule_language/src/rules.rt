@@ -1,30 +1,18 @@
 //! Reading rules.
-ghost use Rattle.std.specs.Prelude.{
-  ◌≡◌,
-  ◌≢◌,
-  nat_lt,
-  true,
-  [],
-  ◌∷◌,
-  length,
-  string_bytes,
-  IfOk,
-  Ok,
-  Err,
-};
+ghost use Rattle.std.specs.Prelude.{◌≡◌, ◌≢◌, true, string_bytes, IfOk, Err};
 ghost use Rattle.rule_language.specs.Forms.{rule_tree};
-ghost use Rattle.rule_language.specs.Lawful.{is_name, is_rule};
-ghost use Rattle.rule_language.specs.Spelling.{rule_tokens, left};
-ghost use Rattle.rule_language.specs.Wants.{more_rules, rule_name, name_in, opening};
+ghost use Rattle.rule_language.specs.Lawful.{is_name};
+ghost use Rattle.rule_language.specs.Words.{name_in};
+ghost use Rattle.rule_language.specs.Steps.{take, viewed};
+ghost use Rattle.rule_language.specs.Reader.{rule};
 ghost use Rattle.rule_language.specs.Reading.{Reads, answered};
-ghost use Rattle.rule_language.specs.inside.Reader.{IsNext, Takes, FailsAt, IfFault, rule_names};
+ghost use Rattle.rule_language.specs.inside.Unread.{IsNext, unread, rule_names};
 
-use crate::faults::{RuleFault, RuleWhy};
+use crate::faults::RuleFault;
 use crate::formula::Rule;
 use crate::formulas::read_formula;
-use crate::reading::{only, read_only, take};
 use crate::scope::Scope;
-use crate::tokens::{token_from, word_of};
+use crate::tokens::{is_at_end, read_end, read_only, take, token_from, word_of};
 use crate::words::check_name;
 use hall_text::Span;
 use std::alloc::{AllocError, Global};
@@ -32,28 +20,8 @@ use std::alloc::{AllocError, Global};
 /// How many rules a text has.
 const MAX_RULES: usize = 256;
 
-/// Whether the word begins a rule after this number of others.
-fn opening(word: &[u8], count: usize) -> Result<(), RuleWhy>
-    ensures { result ≡ opening count word.now }
-{
-    if count >= MAX_RULES {
-        return Err(RuleWhy::Shape);
-    }
-    only(word, b"(")
-}
-
-/// Takes the parenthesis of a rule.
-fn read_opening(text: &[u8], token: &mut Span, rules: &[Rule]) -> Result<(), RuleFault>
-    requires next { IsNext text.now token.old }
-    requires going { token.old.start ≡ length text.now → rule_names rules.now ≡ [] }
-    ensures ok { IfOk result (λ it. Takes text.now token.old token.new (left ∷ [])
-        × (nat_lt (length (rule_names rules.now)) 256 ≡ true)) }
-    ensures err { IfFault result
-        (FailsAt text.now token.old.start (λ rest. more_rules (rule_names rules.now) ∷ [])) }
-{
-    let found = opening(word_of(text, *token), rules.len());
-    take(text, token, found)
-}
+/// How many parentheses nest in that of a rule.
+const MAX_LEVELS: usize = 31;
 
 /// The name that the word is.
 fn name_from(alloc: Global, word: &[u8]) -> Result<String, AllocError>
@@ -64,6 +32,7 @@ fn name_from(alloc: Global, word: &[u8]) -> Result<String, AllocError>
 }
 
 /// Takes the name of a rule after these.
+#[tactic(auto, unfolding(crate::specs::Steps::take))]
 fn read_name(
     alloc: Global,
     text: &[u8],
@@ -71,10 +40,10 @@ fn read_name(
     rules: &[Rule],
 ) -> Result<String, RuleFault>
     requires { IsNext text.now token.old }
-    ensures ok { IfOk result (λ name. Takes text.now token.old token.new (string_bytes name ∷ [])
-        × (name_in (rule_names rules.now) (string_bytes name) ≡ Ok (string_bytes name))) }
-    ensures err { IfFault result
-        (FailsAt text.now token.old.start (λ rest. rule_name (rule_names rules.now) ∷ rest)) }
+    ensures value { result ≢ Err RuleFault.Memory →
+        viewed string_bytes result (unread text.now token.new)
+        ≡ take (name_in (rule_names rules.now)) (unread text.now token.old) }
+    ensures next { IsNext text.now token.new }
 {
     let word = word_of(text, *token);
     take(text, token, check_name(word, rules))?;
@@ -82,24 +51,23 @@ fn read_name(
 }
 
 /// Takes a rule after these.
+#[tactic(auto, unfolding(crate::specs::Reader::rule, crate::specs::Steps::behind, crate::specs::Steps::made_into, crate::specs::Steps::in_turn, crate::specs::Steps::closed,),)]
 fn read_rule(
     alloc: Global,
     text: &[u8],
     token: &mut Span,
     rules: &[Rule],
 ) -> Result<Rule, RuleFault>
-    requires next { IsNext text.now token.old }
-    requires going { token.old.start ≡ length text.now → rule_names rules.now ≡ [] }
-    ensures ok { IfOk result
-        (λ rule. Takes text.now token.old token.new (rule_tokens (rule_tree rule))
-        × (is_rule (rule_names rules.now) (rule_tree rule) ≡ true)) }
-    ensures err { IfFault result
-        (FailsAt text.now token.old.start (λ rest. more_rules (rule_names rules.now) ∷ [])) }
+    requires { IsNext text.now token.old }
+    ensures value { result ≢ Err RuleFault.Memory →
+        viewed rule_tree result (unread text.now token.new)
+        ≡ rule (rule_names rules.now) (unread text.now token.old) }
+    ensures next { IsNext text.now token.new }
 {
-    read_opening(text, token, rules)?;
+    read_only(text, token, b"(")?;
     read_only(text, token, b"rule")?;
     let name = read_name(alloc, text, token, rules)?;
-    let body = read_formula(alloc, text, token, &Scope::Empty, 1)?;
+    let body = read_formula(alloc, text, token, &Scope::Empty, MAX_LEVELS)?;
     read_only(text, token, b")")?;
     Ok(Rule { name, body })
 }
@@ -115,9 +83,12 @@ pub fn read(alloc: Global, text: &[u8]) -> Result<Vec<Rule>, RuleFault>
 {
     let mut token = token_from(text, 0);
     let mut rules = Vec::new(alloc);
-    'rules: while rules.is_empty() || token.start < text.len() {
+    let rule = read_rule(alloc, text, &mut token, rules.as_slice())?;
+    rules.push(rule)?;
+    'rules: while rules.len() < MAX_RULES && !is_at_end(text, token) {
         let rule = read_rule(alloc, text, &mut token, rules.as_slice())?;
         rules.push(rule)?;
     }
+    read_end(text, &mut token)?;
     Ok(rules)
 }

@@ -1,7 +1,7 @@
 //! The variables that are bound at a place of a rule.
 ghost use Rattle.std.specs.Prelude.{◌≡◌, nat_le, length};
 ghost use Rattle.rule_language.specs.Scopes.{kind_in};
-ghost use Rattle.rule_language.specs.inside.Reader.{bindings};
+ghost use Rattle.rule_language.specs.inside.Unread.{bindings};
 
 use crate::kind::Kind;
 

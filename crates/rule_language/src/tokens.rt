@@ -1,37 +1,48 @@
 //! The tokens of a text, one after another.
-ghost use Rattle.std.specs.Prelude.{◌≡◌, ◌≢◌, ◌≤◌, ◌<◌, ◌↔◌, List, length, IsTrue, [], ◌∷◌};
+ghost use Rattle.std.specs.Prelude.{◌≡◌, ◌≤◌, ◌<◌, false, length, drop, slice_index};
+ghost use Rattle.std.specs.Str.{bytes_eq};
 ghost use Rattle.hall_text.specs.Places.{CutsNoWord};
-ghost use Rattle.hall_text.specs.Spans.{piece};
-ghost use Rattle.rule_language.specs.Spelling.{
-  Token as TokenBytes,
-  IsSeparator,
-  StandBefore,
-};
-ghost use Rattle.rule_language.specs.inside.Reader.{IsNext, Takes, told};
+ghost use Rattle.rule_language.specs.Tokens.{is_separator, row_from};
+ghost use Rattle.rule_language.specs.Words.{only};
+ghost use Rattle.rule_language.specs.Steps.{next, accept, take, as_read, end, is_end};
+ghost use Rattle.rule_language.specs.inside.Unread.{IsNext, unread};
 
 use crate::faults::{RuleFault, RuleWhy};
 use hall_text::{Span, token_end};
 
 /// Whether the byte separates tokens.
 fn is_separator(byte: u8) -> bool
-    ensures { IsTrue result ↔ IsSeparator byte }
+    ensures { result ≡ is_separator byte }
 {
     byte == b' ' || byte == b'\t' || byte == b'\n' || byte == b'\r'
 }
 
-/// What follows the separators from the place on: a token, or an empty span at a bad byte or at
-/// the text's end.
-pub(crate) fn token_from(text: &[u8], from: usize) -> Span
+/// Where the separators from the place on end.
+fn skip_separators(text: &[u8], from: usize) -> usize
     requires inside { from ≤ length text.now }
     requires between { CutsNoWord text.now from }
-    ensures next { IsNext text.now result }
-    ensures passed { (tokens : List TokenBytes) →
-        StandBefore text.now from tokens → StandBefore text.now result.start tokens }
+    ensures inside { result ≤ length text.now }
+    ensures between { CutsNoWord text.now result }
+    ensures row { row_from result (drop result text.now) ≡ row_from from (drop from text.now) }
+    ensures stops { result < length text.now → is_separator (slice_index text.now result) ≡ false }
 {
     let mut start = from;
     while start < text.len() && is_separator(text[start]) {
         start += 1;
     }
+    start
+}
+
+/// What follows the separators from the place on: a token, or an empty span at a bad byte or at
+/// the text's end.
+#[tactic(auto, unfolding(crate::specs::inside::Unread::unread))]
+pub(crate) fn token_from(text: &[u8], from: usize) -> Span
+    requires inside { from ≤ length text.now }
+    requires between { CutsNoWord text.now from }
+    ensures row { unread text.now result ≡ row_from from (drop from text.now) }
+    ensures next { IsNext text.now result }
+{
+    let start = skip_separators(text, from);
     if start < text.len() {
         let end = token_end(text, start);
         Span { start, end }
@@ -43,7 +54,7 @@ pub(crate) fn token_from(text: &[u8], from: usize) -> Span
 /// The bytes of the token.
 pub(crate) fn word_of<'a>(text: &'a [u8], token: Span) -> &'a [u8]
     requires { IsNext text.now token }
-    ensures { result.now ≡ piece text.now token }
+    ensures { result.now ≡ next (unread text.now token) }
 {
     &text[token.start..token.end]
 }
@@ -51,38 +62,79 @@ pub(crate) fn word_of<'a>(text: &'a [u8], token: Span) -> &'a [u8]
 /// Whether the token is the wanted word.
 pub(crate) fn is_word(text: &[u8], token: Span, wanted: &[u8]) -> bool
     requires { IsNext text.now token }
-    ensures { IsTrue result ↔ (piece text.now token ≡ wanted.now) }
+    ensures { result ≡ bytes_eq (next (unread text.now token)) wanted.now }
 {
     word_of(text, token) == wanted
 }
 
-/// Takes the token, if there is one, and looks for the next.
-pub(crate) fn advance(text: &[u8], token: &mut Span)
-    requires { IsNext text.now token.old }
-    ensures { piece text.now token.old ≢ [] →
-        Takes text.now token.old token.new (piece text.now token.old ∷ []) }
+/// Whether the text ends there.
+pub(crate) fn is_at_end(text: &[u8], token: Span) -> bool
+    requires { IsNext text.now token }
+    ensures { result ≡ is_end (unread text.now token) }
 {
-    if token.start < token.end {
-        *token = token_from(text, token.end);
+    token.start >= text.len()
+}
+
+/// Takes the token where what it is was found, and refuses it otherwise.
+pub(crate) fn take<T: Copy>(
+    text: &[u8],
+    token: &mut Span,
+    found: Result<T, RuleWhy>,
+) -> Result<T, RuleFault>
+    requires { IsNext text.now token.old }
+    ensures value { as_read result (unread text.now token.new)
+        ≡ accept (unread text.now token.old) found }
+    ensures next { IsNext text.now token.new }
+{
+    let at = token.start;
+    if token.end <= at {
+        let why = if at == text.len() {
+            RuleWhy::Shape
+        } else {
+            RuleWhy::Token
+        };
+        return Err(RuleFault::At { at, why });
+    }
+    match found {
+        Ok(value) => {
+            *token = token_from(text, token.end);
+            Ok(value)
+        }
+        Err(why) => Err(RuleFault::At { at, why }),
     }
 }
 
-/// The fault at the place: its cause is this one where a token is there.
-pub(crate) fn refused(text: &[u8], token: Span, why: RuleWhy) -> RuleFault
-    ensures { result ≡ RuleFault.At token.start (told text.now token why) }
+/// Whether the word is the wanted one.
+fn only(word: &[u8], wanted: &[u8]) -> Result<(), RuleWhy>
+    ensures { result ≡ only wanted.now word.now }
 {
-    let at = token.start;
-    if at == text.len() {
-        RuleFault::At {
-            at,
-            why: RuleWhy::Shape,
-        }
-    } else if token.end <= token.start {
-        RuleFault::At {
-            at,
-            why: RuleWhy::Token,
-        }
+    if word == wanted {
+        Ok(())
     } else {
-        RuleFault::At { at, why }
+        Err(RuleWhy::Shape)
     }
+}
+
+/// Takes the one word that is allowed there.
+#[tactic(auto, unfolding(crate::specs::Steps::take))]
+pub(crate) fn read_only(text: &[u8], token: &mut Span, wanted: &[u8]) -> Result<(), RuleFault>
+    requires { IsNext text.now token.old }
+    ensures value { as_read result (unread text.now token.new)
+        ≡ take (only wanted.now) (unread text.now token.old) }
+    ensures next { IsNext text.now token.new }
+{
+    let found = only(word_of(text, *token), wanted);
+    take(text, token, found)
+}
+
+/// Refuses a token where the text has to end.
+pub(crate) fn read_end(text: &[u8], token: &mut Span) -> Result<(), RuleFault>
+    requires { IsNext text.now token.old }
+    ensures value { as_read result (unread text.now token.new) ≡ end (unread text.now token.old) }
+    ensures next { IsNext text.now token.new }
+{
+    if is_at_end(text, *token) {
+        return Ok(());
+    }
+    take(text, token, Err(RuleWhy::Shape))
 }

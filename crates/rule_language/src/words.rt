@@ -3,13 +3,12 @@ ghost use Rattle.std.specs.Prelude.{◌≡◌};
 ghost use Rattle.rule_language.specs.Kinds.{role_named, is_same_sort};
 ghost use Rattle.rule_language.specs.Lawful.{is_name, is_among};
 ghost use Rattle.rule_language.specs.Scopes.{is_letter};
-ghost use Rattle.rule_language.specs.Wants.{
+ghost use Rattle.rule_language.specs.Words.{
   or_cause,
   letter_in,
   unbound_in,
   bound_in,
   kind_for,
-  number_in,
   of_field,
   of_variable,
   dotted_in,
@@ -18,8 +17,9 @@ ghost use Rattle.rule_language.specs.Wants.{
   may_begin,
   name_in,
   head_for,
+  opening,
 };
-ghost use Rattle.rule_language.specs.inside.Reader.{bindings, rule_names, checked};
+ghost use Rattle.rule_language.specs.inside.Unread.{bindings, rule_names, checked};
 
 use crate::faults::RuleWhy;
 use crate::form::Head;
@@ -104,13 +104,6 @@ pub(crate) fn role_in(word: &[u8]) -> Result<Role, RuleWhy>
     role_named(word).ok_or(RuleWhy::Shape)
 }
 
-/// The number that the word is.
-fn number_in(word: &[u8]) -> Option<u32>
-    ensures { result ≡ number_in word.now }
-{
-    decimal(word)
-}
-
 /// A field of entries of the kind.
 fn field_of(v: u8, kind: Kind, field: Option<Field>) -> Result<(Term, Sort), RuleWhy>
     ensures { result ≡ of_field v kind field }
@@ -148,7 +141,7 @@ fn dotted_in(word: &[u8], scope: &Scope<'_>) -> Result<(Term, Sort), RuleWhy>
 fn term_in(word: &[u8], scope: &Scope<'_>) -> Result<(Term, Sort), RuleWhy>
     ensures { result ≡ term_in (bindings scope.now) word.now }
 {
-    match number_in(word) {
+    match decimal(word) {
         Some(number) => Ok((Term::Number(number), Sort::Count)),
         None => dotted_in(word, scope),
     }
@@ -182,6 +175,23 @@ pub(crate) fn second_term_in(
         return Err(RuleWhy::WrongField);
     }
     Ok(term)
+}
+
+/// Whether the word begins a formula in parentheses, of which so many more may open; otherwise it
+/// is `true`.
+pub(crate) fn opening(word: &[u8], levels: usize) -> Result<bool, RuleWhy>
+    ensures { result ≡ opening levels word.now }
+{
+    if word == b"true".as_slice() {
+        return Ok(false);
+    }
+    if word != b"(".as_slice() {
+        return Err(RuleWhy::Shape);
+    }
+    if levels == 0 {
+        return Err(RuleWhy::TooDeep);
+    }
+    Ok(true)
 }
 
 /// What the word begins in parentheses, where these variables are bound: at most 4 quantifiers

@@ -1,43 +1,40 @@
-use Rattle.std.proofs.Common.{[]}
-use Rattle.rule_language.proofs.Imports.{◌+◌, ◌-◌, ◌*◌, ◌≡◌, ◌≤◌, ◌<◌, true, vec_len, count_of, trees_of}
-use Rattle.rule_language.proofs.Imports.{are_formulas, tokens_then, Takes, bindings}
+use Rattle.std.proofs.Common.{◌≡◌, ◌≤◌, ◌+◌, ◌-◌, ◌*◌, vec_len, Ok}
+use Rattle.rule_language.specs.Trees.{joined_trees}
+use Rattle.rule_language.specs.Forms.{trees_of}
+use Rattle.rule_language.specs.Steps.{follow}
+use Rattle.rule_language.specs.Reader.{formula, parts, several}
+use Rattle.rule_language.specs.inside.Unread.{IsNext, unread, bindings}
 use Rattle.rule_language.proofs.formulas.+formulas.Given as goal
 
--- each of these is called with more parentheses around it, or after one with a greater rank
+-- each of these is called with fewer parentheses that may open, or after one with a greater rank
 abbrev pub decreases-read_formula : goal.decreases-read_formula
-decreases-read_formula l = 8 * (32 - l.depth) + 3
+decreases-read_formula l = 8 * l.levels + 2
 
 abbrev pub decreases-read_inside : goal.decreases-read_inside
-decreases-read_inside l = 8 * (32 - l.depth) + 2
+decreases-read_inside l = 8 * l.levels + 6
 
-abbrev pub decreases-read_behind : goal.decreases-read_behind
-decreases-read_behind l = 8 * (32 - l.depth) + 1
-
-abbrev pub decreases-read_body : goal.decreases-read_body
-decreases-read_body l = 8 * (32 - l.depth) + 4
-
-abbrev pub decreases-read_not : goal.decreases-read_not
-decreases-read_not l = 8 * (32 - l.depth)
-
-abbrev pub decreases-read_implies : goal.decreases-read_implies
-decreases-read_implies l = 8 * (32 - l.depth)
+abbrev pub decreases-read_headed : goal.decreases-read_headed
+decreases-read_headed l = 8 * l.levels + 5
 
 abbrev pub decreases-read_quantified : goal.decreases-read_quantified
-decreases-read_quantified l = 8 * (32 - l.depth)
+decreases-read_quantified l = 8 * l.levels + 4
 
-abbrev pub decreases-read_several : goal.decreases-read_several
-decreases-read_several l = 8 * (32 - l.depth)
+abbrev pub decreases-read_implies : goal.decreases-read_implies
+decreases-read_implies l = 8 * l.levels + 4
+
+abbrev pub decreases-read_body : goal.decreases-read_body
+decreases-read_body l = 8 * l.levels + 3
 
 abbrev pub decreases-read_parts : goal.decreases-read_parts
-decreases-read_parts l = 8 * (32 - l.depth) + 4
+decreases-read_parts l = 8 * l.levels + 3
 
--- 1 to 64 formulas were read
+-- the formulas so far, followed by those that are left, are all
 abbrev pub invariant-read_parts-parts : goal.invariant-read_parts-parts
 invariant-read_parts-parts l = record {
-  taken : Takes l.text l.fn.token l.token (tokens_then (trees_of l.parts.items) []);
-  lawful : are_formulas (bindings l.scope) l.depth (trees_of l.parts.items) ≡ true;
-  count : count_of (trees_of l.parts.items) ≡ vec_len l.parts;
-  some : 0 < vec_len l.parts;
+  all : several (formula l.levels (bindings l.scope)) (unread l.text l.fn.token)
+      ≡ follow (parts (64 - vec_len l.parts) (formula l.levels (bindings l.scope)) (unread l.text l.token))
+      (λ more next. Ok (joined_trees (trees_of l.parts.items) more, next));
+  next : IsNext l.text l.token;
   few : vec_len l.parts ≤ 64;
 }
 

@@ -1,5 +1,5 @@
-use Rattle.rule_language.proofs.OneReading.{one_reading}
+use Rattle.std.proofs.Common.{◌∙◌, sym}
 use Rattle.rule_language.proofs.laws.one_reading_is_right.Goals as goal
 
 pub returns : goal.returns
-returns c = λ text answer other a b. one_reading text answer other a b
+returns c = λ text answer other a b. sym a ∙ b

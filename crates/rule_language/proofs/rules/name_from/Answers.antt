@@ -1,5 +1,8 @@
 -- A name is text, so nothing of it is replaced.
-use Rattle.rule_language.proofs.Imports.{◌≡◌, string_bytes, IsUtf8, IfOk-weaker}
+use Rattle.std.proofs.Common.{◌≡◌}
+use Rattle.std.specs.Prelude.{string_bytes}
+use Rattle.std.specs.Str.{IsUtf8}
+use Rattle.std.proofs.lemmas.Result.{IfOk-weaker}
 use Rattle.rule_language.proofs.WrittenTexts.{name_is_text}
 use Rattle.rule_language.proofs.rules.name_from.Goals as goal
 

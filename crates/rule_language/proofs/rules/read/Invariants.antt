@@ -1,14 +1,13 @@
-use Rattle.std.proofs.Common.{[]}
-use Rattle.rule_language.proofs.Imports.{◌≡◌, ◌≤◌, ◌-◌, true, map, vec_len, rule_tree, follow, rules_tokens}
-use Rattle.rule_language.proofs.Imports.{StandBefore, IsNext}
+use Rattle.std.proofs.Common.{◌≤◌, ◌-◌, vec_len}
+use Rattle.rule_language.specs.inside.Unread.{IsNext}
+use Rattle.rule_language.proofs.RulesSteps.{AreFirst}
 use Rattle.rule_language.proofs.rules.read.Given as goal
 
--- the tokens read are those of the rules read
+-- the rules so far are the first
 abbrev pub invariant-rules : goal.invariant-rules
 invariant-rules l = record {
+  all : AreFirst l.text l.rules.items (vec_len l.rules) l.token;
   next : IsNext l.text l.token;
-  stand : StandBefore l.text l.token.start (rules_tokens (map rule_tree l.rules.items));
-  good : follow [] (map rule_tree l.rules.items) ≡ true;
   few : vec_len l.rules ≤ 256;
 }
 

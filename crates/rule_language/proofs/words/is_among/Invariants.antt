@@ -1,4 +1,6 @@
-use Rattle.rule_language.proofs.Imports.{◌≡◌, drop, is_among, rule_names}
+use Rattle.std.proofs.Common.{◌≡◌, drop}
+use Rattle.rule_language.specs.Lawful.{is_among}
+use Rattle.rule_language.specs.inside.Unread.{rule_names}
 use Rattle.rule_language.proofs.words.is_among.Given as goal
 
 -- whether the name is taken depends on the rules that are left

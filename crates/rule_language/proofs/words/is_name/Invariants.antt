@@ -1,4 +1,5 @@
-use Rattle.rule_language.proofs.Imports.{◌≡◌, drop, are_alphanumeric}
+use Rattle.std.proofs.Common.{◌≡◌, drop}
+use Rattle.rule_language.specs.Lawful.{are_alphanumeric}
 use Rattle.rule_language.proofs.words.is_name.Given as goal
 
 -- whether the word is a name depends on the bytes that are left

@@ -1,4 +1,4 @@
-use Rattle.rule_language.proofs.Imports.{tree_of}
+use Rattle.rule_language.specs.Forms.{tree_of}
 use Rattle.rule_language.proofs.WrittenForms.{written_pieces}
 use Rattle.rule_language.proofs.writing.+writing.Goals as goal
 

@@ -1,4 +1,6 @@
-use Rattle.rule_language.proofs.Imports.{◌≡◌, ◌++◌, drop, trees_of, row_text}
+use Rattle.std.proofs.Common.{◌≡◌, ◌++◌, drop}
+use Rattle.rule_language.specs.Forms.{trees_of}
+use Rattle.rule_language.specs.Written.{row_text}
 use Rattle.rule_language.proofs.writing.+writing.Given as goal
 
 -- what is still to be written

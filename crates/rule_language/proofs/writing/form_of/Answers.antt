@@ -1,4 +1,5 @@
-use Rattle.rule_language.proofs.Imports.{ap, ◌∙◌, in_front, tree_of, trees_of}
+use Rattle.std.proofs.Common.{ap, ◌∙◌}
+use Rattle.rule_language.specs.Forms.{in_front, tree_of, trees_of}
 use Rattle.rule_language.proofs.Views.{view-ForEvery, view-ForSome, view-EveryBefore, view-SomeBefore, view-And}
 use Rattle.rule_language.proofs.Views.{view-Or, view-Not, view-Implies}
 use Rattle.rule_language.proofs.writing.form_of.Goals as goal

@@ -1,4 +1,6 @@
-use Rattle.rule_language.proofs.Imports.{◌≡◌, ◌++◌, drop, map, rule_tree, rules_text}
+use Rattle.std.proofs.Common.{◌≡◌, ◌++◌, drop, map}
+use Rattle.rule_language.specs.Forms.{rule_tree}
+use Rattle.rule_language.specs.Written.{rules_text}
 use Rattle.rule_language.proofs.writing.write.Given as goal
 
 -- what is still to be written

@@ -1,5 +1,6 @@
-use Rattle.rule_language.proofs.Imports.{◌∙◌, rules, head_word, heads}
-use Rattle.rule_language.proofs.Found.{named_next}
+use Rattle.std.proofs.Common.{◌∙◌, rules}
+use Rattle.rule_language.specs.Kinds.{head_word, heads}
+use Rattle.rule_language.proofs.Named.{named_next}
 use Rattle.rule_language.specs.declared.form.Head.TheVariants.{ForEvery}
 use Rattle.rule_language.proofs.form.Head.of_word.Goals as goal
 

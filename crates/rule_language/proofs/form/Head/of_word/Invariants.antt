@@ -1,4 +1,5 @@
-use Rattle.rule_language.proofs.Imports.{◌≡◌, drop, first_named, head_word, heads, head_named}
+use Rattle.std.proofs.Common.{◌≡◌, drop}
+use Rattle.rule_language.specs.Kinds.{first_named, head_word, heads, head_named}
 use Rattle.rule_language.proofs.form.Head.of_word.Given as goal
 
 -- what the word names depends on the heads that are left

@@ -1,5 +1,7 @@
-use Rattle.rule_language.proofs.Imports.{◌∙◌, rules, field_word, fields, Maker}
-use Rattle.rule_language.proofs.Found.{named_next}
+use Rattle.std.proofs.Common.{◌∙◌, rules}
+use Rattle.rule_language.specs.Kinds.{field_word, fields}
+use Rattle.rule_language.specs.declared.kind.Field.TheVariants.{Maker}
+use Rattle.rule_language.proofs.Named.{named_next}
 use Rattle.rule_language.proofs.kind.Field.of_word.Goals as goal
 
 pub loop-field-preserved : goal.loop-field-preserved

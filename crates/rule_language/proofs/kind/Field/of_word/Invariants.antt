@@ -1,4 +1,5 @@
-use Rattle.rule_language.proofs.Imports.{◌≡◌, drop, first_named, field_word, fields, field_named}
+use Rattle.std.proofs.Common.{◌≡◌, drop}
+use Rattle.rule_language.specs.Kinds.{first_named, field_word, fields, field_named}
 use Rattle.rule_language.proofs.kind.Field.of_word.Given as goal
 
 -- what the word names depends on the fields that are left

@@ -1,5 +1,7 @@
-use Rattle.rule_language.proofs.Imports.{◌∙◌, rules, kind_word, entry_kinds, Any}
-use Rattle.rule_language.proofs.Found.{named_next}
+use Rattle.std.proofs.Common.{◌∙◌, rules}
+use Rattle.rule_language.specs.Kinds.{kind_word, entry_kinds}
+use Rattle.rule_language.specs.declared.kind.Kind.TheVariants.{Any}
+use Rattle.rule_language.proofs.Named.{named_next}
 use Rattle.rule_language.proofs.kind.Kind.of_word.Goals as goal
 
 pub loop-kind-preserved : goal.loop-kind-preserved

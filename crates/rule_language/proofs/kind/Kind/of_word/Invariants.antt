@@ -1,4 +1,5 @@
-use Rattle.rule_language.proofs.Imports.{◌≡◌, drop, first_named, kind_word, entry_kinds, kind_named}
+use Rattle.std.proofs.Common.{◌≡◌, drop}
+use Rattle.rule_language.specs.Kinds.{first_named, kind_word, entry_kinds, kind_named}
 use Rattle.rule_language.proofs.kind.Kind.of_word.Given as goal
 
 -- what the word names depends on the kinds that are left

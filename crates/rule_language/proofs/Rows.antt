@@ -1,0 +1,161 @@
+-- The row of a text, from one place to the next.
+use Rattle.std.proofs.Common.{◌≡◌, ◌∙◌, ◌⊎◌, inl, inr, sym, ap, subst, refl, arith, ℕ, zero, suc, ◌+◌, ◌-◌, ◌<◌, ◌≤◌}
+use Rattle.std.proofs.Common.{Bool, true, false, List, [], ◌∷◌, length, get_or, take, drop}
+use Rattle.std.specs.Prelude.{◌&&◌, ◌==◌, not, nat_le}
+use Rattle.std.proofs.Math.ListN.{drop_of_length-le}
+use Rattle.std.proofs.lemmas.List.{get_or-drop, drop_more, drop-drop, length-drop}
+use Rattle.std.proofs.lemmas.Bool.{ne_eqb, eq-eqb, le-leb, lt-ltb, le-ltb, leb-true, eqb-false, not-true, and_parts}
+use Rattle.std.proofs.lemmas.Bool.{cases_lt}
+use Rattle.hall_text.specs.Spans.{IsWordByte, IsParenthesis, IsToken, piece}
+use Rattle.hall_text.specs.Places.{CutsNoWord, BeginsToken}
+use Rattle.hall_text.proofs.TokenLemmas.{some_bytes, between_behind}
+unfoldable use Rattle.rule_language.specs.inside.Unread.{unread}
+use Rattle.rule_language.specs.inside.Unread.{IsNext}
+use Rattle.rule_language.specs.Tokens.{token_then, bad_byte, text_end, row_from, goes_on, is_separator}
+use Rattle.hall_text.specs.Tokens.{is_parenthesis, is_word_byte}
+
+-- a byte of a word passes the test, and no other test
+pub word_tested : (b : ℕ) → IsWordByte b → (is_separator b ≡ false) × (is_parenthesis b ≡ false) × (is_word_byte b ≡
+    true)
+word_tested b (low, high, open_not, close_not) = (
+  rw (ne_eqb b 32 (λ e. omega arith)) (rw (ne_eqb b 9 (λ e. omega arith)) (rw (ne_eqb b 10 (λ e. omega arith))
+      (rw (ne_eqb b 13 (λ e. omega arith)) refl))),
+  rw (ne_eqb b 40 open_not) (rw (ne_eqb b 41 close_not) refl),
+  rw (le-leb 33 b low) (rw (le-leb b 126 high) (rw (ne_eqb b 40 open_not) (rw (ne_eqb b 41 close_not) refl))),
+)
+
+-- what passes the test is a byte of a word
+pub word_byte : (b : ℕ) → is_word_byte b ≡ true → IsWordByte b
+word_byte b is =
+    let (low, more) = and_parts (nat_le 33 b) (nat_le b 126 && (not (b == 40) && not (b == 41))) is in
+    let (high, others) = and_parts (nat_le b 126) (not (b == 40) && not (b == 41)) more in
+    let (l, r) = and_parts (not (b == 40)) (not (b == 41)) others in (
+      leb-true 33 b low,
+      leb-true b 126 high,
+      eqb-false b 40 (not-true (b == 40) l),
+      eqb-false b 41 (not-true (b == 41) r),
+    )
+
+-- what isn't one fails it
+untested : (b : ℕ) → ¬ (IsWordByte b) → is_word_byte b ≡ false
+untested b other = by (is_word_byte b) refl
+  where
+    by : (test : Bool) → is_word_byte b ≡ test → is_word_byte b ≡ false
+    by true is = absurd (other (word_byte b is))
+    by false is = is
+
+-- a separator is passed over
+pub separator_more : (text : List ℕ) (at : ℕ) → at < length text → is_separator (get_or text at 0) ≡ true →
+    row_from at (drop at text) ≡ row_from (at + 1) (drop (at + 1) text)
+separator_more text at within separates = rw (drop_more text at 0 within) (rw separates refl)
+
+-- a separator begins no token
+pub separator_begins : (b : ℕ) → is_separator b ≡ true → ¬ (IsWordByte b ⊎ IsParenthesis b)
+separator_begins b separates (inl word) = let no = (word_tested b word).0 in cc (no, separates)
+separator_begins b separates (inr (inl e)) = let shut : false ≡ true = rw e at separates in cc shut
+separator_begins b separates (inr (inr e)) = let shut : false ≡ true = rw e at separates in cc shut
+
+-- after the last byte the text ends
+pub end_row : (text : List ℕ) (at : ℕ) → length text ≤ at → row_from at (drop at text) ≡ text_end at
+end_row text at past = rw (drop_of_length-le text past) refl
+
+-- whether a word goes on at a place
+goes : (bytes : List ℕ) → 0 < length bytes → IsWordByte (get_or bytes 0 0) → goes_on bytes ≡ true
+goes [] some word = absurd (omega arith)
+goes (b ∷ bytes) some word = (word_tested b word).2
+
+-- and whether it ends there
+stops : (bytes : List ℕ) → (0 < length bytes → ¬ (IsWordByte (get_or bytes 0 0))) → goes_on bytes ≡ false
+stops [] other = refl
+stops (b ∷ bytes) other = untested b (other (omega arith))
+
+-- bytes of a word, behind which it ends, are a token
+word_row : (n at : ℕ) (bytes : List ℕ) → suc n ≤ length bytes →
+    ((i : ℕ) → i ≤ n → IsWordByte (get_or bytes i 0)) → goes_on (drop (suc n) bytes) ≡ false →
+    row_from at bytes ≡ token_then at (take (suc n) bytes) (row_from (at + suc n) (drop (suc n) bytes))
+word_row n at [] few all ends = absurd (omega arith)
+word_row zero at (b ∷ bytes) few all ends =
+    let (separates, alone, word) = word_tested b (all 0 (omega arith)) in
+    rw separates (rw alone (rw word (rw ends refl)))
+word_row (suc n) at (b ∷ bytes) few all ends =
+    let (separates, alone, word) = word_tested b (all 0 (omega arith)) in
+    let on : goes_on bytes ≡ true = goes bytes (omega arith) (all 1 (omega arith)) in
+    let rest = word_row n (at + 1) bytes (omega arith) (λ i few. all (suc i) (omega arith)) ends in
+    let place : at + 1 + suc n ≡ at + suc (suc n) = omega arith in
+    rw separates (rw alone (rw word (rw on (rw rest (rw place refl)))))
+
+-- a parenthesis is no separator
+alone_tested : (b : ℕ) → IsParenthesis b → (is_separator b ≡ false) × (is_parenthesis b ≡ true)
+alone_tested b (inl is) = rw is (refl, refl)
+alone_tested b (inr is) = rw is (refl, refl)
+
+-- a token, and what is behind it
+pub token_row : (text : List ℕ) (at end : ℕ) → at < end → IsToken text (record { start = at; end = end }) →
+    row_from at (drop at text) ≡ token_then at (piece text (record { start = at; end = end }))
+    (row_from end (drop end text))
+token_row text at end some (inl word) =
+    let inside : end ≤ length text = word.inside in
+    let n : ℕ = end - at - 1 in
+    let size : end - at ≡ suc n = omega arith in
+    let place : at + suc n ≡ end = omega arith in
+    let rest : drop (suc n) (drop at text) ≡ drop end text = drop-drop (suc n) at text ∙ ap (λ m. drop m text) place in
+    let left : length (drop at text) ≡ length text - at = length-drop at text in
+    let stop : goes_on (drop (suc n) (drop at text)) ≡ false = ap goes_on rest ∙ stops (drop end text) (λ more byte.
+    word.ends (let some_left : length (drop end text) ≡ length text - end = length-drop end text in omega arith)
+    (subst IsWordByte (get_or-drop end text 0 0 ∙ ap (λ m. get_or text m 0) (omega arith)) byte)) in
+    word_row n at (drop at text) (omega arith) (λ i few.
+    subst IsWordByte (sym (get_or-drop at text i 0)) (word.bytes (at + i) (omega arith) (omega arith))) stop
+    ∙ rw (rest, place, ← size) refl
+token_row text at end some (inr alone) =
+    let inside : end ≤ length text = alone.inside in
+    let one : end ≡ at + 1 = alone.one in
+    let size : end - at ≡ 1 = omega arith in
+    let (separates, parenthesis) = alone_tested (get_or text at 0) alone.byte in
+    let here : drop at text ≡ get_or text at 0 ∷ drop (at + 1) text = drop_more text at 0 (omega arith) in
+    rw (size, one, here) (rw separates (rw parenthesis refl))
+
+-- a byte that begins no token and separates none
+pub bad_row : (text : List ℕ) (at : ℕ) → at < length text → is_separator (get_or text at 0) ≡ false →
+    ¬ (BeginsToken text at) → row_from at (drop at text) ≡ bad_byte at
+bad_row text at within separates none =
+    let word : is_word_byte (get_or text at 0) ≡ false = untested _ (λ is. none (inl is)) in
+    let left : (get_or text at 0 == 40) ≡ false = ne_eqb _ 40 (λ is. none (inr (inl is))) in
+    let right : (get_or text at 0 == 41) ≡ false = ne_eqb _ 41 (λ is. none (inr (inr is))) in
+    let parenthesis : is_parenthesis (get_or text at 0) ≡ false = rw left (rw right refl) in
+    rw (drop_more text at 0 within) (rw separates (rw parenthesis (rw word refl)))
+
+-- the token that begins there, or the bad byte
+pub next_token : (text : List ℕ) (at end : ℕ) → at < length text → is_separator (get_or text at 0) ≡ false →
+    CutsNoWord text at → (at < end → IsToken text (record { start = at; end = end })) →
+    (end ≤ at → (end ≡ at) × ¬ (BeginsToken text at)) → IsNext text (record { start = at; end = end })
+unfolding unread
+next_token text at end within separates between token none = elim (cases_lt at end) [
+  | inl some ↦ let (_, inside) = some_bytes text (record { start = at; end = end }) (token some) in record {
+    order = omega arith;
+    inside = inside;
+    between = between_behind text at end some (token some);
+    row = token_row text at end some (token some) ∙ rw (lt-ltb at end some) refl;
+  }
+  | inr small ↦
+      let (same, bad) = none small in record {
+        order = omega arith;
+        inside = omega arith;
+        between = subst (CutsNoWord text) (sym same) between;
+        row = bad_row text at within separates bad ∙ rw (
+          le-ltb at end small,
+          ne_eqb at (length text) (λ e. omega
+              arith),
+        )
+            refl;
+      }
+]
+
+-- the text's end
+pub next_end : (text : List ℕ) (at : ℕ) → at ≡ length text → IsNext text (record { start = at; end = at })
+unfolding unread
+next_end text at is = record {
+  order = omega arith;
+  inside = omega arith;
+  between = λ positive within. absurd (omega arith);
+  row = end_row text at (omega arith) ∙ rw (le-ltb at at (omega arith), eq-eqb at (length text) is) refl;
+}
