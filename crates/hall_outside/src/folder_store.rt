@@ -2,12 +2,13 @@
 ghost use Rattle.std.specs.Prelude.{◌≡◌, IfOk};
 ghost use Rattle.hall_outside.specs.Counts.{raised as raised_count};
 
-use crate::begun_files::BegunFiles;
+use crate::begun_files::{BegunFiles, append_to, begin};
 use crate::counts::raised;
 use crate::failure::Failure;
-use crate::read_files::ReadFiles;
+use crate::placing::{discard, place};
 use crate::stores::{Failed, Memory, Store, Taken};
-use crate::system_files::{LastRead, read_part};
+use crate::system_folder::SystemFolder;
+use folder_calls::Folder;
 use std::fs::File;
 use std::io;
 use std::marker::Model;
@@ -40,9 +41,8 @@ use std::rt::Files;
 #[derive(Drop)]
 pub struct FolderStore<'a, R> {
     rt: &'a R,
-    last_read: LastRead,
-    read: ReadFiles,
-    begun: BegunFiles,
+    folder: SystemFolder<'a, R>,
+    files: BegunFiles,
     failure: Option<Failure>,
     read_faults: u64,
     write_faults: u64,
@@ -75,9 +75,8 @@ impl<'a, R: AllocGlobal> FolderStore<'a, R> {
     {
         Ok(FolderStore {
             rt,
-            last_read: LastRead::make(rt.alloc())?,
-            read: ReadFiles::make(rt.alloc())?,
-            begun: BegunFiles::make(rt.alloc())?,
+            folder: SystemFolder::make(rt)?,
+            files: BegunFiles::make(rt.alloc())?,
             failure: None,
             read_faults: 0,
             write_faults: 0,
@@ -110,7 +109,7 @@ impl<'a, R: Files<File = File> + AllocGlobal> FolderStore<'a, R> {
           write_faults = raised_count (self.old).write_faults 1;
         } }
     {
-        self.begun.discard(self.rt);
+        discard(&mut self.folder, &mut self.files);
         self.write_faults = raised(self.write_faults, 1);
         self.failure = Failure::new(self.rt.alloc(), "writing", name, reason);
         Failed
@@ -140,12 +139,12 @@ impl<'a, R: Files<File = File> + AllocGlobal> Store for FolderStore<'a, R> {
     ghost finishes = { λ old ok new. CountsFailures old.write_faults ok new.write_faults };
 
     fn read_at(&mut self, name: &str, at: u64, into: &mut [u8]) -> Result<Taken, Failed> {
-        match read_part(self.rt, &mut self.last_read, &mut self.read, name, at, into) {
-            Ok(Taken::Absent) => {
+        match self.folder.read_at(name, at, into) {
+            Ok(None) => {
                 self.absences = raised(self.absences, 1);
                 Ok(Taken::Absent)
             }
-            Ok(Taken::Bytes(count)) => {
+            Ok(Some(count)) => {
                 self.bytes = raised(self.bytes, count as u64);
                 Ok(Taken::Bytes(count))
             }
@@ -154,26 +153,27 @@ impl<'a, R: Files<File = File> + AllocGlobal> Store for FolderStore<'a, R> {
     }
 
     fn create(&mut self, name: &str) -> Result<(), Failed> {
-        match self.begun.begin(self.rt, &self.read, name) {
+        match begin(&mut self.folder, &mut self.files, name) {
             Ok(()) => Ok(()),
             Err(reason) => Err(self.write_failed(name, reason)),
         }
     }
 
     fn append(&mut self, name: &str, piece: &[u8]) -> Result<usize, Failed> {
-        match self.begun.append(name, piece) {
+        match append_to(&mut self.folder, self.files.begun.as_slice(), name, piece) {
             Ok(count) => Ok(count),
             Err(reason) => Err(self.write_failed(name, reason)),
         }
     }
 
     fn finish(&mut self) -> Result<(), Failed> {
-        self.read.clear();
-        match self.begun.place(self.rt) {
+        self.folder.forget_reads();
+        match place(&mut self.folder, &mut self.files) {
             Ok(()) => Ok(()),
-            Err(failure) => {
+            Err(unplaced) => {
                 self.write_faults = raised(self.write_faults, 1);
-                self.failure = failure;
+                self.failure = unplaced.failure(self.rt.alloc(), &self.files);
+                self.files.clear();
                 Err(Failed)
             }
         }

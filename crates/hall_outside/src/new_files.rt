@@ -111,7 +111,7 @@ fn lock(file: &File) -> io::Result<()> {
     }
 }
 
-fn in_use() -> io::Error {
+pub(crate) fn in_use() -> io::Error {
     io::Error::new(ErrorKind::ResourceBusy, "another program is writing it")
 }
 

@@ -1,9 +1,11 @@
 // What a new file may replace, and which secrets are read.
+ghost use Rattle.std.specs.Prelude.{◌≡◌, OnOk};
+ghost use Rattle.folder_calls.specs.World.{Now};
+ghost use Rattle.hall_outside.specs.Beginning.{MayBegin};
 
-use crate::calls::{again, look, look_for};
-use crate::read_files::ReadFiles;
+use crate::calls::{again, look};
 use crate::refusals::{Refusal, Standing, reading_refusal, replacing_refusal};
-use crate::system_files::read_through_signals;
+use folder_calls::{Folder, Found};
 use std::fs::{self, File, Metadata, Permissions};
 use std::io::{self, ErrorKind};
 use std::os::unix::fs::{MetadataExt, PermissionsExt, fchown};
@@ -24,57 +26,64 @@ const OWNER_BITS: u32 = 0o700;
 /// The system's number for a folder where a file is wanted.
 const IS_A_FOLDER: i32 = 21;
 
-/// How many bytes at the front of a file say of which kind it is.
-pub(crate) const FRONT: usize = 4;
-
-/// How the files begin that commands write: rosters, logs, offices, proofs, and keys and
-/// signatures.
-const KINDS: [[u8; FRONT]; 5] = [*b"(6:r", *b"(3:l", *b"(6:o", *b"proo", [0, 0, 0, 1]];
-
-/// A file that is to be replaced: its permission bits, owner and group.
-#[derive(Clone, Copy)]
-pub(crate) struct Old {
-    bits: u32,
-    owner: u32,
-    group: u32,
-}
-
 /// Whether the file holds a secret, which its name alone says.
 pub(crate) fn is_secret(name: &str) -> bool {
     name.ends_with(".office")
 }
 
-/// The file that a new one of this name is to replace, if there is one. It fails where that may not
-/// be replaced.
-pub(crate) fn replaced<R: Files>(rt: &R, read: &ReadFiles, name: &str) -> io::Result<Option<Old>> {
-    let Some(found) = look_for(rt, name)? else {
-        return Ok(None);
-    };
-    if let Some(refusal) = replacing_refusal(&standing_of(name, &found, read.has(&found))) {
-        return Err(error_of(refusal, &found));
-    }
-    Ok(Some(Old {
+/// Whether the file says which others belong to it: a roster of a set of logs, and an office that is
+/// made with its key. An office that is replaced isn't one: its new number is in place before what
+/// was signed with the old one.
+pub(crate) fn is_mark(name: &str, old: &Option<Found>) -> bool {
+    name.ends_with(".roster") || is_secret(name) && old.is_none()
+}
+
+/// What the system says of a file.
+pub(crate) fn found_of(found: &Metadata, was_read: bool) -> Found {
+    Found {
+        is_regular: found.is_file(),
+        is_folder: found.is_dir(),
+        is_link: found.is_symlink(),
+        links: found.nlink(),
         bits: found.mode() & BITS,
         owner: found.uid(),
         group: found.gid(),
-    }))
+        was_read,
+    }
 }
 
-fn standing_of(name: &str, found: &Metadata, was_read: bool) -> Standing {
+/// The file that a new one of this name is to replace, if there is one. It fails where that may not
+/// be replaced.
+pub(crate) fn replaced<F: Folder>(folder: &mut F, name: &str) -> io::Result<Option<Found>>
+    ensures same { F.moments folder.new ≡ F.moments folder.old }
+    ensures allowed { OnOk result (Now (F.moments folder.old) (MayBegin name.now)) }
+{
+    let Some(found) = folder.look(name)? else {
+        return Ok(None);
+    };
+    match replacing_refusal(&standing_of(name, &found)) {
+        Some(refusal) => Err(error_of(refusal, &found)),
+        None => Ok(Some(found)),
+    }
+}
+
+fn standing_of(name: &str, found: &Found) -> Standing
+    ensures { result.is_regular ≡ (found.now).is_regular }
+{
     Standing {
-        is_regular: found.is_file(),
-        owner_writes: found.mode() & OWNER_WRITES != 0,
-        links: found.nlink(),
-        was_read,
+        is_regular: found.is_regular,
+        owner_writes: found.bits & OWNER_WRITES != 0,
+        links: found.links,
+        was_read: found.was_read,
         is_secret: is_secret(name),
     }
 }
 
 /// The refusal with what to do, for a line to the user.
-fn error_of(refusal: Refusal, found: &Metadata) -> io::Error {
+fn error_of(refusal: Refusal, found: &Found) -> io::Error {
     match refusal {
-        Refusal::NotRegular if found.is_dir() => io::Error::from_raw_os_error(IS_A_FOLDER),
-        Refusal::NotRegular if found.is_symlink() => {
+        Refusal::NotRegular if found.is_folder => io::Error::from_raw_os_error(IS_A_FOLDER),
+        Refusal::NotRegular if found.is_link => {
             refused("it is a symbolic link: name the file that it leads to")
         }
         Refusal::NotRegular => refused("it is no regular file"),
@@ -96,19 +105,19 @@ pub(crate) fn open_to_read<R: Files<File = File>>(rt: &R, name: &str) -> io::Res
     if !is_secret(name) {
         return fs::open(rt, name);
     }
-    require_readable(name, &look(rt, name)?)?;
+    require_readable(name, &found_of(&look(rt, name)?, false))?;
     let file = fs::open(rt, name)?;
     let open = again(|| file.metadata())?;
     let found = look(rt, name)?;
-    require_readable(name, &found)?;
+    require_readable(name, &found_of(&found, false))?;
     if !is_one(&open, &found) {
         return Err(io::Error::new(ErrorKind::ResourceBusy, "another program is writing it"));
     }
     Ok(file)
 }
 
-fn require_readable(name: &str, found: &Metadata) -> io::Result<()> {
-    match reading_refusal(&standing_of(name, found, false)) {
+fn require_readable(name: &str, found: &Found) -> io::Result<()> {
+    match reading_refusal(&standing_of(name, found)) {
         Some(refusal) => Err(error_of(refusal, found)),
         None => Ok(()),
     }
@@ -121,7 +130,7 @@ pub(crate) fn is_one(left: &Metadata, right: &Metadata) -> bool {
 
 /// The permission bits that the file is to have: those of the file that it replaces, the owner's
 /// alone where it holds a secret, or `None` for the default.
-pub(crate) fn kept_bits(name: &str, old: &Option<Old>) -> Option<u32> {
+pub(crate) fn kept_bits(name: &str, old: &Option<Found>) -> Option<u32> {
     let bits = match old {
         Some(old) => Some(old.bits),
         None => None,
@@ -134,7 +143,7 @@ pub(crate) fn kept_bits(name: &str, old: &Option<Old>) -> Option<u32> {
 
 /// Gives the new file the owner and the group of the one that it replaces, where the system lets
 /// this user.
-pub(crate) fn keep_owner(file: &File, old: &Old) -> io::Result<()> {
+pub(crate) fn keep_owner(file: &File, old: &Found) -> io::Result<()> {
     let new = again(|| file.metadata())?;
     if new.uid() == old.owner && new.gid() == old.group {
         return Ok(());
@@ -157,20 +166,4 @@ pub(crate) fn set_bits(file: &File, bits: u32) -> io::Result<()> {
         return Ok(());
     }
     file.set_permissions(Permissions::from_mode(bits))
-}
-
-/// Fails where the file that is to be replaced is of one of the kinds that commands write, and the
-/// new one isn't of that kind: so no slip replaces a log by a proof.
-pub(crate) fn require_same_kind<R: Files<File = File>>(
-    rt: &R,
-    name: &str,
-    front: &[u8],
-) -> io::Result<()> {
-    let mut old = [0; FRONT];
-    let mut file = fs::open(rt, name)?;
-    let count = read_through_signals(&mut file, &mut old)?;
-    if count < FRONT || !KINDS.contains(&old) || front == old.as_slice() {
-        return Ok(());
-    }
-    Err(refused("it is a file of another kind: remove it, or name another file"))
 }

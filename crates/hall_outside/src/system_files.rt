@@ -1,12 +1,10 @@
 // Files of the system, as they are opened and read.
-ghost use Rattle.std.specs.Prelude.{◌≤◌, [], length, IfOk, None};
-ghost use Rattle.hall_outside.specs.declared.stores.Taken.TheVariants.{Bytes};
-ghost use Rattle.hall_outside.specs.Reading.{IsTaken};
+ghost use Rattle.std.specs.Prelude.{◌≤◌, [], length, IfOk, Some};
+ghost use Rattle.folder_calls.specs.World.{GivesPart};
 
 use crate::calls::again;
 use crate::read_files::{Identity, ROOM, ReadFiles};
 use crate::replacing::open_to_read;
-use crate::stores::Taken;
 use std::alloc::{AllocError, Global};
 use std::fs::File;
 use std::io::{self, ErrorKind, Read, Seek, SeekFrom};
@@ -60,12 +58,12 @@ pub(crate) fn read_part<R: Files<File = File>>(
     name: &str,
     at: u64,
     into: &mut [u8],
-) -> io::Result<Taken>
-    ensures { IfOk result (IsTaken None name.now at into.old into.new) }
+) -> io::Result<Option<usize>>
+    ensures { IfOk result (GivesPart [] name.now at into.old into.new) }
 {
     match reading_at(rt, last, read, name, at)? {
-        Some(reading) => read_on(&mut last.open, reading, into),
-        None => Ok(Taken::Absent),
+        Some(reading) => Ok(Some(read_on(&mut last.open, reading, into)?)),
+        None => Ok(None),
     }
 }
 
@@ -91,13 +89,13 @@ fn read_on<F: Read + Drop>(
     open: &mut Option<Reading<F>>,
     mut reading: Reading<F>,
     into: &mut [u8],
-) -> io::Result<Taken>
-    ensures { IfOk result (IsTaken None [] 0 into.old into.new) }
+) -> io::Result<usize>
+    ensures { IfOk result (λ n. GivesPart [] [] 0 into.old into.new (Some n)) }
 {
     let count = read_some(&mut reading.file, into)?;
     reading.at = reading.at.saturating_add(count as u64);
     *open = Some(reading);
-    Ok(Taken::Bytes(count))
+    Ok(count)
 }
 
 /// The file, open at this byte, or `None` where the system says that there is none. It fails where
@@ -131,7 +129,7 @@ fn part() -> [u8; PART] {
 
 // std's `read` promises nothing of the bytes after its count, so the part is read into an array.
 fn read_some<F: Read>(file: &mut F, into: &mut [u8]) -> io::Result<usize>
-    ensures { IfOk result (λ n. IsTaken None [] 0 into.old into.new (Bytes n)) }
+    ensures { IfOk result (λ n. GivesPart [] [] 0 into.old into.new (Some n)) }
 {
     let mut buffer = part();
     let room = into.len().min(PART);

@@ -1,0 +1,5 @@
+pub mod Steps
+pub mod Endings
+pub mod Marks
+pub mod Moves
+pub mod Wholes

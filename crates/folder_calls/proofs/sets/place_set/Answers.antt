@@ -1,0 +1,61 @@
+use Rattle.std.proofs.Common.{◌∙◌, [], sym}
+use Rattle.std.proofs.lemmas.Bool.{false≢true}
+use Rattle.folder_calls.proofs.Steps.{one_done}
+use Rattle.folder_calls.proofs.Wholes.{both_ready, ready_begun, ready_flushed, rest_are_begun, rest_are_flushed, rest_whole, set_whole, set_done}
+use Rattle.folder_calls.proofs.sets.place_set.Goals as goal
+
+pub place_all-requires-clause-begun : goal.place_all-requires-clause-begun
+place_all-requires-clause-begun g c =
+    rest_are_begun c.args.mark.now c.args.rest.now (g.F.Folder.moments c.args.folder.now) c.requires.begun
+
+pub place_all-requires-clause-flushed : goal.place_all-requires-clause-flushed
+place_all-requires-clause-flushed g c =
+    rest_are_flushed c.args.mark.now c.args.rest.now (g.F.Folder.moments c.args.folder.now) c.requires.flushed
+
+pub returns-in_err-place_all-clause-any_moment : goal.returns-in_err-place_all-clause-any_moment
+returns-in_err-place_all-clause-any_moment g c =
+    rest_whole c.args.mark.now c.args.rest.now (g.F.Folder.moments c.args.folder.now) (g.F.Folder.moments c.place_all.new.folder)
+    c.requires.begun c.requires.gone c.place_all.ensures.any_moment
+
+pub place-requires-clause-begun : goal.place-requires-clause-begun
+place-requires-clause-begun g c =
+    let moments = g.F.Folder.moments in
+    ready_begun c.args.mark.now [] (moments c.place_all.new.folder)
+    (c.in_ok-place_all.ensures.keeps c.args.mark.now
+    (both_ready c.args.mark.now c.args.rest.now (moments c.args.folder.now) c.requires.begun c.requires.flushed))
+
+pub place-requires-clause-flushed : goal.place-requires-clause-flushed
+place-requires-clause-flushed g c =
+    let moments = g.F.Folder.moments in
+    ready_flushed c.args.mark.now [] (moments c.place_all.new.folder)
+    (c.in_ok-place_all.ensures.keeps c.args.mark.now
+    (both_ready c.args.mark.now c.args.rest.now (moments c.args.folder.now) c.requires.begun c.requires.flushed))
+
+pub returns-in-Err-clause-any_moment : goal.returns-in-Err-clause-any_moment
+returns-in-Err-clause-any_moment g c =
+    let moments = g.F.Folder.moments in
+    set_whole c.args.mark.now c.args.rest.now (moments c.args.folder.now) (moments c.place_all.new.folder)
+    (moments c.place.new.folder) c.requires.begun c.requires.gone c.place_all.ensures.any_moment
+    c.in_ok-place_all.ensures.placed c.place.ensures.any_moment
+
+pub returns-in-Ok-clause-any_moment : goal.returns-in-Ok-clause-any_moment
+returns-in-Ok-clause-any_moment g c =
+    let moments = g.F.Folder.moments in
+    set_whole c.args.mark.now c.args.rest.now (moments c.args.folder.now) (moments c.place_all.new.folder)
+    (moments c.place.new.folder) c.requires.begun c.requires.gone c.place_all.ensures.any_moment
+    c.in_ok-place_all.ensures.placed c.place.ensures.any_moment
+
+pub returns-in-Ok-clause-placed : goal.returns-in-Ok-clause-placed
+returns-in-Ok-clause-placed g c =
+    let moments = g.F.Folder.moments in
+    let ready = c.in_ok-place_all.ensures.keeps c.args.mark.now
+    (both_ready c.args.mark.now c.args.rest.now (moments c.args.folder.now) c.requires.begun c.requires.flushed) in
+    set_done c.args.mark.now c.args.rest.now (moments c.args.folder.now) (moments c.place_all.new.folder)
+    (moments c.place.new.folder) c.requires.begun c.place_all.ensures.any_moment
+    c.in_ok-place_all.ensures.placed c.place.ensures.any_moment
+    (one_done c.args.mark.now (moments c.place_all.new.folder) (moments c.place.new.folder)
+    (ready_begun c.args.mark.now [] (moments c.place_all.new.folder) ready)
+    (ready_flushed c.args.mark.now [] (moments c.place_all.new.folder) ready) c.in-Ok.ensures.done)
+
+pub returns-in-Err-clause-untouched : goal.returns-in-Err-clause-untouched
+returns-in-Err-clause-untouched g c = λ h. absurd (false≢true (sym c.after_others.ensures ∙ h))

@@ -1,0 +1,6 @@
+pub mod World
+pub mod Writes
+pub mod Placing
+pub mod Ready
+pub mod Sets
+pub mod Asides

@@ -1,0 +1,128 @@
+// The calls that the system gives, and what they mean.
+ghost use Rattle.std.specs.Prelude.{
+  ◌≡◌,
+  ◌<◌,
+  ◌≤◌,
+  length,
+  take,
+  is_ok,
+  IfOk,
+  OnOk,
+  OnErr,
+};
+ghost use Rattle.folder_calls.specs.World.{
+  Moments,
+  Now,
+  Goes,
+  Does,
+  does,
+  IsLookedUp,
+  GivesPart,
+  IsClear,
+  Creates,
+  longer_by,
+  emptied,
+  renamed,
+  removed,
+  name_flushed,
+  file_flushed,
+};
+ghost use Rattle.folder_calls.specs.Writes.{IsCount};
+
+use std::io;
+
+/// What the system says of what stands under a name.
+#[derive(Clone, Copy)]
+pub struct Found {
+    /// It is a file: no folder, link, pipe or device.
+    pub is_regular: bool,
+    pub is_folder: bool,
+    pub is_link: bool,
+    /// How many names it has.
+    pub links: u64,
+    /// Its permission bits.
+    pub bits: u32,
+    pub owner: u32,
+    pub group: u32,
+    /// This program has read it, under whatever name.
+    pub was_read: bool,
+}
+
+/// The calls of a system for the files of a folder. Nobody else changes the files that these calls
+/// name, and different names are different places.
+///
+/// Source: POSIX.1-2017, the page that is named with each call. A folder either always or never
+/// exposes its moments.
+pub trait Folder {
+    /// The moments so far, the newest first. There is none where the folder exposes nothing.
+    ghost moments: { Self → Moments };
+
+    /// What stands under the name itself: no link is followed (`lstat`).
+    fn look(&mut self, name: &str) -> io::Result<Option<Found>>
+        ensures found { IfOk result (λ found. Now (moments self.old) (IsLookedUp name.now found)) }
+        ensures same { moments self.new ≡ moments self.old };
+
+    /// Reads into the front of `into` from the byte `at` on, or finds no such file (`open`, `pread`).
+    fn read_at(&mut self, name: &str, at: u64, into: &mut [u8]) -> io::Result<Option<usize>>
+        requires { 0 < length into.old }
+        ensures given { IfOk result
+            (GivesPart (moments self.old) name.now at into.old into.new) }
+        ensures same { moments self.new ≡ moments self.old };
+
+    /// Reads the first bytes of a file, which doesn't count as read (`open`, `read`).
+    fn read_front(&mut self, name: &str, into: &mut [u8]) -> io::Result<usize>
+        requires { 0 < length into.old }
+        ensures count { IfOk result (λ n. n ≤ length into.new) }
+        ensures same { moments self.new ≡ moments self.old };
+
+    /// Makes an empty file under `other_name`, for one that is to have `name`, and gives its number.
+    /// It is locked for this program, and what an ended one left there is removed (`open` with
+    /// `O_CREAT` and `O_EXCL`, `unlink`; `flock`).
+    fn create(&mut self, name: &str, other_name: &str, bits: Option<u32>) -> io::Result<u64>
+        ensures created { IfOk result
+            (Creates other_name.now (moments self.old) (moments self.new)) }
+        ensures err { OnErr result
+            (Goes (IsClear other_name.now) (moments self.old) (moments self.new)) };
+
+    /// Appends a prefix of `piece` to a file that was created (`write` with `O_APPEND`).
+    fn append(&mut self, number: u64, piece: &[u8]) -> io::Result<usize>
+        requires { 0 < length piece.now }
+        ensures took { IfOk result (IsCount piece.now) }
+        ensures ok { IfOk result (λ n.
+            moments self.new ≡ does (longer_by number (take n piece.now)) (moments self.old)) }
+        ensures err { OnErr result (moments self.new ≡ moments self.old) };
+
+    /// Takes all bytes from a file that was created (`ftruncate`).
+    fn empty(&mut self, number: u64) -> io::Result<()>
+        ensures ok { OnOk result (moments self.new ≡ does (emptied number) (moments self.old)) }
+        ensures err { OnErr result (moments self.new ≡ moments self.old) };
+
+    /// Gives a file that was created the owner, the group and the permission bits that it is to
+    /// have, where it is to have others (`fchown`, `fchmod`).
+    fn settle(&mut self, number: u64, old: &Option<Found>, bits: Option<u32>) -> io::Result<()>
+        ensures same { moments self.new ≡ moments self.old };
+
+    /// Flushes the bytes of a file that was created to the disk (`fsync`).
+    fn flush_file(&mut self, number: u64) -> io::Result<()>
+        ensures did { Does (file_flushed number) (is_ok result)
+            (moments self.old) (moments self.new) };
+
+    /// What has one name has the other from now on, and what had that one has it no longer
+    /// (`rename`).
+    fn rename(&mut self, from: &str, to: &str) -> io::Result<()>
+        ensures did { Does (renamed from.now to.now) (is_ok result)
+            (moments self.old) (moments self.new) };
+
+    /// Removes the name (`unlink`).
+    fn remove(&mut self, name: &str) -> io::Result<()>
+        ensures did { Does (removed name.now) (is_ok result) (moments self.old) (moments self.new) };
+
+    /// Flushes the folder that the name is in to the disk (`fsync`).
+    fn flush_name(&mut self, name: &str) -> io::Result<()>
+        ensures did { Does (name_flushed name.now) (is_ok result)
+            (moments self.old) (moments self.new) };
+
+    /// Closes the files that were created, and with that unlocks them (`close`).
+    fn close(&mut self)
+        ensures same { moments self.new ≡ moments self.old };
+}

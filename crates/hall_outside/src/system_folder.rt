@@ -1,0 +1,171 @@
+// The system's files as a folder: each call is one of the system's, or two.
+ghost use Rattle.std.specs.Prelude.{◌<◌, [], length, IfOk};
+ghost use Rattle.folder_calls.specs.Writes.{IsCount};
+
+use crate::calls::{look_for, remove, rename};
+use crate::new_files::{folder_of, new_file};
+use crate::read_files::ReadFiles;
+use crate::replacing::{found_of, keep_owner, set_bits};
+use crate::system_files::{LastRead, read_part, read_through_signals};
+use folder_calls::{Folder, Found};
+use std::alloc::AllocError;
+use std::fs::{self, File};
+use std::io::{self, ErrorKind, Write};
+use std::rt::Files;
+
+/// How many files there is room for from the beginning: a roster and 16 logs.
+pub(crate) const FILES: usize = 17;
+
+/// A file that was created, and its number.
+#[derive(Drop)]
+struct Created {
+    number: u64,
+    file: File,
+}
+
+/// The files of the system, in the folder where the program runs. It exposes nothing.
+#[derive(Drop)]
+pub(crate) struct SystemFolder<'a, R> {
+    rt: &'a R,
+    last_read: LastRead,
+    read: ReadFiles,
+    created: Vec<Created>,
+    next: u64,
+}
+
+impl<'a, R: AllocGlobal> SystemFolder<'a, R> {
+    /// The folder, with room for the files of a command.
+    pub fn make(rt: &'a R) -> Result<SystemFolder<'a, R>, AllocError> {
+        Ok(SystemFolder {
+            rt,
+            last_read: LastRead::make(rt.alloc())?,
+            read: ReadFiles::make(rt.alloc())?,
+            created: Vec::with_capacity(rt.alloc(), FILES)?,
+            next: 0,
+        })
+    }
+}
+
+impl<'a, R> SystemFolder<'a, R> {
+    /// Forgets which files were read.
+    pub fn forget_reads(&mut self) {
+        self.read.clear();
+    }
+}
+
+impl<'a, R: Files<File = File>> Folder for SystemFolder<'a, R> {
+    ghost moments = { λ _. [] };
+
+    fn look(&mut self, name: &str) -> io::Result<Option<Found>> {
+        match look_for(self.rt, name)? {
+            Some(found) => Ok(Some(found_of(&found, self.read.has(&found)))),
+            None => Ok(None),
+        }
+    }
+
+    fn read_at(&mut self, name: &str, at: u64, into: &mut [u8]) -> io::Result<Option<usize>> {
+        read_part(self.rt, &mut self.last_read, &mut self.read, name, at, into)
+    }
+
+    fn read_front(&mut self, name: &str, into: &mut [u8]) -> io::Result<usize> {
+        let mut file = fs::open(self.rt, name)?;
+        read_through_signals(&mut file, into)
+    }
+
+    fn create(&mut self, name: &str, other_name: &str, bits: Option<u32>) -> io::Result<u64> {
+        self.created.reserve(1)?;
+        let file = new_file(self.rt, other_name, bits)?;
+        // Once it is locked no other program of this kind puts one in place, so what was read before
+        // can be compared.
+        if let Err(reason) = self.read.require_unchanged(self.rt, name) {
+            let _ = remove(self.rt, other_name);
+            return Err(reason);
+        }
+        let number = self.next;
+        self.next = number.saturating_add(1);
+        self.created.push(Created { number, file })?;
+        Ok(number)
+    }
+
+    fn append(&mut self, number: u64, piece: &[u8]) -> io::Result<usize> {
+        for created in self.created.iter_mut() {
+            if created.number == number {
+                return write_some(&mut created.file, piece);
+            }
+        }
+        Err(io::Error::from(ErrorKind::NotFound))
+    }
+
+    fn empty(&mut self, number: u64) -> io::Result<()> {
+        file_of(self.created.as_slice(), number)?.set_len(0)
+    }
+
+    fn settle(&mut self, number: u64, old: &Option<Found>, bits: Option<u32>) -> io::Result<()> {
+        let file = file_of(self.created.as_slice(), number)?;
+        if let Some(old) = old {
+            keep_owner(file, old)?;
+        }
+        match bits {
+            Some(bits) => set_bits(file, bits),
+            None => Ok(()),
+        }
+    }
+
+    fn flush_file(&mut self, number: u64) -> io::Result<()> {
+        file_of(self.created.as_slice(), number)?.sync_all()
+    }
+
+    fn rename(&mut self, from: &str, to: &str) -> io::Result<()> {
+        rename(self.rt, from, to)
+    }
+
+    fn remove(&mut self, name: &str) -> io::Result<()> {
+        remove(self.rt, name)
+    }
+
+    fn flush_name(&mut self, name: &str) -> io::Result<()> {
+        flush_folder(self.rt, folder_of(name))
+    }
+
+    fn close(&mut self) {
+        self.created.clear();
+    }
+}
+
+fn file_of(created: &[Created], number: u64) -> io::Result<&File> {
+    for file in created {
+        if file.number == number {
+            return Ok(&file.file);
+        }
+    }
+    Err(io::Error::from(ErrorKind::NotFound))
+}
+
+/// Flushes the folder to the disk, where it may be read and the file system can.
+fn flush_folder<R: Files<File = File>>(rt: &R, path: &str) -> io::Result<()> {
+    let folder = match fs::open(rt, if path.is_empty() { "." } else { path }) {
+        Ok(folder) => folder,
+        Err(error) if error.kind() == ErrorKind::PermissionDenied => return Ok(()),
+        Err(error) => return Err(error),
+    };
+    match folder.sync_all() {
+        Err(error) if error.kind() == ErrorKind::InvalidInput => Ok(()),
+        result => result,
+    }
+}
+
+/// As `write`, again wherever a signal came first. A write that took nothing is a fault: it would
+/// be tried for ever.
+fn write_some<W: Write>(to: &mut W, piece: &[u8]) -> io::Result<usize>
+    requires { 0 < length piece.now }
+    ensures { IfOk result (IsCount piece.now) }
+{
+    for _ in 0..u64::MAX {
+        match to.write(piece) {
+            Ok(0) => return Err(io::Error::from(ErrorKind::WriteZero)),
+            Err(error) if error.kind() == ErrorKind::Interrupted => {}
+            result => return result,
+        }
+    }
+    Err(io::Error::from(ErrorKind::Interrupted))
+}
