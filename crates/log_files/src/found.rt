@@ -1,16 +1,26 @@
 //! Reading a log whose records are found first, and whose entries are unsealed then, in threads.
-ghost use Rattle.std.specs.Prelude.{◌≡◌, ◌≢◌, List, Result, IfOk, IfErr, OnOk, Err};
+ghost use Rattle.std.specs.Prelude.{◌≡◌, ◌≢◌, ◌<◌, List, Result, IfOk, IfErr, OnOk, Err};
+ghost use Rattle.std.specs.Prelude.{IsTrue, length, slice_index_or};
 ghost use Rattle.canonical_sexp.specs.Text.{text_of};
 ghost use Rattle.entry_format.specs.declared.plain.EntryFault.{EntryFault};
 ghost use Rattle.log_files.specs.declared.sealed_log.Kept.{Kept};
-ghost use Rattle.log_files.specs.inside.Found.{AddsReading, AreReadBy, AreSplit, IsReadBy, IsWoven};
+ghost use Rattle.log_files.specs.inside.Found.{
+  AddsReading,
+  AreKnownBy,
+  AreReadBy,
+  AreSplit,
+  IsKnownBy,
+  IsReadBy,
+  IsWoven,
+};
 ghost use Rattle.log_files.specs.SealedLog.{IsReadSealed};
 
+use crate::places::{Places, digest_of};
 use crate::records::ReadEntry;
 use crate::sealed_log::Kept;
-use crate::sealed_reader::SealedReader;
+use crate::sealed_reader::{SealedReader, key_of};
 use canonical_sexp::{Memory, Text, whole_text};
-use entry_format::EntryFault;
+use entry_format::{EntryFault, Sealed};
 use std::alloc::{AllocError, Global};
 use std::thread::{self, Threads};
 
@@ -28,8 +38,11 @@ pub(crate) struct Found {
     pub(crate) place: u32,
     /// Whether the owner of the log sent the entry.
     pub(crate) sent: bool,
-    /// The text of the entry, until it is read.
+    /// The maker and the number in the entry, if they are there.
+    pub(crate) key: Option<(u32, u32)>,
+    /// The text of the entry, until the entry is read.
     pub(crate) text: Vec<u8>,
+    /// What the text is read as; running out of memory stands for not yet.
     pub(crate) reading: Result<Kept, EntryFault>,
 }
 
@@ -75,19 +88,43 @@ fn found_of(alloc: Global, place: u32, sent: bool, entry: &Text<'_>) -> Result<F
         Ok(()) => Ok(Found {
             place,
             sent,
+            key: key_of(entry),
             text,
-            reading: Err(EntryFault::WrongShape),
+            reading: Err(EntryFault::Memory),
         }),
         Err(_) => Err(EntryFault::Memory),
     }
 }
 
-/// Reads the entry of a record, and lets its text go.
-fn read_found(alloc: Global, reader: &SealedReader<'_>, found: &mut Found)
+/// Reads the entry of a record, unless another stands before it with its text.
+fn read_first(
+    alloc: Global,
+    reader: &SealedReader<'_>,
+    firsts: &[usize],
+    at: usize,
+    found: &mut Found,
+)
     ensures { IsReadBy reader.now.machines reader.now.election found.old found.new }
 {
-    found.reading = reading_of(alloc, reader, found);
-    found.text = Vec::new(alloc);
+    match firsts.get(at) {
+        Some(first) if *first != at => found.reading = Err(EntryFault::Memory),
+        _ => {
+            let reading = reading_of(alloc, reader, found);
+            put_reading(alloc, found, reading);
+        }
+    }
+}
+
+/// Puts down what the text of the entry is read as, and lets the text of a valid one go.
+fn put_reading(alloc: Global, found: &mut Found, reading: Result<Kept, EntryFault>)
+    ensures same { (found.new.place ≡ found.old.place) × (found.new.sent ≡ found.old.sent) }
+    ensures reading { found.new.reading ≡ reading }
+    ensures text { IfErr reading (λ _. found.new.text.items ≡ found.old.text.items) }
+{
+    if reading.is_ok() {
+        found.text = Vec::new(alloc);
+    }
+    found.reading = reading;
 }
 
 /// What the text of the entry is read as.
@@ -101,11 +138,118 @@ fn reading_of(alloc: Global, reader: &SealedReader<'_>, found: &Found) -> Result
     }
 }
 
-/// Reads the entry of each record, in threads.
-pub(crate) fn read_each_in<R: Threads + Sync>(
+/// What the text of the entry is read as after that of another record.
+fn reading_after(
+    alloc: Global,
+    reader: &SealedReader<'_>,
+    first: &Found,
+    found: &Found,
+) -> Result<Kept, EntryFault>
+    requires { IsKnownBy reader.now.machines reader.now.election first.now.text.items
+        first.now.reading }
+    ensures { result ≢ Err EntryFault.Memory → IsReadSealed reader.now.machines
+        reader.now.election found.now.place found.now.sent found.now.text.items result }
+{
+    match &first.reading {
+        Ok(kept) if kept.entry.text() == found.text.as_slice() => {
+            kept_again(alloc, found.place, found.sent, &kept.entry)
+        }
+        Err(fault) if first.text.as_slice() == found.text.as_slice() => Err(*fault),
+        _ => reading_of(alloc, reader, found),
+    }
+}
+
+/// The record of an entry that is kept of another record.
+fn kept_again(alloc: Global, place: u32, sent: bool, entry: &Sealed) -> Result<Kept, EntryFault>
+    ensures value { IfOk result (λ kept.
+        (kept.place ≡ place) × (kept.sent ≡ sent) × (kept.entry ≡ entry.now)) }
+    ensures memory { IfErr result (λ fault. fault ≡ EntryFault.Memory) }
+{
+    match entry.copy(alloc) {
+        Ok(entry) => Ok(Kept { place, sent, entry }),
+        Err(_) => Err(EntryFault::Memory),
+    }
+}
+
+/// What the text of the record at this place is read as, after the first one with it.
+fn reading_at(
+    alloc: Global,
+    reader: &SealedReader<'_>,
+    found: &[Found],
+    firsts: &[usize],
+    at: usize,
+) -> Result<Kept, EntryFault>
+    requires within { at < length found.now }
+    requires known { AreKnownBy reader.now.machines reader.now.election found.now }
+    ensures { (d : Found) → result ≢ Err EntryFault.Memory → IsReadSealed reader.now.machines
+        reader.now.election (slice_index_or found.now at d).place
+        (slice_index_or found.now at d).sent (slice_index_or found.now at d).text.items result }
+{
+    let record = &found[at];
+    match firsts.get(at) {
+        Some(first) if *first < found.len() => {
+            reading_after(alloc, reader, &found[*first], record)
+        }
+        _ => reading_of(alloc, reader, record),
+    }
+}
+
+/// Whether the entry of the record at this place isn't read yet.
+fn is_unread(found: &[Found], at: usize) -> bool
+    requires { at < length found.now }
+    ensures { (d : Found) → IsTrue result →
+        (slice_index_or found.now at d).reading ≡ Err EntryFault.Memory }
+{
+    match &found[at].reading {
+        Ok(_) => false,
+        Err(fault) => matches!(fault, EntryFault::Memory),
+    }
+}
+
+/// Puts down what the text of the record at this place, which wasn't read yet, is read as.
+fn put_again(
+    alloc: Global,
+    reader: &SealedReader<'_>,
+    found: &mut [Found],
+    at: usize,
+    reading: Result<Kept, EntryFault>,
+)
+    requires within { at < length found.old }
+    requires known { AreKnownBy reader.now.machines reader.now.election found.old }
+    requires unread { (d : Found) →
+        (slice_index_or found.old at d).reading ≡ Err EntryFault.Memory }
+    requires reading { (d : Found) → reading ≢ Err EntryFault.Memory → IsReadSealed
+        reader.now.machines reader.now.election (slice_index_or found.old at d).place
+        (slice_index_or found.old at d).sent (slice_index_or found.old at d).text.items reading }
+    ensures known { AreKnownBy reader.now.machines reader.now.election found.new }
+    ensures read { (before : List Found) →
+        AreReadBy reader.now.machines reader.now.election before found.old →
+        AreReadBy reader.now.machines reader.now.election before found.new }
+{
+    put_reading(alloc, &mut found[at], reading);
+}
+
+/// Reads the entries that aren't read yet, each after the first one with its text.
+fn read_rest(alloc: Global, reader: &SealedReader<'_>, firsts: &[usize], found: &mut [Found])
+    requires { AreKnownBy reader.now.machines reader.now.election found.old }
+    ensures { (before : List Found) →
+        AreReadBy reader.now.machines reader.now.election before found.old →
+        AreReadBy reader.now.machines reader.now.election before found.new }
+{
+    for at in 0..found.len() {
+        if is_unread(found, at) {
+            let reading = reading_at(alloc, reader, found, firsts, at);
+            put_again(alloc, reader, found, at, reading);
+        }
+    }
+}
+
+/// Reads the entry of each record where its text stands first, in threads.
+fn read_firsts_in<R: Threads + Sync>(
     rt: &R,
     alloc: Global,
     reader: &SealedReader<'_>,
+    firsts: &[usize],
     found: &mut [Found],
 )
     ensures { AreReadBy reader.now.machines reader.now.election found.old found.new }
@@ -114,11 +258,73 @@ pub(crate) fn read_each_in<R: Threads + Sync>(
         rt,
         found,
         MOST_THREADS,
-        &|_, part: &mut Found|
+        &|at, part: &mut Found|
             ensures { IsReadBy reader.entry.now.machines reader.entry.now.election
                 part.entry.now part.exit.now }
-        { read_found(alloc, reader, part) },
+        { read_first(alloc, reader, firsts, at, part) },
     );
+}
+
+/// Reads the entry of each record, in threads: a text that comes again is verified once.
+pub(crate) fn read_each_in<R: Threads + Sync>(
+    rt: &R,
+    alloc: Global,
+    reader: &SealedReader<'_>,
+    firsts: &[usize],
+    found: &mut [Found],
+)
+    ensures { AreReadBy reader.now.machines reader.now.election found.old found.new }
+{
+    read_firsts_in(rt, alloc, reader, firsts, found);
+    read_rest(alloc, reader, firsts, found);
+}
+
+/// Where the text of each record stands first.
+pub(crate) fn firsts_of(alloc: Global, found: &[Found]) -> Result<Vec<usize>, Memory> {
+    let mut places = Places::new(alloc);
+    let mut firsts = Vec::with_capacity(alloc, found.len())?;
+    for at in 0..found.len() {
+        firsts.push(first_of(&mut places, found, at)?)?;
+    }
+    Ok(firsts)
+}
+
+/// Where the text of this record stands first. The record is noted if it is here.
+fn first_of(places: &mut Places, found: &[Found], at: usize) -> Result<usize, Memory>
+    requires { at < length found.now }
+{
+    let Some(key) = found[at].key else {
+        return Ok(at);
+    };
+    let text = found[at].text.as_slice();
+    match places.first(key) {
+        None => {
+            places.note_first(key, (0, at))?;
+            Ok(at)
+        }
+        Some((_, first)) if has_text(found, first, text) => Ok(first),
+        Some(_) => first_other(places, text, at),
+    }
+}
+
+/// Where this text, which the first entry with its maker and number doesn't have, stands first.
+fn first_other(places: &mut Places, text: &[u8], at: usize) -> Result<usize, Memory> {
+    let digest = digest_of(text);
+    match places.other(&digest) {
+        Some((_, other)) => Ok(other),
+        None => {
+            places.note_other(digest, (0, at))?;
+            Ok(at)
+        }
+    }
+}
+
+/// Whether the record at the place has this text.
+fn has_text(found: &[Found], at: usize, text: &[u8]) -> bool {
+    match found.get(at) {
+        Some(record) => record.text.as_slice() == text,
+        None => false,
+    }
 }
 
 /// The records that are kept and those that are refused: what each record that was found is read
@@ -160,6 +366,7 @@ fn add_reading(
     let Found {
         place,
         sent: _sent,
+        key: _key,
         text: _text,
         reading,
     } = found;

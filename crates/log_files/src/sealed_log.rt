@@ -12,7 +12,7 @@ ghost use Rattle.log_files.specs.inside.Found.{IsFound};
 
 use crate::breaks::broke_at;
 use crate::feed::read_records;
-use crate::found::{Finder, Found, read_each_in, split_found};
+use crate::found::{Finder, Found, firsts_of, read_each_in, split_found};
 use crate::plain_log::{End, LogFault};
 use crate::records::{Records, log_of};
 use crate::sealed_reader::SealedReader;
@@ -278,7 +278,8 @@ fn unsealed_in<R: Threads + Sync>(
         refused: early,
         end,
     } = log;
-    read_each_in(rt, alloc, reader, found.as_mut_slice());
+    let firsts = firsts_of(alloc, found.as_slice())?;
+    read_each_in(rt, alloc, reader, firsts.as_slice(), found.as_mut_slice());
     let (kept, refused) = split_found(alloc, found, &early)?;
     with_break(
         alloc,
