@@ -15,7 +15,7 @@ pub use Rattle.election_script.specs.Generated.{generated, hears, machines_of, n
 pub use Rattle.election_script.specs.Generated.{session_booth, sessions, supervisor, supervisor_actions}
 pub use Rattle.election_script.specs.Generated.{supervisor_steps}
 unfoldable pub use Rattle.election_script.specs.Generated.{actions_of, deeds_of, session_steps}
-pub use Rattle.election_script.specs.Grammar.{AreDeedsOf, HasLines, IsTextOf, actions_at, deed_words, do_line}
+pub use Rattle.election_script.specs.Grammar.{AreDeedsOf, IsTextOf, actions_at, deed_words, do_line}
 pub use Rattle.election_script.specs.Grammar.{how_words, is_passed_over, key_line, line_of, lines_of, lines_of_kind}
 pub use Rattle.election_script.specs.Grammar.{link_line, log_line, lose_line, machine_line, name_at, name_of}
 pub use Rattle.election_script.specs.Grammar.{seed_line, step_line, step_words, stop_line, version_line}
@@ -56,10 +56,9 @@ pub use Rattle.entry_format.specs.declared.deed.How.{How}
 pub use Rattle.entry_order.proofs.Lists.{Contains-filter, Contains-filter_cases}
 pub use Rattle.entry_order.specs.declared.step.Step.{Step}
 pub use Rattle.entry_order.specs.declared.step.Step.TheVariants.{Act, Hear, Stop}
-pub use Rattle.hall_text.proofs.LineLemmas.{IsLineBefore, IsOpen, all_lines, line_more, none_before_first}
-pub use Rattle.hall_text.proofs.LineLemmas.{open_at_first, open_behind}
-pub use Rattle.hall_text.proofs.OneSpans.{one_all}
-pub use Rattle.hall_text.specs.Spans.{AreAll, IsLine, piece}
+pub use Rattle.hall_text.proofs.TextLines.{IsInLine, joined, lines_of_joined, lines_within}
+pub use Rattle.hall_text.specs.Lines.{line_spans, text_lines}
+pub use Rattle.hall_text.specs.Spans.{piece}
 pub use Rattle.hall_text.specs.declared.spans.Span.{Span}
 pub use Rattle.hex.proofs.HexLemmas.{decode_of-encode_lower, decode_of-ok, decode_of-same}
 pub use Rattle.hex.specs.Hex.{IsBytes, decode_of, encode_lower, lower_digits}
