@@ -47,7 +47,7 @@ RulesAreReadInOneWay =
     answer ≡ other
 
 -- so a file of rules gives one answer
-one_rules : RulesAreReadInOneWay → (name : List ℕ) (file : Option (List ℕ)) →
+pub one_rules : RulesAreReadInOneWay → (name : List ℕ) (file : Option (List ℕ)) →
     IsOne (λ x y. x ≡ y) (GivesRules name file)
 one_rules one name None a b x y = agree_equal a b (x ∙ sym y)
 one_rules one name (Some bytes) (Ok rules) (Ok others) (_, read) (_, also) =

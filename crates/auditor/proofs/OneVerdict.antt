@@ -34,7 +34,7 @@ order_above parents ragged down y x low =
     ap (λ b. cond b True (cond (is_whole parents ragged x x) False Unknown)) (not_reached parents down x y x low)
 
 -- graphs that say the same order all places alike
-orders_agree : (graph other : EntryGraph SealedEntry) → Descends (parents_of graph.links) →
+pub orders_agree : (graph other : EntryGraph SealedEntry) → Descends (parents_of graph.links) →
     Descends (parents_of other.links) → SameGraph graph other → (y x : ℕ) → x < length graph.survivors →
     before (parents_of graph.links) (ragged_of graph.links) y x
     ≡ before (parents_of other.links) (ragged_of other.links) y x

@@ -3,8 +3,7 @@ use Rattle.std.specs.Prelude.{◌≡◌, ◌⊎◌, ℕ, ◌<◌, ◌≤◌, Lis
 use Rattle.rule_language.specs.declared.faults.RuleWhy.{RuleWhy}
 use Rattle.rule_language.specs.Kinds.{why_word}
 use Rattle.rule_language.specs.Trees.{RuleTree}
-use Rattle.rule_language.specs.Spelling.{IsTextOf}
-use Rattle.rule_language.specs.Reading.{IsFirstFault}
+use Rattle.rule_language.specs.Reading.{Reads, IsFirstFault}
 use Rattle.evidence.specs.Refusal.{Refusal, absent, refused, too_long}
 use Rattle.auditor.specs.declared.auditing.RulesFrom.{RulesFrom}
 use Rattle.auditor.specs.declared.auditing.RulesFrom.TheVariants.{Standard, File}
@@ -41,7 +40,7 @@ IsRulesRefusal name bytes refusal =
 -- what the file of rules gives, or that there is none
 abbrev pub GivesRules : List ℕ → Option (List ℕ) → Result (List RuleTree) Refusal → Type 0
 GivesRules name None answer = answer ≡ Err (absent name)
-GivesRules name (Some bytes) (Ok rules) = (length bytes ≤ max_rules) × IsTextOf bytes rules
+GivesRules name (Some bytes) (Ok rules) = (length bytes ≤ max_rules) × Reads bytes (Ok rules)
 GivesRules name (Some bytes) (Err refusal) =
     ((max_rules < length bytes) × (refusal ≡ too_long name))
     ⊎ ((length bytes ≤ max_rules) × IsRulesRefusal name bytes refusal)

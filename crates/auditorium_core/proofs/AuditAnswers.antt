@@ -92,10 +92,12 @@ report_is_sound report settled unknown unique exact is =
 -- the answer of a report
 pub answer_is_told : (report : AuditReport) (text : List ℕ) (came : Outcome) (how : Status) (answer : Answer) →
     text ≡ report_text report → came ≡ outcome_of report → how ≡ status_by came →
-    answer ≡ record { status = how; files = []; output = text } → answer ≡ report_answer report
+    answer ≡ record { status = how; files = []; ahead = 0; output = text } → answer ≡ report_answer report
 answer_is_told report text came how answer is is_outcome is_status made =
-    made ∙ ap (λ (s : Status). record { status = s; files = []; output = text }) (is_status ∙ ap status_by is_outcome)
-    ∙ ap (λ (t : List ℕ). record { status = status_by (outcome_of report); files = []; output = t }) is
+    made
+    ∙ ap (λ (s : Status). record { status = s; files = []; ahead = 0; output = text })
+    (is_status ∙ ap status_by is_outcome)
+    ∙ ap (λ (t : List ℕ). record { status = status_by (outcome_of report); files = []; ahead = 0; output = t }) is
 
 -- the status of a report isn't that of an absent file
 pub not_absent : (came : Outcome) (how : Status) → how ≡ status_by came → how ≢ status.Absent

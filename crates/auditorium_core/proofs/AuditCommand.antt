@@ -13,8 +13,9 @@ use Rattle.auditorium_core.proofs.ReportCommands.{report_statuses_some}
 -- a report has one answer
 pub same_told : (report other : AuditReport) → SameReport report other → report_answer report ≡ report_answer other
 same_told report other same =
-    ap (λ (o : Outcome). record { status = status_by o; files = []; output = report_text report }) same.outcome
-    ∙ ap (λ (t : List ℕ). record { status = status_by (outcome_of other); files = []; output = t }) same.text
+    ap (λ (o : Outcome). record { status = status_by o; files = []; ahead = 0; output = report_text report })
+    same.outcome
+    ∙ ap (λ (t : List ℕ). record { status = status_by (outcome_of other); files = []; ahead = 0; output = t }) same.text
 
 -- so an audit has
 same_audit : FilesGiveOneReport → (roster rules : List ℕ) (logs : List (List ℕ)) (files : List (Option (List ℕ)))

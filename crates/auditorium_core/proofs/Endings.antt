@@ -83,8 +83,7 @@ module _ {S K : Type 0} (of_store : StoreGhosts S) (of_sink : SinkGhosts K) (IsD
 
   -- the calls by which the answer is written, after the reads, and those by which it is given
   abbrev IsTold : Answer → Bool → Type 0
-  IsTold answer ok = IsWrittenBy of_store.creates of_store.appends of_store.finishes of_sink.writes answer read out ok
-      store_after out_after
+  IsTold answer ok = IsWrittenBy of_store of_sink answer read out ok store_after out_after
 
   abbrev IsGiven : Giving
   IsGiven = IsGivenBy of_store of_sink store out store_after out_after

@@ -28,10 +28,11 @@ only_broken outcome.Unsettled e = let no : status.Unsettled ≡ status.Broken = 
 
 -- the answer of a report that finds nothing
 nothing_answer : (report : AuditReport) → FindsNothing report →
-    report_answer report ≡ record { status = status.Done; files = []; output = kept_text report }
+    report_answer report ≡ record { status = status.Done; files = []; ahead = 0; output = kept_text report }
 nothing_answer report nothing =
-    ap (λ (o : Outcome). record { status = status_by o; files = []; output = report_text report }) nothing.outcome
-    ∙ ap (λ (t : List ℕ). record { status = status.Done; files = []; output = t }) nothing.text
+    ap (λ (o : Outcome). record { status = status_by o; files = []; ahead = 0; output = report_text report })
+    nothing.outcome
+    ∙ ap (λ (t : List ℕ). record { status = status.Done; files = []; ahead = 0; output = t }) nothing.text
 
 module _ (script : Script) (w : World SealedEntry) (roster : Option (List ℕ)) (files : List (Option (List ℕ)))
     (place : HasLeft script w roster files) (rules : Option (List ℕ)) (name : List ℕ) (source : RuleSource)

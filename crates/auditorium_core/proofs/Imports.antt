@@ -69,14 +69,15 @@ pub use Rattle.auditorium_core.specs.NamedBytes.{AtLast, GivesBytes, max_signed,
 pub use Rattle.auditorium_core.specs.Office.{IsOfficeAnswer, IsOfficeSeed, key_file, made_office, office_parts}
 pub use Rattle.auditorium_core.specs.OfficeCalls.{AreCallsOn, Call, IsCall, IsCallOrOther, IsCutOff, IsLeftSo}
 pub use Rattle.auditorium_core.specs.OfficeCalls.{IsOfficeIn, IsSignedByNumber, IsUsedUp, NumbersRise, ReadsUnsigned}
-pub use Rattle.auditorium_core.specs.OfficeCalls.{UsesNumber, with_next}
+pub use Rattle.auditorium_core.specs.OfficeCalls.{IsSignedInTurn, SignsInTurn, UsesNumber, with_next}
 pub use Rattle.auditorium_core.specs.OfficeFile.{GivesOffice, GivesOfficeOf, GivesUnspent, office_file}
 pub use Rattle.auditorium_core.specs.Order.{AreWhole, ComesFirst, GiveEntries, InEach, IsBefore, IsExact}
 pub use Rattle.auditorium_core.specs.Order.{IsOrderAmong, IsOrderAnswer, IsOrderOf, IsOrderOver, IsOrderOverLogs}
 pub use Rattle.auditorium_core.specs.Order.{IsOrderUnder, IsSettled, IsWordOf, order_parts}
 pub use Rattle.auditorium_core.specs.Outcome.{GivesAnswer, HasDone, IsCutShort, IsGivenBy, IsGivenSomehow, IsWritten}
 pub use Rattle.auditorium_core.specs.Outcome.{IsUnwritten}
-pub use Rattle.auditorium_core.specs.Outcome.{IsWrittenBy, PlacesAll, PutsAll, SetsSome, all_put, fails, finishes}
+pub use Rattle.auditorium_core.specs.Outcome.{IsWrittenBy, PlacesAll, PlacesInTurn, PutsAll, SetsSome, all_put, fails}
+pub use Rattle.auditorium_core.specs.Outcome.{finishes}
 pub use Rattle.auditorium_core.specs.Outcome.{no_files, not_put, puts, with_files}
 pub use Rattle.auditorium_core.specs.Outside.{Outside, StoreSeen, outside, seen}
 pub use Rattle.auditorium_core.specs.Play.{IsPlayAnswer, IsPlayOf, SayUndone, log_file, machine_lines, play_answer}

@@ -55,6 +55,7 @@ pub mod WatchReads
 pub mod WatchSteps
 pub mod WatchCommand
 pub mod WatchAgreement
+pub mod CheckLess
 pub mod HonestWatches
 pub mod CitedLaws
 pub mod Commands
@@ -67,4 +68,5 @@ pub mod OneAnswer
 pub mod Completeness
 pub mod StillAnswers
 pub mod Endings
+pub mod SignedInTurn
 pub mod ReadBack

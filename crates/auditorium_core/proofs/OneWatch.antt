@@ -81,8 +81,9 @@ module _ (names : List (List ℕ)) where
 same_answer : (ss ts : List Summary) (report other : AuditReport) → watch_lines 1 ss ≡ watch_lines 1 ts →
     outcome_of report ≡ outcome_of other → watch_answer ss report ≡ watch_answer ts other
 same_answer ss ts report other lines outcome =
-    ap (λ (text : List ℕ). record { status = status_by (outcome_of report); files = []; output = text }) lines
-    ∙ ap (λ (o : Outcome). record { status = status_by o; files = []; output = watch_lines 1 ts }) outcome
+    ap (λ (text : List ℕ). record { status = status_by (outcome_of report); files = []; ahead = 0; output = text })
+    lines
+    ∙ ap (λ (o : Outcome). record { status = status_by o; files = []; ahead = 0; output = watch_lines 1 ts }) outcome
 
 module _ (order : OrderOne) (readings : RulesAreReadInOneWay) (reports : FilesGiveOneReport) (roster : List ℕ)
     (source : RuleSource) (names : List (List ℕ)) (files : List (Option (List ℕ))) (a b : Evidence)

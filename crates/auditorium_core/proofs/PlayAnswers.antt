@@ -8,18 +8,20 @@ abbrev pub answer_with : List ℕ → List Post → List MachineState → List �
 answer_with prefix posts machines lines undone = record {
   status = status_of_undone undone;
   files = play_files prefix posts machines;
+  ahead = 0;
   output = lines ++ undone;
 }
 
 -- it is made of these parts
 told_with : (prefix : List ℕ) (posts : List Post) (machines : List MachineState) (files : List (List ℕ × List ℕ))
     (made lines text undone : List ℕ) (answer : Answer) → files ≡ play_files prefix posts machines → made ≡ lines →
-    text ≡ undone → answer ≡ record { status = status_of_undone text; files = files; output = made ++ text } →
+    text ≡ undone →
+    answer ≡ record { status = status_of_undone text; files = files; ahead = 0; output = made ++ text } →
     answer ≡ answer_with prefix posts machines lines undone
 told_with prefix posts machines files made lines text undone answer all are same told =
     told
     ∙ ap (λ (fs : List (List ℕ × List ℕ)).
-    record { status = status_of_undone text; files = fs; output = made ++ text }) all
+    record { status = status_of_undone text; files = fs; ahead = 0; output = made ++ text }) all
     ∙ ap (λ (t : List ℕ). answer_with prefix posts machines t text) are
     ∙ ap (answer_with prefix posts machines lines) same
 
@@ -27,7 +29,7 @@ told_with prefix posts machines files made lines text undone answer all are same
 pub told_of_play : (prefix : List ℕ) (posts : List Post) (machines : List MachineState)
     (files : List (List ℕ × List ℕ)) (begin lines text undone : List ℕ) (answer : Answer) →
     files ≡ play_files prefix posts machines → begin ≡ [] → lines ≡ begin ++ machine_lines machines → text ≡ undone →
-    answer ≡ record { status = status_of_undone text; files = files; output = lines ++ text } →
+    answer ≡ record { status = status_of_undone text; files = files; ahead = 0; output = lines ++ text } →
     answer ≡ play_answer prefix posts machines undone
 told_of_play prefix posts machines files begin lines text undone answer all none first same told =
     told_with prefix posts machines files lines (machine_lines machines) text undone answer all
@@ -38,7 +40,7 @@ pub told_of_run : (prefix : List ℕ) (posts : List Post) (machines : List Machi
     (files : List (List ℕ × List ℕ)) (begin lines more text undone : List ℕ) (answer : Answer) →
     files ≡ play_files prefix posts machines → begin ≡ [] → lines ≡ begin ++ machine_lines machines →
     more ≡ lines ++ loss_lines posts losses → text ≡ undone →
-    answer ≡ record { status = status_of_undone text; files = files; output = more ++ text } →
+    answer ≡ record { status = status_of_undone text; files = files; ahead = 0; output = more ++ text } →
     answer ≡ run_answer prefix posts machines losses undone
 told_of_run prefix posts machines losses files begin lines more text undone answer all none first next same told =
     let ms = machine_lines machines in
@@ -50,7 +52,7 @@ pub told_of_repair : (prefix : List ℕ) (posts : List Post) (machines : List Ma
     (files : List (List ℕ × List ℕ)) (begin lines more text undone : List ℕ) (answer : Answer) →
     files ≡ play_files prefix posts machines → begin ≡ [] → lines ≡ begin ++ machine_lines machines →
     more ≡ lines ++ mended_lines posts mended → text ≡ undone →
-    answer ≡ record { status = status_of_undone text; files = files; output = more ++ text } →
+    answer ≡ record { status = status_of_undone text; files = files; ahead = 0; output = more ++ text } →
     answer ≡ repair_answer prefix posts machines mended undone
 told_of_repair prefix posts machines mended files begin lines more text undone answer all none first next same told =
     let ms = machine_lines machines in

@@ -8,7 +8,7 @@ use Rattle.auditorium_core.proofs.Imports.{Contains-none, Contains-head, Contain
 use Rattle.auditorium_core.proofs.Imports.{Cast0, Script, IsLawful, log_text, Config, roster_of, MachineState, AreOf}
 use Rattle.auditorium_core.proofs.Imports.{world_of, written_logs, IsLeftIn, IsWholeIn, IsAnswerTo, IsHonestOrder}
 use Rattle.auditorium_core.proofs.Imports.{LeaveHonestFiles, Answer, with_files, log_file, play_files, audit, order}
-use Rattle.auditorium_core.proofs.Imports.{IsSomeAnd, append_assoc}
+use Rattle.auditorium_core.proofs.Imports.{IsSomeAnd, append_assoc, with_steps}
 use Rattle.std.proofs.Common.{Bool, true, false}
 use Rattle.std.proofs.Common.{length, Option, Some, length-append}
 use Rattle.std.specs.Prelude.{codes}
@@ -23,7 +23,8 @@ use Rattle.honest_logs.proofs.ReadLogs.{whole_is_left}
 use Rattle.honest_reports.specs.Places.{HasLeft}
 use Rattle.auditorium_core.specs.HonestAudit.{TellsAllKept}
 use Rattle.auditorium_core.specs.Play.{machine_log_name, roster_file, roster_name}
-use Rattle.auditorium_core.specs.ReadBack.{AreReadBack, PlaysAreReadBack, RunsAreReadBack, log_names}
+use Rattle.auditorium_core.specs.ReadBack.{AreReadBack, PlaysAreReadBack, RepairsAreReadBack, RunsAreReadBack}
+use Rattle.auditorium_core.specs.ReadBack.{log_names}
 
 -- ---- files that are set
 
@@ -304,6 +305,17 @@ plays_are_read_back prefix script answer is apart before =
     (read_back prefix script is.machines (world_of is.machines) is.honest
     (own_names script is.honest.roster.lawful is.machines (named_of_play script is.machines is.played.are_of)) apart
     before)
+
+-- the files of a repair are read back
+pub repairs_are_read_back : RepairsAreReadBack
+repairs_are_read_back prefix script answer is apart before =
+    let steps = is.mended ++ is.finished in
+    subst (λ (files : List (List ℕ × List ℕ)). AreReadBack prefix script is.machines (world_of is.machines)
+    (with_files (Some before) files))
+    (sym (ap (λ (a : Answer). a.files) is.told))
+    (read_back prefix script is.machines (world_of is.machines) is.honest
+    (own_names script is.honest.roster.lawful is.machines
+    (named_of_play (with_steps steps script) is.machines is.played.are_of)) apart before)
 
 -- the files of a run are read back
 pub runs_are_read_back : RunsAreReadBack

@@ -382,6 +382,7 @@ module _ (machines : List Post) (word : List ℕ) (rules : List Rule) (logs : Li
               (list_any is_unsettled live.summary.verdicts)
               (list_any log_has_finding logs || graph_has_finding graph));
           files = [];
+          ahead = 0;
           output = text;
         } →
         Watches (source_named word) names (evidence_by machines rules logs) (Ok answer)
@@ -401,8 +402,10 @@ module _ (machines : List Post) (word : List ℕ) (rules : List Rule) (logs : Li
         (list_any log_has_finding logs || b)) in
         let is_told : answer ≡ watch_answer ss report =
         made
-        ∙ ap (λ (b : Bool). record { status = ends b; files = []; output = text }) (same_findings graph a.graph same)
-        ∙ ap (λ (t : List ℕ). record { status = ends (graph_has_finding a.graph); files = []; output = t }) lines in
+        ∙ ap (λ (b : Bool). record { status = ends b; files = []; ahead = 0; output = text })
+        (same_findings graph a.graph same)
+        ∙ ap (λ (t : List ℕ). record { status = ends (graph_has_finding a.graph); files = []; ahead = 0; output = t })
+        lines in
         inl (a.graph, a.graphed, inl (ss, (few, said), inl (report, inl (verdicts, a.judged, refl), ap Ok is_told)))
 
 -- what is said by the machines and the rules of an audit is said by those that it was made of

@@ -120,6 +120,7 @@ abbrev pub check_answer : List RuleTree → List Verdict → Answer
 check_answer rules verdicts = record {
   status = checked_status (verdict_on_all verdicts);
   files = [];
+  ahead = 0;
   output = checked_text rules verdicts;
 }
 

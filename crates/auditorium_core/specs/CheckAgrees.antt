@@ -1,5 +1,6 @@
 -- What a check by the proof that `prove` writes has in common with an audit.
-use Rattle.std.specs.Prelude.{◌≡◌, ℕ, List, [], ◌∷◌, ◌++◌, map, Option, Some, Ok}
+use Rattle.std.specs.Prelude.{◌≡◌, ◌⊎◌, ℕ, List, [], ◌∷◌, ◌++◌, map, Option, Some, Ok}
+use Rattle.std.specs.List.{AllZip}
 use Rattle.rule_engine.specs.declared.verdict.Verdict.{Verdict as AuditVerdict}
 use Rattle.rule_engine.specs.declared.verdict.Verdict.TheVariants as audited
 use Rattle.audit_proof.specs.declared.fault.Verdict.{Verdict}
@@ -11,6 +12,7 @@ use Rattle.auditorium_core.specs.Lines.{Answer}
 use Rattle.auditorium_core.specs.Audit.{source_named, IsSound}
 use Rattle.auditorium_core.specs.Prove.{IsProofOver}
 use Rattle.auditorium_core.specs.Check.{IsCheckOver, check_answer}
+use Rattle.auditorium_core.specs.HonestAudit.{IsOfReport}
 
 -- what an audit answers of a rule, without the entries by which it is broken
 abbrev pub without_entries : AuditVerdict → Verdict
@@ -37,3 +39,25 @@ ChecksAgreeWithAudits =
     IsCheckOver roster rules proof logs
     (files_read roster_file (source_named rules) rules_file (log_files ++ Some text ∷ [])) checked →
     HasVerdictsOf report checked
+
+-- a verdict by a proof is the audit's, or unsettled
+abbrev pub SaysNoMore : AuditVerdict → Verdict → Type 0
+SaysNoMore verdict by_proof = (by_proof ≡ Unsettled) ⊎ (by_proof ≡ without_entries verdict)
+
+-- the answer has a verdict for each rule of the report, which is the report's, or unsettled
+pub record HasNoMoreVerdictsThan (report : AuditReport) (checked : Answer) : Type 0 where
+  pub verdicts : List Verdict
+  pub less : AllZip SaysNoMore report.verdicts verdicts
+  pub told : checked ≡ check_answer report.rules verdicts
+
+-- Whoever made the proof, and whatever lines it lacks: where the files give an audit a report, and
+-- `check` isn't refused, `check` says of each rule what the audit says, or that it is unsettled.
+abbrev pub ChecksSayNoMore : Type 0
+ChecksSayNoMore =
+    (roster rules proof : List ℕ) (logs : List (List ℕ)) (roster_file rules_file proof_file : Option (List ℕ))
+    (log_files : List (Option (List ℕ))) (checked : Answer) (report : AuditReport) →
+    GivesReport roster (source_named rules) logs
+    (files_read roster_file (source_named rules) rules_file log_files) (Ok report) →
+    IsCheckOver roster rules proof logs
+    (files_read roster_file (source_named rules) rules_file (log_files ++ proof_file ∷ [])) checked →
+    IsOfReport checked.status → HasNoMoreVerdictsThan report checked

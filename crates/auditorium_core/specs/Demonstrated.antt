@@ -38,6 +38,7 @@ abbrev pub demonstration_answer : ℕ → Demonstration → Answer
 demonstration_answer sessions shown = record {
   status = status_by shown.outcome;
   files = [];
+  ahead = 0;
   output = demonstration_text sessions shown;
 }
 

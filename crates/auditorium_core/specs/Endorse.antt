@@ -35,12 +35,13 @@ abbrev pub endorsed_line : List ℕ → ℕ → List ℕ
 endorsed_line file number = line (codes "endorsed " ++ file ++ codes " " ++ decimal number)
 
 -- the signature has the office's next number, which is used up: the office's file, with the number
--- after it, is the first that is written
+-- after it, is put in place before the signature's is begun
 abbrev pub endorse_answer : List ℕ → List ℕ → Unsigned → Answer
 endorse_answer name file read = record {
   status = status.Done;
   files = (office_file name, office_text (next_office read.office))
       ∷ (signature_file file, endorsement name read.office read.bytes) ∷ [];
+  ahead = 1;
   output = endorsed_line file read.office.next;
 }
 

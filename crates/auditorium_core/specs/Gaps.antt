@@ -26,7 +26,7 @@ status_of (byte ∷ bytes) = status.Findings
 
 -- an answer of these lines
 abbrev pub findings_answer : List ℕ → Answer
-findings_answer lines = record { status = status_of lines; files = []; output = lines }
+findings_answer lines = record { status = status_of lines; files = []; ahead = 0; output = lines }
 
 -- the answer where the log is refused; a failed read and running out of memory have none
 abbrev pub IsRefusal : List ℕ → LogFault → Answer → Type 0

@@ -57,7 +57,7 @@ pub record TellsAllKept (script : Script) (w : World SealedEntry) (names : List 
     (files : List (Option (List ℕ))) (answer : Answer) : Type 0 where
   pub report : AuditReport
   pub honest : IsHonestReport script w names files report
-  pub told : answer ≡ record { status = status.Done; files = []; output = kept_text report }
+  pub told : answer ≡ record { status = status.Done; files = []; ahead = 0; output = kept_text report }
 
 -- The answer is an honest one where different entries of w have different digests. By the standard
 -- rules, over all logs of w and where each of the files is a whole log, it finds nothing. A report

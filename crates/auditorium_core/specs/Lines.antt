@@ -7,16 +7,17 @@ use Rattle.auditorium_core.specs.declared.order_word.OrderWord.TheVariants.{Same
 use Rattle.auditorium_core.specs.declared.status.Status.{Status}
 use Rattle.auditorium_core.specs.declared.status.Status.TheVariants as status
 
--- an answer: how the program ends, the files with their bytes in the order of writing, and the
--- output
+-- an answer: how the program ends, the files with their bytes in the order of writing, how many of
+-- them are put in place before the others are begun, and the output
 pub record Answer : Type 0 where
   pub status : Status
   pub files : List (List ℕ × List ℕ)
+  pub ahead : ℕ
   pub output : List ℕ
 
 -- an answer whose output is this one line
 abbrev pub line_answer : Status → List ℕ → Answer
-line_answer how text = record { status = how; files = []; output = line text }
+line_answer how text = record { status = how; files = []; ahead = 0; output = line text }
 
 -- the answer to an invalid command line
 abbrev pub usage_answer : Answer

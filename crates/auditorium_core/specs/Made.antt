@@ -10,7 +10,7 @@ use Rattle.auditorium_core.specs.CommandParts.{CommandParts, OnNoFile}
 
 -- the text of the script of a day of this number of sessions
 abbrev pub made_answer : ℕ → Answer
-made_answer sessions = record { status = status.Done; files = []; output = script_text (generated sessions) }
+made_answer sessions = record { status = status.Done; files = []; ahead = 0; output = script_text (generated sessions) }
 
 -- `make N`
 abbrev pub make_parts : ℕ → CommandParts

@@ -24,6 +24,7 @@ abbrev pub made_office : List ℕ → List ℕ → Answer
 made_office name seed = record {
   status = status.Done;
   files = (office_file name, office_text (office_of seed 0)) ∷ (key_file name, office_public name seed) ∷ [];
+  ahead = 0;
   output = line (codes "office " ++ name);
 }
 

@@ -1,15 +1,18 @@
 -- What calls of the program leave of an office's file and of its signatures, on a store that
 -- exposes its files.
-use Rattle.std.specs.Prelude.{◌≡◌, ◌≢◌, ◌⊎◌, ℕ, ◌<◌, List, [], ◌∷◌, length, take, Some, Ok, IsSomeAnd, ⊤}
+use Rattle.std.specs.Prelude.{◌≡◌, ◌≢◌, ◌⊎◌, ℕ, ◌<◌, Bool, true, List, [], ◌∷◌, length, take, Some, Ok, IsSomeAnd, ⊤}
 use Rattle.std.specs.List.{AllPairs}
 use Rattle.hall_outside.specs.Files.{Files, file_set}
+use Rattle.hall_outside.specs.declared.stores.Store.{Ghosts as StoreGhosts}
+use Rattle.evidence.specs.NamedFiles.{OnExposed}
 use Rattle.office_key.specs.declared.office.Office.{Office}
 use Rattle.office_key.specs.Endorsements.{endorsement}
 use Rattle.office_key.specs.Offices.{IsOffice, office_text, next_office}
 use Rattle.auditorium_core.specs.declared.status.Status.{Status}
-use Rattle.auditorium_core.specs.Endorse.{GivesUnsigned, Unsigned, signature_file}
+use Rattle.auditorium_core.specs.declared.status.Status.TheVariants.{Done}
+use Rattle.auditorium_core.specs.Endorse.{GivesUnsigned, Unsigned, endorse_answer, signature_file}
 use Rattle.auditorium_core.specs.OfficeFile.{office_file}
-use Rattle.auditorium_core.specs.Outcome.{HasDone, IsGivenSomehow}
+use Rattle.auditorium_core.specs.Outcome.{HasDone, IsGivenSomehow, PlacesInTurn}
 use Rattle.auditorium_core.specs.Outside.{Outside}
 use Rattle.auditorium_core.specs.Words.{Command, Means, endorse, endorsed, office}
 
@@ -55,6 +58,21 @@ abbrev pub IsSignedByNumber : List ℕ → List ℕ → Files → Files → Type
 IsSignedByNumber name file before after =
     after (signature_file file) ≢ before (signature_file file) →
     (read : Unsigned) × ReadsUnsigned before name file read × IsOfficeIn after name (next_office read.office)
+
+-- `endorse` read this, from files that are exposed or from some, and then put the office's file with
+-- the next number in place, and only after that begun the signature's
+abbrev pub SignsInTurn : {S : Type 0} → StoreGhosts S → List ℕ → List ℕ → S → Bool → S → Type 0
+SignsInTurn {S} of name file old ok new =
+    (read : Unsigned)
+    × OnExposed (of.files old) (office_file name ∷ file ∷ []) (λ files. GivesUnsigned name file files (Ok read))
+    × (mid : S) × (of.files mid ≡ of.files old) × PlacesInTurn of (endorse_answer name file read) mid ok new
+
+-- On any store, a call of `endorse` that is done has made these calls, and so has one in which a write
+-- of the store failed, up to that.
+pub record IsSignedInTurn {S : Type 0} (of : StoreGhosts S) (name file : List ℕ) (old : S) (how : Status) (new : S)
+    : Type 0 where
+  pub done : how ≡ Done → SignsInTurn of name file old true new
+  pub failed : of.write_faults old < of.write_faults new → (ok : Bool) × SignsInTurn of name file old ok new
 
 -- a call of the program on a store that exposes its files
 pub record Call : Type 0 where

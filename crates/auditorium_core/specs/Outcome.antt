@@ -1,5 +1,5 @@
 -- What the program has done, by the status with which it ends.
-use Rattle.std.specs.Prelude.{◌≡◌, ℕ, List, [], ◌∷◌, Option, ◌⊎◌, Bool, true, false, Result}
+use Rattle.std.specs.Prelude.{◌≡◌, ℕ, List, [], ◌∷◌, take, drop, Option, ◌⊎◌, Bool, true, false, Result}
 use Rattle.hall_outside.specs.Counts.{HasRisen}
 use Rattle.hall_outside.specs.Files.{Files, with_file, SetsPrefix}
 use Rattle.hall_outside.specs.Writing.{appended, AppendsPrefix, OffersAll, PutsFile}
@@ -50,16 +50,24 @@ pub data PlacesAll {S : Type 0} (create : List ℕ → S → Bool → S → Type
       → PutsAll create append old (file ∷ files) true mid → finish mid ok new
       → PlacesAll create append finish old (file ∷ files) ok new
 
+-- The calls by which an answer's files are put in place: those that are ahead, and once the store
+-- has them, and nothing else has changed, the others. The first call that fails is the last.
+abbrev pub PlacesInTurn : {S : Type 0} → StoreGhosts S → Answer → S → Bool → S → Type 0
+PlacesInTurn {S} of answer old ok new =
+    (PlacesAll of.creates of.appends of.finishes old (take answer.ahead answer.files) false new × (ok ≡ false))
+    ⊎ ((mid : S) × PlacesAll of.creates of.appends of.finishes old (take answer.ahead answer.files) true mid
+    × (of.files mid ≡ with_files (of.files old) (take answer.ahead answer.files))
+    × PlacesAll of.creates of.appends of.finishes mid (drop answer.ahead answer.files) ok new)
+
 -- The calls by which an answer is written: each file by one create and by appends, one finish after
--- the last file, and then the output by writes, each append and write being offered all that is
--- left. The first call that fails is the last.
-abbrev pub IsWrittenBy : {S K : Type 0} → (List ℕ → S → Bool → S → Type 0)
-    → (List ℕ → S → List ℕ → Result ℕ Failed → S → Type 0) → (S → Bool → S → Type 0)
-    → (K → List ℕ → Result ℕ Failed → K → Type 0) → Answer → S → K → Bool → S → K → Type 0
-IsWrittenBy create append finish write answer store out ok store_after out_after =
-    (PlacesAll create append finish store answer.files false store_after × (out_after ≡ out) × (ok ≡ false))
-    ⊎ (PlacesAll create append finish store answer.files true store_after
-    × OffersAll write out answer.output ok out_after)
+-- the files that are ahead and one after the others, if there are any, and then the output by
+-- writes, each append and write being offered all that is left. The first call that fails is the
+-- last.
+abbrev pub IsWrittenBy : {S K : Type 0} → StoreGhosts S → SinkGhosts K → Answer → S → K → Bool → S → K → Type 0
+IsWrittenBy of_store of_sink answer store out ok store_after out_after =
+    (PlacesInTurn of_store answer store false store_after × (out_after ≡ out) × (ok ≡ false))
+    ⊎ (PlacesInTurn of_store answer store true store_after
+    × OffersAll of_sink.writes out answer.output ok out_after)
 
 -- The calls by which an answer is given: files of these names are read, the first ones in their
 -- order, and this holds of all files that are such as was found; then the answer is written, from
@@ -69,8 +77,7 @@ abbrev pub IsGivenBy : {S K : Type 0} → StoreGhosts S → SinkGhosts K → S �
 IsGivenBy {S} of_store of_sink store out store_after out_after answer ok names P =
     (read : S) × OnRead of_store names P store read × (of_store.files read ≡ of_store.files store)
     × (of_store.write_faults read ≡ of_store.write_faults store)
-    × IsWrittenBy of_store.creates of_store.appends of_store.finishes of_sink.writes answer read out ok store_after
-    out_after
+    × IsWrittenBy of_store of_sink answer read out ok store_after out_after
 
 -- an answer is given by whatever calls; this holds of the exposed files of these names
 abbrev pub IsGivenSomehow : Outside → Answer → Bool → List (List ℕ) → (List (Option (List ℕ)) → Type 0) → Type 0

@@ -85,6 +85,7 @@ abbrev pub play_answer : List ℕ → List Post → List MachineState → List �
 play_answer prefix roster machines undone = record {
   status = status_of_undone undone;
   files = play_files prefix roster machines;
+  ahead = 0;
   output = machine_lines machines ++ undone;
 }
 

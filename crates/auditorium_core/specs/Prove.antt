@@ -46,6 +46,7 @@ abbrev pub proof_answer : List ℕ → ProofMade → Answer
 proof_answer proof made = record {
   status = status.Done;
   files = (proof, made.text) ∷ [];
+  ahead = 0;
   output = line (codes "proof " ++ proof ++ codes " entries " ++ decimal made.entries
       ++ codes " bytes " ++ decimal (length made.text));
 }

@@ -1,5 +1,5 @@
--- What `audit` and `order` answer over the files that `play` or `run` wrote, read back by their
--- names.
+-- What `audit` and `order` answer over the files that `play`, `repair` or `run` wrote, read back by
+-- their names.
 use Rattle.std.specs.Prelude.{ℕ, List, map, codes, Option, Some}
 use Rattle.hall_outside.specs.Files.{Files}
 use Rattle.entry_format.specs.Nodes.{node_of_sealed}
@@ -16,6 +16,7 @@ use Rattle.auditorium_core.specs.HonestAudit.{TellsAllKept}
 use Rattle.auditorium_core.specs.Lines.{Answer}
 use Rattle.auditorium_core.specs.Outcome.{with_files}
 use Rattle.auditorium_core.specs.Play.{IsPlayOf, machine_log_name, roster_name}
+use Rattle.auditorium_core.specs.Repair.{IsRepairOf}
 use Rattle.auditorium_core.specs.Run.{IsRunOf}
 use Rattle.auditorium_core.specs.Words.{audit, order}
 
@@ -41,6 +42,14 @@ pub record AreReadBack (prefix : List ℕ) (script : Script) (machines : List Ma
 abbrev pub PlaysAreReadBack : Type 0
 PlaysAreReadBack =
     (prefix : List ℕ) (script : Script) (answer : Answer) (is : IsPlayOf prefix script answer) →
+    Distinct node_of_sealed (sent_in (world_of is.machines)) → (before : Files) →
+    AreReadBack prefix script is.machines (world_of is.machines) (with_files (Some before) answer.files)
+
+-- where different entries have different digests, the files that a repair wrote, whatever was there
+-- before, are read back
+abbrev pub RepairsAreReadBack : Type 0
+RepairsAreReadBack =
+    (prefix : List ℕ) (script : Script) (answer : Answer) (is : IsRepairOf prefix script answer) →
     Distinct node_of_sealed (sent_in (world_of is.machines)) → (before : Files) →
     AreReadBack prefix script is.machines (world_of is.machines) (with_files (Some before) answer.files)
 

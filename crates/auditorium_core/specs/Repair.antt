@@ -61,6 +61,7 @@ abbrev pub repair_answer : List ℕ → List Post → List MachineState → List
 repair_answer prefix roster machines mended undone = record {
   status = status_of_undone undone;
   files = play_files prefix roster machines;
+  ahead = 0;
   output = machine_lines machines ++ mended_lines roster mended ++ undone;
 }
 

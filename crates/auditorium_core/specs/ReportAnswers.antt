@@ -23,4 +23,9 @@ report_statuses =
 
 -- the answer of a report
 abbrev pub report_answer : AuditReport → Answer
-report_answer report = record { status = status_by (outcome_of report); files = []; output = report_text report }
+report_answer report = record {
+  status = status_by (outcome_of report);
+  files = [];
+  ahead = 0;
+  output = report_text report;
+}

@@ -42,6 +42,7 @@ abbrev pub run_answer : List ℕ → List Post → List MachineState → List Lo
 run_answer prefix roster machines losses undone = record {
   status = status_of_undone undone;
   files = play_files prefix roster machines;
+  ahead = 0;
   output = machine_lines machines ++ loss_lines roster losses ++ undone;
 }
 

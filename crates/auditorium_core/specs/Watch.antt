@@ -98,6 +98,7 @@ abbrev pub watch_answer : List Summary → AuditReport → Answer
 watch_answer summaries report = record {
   status = status_by (outcome_of report);
   files = [];
+  ahead = 0;
   output = watch_lines 1 summaries;
 }
 

@@ -1,5 +1,18 @@
 // Answers: what is to be written, and how the program ends then.
-ghost use Rattle.std.specs.Prelude.{◌≡◌, ◌↔◌, ◌++◌, [], IfErr, IfOk, IsSomeAnd, string_bytes};
+ghost use Rattle.std.specs.Prelude.{
+  ◌≡◌,
+  ◌≤◌,
+  ◌↔◌,
+  ◌++◌,
+  [],
+  IfErr,
+  IfOk,
+  IsSomeAnd,
+  drop,
+  string_bytes,
+  take,
+  vec_len,
+};
 ghost use Rattle.evidence.specs.Refusal.{refusal_of};
 ghost use Rattle.auditorium_core.specs.declared.status.Status.TheVariants.{Done};
 ghost use Rattle.auditorium_core.specs.Lines.{usage_answer, absent_answer, refused_answer};
@@ -55,10 +68,12 @@ impl OutputFile {
 pub(crate) struct Answer {
     status: Status,
     files: Vec<OutputFile>,
+    ahead: usize,
     output: Vec<u8>,
 }
 
 impl Model for Answer {
+    ghost use Rattle.std.specs.Prelude.{◌≤◌, vec_len};
     ghost use Rattle.auditorium_core.specs.Lines.{Answer};
 
     ghost Value = { Answer };
@@ -66,8 +81,11 @@ impl Model for Answer {
     ghost view = { λ a. record {
       status = a.status;
       files = a.files.items;
+      ahead = a.ahead;
       output = a.output.items;
     } };
+
+    ghost invariant = { λ a. a.ahead ≤ vec_len a.files };
 }
 
 impl Answer {
@@ -82,6 +100,7 @@ impl Answer {
                 Status::Findings
             },
             files: Vec::new(alloc),
+            ahead: 0,
             output: lines.into_bytes(),
         }
     }
@@ -91,12 +110,28 @@ impl Answer {
         ensures { result ≡ record {
           status = Done;
           files = files.items;
+          ahead = 0;
+          output = string_bytes lines;
+        } }
+    {
+        Answer::of_files_in_turn(files, 0, lines)
+    }
+
+    /// The answer that writes these files, so many of them ahead of the others, and prints these
+    /// lines.
+    pub fn of_files_in_turn(files: Vec<OutputFile>, ahead: usize, lines: String) -> Answer
+        requires { ahead ≤ vec_len files }
+        ensures { result ≡ record {
+          status = Done;
+          files = files.items;
+          ahead = ahead;
           output = string_bytes lines;
         } }
     {
         Answer {
             status: Status::Done,
             files,
+            ahead,
             output: lines.into_bytes(),
         }
     }
@@ -110,6 +145,7 @@ impl Answer {
         ensures { IfOk result (λ answer. answer ≡ record {
           status = status_of_undone undone.now;
           files = files.items;
+          ahead = 0;
           output = string_bytes lines ++ undone.now;
         }) }
     {
@@ -121,6 +157,7 @@ impl Answer {
                 Status::Undone
             },
             files,
+            ahead: 0,
             output: lines.into_bytes(),
         })
     }
@@ -132,6 +169,7 @@ impl Answer {
         Ok(Answer {
             status: Status::Usage,
             files: Vec::new(alloc),
+            ahead: 0,
             output: format!(in alloc; "usage\n")?.into_bytes(),
         })
     }
@@ -143,6 +181,7 @@ impl Answer {
         Ok(Answer {
             status: Status::Absent,
             files: Vec::new(alloc),
+            ahead: 0,
             output: format!(in alloc; "absent {name}\n")?.into_bytes(),
         })
     }
@@ -154,17 +193,24 @@ impl Answer {
         Ok(Answer {
             status: Status::Refused,
             files: Vec::new(alloc),
+            ahead: 0,
             output: format!(in alloc; "refused {name} {place} {cause}\n")?.into_bytes(),
         })
     }
 
     /// The answer with this status and output, which writes no file.
     pub fn of_text(alloc: Global, status: Status, output: Vec<u8>) -> Answer
-        ensures { result ≡ record { status = status; files = []; output = output.items } }
+        ensures { result ≡ record {
+          status = status;
+          files = [];
+          ahead = 0;
+          output = output.items;
+        } }
     {
         Answer {
             status,
             files: Vec::new(alloc),
+            ahead: 0,
             output,
         }
     }
@@ -176,6 +222,7 @@ impl Answer {
         Ok(Answer {
             status: Status::Done,
             files: Vec::new(alloc),
+            ahead: 0,
             output: format!(in alloc; "{text}\n")?.into_bytes(),
         })
     }
@@ -205,11 +252,18 @@ impl Answer {
         self.status
     }
 
-    /// The files to be written, in order.
-    pub fn files(&self) -> &[OutputFile]
-        ensures { result.now ≡ self.now.files }
+    /// The files that are put in place before the others are begun, in order.
+    pub fn files_ahead(&self) -> &[OutputFile]
+        ensures { result.now ≡ take self.now.ahead self.now.files }
     {
-        self.files.as_slice()
+        &self.files[..self.ahead]
+    }
+
+    /// The others, in order.
+    pub fn other_files(&self) -> &[OutputFile]
+        ensures { result.now ≡ drop self.now.ahead self.now.files }
+    {
+        &self.files[self.ahead..]
     }
 
     /// The whole output.

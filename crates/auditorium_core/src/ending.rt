@@ -15,8 +15,7 @@ pub(crate) fn end_with<S: Store, K: Sink>(
     out: &mut K,
 ) -> Status
     ensures { EndsWith answer
-        (λ told ok. IsWrittenBy S.creates S.appends S.finishes K.writes told store.old out.old ok
-        store.new out.new)
+        (λ told ok. IsWrittenBy S.Store K.Sink told store.old out.old ok store.new out.new)
         (outside S.Store K.Sink store.old out.old) result
         (outside S.Store K.Sink store.new out.new) }
 {

@@ -106,7 +106,8 @@ fn signed(
     let mut files = Vec::new(alloc);
     files.push(OutputFile::new(office, text))?;
     files.push(OutputFile::new(signature_file, signature))?;
-    Ok(Answer::of_files(files, line_of(alloc, file, number)?))
+    // The number is used up on the disk before a signature with it can be there.
+    Ok(Answer::of_files_in_turn(files, 1, line_of(alloc, file, number)?))
 }
 
 /// The answer of `endorse` for the office of this name and this file.

@@ -8,9 +8,13 @@ ghost use Rattle.auditorium_core.specs.Words.{run, IsAny, IsStill, Means};
 ghost use Rattle.auditorium_core.specs.Answer.{AnswersWords, HasItsWords};
 ghost use Rattle.auditorium_core.specs.Outcome.{HasDone, IsGivenBy, IsGivenSomehow};
 ghost use Rattle.auditorium_core.specs.Outside.{Outside, outside};
-ghost use Rattle.auditorium_core.specs.CheckAgrees.{ChecksAgreeWithAudits};
+ghost use Rattle.auditorium_core.specs.CheckAgrees.{ChecksAgreeWithAudits, ChecksSayNoMore};
 ghost use Rattle.auditorium_core.specs.Complete.{IsComplete};
-ghost use Rattle.auditorium_core.specs.ReadBack.{PlaysAreReadBack, RunsAreReadBack};
+ghost use Rattle.auditorium_core.specs.ReadBack.{
+  PlaysAreReadBack,
+  RepairsAreReadBack,
+  RunsAreReadBack,
+};
 
 use audit_proof::{one_text_is_canonical, proofs_are_read_in_one_way};
 use auditor::files_give_one_report;
@@ -82,6 +86,18 @@ pub fn checks_agree_with_audits()
     rules_are_read_in_one_way();
 }
 
+/// `check` by any proof, whoever made it, says of each rule what `audit` says, or that it is
+/// unsettled. It does nothing.
+pub fn checks_say_no_more()
+    ensures { ChecksSayNoMore }
+{
+    roster_files_give_one_answer();
+    log_files_give_one_answer();
+    entries_give_one_graph();
+    survivors_are_sound();
+    rules_are_read_in_one_way();
+}
+
 /// What the program has done for files as they were read it has done over the exposed files. So the
 /// other laws hold of it. It does nothing.
 pub fn answers_are_over_exposed_files<S: Store, K: Sink>()
@@ -125,9 +141,10 @@ pub fn answers_are_complete()
 }
 
 /// Where different entries have different digests, `audit` by the standard rules over exactly the
-/// files that a play or a run wrote, read back by their names, says of each rule that it is kept,
+/// files that a play, a repair or a run wrote, read back by their names, says of each rule that it is kept,
 /// with the status `Done`, and `order` says what the machines held. It does nothing.
 pub fn written_files_are_read_back()
     ensures play { PlaysAreReadBack }
+    ensures repair { RepairsAreReadBack }
     ensures run { RunsAreReadBack }
 {}

@@ -38,7 +38,7 @@ mod writing;
 
 pub use laws::{
     answers_are_complete, answers_are_over_exposed_files, checks_agree_with_audits,
-    one_answer_is_right, only_runs_need_threads, statuses_have_their_words,
+    checks_say_no_more, one_answer_is_right, only_runs_need_threads, statuses_have_their_words,
     written_files_are_read_back,
 };
 pub use office_laws::{

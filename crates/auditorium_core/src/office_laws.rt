@@ -5,13 +5,18 @@ ghost use Rattle.hall_outside.specs.Files.{Files};
 ghost use Rattle.office_key.specs.Endorsements.{endorsement, office_public};
 ghost use Rattle.office_key.specs.Offices.{max_signatures};
 ghost use Rattle.office_key.specs.declared.office.Office.{Office};
+ghost use Rattle.auditorium_core.specs.declared.status.Status.{Status};
 ghost use Rattle.auditorium_core.specs.declared.status.Status.TheVariants.{Done};
 ghost use Rattle.auditorium_core.specs.Endorsed.{IsEndorsedAnswer};
 ghost use Rattle.auditorium_core.specs.Lines.{Answer, line_answer};
 ghost use Rattle.auditorium_core.specs.NamedBytes.{max_signed};
 ghost use Rattle.auditorium_core.specs.OfficeCalls.{AreCallsOn, Call, IsCall, IsLeftSo};
-ghost use Rattle.auditorium_core.specs.OfficeCalls.{IsSignedByNumber, NumbersRise};
+ghost use Rattle.auditorium_core.specs.OfficeCalls.{IsSignedByNumber, IsSignedInTurn, NumbersRise};
+ghost use Rattle.auditorium_core.specs.Outcome.{HasDone, IsGivenBy};
+ghost use Rattle.auditorium_core.specs.Outside.{outside};
 ghost use Rattle.auditorium_core.specs.Words.{IsAny, IsStill, Means, endorse};
+
+use hall_outside::{Sink, Store};
 
 /// What `endorse` writes `endorsed` calls good, with the public key that `office` wrote and the
 /// bytes that were read. It does nothing.
@@ -42,4 +47,20 @@ pub fn numbers_sign_once()
         AreCallsOn IsAny name files calls → NumbersRise name calls }
     ensures still { (name : List ℕ) (files : Files) (calls : List Call) →
         AreCallsOn IsStill name files calls → NumbersRise name calls }
+{}
+
+/// On any store, a call of `endorse` has the office's file with the next number put in place before
+/// the signature's file is begun. So no power cut leaves a signature whose number is used again. It
+/// does nothing.
+pub fn numbers_are_in_place_first<S: Store, K: Sink>()
+    ensures any { (words : List (List ℕ)) (name file : List ℕ) (store store_after : S)
+        (out out_after : K) (how : Status) → Means words (endorse name file) →
+        HasDone IsAny words (IsGivenBy S.Store K.Sink store out store_after out_after)
+        (outside S.Store K.Sink store out) how (outside S.Store K.Sink store_after out_after) →
+        IsSignedInTurn S.Store name file store how store_after }
+    ensures still { (words : List (List ℕ)) (name file : List ℕ) (store store_after : S)
+        (out out_after : K) (how : Status) → Means words (endorse name file) →
+        HasDone IsStill words (IsGivenBy S.Store K.Sink store out store_after out_after)
+        (outside S.Store K.Sink store out) how (outside S.Store K.Sink store_after out_after) →
+        IsSignedInTurn S.Store name file store how store_after }
 {}

@@ -340,6 +340,7 @@ fn answer_of(alloc: Global, logs: &[LogRead], graph: &Graph, live: &Live, lines:
           (list_any is_unsettled live.now.summary.verdicts)
           (list_any log_has_finding logs.now || graph_has_finding graph.now));
       files = [];
+      ahead = 0;
       output = string_bytes lines;
     } }
 {

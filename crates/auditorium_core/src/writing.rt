@@ -2,7 +2,7 @@
 ghost use Rattle.std.specs.Prelude.{◌≡◌, is_ok, IsErr, OnOk, OnErr};
 ghost use Rattle.hall_outside.specs.Counts.{HasCause};
 ghost use Rattle.auditorium_core.specs.Outcome.{with_files, SetsSome};
-ghost use Rattle.auditorium_core.specs.Outcome.{PutsAll, PlacesAll, IsWrittenBy};
+ghost use Rattle.auditorium_core.specs.Outcome.{PutsAll, PlacesAll, PlacesInTurn, IsWrittenBy};
 ghost use Rattle.auditorium_core.specs.Outcome.{IsWritten, IsCutShort};
 ghost use Rattle.auditorium_core.specs.Outside.{outside};
 
@@ -41,6 +41,22 @@ fn place_files<S: Store>(store: &mut S, files: &[OutputFile]) -> Result<(), Fail
     store.finish()
 }
 
+/// Writes the answer's files: those that are ahead, and once they are in place the others. It takes
+/// no memory.
+fn place_in_turn<S: Store>(store: &mut S, answer: &Answer) -> Result<(), Failed>
+    ensures ok { OnOk result
+        (S.files store.new ≡ with_files (S.files store.old) answer.now.files) }
+    ensures err { OnErr result
+        (SetsSome (S.files store.old) answer.now.files (S.files store.new)) }
+    ensures cause { HasCause (S.write_faults store.old) (S.write_faults store.new) (IsErr result) }
+    ensures answered { S.answered store.new ≡ S.answered store.old }
+    ensures read_faults { S.read_faults store.new ≡ S.read_faults store.old }
+    ensures calls { PlacesInTurn S.Store answer.now store.old (is_ok result) store.new }
+{
+    place_files(store, answer.files_ahead())?;
+    place_files(store, answer.other_files())
+}
+
 /// Writes the answer: first its files, then its output. It takes no memory.
 pub(crate) fn write_answer<S: Store, K: Sink>(
     answer: &Answer,
@@ -54,9 +70,9 @@ pub(crate) fn write_answer<S: Store, K: Sink>(
         (outside S.Store K.Sink store.old out.old)
         (outside S.Store K.Sink store.new out.new)) }
     ensures answered { S.answered store.new ≡ S.answered store.old }
-    ensures calls { IsWrittenBy S.creates S.appends S.finishes K.writes answer.now store.old
-        out.old (is_ok result) store.new out.new }
+    ensures calls { IsWrittenBy S.Store K.Sink answer.now store.old out.old (is_ok result)
+        store.new out.new }
 {
-    place_files(store, answer.files())?;
+    place_in_turn(store, answer)?;
     write_all(out, answer.output())
 }

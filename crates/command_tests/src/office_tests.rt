@@ -190,8 +190,9 @@ const STOPS: &str = "\
 1|0|-|0 endorsed f 0
 2||-|5 refused o.office 0 Office
 3|1|-|0 endorsed f 1
-4|1|0|0 endorsed f 1
-5|1|4916|0 endorsed f 1";
+4|1|-|0 endorsed f 1
+5|1|0|0 endorsed f 1
+6|1|4916|0 endorsed f 1";
 
 /// Whether the office's file has this number, or nothing where there is none.
 fn has_number(alloc: Global, store: &MemoryStore, number: &str) -> Result<bool, Fail> {

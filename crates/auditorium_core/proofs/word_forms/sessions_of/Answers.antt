@@ -13,10 +13,10 @@ none_in_range number word is small out n are also =
 
 pub returns-in_default-clause-none : goal.returns-in_default-clause-none
 returns-in_default-clause-none c =
-    none_in_range c.in-Some.sessions c.args.word.now (sym c.as_bytes.ensures.value ∙ c.in-Some.ensures.1)
-    c.in-Some.ensures.0 (inr (omega (arith, c.if-sessions-le800.false)))
+    none_in_range c.in-Some.sessions c.args.word.now (sym c.as_bytes.ensures.value ∙ c.in-Some.ensures.exact.1)
+    c.in-Some.ensures.exact.0 (inr (omega (arith, c.if-sessions-le800.false)))
 
 pub returns-in_default-2-clause-none : goal.returns-in_default-2-clause-none
 returns-in_default-2-clause-none c =
-    none_in_range c.in-Some.sessions c.args.word.now (sym c.as_bytes.ensures.value ∙ c.in-Some.ensures.1)
-    c.in-Some.ensures.0 (inl (omega (arith, c.if-sessions-ge1.false)))
+    none_in_range c.in-Some.sessions c.args.word.now (sym c.as_bytes.ensures.value ∙ c.in-Some.ensures.exact.1)
+    c.in-Some.ensures.exact.0 (inl (omega (arith, c.if-sessions-ge1.false)))
