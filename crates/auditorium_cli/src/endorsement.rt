@@ -1,11 +1,50 @@
-//! Whether an endorsement fits the office's public key.
+//! Whether an endorsement fits the office's public key, and whether others can read its secret.
 
 use auditorium_core::{Status, auditorium_still};
 use hall_outside::{FolderStore, MemorySink};
 use std::alloc::{AllocError, Global};
 use std::fs::{self, File};
 use std::io::Eprint;
+use std::os::unix::fs::MetadataExt;
 use std::rt::Files;
+
+/// The permission bits of everybody but the owner.
+const OTHERS: u32 = 0o077;
+
+/// The name of the office's file with which the words ask to sign, where others than its owner
+/// have access to it. A file that replaces it is its owner's alone.
+pub(crate) fn office_of_others<R: Files<File = File> + AllocGlobal>(
+    rt: &R,
+    words: &[String],
+) -> Option<String> {
+    let [command, name, _] = words else {
+        return None;
+    };
+    if command.as_str() != "endorse" {
+        return None;
+    }
+    let Ok(office) = office_name(rt.alloc(), name.as_str()) else {
+        return None;
+    };
+    match fs::metadata(rt, office.as_str()) {
+        Ok(found) if found.is_file() && found.mode() & OTHERS != 0 => Some(office),
+        _ => None,
+    }
+}
+
+fn office_name(alloc: Global, name: &str) -> Result<String, AllocError> {
+    Ok(format!(in alloc; "{name}.office")?)
+}
+
+/// Says on standard error that others could read the office's file.
+pub(crate) fn warn_of_others<R: Eprint>(rt: &R, office: &Option<String>) {
+    if let Some(office) = office {
+        let _ = eprintln!(rt;
+            "auditorium: {office} could be read by others than its owner: chmod 600 {office}, and \
+             make a new office if one of them may have"
+        );
+    }
+}
 
 /// The words that ask whether the signature of the file is the office's, by the key beside it.
 fn endorsed_words(alloc: Global, name: &str, file: &str) -> Result<Vec<String>, AllocError> {

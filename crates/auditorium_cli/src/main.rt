@@ -9,7 +9,7 @@ mod hinting;
 mod kept_sink;
 
 use crate::ending::{after_name, carry_out};
-use crate::endorsement::check_endorsement;
+use crate::endorsement::{check_endorsement, office_of_others, warn_of_others};
 use crate::hinting::hint;
 use crate::kept_sink::KeptSink;
 use auditorium_core::Status;
@@ -64,6 +64,8 @@ fn main(rt: HostRuntime) -> ExitCode {
     };
     // A word that isn't text counts as no words at all, which is a usage error.
     let line = given.as_ref().map(|line| line.as_slice());
+    let words = line.map(|line| after_name(line));
+    let office = office_of_others(&rt, words.unwrap_or(&[]));
     let mut out = KeptSink::over(OutputSink::make(&rt));
     let ended = carry_out(
         &rt,
@@ -74,8 +76,8 @@ fn main(rt: HostRuntime) -> ExitCode {
         &OpenGate,
     );
     report(&rt, ended.status, store.failure(), out.sink().failure());
-    let words = line.map(|line| after_name(line));
     hint(&rt, ended.status, words, out.first_line());
     check_endorsement(&rt, ended.status, words.unwrap_or(&[]));
+    warn_of_others(&rt, &office);
     ExitCode::from(ended.number)
 }
