@@ -3,182 +3,177 @@ import os
 import re
 import sys
 
-from entries import read_log, read_roster
-from files import LARGE, MIDDLE, SMALL, Answer, accept, read_file, read_with, refuse, write_files
+from files import LARGE, MIDDLE, SMALL, Answer, Files, refusing
+from logs import read_log
 from making import made_script
 from office import SPENT, office_key, read_office, write_office
 from playing import Play
-from proofs import ProofReader, canonical_proof
-from reports import (audit_report, find_survivor, order_line, overall, refused_lines, ending_line,
-                     roles_of, watch_report)
+from proofs import canonical_proof, read_proof
+from reports import audit_report, find_survivor, order_line, overall, record_lines, watch_lines
+from rosters import NAME, read_roster
 from rules import STANDARD, read_rules
 from scripts import read_script
 from signatures import verify_two_levels
 from survivors import gather
-from verdicts import Judge, verdicts
+from texts import read_decimal, require
+from verdicts import Judge
 
-WORD = re.compile(r"[!-,.-~][!-~]{0,1023}\Z")
-MEANS_ENTRY = re.compile(r"(?:[0-9a-f]{64}|[a-z0-9]{1,16}\.(?:0|[1-9][0-9]{0,9}))\Z")
-COUNT = re.compile(r"[1-9][0-9]{0,2}\Z")
-SEED = re.compile(r"[0-9a-f]{64}\Z")
+WORD = re.compile("[!-,.-~][!-~]{0,1023}")
+HEX64 = re.compile("[0-9a-f]{64}")
+WATCH_LIMIT = 1024
 
-def read_logs(roster, names):
-    return [read_with(lambda octets: read_log(octets, roster), name, LARGE) for name in names]
+def read_inputs(files, roster_name, rules_name, log_names):
+    """A roster, rules if a name is given, logs, and the survivors of their entries."""
+    roster, rules = files.read(roster_name, MIDDLE, read_roster), None
+    if rules_name == "standard":
+        rules = STANDARD
+    elif rules_name:
+        rules = files.read(rules_name, MIDDLE, read_rules)
+    logs = [files.read(name, LARGE, read_log, roster) for name in log_names]
+    with refusing("entries"):
+        return roster, rules, logs, gather(logs)
 
-def read_given(roster, names):
-    """The logs, and the survivors of their entries."""
-    logs = read_logs(roster, names)
-    return logs, accept("entries", gather, logs)
-
-def read_roster_file(name):
-    return read_with(read_roster, name, MIDDLE)
-
-def read_rules_file(name):
-    return read_rules(STANDARD) if name == "standard" else read_with(read_rules, name, MIDDLE)
-
-def gaps(name):
-    log = read_with(read_log, name, LARGE)
-    entries = {record.entry.digest: record.entry for record in log.kept()}
-    named = {digest for entry in entries.values() for digest in entry.names}
-    lines = refused_lines(name, log) + ending_line(name, log.ending)
-    lines += ["gap " + digest.hex() for digest in sorted(named - entries.keys())]
+def gaps(files, name):
+    log = files.read(name, LARGE, read_log)
+    named = {digest for record in log.kept for digest in record.entry.names}
+    missing = sorted(named - {record.entry.digest for record in log.kept})
+    lines = record_lines(name, log) + ["gap " + digest.hex() for digest in missing]
     return lines, 1 if lines else 0
 
-def play(script_name, prefix, mends=False):
-    game = Play(read_with(read_script, script_name, MIDDLE))
+def play(files, script_name, prefix, repairs=False):
+    game = Play(files.read(script_name, MIDDLE, read_script))
     game.take_steps()
-    if mends:
+    if repairs:
         game.repair()
-    write_files(game.files(prefix))
+    files.write(game.files(prefix))
     undone = game.undone_lines()
     return game.machine_lines() + game.mended + undone, 7 if undone else 0
 
-def repair(script_name, prefix):
-    return play(script_name, prefix, mends=True)
+def repair(files, script_name, prefix):
+    return play(files, script_name, prefix, repairs=True)
 
-def order(roster_name, first_word, second_word, *names):
-    roster = read_roster_file(roster_name)
-    survivors = read_given(roster, names)[1]
+def order(files, roster_name, first, second, *log_names):
+    roster, _, _, survivors = read_inputs(files, roster_name, None, log_names)
     places = []
-    for word in (first_word, second_word):
+    for word in (first, second):
         places.append(find_survivor(word, survivors, roster))
-        if places[-1] is None:
-            refuse(word, 0, "NoEntry")
-    return [order_line(survivors, *places)], 0
+        with refusing(word):
+            require(places[-1] is not None, "NoEntry")
+    return [order_line(survivors, roster, *places)], 0
 
-def audit(roster_name, rules_name, *names):
-    roster, rules = read_roster_file(roster_name), read_rules_file(rules_name)
-    logs, survivors = read_given(roster, names)
-    return accept(rules_name, audit_report, roster, rules, names, logs, survivors)
+def audit(files, roster_name, rules_name, *log_names):
+    roster, rules, logs, survivors = read_inputs(files, roster_name, rules_name, log_names)
+    with refusing(rules_name):
+        return audit_report(roster, rules, log_names, logs, survivors)
 
-def watch(roster_name, rules_name, *names):
-    roster, rules = read_roster_file(roster_name), read_rules_file(rules_name)
-    logs, _ = read_given(roster, names)
-    digests = {record.entry.digest for log in logs for record in log.kept()}
-    if len(digests) > WATCH_LIMIT:
-        refuse("entries", 0, "TooMany")
-    return accept(rules_name, watch_report, roster, rules, logs)
+def watch(files, roster_name, rules_name, *log_names):
+    roster, rules, logs, survivors = read_inputs(files, roster_name, rules_name, log_names)
+    given = {record.entry.digest for log in logs for record in log.kept}
+    with refusing("entries"):
+        require(len(given) <= WATCH_LIMIT, "TooMany")
+    with refusing(rules_name):
+        lines = watch_lines(roster, rules, logs)
+        return lines, audit_report(roster, rules, log_names, logs, survivors)[1]
 
-WATCH_LIMIT = 1024
+def prove(files, roster_name, proof_name, *log_names):
+    survivors = read_inputs(files, roster_name, None, log_names)[3]
+    proof, count = canonical_proof(survivors), len(survivors.entries)
+    with refusing(proof_name):
+        require(len(proof) <= LARGE, "TooLong")
+    files.write([(proof_name, proof)])
+    return ["proof %s entries %d bytes %d" % (proof_name, count, len(proof))], 0
 
-def prove(roster_name, proof_name, *names):
-    _, survivors = read_given(read_roster_file(roster_name), names)
-    proof = canonical_proof(survivors)
-    if len(proof) > LARGE:
-        refuse(proof_name, 0, "TooLong")
-    write_files([(proof_name, proof)])
-    return ["proof %s entries %d bytes %d" % (proof_name, len(survivors.entries), len(proof))], 0
+def check(files, roster_name, rules_name, proof_name, *log_names):
+    roster, rules, _, survivors = read_inputs(files, roster_name, rules_name, log_names)
+    ancestors = files.read(proof_name, LARGE, read_proof, survivors)
+    with refusing(rules_name):
+        verdicts = Judge(survivors, ancestors, roster).verdicts(rules)
+    verdict, status = overall(verdicts, False)
+    lines = ["%s %s" % (found, rule.name) for found, rule in zip(verdicts, rules)]
+    return lines + ["verdict " + verdict], status
 
-def check(roster_name, rules_name, proof_name, *names):
-    roster, rules = read_roster_file(roster_name), read_rules_file(rules_name)
-    _, survivors = read_given(roster, names)
-    proof = read_with(lambda octets: ProofReader(octets, survivors), proof_name, LARGE)
-    judge = Judge(survivors.entries, proof, roles_of(roster))
-    accept(rules_name, judge.require_width, rules)
-    values = verdicts(judge, rules)
-    verdict, status = overall(values, False)
-    return ["%s %s" % (value, rule.name) for value, rule in zip(values, rules)] + ["verdict " + verdict], status
-
-def make(count):
+def make(_, count):
     return made_script(int(count)), 0
 
-def demo(count):
+def demo(_, count):
     game = Play(read_script("\n".join(made_script(int(count))).encode()))
     game.take_steps()
-    octets = dict(game.files("p"))["p.sv.log"]
-    whole = read_log(octets, game.roster)
-    half = (int(count) + 1) // 2
-    end = [record.end for record in whole.records
-           if record.entry.deed[:2] in (("cast", half), ("cancel", half))][0]
+    octets, half = game.players[0].text(), (int(count) + 1) // 2
+    for record in read_log(octets).kept:
+        deed = record.entry.deed
+        if deed["word"] in ("cast", "cancel") and deed["session"] == half:
+            end = record.end
     logs = [read_log(octets[:end + 1], game.roster)]
-    survivors, rules = gather(logs), read_rules(STANDARD)
-    report, status = accept("standard", audit_report, game.roster, rules, ["p.sv.log"], logs, survivors)
+    survivors = gather(logs)
+    report, status = audit_report(game.roster, STANDARD, ["sv"], logs, survivors)
     words = [line.split(" ")[0] for line in report]
     sent = sum(len(player.sent) for player in game.players)
-    numbers = [("sessions", int(count)), ("entries", sent), ("survivors", len(survivors.entries)),
-               ("gaps", len(survivors.gaps()))]
-    numbers += [(verdict, words.count(verdict)) for verdict in ("kept", "broken", "unsettled")]
-    return ["%s %d" % pair for pair in numbers], status
+    lines = ["sessions " + count, "entries %d" % sent, "survivors %d" % len(survivors.entries),
+             "gaps %d" % len(survivors.gaps())]
+    lines += ["%s %d" % (verdict, words.count(verdict))
+              for verdict in ("kept", "broken", "unsettled")]
+    return lines, status
 
-def office(name, seed):
-    if os.path.lexists(name + ".office"):
-        refuse(name + ".office", 0, "Exists")
+def office(files, name, seed):
+    with refusing(name + ".office"):
+        require(not os.path.lexists(name + ".office"), "Exists")
     seed = bytes.fromhex(seed)
-    write_files([(name + ".office", write_office(seed, 0)), (name + ".key", office_key(name, seed).public_key())])
+    files.write([(name + ".key", office_key(name, seed).public_key()),
+                 (name + ".office", write_office(seed, 0))])
     return ["office " + name], 0
 
-def endorse(name, file_name):
-    found = read_office(read_file(name + ".office", SMALL))
-    if found is None:
-        refuse(name + ".office", 0, "Office")
-    seed, number = found
-    if number == SPENT:
-        refuse(name + ".office", 0, "Spent")
-    signature = office_key(name, seed).sign(number, read_file(file_name, LARGE))
-    write_files([(name + ".office", write_office(seed, number + 1)), (file_name + ".sig", signature)])
+def endorse(files, name, file_name):
+    seed, number = files.read(name + ".office", SMALL, read_office)
+    with refusing(name + ".office"):
+        require(number < SPENT, "Spent")
+    signature = office_key(name, seed).sign(number, files.read(file_name, LARGE))
+    # The number is used up, whatever becomes of the signature.
+    files.write([(name + ".office", write_office(seed, number + 1))])
+    files.write([(file_name + ".sig", signature)])
     return ["endorsed %s %d" % (file_name, number)], 0
 
-def endorsed(key_name, file_name, signature_name):
-    key, octets = read_file(key_name, SMALL), read_file(file_name, LARGE)
-    good = verify_two_levels(key, octets, read_file(signature_name, SMALL))
+def endorsed(files, key_name, file_name, signature_name):
+    key, octets = files.read(key_name, SMALL), files.read(file_name, LARGE)
+    good = verify_two_levels(key, octets, files.read(signature_name, SMALL))
     return (["good"], 0) if good else (["bad"], 1)
 
-# The forms of the words: L stands for 1 to 16 logs.
-COMMANDS = {"gaps": (gaps, "w"), "play": (play, "ww"), "repair": (repair, "ww"), "order": (order, "weeL"),
-            "audit": (audit, "wwL"), "watch": (watch, "wwL"), "prove": (prove, "wwL"),
-            "check": (check, "wwwL"), "make": (make, "n"), "demo": (demo, "n"), "office": (office, "ws"),
-            "endorse": (endorse, "ww"), "endorsed": (endorsed, "www")}
+# The commands, and what the words after each are.
+COMMANDS = {"gaps": (gaps, "name"), "play": (play, "name name"), "repair": (repair, "name name"),
+            "order": (order, "name entry entry logs"), "audit": (audit, "name name logs"),
+            "watch": (watch, "name name logs"), "prove": (prove, "name name logs"),
+            "check": (check, "name name name logs"), "make": (make, "count"),
+            "demo": (demo, "count"), "office": (office, "name seed"),
+            "endorse": (endorse, "name name"), "endorsed": (endorsed, "name name name")}
 
 def fits(form, word):
-    if form == "e":
-        return MEANS_ENTRY.match(word) and ("." not in word or int(word.split(".")[1]) <= 4294967295)
-    if form == "n":
-        return COUNT.match(word) and int(word) <= 800
-    return form != "s" or SEED.match(word)
+    if form == "count":
+        return read_decimal(word) in range(1, 801)
+    if form == "seed" or form == "entry" and "." not in word:
+        return HEX64.fullmatch(word)
+    if form == "entry":
+        name, number = word.split(".", 1)
+        return NAME.fullmatch(name) and read_decimal(number) is not None
+    return True
 
 def is_valid(words):
-    if not words or words[0] not in COMMANDS or not all(WORD.match(word) for word in words):
+    if not all(map(WORD.fullmatch, words)) or not words or words[0] not in COMMANDS:
         return False
-    form = COMMANDS[words[0]][1]
-    if form.endswith("L"):
-        form = form[:-1] + "w" * min(16, max(1, len(words) - len(form)))
-    return len(words) == len(form) + 1 and all(map(fits, form, words[1:]))
+    forms = COMMANDS[words[0]][1].split(" ")
+    if forms[-1] == "logs":
+        forms = forms[:-1] + ["name"] * min(16, max(1, len(words) - len(forms)))
+    return len(words) - 1 == len(forms) and all(map(fits, forms, words[1:]))
 
 def answer(words):
     """The standard output and the status of a command line."""
     if not is_valid(words):
         return "usage\n", 4
     try:
-        lines, status = COMMANDS[words[0]][0](*words[1:])
+        lines, status = COMMANDS[words[0]][0](Files(), *words[1:])
+        return "".join(line + "\n" for line in lines), status
     except Answer as early:
-        lines, status = [] if early.line is None else [early.line], early.status
-    return "".join(line + "\n" for line in lines), status
-
-def main():
-    output, status = answer(sys.argv[1:])
-    sys.stdout.write(output)
-    sys.stdout.flush()
-    return status
+        return early.output, early.status
 
 if __name__ == "__main__":
-    sys.exit(main())
+    output, status = answer(sys.argv[1:])
+    sys.stdout.write(output)
+    sys.exit(status)

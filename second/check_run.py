@@ -1,82 +1,79 @@
 """Output lines, `run`: is what a run wrote and printed a legal outcome of its script?
 
-check_run.py SCRIPT PREFIX OUTPUT prints each fault and ends with status 1, or with 0 if there is none.
+check_run.py SCRIPT PREFIX OUTPUT prints each fault; the status is 1 if there is one, and else 0.
 """
 import sys
 
-from entries import read_log
+from files import LARGE, Files
+from logs import read_log
 from playing import Play
 from scripts import read_script
 
-def read_octets(name):
-    with open(name, "rb") as file:
-        return file.read()
-
-def run_steps(play, logs):
-    """The events of all logs as steps, in the order of a play that makes them."""
+def run_steps(logs):
+    """The events of all logs, in the order of a play that makes them."""
     steps = []
     for machine, log in enumerate(logs):
         stamp = 0
-        for record in log.records:
+        for record in log.kept:
             stamp = max(stamp, record.entry.stamp)
             steps.append((stamp, record.word == "got", machine, record.place, record.entry))
     return sorted(steps, key=lambda step: step[:4])
 
-def replay(play, logs):
-    """Play the events again; each must change something."""
-    faults = []
-    for _, got, machine, place, entry in run_steps(play, logs):
-        stop_at_line(play, machine)
-        done = play.hear(machine, entry.maker, entry.number) if got else play.act(machine)
-        if not done or play.players[machine].events[-1][1] != entry:
-            faults.append("event %d of machine %d isn't one of a play" % (place, machine))
-            break
-    for machine in range(len(play.players)):
-        stop_at_line(play, machine)
-    return faults
-
 def stop_at_line(play, machine):
+    """Stop a machine that has as many events as its `stop` line says."""
     if len(play.players[machine].events) == play.script.stops.get(machine):
         play.stop(machine)
 
-def loss_causes(play, sender, receiver, number, put):
-    """The causes that a loss can have, `put` entries with lower numbers having been put on the link."""
-    script, events = play.script, len(play.players[receiver].events)
+def replay(play, logs):
+    """Play the events again, of which each must change something; the faults."""
+    for _, got, machine, place, entry in run_steps(logs):
+        stop_at_line(play, machine)
+        done = play.hear(machine, entry.maker, entry.number) if got else play.act(machine)
+        if not done or play.players[machine].events[-1][1] != entry:
+            return ["event %d of machine %d isn't one of a play" % (place, machine)]
+    for machine in range(len(play.players)):
+        stop_at_line(play, machine)
+    return []
+
+def loss_causes(play, way, number, put):
+    """The causes that a loss can have, `put` entries with lower numbers being on the link."""
+    script, (sender, receiver) = play.script, way
     if (sender, number, receiver) in script.lost:
         return ["Scripted"]
-    causes = {"LinkFull": put >= script.link, "ToStopped": events == script.stops.get(receiver),
-              "LogFull": events >= script.log}
+    events = len(play.players[receiver].events)
+    causes = {"LinkFull": put >= script.link, "LogFull": events >= script.log,
+              "ToStopped": events == script.stops.get(receiver)}
     return [cause for cause, applies in causes.items() if applies]
 
 def loss_faults(play, lines):
-    """The faults of the `loss` lines, which are each asked for in its place."""
-    faults, left = [], list(lines)
-    for sender, player in enumerate(play.players):
-        for receiver, other in enumerate(play.players):
-            put = 0
-            for number, entry in enumerate(player.sent if sender != receiver else ()):
-                cause = None
-                head = "loss %s.%d %s " % (player.name, number, other.name)
-                if left and left[0].startswith(head):
-                    cause = left.pop(0)[len(head):]
-                    if cause not in loss_causes(play, sender, receiver, number, put):
-                        faults.append("not so: " + head + cause)
-                if (cause is None) != (entry.digest in other.entries):
-                    faults.append("got and lost, or neither: " + head)
-                put += cause not in ("Scripted", "LinkFull")
+    """The faults of the `loss` lines, each of which is asked for in its place."""
+    faults, left, players = [], list(lines), play.players
+    for way in [(one, other) for one in range(len(players)) for other in range(len(players))]:
+        sender, receiver, put = players[way[0]], players[way[1]], 0
+        for number, entry in enumerate(sender.sent if sender != receiver else []):
+            head, cause = "loss %s.%d %s " % (sender.name, number, receiver.name), None
+            if left and left[0].startswith(head):
+                cause = left.pop(0)[len(head):]
+                if cause not in loss_causes(play, way, number, put):
+                    faults.append("not so: " + head + cause)
+            if (cause is None) != (entry.digest in receiver.entries):
+                faults.append("got and lost, or neither: " + head)
+            put += cause not in ("Scripted", "LinkFull")
     return faults + left
 
 def must_lose_nothing(script):
     counts = [len(machine.actions) for machine in script.machines]
-    return not script.lost and not script.stops and script.link >= max(counts) and script.log >= sum(counts)
+    enough = script.link >= max(counts) and script.log >= sum(counts)
+    return enough and not script.lost and not script.stops
 
 def faults_of(script, files, prefix, output):
     """The faults of a run's files, a mapping of names to octets, and of its output."""
     play = Play(script)
     if files[prefix + ".roster"] != play.roster.text:
         return ["the roster isn't the script's"]
-    logs = [read_log(files["%s.%s.log" % (prefix, machine.name)], play.roster) for machine in script.machines]
-    if any(log.refused() or log.ending != ("clean",) for log in logs):
+    names = ["%s.%s.log" % (prefix, name) for name in play.roster.names]
+    logs = [read_log(files[name], play.roster) for name in names]
+    if any(log.refused or log.ending for log in logs):
         return ["a log has a refused record, or doesn't end clean"]
     faults = replay(play, logs)
     faults += ["the log of " + name for name, octets in play.files(prefix) if files[name] != octets]
@@ -90,12 +87,12 @@ def faults_of(script, files, prefix, output):
     return faults
 
 def main(script_name, prefix, output_name):
-    script = read_script(read_octets(script_name))
-    names = [prefix + ".roster"] + ["%s.%s.log" % (prefix, machine.name) for machine in script.machines]
-    files = {name: read_octets(name) for name in names}
-    faults = faults_of(script, files, prefix, read_octets(output_name).decode())
-    for fault in faults:
-        print(fault)
+    files = Files()
+    script = files.read(script_name, LARGE, read_script)
+    names = ["%s.%s.log" % (prefix, machine.name) for machine in script.machines]
+    written = {name: files.read(name, LARGE) for name in names + [prefix + ".roster"]}
+    faults = faults_of(script, written, prefix, files.read(output_name, LARGE).decode())
+    sys.stdout.writelines(fault + "\n" for fault in faults)
     return 1 if faults else 0
 
 if __name__ == "__main__":

@@ -1,30 +1,37 @@
 """Compare PROGRAM with this implementation on random and fixed cases.
 
 compare.py PROGRAM SEED COUNT [--kinds a,b,..] [--only KIND:INDEX] [--keep FOLDER] [--seconds N]
+compare.py PROGRAM 1 0 --kinds tables
 compare.py PROGRAM --misread [--only TITLE|TITLE..]
+
+COUNT is how many random commands there are. The kinds are those of this file, by their names
+after `case_`, and the tables of `tables.py`, whose fixed cases are not counted in COUNT.
 """
 import argparse
 import collections
 import importlib
-import multiprocessing
+import itertools
 import os
-import pickle
 import random
+import resource
 import shutil
 import stat
 import subprocess
 import sys
 import tempfile
 import time
+import types
 
 HERE = os.path.dirname(os.path.abspath(__file__))
 sys.path.insert(0, HERE)
-MODULES = ["texts", "signatures", "entries", "scripts", "rules", "survivors", "verdicts", "proofs",
-           "office", "playing", "making", "files", "reports", "auditorium", "check_run", "tables"]
+MODULES = ["texts", "signatures", "rosters", "entries", "logs", "survivors", "verdicts", "rules",
+           "proofs", "reports", "scripts", "playing", "making", "office", "files", "auditorium",
+           "check_run", "tables"]
 for module in MODULES:
     globals()[module] = importlib.import_module(module)
 
-TIMEOUT = 20
+# How long a command of the program may take, and how long where its case is run again.
+TIMEOUT, LATE_TIMEOUT = 20, 300
 Case = collections.namedtuple("Case", "files commands")
 
 
@@ -114,7 +121,8 @@ def random_steps(chance, machines, actions):
                           for number in range(sent[name] - back, sent[name] + 1)]
         sent[name] = min(sent[name] + 1, len(actions[name]))
         if chance.random() < 0.1:
-            steps.append("step hear %s %s %d" % (chance.choice(names), chance.choice(names), chance.randrange(8)))
+            steps.append("step hear %s %s %d" % (chance.choice(names), chance.choice(names),
+                                                 chance.randrange(8)))
         if chance.random() < 0.01:
             steps.append("step stop " + chance.choice(names))
     return steps
@@ -134,7 +142,8 @@ def random_script(chance, running=False, most=4):
     log = total if chance.random() < 0.7 else chance.randrange(1, total + 3)
     link = 100 if chance.random() < 0.7 else chance.randrange(1, 8)
     lines = ["version %d" % version] if version == 2 or chance.random() < 0.1 else []
-    lines += ["seed " + chance.choice(SEEDS), "key %s %s" % (kind, height), "log %d" % max(1, log), "link %d" % link]
+    lines += ["seed " + chance.choice(SEEDS), "key %s %s" % (kind, height), "log %d" % max(1, log),
+              "link %d" % link]
     lines += ["machine %s %s" % machine for machine in machines]
     lines += ["do %s %s" % (name, deed) for name in names for deed in actions[name]]
     if len(names) > 1 and (running or chance.random() < 0.1):
@@ -166,12 +175,14 @@ class World:
     def deed(self):
         chance = self.chance
         session = chance.choice([1, 1, 2, 2, 3, 4294967295, 0])
-        word = chance.choice(["opened", "authorise", "override", "forced", "closed", "activate", "activate",
+        word = chance.choice(["opened", "authorise", "override", "forced", "closed", "activate",
+                              "activate",
                               "commit", "commit", "cast", "cast", "cancel", "challenge"])
         if word in ("opened", "closed"):
             return (word,), chance.choice([1, 2])
         if word == "authorise":
-            return (word, chance.randrange(len(self.roster.machines) + 1), session), chance.choice([1, 2])
+            return (word, chance.randrange(len(self.roster.machines) + 1),
+                    session), chance.choice([1, 2])
         if word in ("override", "forced"):
             if word == "override" and chance.random() < 0.5:
                 return (word, session), 1
@@ -202,21 +213,26 @@ class World:
         if chance.random() < 0.3:
             number = chance.randrange(6)
         deed, version = self.deed()
-        return self.sign(version, self.roster.election, maker, number % 32, min(stamp, 4294967295), names, deed)
+        return self.sign(version, self.roster.election, maker, number % 32, min(stamp, 4294967295),
+                         names, deed)
 
     def sign(self, version, election, maker, number, stamp, names, deed):
-        body = entries.write_body(version, election, maker, number, stamp, names, deed)
+        body = entries.write_body(version, election, maker, number, stamp, names,
+                                  tables.deed_value(*deed))
         key = self.play.players[maker].key
-        return entries.entry_of(entries.write_entry(body, key.sign(number, body)))
+        return tables.entry_of(entries.write_entry(body, key.sign(number, body)))
 
     def bad_text(self, entry):
         """The text of an entry with one or two faults."""
         chance = self.chance
-        values = dict(version=entry.version, election=entry.election, maker=entry.maker, number=entry.number,
-                      stamp=entry.stamp, names=entry.names, deed=entry.deed)
+        values = dict(version=entry.version, election=entry.election, maker=entry.maker,
+                      number=entry.number,
+                      stamp=entry.stamp, names=entry.names, deed=entries.write_deed(entry.deed,
+                                                                                    entry.version))
         index, signer, damage = entry.number, entry.maker, None
         for _ in range(chance.choice([1, 1, 2, 2, 3])):
-            fault = chance.choice(["election", "maker", "number", "index", "signer", "damage", "names", "deed",
+            fault = chance.choice(["election", "maker", "number", "index", "signer", "damage",
+                                   "names", "deed",
                                    "body", "version", "short", "types", "long", "same"])
             if fault == "election":
                 values["election"] = b"x" * 32
@@ -230,22 +246,27 @@ class World:
             elif fault == "signer":
                 signer = (signer + 1) % len(self.roster.machines)
             elif fault == "names":
-                values["names"] = chance.choice([[b"b" * 32, b"a" * 32], [b"a" * 32] * 2, [b"a" * 31], [b""]])
+                values["names"] = chance.choice([[b"b" * 32, b"a" * 32], [b"a" * 32] * 2,
+                                                 [b"a" * 31], [b""]])
             elif fault == "deed":
-                values["deed"] = chance.choice([("override", 1, "cast"), ("override", 1), ("challenge", 1, b"q" * 32),
-                                                ("opened", 1), ("cast", 1), ("cast", 1, b"q" * 31), ("open",),
-                                                ("cancel", 4294967295), ("cancel", "x"), ("override", 1, "no")])
+                values["deed"] = tables.deed_value(*chance.choice([
+                    ("override", 1, "cast"), ("override", 1), ("challenge", 1, b"q" * 32),
+                                                                   ("opened", 1), ("cast", 1),
+                    ("cast", 1, b"q" * 31), ("open",), ("cancel", 4294967295), ("cancel", "x"),
+                                                                   ("override", 1, "no")]))
             elif fault == "version":
                 values["version"] = 3 - entry.version
             else:
                 damage = fault
         body = entries.write_body(*[values[name] for name in
-                                    ("version", "election", "maker", "number", "stamp", "names", "deed")])
+                                    ("version", "election", "maker", "number", "stamp", "names",
+                                     "deed")])
         if chance.random() < 0.2:
             body = self.odd_body(body)
         signature = self.damaged(self.play.players[signer].key.sign(index, body), damage)
         if damage == "body":
-            body = body.replace(b"5:entry1:", b"5:entrz1:") if chance.random() < 0.3 else flip(chance, body)
+            body = body.replace(b"5:entry1:",
+                                b"5:entrz1:") if chance.random() < 0.3 else flip(chance, body)
         return entries.write_entry(body, signature)
 
     def odd_body(self, body):
@@ -253,7 +274,8 @@ class World:
         return chance.choice([
             body.replace(b"5:entry1:1", b"5:entry1:3").replace(b"5:entry1:2", b"5:entry2:02"),
             body[:-1] + b"0:)", body[:-1] + b"())", body.replace(b"(6:opened)", b"(6:opened0:)"),
-            body.replace(b"1:1", b"2:01"), body.replace(b"1:1", b"11:42949672961"), b"0:", b"(" + body + b")"])
+            body.replace(b"1:1", b"2:01"), body.replace(b"1:1", b"11:42949672961"), b"0:", b"("
+                              + body + b")"])
 
     def damaged(self, signature, damage):
         chance = self.chance
@@ -277,7 +299,8 @@ class World:
         base = list(self.entries) if chance.random() < 0.5 else []
         for _ in range(count):
             base.append(self.forge(base))
-        self.others += base[len(self.entries):] if base[:len(self.entries)] == self.entries else base
+        count = len(self.entries)
+        self.others += base[count:] if base[:count] == self.entries else base
         if chance.random() < 0.2 and self.others:
             again = chance.choice(self.others)
             self.others.append(self.resigned(again))
@@ -285,24 +308,17 @@ class World:
     def resigned(self, entry):
         """The same body with another good signature."""
         key = self.play.players[entry.maker].key
-        prefix = key.identifier + entry.number.to_bytes(4, "big")
-        c = signatures.H(b"another", entry.body)
-        steps = signatures.message_digits(key.set_type, key.identifier, entry.number, c, entry.body)
-        elements = [signatures.chain(prefix, signatures.secret(prefix, i, key.seed), i, 0, step)
-                    for i, step in enumerate(steps)]
-        old = entry.signature
-        end = 40 + 32 * len(elements)
-        signature = old[:8] + c + b"".join(elements) + old[end:]
-        return entries.entry_of(entries.write_entry(entry.body, signature))
+        signature = key.sign_with(signatures.H(b"another", entry.body), entry.number, entry.body)
+        return tables.entry_of(entries.write_entry(entry.body, signature))
 
     def log(self):
         """A log's file: one of the play, or one of any entries."""
         chance = self.chance
         if not self.others or chance.random() < 0.5:
             player = chance.choice(self.play.players)
-            octets = entries.write_log(player.place, player.events)
-            texts_ = [b"(%d:%s%s)" % (len(word), word.encode(), entry.text) for word, entry in player.events]
-            owner = player.place
+            texts_ = [b"(%d:%s%s)" % (len(word), word.encode(), entry.text) for word,
+                      entry in player.events]
+            owner = player.owner
         else:
             pool = self.all_entries()
             chosen = chance.sample(pool, chance.randrange(len(pool) + 1))
@@ -328,7 +344,8 @@ class World:
                 records.insert(place, chance.choice(records))
             elif kind in (2, 3, 4) and self.all_entries():
                 word = chance.choice([b"4:sent", b"3:got"])
-                records.insert(place, b"(" + word + self.bad_text(chance.choice(self.all_entries())) + b")")
+                records.insert(place, b"(" + word
+                               + self.bad_text(chance.choice(self.all_entries())) + b")")
             elif kind == 5 and records:
                 chosen = place % len(records)
                 records[chosen] = flip(chance, records[chosen])
@@ -339,12 +356,16 @@ class World:
                 records[first:first + 2] = records[first + 1], records[first]
             elif kind == 8 and records:
                 chosen = place % len(records)
-                records[chosen] = records[chosen].replace(b"4:sent", b"3:got", 1) \
-                    if records[chosen].startswith(b"(4:sent") else records[chosen].replace(b"3:got", b"4:sent", 1)
+                old, new = b"(4:sent", b"(3:got"
+                if not records[chosen].startswith(old):
+                    old, new = new, old
+                records[chosen] = records[chosen].replace(old, new, 1)
         header = b"(3:log1:1%d:%d)" % (len(str(owner)), owner)
         if chance.random() < 0.03:
-            header = chance.choice([b"", b"(3:log1:11:0", b"(3:log1:12:00)", b"(3:log1:21:0)", b"3:log", b"(3:log1:1)",
-                                    b"(3:log1:110:4294967296)", b"(3:log1:11:00:)", b"[", b"(3:log1:1())"])
+            header = chance.choice([b"", b"(3:log1:11:0", b"(3:log1:12:00)", b"(3:log1:21:0)",
+                                    b"3:log", b"(3:log1:1)",
+                                    b"(3:log1:110:4294967296)", b"(3:log1:11:00:)", b"[",
+                                    b"(3:log1:1())"])
         octets = header + b"".join(records)
         if chance.random() < 0.15:
             octets = octets[:chance.randrange(len(octets) + 1)]
@@ -361,18 +382,25 @@ def flip(chance, octets):
     if kind == 1:
         return octets[:place] + octets[place + 1:]
     if kind == 2:
-        return octets[:place] + chance.choice([b"(", b")", b"[", b"0", b"1", b":", b"9", b" "]) + octets[place:]
+        return octets[:place] + chance.choice([b"(", b")", b"[", b"0", b"1", b":", b"9",
+                                               b" "]) + octets[place:]
     return octets[:place] + bytes([octets[place] ^ 1 << chance.randrange(8)]) + octets[place + 1:]
 
 
 def odd_text(chance):
     return chance.choice([
-        b"0:", b"()", b"(4:sent)", b"(4:sent0:)", b"(3:got())", b"(4:sent()())", b"(3:gotx", b"(03:abc)", b"[", b")",
-        b"7", b"12:abc", b"262144:", b"262145:", b"999999999999:", b"00:", b"0", b"((((((((0:))))))))",
-        b"(((((((((0:)))))))))", b"(((((((( ", b"(((((((([", b" ", b"\n", b"(4:sent(6:sealed()0:))", b"(4:Sent())",
-        b"(3:got(6:sealed(5:entry1:1)0:))", b"(" + b"0:" * 16384 + b")", b"(" + b"0:" * 16385 + b")",
-        b"(" + b"0:" * 16384 + b"(", b"(" + b"0:" * 16384 + b"x", b"(((((((" + b"(" + b"0:" * 16384 + b"(",
-        b"1:", b"-1:a", b"1a:b", b"(4:sent(", b"262144:" + b"a" * 262144, b"(4:sent262144:" + b"a" * 262144 + b")"])
+        b"0:", b"()", b"(4:sent)", b"(4:sent0:)", b"(3:got())", b"(4:sent()())", b"(3:gotx",
+                          b"(03:abc)", b"[", b")",
+        b"7", b"12:abc", b"262144:", b"262145:", b"999999999999:", b"00:", b"0",
+                          b"((((((((0:))))))))",
+        b"(((((((((0:)))))))))", b"(((((((( ", b"(((((((([", b" ", b"\n", b"(4:sent(6:sealed()0:))",
+                          b"(4:Sent())",
+        b"(3:got(6:sealed(5:entry1:1)0:))", b"(" + b"0:" * 16384 + b")", b"(" + b"0:" * 16385
+                          + b")",
+        b"(" + b"0:" * 16384 + b"(", b"(" + b"0:" * 16384 + b"x", b"(((((((" + b"(" + b"0:" * 16384
+                          + b"(",
+        b"1:", b"-1:a", b"1a:b", b"(4:sent(", b"262144:" + b"a" * 262144, b"(4:sent262144:"
+                          + b"a" * 262144 + b")"])
 
 
 def world_logs(chance, world, count=None):
@@ -396,7 +424,8 @@ def roster_text(chance, world):
 
 
 def damaged_roster(chance, world):
-    machines = [[machine.name.encode(), machine.role.encode(), machine.key] for machine in world.roster.machines]
+    machines = [[machine.name.encode(), machine.role.encode(), machine.key]
+                for machine in world.roster.machines]
     text = world.roster.text
     for _ in range(chance.choice([1, 1, 2])):
         kind = chance.randrange(10)
@@ -405,14 +434,18 @@ def damaged_roster(chance, world):
             text = flip(chance, text)
             continue
         if kind == 1:
-            machine[0] = chance.choice([b"", b"A", b"a" * 17, b"sv", b"b 1", b"\xff", b"a" * 16, b"b1\n"])
+            machine[0] = chance.choice([b"", b"A", b"a" * 17, b"sv", b"b 1", b"\xff", b"a" * 16,
+                                        b"b1\n"])
         elif kind == 2:
             machine[1] = chance.choice([b"supervisor", b"booth", b"Booth", b""])
         elif kind == 3:
-            machine[2] = chance.choice([machine[2][:55], machine[2] + b"x", b"\0\0\0\7" + machine[2][4:],
-                                        machine[2][:4] + b"\0\0\0\5" + machine[2][8:], b"\0\0\0\6" + machine[2][4:]])
+            machine[2] = chance.choice([machine[2][:55], machine[2] + b"x", b"\0\0\0\7"
+                                        + machine[2][4:],
+                                        machine[2][:4] + b"\0\0\0\5" + machine[2][8:], b"\0\0\0\6"
+                                        + machine[2][4:]])
         elif kind == 4:
-            machines += [[b"n%d" % place, b"booth", machine[2]] for place in range(chance.choice([10, 15, 16]))]
+            machines += [[b"n%d" % place, b"booth", machine[2]]
+                         for place in range(chance.choice([10, 15, 16]))]
         elif kind == 5:
             machines.append(list(machine))
         elif kind == 6:
@@ -425,7 +458,8 @@ def damaged_roster(chance, world):
         else:
             machines = [[b"a", b"booth", b"k" * 56]]
         text = texts.write_text([b"roster", b"1"] + machines)
-    return text + chance.choice([b"", b"", b"", b"", b"\n", b"0:"]) if chance.random() < 0.5 else text
+    return text + chance.choice([b"", b"", b"", b"", b"\n",
+                                 b"0:"]) if chance.random() < 0.5 else text
 
 
 # Rules.
@@ -443,7 +477,8 @@ class RuleMaker:
         if quantifiers < 3:
             heads += ["every", "some"] * 3
         if bound:
-            heads += ["same", "before", "next", "is", "kind", "=", "=", "<", "before", "everyb", "someb", "someb"]
+            heads += ["same", "before", "next", "is", "kind", "=", "=", "<", "before", "everyb",
+                      "someb", "someb"]
         if depth > 5:
             heads = ["true"] + (["same", "before", "next", "is", "kind", "=", "<"] if bound else [])
         head = chance.choice(heads)
@@ -455,13 +490,15 @@ class RuleMaker:
         if head == "not":
             return "(not %s)" % self.formula(bound, quantifiers, depth + 1)
         if head == "implies":
-            return "(implies %s %s)" % tuple(self.formula(bound, quantifiers, depth + 1) for _ in "12")
+            return "(implies %s %s)" % tuple(self.formula(bound, quantifiers, depth + 1)
+                                             for _ in "12")
         if head[:4] in ("ever", "some"):
             return self.quantifier(head, bound, quantifiers, depth)
         if head in ("same", "before", "next"):
             return "(%s %s %s)" % (head, chance.choice(list(bound)), chance.choice(list(bound)))
         if head == "is":
-            return "(is %s %s)" % (chance.choice(list(bound)), chance.choice(["supervisor", "booth"]))
+            return "(is %s %s)" % (chance.choice(list(bound)),
+                                   chance.choice(["supervisor", "booth"]))
         if head == "kind":
             return "(kind %s %s)" % (chance.choice(list(bound)), chance.choice(KINDS_OF_RULES))
         return self.comparison(head, bound)
@@ -469,7 +506,8 @@ class RuleMaker:
     def quantifier(self, head, bound, quantifiers, depth):
         chance = self.chance
         free = [letter for letter in "xyzabu" if letter not in bound]
-        variable, kind = chance.choice(free), chance.choice(KINDS_OF_RULES + ["entry"] * 4 + ["cast", "commit"])
+        variable, kind = chance.choice(free), chance.choice(KINDS_OF_RULES + ["entry"] * 4
+                                                            + ["cast", "commit"])
         before = " before " + chance.choice(list(bound)) if head.endswith("b") and bound else ""
         head = head[:5] if head.startswith("every") else "some"
         inner = self.formula({**bound, variable: kind}, quantifiers + 1, depth + 1)
@@ -490,7 +528,8 @@ class RuleMaker:
         chance = self.chance
         count = chance.choice([1, 2, 4, 8])
         lines = ["(rule R%d %s)" % (place, self.leading()) for place in range(count)]
-        return chance.choice(["\n", " ", "\r\n", "\t"]).join(lines).encode() + chance.choice([b"", b"\n"])
+        return chance.choice(["\n", " ", "\r\n",
+                              "\t"]).join(lines).encode() + chance.choice([b"", b"\n"])
 
     def leading(self):
         if self.chance.random() < 0.7:
@@ -505,10 +544,14 @@ def damaged_rules(chance, octets):
     tokens = octets.decode("latin-1").replace("(", " ( ").replace(")", " ) ").split()
     for _ in range(chance.choice([1, 1, 2])):
         place = chance.randrange(len(tokens))
-        new = chance.choice(["(", ")", "x", "y", "z", "true", "every", "some", "before", "and", "or", "entry", "cast",
-                             "x.maker", "y.number", "x.session", "x.ballot", "x.", "x.Maker", "xy.maker", "7", "07",
-                             "4294967295", "4294967296", "unknown", "=", "<", "rule", "R0", "not", "is", "booth",
-                             "q", "Q", "same", "kind", "y.booth", "q.x", "1.maker", "x.maker.x", "\x01", "é", ".", "-1"])
+        new = chance.choice(["(", ")", "x", "y", "z", "true", "every", "some", "before", "and",
+                             "or", "entry", "cast",
+                             "x.maker", "y.number", "x.session", "x.ballot", "x.", "x.Maker",
+                             "xy.maker", "7", "07",
+                             "4294967295", "4294967296", "unknown", "=", "<", "rule", "R0", "not",
+                             "is", "booth",
+                             "q", "Q", "same", "kind", "y.booth", "q.x", "1.maker", "x.maker.x",
+                             "\x01", "é", ".", "-1"])
         kind = chance.randrange(4)
         if kind == 0:
             tokens[place] = new
@@ -521,21 +564,26 @@ def damaged_rules(chance, octets):
     joined = " ".join(tokens)
     if chance.random() < 0.5:
         joined = joined.replace("( ", "(").replace(" )", ")")
-    return joined.encode("latin-1")[:chance.choice([None, None, None, chance.randrange(len(joined) + 1)])]
+    return joined.encode("latin-1")[:chance.choice([None, None, None,
+                                                    chance.randrange(len(joined) + 1)])]
 
 
 # Kinds of cases.
 
 def case_usage(chance):
-    words = ["gaps", "play", "run", "repair", "order", "audit", "watch", "prove", "check", "make", "demo", "office",
-             "endorse", "endorsed", "", "x", "-x", "--help", "p.log", "standard", "1", "0", "01", "801", "1000", "a.0",
-             "sv.0", "sv.00", "sv.", ".1", "sv.4294967295", "sv.4294967296", "SV.1", "a" * 16 + ".1", "a" * 17 + ".1",
-             "0" * 64, "F" * 64, "f" * 63, "a b", "\x7f", "é", "none", "w" * 1024, "w" * 1025, "~", "!", "a-b", "sv.1.2",
+    words = ["gaps", "play", "run", "repair", "order", "audit", "watch", "prove", "check", "make",
+             "demo", "office",
+             "endorse", "endorsed", "", "x", "-x", "--help", "p.log", "standard", "1", "0", "01",
+             "801", "1000", "a.0",
+             "sv.0", "sv.00", "sv.", ".1", "sv.4294967295", "sv.4294967296", "SV.1", "a" * 16
+             + ".1", "a" * 17 + ".1",
+             "0" * 64, "F" * 64, "f" * 63, "a b", "\x7f", "é", "none", "w" * 1024, "w" * 1025, "~",
+             "!", "a-b", "sv.1.2",
              "+1", "1e2", " 1", "sv.-1", "9" * 12, "sv.42949672950"]
     commands = []
     for _ in range(12):
         command = chance.choice(words[:14] * 3 + words)
-        form = auditorium.COMMANDS.get(command, (None, "ww"))[1]
+        form = auditorium.COMMANDS.get(command, (None, "name name"))[1].split(" ")
         count = len(form) + chance.choice([0, 0, 0, -1, 1, 14, 15, 16])
         chosen = [chance.choice(words[14:]) for _ in range(max(0, count))]
         if command == "order" and len(chosen) > 2 and chance.random() < 0.7:
@@ -553,12 +601,18 @@ def damaged_script(chance, octets):
     for _ in range(chance.choice([1, 1, 1, 2])):
         place = chance.randrange(len(lines))
         words = lines[place].split(b" ")
-        new = chance.choice([b"", b"0", b"1", b"00", b"4096", b"4097", b"4095", b"4294967295", b"4294967296", b"-1", b"sv",
-                             b"b1", b"b9", b"SV", b"a" * 17, b"a" * 16, b"open", b"close", b"authorise", b"activate",
-                             b"commit", b"cast", b"cancel", b"challenge", b"override", b"act", b"hear", b"stop", b"do",
-                             b"step", b"lose", b"version", b"seed", b"key", b"log", b"link", b"machine", b"w1", b"w3",
-                             b"h5", b"h6", b"2", b"3", b"booth", b"supervisor", b"07" * 32, b"07" * 31, b"0", b"0g",
-                             b"AB", b"ff" * 33, b"#", b"\t", b"\xc3\xa9", b"1.", b"do\r", b"7" * 64, b"7" * 65])
+        new = chance.choice([b"", b"0", b"1", b"00", b"4096", b"4097", b"4095", b"4294967295",
+                             b"4294967296", b"-1", b"sv",
+                             b"b1", b"b9", b"SV", b"a" * 17, b"a" * 16, b"open", b"close",
+                             b"authorise", b"activate",
+                             b"commit", b"cast", b"cancel", b"challenge", b"override", b"act",
+                             b"hear", b"stop", b"do",
+                             b"step", b"lose", b"version", b"seed", b"key", b"log", b"link",
+                             b"machine", b"w1", b"w3",
+                             b"h5", b"h6", b"2", b"3", b"booth", b"supervisor", b"07" * 32,
+                             b"07" * 31, b"0", b"0g",
+                             b"AB", b"ff" * 33, b"#", b"\t", b"\xc3\xa9", b"1.", b"do\r", b"7" * 64,
+                             b"7" * 65])
         kind = chance.randrange(9)
         if kind == 0:
             words[chance.randrange(len(words))] = new
@@ -573,7 +627,8 @@ def damaged_script(chance, octets):
         elif kind == 4:
             lines.insert(chance.randrange(len(lines) + 1), lines[place])
         elif kind == 5:
-            lines.insert(place, chance.choice([b"", b"# a comment", b"#\xff\x00", b" ", b"# ", b" #", new]))
+            lines.insert(place, chance.choice([b"", b"# a comment", b"#\xff\x00", b" ", b"# ",
+                                               b" #", new]))
         elif kind == 6:
             lines[place] = flip(chance, lines[place])
         elif kind == 7:
@@ -633,7 +688,8 @@ def audit_words(chance, files, head):
 
 def case_audit(chance):
     world = random_world(chance)
-    files = {"r": roster_text(chance, world), **world_logs(chance, world, chance.choice([3, 4, 5, 6]))}
+    files = {"r": roster_text(chance, world), **world_logs(chance, world,
+                                                           chance.choice([3, 4, 5, 6]))}
     return Case(files, [audit_words(chance, files, ["audit", "r", "standard"]) for _ in range(12)])
 
 
@@ -649,8 +705,11 @@ def case_rosters(chance):
 
 def case_watch(chance):
     world = random_world(chance)
-    files = {"r": roster_text(chance, world), "u": RuleMaker(chance).text(), **world_logs(chance, world)}
-    return Case(files, [audit_words(chance, files, ["watch", "r", chance.choice(["standard", "u"])]) for _ in range(8)])
+    files = {"r": roster_text(chance, world), "u": RuleMaker(chance).text(),
+             **world_logs(chance, world)}
+    return Case(files, [audit_words(chance, files, ["watch", "r",
+                                                    chance.choice(["standard", "u"])])
+                        for _ in range(8)])
 
 
 def entry_word(chance, world):
@@ -694,7 +753,7 @@ def case_rulestext(chance):
         name = "u%d" % place
         octets = RuleMaker(chance).text()
         if chance.random() < 0.2:
-            octets = rules.STANDARD
+            octets = rules.STANDARD_TEXT
         files[name] = damaged_rules(chance, octets)
         commands.append(["audit", "r", name, "l.log"])
     return Case(files, commands)
@@ -709,8 +768,10 @@ def damaged_proof(chance, proof):
             return "\n".join(lines).encode()
     place = chance.randrange(len(lines))
     words = lines[place].split(" ")
-    new = chance.choice(["0", "1", "2", "3:2", "0:1", "1:0", "0:0", "00", "4294967295", "4294967296", "x", "", "past",
-                         "1:", ":1", "1:2:3", "1-2", "past 0", "-1", "99:1", "1:99", "entries", "proof", "01:2"])
+    new = chance.choice(["0", "1", "2", "3:2", "0:1", "1:0", "0:0", "00", "4294967295",
+                         "4294967296", "x", "", "past",
+                         "1:", ":1", "1:2:3", "1-2", "past 0", "-1", "99:1", "1:99", "entries",
+                         "proof", "01:2"])
     if kind == 4:
         words[chance.randrange(len(words))] = new
     elif kind == 5:
@@ -724,7 +785,8 @@ def damaged_proof(chance, proof):
     if kind == 8:
         lines.insert(chance.randrange(len(lines) + 1), lines[place])
     elif kind == 9:
-        return flip(chance, proof) if chance.random() < 0.7 else proof[:chance.randrange(len(proof) + 1)]
+        return flip(chance, proof) if chance.random() < 0.7 else proof[:chance.randrange(len(proof)
+                                                                                         + 1)]
     return "\n".join(lines).encode()
 
 
@@ -735,7 +797,7 @@ def other_vias(chance, survivors):
         if chance.random() < 0.2:
             continue
         words, ticked = ["past %d" % place], [place]
-        for ancestor in proofs.bits_of(survivors.ancestors[place]):
+        for ancestor in sorted(survivors.ancestors[place], reverse=True):
             vias = [one for one in ticked if ancestor in survivors.parents[one]]
             words.append("%d:%d" % (ancestor, chance.choice(vias)))
             ticked.append(ancestor)
@@ -752,7 +814,7 @@ def case_proofs(chance):
     commands = [["prove", "r", "made"] + names, ["check", "r", "standard", "made"] + names]
     try:
         survivors = survivors_of(world, [files[name] for name in names])
-    except entries.Refused:
+    except texts.Refused:
         return Case(files, commands)
     proof = proofs.canonical_proof(survivors)
     for place in range(14):
@@ -764,12 +826,13 @@ def case_proofs(chance):
     return Case(files, commands)
 
 
-def survivors_of(world, logs):
-    return survivors.gather([entries.read_log(octets, world.roster) for octets in logs])
+def survivors_of(world, log_files):
+    return survivors.gather([logs.read_log(octets, world.roster) for octets in log_files])
 
 
 def case_make(chance):
-    return Case({}, [["make", str(chance.choice([1, 2, 3, 9, 10, 11, 800, chance.randrange(1, 801)]))]
+    return Case({}, [["make", str(chance.choice([1, 2, 3, 9, 10, 11, 800,
+                                                 chance.randrange(1, 801)]))]
                      for _ in range(3)])
 
 
@@ -781,8 +844,8 @@ OFFICE_SEED = bytes(range(32))
 
 
 def office_signature(chance, key_types, low_types, message):
-    top = signatures.SigningKey(key_types[0], key_types[1], b"i" * 16, b"s" * 32)
-    key = signatures.TwoLevelKey(top, *low_types)
+    top = signatures.SigningKey(key_types, b"i" * 16, b"s" * 32)
+    key = signatures.TwoLevelKey(top, low_types)
     number = chance.choice([0, 1, 31, 32, 33, 40])
     return key.public_key(), key.sign(number, message)
 
@@ -801,10 +864,12 @@ def case_endorsed(chance):
         elif kind == 2:
             message = flip(chance, message)
         elif kind == 3:
-            signature = chance.choice([signature[:-1], signature + b"\0", b"", signature[4:], b"\0\0\0\0" + signature[4:]])
+            signature = chance.choice([signature[:-1], signature + b"\0", b"", signature[4:],
+                                       b"\0\0\0\0" + signature[4:]])
         elif kind == 4:
             place_ = chance.choice([4, 8, 12, len(signature) - 164])
-            signature = signature[:place_] + bytes([0, 0, 0, chance.randrange(8)]) + signature[place_ + 4:]
+            number = bytes([0, 0, 0, chance.randrange(8)])
+            signature = signature[:place_] + number + signature[place_ + 4:]
         elif kind == 5:
             place_ = chance.choice([0, 4, 8])
             key = key[:place_] + bytes([0, 0, 0, chance.randrange(8)]) + key[place_ + 4:]
@@ -817,14 +882,18 @@ def case_endorsed(chance):
 
 
 def case_office(chance):
-    files = {"f": b"text", "o.office": office.write_office(OFFICE_SEED, chance.choice([0, 1, 31, 1023, 500]))}
-    commands = [["endorse", "o", "f"], ["endorse", "o", "f"], ["endorse", "o", "none"], ["endorse", "none", "f"],
+    files = {"f": b"text", "o.office": office.write_office(OFFICE_SEED,
+                                                           chance.choice([0, 1, 31, 1023, 500]))}
+    commands = [["endorse", "o", "f"], ["endorse", "o", "f"], ["endorse", "o", "none"],
+                ["endorse", "none", "f"],
                 ["office", "o", "00" * 32], ["endorse", "o", "o.office"], ["endorse", "bad", "f"],
                 ["endorse", "spent", "none"], ["office", "o2", OFFICE_SEED.hex().upper()]]
     files["spent.office"] = office.write_office(OFFICE_SEED, 32768)
     good = office.write_office(OFFICE_SEED, 7)
-    files["bad.office"] = chance.choice([good + b"\n", good[:-1], b"", good.replace(b"1:7", b"2:07"), flip(chance, good),
-                                         good.replace(b"1:7", b"5:32769"), good.replace(b"1:7", b"0:")])
+    files["bad.office"] = chance.choice([good + b"\n", good[:-1], b"",
+                                         good.replace(b"1:7", b"2:07"), flip(chance, good),
+                                         good.replace(b"1:7", b"5:32769"),
+                                         good.replace(b"1:7", b"0:")])
     if chance.random() < 0.5:
         commands.insert(0, ["office", "n", OFFICE_SEED.hex()])
     return Case(files, commands)
@@ -834,13 +903,17 @@ def case_other_files(chance):
     """Files that are absent, folders, or read in another order."""
     world = random_world(chance)
     files = {"r": world.roster.text, "badr": b"x", "u": RuleMaker(chance).text(), "badu": b"(rule",
-             "l.log": world.log(), "badl": b"(3:log", "badp": b"proof 2\n", "empty": b"", "s": random_script(chance)}
+             "l.log": world.log(), "badl": b"(3:log", "badp": b"proof 2\n", "empty": b"",
+             "s": random_script(chance)}
     names = list(files) + ["none", "standard", "folder", "no/file", "r/x"]
     commands = []
     for _ in range(10):
-        command = chance.choice(["gaps", "play", "repair", "order", "audit", "watch", "check", "prove", "endorsed"])
-        form = auditorium.COMMANDS[command][1].replace("L", "w" * chance.choice([1, 2, 3]))
-        words = ["sv.0" if one == "e" else chance.choice(names) for one in form]
+        command = chance.choice(["gaps", "play", "repair", "order", "audit", "watch", "check",
+                                 "prove", "endorsed"])
+        form = auditorium.COMMANDS[command][1].split(" ")
+        if form[-1] == "logs":
+            form[-1:] = ["name"] * chance.choice([1, 2, 3])
+        words = ["sv.0" if one == "entry" else chance.choice(names) for one in form]
         if command in ("play", "repair"):
             words[1] = chance.choice(["p", "new/p"])
         if command == "prove":
@@ -850,7 +923,8 @@ def case_other_files(chance):
 
 
 KINDS = {name[5:]: value for name, value in list(globals().items()) if name.startswith("case_")}
-WEIGHTS = {"make": 0.2, "demo": 0.01, "office": 0.02, "endorsed": 1, "play": 1, "run": 0.7, "script": 1, "usage": 0.7,
+WEIGHTS = {"make": 0.2, "demo": 0.01, "office": 0.02, "endorsed": 1, "play": 1, "run": 0.7,
+           "script": 1, "usage": 0.7,
            "rulestext": 1.5, "other_files": 0.7, "rosters": 0.7, "gaps": 0.7}
 
 
@@ -862,6 +936,8 @@ def write_case(folder, files):
         path = os.path.join(folder, name)
         if name.endswith("/"):
             os.makedirs(path)
+        elif isinstance(octets, tables.Special):
+            octets.make(path)
         else:
             octets, size = octets if isinstance(octets, tuple) else (octets, len(octets))
             with open(path, "wb") as file:
@@ -870,28 +946,37 @@ def write_case(folder, files):
 
 
 def snapshot(folder, keeping=None):
-    """The permission bits and the octets of all files; `keeping` has the octets that are kept once."""
+    """The modes and the octets of all files; `keeping` has the octets that are kept once."""
     found = {}
     for base, folders, names in os.walk(folder):
         for name in names + folders:
             path = os.path.join(base, name)
-            mode = os.lstat(path).st_mode
-            octets = open(path, "rb").read() if stat.S_ISREG(mode) else None
+            state = os.lstat(path)
+            octets = octets_of(path, state) if stat.S_ISREG(state.st_mode) else None
             if keeping is not None:
                 octets = keeping.setdefault(octets, octets)
-            found[os.path.relpath(path, folder)] = (mode, octets)
+            found[os.path.relpath(path, folder)] = (state.st_mode, octets)
     return found
 
 
-def run_program(program, folder, words):
-    for attempt in range(3):
-        try:
-            done = subprocess.run([program] + words, cwd=folder, capture_output=True,
-                                  timeout=TIMEOUT * (1 + attempt), stdin=subprocess.DEVNULL)
-            return done.stdout, done.returncode
-        except subprocess.TimeoutExpired:
-            pass
-    return b"", "timeout"
+OCTETS = {}
+LARGE = 8 * 1024 * 1024
+
+
+def octets_of(path, state):
+    """The octets of a file, or their digest if they are many; none is read twice as it is."""
+    known = (path, state.st_ino, state.st_mtime_ns, state.st_size)
+    if known not in OCTETS:
+        with open(path, "rb") as file:
+            octets = file.read()
+        OCTETS[known] = octets if len(octets) < LARGE else signatures.H(octets)
+    return OCTETS[known]
+
+
+def run_program(program, folder, words, seconds):
+    done = subprocess.run([program] + words, cwd=folder, capture_output=True, timeout=seconds,
+                          stdin=subprocess.DEVNULL)
+    return done.stdout, done.returncode
 
 
 def run_second(folder, words):
@@ -913,8 +998,10 @@ def check_of_run(expected, second_folder, words):
     if status in (0, 7):
         try:
             read = scripts.read_script(open(os.path.join(second_folder, script), "rb").read())
-            names = [prefix + ".roster"] + ["%s.%s.log" % (prefix, machine.name) for machine in read.machines]
-            faults = check_run.faults_of(read, {name: written[name][1] for name in names}, prefix, output.decode())
+            names = [prefix + ".roster"] + ["%s.%s.log" % (prefix, machine.name)
+                                            for machine in read.machines]
+            faults = check_run.faults_of(read, {name: written[name][1] for name in names}, prefix,
+                                         output.decode())
         except Exception as error:
             faults = ["%s: %s" % (type(error).__name__, error)]
         if status != (7 if b"\nundone " in output else 0):
@@ -929,15 +1016,15 @@ def short(octets):
     return text if len(text) < 600 else text[:600] + ".."
 
 
-def expected_of(program, folder, words, keeping=None):
+def expected_of(program, folder, words, seconds, keeping=None):
     """What the program prints, its status, and all files afterwards."""
-    output, status = run_program(program, folder, words)
+    output, status = run_program(program, folder, words, seconds)
     return output, status, snapshot(folder, keeping)
 
 
 def compare_command(expected, folder, words):
     """A text that says how this implementation differs in a folder, empty if it agrees."""
-    if words[0] == "run" and len(words) == 3:
+    if words[:1] == ["run"] and len(words) == 3:
         return check_of_run(expected, folder, words)
     output, status, files_ = expected
     second_output, second_status = run_second(folder, words)
@@ -945,7 +1032,7 @@ def compare_command(expected, folder, words):
         return "status %s against %s\n%s\nagainst\n%s" % (
             status, second_status, *first_difference(short(output), short(second_output)))
     second_files = snapshot(folder)
-    if files_ != second_files and status != 9:
+    if files_ != second_files:
         names = [name for name in sorted(set(files_) | set(second_files))
                  if files_.get(name) != second_files.get(name)]
         return "files differ: " + " ".join(names)
@@ -956,7 +1043,8 @@ def first_difference(first, second):
     if first == second:
         return first[:80], second[:80]
     lines, others = first.split("\n"), second.split("\n")
-    place = next((place for place, pair in enumerate(zip(lines, others)) if pair[0] != pair[1]), min(len(lines), len(others)))
+    place = next((place for place, pair in enumerate(zip(lines, others)) if pair[0] != pair[1]),
+                 min(len(lines), len(others)))
     return "\n".join(lines[place:place + 3]), "\n".join(others[place:place + 3])
 
 
@@ -966,119 +1054,138 @@ def case_of(kind, seed, index):
     return KINDS[kind](random.Random("%s:%s:%s" % (seed, kind, index)))
 
 
-def run_case(task):
-    """Run one case; the number of its commands, and its differences."""
+def run_case(task, limit):
+    """Run one case: the number of its commands, its differences, and the time.
+
+    There is no number where a command of the program takes longer than the limit.
+    """
     program, seed, kind, index, keep = task
     begun = time.process_time()
+    OCTETS.clear()
     case = case_of(kind, seed, index)
     root = tempfile.mkdtemp(prefix="compare-", dir=os.environ.get("COMPARE_SCRATCH"))
-    differences = []
+    count, differences = len(case.commands), []
     try:
         folders = [os.path.join(root, "program"), os.path.join(root, "second")]
         for folder in folders:
             write_case(folder, case.files)
         for words in case.commands:
-            difference = compare_command(expected_of(program, folders[0], words), folders[1], words)
+            expected = expected_of(program, folders[0], words, limit)
+            difference = compare_command(expected, folders[1], words)
             if difference:
                 differences.append((words, difference))
         if differences and keep:
             target = os.path.join(keep, "%s-%s-%s" % (kind, seed, index))
             shutil.rmtree(target, ignore_errors=True)
             write_case(target, case.files)
+    except subprocess.TimeoutExpired:
+        count, differences = None, []
     finally:
         shutil.rmtree(root, ignore_errors=True)
-    return kind, index, len(case.commands), differences, time.process_time() - begun
+    return count, differences, time.process_time() - begun
 
 
-def tasks_of(program, seed, count, kinds, keep):
-    """Endless tasks, kind after kind by their weights."""
+def tasks_of(program, seed, kinds, keep):
+    """The tables that are asked for, and then endless tasks of random kinds by their weights."""
     for kind in kinds:
         if kind in tables.TABLES:
             yield program, seed, kind, 0, keep
-    chance, weights = random.Random(seed), [WEIGHTS.get(kind, 2) for kind in kinds if kind in KINDS]
     chosen = [kind for kind in kinds if kind in KINDS]
-    for index in range(count if chosen else 0):
+    chance, weights = random.Random(seed), [WEIGHTS.get(kind, 2) for kind in chosen]
+    for index in itertools.count() if chosen else ():
         yield program, seed, chance.choices(chosen, weights)[0], index, keep
 
 
 # Misreadings: what PROGRAM does is kept, and compared with this implementation after a small edit.
 
 MISREAD_CASES = 9
-MISREAD_COMMANDS = 600
+MISREAD_COMMANDS = 250
+MISREAD_SECONDS = 200
 
 
-def keep_expected(program, seed, kinds):
-    """Of each kind some cases, and what the program does with their commands."""
-    kept, keeping = [], {}
-    for kind in kinds:
-        for index in range(1 if kind in tables.TABLES else MISREAD_CASES):
-            case = case_of(kind, seed, index)
-            if len(case.commands) > MISREAD_COMMANDS:
-                some = sorted(random.Random(seed).sample(range(len(case.commands)), MISREAD_COMMANDS))
-                case = Case(case.files, [case.commands[place] for place in some])
-            with tempfile.TemporaryDirectory(dir=os.environ.get("COMPARE_SCRATCH")) as root:
-                folder = os.path.join(root, "program")
-                write_case(folder, case.files)
-                kept.append((kind, case, [expected_of(program, folder, words, keeping) for words in case.commands]))
+def keep_expected(program, seed, kind, keeping):
+    """Of a kind some cases, and what the program does with their commands."""
+    kept = []
+    for index in range(1 if kind in tables.TABLES else MISREAD_CASES):
+        case = case_of(kind, seed, index)
+        case = Case(case.files, case.commands[:MISREAD_COMMANDS])
+        with tempfile.TemporaryDirectory(dir=os.environ.get("COMPARE_SCRATCH")) as root:
+            folder = os.path.join(root, "program")
+            write_case(folder, case.files)
+            expected = [expected_of(program, folder, words, LATE_TIMEOUT, keeping)
+                        for words in case.commands]
+            kept.append((case, expected))
     return kept
 
 
-def replay(name, kinds):
-    """Compare kept cases until the first difference; it is printed."""
-    with open(name, "rb") as file:
-        kept = pickle.load(file)
+def apply_edit(module, old, new):
+    """Load the modules of this implementation anew, one of them edited."""
+    for name in MODULES[:-1]:
+        path = os.path.join(HERE, name + ".py")
+        with open(path) as file:
+            text = file.read()
+        if name + ".py" == module:
+            text = text.replace(old, new)
+        loaded = types.ModuleType(name)
+        loaded.__file__ = path
+        sys.modules[name] = globals()[name] = loaded
+        exec(compile(text, path, "exec"), loaded.__dict__)
+
+
+def replay(kept, kind):
+    """The first kept command that differs, or how many there are."""
     count = 0
-    for kind, (files_, commands), expected in kept:
-        if kind not in kinds:
-            continue
+    for (files_, commands), expected in kept[kind]:
         with tempfile.TemporaryDirectory(dir=os.environ.get("COMPARE_SCRATCH")) as root:
             folder = os.path.join(root, "second")
             write_case(folder, files_)
             for words, one in zip(commands, expected):
                 count += 1
                 if compare_command(one, folder, words):
-                    print("%s, %s, command %d" % (kind, " ".join(words)[:60], count))
-                    return 1
-    print("%d commands" % count)
-    return 0
+                    return "found", "%s, %s, command %d" % (kind, " ".join(words)[:60], count)
+    return "not found", "%s, %d commands" % (kind, count)
+
+
+def try_misreading(kept, title, module, old, new, kind):
+    """Is it found? It is tried in a process of its own, where it may use a limited time."""
+    child = os.fork()
+    if child == 0:
+        resource.setrlimit(resource.RLIMIT_CPU, (MISREAD_SECONDS, MISREAD_SECONDS))
+        word, what = "failed", ""
+        try:
+            apply_edit(module, old, new)
+            word, what = replay(kept, kind)
+        finally:
+            print("%s: %s (%s)" % (word, title, what), flush=True)
+            os._exit(0 if word == "not found" else 1)
+    status = os.waitpid(child, 0)[1]
+    if os.WIFSIGNALED(status):
+        print("found: %s (it didn't end)" % title, flush=True)
+    return status != 0
 
 
 def misread(program, seed, some):
-    """Apply each misreading in turn, or those whose titles begin with one of some words; is it found?"""
+    """Apply each misreading in turn, or those whose titles begin with one of some words."""
     sys.path.insert(0, os.path.join(HERE, "misread"))
     misreadings = [one for one in importlib.import_module("misreadings").MISREADINGS
                    if not some or one[0].startswith(tuple(some.split("|")))]
-    root = tempfile.mkdtemp(prefix="misread-")
-    name = os.path.join(root, "kept")
-    with open(name, "wb") as file:
-        pickle.dump(keep_expected(program, seed, sorted({kind for one in misreadings for kind in one[4].split(",")})), file)
-    every = ",".join(sorted({one[4] for one in misreadings}))
-    tasks = [("none", None, None, None, every)] + misreadings
-    with multiprocessing.Pool(2) as pool:
-        found = pool.starmap(try_misreading, [(root, name, place, *one) for place, one in enumerate(tasks)], chunksize=1)
-    shutil.rmtree(root)
-    print("without a misreading: %s" % ("a difference" if found[0] else "no difference"))
-    print("found: %d of %d" % (sum(found[1:]), len(misreadings)))
-    return 0 if all(found[1:]) and not found[0] else 1
-
-
-def try_misreading(root, kept, place, title, module, old, new, kinds):
-    copy = os.path.join(root, "copy%d" % place)
-    shutil.copytree(HERE, copy, ignore=shutil.ignore_patterns("__pycache__"))
-    if module:
-        path = os.path.join(copy, module)
-        with open(path) as file:
-            text = file.read()
-        if text.count(old) != 1:
-            raise SystemExit("the old text isn't there once: " + title)
-        with open(path, "w") as file:
-            file.write(text.replace(old, new))
-    done = subprocess.run([sys.executable, os.path.join(copy, "compare.py"), "--replay", kept, "--kinds", kinds],
-                          capture_output=True)
-    shutil.rmtree(copy)
-    word = {0: "not found", 1: "found"}.get(done.returncode, "failed " + done.stderr.decode()[-300:])
-    print("%s: %s (%s)" % (word, title, done.stdout.decode().strip()), flush=True)
-    return done.returncode == 1
+    for title, module, old, _, _ in misreadings:
+        with open(os.path.join(HERE, module)) as file:
+            if file.read().count(old) != 1:
+                raise SystemExit("the old text isn't there once: " + title)
+    kept, keeping, found, differing = {}, {}, 0, []
+    for title, module, old, new, kinds in misreadings:
+        for kind in kinds.split(","):
+            if kind not in kept:
+                kept[kind] = keep_expected(program, seed, kind, keeping)
+                if try_misreading(kept, "no misreading", "", "", "", kind):
+                    differing.append(kind)
+            if try_misreading(kept, title, module, old, new, kind):
+                found += 1
+                break
+    print("without a misreading: differences in %s" % (", ".join(differing) or "none"))
+    print("found: %d of %d" % (found, len(misreadings)))
+    return 0 if found == len(misreadings) and not differing else 1
 
 
 def main():
@@ -1086,50 +1193,71 @@ def main():
     parser.add_argument("program", nargs="?")
     parser.add_argument("seed", nargs="?", default="1")
     parser.add_argument("count", nargs="?", type=int, default=1000)
-    parser.add_argument("--misread", action="store_true", help="compare misreadings in place of random cases")
-    parser.add_argument("--replay", help=argparse.SUPPRESS)
+    parser.add_argument("--misread", action="store_true",
+                        help="compare misreadings in place of random cases")
     parser.add_argument("--kinds")
     parser.add_argument("--only")
     parser.add_argument("--keep", default="differences")
-    parser.add_argument("--processes", type=int, default=2)
     parser.add_argument("--seconds", type=int, default=10 ** 9, help="end after this time")
     options = parser.parse_args()
-    if options.replay:
-        return replay(options.replay, options.kinds.split(","))
     if options.misread:
         return misread(os.path.abspath(options.program), options.seed, options.only)
     program = os.path.abspath(options.program)
     keep = os.path.abspath(options.keep)
-    kinds = options.kinds.split(",") if options.kinds else list(KINDS) + list(tables.TABLES)
+    kinds = options.kinds.split(",") if options.kinds else list(KINDS)
+    if kinds == ["tables"]:
+        kinds = list(tables.TABLES)
     if options.only:
         kind, index = options.only.split(":")
         tasks = [(program, options.seed, kind, int(index), keep)]
     else:
-        tasks = tasks_of(program, options.seed, options.count, kinds, keep)
-    return report(tasks, options, keep)
+        tasks = tasks_of(program, options.seed, kinds, keep)
+    return Report(options, keep).run(tasks)
 
 
-def report(tasks, options, keep):
-    agreed, differed, spent, total = collections.Counter(), collections.Counter(), collections.Counter(), 0
-    end = time.time() + options.seconds
-    with multiprocessing.Pool(min(2, options.processes)) as pool:
-        for kind, index, count, differences, seconds in pool.imap_unordered(run_case, tasks):
-            agreed[kind] += count - len(differences)
-            differed[kind] += len(differences)
-            total += count
-            spent[kind] += seconds
-            for words, difference in differences:
-                print("difference: compare.py PROGRAM %s 1 --only %s:%s" % (options.seed, kind, index))
-                print("  files in %s/%s-%s-%s, words %s" % (keep, kind, options.seed, index, " ".join(words)[:300]))
-                print("  " + difference.replace("\n", "\n  "), flush=True)
-            if total >= options.count or time.time() > end:
+class Report:
+    """Runs cases and counts; a case that takes too long is run again at the end, with more time."""
+
+    def __init__(self, options, keep):
+        self.options, self.keep = options, keep
+        self.commands, self.differing = collections.Counter(), collections.Counter()
+        self.spent, self.late, self.timed_out = collections.Counter(), [], 0
+
+    def run(self, tasks):
+        ends = time.time() + self.options.seconds
+        for task in tasks:
+            self.run_one(task, TIMEOUT)
+            random_commands = sum(self.commands[kind] for kind in KINDS)
+            enough = task[2] in KINDS and random_commands >= self.options.count
+            if enough or time.time() > ends:
                 break
-        pool.terminate()
-    for kind in sorted(agreed):
-        print("%s: %d commands, %d differ (%.1f s)" % (
-            kind, agreed[kind] + differed[kind], differed[kind], spent[kind]))
-    print("all: %d commands, %d differ" % (total, sum(differed.values())))
-    return 1 if sum(differed.values()) else 0
+        for task in self.late:
+            self.run_one(task, LATE_TIMEOUT)
+        for kind in sorted(self.commands):
+            print("%s: %d commands, %d differ (%.1f s)" % (
+                kind, self.commands[kind], self.differing[kind], self.spent[kind]))
+        print("all: %d commands, %d differ, %d time-outs" % (
+            self.commands.total(), self.differing.total(), self.timed_out))
+        return 1 if self.differing.total() + self.timed_out else 0
+
+    def run_one(self, task, limit):
+        kind, index = task[2:4]
+        again = "compare.py PROGRAM %s 1 --only %s:%s" % (self.options.seed, kind, index)
+        count, differences, seconds = run_case(task, limit)
+        if count is None and limit == TIMEOUT:
+            self.late.append(task)
+        elif count is None:
+            self.timed_out += 1
+            print("time-out: " + again, flush=True)
+        else:
+            self.commands[kind] += count
+            self.differing[kind] += len(differences)
+            self.spent[kind] += seconds
+        for words, difference in differences:
+            print("difference: " + again)
+            print("  files in %s/%s-%s-%s, words %s" % (self.keep, kind, self.options.seed, index,
+                                                        " ".join(words)[:300]))
+            print("  " + difference.replace("\n", "\n  "), flush=True)
 
 
 if __name__ == "__main__":

@@ -1,41 +1,86 @@
 """Files that are read, Files that are written."""
+import contextlib
 import os
+import stat
 
-from entries import Refused
+from texts import Refused, require
+
 SMALL, MIDDLE, LARGE = 65536, 4194304, 67108864
+# How rosters, logs, offices, proofs and signatures begin.
+STARTS = [b"(6:r", b"(3:l", b"(6:o", b"proo", b"\0\0\0\1"]
 
 class Answer(Exception):
     """The entire output and the status of a command that ends early."""
 
-    def __init__(self, line, status):
-        super().__init__(line)
-        self.line, self.status = line, status
+    def __init__(self, output, status):
+        super().__init__(output, status)
+        self.output, self.status = output, status
 
-def refuse(name, place, cause):
-    raise Answer("refused %s %d %s" % (name, place, cause), 5)
-
-def read_file(name, limit):
-    """The octets of a file, or the answer that it is absent or too long."""
+@contextlib.contextmanager
+def refusing(name):
+    """What is refused inside is an input of this name."""
     try:
-        with open(name, "rb") as file:
-            octets = file.read(limit + 1)
-    except FileNotFoundError:
-        raise Answer("absent " + name, 6) from None
-    except OSError:
-        raise Answer(None, 8) from None
-    if len(octets) > limit:
-        refuse(name, 0, "TooLong")
-    return octets
-
-def read_with(reader, name, limit):
-    """What a reader makes of a file, or the answer that it is refused."""
-    return accept(name, reader, read_file(name, limit))
-
-def accept(name, reader, *arguments):
-    try:
-        return reader(*arguments)
+        yield
     except Refused as refusal:
-        return refuse(name, refusal.place, refusal.cause)
+        line = "refused %s %d %s\n" % (name, refusal.place, refusal.cause)
+        raise Answer(line, 5) from None
+
+class Files:
+    """The files of one command."""
+
+    def __init__(self):
+        self.names_read = []
+
+    def read(self, name, limit, reader=bytes, *arguments):
+        """What a reader makes of a file."""
+        if name.endswith(".office") and has_other_name(name):
+            raise Answer("", 8)
+        try:
+            with open(name, "rb") as file:
+                octets = file.read(limit + 1)
+        except FileNotFoundError:
+            raise Answer("absent %s\n" % name, 6) from None
+        except OSError:
+            raise Answer("", 8) from None
+        self.names_read.append(name)
+        with refusing(name):
+            require(len(octets) <= limit, "TooLong")
+            return reader(octets, *arguments)
+
+    def may_write(self, name, octets):
+        """Is there no file of this name, or one that may be replaced?"""
+        if os.path.basename(name).startswith(".auditorium-"):
+            return False
+        if not os.path.lexists(name):
+            return True
+        mode = os.lstat(name).st_mode
+        if not stat.S_ISREG(mode) or not mode & stat.S_IWUSR:
+            return False
+        if not name.endswith(".office"):
+            if any(os.path.samefile(name, other) for other in self.names_read):
+                return False
+        with open(name, "rb") as file:
+            start = file.read(4)
+        return start not in STARTS or start == octets[:4]
+
+    def write(self, files):
+        """Write files, pairs of a name and octets, under other names; then put them in place."""
+        try:
+            if not all(self.may_write(name, octets) for name, octets in files):
+                raise OSError
+            for name, octets in files:
+                write_other(name, octets)
+            for name, _ in files:
+                os.replace(other_name(name), name)
+        except OSError:
+            for name, _ in files:
+                if os.path.exists(other_name(name)):
+                    os.remove(other_name(name))
+            raise Answer("", 9) from None
+
+def has_other_name(name):
+    """Is it a symbolic link, or one of several names of a file?"""
+    return os.path.islink(name) or os.path.isfile(name) and os.stat(name).st_nlink > 1
 
 def other_name(name):
     """The other name of a file, of the 64-bit FNV-1a hash of its name."""
@@ -45,26 +90,12 @@ def other_name(name):
         value = (value ^ byte) * 0x100000001b3 % 2 ** 64
     return os.path.join(folder, ".auditorium-%016x" % value)
 
-def permissions(name):
-    """The permission bits for a file that is written, or None for those that the `umask` leaves."""
-    office = name.endswith(".office")
-    if os.path.isfile(name) and not os.path.islink(name):
-        return os.stat(name).st_mode & (0o700 if office else 0o777)
-    return 0o600 if office else None
-
-def write_files(files):
-    """Write files, pairs of a name and octets, and put them in place in their order."""
-    try:
-        for name, octets in files:
-            with open(other_name(name), "wb") as file:
-                file.write(octets)
-            mode = permissions(name)
-            if mode is not None:
-                os.chmod(other_name(name), mode)
-        for name, _ in files:
-            os.replace(other_name(name), name)
-    except OSError:
-        for name, _ in files:
-            if os.path.exists(other_name(name)):
-                os.remove(other_name(name))
-        raise Answer(None, 9) from None
+def write_other(name, octets):
+    """Write a file under its other name, with the permission bits that it has to have."""
+    with open(other_name(name), "wb") as file:
+        file.write(octets)
+    mode = os.stat(name).st_mode if os.path.exists(name) else None
+    if name.endswith(".office"):
+        os.chmod(other_name(name), (mode or 0o600) & 0o700)
+    elif mode:
+        os.chmod(other_name(name), mode & 0o777)

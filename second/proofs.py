@@ -1,132 +1,64 @@
-"""Proofs of an audit: the writer and the reader."""
-from entries import Refused
-from texts import NUMBER, NUMBER_LIMIT
+"""Proofs of an audit: the canonical one, and the reader."""
+from texts import read_decimal, refused_at, require
 
-def bits_of(bits):
-    """The places of the bits of a number, descending."""
-    while bits:
-        place = bits.bit_length() - 1
-        yield place
-        bits ^= 1 << place
-
-def ancestor_words(survivors, place, children):
-    """The words `A:V` of a line, V being the greatest that is allowed."""
-    allowed = survivors.ancestors[place] | 1 << place
-    words = []
-    for ancestor in bits_of(survivors.ancestors[place]):
-        via = (children[ancestor] & allowed).bit_length() - 1
-        words.append(" %d:%d" % (ancestor, via))
-    return "".join(words)
+def canonical_line(survivors, place, children):
+    words, ancestors = ["past %d" % place], survivors.ancestors[place]
+    for ancestor in sorted(ancestors, reverse=True):
+        via = max(child for child in children[ancestor] if child in ancestors or child == place)
+        words.append("%d:%d" % (ancestor, via))
+    return " ".join(words)
 
 def canonical_proof(survivors):
-    children = [0] * len(survivors.entries)
+    children = [[] for _ in survivors.entries]
     for place, parents in enumerate(survivors.parents):
         for parent in parents:
-            children[parent] |= 1 << place
-    lines = ["proof 1\n", "entries %d\n" % len(survivors.entries)]
-    for place in range(len(survivors.entries)):
-        lines.append("past %d%s\n" % (place, ancestor_words(survivors, place, children)))
-    return "".join(lines).encode()
+            children[parent].append(place)
+    lines = ["proof 1", "entries %d" % len(children)]
+    lines += [canonical_line(survivors, place, children) for place in range(len(children))]
+    return "".join(line + "\n" for line in lines).encode()
 
-class ProofReader:
-    """Reads a proof against survivors; it then says what precedes what."""
-
-    def __init__(self, octets, survivors):
-        self.survivors, self.count = survivors, len(survivors.entries)
-        self.line, self.lines = 0, {}
-        self.read(octets)
-
-    def fault(self, cause):
-        raise Refused(self.line, cause)
-
-    def read(self, octets):
-        lines = octets.split(b"\n")
-        ended = lines[-1] == b""
-        if ended:
-            lines.pop()
-        whole, last = len(lines) if ended else len(lines) - 1, -1
-        lines += [None] * (2 - len(lines))
-        for self.line, line in enumerate(lines, 1):
-            self.ended = self.line <= whole
-            words = [] if line is None else line.split(b" ")
-            if self.line == 1:
-                self.read_first(words)
-            elif self.line == 2:
-                self.read_second(words)
+def read_proof(octets, survivors):
+    """The ancestors of the survivors that have a line, by their numbers."""
+    ancestors, lines, newlines = {}, octets.decode("latin-1").split("\n"), octets.count(b"\n")
+    if lines[-1] == "" and newlines > 1:
+        lines.pop()
+    for number, line in enumerate(lines, 1):
+        words, ended = line.split(" "), number <= newlines
+        with refused_at(number):
+            if number == 1:
+                require(words == ["proof", "1"] and ended, "Form")
+            elif number == 2:
+                read_count(words, ended, len(survivors.entries))
             else:
-                last = self.read_past(words, last)
+                read_past(words, ended, survivors, ancestors)
+    return ancestors
 
-    def require_end(self, words, count):
-        if len(words) > count or not self.ended:
-            self.fault("Form")
+def read_word(word):
+    number = read_decimal(word)
+    require(number is not None, "Form")
+    return number
 
-    def read_first(self, words):
-        if words[:2] != [b"proof", b"1"]:
-            self.fault("Form")
-        self.require_end(words, 2)
+def read_count(words, ended, count):
+    require(words[0] == "entries" and len(words) > 1, "Form")
+    require(read_word(words[1]) == count, "WrongCount")
+    require(len(words) == 2 and ended, "Form")
 
-    def read_second(self, words):
-        if words[:1] != [b"entries"] or len(words) < 2:
-            self.fault("Form")
-        if self.number(words[1]) != self.count:
-            self.fault("WrongCount")
-        self.require_end(words, 2)
-
-    def number(self, word):
-        if not NUMBER.match(word) or int(word) > NUMBER_LIMIT:
-            self.fault("Form")
-        return int(word)
-
-    def survivor(self, number):
-        if number >= self.count:
-            self.fault("OutOfRange")
-        return number
-
-    def read_past(self, words, last):
-        if words[0] != b"past" or len(words) < 2:
-            self.fault("Form")
-        place = self.survivor(self.number(words[1]))
-        if place <= last:
-            self.fault("NotRising")
-        ticked, ancestors, lowest = 1 << place, 0, None
-        for word in words[2:]:
-            lowest = self.read_pair(word, lowest, ticked)
-            ticked |= 1 << lowest
-            ancestors |= 1 << lowest
-        if not self.ended:
-            self.fault("Form")
-        self.require_closed(ticked, ancestors)
-        self.lines[place] = ancestors
-        return place
-
-    def read_pair(self, word, lowest, ticked):
-        parts = word.split(b":")
-        if len(parts) != 2:
-            self.fault("Form")
-        ancestor, via = map(self.number, parts)
-        self.survivor(ancestor)
-        self.survivor(via)
-        if lowest is not None and ancestor >= lowest:
-            self.fault("NotFalling")
-        if not ticked >> via & 1:
-            self.fault("NotReached")
-        if ancestor not in self.survivors.parents[via]:
-            self.fault("NotParent")
-        return ancestor
-
-    def require_closed(self, ticked, ancestors):
-        for place in bits_of(ticked):
-            if not all(ancestors >> parent & 1 for parent in self.survivors.parents[place]):
-                self.fault("NotClosed")
-
-    def is_whole(self, place):
-        """Has the survivor a line on which neither it nor an ancestor names a gap?"""
-        if place not in self.lines:
-            return False
-        names_gap = self.survivors.names_gap
-        return not any(names_gap[one] for one in bits_of(self.lines[place] | 1 << place))
-
-    def before(self, first, second):
-        if self.lines.get(second, 0) >> first & 1:
-            return True
-        return False if self.is_whole(second) else None
+def read_past(words, ended, survivors, ancestors):
+    """Read a line `past`: the ancestors of a survivor after those that have had a line."""
+    require(words[0] == "past" and len(words) > 1, "Form")
+    place = read_word(words[1])
+    require(place < len(survivors.entries), "OutOfRange")
+    require(place > max(ancestors, default=-1), "NotRising")
+    ticked = [place]
+    for word in words[2:]:
+        require(word.count(":") == 1, "Form")
+        ancestor, via = map(read_word, word.split(":"))
+        require(max(ancestor, via) < len(survivors.entries), "OutOfRange")
+        require(len(ticked) == 1 or ancestor < ticked[-1], "NotFalling")
+        require(via in ticked, "NotReached")
+        require(ancestor in survivors.parents[via], "NotParent")
+        ticked.append(ancestor)
+    require(ended, "Form")
+    found = set(ticked[1:])
+    require(all(found.issuperset(survivors.parents[one]) for one in ticked), "NotClosed")
+    ancestors[place] = found

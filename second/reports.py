@@ -1,117 +1,90 @@
-"""Output lines: what order, audit and watch print; and Legal histories."""
+"""Output lines: what order, audit, watch and check print."""
 from collections import Counter
 
+from logs import History
 from survivors import Survivors
-from verdicts import Judge, VERDICTS, verdicts
+from verdicts import TRUE, Judge
 
-def roles_of(roster):
-    return [machine.role for machine in roster.machines]
+def record_lines(name, log):
+    """The lines of refused records, and of an end that isn't clean."""
+    lines = ["refused %s %d %s" % (name, record.place, record.cause) for record in log.refused]
+    if log.ending:
+        word, *places = log.ending
+        lines.append(" ".join([word, name, *map(str, places)]))
+    return lines
 
-def break_place(log):
-    """The place of the record at which the kept ones stop being a legal history, or None."""
-    held, named, sent, stamp = set(), set(), 0, 0
-    for record in log.kept():
-        entry = record.entry
-        legal = entry.digest not in held and (record.word == "sent") == (entry.maker == log.owner)
-        if record.word == "sent":
-            legal = legal and (entry.number, entry.stamp) == (sent, stamp + 1)
-            legal = legal and entry.names == sorted(held - named)
-            sent += 1
-        if not legal:
-            return record.place
-        held.add(entry.digest)
-        named.update(entry.names)
-        stamp = max(stamp, entry.stamp)
-    return None
-
-def ending_line(name, ending):
-    """The line `torn` or `malformed` of a log's file, in a list."""
-    return [" ".join((ending[0], name, *map(str, ending[1:])))] if ending[0] != "clean" else []
-
-def refused_lines(name, log):
-    return ["refused %s %d %s" % (name, record.place, record.cause) for record in log.refused()]
-
-def log_lines(name, log):
-    head = "log %s owner %d kept %d refused %d" % (name, log.owner, len(log.kept()), len(log.refused()))
-    place = break_place(log)
-    breaks = [] if place is None else ["break %s %d" % (name, place)]
-    findings = refused_lines(name, log) + ending_line(name, log.ending) + breaks
-    return [head] + findings, bool(findings)
+def break_lines(name, log):
+    """The line of the record at which the kept ones stop being a legal history."""
+    history = History(log.owner)
+    for record in log.kept:
+        if not history.may_follow(record.word, record.entry):
+            return ["break %s %d" % (name, record.place)]
+        history.add(record.word, record.entry)
+    return []
 
 def survivor_lines(survivors, roster):
-    """The line `entries`, and the findings about survivors."""
-    names = roster.names
-    findings = ["stray " + digest.hex() for digest in survivors.strays]
-    findings += ["fork %s %d" % (names[maker], number) for maker, number in survivors.forks()]
-    findings += ["gap " + digest.hex() for digest in survivors.gaps()]
-    return ["entries %d" % len(survivors.entries)] + findings, bool(findings)
+    lines = ["stray " + digest.hex() for digest in survivors.strays]
+    lines += ["fork %s %d" % (roster.names[maker], number) for maker, number in survivors.forks()]
+    return lines + ["gap " + digest.hex() for digest in survivors.gaps()]
 
-def rule_line(rule, verdict, judge, roster):
+def rule_line(rule, verdict, judge):
     words = [verdict, rule.name]
-    if verdict == "broken":
-        for place in judge.culprits(rule.formula):
-            entry = judge.entries[place]
-            words.append("%s.%d:%s" % (roster.names[entry.maker], entry.number, entry.digest.hex()))
+    for entry in judge.culprits(rule.formula, {}) if verdict == "broken" else []:
+        name = judge.roster.names[entry.maker]
+        words.append("%s.%d:%s" % (name, entry.number, entry.digest.hex()))
     return " ".join(words)
 
-def overall(found, findings):
-    """The verdict of an audit, and its status."""
-    if "broken" in found:
+def overall(verdicts, findings):
+    """The verdict over all, and its status."""
+    if "broken" in verdicts:
         return "broken", 3
-    if "unsettled" in found:
+    if "unsettled" in verdicts:
         return "unsettled", 2
     return ("findings", 1) if findings else ("kept", 0)
 
-def has_findings(logs, survivors, roster):
-    return survivor_lines(survivors, roster)[1] or any(log_lines("", log)[1] for log in logs)
-
 def audit_report(roster, rules, names, logs, survivors):
-    judge = Judge(survivors.entries, survivors, roles_of(roster))
-    judge.require_width(rules)
-    lines, findings = [], False
+    """The lines of a report, and its status."""
+    judge = Judge(survivors, survivors.ancestors, roster)
+    verdicts, lines, findings = judge.verdicts(rules), [], survivor_lines(survivors, roster)
     for name, log in zip(names, logs):
-        own, found = log_lines(name, log)
-        lines, findings = lines + own, findings or found
-    own, found = survivor_lines(survivors, roster)
-    lines, findings = lines + own, findings or found
-    values = verdicts(judge, rules)
-    lines += [rule_line(rule, value, judge, roster) for rule, value in zip(rules, values)]
-    verdict, status = overall(values, findings)
+        found = record_lines(name, log) + break_lines(name, log)
+        counts = name, log.owner, len(log.kept), len(log.refused)
+        lines += ["log %s owner %d kept %d refused %d" % counts] + found
+        findings = findings + found
+    lines += ["entries %d" % len(survivors.entries)] + survivor_lines(survivors, roster)
+    lines += [rule_line(rule, verdict, judge) for rule, verdict in zip(rules, verdicts)]
+    verdict, status = overall(verdicts, findings)
     return lines + ["verdict " + verdict], status
 
-def watch_report(roster, rules, logs):
-    """A line for each kept record, and the status of the audit of them all."""
-    roles, entries, lines, counted = roles_of(roster), {}, [], None
-    survivors, values = Survivors([]), []
-    for entry in (record.entry for log in logs for record in log.kept()):
-        if entry.digest not in entries:
-            entries[entry.digest] = entry
-            survivors = Survivors(entries.values())
-            judge = Judge(survivors.entries, survivors, roles)
-            judge.require_width(rules)
-            values = verdicts(judge, rules)
-            counted = Counter(values)
-        lines.append("%d %d gaps %d kept %d broken %d unsettled %d" % (
-            len(lines) + 1, len(survivors.entries), len(survivors.gaps()),
-            counted["kept"], counted["broken"], counted["unsettled"]))
-    if not entries:
-        values = verdicts(Judge([], survivors, roles), rules)
-    return lines, overall(values, has_findings(logs, survivors, roster))[1]
+def watch_lines(roster, rules, logs):
+    """A line for each kept record."""
+    given, lines, counts = {}, [], ()
+    for entry in [record.entry for log in logs for record in log.kept]:
+        if entry.digest not in given:
+            given[entry.digest] = entry
+            survivors = Survivors(given.values())
+            found = Counter(Judge(survivors, survivors.ancestors, roster).verdicts(rules))
+            counts = (len(survivors.entries), len(survivors.gaps()), found["kept"],
+                      found["broken"], found["unsettled"])
+        head = len(lines) + 1
+        lines.append("%d %d gaps %d kept %d broken %d unsettled %d" % (head, *counts))
+    return lines
 
 def find_survivor(word, survivors, roster):
-    """The place of the survivor that a word of `order` means, or None."""
+    """The number of the survivor that a word of `order` means, or None."""
     if "." not in word:
         return survivors.places.get(bytes.fromhex(word))
     name, number = word.split(".")
     meant = [entry.digest for entry in survivors.entries
-             if roster.names[entry.maker] == name and entry.number == int(number)]
+             if (roster.names[entry.maker], entry.number) == (name, int(number))]
     return survivors.places[min(meant)] if meant else None
 
-def order_line(survivors, first, second):
+def order_line(survivors, roster, first, second):
+    judge = Judge(survivors, survivors.ancestors, roster)
     if first == second:
         return "same"
-    if survivors.before(first, second):
+    if judge.before(first, second) == TRUE:
         return "before"
-    if survivors.before(second, first):
+    if judge.before(second, first) == TRUE:
         return "after"
-    return "apart" if survivors.is_whole(first) and survivors.is_whole(second) else "unknown"
+    return "apart" if {first, second} <= judge.whole else "unknown"

@@ -1,27 +1,30 @@
-"""Scripts: the reader and the writer."""
-import re
+"""Scripts: their reader."""
 from collections import namedtuple
 
-from entries import Refused
-from signatures import HEIGHT_WORDS, SET_WORDS
-from texts import NUMBER, NUMBER_LIMIT
+from entries import DEEDS_OF, make_deed
+from rosters import NAME, has_one_supervisor
+from texts import NUMBER_LIMIT, read_decimal, refused_at, require
 
-SCRIPT_LIMIT = 4194304
-KINDS = ["version", "seed", "key", "log", "link", "machine", "do", "lose", "stop", "step"]
-ONCE = ["seed", "key", "log", "link"]
+# What the words of each kind of line are, the kinds that there have to be, and limits of lines.
+LINES = {"version": ["version"], "seed": ["seed"], "key": ["set", "height"], "log": ["size"],
+         "link": ["size"], "machine": ["new", "role"], "do": ["name", "deed"],
+         "lose": ["name", "number", "other"], "stop": ["unstopped", "events"], "step": ["step"]}
+STEPS = {"act": ["name"], "hear": ["name", "name", "number"], "stop": ["name"]}
+KINDS = list(LINES)
+NEEDED = ["seed", "key", "log", "link", "machine"]
 LINE_LIMITS = {"machine": 16, "do": 4096, "lose": 65536, "step": 131072}
-EVENT_LIMIT = 4096
-ENTRY_NUMBER_LIMIT = 4095
 
-SCRIPT_NAME = re.compile(r"[a-z0-9]{1,16}\Z")
-HEX = re.compile(r"(?:[0-9a-f]{2})*\Z")
-BALLOT = re.compile(r"[0-9a-f]{64}\Z")
+# The words that a script has for the deeds.
+SUPERVISOR_DEEDS = {"open": "opened", "authorise": "authorise", "override": "override",
+                    "close": "closed"}
+BOOTH_DEEDS = {word: word for word in ("activate", "commit", "cast", "cancel", "challenge")}
+DEED_WORDS = {**SUPERVISOR_DEEDS, **BOOTH_DEEDS}
 
-# What follows a deed's word: b a booth, s a session, d a ballot, h how.
-SUPERVISOR_DEEDS = {"open": "", "authorise": "bs", "close": "", "override": "s"}
-BOOTH_DEEDS = {"activate": "s", "commit": "sd", "cast": "sd", "cancel": "s"}
-STEPS = {"act": 3, "hear": 5, "stop": 3}
-COUNTS = {"version": 2, "seed": 2, "key": 3, "log": 2, "link": 2, "machine": 3, "lose": 4, "stop": 3}
+RANGES = {"version": (1, 2), "size": (1, 4096), "number": (0, 4095), "events": (0, 4096),
+          "session": (1, NUMBER_LIMIT)}
+# The words that may be chosen from; those of a key stand for types.
+CHOICES = {"set": {"w1": 1, "w2": 2, "w4": 3, "w8": 4}, "height": {"h5": 5, "h10": 6},
+           "role": ("supervisor", "booth"), "how": ("cancel", "cast")}
 
 ScriptMachine = namedtuple("ScriptMachine", "name role actions")
 
@@ -30,179 +33,116 @@ class Script:
         self.version, self.seed, self.key, self.log, self.link = 1, None, None, None, None
         self.machines, self.lost, self.stops, self.steps = [], [], {}, []
 
-    def place_of(self, name):
-        for place, machine in enumerate(self.machines):
-            if machine.name == name:
-                return place
-        return None
-
 class ScriptReader:
-    def __init__(self, octets):
-        self.octets = octets
-        self.script = Script()
-        self.line = 0
-        self.last_kind = None
-        self.counts = dict.fromkeys(KINDS, 0)
+    """Reads line by line; `values` are what the words of the line say, so far."""
 
-    def fault(self, cause):
-        raise Refused(self.line, cause)
+    def __init__(self):
+        self.script, self.values = Script(), []
+        self.last_kind, self.counts = KINDS[0], dict.fromkeys(KINDS, 0)
 
-    def read(self):
-        lines = self.octets.split(b"\n")
+    def read(self, octets):
+        lines = octets.split(b"\n")
         if lines[-1] == b"":
             lines.pop()
-        for self.line, line in enumerate(lines, 1):
-            if line and not line.startswith(b"#"):
-                self.read_line(line)
-        self.line = len(lines) + 1
-        if not all(self.counts[kind] for kind in ONCE + ["machine"]):
-            self.fault("OutOfOrder")
-        self.require_one_supervisor()
+        for number, line in enumerate(lines, 1):
+            with refused_at(number):
+                if line and not line.startswith(b"#"):
+                    self.read_line(line)
+        with refused_at(len(lines) + 1):
+            require(all(self.counts[kind] for kind in NEEDED), "OutOfOrder")
+            require(has_one_supervisor(self.script.machines), "NotOneSupervisor")
         return self.script
 
-    def require_one_supervisor(self):
-        if [machine.role for machine in self.script.machines].count("supervisor") != 1:
-            self.fault("NotOneSupervisor")
-
     def read_line(self, line):
-        if any(byte < 32 or byte > 126 for byte in line):
-            self.fault("NotPlain")
-        words = line.decode().split(" ")
-        kind = words[0]
-        if kind not in KINDS:
-            self.fault("UnknownWord")
-        self.require_order(kind)
+        require(all(32 <= byte <= 126 for byte in line), "NotPlain")
+        kind, *words = line.decode().split(" ")
+        require(kind in KINDS, "UnknownWord")
+        require(self.is_in_order(kind), "OutOfOrder")
         if KINDS.index(kind) > KINDS.index("machine"):
-            self.require_one_supervisor()
-        self.require_form(kind, words)
-        getattr(self, "read_" + kind)(*words[1:])
+            require(has_one_supervisor(self.script.machines), "NotOneSupervisor")
+        forms = self.forms(kind, words)
+        require(len(words) == len(forms), "WrongCount")
+        self.values = []
+        for form, word in zip(forms, words):
+            self.values.append(self.read_word(form, word))
         self.counts[kind] += 1
-        if self.counts[kind] > LINE_LIMITS.get(kind, self.counts[kind]):
-            self.fault("OutOfRange")
+        require(self.counts[kind] <= LINE_LIMITS.get(kind, self.counts[kind]), "OutOfRange")
         self.last_kind = kind
+        self.keep(kind, forms, *self.values)
 
-    def require_order(self, kind):
+    def is_in_order(self, kind):
         place = KINDS.index(kind)
-        if self.last_kind and place < KINDS.index(self.last_kind):
-            self.fault("OutOfOrder")
-        if kind == self.last_kind and kind in ["version"] + ONCE:
-            self.fault("OutOfOrder")
-        for earlier in ONCE + ["machine"]:
-            if KINDS.index(earlier) < place and not self.counts[earlier]:
-                self.fault("OutOfOrder")
+        if place < KINDS.index(self.last_kind):
+            return False
+        if place < KINDS.index("machine") and self.counts[kind]:
+            return False
+        return all(self.counts[needed] for needed in NEEDED if KINDS.index(needed) < place)
 
-    def deeds(self):
-        supervisor, booth = dict(SUPERVISOR_DEEDS), dict(BOOTH_DEEDS)
-        if self.script.version == 2:
-            supervisor["override"] = "sh"
-            booth["challenge"] = "sd"
-        return {"supervisor": supervisor, "booth": booth}
+    def forms(self, kind, words):
+        """What the words after the kind have to be."""
+        if kind == "do" and len(words) > 1:
+            fields = DEEDS_OF[self.script.version].get(DEED_WORDS.get(words[1]))
+            require(fields is not None, "UnknownWord")
+            return LINES[kind] + list(fields)
+        if kind == "step" and words:
+            require(words[0] in STEPS, "UnknownWord")
+            return LINES[kind] + STEPS[words[0]]
+        return LINES[kind]
 
-    def require_form(self, kind, words):
-        """The third and the second word of `do` and `step`, and the number of words."""
-        count = COUNTS.get(kind)
-        if kind == "do":
-            deeds = self.deeds()
-            forms = {**deeds["supervisor"], **deeds["booth"]}
-            if len(words) > 2:
-                if words[2] not in forms:
-                    self.fault("UnknownWord")
-                count = 3 + len(forms[words[2]])
-        if kind == "step" and len(words) > 1:
-            if words[1] not in STEPS:
-                self.fault("UnknownWord")
-            count = STEPS[words[1]]
-        if len(words) != count:
-            self.fault("WrongCount")
-
-    def number(self, word, least, most):
-        if not NUMBER.match(word.encode()) or int(word) > NUMBER_LIMIT:
-            self.fault("BadNumber")
-        if not least <= int(word) <= most:
-            self.fault("OutOfRange")
-        return int(word)
-
-    def choice(self, word, choices):
-        if word not in choices:
-            self.fault("UnknownWord")
+    def read_word(self, form, word):
+        if form in RANGES:
+            number, (low, high) = read_decimal(word), RANGES[form]
+            require(number is not None, "BadNumber")
+            require(low <= number <= high, "OutOfRange")
+            return number
+        if form in CHOICES:
+            require(word in CHOICES[form], "UnknownWord")
+        elif form in ("seed", "ballot"):
+            good = len(word) % 2 == 0 and all(digit in "0123456789abcdef" for digit in word)
+            require(good and (form == "seed" or len(word) == 64), "BadHex")
+            require(1 <= len(word) // 2 <= 32, "OutOfRange")
+            return bytes.fromhex(word)
+        elif form == "deed":
+            role = self.script.machines[self.values[0]].role
+            deeds = SUPERVISOR_DEEDS if role == "supervisor" else BOOTH_DEEDS
+            require(word in deeds, "WrongRole")
+        elif form != "step":
+            return self.read_name(form, word)
         return word
 
-    def name(self, word):
-        if not SCRIPT_NAME.match(word):
-            self.fault("BadName")
-        return word
-
-    def machine(self, word):
-        """The place of the machine that the word names."""
-        place = self.script.place_of(self.name(word))
-        if place is None:
-            self.fault("UnknownName")
+    def read_name(self, form, word):
+        """A new machine's name, or the place of a machine."""
+        require(NAME.fullmatch(word), "BadName")
+        names = [machine.name for machine in self.script.machines]
+        place = names.index(word) if word in names else None
+        if form == "new":
+            require(place is None, "SameName")
+            return word
+        require(form != "unstopped" or place not in self.script.stops, "SameName")
+        require(form != "other" or place != self.values[0], "SameName")
+        require(place is not None, "UnknownName")
+        if form == "booth":
+            require(self.script.machines[place].role == "booth", "WrongRole")
         return place
 
-    def read_version(self, number):
-        self.script.version = self.number(number, 1, 2)
-
-    def read_seed(self, digits):
-        if not HEX.match(digits):
-            self.fault("BadHex")
-        if not 1 <= len(digits) // 2 <= 32:
-            self.fault("OutOfRange")
-        self.script.seed = bytes.fromhex(digits)
-
-    def read_key(self, kind, height):
-        self.script.key = (self.choice(kind, SET_WORDS), self.choice(height, HEIGHT_WORDS))
-
-    def read_log(self, number):
-        self.script.log = self.number(number, 1, EVENT_LIMIT)
-
-    def read_link(self, number):
-        self.script.link = self.number(number, 1, EVENT_LIMIT)
-
-    def read_machine(self, name, role):
-        if self.script.place_of(self.name(name)) is not None:
-            self.fault("SameName")
-        self.script.machines.append(ScriptMachine(name, self.choice(role, ("supervisor", "booth")), []))
-
-    def read_do(self, name, deed, *words):
-        machine = self.script.machines[self.machine(name)]
-        forms = self.deeds()[machine.role]
-        if deed not in forms:
-            self.fault("WrongRole")
-        arguments = [self.argument(form, word) for form, word in zip(forms[deed], words)]
-        machine.actions.append((deed, *arguments))
-
-    def argument(self, form, word):
-        if form == "b":
-            place = self.machine(word)
-            if self.script.machines[place].role != "booth":
-                self.fault("WrongRole")
-            return place
-        if form == "s":
-            return self.number(word, 1, NUMBER_LIMIT)
-        if form == "h":
-            return self.choice(word, ("cancel", "cast"))
-        if not BALLOT.match(word):
-            self.fault("BadHex")
-        return bytes.fromhex(word)
-
-    def read_lose(self, sender, number, receiver):
-        lost = (self.machine(sender), self.number(number, 0, ENTRY_NUMBER_LIMIT), self.machine(receiver))
-        if lost[0] == lost[2]:
-            self.fault("SameName")
-        self.script.lost.append(lost)
-
-    def read_stop(self, name, events):
-        place = self.machine(name)
-        if place in self.script.stops:
-            self.fault("SameName")
-        self.script.stops[place] = self.number(events, 0, EVENT_LIMIT)
-
-    def read_step(self, word, name, *words):
-        places = [self.machine(name)]
-        if word == "hear":
-            places.append(self.machine(words[0]))
-            places.append(self.number(words[1], 0, ENTRY_NUMBER_LIMIT))
-        self.script.steps.append((word, *places))
+    def keep(self, kind, forms, first, *others):
+        """Keep what a line's words say."""
+        script = self.script
+        if kind == "machine":
+            script.machines.append(ScriptMachine(first, *others, []))
+        elif kind == "do":
+            deed = make_deed(DEED_WORDS[others[0]], forms[2:], others[1:])
+            script.machines[first].actions.append(deed)
+        elif kind == "lose":
+            script.lost.append((first, *others))
+        elif kind == "stop":
+            script.stops[first] = others[0]
+        elif kind == "step":
+            script.steps.append((first, *others))
+        elif kind == "key":
+            script.key = CHOICES["height"][others[0]], CHOICES["set"][first]
+        else:
+            setattr(script, kind, first)
 
 def read_script(octets):
-    return ScriptReader(octets).read()
+    return ScriptReader().read(octets)

@@ -1,61 +1,49 @@
-"""Survivors: strays, forks, gaps, and what precedes what."""
-from entries import Refused
+"""Survivors: strays, forks, gaps, and what precedes what.
+
+Two entries with one digest (`Collision`) are left out, since nobody knows any.
+"""
+from collections import Counter
+
+from texts import require
 
 ENTRY_LIMIT = 16384
 
 class Survivors:
-    """What is left of entries when the strays are set aside, by stamp and then digest."""
+    """The survivors of given entries, by their numbers; `ancestors` are sets of numbers."""
 
-    def __init__(self, entries):
-        distinct = {entry.digest: entry for entry in entries}
-        self.strays = sorted(entry.digest for entry in distinct.values() if is_stray(entry, distinct))
-        strays = set(self.strays)
-        left = [entry for entry in distinct.values() if entry.digest not in strays]
+    def __init__(self, given):
+        distinct = {entry.digest: entry for entry in given}
+        self.strays = sorted(digest for digest in distinct if is_stray(distinct[digest], distinct))
+        left = [distinct[digest] for digest in distinct.keys() - set(self.strays)]
         self.entries = sorted(left, key=lambda entry: (entry.stamp, entry.digest))
         self.places = {entry.digest: place for place, entry in enumerate(self.entries)}
         self.parents = [[self.places[name] for name in entry.names if name in self.places]
                         for entry in self.entries]
-        self.names_gap = [len(parents) < len(entry.names)
-                          for entry, parents in zip(self.entries, self.parents)]
-        self.find_ancestors()
-
-    def find_ancestors(self):
-        """The ancestors of each survivor, as bits of a number, and whether it is whole."""
-        self.ancestors, self.whole = [], []
+        self.ancestors = {}
         for place, parents in enumerate(self.parents):
-            bits = 0
-            for parent in parents:
-                bits |= self.ancestors[parent] | 1 << parent
-            self.ancestors.append(bits)
-            self.whole.append(not self.names_gap[place] and all(self.whole[parent] for parent in parents))
+            self.ancestors[place] = set(parents).union(*[self.ancestors[one] for one in parents])
+
+    def whole(self, ancestors):
+        """The survivors that are whole, by the ancestors of some of them."""
+        names_gap = {place for place, entry in enumerate(self.entries)
+                     if len(self.parents[place]) < len(entry.names)}
+        return {place for place, found in ancestors.items()
+                if names_gap.isdisjoint(found | {place})}
 
     def gaps(self):
         named = {name for entry in self.entries for name in entry.names}
-        return sorted(named - set(self.places))
+        return sorted(named - self.places.keys())
 
     def forks(self):
-        """The pairs of a machine and a number that two survivors have."""
-        seen, twice = set(), set()
-        for entry in self.entries:
-            pair = (entry.maker, entry.number)
-            (twice if pair in seen else seen).add(pair)
-        return sorted(twice)
-
-    def before(self, first, second):
-        """Does the first precede the second: True, False, or None if that isn't known."""
-        if self.ancestors[second] >> first & 1:
-            return True
-        return False if self.whole[second] else None
-
-    def is_whole(self, place):
-        return self.whole[place]
+        """The pairs of a machine and a number that several survivors have."""
+        counts = Counter((entry.maker, entry.number) for entry in self.entries)
+        return sorted(pair for pair, count in counts.items() if count > 1)
 
 def is_stray(entry, distinct):
     return any(name in distinct and distinct[name].stamp >= entry.stamp for name in entry.names)
 
 def gather(logs):
     """The survivors of the kept records of logs."""
-    entries = [record.entry for log in logs for record in log.kept()]
-    if len({entry.digest for entry in entries}) > ENTRY_LIMIT:
-        raise Refused(0, "TooMany")
-    return Survivors(entries)
+    given = [record.entry for log in logs for record in log.kept]
+    require(len({entry.digest for entry in given}) <= ENTRY_LIMIT, "TooMany")
+    return Survivors(given)

@@ -1,148 +1,114 @@
-"""Values (under Rules): what a formula says of survivors, and rules that are too wide.
+"""Values, under Rules: what rules come to over survivors, and which are too wide."""
+from texts import require
 
-A value is True, False, or None where neither is known.
-"""
-from entries import Refused
-
+FALSE, UNKNOWN, TRUE = 0, 1, 2
+VERDICTS = {TRUE: "kept", FALSE: "broken", UNKNOWN: "unsettled"}
 WIDTH_LIMIT = 268435456
 
 def kind_of(entry):
-    if entry.deed[0] == "override":
-        return "forced" if entry.deed[2:] == ("cast",) else "override"
-    return entry.deed[0]
+    forced = entry.deed["word"] == "override" and entry.deed["how"] == "cast"
+    return "forced" if forced else entry.deed["word"]
 
-def field_of(entry, field):
-    if field in ("maker", "number"):
-        return getattr(entry, field)
-    if field == "booth":
-        return entry.deed[1]
-    if field == "session":
-        return entry.deed[2] if entry.deed[0] == "authorise" else entry.deed[1]
-    return entry.deed[2]
+def up_to(last, values):
+    """The values up to a first one, since those after it change nothing."""
+    for value in values:
+        yield value
+        if value == last:
+            return
 
-def opposite(value):
-    return None if value is None else not value
+def least(values):
+    return min(up_to(FALSE, values), default=TRUE)
+
+def greatest(values):
+    return max(up_to(TRUE, values), default=FALSE)
 
 class Judge:
-    """Judges formulas over entries, `precedence` knowing what comes before what."""
+    """Says what formulas come to over survivors, by the ancestors of all or of some of them.
 
-    def __init__(self, entries, precedence, roles):
-        self.entries, self.precedence, self.roles = entries, precedence, roles
-        self.kinds = [kind_of(entry) for entry in entries]
+    `bound` maps variables to the numbers of survivors.
+    """
+
+    def __init__(self, survivors, ancestors, roster):
+        self.entries, self.roster = survivors.entries, roster
+        self.ancestors, self.whole = ancestors, survivors.whole(ancestors)
+        self.kinds = [kind_of(entry) for entry in self.entries]
 
     def of_kind(self, kind):
         return [place for place, other in enumerate(self.kinds) if kind in ("entry", other)]
 
+    def before(self, first, second):
+        """The value of whether the first precedes the second."""
+        if first in self.ancestors.get(second, ()):
+            return TRUE
+        return FALSE if second in self.whole else UNKNOWN
+
     def value(self, formula, bound):
-        return getattr(self, "value_" + NAMES.get(formula[0], formula[0]))(bound, *formula[1:])
-
-    def value_true(self, bound):
-        return True
-
-    def value_and(self, bound, *formulas):
-        return self.all_of(self.value(formula, bound) for formula in formulas)
-
-    def value_or(self, bound, *formulas):
-        return self.any_of(self.value(formula, bound) for formula in formulas)
-
-    def value_not(self, bound, formula):
-        return opposite(self.value(formula, bound))
-
-    def value_implies(self, bound, first, second):
-        value = opposite(self.value(first, bound))
-        return value if value else self.any_of((value, self.value(second, bound)))
-
-    def value_same(self, bound, first, second):
-        return bound[first] == bound[second]
-
-    def value_before(self, bound, first, second):
-        return self.precedence.before(bound[first], bound[second])
-
-    def value_next(self, bound, first, second):
-        first, second = self.entries[bound[first]], self.entries[bound[second]]
-        return first.maker == second.maker and first.number + 1 == second.number
-
-    def value_is(self, bound, variable, role):
-        return self.roles[self.entries[bound[variable]].maker] == role
-
-    def value_kind(self, bound, variable, kind):
-        return kind in ("entry", self.kinds[bound[variable]])
-
-    def value_equal(self, bound, first, second):
-        return self.term(first, bound) == self.term(second, bound)
-
-    def value_less(self, bound, first, second):
-        return self.term(first, bound) < self.term(second, bound)
-
-    def term(self, term, bound):
-        return term if isinstance(term, int) else field_of(self.entries[bound[term[0]]], term[1])
-
-    def value_every(self, bound, *quantifier):
-        return self.all_of(self.instances(bound, *quantifier))
-
-    def value_some(self, bound, *quantifier):
-        return self.any_of(self.instances(bound, *quantifier))
-
-    def range(self, bound, kind, before):
-        """The survivors that a quantifier goes over."""
-        places = self.of_kind(kind)
-        if before is None:
-            return places
-        return [place for place in places if self.precedence.before(place, bound[before])]
+        head, *parts = formula
+        if head in ("every", "some"):
+            return (least if head == "every" else greatest)(self.instances(bound, *parts))
+        if head in ("and", "or"):
+            values = (self.value(part, bound) for part in parts)
+            return (least if head == "and" else greatest)(values)
+        if head == "not":
+            return TRUE - self.value(parts[0], bound)
+        if head == "implies":
+            return self.value(("or", ("not", parts[0]), parts[1]), bound)
+        if head == "before":
+            return self.before(bound[parts[0]], bound[parts[1]])
+        return TRUE if self.holds(head, parts, bound) else FALSE
 
     def instances(self, bound, variable, kind, before, formula):
-        """The values at the survivors, and one unknown more for the lost ones."""
-        for place in self.range(bound, kind, before):
-            yield self.value(formula, {**bound, variable: place})
-        if before and not self.precedence.is_whole(bound[before]):
-            yield None
+        """The values of a quantifier's formula, and unknown where a lost entry may count."""
+        for place in self.of_kind(kind):
+            if before is None or place in self.ancestors.get(bound[before], ()):
+                yield self.value(formula, {**bound, variable: place})
+        if before is not None and bound[before] not in self.whole:
+            yield UNKNOWN
 
-    @staticmethod
-    def all_of(values):
-        known = True
-        for value in values:
-            if value is False:
-                return False
-            known = known and value is not None
-        return True if known else None
+    def holds(self, head, parts, bound):
+        """Does a formula hold that the survivors decide?"""
+        if head == "true":
+            return True
+        if head in ("=", "<"):
+            first, second = [self.term(part, bound) for part in parts]
+            return first == second if head == "=" else first < second
+        entry = self.entries[bound[parts[0]]]
+        if head == "is":
+            return self.roster.machines[entry.maker].role == parts[1]
+        if head == "kind":
+            return parts[1] in ("entry", kind_of(entry))
+        other = self.entries[bound[parts[1]]]
+        if head == "next":
+            return (entry.maker, entry.number + 1) == (other.maker, other.number)
+        return entry is other
 
-    @staticmethod
-    def any_of(values):
-        known = True
-        for value in values:
-            if value:
-                return True
-            known = known and value is not None
-        return False if known else None
+    def term(self, term, bound):
+        if isinstance(term, int):
+            return term
+        entry, field = self.entries[bound[term[0]]], term[1]
+        return entry.deed[field] if field in entry.deed else getattr(entry, field)
 
-    def culprits(self, formula, bound=None):
-        """The first entries for which the leading `every` of a broken rule fails."""
-        bound = bound or {}
-        if formula[0] != "every" or formula[3]:
+    def culprits(self, formula, bound):
+        """The entries that the leading `every` of a broken rule stand for."""
+        if formula[0] != "every" or formula[3] is not None:
             return []
-        _, variable, kind, _, inner = formula
+        _, variable, kind, _, inside = formula
         for place in self.of_kind(kind):
             instance = {**bound, variable: place}
-            if self.value(inner, instance) is False:
-                return [place] + self.culprits(inner, instance)
+            if self.value(inside, instance) == FALSE:
+                return [self.entries[place]] + self.culprits(inside, instance)
         return []
 
     def width(self, formula, around=1):
-        """The greatest product of the numbers of entries of quantifiers that nest."""
+        """The greatest product of the numbers of survivors of quantifiers that nest."""
         if formula[0] in ("every", "some"):
             counted = around * len(self.of_kind(formula[2]))
             return max(counted, self.width(formula[4], counted))
-        parts = [part for part in formula[1:] if isinstance(part, tuple) and part[0] in INNER]
-        return max([0] + [self.width(part, around) for part in parts])
+        nests = formula[0] in ("and", "or", "not", "implies")
+        return max([self.width(part, around) for part in formula[1:] if nests], default=0)
 
-    def require_width(self, rules):
+    def verdicts(self, rules):
+        """The verdicts of rules, of which none may be too wide."""
         for place, rule in enumerate(rules):
-            if self.width(rule.formula) > WIDTH_LIMIT:
-                raise Refused(place, "TooWide")
-
-NAMES = {"=": "equal", "<": "less"}
-INNER = ("every", "some", "and", "or", "not", "implies")
-VERDICTS = {True: "kept", False: "broken", None: "unsettled"}
-
-def verdicts(judge, rules):
-    return [VERDICTS[judge.value(rule.formula, {})] for rule in rules]
+            require(self.width(rule.formula) <= WIDTH_LIMIT, "TooWide", place)
+        return [VERDICTS[self.value(rule.formula, {})] for rule in rules]

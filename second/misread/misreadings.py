@@ -1,209 +1,590 @@
-"""Plausible misreadings of the document: (name, module, old text, new text, kinds of cases that may find it)."""
+"""Plausible misreadings of the document, each a small edit of the second program.
+
+Each is a title, a module, the text that is replaced, the text in its place, and the kinds of cases
+that may find it.
+"""
 MISREADINGS = [
     ("WrongIndex is tried before UnknownMaker", "entries.py",
-     """    if entry.maker >= len(roster.machines):
-        return "UnknownMaker"
-    if entry.signature[:4] != entry.number.to_bytes(4, "big"):
-        return "WrongIndex"
-""", """    if entry.signature[:4] != entry.number.to_bytes(4, "big"):
-        return "WrongIndex"
-    if entry.maker >= len(roster.machines):
-        return "UnknownMaker"
-""", "table_entry_causes"),
+     """        require(entry.maker < len(roster.machines), "UnknownMaker")
+        require(entry.signature[:4] == u32(entry.number), "WrongIndex")
+""",
+     """        require(entry.signature[:4] == u32(entry.number), "WrongIndex")
+        require(entry.maker < len(roster.machines), "UnknownMaker")
+""",
+     "table_entry_causes"),
     ("UnknownMaker is tried before OtherElection", "entries.py",
-     """    if entry.election != roster.election:
-        return "OtherElection"
-    if entry.maker >= len(roster.machines):
-        return "UnknownMaker"
-""", """    if entry.maker >= len(roster.machines):
-        return "UnknownMaker"
-    if entry.election != roster.election:
-        return "OtherElection"
-""", "table_entry_causes"),
-    ("Names may be equal", "entries.py", "any(first >= second for first", "any(first > second for first", "table_entry_causes"),
-    ("Deeds of version 2 are read in version 1", "entries.py", "and version in versions:", "and versions:", "table_entry_causes"),
-    ("A maker equal to the number of machines is known", "entries.py", "entry.maker >= len(roster.machines)",
-     "entry.maker > len(roster.machines)", "table_entry_causes"),
-    ("The digest is that of the body", "entries.py", "Entry(text, H(text),", "Entry(text, H(write_text(body)),", "table_strays"),
-    ("A roster's SameName is tried before BadName", "entries.py",
-     """    if not all(map(MACHINE_NAME.match, names)):
-        raise Refused(0, "BadName")
-    if len(set(names)) < len(names):
-        raise Refused(0, "SameName")
-""", """    if len(set(names)) < len(names):
-        raise Refused(0, "SameName")
-    if not all(map(MACHINE_NAME.match, names)):
-        raise Refused(0, "BadName")
-""", "table_roster_causes"),
-    ("A roster may have 15 machines", "entries.py", "MACHINE_LIMIT = 16", "MACHINE_LIMIT = 15", "table_roster_causes"),
-    ("A roster without a machine is one", "entries.py", ".count(b\"supervisor\") != 1", ".count(b\"supervisor\") > 1",
+     """        require(entry.election == roster.election, "OtherElection")
+        require(entry.maker < len(roster.machines), "UnknownMaker")
+""",
+     """        require(entry.maker < len(roster.machines), "UnknownMaker")
+        require(entry.election == roster.election, "OtherElection")
+""",
+     "table_entry_causes"),
+    ("BadSignature is tried before WrongIndex", "entries.py",
+     """        require(entry.signature[:4] == u32(entry.number), "WrongIndex")
+        key = roster.machines[entry.maker].key
+        require(verify(key, entry.body, entry.signature), "BadSignature")
+""",
+     """        key = roster.machines[entry.maker].key
+        require(verify(key, entry.body, entry.signature), "BadSignature")
+        require(entry.signature[:4] == u32(entry.number), "WrongIndex")
+""",
+     "table_entry_causes"),
+    ("Names may be equal", "entries.py",
+     "all(first < second for first", "all(first <= second for first",
+     "table_entry_causes"),
+    ("NamesNotRising is tried before WrongShape of the deed", "entries.py",
+     """    deed, text = read_deed(body[7], version), write_text(value)
+    require(all(first < second for first, second in zip(names, names[1:])), "NamesNotRising")
+""",
+     """    require(all(first < second for first, second in zip(names, names[1:])), "NamesNotRising")
+    deed, text = read_deed(body[7], version), write_text(value)
+""",
+     "table_entry_causes"),
+    ("Deeds of version 2 are read in version 1", "entries.py",
+     "DEEDS_OF = {1: DEEDS,", "DEEDS_OF = {1: {**LATER_DEEDS, **DEEDS},",
+     "table_entry_causes"),
+    ("An override of version 2 may lack how it is meant", "entries.py",
+     'require(fields is not None and len(value) == len(fields) + 1, "WrongShape")',
+     """require(fields is not None, "WrongShape")
+    short = word == "override" and len(value) == 2
+    require(short or len(value) == len(fields) + 1, "WrongShape")""",
+     "table_entry_causes,audit"),
+    ("A maker equal to the number of machines is known", "entries.py",
+     "entry.maker < len(roster.machines)", "entry.maker <= len(roster.machines)",
+     "table_entry_causes"),
+    ("The digest is that of the body", "entries.py",
+     "Entry(text, H(text),", "Entry(text, H(write_text(body)),",
+     "table_strays"),
+    ("A roster's SameName is tried before BadName", "rosters.py",
+     """    require(all(map(NAME.fullmatch, names)), "BadName")
+    require(len(set(names)) == len(names), "SameName")
+""",
+     """    require(len(set(names)) == len(names), "SameName")
+    require(all(map(NAME.fullmatch, names)), "BadName")
+""",
      "table_roster_causes"),
-    ("NotCanonical of a text that others follow is at its length", "entries.py",
-     "raise Refused(found.end, \"NotCanonical\")", "raise Refused(len(octets), \"NotCanonical\")", "table_roster_causes"),
+    ("A roster's BadName is tried before TooManyMachines", "rosters.py",
+     """    require(len(machines) <= MACHINE_LIMIT, "TooManyMachines")
+    require(all(map(NAME.fullmatch, names)), "BadName")
+""",
+     """    require(all(map(NAME.fullmatch, names)), "BadName")
+    require(len(machines) <= MACHINE_LIMIT, "TooManyMachines")
+""",
+     "table_roster_causes"),
+    ("A roster may have 15 machines", "rosters.py",
+     "MACHINE_LIMIT = 16", "MACHINE_LIMIT = 15",
+     "table_roster_causes"),
+    ("A roster without a machine is one", "rosters.py",
+     '.count("supervisor") == 1', '.count("supervisor") == bool(machines)',
+     "table_roster_causes"),
+    ("NotCanonical of a text that others follow is at its length", "rosters.py",
+     '"NotCanonical", end)', '"NotCanonical", len(octets))',
+     "table_roster_causes"),
+    ("A text that ends too early is NotCanonical at 0", "rosters.py",
+     'raise Refused(len(octets), "NotCanonical")', 'raise Refused(0, "NotCanonical")',
+     "table_roster_causes,rosters"),
     ("A set's type in a signature isn't compared", "signatures.py",
-     "word(signature, 4) != set_type or word(signature, elements_end) != tree_type",
-     "word(signature, elements_end) != tree_type", "table_entry_causes"),
+     "(number_at(signature, path - 4), number_at(signature, 4)) != types",
+     "number_at(signature, path - 4) != types[0]",
+     "table_entry_causes"),
     ("A tree's type in a signature isn't compared", "signatures.py",
-     "word(signature, 4) != set_type or word(signature, elements_end) != tree_type",
-     "word(signature, 4) != set_type", "table_entry_causes"),
+     "(number_at(signature, path - 4), number_at(signature, 4)) != types",
+     "number_at(signature, 4) != types[1]",
+     "table_entry_causes"),
+    ("Bytes after a signature are left out", "signatures.py",
+     """    types = key_types(public_key)
+    if types is None or len(signature)""",
+     """    types = key_types(public_key)
+    signature = signature[:signature_length(*types)] if types else signature
+    if types is None or len(signature)""",
+     "table_entry_causes"),
     ("The key's first number, of levels, isn't compared", "signatures.py",
-     "or word(public_key, 0) != 2 or", "or", "table_endorsed"),
-    ("The lower key has the types of the upper one", "signatures.py",
-     "    return (verify(public_key[4:], low_key,", "    return (low_key[:8] == public_key[4:12] and verify(public_key[4:], low_key,",
+     "or number_at(public_key, 0) != 2 or", "or",
      "table_endorsed"),
-    ("The checksum isn't shifted", "signatures.py", "total << ls", "total", "table_play_limits"),
-    ("An atom may have 262,143 octets", "texts.py", "ATOM_LIMIT = 262144", "ATOM_LIMIT = 262143", "table_canonical"),
+    ("The signature's first number isn't compared", "signatures.py",
+     " or number_at(signature, 0) != 1:", ":",
+     "table_endorsed,endorsed"),
+    ("The lower key has the types of the upper one", "signatures.py",
+     "    return (verify(public_key[4:], low_key,",
+     "    return (low_key[:8] == public_key[4:12] and verify(public_key[4:], low_key,",
+     "table_endorsed"),
+    ("The checksum isn't shifted", "signatures.py",
+     "for i in range(256 // w)) << ls", "for i in range(256 // w))",
+     "table_play_limits"),
+    ("q may be the number of leaves", "signatures.py",
+     "if q >= size:", "if q > size:",
+     "table_endorsed"),
+    ("An atom may have 262,143 octets", "texts.py",
+     "ATOM_LIMIT = 262144", "ATOM_LIMIT = 262143",
+     "table_canonical"),
     ("Lists nest 9 deep", "texts.py", "DEPTH_LIMIT = 8", "DEPTH_LIMIT = 9", "table_canonical"),
     ("TooDeep is tried before TooMany", "texts.py",
-     """    if opened and len(opened[-1]) == MEMBER_LIMIT:
-        return "TooMany"
-    if byte == b"(" and len(opened) == DEPTH_LIMIT:
-        return "TooDeep"
-""", """    if byte == b"(" and len(opened) == DEPTH_LIMIT:
-        return "TooDeep"
-    if opened and len(opened[-1]) == MEMBER_LIMIT:
-        return "TooMany"
-""", "table_canonical"),
-    ("A full list has no closing parenthesis", "texts.py", "        return None if opened else \"NotAToken\"",
-     "        return (\"TooMany\" if len(opened[-1]) == MEMBER_LIMIT else None) if opened else \"NotAToken\"", "table_canonical"),
-    ("A digit after 0 is no token", "texts.py", "\"LeadingZero\"", "\"NotAToken\"", "table_canonical"),
-    ("A torn file's offset is its length", "entries.py", "(\"torn\", place)", "(\"torn\", len(octets))", "table_canonical"),
-    ("Refused records aren't counted in places", "entries.py",
-     "records.append(Record(len(records), word, entry,", "records.append(Record(len([r for r in records if not r.cause]), word, entry,",
+     """    require(not in_full_list, "TooMany", place)
+    if byte == b"(":
+""",
+     """    require(byte != b"(" or depth <= DEPTH_LIMIT, "TooDeep", place)
+    require(not in_full_list, "TooMany", place)
+    if byte == b"(":
+""",
+     "table_canonical"),
+    ("TooMany is tried before NotAToken", "texts.py",
+     """    require(byte == b"(" or byte.isdigit(), "NotAToken", place)
+    require(not in_full_list, "TooMany", place)
+""",
+     """    require(not in_full_list, "TooMany", place)
+    require(byte == b"(" or byte.isdigit(), "NotAToken", place)
+""",
+     "table_canonical"),
+    ("A full list has no closing parenthesis", "texts.py",
+     'while octets[place:place + 1] != b")":',
+     'while octets[place:place + 1] != b")" or len(members) == MEMBER_LIMIT:',
+     "table_canonical"),
+    ("A digit after 0 is no token", "texts.py", '"LeadingZero"', '"NotAToken"', "table_canonical"),
+    ("A list of 16,385 members is too long, not its last member", "texts.py",
+     "MEMBER_LIMIT = 16384", "MEMBER_LIMIT = 16385",
+     "table_canonical"),
+    ("A torn file's offset is its length", "logs.py",
+     '["torn", start]', '["torn", len(octets)]',
+     "table_canonical"),
+    ("A malformed file's offset is its record's", "logs.py",
+     '["malformed", refusal.place,', '["malformed", start,',
+     "table_canonical"),
+    ("Refused records aren't counted in places", "logs.py",
+     "place, start = len(kept) + len(refused), end", "place, start = len(kept), end",
      "audit,gaps"),
+    ("A header's owner may have leading zeros", "logs.py",
+     """require(read_number(value[2]) is not None, "Header")
+    return read_number(value[2]), end""",
+     """require(value[2].isdigit() and int(value[2]) <= 4294967295, "Header")
+    return int(value[2]), end""",
+     "table_headers,audit"),
+    ("A header with an owner that no machine has is refused", "logs.py",
+     'require(read_number(value[2]) is not None, "Header")',
+     'require((read_number(value[2]) or 0) < 4294967295 and read_number(value[2]) is not None, "Header")',
+     "table_headers,audit"),
     ("Strays are judged in two passes", "survivors.py",
-     "        strays = set(self.strays)\n",
-     "        left = {one: entry for one, entry in distinct.items() if one not in set(self.strays)}\n"
-     "        self.strays = [one for one in self.strays if is_stray(distinct[one], {**left, one: distinct[one]})]\n"
-     "        strays = set(self.strays)\n", "table_strays"),
-    ("An entry with an equal stamp is no stray", "survivors.py", ".stamp >= entry.stamp", ".stamp > entry.stamp", "table_strays"),
-    ("A stray closes a gap", "survivors.py", "return sorted(named - set(self.places))",
-     "return sorted(named - set(self.places) - set(self.strays))", "table_strays"),
+     "        left = [distinct",
+     """        for digest in list(self.strays):
+            others = {one: distinct[one] for one in distinct.keys() - set(self.strays)}
+            if not is_stray(distinct[digest], others):
+                self.strays.remove(digest)
+        left = [distinct""",
+     "table_strays"),
+    ("An entry with an equal stamp is no stray", "survivors.py",
+     ".stamp >= entry.stamp", ".stamp > entry.stamp",
+     "table_strays"),
+    ("A stray closes a gap", "survivors.py",
+     "return sorted(named - self.places.keys())",
+     "return sorted(named - self.places.keys() - set(self.strays))",
+     "table_strays"),
     ("Whole means naming no gap oneself", "survivors.py",
-     "not self.names_gap[place] and all(self.whole[parent] for parent in parents)", "not self.names_gap[place]", "audit,order,rules"),
-    ("Forks are listed by number first", "survivors.py", "return sorted(twice)",
-     "return sorted(twice, key=lambda pair: (pair[1], pair[0]))", "audit,table_findings"),
-    ("Forks are listed by the machine's name", "reports.py", "for maker, number in survivors.forks()]",
-     "for maker, number in sorted(survivors.forks(), key=lambda pair: (names[pair[0]], pair[1]))]", "audit,table_findings"),
+     "if names_gap.isdisjoint(found | {place})", "if place not in names_gap",
+     "audit,order,rules"),
+    ("Forks are listed by number first", "survivors.py",
+     "return sorted(pair for pair, count in counts.items() if count > 1)",
+     """return sorted((pair for pair, count in counts.items() if count > 1),
+                      key=lambda pair: (pair[1], pair[0]))""",
+     "table_findings,audit"),
+    ("Forks are listed by the machine's name", "reports.py",
+     "for maker, number in survivors.forks()]",
+     """for maker, number in sorted(survivors.forks(),
+                       key=lambda pair: (roster.names[pair[0]], pair[1]))]""",
+     "table_findings,audit"),
     ("Survivors of one stamp are in the order of the logs", "survivors.py",
-     "key=lambda entry: (entry.stamp, entry.digest))", "key=lambda entry: entry.stamp)", "audit,proofs"),
+     """        left = [distinct[digest] for digest in distinct.keys() - set(self.strays)]
+        self.entries = sorted(left, key=lambda entry: (entry.stamp, entry.digest))
+""",
+     """        left = [distinct[digest] for digest in distinct if digest not in self.strays]
+        self.entries = sorted(left, key=lambda entry: entry.stamp)
+""",
+     "audit,proofs"),
+    ("The limit of given entries is one less", "survivors.py",
+     "ENTRY_LIMIT = 16384", "ENTRY_LIMIT = 16383",
+     "table_entry_limit"),
+    ("The limit of given entries counts records", "survivors.py",
+     "require(len({entry.digest for entry in given}) <= ENTRY_LIMIT",
+     "require(len(given) <= ENTRY_LIMIT",
+     "table_entry_limit"),
     ("A rule's width is counted by its own kind alone", "verdicts.py",
-     "counted = around * len(self.of_kind(formula[2]))", "counted = len(self.of_kind(formula[2]))", "table_widths"),
-    ("The limit of widths is one less", "verdicts.py", "WIDTH_LIMIT = 268435456", "WIDTH_LIMIT = 268435455", "table_widths"),
+     "counted = around * len(self.of_kind(formula[2]))", "counted = len(self.of_kind(formula[2]))",
+     "table_widths"),
+    ("The limit of widths is one less", "verdicts.py",
+     "WIDTH_LIMIT = 268435456", "WIDTH_LIMIT = 268435455",
+     "table_widths"),
     ("A quantifier with before isn't counted in widths", "verdicts.py",
-     "around * len(self.of_kind(formula[2]))", "around * (1 if formula[3] else len(self.of_kind(formula[2])))", "table_widths"),
+     "around * len(self.of_kind(formula[2]))",
+     "around * (1 if formula[3] else len(self.of_kind(formula[2])))",
+     "table_widths"),
+    ("A width counts all survivors for each quantifier", "verdicts.py",
+     "around * len(self.of_kind(formula[2]))", "around * len(self.entries)",
+     "table_widths"),
+    ("Quantifiers beside one another are multiplied", "verdicts.py",
+     """        return max([self.width(part, around) for part in formula[1:] if nests], default=0)
+""",
+     """        product = around
+        for part in formula[1:] if nests else []:
+            product *= max(1, self.width(part))
+        return product
+""",
+     "table_widths"),
     ("every before u is kept where u isn't whole", "verdicts.py",
-     "        if before and not self.precedence.is_whole(bound[before]):\n            yield None\n", "", "audit,rules"),
-    ("before is false where u isn't whole", "survivors.py", "return False if self.whole[second] else None", "return False",
+     """        if before is not None and bound[before] not in self.whole:
+            yield UNKNOWN
+""",
+     "",
      "audit,rules"),
-    ("before is unknown where u is whole", "survivors.py", "return False if self.whole[second] else None", "return None", "audit,rules"),
-    ("not of unknown is true", "verdicts.py", "return None if value is None else not value", "return not value", "rules"),
-    ("next takes its variables the other way round", "verdicts.py", "first.number + 1 == second.number",
-     "first.number == second.number + 1", "audit,rules"),
-    ("An override that says cast is of the kind override", "verdicts.py", "return \"forced\" if entry.deed[2:] == (\"cast\",) else \"override\"",
-     "return \"override\"", "audit,rules"),
-    ("An every with before shows its entry, too", "verdicts.py", "if formula[0] != \"every\" or formula[3]:",
-     "if formula[0] != \"every\":", "rules,table_findings"),
+    ("before is false where u isn't whole", "verdicts.py",
+     "return FALSE if second in self.whole else UNKNOWN", "return FALSE",
+     "audit,rules"),
+    ("before is unknown where u is whole", "verdicts.py",
+     "return FALSE if second in self.whole else UNKNOWN", "return UNKNOWN",
+     "audit,rules"),
+    ("not of unknown is true", "verdicts.py",
+     "return TRUE - self.value(parts[0], bound)",
+     "return FALSE if self.value(parts[0], bound) == TRUE else TRUE",
+     "rules"),
+    ("next takes its variables the other way round", "verdicts.py",
+     "(entry.maker, entry.number + 1) == (other.maker, other.number)",
+     "(entry.maker, entry.number) == (other.maker, other.number + 1)",
+     "audit,rules"),
+    ("next asks nothing of the maker", "verdicts.py",
+     "(entry.maker, entry.number + 1) == (other.maker, other.number)",
+     "entry.number + 1 == other.number",
+     "table_findings,audit,rules"),
+    ("same means one maker and number", "verdicts.py",
+     "return entry is other", "return (entry.maker, entry.number) == (other.maker, other.number)",
+     "table_findings,rules"),
+    ("An override that says cast is of the kind override", "verdicts.py",
+     'return "forced" if forced else entry.deed["word"]', 'return entry.deed["word"]',
+     "audit,rules"),
+    ("An every with before shows its entry, too", "verdicts.py",
+     'if formula[0] != "every" or formula[3] is not None:', 'if formula[0] != "every":',
+     "table_findings,rules"),
     ("The entries of a broken rule are the last", "verdicts.py",
-     "        for place in self.of_kind(kind):\n            instance", "        for place in reversed(self.of_kind(kind)):\n            instance",
+     """        for place in self.of_kind(kind):
+            instance""",
+     """        for place in reversed(self.of_kind(kind)):
+            instance""",
      "audit,rules"),
+    ("An entry that leaves a rule unknown is shown, too", "verdicts.py",
+     """if self.value(inside, instance) == FALSE:
+                return""",
+     """if self.value(inside, instance) != TRUE:
+                return""",
+     "table_findings,rules"),
     ("A verdict is broken only if no rule is unsettled", "reports.py",
-     """    if "broken" in found:
+     """    if "broken" in verdicts:
         return "broken", 3
-    if "unsettled" in found:
+    if "unsettled" in verdicts:
         return "unsettled", 2
-""", """    if "unsettled" in found:
+""",
+     """    if "unsettled" in verdicts:
         return "unsettled", 2
-    if "broken" in found:
+    if "broken" in verdicts:
         return "broken", 3
-""", "audit"),
-    ("A break counts the kept records alone", "reports.py", "            return record.place\n",
-     "            return log.kept().index(record)\n", "audit"),
-    ("A break asks nothing of the stamp", "reports.py", "(entry.number, entry.stamp) == (sent, stamp + 1)",
-     "entry.number == sent", "audit"),
-    ("A got entry may be the owner's", "reports.py", "and (record.word == \"sent\") == (entry.maker == log.owner)",
-     "and (record.word == \"got\" or entry.maker == log.owner)", "audit"),
-    ("A break is no finding", "reports.py", "return [head] + findings, bool(findings)", "return [head] + findings, len(findings) > len(breaks)",
-     "audit,table_findings"),
+""",
+     "audit"),
+    ("A break counts the kept records alone", "reports.py",
+     'return ["break %s %d" % (name, record.place)]',
+     'return ["break %s %d" % (name, log.kept.index(record))]',
+     "table_breaks"),
+    ("A break asks nothing of the stamp", "logs.py",
+     'return word == "got" or (entry.number, entry.stamp, entry.names) == next_sent',
+     'return word == "got" or (entry.number, self.greatest_stamp + 1, entry.names) == next_sent',
+     "table_breaks"),
+    ("A got entry may be the owner's", "logs.py",
+     '(word == "sent") != (entry.maker == self.owner)',
+     'word == "sent" and entry.maker != self.owner',
+     "table_breaks"),
+    ("A break is no finding", "reports.py",
+     "findings = findings + found", "findings = findings + record_lines(name, log)",
+     "table_findings,audit"),
+    ("An entry that is held twice is no break", "logs.py",
+     "        if entry.digest in self.entries or (word", "        if (word",
+     "table_breaks"),
     ("watch prints no line for an entry that came before", "reports.py",
-     "        lines.append(\"%d %d gaps", "            lines.append(\"%d %d gaps", "watch"),
-    ("watch's limit is one less", "auditorium.py", "WATCH_LIMIT = 1024", "WATCH_LIMIT = 1023", "table_watch_limit"),
+     """        head = len(lines) + 1
+        lines.append(\"""",
+     """        else:
+            continue
+        head = len(lines) + 1
+        lines.append(\"""",
+     "watch"),
+    ("watch's limit is one less", "auditorium.py",
+     "WATCH_LIMIT = 1024", "WATCH_LIMIT = 1023",
+     "table_watch_limit"),
     ("watch's limit counts records", "auditorium.py",
-     "digests = {record.entry.digest for log in logs for record in log.kept()}",
-     "digests = [record.entry.digest for log in logs for record in log.kept()]", "table_watch_limit"),
-    ("watch's status goes by the rules alone", "reports.py",
-     "overall(values, has_findings(logs, survivors, roster))[1]", "overall(values, False)[1]", "watch"),
-    ("Of several entries NAME.NUMBER means the greatest digest", "reports.py", "survivors.places[min(meant)]",
-     "survivors.places[max(meant)]", "order,table_strays,table_orders"),
-    ("apart needs only one whole entry", "reports.py", "survivors.is_whole(first) and survivors.is_whole(second)",
-     "survivors.is_whole(first) or survivors.is_whole(second)", "order,table_orders"),
-    ("A stopped bearer answers in repair", "playing.py", "if not player.stopped and digest in player.entries:",
-     "if digest in player.entries:", "table_repairs,play"),
+     "given = {record.entry.digest for log in logs for record in log.kept}",
+     "given = [record.entry.digest for log in logs for record in log.kept]",
+     "table_watch_limit"),
+    ("watch's status goes by the rules alone", "auditorium.py",
+     "return lines, audit_report(roster, rules, log_names, logs, survivors)[1]",
+     "return lines, audit_report(roster, rules, [], [], survivors)[1]",
+     "watch"),
+    ("watch goes by the survivors of all records", "reports.py",
+     "survivors = Survivors(given.values())",
+     "survivors = Survivors([one.entry for log in logs for one in log.kept])",
+     "watch"),
+    ("Of several entries NAME.NUMBER means the greatest digest", "reports.py",
+     "survivors.places[min(meant)]", "survivors.places[max(meant)]",
+     "table_strays,table_orders,order"),
+    ("apart needs only one whole entry", "reports.py",
+     '"apart" if {first, second} <= judge.whole', '"apart" if {first, second} & judge.whole',
+     "table_orders,order"),
+    ("A stopped bearer answers in repair", "playing.py",
+     "if not other.stopped and digest in other.entries]", "if digest in other.entries]",
+     "table_repairs,play"),
     ("Entries are answered by their maker alone", "playing.py",
-     "            if not player.stopped and digest in player.entries:\n                return player.entries[digest]\n",
-     "            made = [entry for entry in player.sent if entry.digest == digest]\n"
-     "            if not player.stopped and made:\n                return made[0]\n", "table_repairs,play"),
-    ("repair does no actions at its end", "playing.py", "            while self.act(player.place):\n", "            while False:\n",
+     "if not other.stopped and digest in other.entries]",
+     "if not other.stopped and digest in [one.digest for one in other.sent]]",
+     "table_repairs,play"),
+    ("repair does no actions at its end", "playing.py",
+     """            while self.act(player.owner):
+""",
+     """            while False:
+""",
      "table_repairs"),
     ("repair ends after one round", "playing.py",
-     "        while any([self.repair_turn(player) for player in self.players if not player.stopped]):\n            pass\n",
-     "        for player in self.players:\n            not player.stopped and self.repair_turn(player)\n", "table_repairs,play"),
-    ("A stopped machine hears", "playing.py", "or at == sender or player.stopped or", "or at == sender or", "play,table_repairs"),
-    ("An override ends its session", "playing.py", "in (\"cast\", \"cancel\", \"challenge\") else []",
-     "in (\"cast\", \"cancel\", \"challenge\", \"override\") else []", "table_play_causes"),
+     """        while changed:
+            changed = any([self.repair_turn(player) for player in self.players])
+""",
+     """        any([self.repair_turn(player) for player in self.players])
+""",
+     "table_repairs,play"),
+    ("A stopped machine hears", "playing.py",
+     "or at == sender or player.stopped or", "or at == sender or",
+     "table_repairs,play"),
+    ("A stopped machine isn't heard", "playing.py",
+     "or at == sender or player.stopped or",
+     "or at == sender or self.players[sender].stopped or player.stopped or",
+     "table_repairs,play"),
+    ("An override ends its session", "playing.py",
+     'for word in ("cast", "cancel", "challenge"))',
+     'for word in ("cast", "cancel", "challenge", "override"))',
+     "table_overrides,table_play_causes"),
+    ("A challenge doesn't end its session", "playing.py",
+     'for word in ("cast", "cancel", "challenge"))', 'for word in ("cast", "cancel"))',
+     "table_overrides,table_play_causes"),
     ("Ended is tried before NotActive", "playing.py",
-     "        return [(\"NotActive\", (\"activate\", session) not in self.own),\n                (\"Ended\", (\"ended\", session) in self.own),",
-     "        return [(\"Ended\", (\"ended\", session) in self.own), (\"NotActive\", (\"activate\", session) not in self.own),",
-     "play,table_play_causes"),
+     '"NotActive Ended AlreadyCommitted', '"Ended NotActive AlreadyCommitted',
+     "table_overrides,table_play_causes"),
+    ("Ended is tried before NotCommitted", "playing.py",
+     '"cast": "NotCommitted Ended', '"cast": "Ended NotCommitted',
+     "table_overrides,table_play_causes"),
+    ("Overridden is tried before AlreadyActive", "playing.py",
+     "Ended AlreadyActive Overridden", "Ended Overridden AlreadyActive",
+     "table_overrides,table_play_causes"),
+    ("BoothBusy is tried before SessionUsed", "playing.py",
+     "SessionUsed BoothBusy", "BoothBusy SessionUsed",
+     "table_overrides,table_play_causes"),
     ("A challenge is stopped by an override that says cancel alone", "playing.py",
-     "                (\"Overridden\", (\"override\", session) in self.held),\n                (\"Closed\", (\"closed\",) in self.held), (\"LogNotWhole\"",
-     "                (\"Overridden\", (\"override\", session, \"cancel\") in self.held),\n"
-     "                (\"Closed\", (\"closed\",) in self.held), (\"LogNotWhole\"", "table_play_causes,play"),
-    ("Full is tried before a role's causes", "playing.py", "        word, *words = self.action()\n        tried",
-     "        if self.is_full():\n            return \"Full\"\n        word, *words = self.action()\n        tried", "play,table_play_limits"),
-    ("The first stamp is 0", "playing.py", "player.greatest_stamp + 1, player.frontier()",
-     "player.greatest_stamp + bool(player.events), player.frontier()", "play"),
-    ("An entry names all that is held", "playing.py", "return sorted(self.entries.keys() - self.named)", "return sorted(self.entries)",
+     'if word == "cast" else {}', 'if word in ("cast", "challenge") else {}',
+     "table_overrides,table_play_causes"),
+    ("A cast is stopped by any override", "playing.py",
+     '{"how": "cancel"} if word == "cast" else {}', "{}",
+     "table_overrides,table_play_causes"),
+    ("NothingCommitted asks for the supervisor's own", "playing.py",
+     'not has(held, "commit", session=session)', 'not has(own, "commit", session=session)',
+     "table_overrides,table_play_causes,play"),
+    ("A cast needs no whole log", "playing.py",
+     '"cast": "NotCommitted Ended Overridden Closed LogNotWhole"',
+     '"cast": "NotCommitted Ended Overridden Closed"',
+     "table_repairs,play"),
+    ("Full is tried before a role's causes", "playing.py",
+     '["Stopped", *CAUSES[deed["word"]].split(" "), "Full", "StampSpent", "Spent"]',
+     '["Stopped", "Full", *CAUSES[deed["word"]].split(" "), "StampSpent", "Spent"]',
+     "table_play_limits,play"),
+    ("Spent is tried before Full", "playing.py",
+     '"Full", "StampSpent", "Spent"]:', '"Spent", "Full", "StampSpent"]:',
+     "table_play_limits"),
+    ("The first stamp is 0", "playing.py",
+     "player.greatest_stamp + 1, player.frontier(),",
+     "player.greatest_stamp + bool(player.events), player.frontier(),",
      "play"),
-    ("A comment is tried for NotPlain", "scripts.py", "if line and not line.startswith(b\"#\"):",
-     "if line and (not line.startswith(b\"#\") or max(line) > 126):", "table_script_orders"),
+    ("An entry names all that is held", "logs.py",
+     "return sorted(self.entries.keys() - self.named)", "return sorted(self.entries)",
+     "play"),
+    ("A comment is tried for NotPlain", "scripts.py",
+     'if line and not line.startswith(b"#"):',
+     'if line and (not line.startswith(b"#") or max(line) > 126):',
+     "table_script_orders"),
     ("WrongCount is tried before a deed's UnknownWord", "scripts.py",
-     "                if words[2] not in forms:\n                    self.fault(\"UnknownWord\")\n",
-     "                if words[2] not in forms:\n                    self.fault(\"WrongCount\" if len(words) != 4 else \"UnknownWord\")\n",
+     """            require(fields is not None, "UnknownWord")
+""",
+     """            require(fields is not None, "UnknownWord" if len(words) == 3 else "WrongCount")
+""",
      "table_script_orders,script"),
-    ("A script's end is at its last line", "scripts.py", "self.line = len(lines) + 1", "self.line = len(lines)", "table_script_orders"),
+    ("A script's end is at its last line", "scripts.py",
+     "with refused_at(len(lines) + 1):", "with refused_at(len(lines)):",
+     "table_script_orders"),
     ("OutOfRange of a line's kind is tried before its words", "scripts.py",
-     "        getattr(self, \"read_\" + kind)(*words[1:])\n        self.counts[kind] += 1\n",
-     "        self.counts[kind] += 1\n        if self.counts[kind] > LINE_LIMITS.get(kind, self.counts[kind]):\n"
-     "            self.fault(\"OutOfRange\")\n        getattr(self, \"read_\" + kind)(*words[1:])\n", "table_script_limits"),
-    ("A session may be 0", "scripts.py", "self.number(word, 1, NUMBER_LIMIT)", "self.number(word, 0, NUMBER_LIMIT)",
+     """        for form, word in zip(forms, words):
+            self.values.append(self.read_word(form, word))
+        self.counts[kind] += 1
+        require(self.counts[kind] <= LINE_LIMITS.get(kind, self.counts[kind]), "OutOfRange")
+""",
+     """        self.counts[kind] += 1
+        require(self.counts[kind] <= LINE_LIMITS.get(kind, self.counts[kind]), "OutOfRange")
+        for form, word in zip(forms, words):
+            self.values.append(self.read_word(form, word))
+""",
      "table_script_limits"),
-    ("An unknown field is Shape", "rules.py", "        if field not in FIELDS[self.bound[variable]]:\n            self.fault(\"WrongField\")",
-     "        if field not in FIELDS[self.bound[variable]]:\n            self.fault(\"WrongField\" if field in SORTS else \"Shape\")",
-     "rulestext,table_rules"),
+    ("A session may be 0", "scripts.py",
+     '"session": (1, NUMBER_LIMIT)', '"session": (0, NUMBER_LIMIT)',
+     "table_script_limits"),
+    ("A lost entry's number may be 4,096", "scripts.py",
+     '"number": (0, 4095)', '"number": (0, 4096)',
+     "table_script_limits"),
+    ("UnknownWord of a deed is tried before OutOfOrder", "scripts.py",
+     """        require(self.is_in_order(kind), "OutOfOrder")
+""",
+     """        self.forms(kind, words)
+        require(self.is_in_order(kind), "OutOfOrder")
+""",
+     "table_script_orders"),
+    ("An unknown field is Shape", "rules.py",
+     'require(field in FIELDS[self.bound[variable]], "WrongField")',
+     'require(field in FIELDS[self.bound[variable]], "WrongField" if field in SORTS else "Shape")',
+     "table_rules,rulestext"),
     ("UnknownKind is tried before SameName", "rules.py",
-     "        if variable in self.bound:\n            self.fault(\"SameName\")\n        kind, before = self.read_kind(), None\n",
-     "        kind, before = self.read_kind(), None\n        if variable in self.bound:\n            self.fault(\"SameName\")\n",
-     "rulestext,table_rules"),
-    ("A rule's own parenthesis isn't counted", "rules.py", "        self.depth = 1\n", "        self.depth = 0\n", "table_rules"),
+     """        self.require(variable not in self.bound, "SameName")
+        self.advance()
+        kind, before = self.read_kind(), None
+""",
+     """        self.advance()
+        kind, before = self.read_kind(), None
+        self.require(variable not in self.bound, "SameName")
+""",
+     "table_rules,rulestext"),
+    ("A rule's own parenthesis isn't counted", "rules.py",
+     """        self.depth = 1
+""",
+     """        self.depth = 0
+""",
+     "table_rules"),
+    ("Machines have an order", "rules.py",
+     '["count", "session"]', '["count", "session", "machine"]',
+     "table_rules,rulestext"),
+    ("An unbound variable after before may be bound by its own quantifier", "rules.py",
+     """        if self.token == "before":
+""",
+     """        self.bound[variable] = kind
+        if self.token == "before":
+""",
+     "table_rules"),
     ("A proof's NotReached is tried before NotFalling", "proofs.py",
-     "        if lowest is not None and ancestor >= lowest:\n            self.fault(\"NotFalling\")\n"
-     "        if not ticked >> via & 1:\n            self.fault(\"NotReached\")\n",
-     "        if not ticked >> via & 1:\n            self.fault(\"NotReached\")\n"
-     "        if lowest is not None and ancestor >= lowest:\n            self.fault(\"NotFalling\")\n", "proofs,table_proofs"),
+     """        require(len(ticked) == 1 or ancestor < ticked[-1], "NotFalling")
+        require(via in ticked, "NotReached")
+""",
+     """        require(via in ticked, "NotReached")
+        require(len(ticked) == 1 or ancestor < ticked[-1], "NotFalling")
+""",
+     "table_proofs,proofs"),
+    ("The first A of a line is compared with I", "proofs.py",
+     "require(len(ticked) == 1 or ancestor < ticked[-1]", "require(ancestor < ticked[-1]",
+     "table_proofs"),
     ("NotClosed is tried before an unended line's Form", "proofs.py",
-     "        if not self.ended:\n            self.fault(\"Form\")\n        self.require_closed(ticked, ancestors)\n",
-     "        self.require_closed(ticked, ancestors)\n        if not self.ended:\n            self.fault(\"Form\")\n", "proofs,table_proofs"),
-    ("A survivor without a line is whole", "proofs.py", "        if place not in self.lines:\n            return False\n",
-     "        if place not in self.lines:\n            return not self.survivors.names_gap[place]\n", "proofs"),
+     """    require(ended, "Form")
+    found = set(ticked[1:])
+    require(all(found.issuperset(survivors.parents[one]) for one in ticked), "NotClosed")
+""",
+     """    found = set(ticked[1:])
+    require(all(found.issuperset(survivors.parents[one]) for one in ticked), "NotClosed")
+    require(ended, "Form")
+""",
+     "table_proofs,proofs"),
+    ("A second line's Form is tried before WrongCount", "proofs.py",
+     """    require(read_word(words[1]) == count, "WrongCount")
+    require(len(words) == 2 and ended, "Form")
+""",
+     """    require(len(words) == 2 and ended, "Form")
+    require(read_word(words[1]) == count, "WrongCount")
+""",
+     "table_proofs"),
+    ("A survivor without a line is whole", "survivors.py",
+     """        return {place for place, found in ancestors.items()
+                if names_gap.isdisjoint(found | {place})}
+""",
+     """        return {place for place in range(len(self.entries))
+                if names_gap.isdisjoint(ancestors.get(place, set()) | {place})}
+""",
+     "proofs"),
     ("The canonical V is the least that is allowed", "proofs.py",
-     "via = (children[ancestor] & allowed).bit_length() - 1",
-     "via = list(bits_of(children[ancestor] & allowed))[-1]", "proofs"),
-    ("A log with refused records has no gaps", "auditorium.py", "for digest in sorted(named - entries.keys())]",
-     "for digest in sorted(named - entries.keys()) if not log.refused()]", "gaps"),
-    ("A refused word of order is named X", "auditorium.py", "refuse(word, 0, \"NoEntry\")", "refuse(\"X\", 0, \"NoEntry\")", "order"),
-    ("check reads the proof before the logs", "auditorium.py", "    _, survivors = read_given(roster, names)\n    proof =",
-     "    read_file(proof_name, LARGE)\n    _, survivors = read_given(roster, names)\n    proof =", "other_files"),
-    ("17 logs are allowed", "auditorium.py", "min(16, max(1,", "min(17, max(1,", "usage"),
-    ("A number of order may have leading zeros", "auditorium.py", "\\.(?:0|[1-9][0-9]{0,9}))\\Z", "\\.[0-9]{1,10})\\Z", "usage"),
+     "via = max(child for child", "via = min(child for child",
+     "proofs"),
+    ("A log with refused records has no gaps", "auditorium.py",
+     """for digest in missing]
+    return lines, 1""",
+     """for digest in missing if not log.refused]
+    return lines, 1""",
+     "gaps"),
+    ("A refused word of order is named X", "auditorium.py",
+     "with refusing(word):", 'with refusing("X"):',
+     "order"),
+    ("check reads the proof before the logs", "auditorium.py",
+     """    roster, rules, _, survivors = read_inputs(files, roster_name, rules_name, log_names)
+    ancestors""",
+     """    Files().read(proof_name, LARGE)
+    roster, rules, _, survivors = read_inputs(files, roster_name, rules_name, log_names)
+    ancestors""",
+     "table_reading"),
+    ("Rules are read before the roster", "auditorium.py",
+     """    roster, rules = files.read(roster_name, MIDDLE, read_roster), None
+""",
+     """    if rules_name not in (None, "standard"):
+        files.read(rules_name, MIDDLE, read_rules)
+    roster, rules = files.read(roster_name, MIDDLE, read_roster), None
+""",
+     "table_reading"),
+    ("A rule that is too wide is refused before the proof", "auditorium.py",
+     """    ancestors = files.read(proof_name, LARGE, read_proof, survivors)
+""",
+     """    with refusing(rules_name):
+        Judge(survivors, survivors.ancestors, roster).verdicts(rules)
+    ancestors = files.read(proof_name, LARGE, read_proof, survivors)
+""",
+     "table_widths"),
+    ("17 logs are allowed", "auditorium.py", "min(16, max(1,", "min(17, max(1,", "table_words"),
+    ("15 logs are the most", "auditorium.py", "min(16, max(1,", "min(15, max(1,", "table_words"),
+    ("A number of order may have leading zeros", "auditorium.py",
+     "return NAME.fullmatch(name) and read_decimal(number) is not None",
+     "return NAME.fullmatch(name) and number.isdigit() and int(number) <= 4294967295",
+     "table_words"),
+    ("N may be 801", "auditorium.py", "in range(1, 801)", "in range(1, 802)", "table_words"),
+    ("A word may begin with -", "auditorium.py",
+     '"[!-,.-~][!-~]{0,1023}"', '"[!-~][!-~]{0,1023}"',
+     "table_words,usage"),
+    ("A word may have 1,025 bytes", "auditorium.py", "{0,1023}", "{0,1024}", "table_words"),
+    ("A file that was read may be replaced", "files.py",
+     "if any(os.path.samefile(name, other) for other in self.names_read):",
+     "if any(name == other for other in self.names_read):",
+     "table_replacing"),
+    ("A symbolic link is replaced", "files.py",
+     """mode = os.lstat(name).st_mode
+        if not stat""",
+     """mode = os.stat(name).st_mode
+        if not stat""",
+     "table_replacing"),
+    ("A write-protected file is replaced", "files.py",
+     " or not mode & stat.S_IWUSR:", ":",
+     "table_replacing"),
+    ("A replaced file has the permission bits of a new one", "files.py",
+     """    elif mode:
+""",
+     """    elif False:
+""",
+     "table_replacing"),
+    ("A file that begins with a proof's word isn't kept", "files.py",
+     'b"(6:o", b"proo", b', 'b"(6:o", b',
+     "table_office_files,table_replacing"),
+    ("A spent office is refused after FILE is read", "auditorium.py",
+     """        require(number < SPENT, "Spent")
+    signature = office_key(name, seed).sign(number, files.read(file_name, LARGE))
+""",
+     """        octets = files.read(file_name, LARGE)
+        require(number < SPENT, "Spent")
+    signature = office_key(name, seed).sign(number, octets)
+""",
+     "table_reading,office"),
 ]
