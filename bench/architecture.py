@@ -44,6 +44,7 @@ roster         .               entry_format     .               .
 .              .               .                .               office_key
 item_list      canonical_sexp  .                lms_sign        hss_sign
 .              hall_outside    hall_text        lms_ots         .
+.              folder_calls    .                .               .
 """
 
 # Blue, vermilion and bluish green can be told apart by everybody (Okabe and Ito).
