@@ -2,6 +2,7 @@
 
 check_run.py SCRIPT PREFIX OUTPUT prints each fault; the status is 1 if there is one, and else 0.
 """
+import itertools
 import sys
 
 from files import LARGE, Files
@@ -9,62 +10,42 @@ from logs import read_log
 from playing import Play
 from scripts import read_script
 
-def run_steps(logs):
-    """The events of all logs, in the order of a play that makes them."""
+def steps_of(logs):
+    """The steps that make the events of all logs, in the order of a play that makes them."""
     steps = []
     for machine, log in enumerate(logs):
         stamp = 0
         for record in log.kept:
-            stamp = max(stamp, record.entry.stamp)
-            steps.append((stamp, record.word == "got", machine, record.place, record.entry))
-    return sorted(steps, key=lambda step: step[:4])
+            got, entry = record.word == "got", record.entry
+            stamp = max(stamp, entry.stamp)
+            step = ("hear", machine, entry.maker, entry.number) if got else ("act", machine)
+            steps.append((stamp, got, machine, record.place, step))
+    return [step for *_, step in sorted(steps)]
 
-def stop_at_line(play, machine):
-    """Stop a machine that has as many events as its `stop` line says."""
-    if len(play.players[machine].events) == play.script.stops.get(machine):
-        play.stop(machine)
-
-def replay(play, logs):
-    """Play the events again, of which each must change something; the faults."""
-    for _, got, machine, place, entry in run_steps(logs):
-        stop_at_line(play, machine)
-        done = play.hear(machine, entry.maker, entry.number) if got else play.act(machine)
-        if not done or play.players[machine].events[-1][1] != entry:
-            return ["event %d of machine %d isn't one of a play" % (place, machine)]
-    for machine in range(len(play.players)):
-        stop_at_line(play, machine)
-    return []
-
-def loss_causes(play, way, number, put):
+def loss_causes(script, sender, receiver, number, put):
     """The causes that a loss can have, `put` entries with lower numbers being on the link."""
-    script, (sender, receiver) = play.script, way
-    if (sender, number, receiver) in script.lost:
+    if (sender.owner, number, receiver.owner) in script.lost:
         return ["Scripted"]
-    events = len(play.players[receiver].events)
+    events = len(receiver.events)
     causes = {"LinkFull": put >= script.link, "LogFull": events >= script.log,
-              "ToStopped": events == script.stops.get(receiver)}
+              "ToStopped": events == script.stops.get(receiver.owner)}
     return [cause for cause, applies in causes.items() if applies]
 
 def loss_faults(play, lines):
     """The faults of the `loss` lines, each of which is asked for in its place."""
-    faults, left, players = [], list(lines), play.players
-    for way in [(one, other) for one in range(len(players)) for other in range(len(players))]:
-        sender, receiver, put = players[way[0]], players[way[1]], 0
-        for number, entry in enumerate(sender.sent if sender != receiver else []):
+    faults, left = [], list(lines)
+    for sender, receiver in itertools.permutations(play.players, 2):
+        put = 0
+        for number, entry in enumerate(sender.sent):
             head, cause = "loss %s.%d %s " % (sender.name, number, receiver.name), None
             if left and left[0].startswith(head):
                 cause = left.pop(0)[len(head):]
-                if cause not in loss_causes(play, way, number, put):
+                if cause not in loss_causes(play.script, sender, receiver, number, put):
                     faults.append("not so: " + head + cause)
             if (cause is None) != (entry.digest in receiver.entries):
                 faults.append("got and lost, or neither: " + head)
             put += cause not in ("Scripted", "LinkFull")
     return faults + left
-
-def must_lose_nothing(script):
-    counts = [len(machine.actions) for machine in script.machines]
-    enough = script.link >= max(counts) and script.log >= sum(counts)
-    return enough and not script.lost and not script.stops
 
 def faults_of(script, files, prefix, output):
     """The faults of a run's files, a mapping of names to octets, and of its output."""
@@ -75,14 +56,20 @@ def faults_of(script, files, prefix, output):
     logs = [read_log(files[name], play.roster) for name in names]
     if any(log.refused or log.ending for log in logs):
         return ["a log has a refused record, or doesn't end clean"]
-    faults = replay(play, logs)
-    faults += ["the log of " + name for name, octets in play.files(prefix) if files[name] != octets]
+    play.take_steps(steps_of(logs))
+    faults = ["the log of " + name for name, octets in play.files(prefix) if files[name] != octets]
+    for machine, most in script.stops.items():
+        events = len(logs[machine].kept)
+        play.players[machine].stopped = events == most
+        faults += ["events after a stop: " + names[machine]] if events > most else []
     lines, machines, undone = output.splitlines(), play.machine_lines(), play.undone_lines()
     losses = lines[len(machines):len(lines) - len(undone)]
     faults += [line for line in undone if line.endswith(" Ready")] + loss_faults(play, losses)
     if lines != machines + losses + undone:
         faults.append("the output isn't that of the logs")
-    if losses and must_lose_nothing(script):
+    counts = [len(machine.actions) for machine in script.machines]
+    enough = script.link >= max(counts) and script.log >= sum(counts)
+    if losses and enough and not script.lost and not script.stops:
         faults.append("a loss without a line that loses")
     return faults
 

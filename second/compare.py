@@ -24,9 +24,8 @@ import types
 
 HERE = os.path.dirname(os.path.abspath(__file__))
 sys.path.insert(0, HERE)
-MODULES = ["texts", "signatures", "rosters", "entries", "logs", "survivors", "verdicts", "rules",
-           "proofs", "reports", "scripts", "playing", "making", "office", "files", "auditorium",
-           "check_run", "tables"]
+MODULES = ["texts", "signatures", "entries", "logs", "verdicts", "rules", "proofs", "reports",
+           "scripts", "playing", "files", "auditorium", "check_run", "tables"]
 for module in MODULES:
     globals()[module] = importlib.import_module(module)
 
@@ -165,7 +164,7 @@ class World:
         while True:
             self.script = scripts.read_script(random_script(chance))
             self.play = playing.Play(self.script)
-            self.play.take_steps()
+            self.play.take_steps(self.script.steps)
             if any(player.events for player in self.play.players):
                 break
         self.roster = self.play.roster
@@ -308,7 +307,7 @@ class World:
     def resigned(self, entry):
         """The same body with another good signature."""
         key = self.play.players[entry.maker].key
-        signature = key.sign_with(signatures.H(b"another", entry.body), entry.number, entry.body)
+        signature = key.sign(entry.number, entry.body, signatures.H(b"another", entry.body))
         return tables.entry_of(entries.write_entry(entry.body, signature))
 
     def log(self):
@@ -827,7 +826,7 @@ def case_proofs(chance):
 
 
 def survivors_of(world, log_files):
-    return survivors.gather([logs.read_log(octets, world.roster) for octets in log_files])
+    return verdicts.gather([logs.read_log(octets, world.roster) for octets in log_files])
 
 
 def case_make(chance):
@@ -845,9 +844,9 @@ OFFICE_SEED = bytes(range(32))
 
 def office_signature(chance, key_types, low_types, message):
     top = signatures.SigningKey(key_types, b"i" * 16, b"s" * 32)
-    key = signatures.TwoLevelKey(top, low_types)
     number = chance.choice([0, 1, 31, 32, 33, 40])
-    return key.public_key(), key.sign(number, message)
+    signature = signatures.sign_two_levels(top, low_types, number, message)
+    return signatures.two_level_key(top), signature
 
 
 def case_endorsed(chance):
@@ -882,14 +881,14 @@ def case_endorsed(chance):
 
 
 def case_office(chance):
-    files = {"f": b"text", "o.office": office.write_office(OFFICE_SEED,
+    files = {"f": b"text", "o.office": signatures.write_office(OFFICE_SEED,
                                                            chance.choice([0, 1, 31, 1023, 500]))}
     commands = [["endorse", "o", "f"], ["endorse", "o", "f"], ["endorse", "o", "none"],
                 ["endorse", "none", "f"],
                 ["office", "o", "00" * 32], ["endorse", "o", "o.office"], ["endorse", "bad", "f"],
                 ["endorse", "spent", "none"], ["office", "o2", OFFICE_SEED.hex().upper()]]
-    files["spent.office"] = office.write_office(OFFICE_SEED, 32768)
-    good = office.write_office(OFFICE_SEED, 7)
+    files["spent.office"] = signatures.write_office(OFFICE_SEED, 32768)
+    good = signatures.write_office(OFFICE_SEED, 7)
     files["bad.office"] = chance.choice([good + b"\n", good[:-1], b"",
                                          good.replace(b"1:7", b"2:07"), flip(chance, good),
                                          good.replace(b"1:7", b"5:32769"),

@@ -1,8 +1,39 @@
-"""Entries: deeds, and the reader and the writer of signed entries."""
+"""Rosters, and Entries: their readers and writers."""
+import re
 from collections import namedtuple
 
 from signatures import H, u32, verify
-from texts import is_atom, is_list, read_number, require, write_text
+from texts import is_atom, is_list, read_number, read_text, refused_as, require, write_text
+
+NAME = re.compile("[a-z0-9]{1,16}")
+MACHINE_LIMIT = 16
+Machine = namedtuple("Machine", "name role key")
+
+class Roster:
+    def __init__(self, machines):
+        self.machines = machines
+        self.names = [machine.name for machine in machines]
+        self.text = write_text(["roster", 1] + [list(machine) for machine in machines])
+        self.election = H(self.text)
+
+def has_one_supervisor(machines):
+    return [machine.role for machine in machines].count("supervisor") == 1
+
+def read_roster(octets):
+    with refused_as(cause="NotCanonical"):
+        value, end = read_text(octets)
+    require(end == len(octets), "NotCanonical", end)
+    require(is_list(value) and value[:2] == [b"roster", b"1"], "WrongShape")
+    for one in value[2:]:
+        require(is_list(one, 3) and is_atom(one[0]) and is_atom(one[2], 56), "WrongShape")
+        require(one[1] in (b"supervisor", b"booth"), "WrongShape")
+    machines = [Machine(name.decode("latin-1"), role.decode(), key) for name, role, key in value[2:]]
+    names = [machine.name for machine in machines]
+    require(len(machines) <= MACHINE_LIMIT, "TooManyMachines")
+    require(all(map(NAME.fullmatch, names)), "BadName")
+    require(len(set(names)) == len(names), "SameName")
+    require(has_one_supervisor(machines), "NotOneSupervisor")
+    return Roster(machines)
 
 # The table of deeds: the fields that follow the word, in version 1 and in version 2.
 DEEDS = {"opened": (), "authorise": ("booth", "session"), "override": ("session",), "closed": (),
@@ -11,16 +42,14 @@ DEEDS = {"opened": (), "authorise": ("booth", "session"), "override": ("session"
 LATER_DEEDS = {**DEEDS, "override": ("session", "how"), "challenge": ("session", "ballot")}
 DEEDS_OF = {1: DEEDS, 2: LATER_DEEDS}
 
-# `text` is the signed text, and `deed` maps `word` and the names of fields to what they are.
-Entry = namedtuple("Entry", "text digest body version election maker number stamp names deed"
-                            " signature")
+# `text` is the signed text, and `deed` maps `word`, `kind` and the names of fields to what they
+# are, the kind being that of rules.
+Entry = namedtuple("Entry", "text digest body version election maker number stamp names deed signature")
 
 def make_deed(word, fields, values):
-    """A deed; an override of version 1, which doesn't say how, says cancel."""
-    deed = {"word": word, **dict(zip(fields, values))}
-    if word == "override":
-        deed.setdefault("how", "cancel")
-    return deed
+    """A deed; `how` is for overrides, of which one of version 1 doesn't say it and says cancel."""
+    deed = {"word": word, "how": "cancel", **dict(zip(fields, values))}
+    return {**deed, "kind": "forced" if deed["how"] == "cast" else word}
 
 def write_deed(deed, version):
     """The value of a deed's text."""
@@ -62,8 +91,7 @@ def read_entry(value, roster=None):
     require(is_list(names) and all(is_atom(name, 32) for name in names), "WrongShape")
     deed, text = read_deed(body[7], version), write_text(value)
     require(all(first < second for first, second in zip(names, names[1:])), "NamesNotRising")
-    entry = Entry(text, H(text), write_text(body), version, election, *numbers, names, deed,
-                  value[2])
+    entry = Entry(text, H(text), write_text(body), version, election, *numbers, names, deed, value[2])
     if roster:
         require(entry.election == roster.election, "OtherElection")
         require(entry.maker < len(roster.machines), "UnknownMaker")
@@ -71,3 +99,8 @@ def read_entry(value, roster=None):
         key = roster.machines[entry.maker].key
         require(verify(key, entry.body, entry.signature), "BadSignature")
     return entry
+
+def gaps_of(entries):
+    """The digests that entries name and none of them has, ascending."""
+    named = {name for entry in entries for name in entry.names}
+    return sorted(named - {entry.digest for entry in entries})

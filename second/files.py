@@ -10,11 +10,7 @@ SMALL, MIDDLE, LARGE = 65536, 4194304, 67108864
 STARTS = [b"(6:r", b"(3:l", b"(6:o", b"proo", b"\0\0\0\1"]
 
 class Answer(Exception):
-    """The entire output and the status of a command that ends early."""
-
-    def __init__(self, output, status):
-        super().__init__(output, status)
-        self.output, self.status = output, status
+    """A command ends early; the arguments are its entire output and its status."""
 
 @contextlib.contextmanager
 def refusing(name):
@@ -22,8 +18,20 @@ def refusing(name):
     try:
         yield
     except Refused as refusal:
-        line = "refused %s %d %s\n" % (name, refusal.place, refusal.cause)
-        raise Answer(line, 5) from None
+        raise Answer("refused %s %d %s\n" % (name, *refusal.args), 5) from None
+
+def octets_of(name, limit):
+    """The octets of a file, of which one too many is enough, or None if it is absent."""
+    try:
+        state = os.lstat(name)
+        if name.endswith(".office") and (not stat.S_ISREG(state.st_mode) or state.st_nlink > 1):
+            raise OSError
+        with open(name, "rb") as file:
+            return file.read(limit + 1)
+    except FileNotFoundError:
+        return None
+    except OSError:
+        raise Answer("", 8) from None
 
 class Files:
     """The files of one command."""
@@ -33,15 +41,9 @@ class Files:
 
     def read(self, name, limit, reader=bytes, *arguments):
         """What a reader makes of a file."""
-        if name.endswith(".office") and has_other_name(name):
-            raise Answer("", 8)
-        try:
-            with open(name, "rb") as file:
-                octets = file.read(limit + 1)
-        except FileNotFoundError:
-            raise Answer("absent %s\n" % name, 6) from None
-        except OSError:
-            raise Answer("", 8) from None
+        octets = octets_of(name, limit)
+        if octets is None:
+            raise Answer("absent %s\n" % name, 6)
         self.names_read.append(name)
         with refusing(name):
             require(len(octets) <= limit, "TooLong")
@@ -56,12 +58,11 @@ class Files:
         mode = os.lstat(name).st_mode
         if not stat.S_ISREG(mode) or not mode & stat.S_IWUSR:
             return False
-        if not name.endswith(".office"):
-            if any(os.path.samefile(name, other) for other in self.names_read):
-                return False
+        was_read = any(os.path.samefile(name, other) for other in self.names_read)
         with open(name, "rb") as file:
             start = file.read(4)
-        return start not in STARTS or start == octets[:4]
+        good = start not in STARTS or start == octets[:4]
+        return good and (not was_read or name.endswith(".office"))
 
     def write(self, files):
         """Write files, pairs of a name and octets, under other names; then put them in place."""
@@ -77,10 +78,6 @@ class Files:
                 if os.path.exists(other_name(name)):
                     os.remove(other_name(name))
             raise Answer("", 9) from None
-
-def has_other_name(name):
-    """Is it a symbolic link, or one of several names of a file?"""
-    return os.path.islink(name) or os.path.isfile(name) and os.stat(name).st_nlink > 1
 
 def other_name(name):
     """The other name of a file, of the 64-bit FNV-1a hash of its name."""

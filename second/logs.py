@@ -2,46 +2,41 @@
 from collections import namedtuple
 
 from entries import read_entry
-from texts import Cut, Refused, is_list, read_number, read_text, require, write_text
+from texts import Refused, is_list, read_number, read_text, refused_as, require, write_text
 
-# `ending` has the words of a report's line, but for the file's name, or is None if it is clean.
+# `refused` has pairs of a place and a cause, and `ending` is a pair of what the words of a report's
+# line are before and after the file's name, or None if the log ends clean.
 Log = namedtuple("Log", "owner kept refused ending")
 Record = namedtuple("Record", "place end word entry")
-RefusedRecord = namedtuple("RefusedRecord", "place cause")
 
 def read_header(octets):
     """The owner, and where the records begin."""
-    try:
+    with refused_as(0, "Header"):
         value, end = read_text(octets)
-    except (Cut, Refused):
-        raise Refused(0, "Header") from None
     require(is_list(value, 3) and value[:2] == [b"log", b"1"], "Header")
     require(read_number(value[2]) is not None, "Header")
     return read_number(value[2]), end
 
-def read_record(value, roster):
-    """The word and the entry of a record."""
-    good = is_list(value, 2) and value[0] in (b"sent", b"got") and is_list(value[1])
-    require(good, "WrongShape")
-    return value[0].decode(), read_entry(value[1], roster)
-
 def read_log(octets, roster=None):
     """Read a log's file; without a roster no signature is verified."""
     owner, start = read_header(octets)
-    kept, refused = [], []
+    kept, refused, ending = [], [], None
     while start < len(octets):
         try:
-            value, end = read_text(octets, start)
-        except Cut:
-            return Log(owner, kept, refused, ["torn", start])
+            value, start = read_text(octets, start)
         except Refused as refusal:
-            return Log(owner, kept, refused, ["malformed", refusal.place, refusal.cause])
-        place, start = len(kept) + len(refused), end
+            place, cause = refusal.args
+            ending = ("torn", start) if cause == "Cut" else ("malformed", "%d %s" % (place, cause))
+            break
+        place = len(kept) + len(refused)
         try:
-            kept.append(Record(place, end, *read_record(value, roster)))
+            good = is_list(value, 2) and value[0] in (b"sent", b"got") and is_list(value[1])
+            require(good, "WrongShape")
+            entry = read_entry(value[1], roster)
+            kept.append(Record(place, start, value[0].decode(), entry))
         except Refused as refusal:
-            refused.append(RefusedRecord(place, refusal.cause))
-    return Log(owner, kept, refused, None)
+            refused.append((place, refusal.args[1]))
+    return Log(owner, kept, refused, ending)
 
 class History:
     """The events of a log, pairs of a word and an entry, and what the next may be."""
@@ -62,18 +57,15 @@ class History:
             self.sent.append(entry)
         return True
 
-    def frontier(self):
-        return sorted(self.entries.keys() - self.named)
+    def next_sent(self):
+        """The number, the stamp and the names of the next sent entry, the frontier."""
+        return len(self.sent), self.greatest_stamp + 1, sorted(self.entries.keys() - self.named)
 
-    def gaps(self):
-        return sorted(self.named - self.entries.keys())
-
-    def may_follow(self, word, entry):
-        """May the event follow in a legal history?"""
-        if entry.digest in self.entries or (word == "sent") != (entry.maker == self.owner):
-            return False
-        next_sent = len(self.sent), self.greatest_stamp + 1, self.frontier()
-        return word == "got" or (entry.number, entry.stamp, entry.names) == next_sent
+    def follow(self, word, entry):
+        """Add an event if it may follow in a legal history; was it added?"""
+        own = entry.maker == self.owner
+        as_next = own and (entry.number, entry.stamp, entry.names) == self.next_sent()
+        return (as_next if word == "sent" else not own) and self.add(word, entry)
 
     def text(self):
         """The log's file."""

@@ -1,7 +1,6 @@
 """Plays: machines, the causes against actions, and steps; and `repair` of Output lines."""
-from entries import read_entry, write_body, write_deed, write_entry
+from entries import Machine, Roster, gaps_of, read_entry, write_body, write_deed, write_entry
 from logs import History
-from rosters import Machine, Roster
 from signatures import derived_key
 from texts import NUMBER_LIMIT, read_text
 
@@ -33,9 +32,6 @@ class Player(History):
         self.log_limit, self.stopped = script.log, False
         self.key = derived_key(script.key, b"", script.seed + self.name.encode())
 
-    def is_full(self):
-        return len(self.events) >= self.log_limit
-
     def action(self):
         """The deed of the next action, or None."""
         return self.actions[len(self.sent)] if len(self.sent) < len(self.actions) else None
@@ -43,21 +39,20 @@ class Player(History):
     def cause(self):
         """The first cause against the next action, or None."""
         deed = self.action()
-        facts = {**self.rule_causes(**deed), "Stopped": self.stopped, "Full": self.is_full(),
+        facts = {**self.rule_causes(**deed), "Stopped": self.stopped,
+                 "Full": len(self.events) >= self.log_limit,
                  "StampSpent": self.greatest_stamp == NUMBER_LIMIT,
                  "Spent": len(self.sent) >= self.key.size}
-        for cause in ["Stopped", *CAUSES[deed["word"]].split(" "), "Full", "StampSpent", "Spent"]:
-            if facts[cause]:
-                return cause
-        return None
+        order = ["Stopped", *CAUSES[deed["word"]].split(" "), "Full", "StampSpent", "Spent"]
+        return next((cause for cause in order if facts[cause]), None)
 
     def has_unended(self, **fields):
         """Has it authorised a session (with this booth) that hasn't ended?"""
         held = self.entries.values()
-        authorised = [entry for entry in self.sent if has([entry], "authorise", **fields)]
-        return not all(has_ended(held, entry.deed["session"]) for entry in authorised)
+        return any(has([entry], "authorise", **fields) and not has_ended(held, entry.deed["session"])
+                   for entry in self.sent)
 
-    def rule_causes(self, word, session=None, booth=None, ballot=None, how=None):
+    def rule_causes(self, word, kind, session=None, booth=None, ballot=None, how=None):
         """The causes of the roles' rules, and whether they apply to a deed."""
         own, held = self.sent, self.entries.values()
         other = "cancel" if how == "cast" else "cast"
@@ -81,24 +76,22 @@ class Player(History):
             "AlreadyCommitted": has(own, "commit", session=session),
             "NotCommitted": not has(own, "commit", session=session, ballot=ballot),
             "CastForced": has(held, "override", session=session, how="cast"),
-            "LogNotWhole": bool(self.gaps())}
+            "LogNotWhole": bool(gaps_of(held))}
 
 class Play:
     """The machines of a script, and what they do step by step."""
 
     def __init__(self, script):
         self.script, self.mended = script, []
-        self.players = [Player(place, machine, script)
-                        for place, machine in enumerate(script.machines)]
+        self.players = [Player(place, machine, script) for place, machine in enumerate(script.machines)]
         self.roster = Roster([Machine(player.name, player.role, player.key.public_key())
                               for player in self.players])
 
     def new_entry(self, player):
-        version, number = self.script.version, len(player.sent)
-        body = write_body(version, self.roster.election, player.owner, number,
-                          player.greatest_stamp + 1, player.frontier(),
-                          write_deed(player.action(), version))
-        return read_entry(read_text(write_entry(body, player.key.sign(number, body)))[0])
+        version, deed = self.script.version, write_deed(player.action(), self.script.version)
+        body = write_body(version, self.roster.election, player.owner, *player.next_sent(), deed)
+        signature = player.key.sign(len(player.sent), body)
+        return read_entry(read_text(write_entry(body, signature))[0])
 
     def act(self, place):
         """Do the machine's next action; was it done?"""
@@ -110,21 +103,21 @@ class Play:
     def hear(self, at, sender, number):
         """Have a machine hear an entry; did its log get it?"""
         player, sent = self.players[at], self.players[sender].sent
-        if number >= len(sent) or at == sender or player.stopped or player.is_full():
+        full = len(player.events) >= self.script.log
+        if number >= len(sent) or at == sender or player.stopped or full:
             return False
         return player.add("got", sent[number])
 
     def stop(self, place):
         self.players[place].stopped = True
 
-    def take_steps(self):
-        for word, *places in self.script.steps:
+    def take_steps(self, steps):
+        for word, *places in steps:
             getattr(self, word)(*places)
 
     def repair(self):
-        changed = True
-        while changed:
-            changed = any([self.repair_turn(player) for player in self.players])
+        while any([self.repair_turn(player) for player in self.players]):
+            pass
         for player in self.players:
             while self.act(player.owner):
                 pass
@@ -132,11 +125,10 @@ class Play:
     def repair_turn(self, player):
         """A machine's turn in a round; did it get an entry?"""
         before = len(player.events)
-        for digest in player.gaps():
-            bearers = [other for other in self.players
+        for digest in gaps_of(player.entries.values()):
+            answers = [other.entries[digest] for other in self.players
                        if not other.stopped and digest in other.entries]
-            if bearers:
-                entry = bearers[0].entries[digest]
+            for entry in answers[:1]:
                 if self.hear(player.owner, entry.maker, entry.number):
                     words = player.name, self.players[entry.maker].name, entry.number
                     self.mended.append("mended %s %s.%d" % words)

@@ -1,20 +1,15 @@
 """Proofs of an audit: the canonical one, and the reader."""
-from texts import read_decimal, refused_at, require
-
-def canonical_line(survivors, place, children):
-    words, ancestors = ["past %d" % place], survivors.ancestors[place]
-    for ancestor in sorted(ancestors, reverse=True):
-        via = max(child for child in children[ancestor] if child in ancestors or child == place)
-        words.append("%d:%d" % (ancestor, via))
-    return " ".join(words)
+from texts import read_decimal, refused_as, require
 
 def canonical_proof(survivors):
-    children = [[] for _ in survivors.entries]
-    for place, parents in enumerate(survivors.parents):
-        for parent in parents:
-            children[parent].append(place)
-    lines = ["proof 1", "entries %d" % len(children)]
-    lines += [canonical_line(survivors, place, children) for place in range(len(children))]
+    lines = ["proof 1", "entries %d" % len(survivors.entries)]
+    for place, ancestors in survivors.ancestors.items():
+        vias = {}
+        for via in [place, *sorted(ancestors, reverse=True)]:
+            for ancestor in survivors.parents[via]:
+                vias.setdefault(ancestor, via)
+        words = ["%d:%d" % pair for pair in sorted(vias.items(), reverse=True)]
+        lines.append(" ".join(["past %d" % place, *words]))
     return "".join(line + "\n" for line in lines).encode()
 
 def read_proof(octets, survivors):
@@ -24,11 +19,13 @@ def read_proof(octets, survivors):
         lines.pop()
     for number, line in enumerate(lines, 1):
         words, ended = line.split(" "), number <= newlines
-        with refused_at(number):
+        with refused_as(number):
             if number == 1:
                 require(words == ["proof", "1"] and ended, "Form")
             elif number == 2:
-                read_count(words, ended, len(survivors.entries))
+                require(words[0] == "entries" and len(words) > 1, "Form")
+                require(read_word(words[1]) == len(survivors.entries), "WrongCount")
+                require(len(words) == 2 and ended, "Form")
             else:
                 read_past(words, ended, survivors, ancestors)
     return ancestors
@@ -37,11 +34,6 @@ def read_word(word):
     number = read_decimal(word)
     require(number is not None, "Form")
     return number
-
-def read_count(words, ended, count):
-    require(words[0] == "entries" and len(words) > 1, "Form")
-    require(read_word(words[1]) == count, "WrongCount")
-    require(len(words) == 2 and ended, "Form")
 
 def read_past(words, ended, survivors, ancestors):
     """Read a line `past`: the ancestors of a survivor after those that have had a line."""

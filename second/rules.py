@@ -3,7 +3,7 @@
 A formula is a tuple of its head and its parts. Those of a quantifier are the variable, the kind,
 the variable after `before` or None, and the formula inside.
 """
-import os
+import pathlib
 import re
 from collections import namedtuple
 
@@ -26,8 +26,8 @@ PARTS = {"not": ["formula"], "implies": ["formula", "formula"], "same": ["variab
          "is": ["variable", "role"], "kind": ["variable", "kind"]}
 HEADS = [*PARTS, "every", "some", "and", "or", "=", "<"]
 
-SPACE = re.compile(rb"[ \t\n\r]*")
-TOKEN = re.compile(rb"[()]|[!-'*-~]+")
+# What separates tokens, and a token, which is empty at the end and before any other byte.
+TOKEN = re.compile(rb"[ \t\n\r]*([()]|[!-'*-~]+|)")
 RULE_NAME = re.compile("[A-Za-z0-9]{1,16}")
 VARIABLE = re.compile("[a-z]")
 TERM = re.compile(r"([a-z])\.(.*)")
@@ -39,19 +39,18 @@ class RulesReader:
 
     def __init__(self, octets):
         self.octets, self.place, self.token, self.end = octets, 0, "", 0
-        self.bound, self.depth = {}, 0
+        self.bound, self.open = {}, 0
         self.advance()
 
     def require(self, good, cause):
         require(good, cause, self.place)
 
     def advance(self):
-        self.place = SPACE.match(self.octets, self.end).end()
-        self.token = ""
-        if self.place < len(self.octets):
-            found = TOKEN.match(self.octets, self.place)
-            self.require(found, "Token")
-            self.token, self.end = found.group().decode(), found.end()
+        self.open += (self.token == "(") - (self.token == ")")
+        found = TOKEN.match(self.octets, self.end)
+        self.place, self.end = found.span(1)
+        self.token = found.group(1).decode()
+        self.require(self.token or self.end == len(self.octets), "Token")
 
     def take(self, *tokens):
         """Go on from the token at hand, which has to be one of these; it."""
@@ -60,15 +59,7 @@ class RulesReader:
         self.advance()
         return token
 
-    def read(self):
-        found = []
-        while self.token or not found:
-            self.require(len(found) < RULES_LIMIT, "Shape")
-            found.append(self.read_rule([rule.name for rule in found]))
-        return found
-
     def read_rule(self, names):
-        self.depth = 1
         self.take("(")
         self.take("rule")
         self.require(RULE_NAME.fullmatch(self.token), "Shape")
@@ -80,13 +71,11 @@ class RulesReader:
     def read_formula(self):
         if self.token == "true":
             return (self.take("true"),)
-        self.require(self.token != "(" or self.depth < PARENTHESIS_LIMIT, "TooDeep")
-        self.depth += 1
+        self.require(self.token != "(" or self.open < PARENTHESIS_LIMIT, "TooDeep")
         self.take("(")
-        head = self.token
-        nests = head in ("every", "some")
+        nests = self.token in ("every", "some")
         self.require(not nests or len(self.bound) < QUANTIFIER_LIMIT, "TooDeep")
-        self.take(*HEADS)
+        head = self.take(*HEADS)
         if nests:
             parts = self.read_quantifier()
         elif head in ("and", "or"):
@@ -96,7 +85,6 @@ class RulesReader:
         else:
             parts = [getattr(self, "read_" + part)() for part in PARTS[head]]
         self.take(")")
-        self.depth -= 1
         return (head, *parts)
 
     def read_quantifier(self):
@@ -152,9 +140,12 @@ class RulesReader:
         return term, sort
 
 def read_rules(octets):
-    return RulesReader(octets).read()
+    reader, found = RulesReader(octets), []
+    while reader.token or not found:
+        reader.require(len(found) < RULES_LIMIT, "Shape")
+        found.append(reader.read_rule([rule.name for rule in found]))
+    return found
 
 # The standard rules as the document has them.
-with open(os.path.join(os.path.dirname(__file__), "standard.rules"), "rb") as file:
-    STANDARD_TEXT = file.read()
+STANDARD_TEXT = pathlib.Path(__file__).with_name("standard.rules").read_bytes()
 STANDARD = read_rules(STANDARD_TEXT)

@@ -501,6 +501,7 @@ def table_findings():
              "stray": log_of(sealed(maker=2, names=[first.digest]), first.text, owner=0),
              "skips": log_of(first.text, sealed(maker=2, number=1, stamp=2, names=[first.digest])),
              "mixed": log_of(sealed(maker=2, names=[b"x" * 32]), sealed(stamp=2), owner=0),
+             "forced": log_of(sealed(maker=0, version=2, deed=("override", 1, "cast")), owner=2),
              "v": b"(rule G (every x entry (some y closed before x true)))"
                   b"(rule A (every x entry (every y entry before x (same x y))))"
                   b"(rule B (every x entry (every y entry (same x y))))"
@@ -508,9 +509,11 @@ def table_findings():
                   b"(rule D (not (every x entry true)))"
                   b"(rule E (every x entry (not (every y entry (same x y)))))"
                   b"(rule F (every x entry (every y entry (every z entry"
-                  b" before y (before y x)))))"}
+                  b" before y (before y x)))))"
+                  b"(rule H (every x entry (not (some y cast before x true))))"
+                  b"(rule I (some x entry (some y entry (before x y))))"}
     logs = ["forks", "clean", "break", "got", "torn", "malformed", "refused", "gap", "two", "stray",
-            "mixed", "skips"]
+            "mixed", "skips", "forced"]
     return files, [[command, "r", rule, log] for command in ("audit", "watch") for log in logs
                    for rule in ("u", "v", "standard")]
 
@@ -596,9 +599,9 @@ def table_endorsed():
     files, commands = {"m": b"message"}, []
     for top_type, low_type in itertools.product((1, 2, 3), repeat=2):
         top = signatures.SigningKey((5, top_type), b"i" * 16, b"s" * 32)
-        key = signatures.TwoLevelKey(top, (5, low_type))
         name = "%d%d" % (top_type, low_type)
-        files["k" + name], files["s" + name] = key.public_key(), key.sign(33, b"message")
+        files["k" + name] = signatures.two_level_key(top)
+        files["s" + name] = signatures.sign_two_levels(top, (5, low_type), 33, b"message")
         commands.append(["endorsed", "k" + name, "m", "s" + name])
     key, signature = files["k11"], files["s12"]
     commands.append(["endorsed", "k11", "m", "s12"])

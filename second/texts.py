@@ -9,26 +9,20 @@ NUMBER_LIMIT = 4294967295
 DECIMAL = re.compile("0|[1-9][0-9]{0,9}")
 
 class Refused(Exception):
-    """An input is refused at a place with a cause."""
-
-    def __init__(self, place, cause):
-        super().__init__(place, cause)
-        self.place, self.cause = place, cause
-
-class Cut(Exception):
-    """All of the bytes are a proper prefix of a text."""
+    """An input is refused; the arguments are a place and a cause."""
 
 def require(good, cause, place=0):
     if not good:
         raise Refused(place, cause)
 
 @contextlib.contextmanager
-def refused_at(place):
-    """What is refused inside is refused at this place."""
+def refused_as(place=None, cause=None):
+    """What is refused inside is refused at this place, or with this cause, or both."""
     try:
         yield
     except Refused as refusal:
-        raise Refused(place, refusal.cause) from None
+        found_place, found_cause = refusal.args
+        raise Refused(found_place if place is None else place, cause or found_cause) from None
 
 def read_decimal(word):
     """The number that a word is, or None."""
@@ -63,16 +57,15 @@ def read_length(octets, start):
         require(place == start or length > 0, "LeadingZero", place)
         length = 10 * length + int(byte)
         require(length <= ATOM_LIMIT, "AtomTooLong", place)
-    raise Cut
+    raise Refused(len(octets), "Cut")
 
 def read_text(octets, place=0, depth=1, in_full_list=False):
     """The text that begins at `place`, and where it ends.
 
-    If there is none, it raises `Cut`, or `Refused` at the first invalid byte.
+    If there is none, it is refused at the first invalid byte, or as `Cut` at the end of the bytes.
     """
     byte = octets[place:place + 1]
-    if not byte:
-        raise Cut
+    require(byte, "Cut", place)
     require(byte != b"[", "Hint", place)
     require(byte == b"(" or byte.isdigit(), "NotAToken", place)
     require(not in_full_list, "TooMany", place)
@@ -85,6 +78,5 @@ def read_text(octets, place=0, depth=1, in_full_list=False):
             members.append(member)
         return members, place + 1
     length, start = read_length(octets, place)
-    if start + length > len(octets):
-        raise Cut
+    require(start + length <= len(octets), "Cut", len(octets))
     return octets[start:start + length], start + length

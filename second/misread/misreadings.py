@@ -56,7 +56,7 @@ MISREADINGS = [
     ("The digest is that of the body", "entries.py",
      "Entry(text, H(text),", "Entry(text, H(write_text(body)),",
      "table_strays"),
-    ("A roster's SameName is tried before BadName", "rosters.py",
+    ("A roster's SameName is tried before BadName", "entries.py",
      """    require(all(map(NAME.fullmatch, names)), "BadName")
     require(len(set(names)) == len(names), "SameName")
 """,
@@ -64,7 +64,7 @@ MISREADINGS = [
     require(all(map(NAME.fullmatch, names)), "BadName")
 """,
      "table_roster_causes"),
-    ("A roster's BadName is tried before TooManyMachines", "rosters.py",
+    ("A roster's BadName is tried before TooManyMachines", "entries.py",
      """    require(len(machines) <= MACHINE_LIMIT, "TooManyMachines")
     require(all(map(NAME.fullmatch, names)), "BadName")
 """,
@@ -72,17 +72,26 @@ MISREADINGS = [
     require(len(machines) <= MACHINE_LIMIT, "TooManyMachines")
 """,
      "table_roster_causes"),
-    ("A roster may have 15 machines", "rosters.py",
+    ("A roster may have 15 machines", "entries.py",
      "MACHINE_LIMIT = 16", "MACHINE_LIMIT = 15",
      "table_roster_causes"),
-    ("A roster without a machine is one", "rosters.py",
+    ("A roster without a machine is one", "entries.py",
      '.count("supervisor") == 1', '.count("supervisor") == bool(machines)',
      "table_roster_causes"),
-    ("NotCanonical of a text that others follow is at its length", "rosters.py",
+    ("NotCanonical of a text that others follow is at its length", "entries.py",
      '"NotCanonical", end)', '"NotCanonical", len(octets))',
      "table_roster_causes"),
-    ("A text that ends too early is NotCanonical at 0", "rosters.py",
-     'raise Refused(len(octets), "NotCanonical")', 'raise Refused(0, "NotCanonical")',
+    ("A text that ends too early is NotCanonical at 0", "entries.py",
+     """    with refused_as(cause="NotCanonical"):
+        value, end = read_text(octets)
+""",
+     """    from texts import Refused
+    try:
+        value, end = read_text(octets)
+    except Refused as refusal:
+        place, cause = refusal.args
+        raise Refused(0 if cause == "Cut" else place, "NotCanonical") from None
+""",
      "table_roster_causes,rosters"),
     ("A set's type in a signature isn't compared", "signatures.py",
      "(number_at(signature, path - 4), number_at(signature, 4)) != types",
@@ -113,7 +122,7 @@ MISREADINGS = [
      "for i in range(256 // w)) << ls", "for i in range(256 // w))",
      "table_play_limits"),
     ("q may be the number of leaves", "signatures.py",
-     "if q >= size:", "if q > size:",
+     "!= types or q >= size:", "!= types or q > size:",
      "table_endorsed"),
     ("An atom may have 262,143 octets", "texts.py",
      "ATOM_LIMIT = 262144", "ATOM_LIMIT = 262143",
@@ -145,13 +154,13 @@ MISREADINGS = [
      "MEMBER_LIMIT = 16384", "MEMBER_LIMIT = 16385",
      "table_canonical"),
     ("A torn file's offset is its length", "logs.py",
-     '["torn", start]', '["torn", len(octets)]',
+     '("torn", start)', '("torn", len(octets))',
      "table_canonical"),
     ("A malformed file's offset is its record's", "logs.py",
-     '["malformed", refusal.place,', '["malformed", start,',
+     '"%d %s" % (place, cause)', '"%d %s" % (start, cause)',
      "table_canonical"),
     ("Refused records aren't counted in places", "logs.py",
-     "place, start = len(kept) + len(refused), end", "place, start = len(kept), end",
+     "place = len(kept) + len(refused)", "place = len(kept)",
      "audit,gaps"),
     ("A header's owner may have leading zeros", "logs.py",
      """require(read_number(value[2]) is not None, "Header")
@@ -163,7 +172,7 @@ MISREADINGS = [
      'require(read_number(value[2]) is not None, "Header")',
      'require((read_number(value[2]) or 0) < 4294967295 and read_number(value[2]) is not None, "Header")',
      "table_headers,audit"),
-    ("Strays are judged in two passes", "survivors.py",
+    ("Strays are judged in two passes", "verdicts.py",
      "        left = [distinct",
      """        for digest in list(self.strays):
             others = {one: distinct[one] for one in distinct.keys() - set(self.strays)}
@@ -171,17 +180,17 @@ MISREADINGS = [
                 self.strays.remove(digest)
         left = [distinct""",
      "table_strays"),
-    ("An entry with an equal stamp is no stray", "survivors.py",
+    ("An entry with an equal stamp is no stray", "verdicts.py",
      ".stamp >= entry.stamp", ".stamp > entry.stamp",
      "table_strays"),
-    ("A stray closes a gap", "survivors.py",
-     "return sorted(named - self.places.keys())",
-     "return sorted(named - self.places.keys() - set(self.strays))",
+    ("A stray closes a gap", "reports.py",
+     "for digest in gaps_of(survivors.entries)]",
+     "for digest in gaps_of(survivors.entries) if digest not in survivors.strays]",
      "table_strays"),
-    ("Whole means naming no gap oneself", "survivors.py",
+    ("Whole means naming no gap oneself", "verdicts.py",
      "if names_gap.isdisjoint(found | {place})", "if place not in names_gap",
      "audit,order,rules"),
-    ("Forks are listed by number first", "survivors.py",
+    ("Forks are listed by number first", "verdicts.py",
      "return sorted(pair for pair, count in counts.items() if count > 1)",
      """return sorted((pair for pair, count in counts.items() if count > 1),
                       key=lambda pair: (pair[1], pair[0]))""",
@@ -191,7 +200,7 @@ MISREADINGS = [
      """for maker, number in sorted(survivors.forks(),
                        key=lambda pair: (roster.names[pair[0]], pair[1]))]""",
      "table_findings,audit"),
-    ("Survivors of one stamp are in the order of the logs", "survivors.py",
+    ("Survivors of one stamp are in the order of the logs", "verdicts.py",
      """        left = [distinct[digest] for digest in distinct.keys() - set(self.strays)]
         self.entries = sorted(left, key=lambda entry: (entry.stamp, entry.digest))
 """,
@@ -199,12 +208,12 @@ MISREADINGS = [
         self.entries = sorted(left, key=lambda entry: entry.stamp)
 """,
      "audit,proofs"),
-    ("The limit of given entries is one less", "survivors.py",
+    ("The limit of given entries is one less", "verdicts.py",
      "ENTRY_LIMIT = 16384", "ENTRY_LIMIT = 16383",
      "table_entry_limit"),
-    ("The limit of given entries counts records", "survivors.py",
-     "require(len({entry.digest for entry in given}) <= ENTRY_LIMIT",
-     "require(len(given) <= ENTRY_LIMIT",
+    ("The limit of given entries counts records", "verdicts.py",
+     "len(distinct) <= limit",
+     "len(given if limit == ENTRY_LIMIT else distinct) <= limit",
      "table_entry_limit"),
     ("A rule's width is counted by its own kind alone", "verdicts.py",
      "counted = around * len(self.of_kind(formula[2]))", "counted = len(self.of_kind(formula[2]))",
@@ -235,15 +244,15 @@ MISREADINGS = [
      "",
      "audit,rules"),
     ("before is false where u isn't whole", "verdicts.py",
-     "return FALSE if second in self.whole else UNKNOWN", "return FALSE",
-     "audit,rules"),
+     "unless = FALSE if second in self.whole else UNKNOWN", "unless = FALSE",
+     "table_findings,audit,rules"),
     ("before is unknown where u is whole", "verdicts.py",
-     "return FALSE if second in self.whole else UNKNOWN", "return UNKNOWN",
+     "unless = FALSE if second in self.whole else UNKNOWN", "unless = UNKNOWN",
      "audit,rules"),
     ("not of unknown is true", "verdicts.py",
      "return TRUE - self.value(parts[0], bound)",
      "return FALSE if self.value(parts[0], bound) == TRUE else TRUE",
-     "rules"),
+     "table_findings,rules"),
     ("next takes its variables the other way round", "verdicts.py",
      "(entry.maker, entry.number + 1) == (other.maker, other.number)",
      "(entry.maker, entry.number) == (other.maker, other.number + 1)",
@@ -255,68 +264,50 @@ MISREADINGS = [
     ("same means one maker and number", "verdicts.py",
      "return entry is other", "return (entry.maker, entry.number) == (other.maker, other.number)",
      "table_findings,rules"),
-    ("An override that says cast is of the kind override", "verdicts.py",
-     'return "forced" if forced else entry.deed["word"]', 'return entry.deed["word"]',
-     "audit,rules"),
+    ("An override that says cast is of the kind override", "entries.py",
+     '"forced" if deed["how"] == "cast" else word', "word",
+     "table_findings,audit,rules"),
     ("An every with before shows its entry, too", "verdicts.py",
      'if formula[0] != "every" or formula[3] is not None:', 'if formula[0] != "every":',
      "table_findings,rules"),
     ("The entries of a broken rule are the last", "verdicts.py",
-     """        for place in self.of_kind(kind):
-            instance""",
-     """        for place in reversed(self.of_kind(kind)):
-            instance""",
+     "for place in self.of_kind(kind)]", "for place in reversed(self.of_kind(kind))]",
      "audit,rules"),
     ("An entry that leaves a rule unknown is shown, too", "verdicts.py",
-     """if self.value(inside, instance) == FALSE:
-                return""",
-     """if self.value(inside, instance) != TRUE:
-                return""",
+     "if self.value(inside, one) == FALSE)", "if self.value(inside, one) != TRUE)",
      "table_findings,rules"),
     ("A verdict is broken only if no rule is unsettled", "reports.py",
-     """    if "broken" in verdicts:
-        return "broken", 3
-    if "unsettled" in verdicts:
-        return "unsettled", 2
-""",
-     """    if "unsettled" in verdicts:
-        return "unsettled", 2
-    if "broken" in verdicts:
-        return "broken", 3
-""",
+     "    status = max(", """    status = 2 if "unsettled" in verdicts else max(""",
      "audit"),
     ("A break counts the kept records alone", "reports.py",
-     'return ["break %s %d" % (name, record.place)]',
-     'return ["break %s %d" % (name, log.kept.index(record))]',
+     '["break %s %d" % (name, record.place)', '["break %s %d" % (name, log.kept.index(record))',
      "table_breaks"),
     ("A break asks nothing of the stamp", "logs.py",
-     'return word == "got" or (entry.number, entry.stamp, entry.names) == next_sent',
-     'return word == "got" or (entry.number, self.greatest_stamp + 1, entry.names) == next_sent',
+     "(entry.number, entry.stamp, entry.names) == self.next_sent()",
+     "(entry.number, self.greatest_stamp + 1, entry.names) == self.next_sent()",
      "table_breaks"),
     ("A got entry may be the owner's", "logs.py",
-     '(word == "sent") != (entry.maker == self.owner)',
-     'word == "sent" and entry.maker != self.owner',
+     '(as_next if word == "sent" else not own)', '(as_next if word == "sent" else True)',
      "table_breaks"),
     ("A break is no finding", "reports.py",
-     "findings = findings + found", "findings = findings + record_lines(name, log)",
+     "len(lines) > len(logs) + 1",
+     "len(lines) - sum(len(break_lines(*one)) for one in zip(names, logs)) > len(logs) + 1",
      "table_findings,audit"),
     ("An entry that is held twice is no break", "logs.py",
-     "        if entry.digest in self.entries or (word", "        if (word",
+     "and self.add(word, entry)", "and (self.add(word, entry) or True)",
      "table_breaks"),
     ("watch prints no line for an entry that came before", "reports.py",
-     """        head = len(lines) + 1
-        lines.append(\"""",
+     """        lines.append(" ".join([str(len(lines) + 1)""",
      """        else:
             continue
-        head = len(lines) + 1
-        lines.append(\"""",
+        lines.append(" ".join([str(len(lines) + 1)""",
      "watch"),
     ("watch's limit is one less", "auditorium.py",
      "WATCH_LIMIT = 1024", "WATCH_LIMIT = 1023",
      "table_watch_limit"),
-    ("watch's limit counts records", "auditorium.py",
-     "given = {record.entry.digest for log in logs for record in log.kept}",
-     "given = [record.entry.digest for log in logs for record in log.kept]",
+    ("watch's limit counts records", "verdicts.py",
+     "len(distinct) <= limit",
+     "len(distinct if limit == ENTRY_LIMIT else given) <= limit",
      "table_watch_limit"),
     ("watch's status goes by the rules alone", "auditorium.py",
      "return lines, audit_report(roster, rules, log_names, logs, survivors)[1]",
@@ -330,7 +321,7 @@ MISREADINGS = [
      "survivors.places[min(meant)]", "survivors.places[max(meant)]",
      "table_strays,table_orders,order"),
     ("apart needs only one whole entry", "reports.py",
-     '"apart" if {first, second} <= judge.whole', '"apart" if {first, second} & judge.whole',
+     '"apart" if {first, second} <= whole', '"apart" if {first, second} & whole',
      "table_orders,order"),
     ("A stopped bearer answers in repair", "playing.py",
      "if not other.stopped and digest in other.entries]", "if digest in other.entries]",
@@ -346,8 +337,8 @@ MISREADINGS = [
 """,
      "table_repairs"),
     ("repair ends after one round", "playing.py",
-     """        while changed:
-            changed = any([self.repair_turn(player) for player in self.players])
+     """        while any([self.repair_turn(player) for player in self.players]):
+            pass
 """,
      """        any([self.repair_turn(player) for player in self.players])
 """,
@@ -396,14 +387,13 @@ MISREADINGS = [
      '["Stopped", "Full", *CAUSES[deed["word"]].split(" "), "StampSpent", "Spent"]',
      "table_play_limits,play"),
     ("Spent is tried before Full", "playing.py",
-     '"Full", "StampSpent", "Spent"]:', '"Spent", "Full", "StampSpent"]:',
+     '"Full", "StampSpent", "Spent"]', '"Spent", "Full", "StampSpent"]',
      "table_play_limits"),
-    ("The first stamp is 0", "playing.py",
-     "player.greatest_stamp + 1, player.frontier(),",
-     "player.greatest_stamp + bool(player.events), player.frontier(),",
+    ("The first stamp is 0", "logs.py",
+     "len(self.sent), self.greatest_stamp + 1,", "len(self.sent), self.greatest_stamp + bool(self.events),",
      "play"),
     ("An entry names all that is held", "logs.py",
-     "return sorted(self.entries.keys() - self.named)", "return sorted(self.entries)",
+     "sorted(self.entries.keys() - self.named)", "sorted(self.entries)",
      "play"),
     ("A comment is tried for NotPlain", "scripts.py",
      'if line and not line.startswith(b"#"):',
@@ -416,16 +406,13 @@ MISREADINGS = [
 """,
      "table_script_orders,script"),
     ("A script's end is at its last line", "scripts.py",
-     "with refused_at(len(lines) + 1):", "with refused_at(len(lines)):",
+     "with refused_as(len(texts) + 1):", "with refused_as(len(texts)):",
      "table_script_orders"),
     ("OutOfRange of a line's kind is tried before its words", "scripts.py",
      """        for form, word in zip(forms, words):
             self.values.append(self.read_word(form, word))
-        self.counts[kind] += 1
-        require(self.counts[kind] <= LINE_LIMITS.get(kind, self.counts[kind]), "OutOfRange")
 """,
-     """        self.counts[kind] += 1
-        require(self.counts[kind] <= LINE_LIMITS.get(kind, self.counts[kind]), "OutOfRange")
+     """        require(len(self.lines[kind]) < LINE_LIMITS.get(kind, MACHINE_LIMIT), "OutOfRange")
         for form, word in zip(forms, words):
             self.values.append(self.read_word(form, word))
 """,
@@ -458,10 +445,7 @@ MISREADINGS = [
 """,
      "table_rules,rulestext"),
     ("A rule's own parenthesis isn't counted", "rules.py",
-     """        self.depth = 1
-""",
-     """        self.depth = 0
-""",
+     "self.open < PARENTHESIS_LIMIT", "self.open <= PARENTHESIS_LIMIT",
      "table_rules"),
     ("Machines have an order", "rules.py",
      '["count", "session"]', '["count", "session", "machine"]',
@@ -495,14 +479,14 @@ MISREADINGS = [
 """,
      "table_proofs,proofs"),
     ("A second line's Form is tried before WrongCount", "proofs.py",
-     """    require(read_word(words[1]) == count, "WrongCount")
-    require(len(words) == 2 and ended, "Form")
+     """                require(read_word(words[1]) == len(survivors.entries), "WrongCount")
+                require(len(words) == 2 and ended, "Form")
 """,
-     """    require(len(words) == 2 and ended, "Form")
-    require(read_word(words[1]) == count, "WrongCount")
+     """                require(len(words) == 2 and ended, "Form")
+                require(read_word(words[1]) == len(survivors.entries), "WrongCount")
 """,
      "table_proofs"),
-    ("A survivor without a line is whole", "survivors.py",
+    ("A survivor without a line is whole", "verdicts.py",
      """        return {place for place, found in ancestors.items()
                 if names_gap.isdisjoint(found | {place})}
 """,
@@ -511,13 +495,10 @@ MISREADINGS = [
 """,
      "proofs"),
     ("The canonical V is the least that is allowed", "proofs.py",
-     "via = max(child for child", "via = min(child for child",
+     "vias.setdefault(ancestor, via)", "vias[ancestor] = via",
      "proofs"),
     ("A log with refused records has no gaps", "auditorium.py",
-     """for digest in missing]
-    return lines, 1""",
-     """for digest in missing if not log.refused]
-    return lines, 1""",
+     "for digest in found]", "for digest in found if not log.refused]",
      "gaps"),
     ("A refused word of order is named X", "auditorium.py",
      "with refusing(word):", 'with refusing("X"):',
@@ -530,11 +511,11 @@ MISREADINGS = [
     ancestors""",
      "table_reading"),
     ("Rules are read before the roster", "auditorium.py",
-     """    roster, rules = files.read(roster_name, MIDDLE, read_roster), None
+     """    roster, rules = files.read(roster_name, MIDDLE, read_roster), STANDARD
 """,
      """    if rules_name not in (None, "standard"):
         files.read(rules_name, MIDDLE, read_rules)
-    roster, rules = files.read(roster_name, MIDDLE, read_roster), None
+    roster, rules = files.read(roster_name, MIDDLE, read_roster), STANDARD
 """,
      "table_reading"),
     ("A rule that is too wide is refused before the proof", "auditorium.py",
@@ -557,8 +538,7 @@ MISREADINGS = [
      "table_words,usage"),
     ("A word may have 1,025 bytes", "auditorium.py", "{0,1023}", "{0,1024}", "table_words"),
     ("A file that was read may be replaced", "files.py",
-     "if any(os.path.samefile(name, other) for other in self.names_read):",
-     "if any(name == other for other in self.names_read):",
+     "any(os.path.samefile(name, other) for other in self.names_read)", "name in self.names_read",
      "table_replacing"),
     ("A symbolic link is replaced", "files.py",
      """mode = os.lstat(name).st_mode
@@ -578,13 +558,22 @@ MISREADINGS = [
     ("A file that begins with a proof's word isn't kept", "files.py",
      'b"(6:o", b"proo", b', 'b"(6:o", b',
      "table_office_files,table_replacing"),
+    ("An office exists where its file can't be read", "auditorium.py",
+     """    with refusing(name + ".office"):
+        require(octets_of(name + ".office", SMALL) is None, "Exists")
+""",
+     """    import os
+    with refusing(name + ".office"):
+        require(not os.path.lexists(name + ".office"), "Exists")
+""",
+     "table_office_files"),
     ("A spent office is refused after FILE is read", "auditorium.py",
      """        require(number < SPENT, "Spent")
-    signature = office_key(name, seed).sign(number, files.read(file_name, LARGE))
+    signature = sign_as_office(name, seed, number, files.read(file_name, LARGE))
 """,
      """        octets = files.read(file_name, LARGE)
         require(number < SPENT, "Spent")
-    signature = office_key(name, seed).sign(number, octets)
+    signature = sign_as_office(name, seed, number, octets)
 """,
      "table_reading,office"),
 ]
