@@ -1,0 +1,4 @@
+pub mod Names
+pub mod Escaping
+pub mod Elements
+pub mod WellFormed
