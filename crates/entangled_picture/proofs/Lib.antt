@@ -6,3 +6,4 @@ pub mod Columns
 pub mod Namers
 pub mod Survivors
 pub mod StampOrder
+pub mod OneMark

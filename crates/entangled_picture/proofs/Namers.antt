@@ -1,6 +1,6 @@
 -- The first survivor that names a digest.
-use Rattle.entangled_picture.proofs.Imports.{◌≡◌, ◌∙◌, ℕ, ◌+◌, ◌-◌, ◌<◌, ◌≤◌, Bool, true, false, List, length, ap}
-use Rattle.entangled_picture.proofs.Imports.{arith, Option, Some, None, find, slice_get, range_with_len, names_digest}
+use Rattle.entangled_picture.proofs.Imports.{◌≡◌, ◌∙◌, ℕ, ◌+◌, ◌-◌, ◌<◌, true, false, List, length, ap}
+use Rattle.entangled_picture.proofs.Imports.{arith, Option, Some, find, slice_get, range_with_len, names_digest}
 use Rattle.entangled_picture.proofs.Imports.{SealedEntry, node_of_sealed, find_here, find_more, names_it}
 
 module _ (survivors : List SealedEntry) (digest : List ℕ) (i : ℕ) (x : SealedEntry) (found : Option ℕ)

@@ -1,7 +1,7 @@
 -- Columns rise with stamps.
 use Rattle.entangled_picture.proofs.Imports.{◌≡◌, ◌∙◌, ◌⊎◌, ◌↔◌, inl, inr, ℕ, zero, suc, ◌+◌, ◌<◌, ◌≤◌, Bool, true}
-use Rattle.entangled_picture.proofs.Imports.{false, ◌&&◌, List, [], ◌∷◌, ◌++◌, ap, map, sym, refl, subst, arith}
-use Rattle.entangled_picture.proofs.Imports.{nat_lt, Option, Some, None, slice_get, ltb-true, ltb-false, same_Some}
+use Rattle.entangled_picture.proofs.Imports.{false, List, [], ◌∷◌, ◌++◌, ap, map, sym, refl, subst, arith}
+use Rattle.entangled_picture.proofs.Imports.{nat_lt, Some, slice_get, ltb-true, ltb-false, same_Some}
 use Rattle.entangled_picture.proofs.Imports.{none-some, AllPairs, zip, SealedEntry, node_of_sealed, IsLower, Spot}
 use Rattle.entangled_picture.proofs.Imports.{Seen, Placed, next_column, next_stamp, placed_after, placed_as, seen_of}
 use Rattle.entangled_picture.proofs.Imports.{spot_of}
@@ -105,7 +105,8 @@ after_all : (before : List Seen) (column stamp : ℕ) (ps : List (Seen × Bool))
 after_all before column stamp [] rising j q b e at = absurd (none-some q e)
 after_all before column stamp (next ∷ rest) rising zero q b e at =
     let column_then = next_column column stamp next in
-    let same : placed_as before next.0 column_then next.1 ≡ q = same_Some (placed_as before next.0 column_then next.1) q e in
+    let same : placed_as before next.0 column_then next.1 ≡ q =
+    same_Some (placed_as before next.0 column_then next.1) q e in
     let own : (next.1 ≡ true) × (b.column ≡ column_then) =
     own_spot before next.0 column_then next.1 b (ap (λ (r : Placed). r.at) same ∙ at) in
     subst (λ (s : ℕ). After column stamp s b.column) (ap (λ (r : Placed). r.seen.stamp) same)
@@ -136,7 +137,8 @@ by_stamps before column stamp (next ∷ rest) rising zero (suc j) p q a b e f at
     let column_then = next_column column stamp next in
     let stamp_then = next_stamp stamp next in
     let step = goes column stamp next.0 next.1 rising.0 in
-    let same : placed_as before next.0 column_then next.1 ≡ p = same_Some (placed_as before next.0 column_then next.1) p e in
+    let same : placed_as before next.0 column_then next.1 ≡ p =
+    same_Some (placed_as before next.0 column_then next.1) p e in
     let own : (next.1 ≡ true) × (a.column ≡ column_then) =
     own_spot before next.0 column_then next.1 a (ap (λ (r : Placed). r.at) same ∙ at) in
     let stamps : next.0.stamp ≡ p.seen.stamp = ap (λ (r : Placed). r.seen.stamp) same in
@@ -145,14 +147,17 @@ by_stamps before column stamp (next ∷ rest) rising zero (suc j) p q a b e f at
     after_all (before ++ next.0 ∷ []) column_then stamp_then rest
     (weaker stamp_then next.0.stamp rest
     (not_more column stamp next.0.stamp next.1 column_then stamp_then rising.0 step) rising.1) j q b f bt in (
-      λ h. let k : stamp_then < q.seen.stamp = after.to (let c = own.1 in omega (arith, h, c)) in omega (arith, stamps, last, k),
-      λ h. let k : column_then < b.column = after.from (omega (arith, h, stamps, last)) in let c = own.1 in omega (arith, c, k),
+      λ h. let k : stamp_then < q.seen.stamp = after.to (let c = own.1 in omega (arith, h, c)) in
+          omega (arith, stamps, last, k),
+      λ h. let k : column_then < b.column = after.from (omega (arith, h, stamps, last)) in let c = own.1 in
+          omega (arith, c, k),
     )
 by_stamps before column stamp (next ∷ rest) rising (suc i) zero p q a b e f at bt =
     let column_then = next_column column stamp next in
     let stamp_then = next_stamp stamp next in
     let step = goes column stamp next.0 next.1 rising.0 in
-    let same : placed_as before next.0 column_then next.1 ≡ q = same_Some (placed_as before next.0 column_then next.1) q f in
+    let same : placed_as before next.0 column_then next.1 ≡ q =
+    same_Some (placed_as before next.0 column_then next.1) q f in
     let own : (next.1 ≡ true) × (b.column ≡ column_then) =
     own_spot before next.0 column_then next.1 b (ap (λ (r : Placed). r.at) same ∙ bt) in
     let stamps : next.0.stamp ≡ q.seen.stamp = ap (λ (r : Placed). r.seen.stamp) same in

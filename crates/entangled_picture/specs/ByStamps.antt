@@ -1,5 +1,5 @@
 -- Columns go by stamps.
-use Rattle.std.specs.Prelude.{◌≡◌, ◌↔◌, ℕ, ◌<◌, List, Option, Some, slice_get}
+use Rattle.std.specs.Prelude.{◌≡◌, ◌↔◌, ℕ, ◌<◌, List, Some, slice_get}
 use Rattle.entry_format.specs.SealedEntry.{SealedEntry}
 use Rattle.entry_format.specs.Nodes.{node_of_sealed}
 use Rattle.entry_graph.specs.EntryGraph.{EntryGraph, IsEntryGraph}

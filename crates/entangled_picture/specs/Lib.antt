@@ -4,6 +4,9 @@ pub mod Marks
 pub mod LogMarks
 pub mod Shapes
 pub mod Layout
-pub mod Escaping
-pub mod Wording
+pub mod Names
+pub mod Drawing
+pub mod ShapeMarks
+pub mod Legend
 pub mod Document
+pub mod OneMark

@@ -1,6 +1,6 @@
 -- The lanes, and what is shown of the logs at their ends.
 use Rattle.std.specs.Prelude.{ℕ, ◌+◌, ◌==◌, nat_lt, if◌then◌else◌, List, [], ◌∷◌, ◌++◌, length, take, map, count_by}
-use Rattle.std.specs.Prelude.{Option, Some, None, option_to_list, slice_get, slice_index_or}
+use Rattle.std.specs.Prelude.{Option, Some, None, option_to_list, slice_get}
 use Rattle.std.specs.List.{flat_map, range_with_len}
 use Rattle.entry_format.specs.declared.plain.EntryFault.{EntryFault}
 use Rattle.log_files.specs.declared.plain_log.End.{End}
@@ -10,11 +10,6 @@ use Rattle.entangled_picture.specs.declared.shape.Spot.{Spot}
 use Rattle.entangled_picture.specs.declared.shape.Shape.{Shape}
 use Rattle.entangled_picture.specs.declared.shape.Shape.TheVariants as shape
 
--- a line for each machine, in the order of the roster, up to this column
-abbrev pub lanes_of : ℕ → ℕ → List Shape
-lanes_of machines column =
-    map (λ lane. shape.Lane (record { column = column; lane = lane; level = 0 })) (range_with_len 0 machines)
-
 -- the lane of a log: its owner's, or the one below all machines where the owner isn't in the roster
 abbrev pub lane_of : ℕ → ℕ → ℕ
 lane_of owner machines = if nat_lt owner machines then owner else machines
@@ -22,6 +17,12 @@ lane_of owner machines = if nat_lt owner machines then owner else machines
 -- how many of these logs have this lane
 abbrev pub logs_above : List LogRead → ℕ → ℕ → ℕ
 logs_above before lane machines = count_by (λ (log : LogRead). lane_of log.owner machines == lane) before
+
+-- a line for each machine, in the order of the roster, up to this column, with the number of its logs
+abbrev pub lanes_of : List LogRead → ℕ → ℕ → List Shape
+lanes_of logs machines column =
+    map (λ lane. shape.Lane (record { column = column; lane = lane; level = 0 }) (logs_above logs lane machines))
+    (range_with_len 0 machines)
 
 -- the mark of a refused record
 abbrev pub refused_at : ℕ → Spot → ℕ → Option (ℕ × EntryFault) → Option Shape
@@ -45,10 +46,11 @@ abbrev pub break_of : Spot → ℕ → ℕ → Option ℕ → Option Shape
 break_of at order log None = None
 break_of at order log (Some place) = Some (shape.Break at order log place)
 
--- what is shown of a log, side by side: its refused records, its break, and its end
+-- what is shown of a log: its line, and after it, side by side, its refused records, its break, and its end
 abbrev pub marks_of_log : LogRead → ℕ → Spot → List Shape
 marks_of_log log place edge =
-    refused_marks log.refused.items place edge
+    shape.Log edge place ∷ []
+    ++ refused_marks log.refused.items place edge
     ++ option_to_list (break_of edge (length log.refused.items) place log.broke)
     ++ option_to_list (ending_of edge (length log.refused.items + 1) place log.end)
 

@@ -1,5 +1,5 @@
 -- The shapes of a graph.
-use Rattle.std.specs.Prelude.{ℕ, zero, suc, ◌+◌, ◌==◌, Bool, true, false, not, ◌&&◌, if◌then◌else◌, List, [], ◌∷◌, ◌++◌}
+use Rattle.std.specs.Prelude.{ℕ, zero, suc, ◌+◌, ◌==◌, Bool, false, not, ◌&&◌, if◌then◌else◌, List, [], ◌∷◌, ◌++◌}
 use Rattle.std.specs.Prelude.{length, map, find, Option, Some, None, option_to_list, is_some, slice_get}
 use Rattle.std.specs.Prelude.{slice_index_or}
 use Rattle.std.specs.List.{flat_map, fold, range_with_len}
@@ -34,13 +34,19 @@ abbrev pub number_at : List Placed → ℕ → ℕ
 number_at placed place = number_of_placed (slice_get placed place)
 
 -- the mark of a survivor that is drawn
-abbrev pub entry_in : Option Spot → Seen → Option Shape
-entry_in None seen = None
-entry_in (Some at) seen = Some (shape.Entry at seen.number seen.deed seen.digest)
+abbrev pub entry_in : ℕ → Option Spot → Seen → Option Shape
+entry_in place None seen = None
+entry_in place (Some at) seen = Some (shape.Entry at place seen.number seen.deed seen.digest)
+
+-- the mark of the survivor at a place, if it is drawn
+abbrev pub entry_at : ℕ → Option Placed → Option Shape
+entry_at place None = None
+entry_at place (Some placed) = entry_in place placed.at placed.seen
 
 -- a mark for each survivor that is drawn
 abbrev pub entry_marks : List Placed → List Shape
-entry_marks placed = flat_map (λ (entry : Placed). option_to_list (entry_in entry.at entry.seen)) placed
+entry_marks placed =
+    flat_map (λ place. option_to_list (entry_at place (slice_get placed place))) (range_with_len 0 (length placed))
 
 -- the arrow between two spots
 abbrev pub arrow_between : Option Spot → ℕ → Option Spot → ℕ → Option Shape
@@ -171,11 +177,11 @@ gap_of graph placed lane level digest =
     losses_of graph placed digest (gap_spot graph placed lane level digest)
     ++ shape.Gap (gap_spot graph placed lane level digest) digest ∷ []
 
--- the arrows to each gap, and its mark
-abbrev pub gaps_of : EntryGraph SealedEntry → List Placed → ℕ → List Shape
-gaps_of graph placed lane =
-    flat_map (λ level. gap_of graph placed lane level (slice_index_or graph.gaps level []))
-    (range_with_len 0 (length graph.gaps))
+-- the arrows to each of these gaps, and its mark
+abbrev pub gaps_of : EntryGraph SealedEntry → List (List ℕ) → List Placed → ℕ → List Shape
+gaps_of graph gaps placed lane =
+    flat_map (λ level. gap_of graph placed lane level (slice_index_or gaps level []))
+    (range_with_len 0 (length gaps))
 
 -- the survivor is one of the fork
 abbrev pub is_of_fork : ℕ × ℕ → Placed → Bool

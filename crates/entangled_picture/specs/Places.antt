@@ -1,5 +1,5 @@
 -- Which survivors a picture shows one by one, and where.
-use Rattle.std.specs.Prelude.{ℕ, ◌+◌, ◌==◌, Bool, true, false, not, ◌&&◌, ◌||◌, nat_lt, nat_le, if◌then◌else◌}
+use Rattle.std.specs.Prelude.{ℕ, ◌+◌, ◌==◌, Bool, false, not, ◌&&◌, ◌||◌, nat_lt, nat_le, if◌then◌else◌}
 use Rattle.std.specs.Prelude.{List, [], ◌∷◌, ◌++◌, length, take, drop, map, count_by, Option, Some, None, slice_get}
 use Rattle.std.specs.List.{list_any, range_with_len, zip}
 use Rattle.entry_format.specs.SealedEntry.{SealedEntry}
@@ -10,9 +10,9 @@ use Rattle.entangled_picture.specs.declared.shape.Spot.{Spot}
 use Rattle.entangled_picture.specs.declared.seen.Seen.{Seen}
 use Rattle.entangled_picture.specs.declared.placed.Placed.{Placed}
 
--- up to this many survivors each is drawn
+-- up to this many survivors each is drawn, and of gaps, forks and strays the first ones up to this number
 abbrev pub most_drawn : ℕ
-most_drawn = 400
+most_drawn = 300
 
 -- what a picture shows of a survivor
 abbrev pub seen_of : SealedEntry → Seen
@@ -42,12 +42,13 @@ abbrev pub is_lit : List Verdict → ℕ → Bool
 is_lit verdicts place =
     list_any (λ (verdict : Verdict). list_any (λ other. other == place) (places_in (Some verdict))) verdicts
 
--- A survivor matters that is the first or the last of its maker, that names a gap, that is one of a
--- fork, or that a broken rule names.
+-- A survivor matters that is the first or the last of its maker, that names a gap, that is one of
+-- the forks that are drawn, or that a broken rule names.
 abbrev pub matters : EntryGraph SealedEntry → List Verdict → List Seen → ℕ → Seen → Bool
 matters graph verdicts seen place entry =
     not (has_maker (take place seen) entry.maker) || not (has_maker (drop (place + 1) seen) entry.maker)
-    || ragged_of graph.links place || is_forked graph.forks entry.maker entry.number || is_lit verdicts place
+    || ragged_of graph.links place
+    || is_forked (take most_drawn graph.forks) entry.maker entry.number || is_lit verdicts place
 
 -- the survivor at a place matters
 abbrev pub matters_at : EntryGraph SealedEntry → List Verdict → List Seen → ℕ → Option Seen → Bool

@@ -1,5 +1,5 @@
 //! Which survivors are drawn one by one.
-ghost use Rattle.std.specs.Prelude.{◌≡◌, ◌==◌, ◌<◌, IfOk, Some, length, slice_get};
+ghost use Rattle.std.specs.Prelude.{◌≡◌, ◌==◌, ◌<◌, IfOk, Some, length, slice_get, take};
 ghost use Rattle.std.specs.List.{list_any};
 ghost use Rattle.entangled_picture.specs.Places.{
   drawn_of,
@@ -8,6 +8,7 @@ ghost use Rattle.entangled_picture.specs.Places.{
   is_forked,
   is_lit,
   matters_at,
+  most_drawn,
   places_in,
 };
 
@@ -17,8 +18,20 @@ use precedence::Arrows;
 use rule_engine::Verdict;
 use std::alloc::{AllocError, Global};
 
-/// Up to this many survivors each is drawn.
-const MOST_DRAWN: usize = 400;
+/// Up to this many survivors each is drawn, and of gaps, forks and strays the first ones up to this
+/// number.
+const MOST_DRAWN: usize = 300;
+
+/// The first ones, up to the number that is drawn.
+pub(crate) fn first_ones<T>(items: &[T]) -> &[T]
+    ensures { result.now ≡ take most_drawn items.now }
+{
+    if items.len() <= MOST_DRAWN {
+        items
+    } else {
+        &items[..MOST_DRAWN]
+    }
+}
 
 /// Whether one of the entries has this maker.
 fn has_maker(entries: &[Seen], maker: u32) -> bool
@@ -71,7 +84,7 @@ fn matters(graph: &Graph, verdicts: &[Verdict], seen: &[Seen], place: usize) -> 
     !has_maker(&seen[..place], entry.maker)
         || !has_maker(&seen[place + 1..], entry.maker)
         || graph.ragged(place)
-        || is_forked(graph.forks(), entry.maker, entry.number)
+        || is_forked(first_ones(graph.forks()), entry.maker, entry.number)
         || is_lit(verdicts, place)
 }
 

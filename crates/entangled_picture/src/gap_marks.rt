@@ -122,17 +122,17 @@ fn add_gap(
     Ok(())
 }
 
-/// Adds all gaps, in a lane of their own, one below another.
+/// Adds these gaps, in a lane of their own, one below another.
 pub(crate) fn add_gaps(
     shapes: &mut Vec<Shape>,
     graph: &Graph,
+    gaps: &[[u8; 32]],
     placed: &[Placed],
     lane: usize,
 ) -> Result<(), AllocError>
     ensures { OnOk result
-        (shapes.new.items ≡ shapes.old.items ++ gaps_of graph.now placed.now lane) }
+        (shapes.new.items ≡ shapes.old.items ++ gaps_of graph.now gaps.now placed.now lane) }
 {
-    let gaps = graph.gaps();
     for level in 0..gaps.len() {
         add_gap(shapes, graph, placed, lane, level, &gaps[level])?;
     }

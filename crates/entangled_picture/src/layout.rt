@@ -1,9 +1,12 @@
-//! Where columns, lanes and levels are in a document, in its units.
-ghost use Rattle.std.specs.Prelude.{◌≡◌, ◌+◌, ◌<◌, ◌^◌};
+//! Where columns, lanes and levels are in a picture, in its units.
+ghost use Rattle.std.specs.Prelude.{◌≡◌, ◌+◌, ◌<◌, ◌^◌, IfOk};
 ghost use Rattle.entangled_picture.specs.Layout.{
   foot_of,
-  height_of,
+  grown_height,
+  lane_height,
   right_of,
+  top_of,
+  tops_of,
   width_of,
   x_behind,
   x_of,
@@ -12,13 +15,14 @@ ghost use Rattle.entangled_picture.specs.Layout.{
 };
 
 use crate::shape::{Shape, Spot};
+use std::alloc::{AllocError, Global};
 
 /// How far right a spot is.
 pub(crate) fn x_of(at: Spot) -> u128
     ensures value { result ≡ x_of at }
     ensures fits { result < 2 ^ 100 }
 {
-    80 + 36 * u128::from(at.column)
+    220 + 36 * u128::from(at.column)
 }
 
 /// How far right a mark is after a spot, with this number of marks between.
@@ -31,17 +35,10 @@ pub(crate) fn x_behind(at: Spot, order: usize) -> u128
 
 /// How far right a gap is: half a column before the entries of its column.
 pub(crate) fn x_of_gap(at: Spot) -> u128
-    ensures { result ≡ x_of_gap at }
-{
-    x_of(at) - 18
-}
-
-/// How far down a spot is.
-pub(crate) fn y_of(at: Spot) -> u128
-    ensures value { result ≡ y_of at }
+    ensures value { result ≡ x_of_gap at }
     ensures fits { result < 2 ^ 100 }
 {
-    160 + 96 * at.lane as u128 + 44 * at.level as u128
+    x_of(at) - 18
 }
 
 /// The right end of a shape.
@@ -50,7 +47,8 @@ fn right_of(shape: &Shape) -> u128
     ensures fits { result < 2 ^ 100 }
 {
     match *shape {
-        Shape::Lane { end } => x_of(end),
+        Shape::Lane { end, .. } => x_of(end),
+        Shape::Log { end, .. } => x_of(end),
         Shape::Arrow { from, .. } => x_of(from),
         Shape::Bar { to, .. } => x_of(to),
         Shape::Light { at, .. } => x_of(at),
@@ -70,7 +68,8 @@ fn foot_of(shape: &Shape) -> Spot
     ensures { result ≡ foot_of shape.now }
 {
     match *shape {
-        Shape::Lane { end } => end,
+        Shape::Lane { end, .. } => end,
+        Shape::Log { end, .. } => end,
         Shape::Arrow { from, .. } => from,
         Shape::Bar { to, .. } => to,
         Shape::Light { at, .. } => at,
@@ -85,24 +84,82 @@ fn foot_of(shape: &Shape) -> Spot
     }
 }
 
+/// The height of a lane with this height and a shape more.
+fn grown_height(lane: usize, height: u128, shape: &Shape) -> u128
+    requires { height < 2 ^ 100 }
+    ensures value { result ≡ grown_height lane height shape.now }
+    ensures fits { result < 2 ^ 100 }
+{
+    let foot = foot_of(shape);
+    if foot.lane == lane {
+        u128::max(height, 32 + 64 * (foot.level as u128 + 1))
+    } else {
+        height
+    }
+}
+
+/// The height of a lane: there is room for each level that a shape of it has.
+fn lane_height(shapes: &[Shape], lane: usize) -> u128
+    ensures value { result ≡ lane_height shapes.now lane }
+    ensures fits { result < 2 ^ 100 }
+{
+    let mut height = 0;
+    for shape in shapes {
+        height = grown_height(lane, height, shape);
+    }
+    height
+}
+
+/// What is below a lane with this top and this height. More than a `u64` holds is more shapes than
+/// memory has.
+fn below(top: u64, height: u128) -> Result<u64, AllocError>
+    requires { height < 2 ^ 100 }
+    ensures { IfOk result (λ next. next ≡ top + height) }
+{
+    let next = u128::from(top) + height;
+    match u64::try_from(next) {
+        Ok(next) => Ok(next),
+        Err(_) => Err(AllocError),
+    }
+}
+
+/// How far down the line of each lane is, and how high a picture with these lanes is.
+pub(crate) fn tops_of(
+    alloc: Global,
+    shapes: &[Shape],
+    lanes: usize,
+) -> Result<(Vec<u64>, u64), AllocError>
+    ensures tops { IfOk result (λ made. made.0.items ≡ tops_of shapes.now lanes) }
+    ensures end { IfOk result (λ made. made.1 ≡ top_of shapes.now lanes) }
+{
+    let mut tops = Vec::new(alloc);
+    let mut top = 268;
+    for lane in 0..lanes {
+        tops.push(top)?;
+        top = below(top, lane_height(shapes, lane))?;
+    }
+    Ok((tops, top))
+}
+
+/// How far down a spot is.
+pub(crate) fn y_of(tops: &[u64], at: Spot) -> u128
+    ensures value { result ≡ y_of tops.now at }
+    ensures fits { result < 2 ^ 100 }
+{
+    let top = match tops.get(at.lane) {
+        Some(top) => *top,
+        None => 0,
+    };
+    u128::from(top) + 64 * at.level as u128
+}
+
 /// How wide a picture is: there is room for the legend, and for the words at the last shape.
 pub(crate) fn width_of(shapes: &[Shape]) -> u128
     ensures { result ≡ width_of shapes.now }
 {
-    let mut width = 720;
+    let mut width = 400;
     for shape in shapes {
         width = u128::max(width, right_of(shape));
     }
-    width + 120
-}
-
-/// How high it is.
-pub(crate) fn height_of(shapes: &[Shape]) -> u128
-    ensures { result ≡ height_of shapes.now }
-{
-    let mut height = 160;
-    for shape in shapes {
-        height = u128::max(height, y_of(foot_of(shape)));
-    }
-    height + 64
+    width + 130
 }

@@ -4,22 +4,24 @@
 #![tactic(auto)]
 
 mod bars;
+mod drawing;
 mod drawn;
-mod escaping;
 mod gap_marks;
 mod laws;
 mod layout;
+mod legend;
 mod log_marks;
 mod marks;
+mod names;
 mod picture;
 mod placed;
 mod seen;
 mod shape;
 mod shape_list;
+mod shape_marks;
 mod shapes;
-mod wording;
 
-pub use laws::columns_go_by_stamps;
-pub use picture::write_picture;
+pub use laws::{columns_go_by_stamps, each_finding_has_one_mark};
+pub use picture::{add_picture, write_picture};
 pub use shape::{Shape, Spot};
 pub use shapes::shapes_of;

@@ -18,25 +18,6 @@ use entry_format::EntryFault;
 use log_files::{End, LogRead};
 use std::alloc::AllocError;
 
-/// Adds the line of each machine.
-pub(crate) fn add_lanes(
-    shapes: &mut Vec<Shape>,
-    machines: usize,
-    column: u32,
-) -> Result<(), AllocError>
-    ensures { OnOk result (shapes.new.items ≡ shapes.old.items ++ lanes_of machines column) }
-{
-    for lane in 0..machines {
-        let end = Spot {
-            column,
-            lane,
-            level: 0,
-        };
-        shapes.push(Shape::Lane { end })?;
-    }
-    Ok(())
-}
-
 /// The lane of a log: its owner's, or the one below all machines if the owner isn't listed.
 fn lane_of(owner: u32, machines: usize) -> usize
     ensures { result ≡ lane_of owner machines }
@@ -56,6 +37,28 @@ fn logs_above(before: &[LogRead], lane: usize, machines: usize) -> usize
         .iter()
         .filter(|log| lane_of(log.owner, machines) == lane)
         .count()
+}
+
+/// Adds the line of each machine.
+pub(crate) fn add_lanes(
+    shapes: &mut Vec<Shape>,
+    logs: &[LogRead],
+    machines: usize,
+    column: u32,
+) -> Result<(), AllocError>
+    ensures { OnOk result
+        (shapes.new.items ≡ shapes.old.items ++ lanes_of logs.now machines column) }
+{
+    for lane in 0..machines {
+        let given = logs_above(logs, lane, machines);
+        let end = Spot {
+            column,
+            lane,
+            level: 0,
+        };
+        shapes.push(Shape::Lane { end, logs: given })?;
+    }
+    Ok(())
 }
 
 /// Adds a mark for each refused record, side by side.
@@ -117,7 +120,8 @@ fn break_of(at: Spot, order: usize, log: usize, broke: Option<u32>) -> Option<Sh
     }
 }
 
-/// Adds what is shown of a log, side by side: its refused records, its break, and its end.
+/// Adds what is shown of a log: its line, and after it, side by side, its refused records, its
+/// break, and its end.
 fn add_log(
     shapes: &mut Vec<Shape>,
     log: &LogRead,
@@ -129,6 +133,10 @@ fn add_log(
     let count = log.refused.len();
     let broke = break_of(edge, count, place, log.broke);
     let ending = ending_of(edge, count + 1, place, log.end);
+    shapes.push(Shape::Log {
+        end: edge,
+        log: place,
+    })?;
     add_refused(shapes, log.refused.as_slice(), place, edge)?;
     push_some(shapes, broke)?;
     push_some(shapes, ending)

@@ -1,12 +1,13 @@
 //! The marks of a graph: entries, arrows, forks, strays, and the lights of broken rules.
-ghost use Rattle.std.specs.Prelude.{◌≡◌, ◌++◌, ◌<◌, OnOk, find, length};
+ghost use Rattle.std.specs.Prelude.{◌≡◌, ◌++◌, ◌<◌, OnOk, find, length, slice_get};
 ghost use Rattle.entangled_picture.specs.Marks.{
   arrow_at,
   arrow_between,
   arrows_from,
   arrows_of,
-  entry_marks,
+  entry_at,
   entry_in,
+  entry_marks,
   fork_between,
   forks_of,
   is_of_fork,
@@ -51,13 +52,14 @@ pub(crate) fn number_at(placed: &[Placed], place: usize) -> u32
     }
 }
 
-/// The mark of a survivor, if it is drawn.
-fn entry_in(at: Option<Spot>, seen: &Seen) -> Option<Shape>
-    ensures { result ≡ entry_in at seen.now }
+/// The mark of the survivor at this place, if it is drawn.
+fn entry_in(place: usize, at: Option<Spot>, seen: &Seen) -> Option<Shape>
+    ensures { result ≡ entry_in place at seen.now }
 {
     match at {
         Some(at) => Some(Shape::Entry {
             at,
+            place,
             number: seen.number,
             deed: seen.deed,
             digest: seen.digest,
@@ -66,12 +68,22 @@ fn entry_in(at: Option<Spot>, seen: &Seen) -> Option<Shape>
     }
 }
 
+/// The mark of the survivor at a place, if it is drawn.
+fn entry_at(placed: &[Placed], place: usize) -> Option<Shape>
+    ensures { result ≡ entry_at place (slice_get placed.now place) }
+{
+    match placed.get(place) {
+        Some(entry) => entry_in(place, entry.at, &entry.seen),
+        None => None,
+    }
+}
+
 /// Adds a mark for each survivor that is drawn.
 pub(crate) fn add_entries(shapes: &mut Vec<Shape>, placed: &[Placed]) -> Result<(), AllocError>
     ensures { OnOk result (shapes.new.items ≡ shapes.old.items ++ entry_marks placed.now) }
 {
-    for entry in placed {
-        push_some(shapes, entry_in(entry.at, &entry.seen))?;
+    for place in 0..placed.len() {
+        push_some(shapes, entry_at(placed, place))?;
     }
     Ok(())
 }

@@ -1,241 +1,420 @@
-//! From a report to the document that shows it.
-ghost use Rattle.std.specs.Prelude.{◌≡◌, ◌++◌, ◌<◌, IfOk, OnOk, length, string_bytes};
+//! From a report to the picture that shows it.
+ghost use Rattle.std.specs.Prelude.{◌≡◌, ◌++◌, ◌<◌, IfOk, OnErr, OnOk};
+ghost use Rattle.std.specs.Prelude.{count_by, length, string_bytes};
 ghost use Rattle.std.specs.List.{flat_map};
 ghost use Rattle.auditor.specs.Report.{report_of};
 ghost use Rattle.auditor.specs.Outcomes.{is_broken, is_unsettled};
+ghost use Rattle.page_markup.specs.WellFormed.{IsDocument};
 ghost use Rattle.entangled_picture.specs.Document.{
+  all_of,
+  attributes_of,
   broken_line,
-  document_head,
-  document_of,
+  broken_words,
+  count_words,
+  drawn_words,
+  graph_words,
+  is_entry,
+  kind_attributes,
+  lanes_in,
+  named_text,
+  picture_attributes,
+  picture_base,
+  picture_head,
+  picture_of,
+  picture_paper,
+  picture_style,
   picture_text,
-  rule_lines,
+  picture_titles,
+  picture_words,
   rule_word,
   rule_words,
-  size_line,
-  size_lines,
+  size_attributes,
+  after_space,
   unsettled_line,
-  verdict_lines,
+  unsettled_words,
+  verdict_words,
+  view_box,
 };
-ghost use Rattle.entangled_picture.specs.Wording.{shape_text};
+ghost use Rattle.entangled_picture.specs.ShapeMarks.{shape_line};
 
-use crate::layout::{height_of, width_of};
+use crate::drawing::add_words;
+use crate::layout::{tops_of, width_of};
+use crate::legend::{STYLE, add_arrow_heads, add_legend};
+use crate::names::{rule_name, two_words};
 use crate::shape::Shape;
+use crate::shape_marks::add_shape_line;
 use crate::shapes::shapes_of;
-use crate::wording::{add_shape, rule_name};
 use auditor::Report;
+use entry_graph::Graph;
+use page_markup::{AttributeName, Attributes, Markup, Tag, svg_document};
+use precedence::Arrows;
 use rule_engine::Verdict;
 use std::alloc::{AllocError, Global};
-use std::fmt::Write;
 
-/// The style and the legend. The colours can be told apart by everybody (Okabe and Ito), and the
-/// marks by shape alone.
-const LEGEND: &str = "<style>text{fill:#000}path{fill:none;stroke:#000;stroke-width:1.5}\
-.lane path{stroke:#aaa;stroke-width:1}.lane text{font-weight:bold}\
-.names{stroke:#444;stroke-width:1;marker-end:url(#n)}\
-.bar path{stroke:#bbb;stroke-width:8}.light{fill:#e69f00;stroke:#000;stroke-dasharray:3 2}\
-circle{fill:#fff;stroke:#000;stroke-width:1.5}\
-.opened circle,.closed circle,.authorise circle,.override circle{fill:#d9d9d9}\
-.commit circle,.cast circle,.challenge circle{fill:#9fd0f0}\
-.number{text-anchor:middle;font-size:9px}\
-.kind{font-size:9px;paint-order:stroke;stroke:#fff;stroke-width:3px}\
-.gap circle{stroke:#d55e00;stroke-width:2;stroke-dasharray:3 2}\
-.loss{stroke:#d55e00;stroke-dasharray:4 3;marker-end:url(#l)}\
-.fork path{stroke:#0072b2;stroke-width:2.5}.stray path{fill:#56b4e9}\
-.refused path,.ending path,.break path{stroke:#d55e00;stroke-width:2.5}</style>\n\
-<defs><marker id='n' markerUnits='userSpaceOnUse' markerWidth='8' markerHeight='8' refX='19' \
-refY='4' orient='auto'><path d='M0 0L8 4L0 8z' style='fill:#444;stroke:none'/></marker>\
-<marker id='l' markerUnits='userSpaceOnUse' markerWidth='8' markerHeight='8' refX='17' \
-refY='4' orient='auto'><path d='M0 0L8 4L0 8z' style='fill:#d55e00;stroke:none'/></marker></defs>\n\
-<g><circle cx='18' cy='84' r='10'/><text x='18' y='87.5' class='number'>0</text>\
-<text x='34' y='88'>an entry, with its number</text>\
-<path class='names' d='M176 84h34'/><text x='220' y='88'>an entry that it names</text>\
-<circle class='light' cx='362' cy='84' r='14'/><text x='382' y='88'>a broken rule names it</text>\
-<g class='gap'><circle cx='524' cy='84' r='8'/></g>\
-<text x='538' y='88'>a gap: named, and in no log</text>\
-<g class='fork'><path d='M8 120v-8h24v8'/></g><text x='38' y='118'>a fork</text>\
-<g class='stray'><path d='M100 104l10 10l-10 10l-10-10z'/></g><text x='116' y='118'>a stray</text>\
-<g class='refused'><path d='M173 107l14 14m0-14l-14 14'/></g>\
-<text x='194' y='118'>a refused record</text>\
-<g class='break'><path d='M296 104v20m8-20v20'/></g><text x='312' y='118'>a break</text>\
-<g class='ending'><path d='M374 104l8 6l-8 6l8 6'/></g><text x='390' y='118'>a damaged end</text>\
-<g class='bar'><path d='M484 114h30'/></g><text x='522' y='118'>entries that aren&#39;t drawn</text>\
-</g>\n";
-
-/// How a document ends.
-const FOOT: &str = "</svg>\n";
+/// What a picture shows, for those who don't see it.
+const DESCRIPTION: &[u8] = b"A lane for each machine and a mark for each entry, from left to right \
+by their stamps; arrows go to the entries that they name.";
 
 /// Adds the name of a rule, if it is broken.
-fn add_broken(
-    alloc: Global,
-    out: &mut String,
-    report: &Report,
-    rule: usize,
-) -> Result<(), AllocError>
+fn add_broken(out: &mut Vec<u8>, report: &Report, rule: usize) -> Result<(), AllocError>
     requires { rule < length report.now.verdicts }
-    ensures { OnOk result (string_bytes out.new
-        ≡ string_bytes out.old ++ rule_word is_broken (report_of report.now) rule) }
+    ensures { OnOk result (out.new.items
+        ≡ out.old.items ++ rule_word is_broken (report_of report.now) rule) }
 {
     match report.verdicts()[rule] {
-        Verdict::Broken(_) => {
-            let name = rule_name(alloc, report, rule)?;
-            write!(out, " {name}")
-        }
+        Verdict::Broken(_) => add_name(out, rule_name(report, rule)),
         _ => Ok(()),
     }
 }
 
 /// Adds the name of a rule, if it is unsettled.
-fn add_unsettled(
-    alloc: Global,
-    out: &mut String,
-    report: &Report,
-    rule: usize,
-) -> Result<(), AllocError>
+fn add_unsettled(out: &mut Vec<u8>, report: &Report, rule: usize) -> Result<(), AllocError>
     requires { rule < length report.now.verdicts }
-    ensures { OnOk result (string_bytes out.new
-        ≡ string_bytes out.old ++ rule_word is_unsettled (report_of report.now) rule) }
+    ensures { OnOk result (out.new.items
+        ≡ out.old.items ++ rule_word is_unsettled (report_of report.now) rule) }
 {
     match report.verdicts()[rule] {
-        Verdict::Unsettled => {
-            let name = rule_name(alloc, report, rule)?;
-            write!(out, " {name}")
-        }
+        Verdict::Unsettled => add_name(out, rule_name(report, rule)),
         _ => Ok(()),
     }
 }
 
+/// Adds a space and a name.
+fn add_name(out: &mut Vec<u8>, name: &str) -> Result<(), AllocError>
+    ensures { OnOk result (out.new.items ≡ out.old.items ++ after_space name.now) }
+{
+    out.push(b' ')?;
+    out.extend_from_slice(name.as_bytes())
+}
+
 /// Adds the names of the broken rules.
-fn add_all_broken(alloc: Global, out: &mut String, report: &Report) -> Result<(), AllocError>
-    ensures { OnOk result (string_bytes out.new
-        ≡ string_bytes out.old ++ rule_words is_broken (report_of report.now)) }
+fn add_all_broken(out: &mut Vec<u8>, report: &Report) -> Result<(), AllocError>
+    ensures { OnOk result (out.new.items
+        ≡ out.old.items ++ rule_words is_broken (report_of report.now)) }
 {
     for rule in 0..report.verdicts().len() {
-        add_broken(alloc, out, report, rule)?;
+        add_broken(out, report, rule)?;
     }
     Ok(())
 }
 
 /// Adds the names of the unsettled rules.
-fn add_all_unsettled(alloc: Global, out: &mut String, report: &Report) -> Result<(), AllocError>
-    ensures { OnOk result (string_bytes out.new
-        ≡ string_bytes out.old ++ rule_words is_unsettled (report_of report.now)) }
+fn add_all_unsettled(out: &mut Vec<u8>, report: &Report) -> Result<(), AllocError>
+    ensures { OnOk result (out.new.items
+        ≡ out.old.items ++ rule_words is_unsettled (report_of report.now)) }
 {
     for rule in 0..report.verdicts().len() {
-        add_unsettled(alloc, out, report, rule)?;
+        add_unsettled(out, report, rule)?;
     }
     Ok(())
+}
+
+/// The line of the broken rules.
+fn broken_line(alloc: Global, report: &Report) -> Result<Vec<u8>, AllocError>
+    ensures { IfOk result (λ line. line.items ≡ broken_line (report_of report.now)) }
+{
+    let mut line = Vec::new(alloc);
+    line.extend_from_slice(b"broken:")?;
+    add_all_broken(&mut line, report)?;
+    Ok(line)
+}
+
+/// The line of the unsettled rules.
+fn unsettled_line(alloc: Global, report: &Report) -> Result<Vec<u8>, AllocError>
+    ensures { IfOk result (λ line. line.items ≡ unsettled_line (report_of report.now)) }
+{
+    let mut line = Vec::new(alloc);
+    line.extend_from_slice(b"unsettled:")?;
+    add_all_unsettled(&mut line, report)?;
+    Ok(line)
+}
+
+/// How many of the survivors are drawn, and how many gaps, forks and strays there are.
+fn drawn_words(
+    alloc: Global,
+    drawn: usize,
+    all: usize,
+    gaps: usize,
+    forks: usize,
+    strays: usize,
+) -> Result<String, AllocError>
+    ensures { IfOk result (λ text. string_bytes text ≡ drawn_words drawn all gaps forks strays) }
+{
+    format!(in alloc;
+        "{drawn} of {all} entries are drawn; gaps {gaps}, forks {forks}, strays {strays}, \
+of each the first 300"
+    )
+}
+
+/// The same of a graph.
+fn graph_words(alloc: Global, graph: &Graph, drawn: usize) -> Result<String, AllocError>
+    ensures { IfOk result (λ text. string_bytes text ≡ graph_words graph.now drawn) }
+{
+    let all = graph.count();
+    let gaps = graph.gaps().len();
+    let forks = graph.forks().len();
+    let strays = graph.strays().len();
+    drawn_words(alloc, drawn, all, gaps, forks, strays)
+}
+
+/// Whether the shape is a survivor's mark.
+fn is_entry(shape: &Shape) -> bool
+    ensures { result ≡ is_entry shape.now }
+{
+    match *shape {
+        Shape::Entry { .. } => true,
+        _ => false,
+    }
+}
+
+/// How many of the shapes are survivors' marks.
+fn count_entries(shapes: &[Shape]) -> usize
+    ensures { result ≡ count_by is_entry shapes.now }
+{
+    shapes.iter().filter(|shape| is_entry(shape)).count()
+}
+
+/// The part that is shown.
+fn view_box(alloc: Global, width: u128, height: u64) -> Result<String, AllocError>
+    ensures { IfOk result (λ text. string_bytes text ≡ view_box width height) }
+{
+    format!(in alloc; "0 0 {width} {height}")
+}
+
+/// The attributes of each picture.
+fn kind_attributes(alloc: Global) -> Result<Attributes, AllocError>
+    ensures { IfOk result (λ attributes. attributes ≡ kind_attributes) }
+{
+    let mut attributes = Attributes::new(alloc);
+    attributes.add(alloc, AttributeName::Xmlns, b"http://www.w3.org/2000/svg")?;
+    attributes.add(alloc, AttributeName::Class, b"picture")?;
+    attributes.add(alloc, AttributeName::Role, b"graphics-document document")?;
+    attributes.add(alloc, AttributeName::AriaLabelledby, b"p-title p-text")?;
+    Ok(attributes)
+}
+
+/// Adds a size.
+#[tactic(auto, unfolding(crate::specs::Document::size_attributes))]
+fn add_size(
+    alloc: Global,
+    attributes: &mut Attributes,
+    width: u128,
+    height: u64,
+) -> Result<(), AllocError>
+    ensures { OnOk result (attributes.new ≡ attributes.old ++ size_attributes width height) }
+{
+    let view = view_box(alloc, width, height)?;
+    attributes.add_number(alloc, AttributeName::Width, width)?;
+    attributes.add_number(alloc, AttributeName::Height, u128::from(height))?;
+    attributes.add(alloc, AttributeName::ViewBox, view.as_bytes())
+}
+
+/// The attributes of a picture of this size.
+#[tactic(auto, unfolding(crate::specs::Document::picture_attributes))]
+fn picture_attributes(alloc: Global, width: u128, height: u64) -> Result<Attributes, AllocError>
+    ensures { IfOk result (λ attributes. attributes ≡ picture_attributes width height) }
+{
+    let mut attributes = kind_attributes(alloc)?;
+    add_size(alloc, &mut attributes, width, height)?;
+    Ok(attributes)
+}
+
+/// Adds an element with this id and this text.
+#[tactic(auto, unfolding(crate::specs::Document::named_text))]
+fn add_named_text(
+    alloc: Global,
+    out: &mut Markup,
+    tag: Tag,
+    id: &[u8],
+    text: &[u8],
+) -> Result<(), AllocError>
+    ensures { OnOk result (out.new ≡ out.old ++ named_text tag id.now text.now) }
+{
+    let mut attributes = Attributes::new(alloc);
+    attributes.add(alloc, AttributeName::Id, id)?;
+    let mut inner = Markup::new(alloc);
+    inner.add_text(alloc, text)?;
+    out.add_element(alloc, tag, &attributes, &inner)
+}
+
+/// Adds the style.
+#[tactic(auto, unfolding(crate::specs::Document::picture_style))]
+fn add_style(alloc: Global, out: &mut Markup) -> Result<(), AllocError>
+    ensures { OnOk result (out.new ≡ out.old ++ picture_style) }
+{
+    let mut style = Markup::new(alloc);
+    style.add_text(alloc, STYLE.as_bytes())?;
+    out.add_element(alloc, Tag::Style, &Attributes::new(alloc), &style)
+}
+
+/// The title, the description and the style.
+#[tactic(auto, unfolding(crate::specs::Document::picture_titles))]
+fn picture_titles(alloc: Global, verdict: &str) -> Result<Markup, AllocError>
+    ensures { IfOk result (λ titles. titles ≡ picture_titles verdict.now) }
+{
+    let text = two_words(alloc, "verdict ", verdict)?;
+    let mut titles = Markup::new(alloc);
+    add_named_text(alloc, &mut titles, Tag::Title, b"p-title", text.as_bytes())?;
+    titles.add_text(alloc, b"\n")?;
+    add_named_text(alloc, &mut titles, Tag::Desc, b"p-text", DESCRIPTION)?;
+    add_style(alloc, &mut titles)?;
+    Ok(titles)
+}
+
+/// Adds the paper.
+#[tactic(auto, unfolding(crate::specs::Document::picture_paper))]
+fn add_paper(alloc: Global, out: &mut Markup) -> Result<(), AllocError>
+    ensures { OnOk result (out.new ≡ out.old ++ picture_paper) }
+{
+    let mut attributes = Attributes::new(alloc);
+    attributes.add(alloc, AttributeName::Class, b"paper")?;
+    attributes.add(alloc, AttributeName::Width, b"100%")?;
+    attributes.add(alloc, AttributeName::Height, b"100%")?;
+    out.add_element(alloc, Tag::Rect, &attributes, &Markup::new(alloc))
+}
+
+/// Adds what the report comes to.
+#[tactic(auto, unfolding(crate::specs::Document::verdict_words))]
+fn add_verdict(alloc: Global, out: &mut Markup, verdict: &str) -> Result<(), AllocError>
+    ensures { OnOk result (out.new ≡ out.old ++ verdict_words verdict.now) }
+{
+    let text = two_words(alloc, "verdict ", verdict)?;
+    add_words(alloc, out, b"verdict", b"translate(8 24)", text.as_bytes())
 }
 
 /// Adds the line of the broken rules.
-fn add_broken_line(alloc: Global, out: &mut String, report: &Report) -> Result<(), AllocError>
-    ensures { OnOk result
-        (string_bytes out.new ≡ string_bytes out.old ++ broken_line (report_of report.now)) }
+#[tactic(auto, unfolding(crate::specs::Document::broken_words))]
+fn add_broken_words(alloc: Global, out: &mut Markup, report: &Report) -> Result<(), AllocError>
+    ensures { OnOk result (out.new ≡ out.old ++ broken_words (report_of report.now)) }
 {
-    out.push_str("<text x='8' y='44'>broken:")?;
-    add_all_broken(alloc, out, report)?;
-    out.push_str("</text>\n")
+    let line = broken_line(alloc, report)?;
+    add_words(alloc, out, b"rules", b"translate(8 46)", line.as_slice())
 }
 
 /// Adds the line of the unsettled rules.
-fn add_unsettled_line(alloc: Global, out: &mut String, report: &Report) -> Result<(), AllocError>
-    ensures { OnOk result
-        (string_bytes out.new ≡ string_bytes out.old ++ unsettled_line (report_of report.now)) }
+#[tactic(auto, unfolding(crate::specs::Document::unsettled_words))]
+fn add_unsettled_words(alloc: Global, out: &mut Markup, report: &Report) -> Result<(), AllocError>
+    ensures { OnOk result (out.new ≡ out.old ++ unsettled_words (report_of report.now)) }
 {
-    out.push_str("<text x='8' y='60'>unsettled:")?;
-    add_all_unsettled(alloc, out, report)?;
-    out.push_str("</text>\n")
+    let line = unsettled_line(alloc, report)?;
+    add_words(alloc, out, b"rules", b"translate(8 64)", line.as_slice())
 }
 
-/// Adds the rules that aren't kept.
-fn add_rules(alloc: Global, out: &mut String, report: &Report) -> Result<(), AllocError>
-    ensures { OnOk result
-        (string_bytes out.new ≡ string_bytes out.old ++ rule_lines (report_of report.now)) }
-{
-    add_broken_line(alloc, out, report)?;
-    add_unsettled_line(alloc, out, report)
-}
-
-/// Adds the first line.
-fn add_size(out: &mut String, width: u128, height: u128) -> Result<(), AllocError>
-    ensures { OnOk result
-        (string_bytes out.new ≡ string_bytes out.old ++ size_line width height) }
-{
-    write!(
-        out,
-        "<svg xmlns='http://www.w3.org/2000/svg' width='{width}' height='{height}' \
-viewBox='0 0 {width} {height}' font-family='sans-serif' font-size='10'>\n"
-    )
-}
-
-/// Adds the title, and what the report comes to.
-fn add_verdict(out: &mut String, verdict: &str) -> Result<(), AllocError>
-    ensures { OnOk result
-        (string_bytes out.new ≡ string_bytes out.old ++ verdict_lines verdict.now) }
-{
-    write!(
-        out,
-        "<title>verdict {verdict}</title>\n<rect width='100%' height='100%' fill='#fff'/>\n\
-<text x='8' y='24' font-size='16' font-weight='bold'>verdict {verdict}</text>\n"
-    )
-}
-
-/// Adds both.
-fn add_first_lines(
-    out: &mut String,
-    width: u128,
-    height: u128,
-    verdict: &str,
-) -> Result<(), AllocError>
-    ensures { OnOk result
-        (string_bytes out.new ≡ string_bytes out.old ++ size_lines width height verdict.now) }
-{
-    add_size(out, width, height)?;
-    add_verdict(out, verdict)
-}
-
-/// Adds how a document begins.
-fn add_head(
+/// Adds how many of the survivors are drawn.
+#[tactic(auto, unfolding(crate::specs::Document::count_words))]
+fn add_count_words(
     alloc: Global,
-    out: &mut String,
-    report: &Report,
-    shapes: &[Shape],
+    out: &mut Markup,
+    graph: &Graph,
+    drawn: usize,
 ) -> Result<(), AllocError>
-    ensures { OnOk result (string_bytes out.new
-        ≡ string_bytes out.old ++ document_head (report_of report.now) shapes.now) }
+    ensures { OnOk result (out.new ≡ out.old ++ count_words graph.now drawn) }
 {
-    let width = width_of(shapes);
-    let height = height_of(shapes);
-    let verdict = report.outcome().word();
-    add_first_lines(out, width, height, verdict)?;
-    add_rules(alloc, out, report)?;
-    out.push_str(LEGEND)
+    let line = graph_words(alloc, graph, drawn)?;
+    add_words(alloc, out, b"rules", b"translate(8 82)", line.as_bytes())
 }
 
-/// Adds the texts of the shapes, one after another.
+/// What the report comes to, the rules that aren't kept, and how many entries are drawn.
+#[tactic(auto, unfolding(crate::specs::Document::picture_words))]
+fn picture_words(
+    alloc: Global,
+    report: &Report,
+    verdict: &str,
+    drawn: usize,
+) -> Result<Markup, AllocError>
+    ensures { IfOk result (λ lines.
+        lines ≡ picture_words (report_of report.now) verdict.now drawn) }
+{
+    let mut lines = Markup::new(alloc);
+    add_verdict(alloc, &mut lines, verdict)?;
+    add_broken_words(alloc, &mut lines, report)?;
+    add_unsettled_words(alloc, &mut lines, report)?;
+    add_count_words(alloc, &mut lines, report.graph(), drawn)?;
+    Ok(lines)
+}
+
+/// The title, the description, the style, the heads of arrows, and the paper.
+#[tactic(auto, unfolding(crate::specs::Document::picture_base))]
+fn picture_base(alloc: Global, verdict: &str) -> Result<Markup, AllocError>
+    ensures { IfOk result (λ base. base ≡ picture_base verdict.now) }
+{
+    let mut base = picture_titles(alloc, verdict)?;
+    add_arrow_heads(alloc, &mut base)?;
+    add_paper(alloc, &mut base)?;
+    Ok(base)
+}
+
+/// What stands before the shapes.
+#[tactic(auto, unfolding(crate::specs::Document::picture_head))]
+fn picture_head(alloc: Global, report: &Report, shapes: &[Shape]) -> Result<Markup, AllocError>
+    ensures { IfOk result (λ head. head ≡ picture_head (report_of report.now) shapes.now) }
+{
+    let verdict = report.outcome().word();
+    let lines = picture_words(alloc, report, verdict, count_entries(shapes))?;
+    let mut head = picture_base(alloc, verdict)?;
+    head.add(&lines)?;
+    add_legend(alloc, &mut head)?;
+    head.add_text(alloc, b"\n")?;
+    Ok(head)
+}
+
+/// Adds the shapes, one after another.
 fn add_shapes(
     alloc: Global,
-    out: &mut String,
+    out: &mut Markup,
     report: &Report,
+    tops: &[u64],
     shapes: &[Shape],
 ) -> Result<(), AllocError>
-    ensures { OnOk result (string_bytes out.new
-        ≡ string_bytes out.old ++ flat_map (shape_text (report_of report.now)) shapes.now) }
+    ensures { OnOk result (out.new
+        ≡ out.old ++ flat_map (shape_line (report_of report.now) tops.now) shapes.now) }
 {
     for shape in shapes {
-        add_shape(alloc, out, report, shape)?;
+        add_shape_line(alloc, out, report, tops, shape)?;
     }
     Ok(())
 }
 
-/// The document with these shapes.
-fn document_of(alloc: Global, report: &Report, shapes: &[Shape]) -> Result<Vec<u8>, AllocError>
-    ensures { IfOk result (λ bytes. bytes.items ≡ document_of (report_of report.now) shapes.now) }
+/// How many lanes there are: those of the machines, and three below them.
+fn lanes_in(report: &Report) -> usize
+    ensures { result ≡ lanes_in (report_of report.now) }
 {
-    let mut out = String::new(alloc);
-    add_head(alloc, &mut out, report, shapes)?;
-    add_shapes(alloc, &mut out, report, shapes)?;
-    out.push_str(FOOT)?;
-    Ok(out.into_bytes())
+    report.roster().machines.as_slice().len() + 3
+}
+
+/// The attributes of the report's picture, and what is in it.
+fn parts_of(alloc: Global, report: &Report) -> Result<(Attributes, Markup), AllocError>
+    ensures attributes { IfOk result (λ parts. parts.0 ≡ attributes_of (report_of report.now)) }
+    ensures inner { IfOk result (λ parts. parts.1 ≡ all_of (report_of report.now)) }
+{
+    let shapes = shapes_of(alloc, report)?;
+    let lanes = lanes_in(report);
+    let (tops, height) = tops_of(alloc, shapes.as_slice(), lanes)?;
+    let attributes = picture_attributes(alloc, width_of(shapes.as_slice()), height)?;
+    let mut inner = picture_head(alloc, report, shapes.as_slice())?;
+    add_shapes(
+        alloc,
+        &mut inner,
+        report,
+        tops.as_slice(),
+        shapes.as_slice(),
+    )?;
+    Ok((attributes, inner))
+}
+
+/// Adds the picture of the report: an element for a page, or for a document of its own. Each mark
+/// of a survivor is a reference to `#e` and its number among the survivors, counted from 0.
+///
+/// # Errors
+///
+/// Out of memory; the markup stays as it was.
+#[tactic(auto, unfolding(crate::specs::Document::picture_of))]
+pub fn add_picture(alloc: Global, out: &mut Markup, report: &Report) -> Result<(), AllocError>
+    ensures ok { OnOk result (out.new ≡ out.old ++ picture_of (report_of report.now)) }
+    ensures err { OnErr result (out.new ≡ out.old) }
+{
+    let (attributes, inner) = parts_of(alloc, report)?;
+    out.add_element(alloc, Tag::Svg, &attributes, &inner)
 }
 
 /// The picture of the report: an SVG document.
@@ -243,9 +422,11 @@ fn document_of(alloc: Global, report: &Report, shapes: &[Shape]) -> Result<Vec<u
 /// # Errors
 ///
 /// Out of memory.
+#[tactic(auto, unfolding(crate::specs::Document::picture_text))]
 pub fn write_picture(alloc: Global, report: &Report) -> Result<Vec<u8>, AllocError>
-    ensures { IfOk result (λ bytes. bytes.items ≡ picture_text (report_of report.now)) }
+    ensures value { IfOk result (λ bytes. bytes.items ≡ picture_text (report_of report.now)) }
+    ensures well_formed { IfOk result (λ bytes. ∥ IsDocument bytes.items ∥₁) }
 {
-    let shapes = shapes_of(alloc, report)?;
-    document_of(alloc, report, shapes.as_slice())
+    let (attributes, inner) = parts_of(alloc, report)?;
+    svg_document(alloc, &attributes, &inner)
 }

@@ -7,8 +7,8 @@ use log_files::End;
 pub struct Spot {
     /// How far right.
     pub column: u32,
-    /// The lane, from the top: those of the machines, then one for what belongs to no machine, and
-    /// then the gaps.
+    /// The lane, from the top: those of the machines, then one for the logs of no machine, one for
+    /// the strays, and one for the gaps.
     pub lane: usize,
     /// How far below the line of the lane.
     pub level: usize,
@@ -17,9 +17,15 @@ pub struct Spot {
 /// A shape of a picture.
 #[derive(Clone, Copy)]
 pub enum Shape {
-    /// The line of a machine, up to its end.
+    /// The line of a machine, up to its end, and how many logs of it were given.
     Lane {
         end: Spot,
+        logs: usize,
+    },
+    /// The line of a log, up to its end.
+    Log {
+        end: Spot,
+        log: usize,
     },
     /// An entry names another one.
     Arrow {
@@ -39,9 +45,10 @@ pub enum Shape {
         at: Spot,
         rule: usize,
     },
-    /// A survivor.
+    /// The survivor at this place.
     Entry {
         at: Spot,
+        place: usize,
         number: u32,
         deed: Deed,
         digest: [u8; 32],

@@ -11,7 +11,7 @@ ghost use Rattle.entangled_picture.specs.Shapes.{
 };
 
 use crate::bars::add_bars;
-use crate::drawn::drawn_of;
+use crate::drawn::{drawn_of, first_ones};
 use crate::gap_marks::add_gaps;
 use crate::log_marks::{add_lanes, add_logs};
 use crate::marks::{add_arrows, add_entries, add_forks, add_lights, add_strays, spot_at};
@@ -62,9 +62,16 @@ fn add_beside(
     ensures { OnOk result (shapes.new.items
         ≡ shapes.old.items ++ shapes_beside (report_of report.now) placed.now machines) }
 {
-    add_forks(shapes, placed, report.graph().forks())?;
-    add_gaps(shapes, report.graph(), placed, machines + 1)?;
-    add_strays(shapes, report.graph().strays(), machines)
+    let graph = report.graph();
+    add_forks(shapes, placed, first_ones(graph.forks()))?;
+    add_gaps(
+        shapes,
+        graph,
+        first_ones(graph.gaps()),
+        placed,
+        machines + 2,
+    )?;
+    add_strays(shapes, first_ones(graph.strays()), machines + 1)
 }
 
 /// Adds the shapes of the graph, those first over which others are drawn.
@@ -95,8 +102,8 @@ pub fn shapes_of(alloc: Global, report: &Report) -> Result<Vec<Shape>, AllocErro
     let machines = report.roster().machines.as_slice().len();
     let column = last_column(placed.as_slice());
     let mut shapes = Vec::new(alloc);
-    add_lanes(&mut shapes, machines, column)?;
-    add_graph(&mut shapes, report, placed.as_slice(), machines)?;
+    add_lanes(&mut shapes, report.logs(), machines, column)?;
     add_logs(&mut shapes, report.logs(), machines, column)?;
+    add_graph(&mut shapes, report, placed.as_slice(), machines)?;
     Ok(shapes)
 }

@@ -6,5 +6,5 @@ abbrev pub invariant-loop-level : goal.invariant-loop-level
 invariant-loop-level l =
     l.shapes.items
     ≡ l.fn.shapes.items
-    ++ flat_map (λ level. gap_of l.graph l.placed l.lane level (get_or l.graph.gaps level []))
+    ++ flat_map (λ level. gap_of l.graph l.placed l.lane level (get_or l.gaps level []))
     (range_with_len 0 l.level)

@@ -1,4 +1,4 @@
-use Rattle.entangled_picture.proofs.Imports.{◌≡◌, ◌∙◌, ◌++◌, List, ap, sym, refl, length, Option, Some, slice_get}
+use Rattle.entangled_picture.proofs.Imports.{◌≡◌, ◌∙◌, ◌++◌, ap, sym, refl, length, Option, Some, slice_get}
 use Rattle.entangled_picture.proofs.Imports.{slice_get_read, LogRead, Spot, log_at, marks_of_log}
 use Rattle.entangled_picture.proofs.Pieces.{place_more}
 use Rattle.entangled_picture.proofs.log_marks.add_logs.Goals as goal
